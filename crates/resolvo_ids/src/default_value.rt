@@ -1,0 +1,70 @@
+//! Values of total maps: what stands where nothing was written.
+ghost use Rattle.std.specs.Prelude.{◌≡◌};
+
+use std::marker::Model;
+
+/// A value type whose default is one known value, so that a total map can be said to have it wherever nothing was
+/// written. (The contract of `Default` alone doesn't say that two calls agree.)
+pub trait DefaultValue: Copy + Default {
+    /// The default.
+    ghost default_value: { Self };
+
+    /// `default` answers no other value.
+    ghost only_default: { (x : Self) → Self.is_default x → x ≡ default_value };
+}
+
+/// A number or none. A type of its own, since a bound on the maps of an id can't name `Option<u32>`.
+#[derive(Clone, Copy, Debug, PartialEq, Eq)]
+pub struct Slot {
+    number: Option<u32>,
+}
+
+impl Model for Slot {
+    ghost use Rattle.std.specs.Prelude.{ℕ, Option};
+
+    ghost Value = { Option ℕ };
+
+    ghost view = { λ a. a.number };
+
+    ghost inverse = { λ n. record { number = n } };
+}
+
+impl Slot {
+    /// A slot that holds this number, or none.
+    pub fn new(number: Option<u32>) -> Slot
+        ensures { result ≡ number }
+    {
+        Slot { number }
+    }
+
+    /// The number in it.
+    pub fn number(self) -> Option<u32>
+        ensures { result ≡ self }
+    {
+        self.number
+    }
+}
+
+impl Default for Slot {
+    ghost use Rattle.std.specs.Prelude.{None};
+
+    ghost is_default = { λ s. s ≡ None };
+
+    fn default() -> Slot {
+        Slot { number: None }
+    }
+}
+
+impl DefaultValue for Slot {
+    ghost use Rattle.std.specs.Prelude.{None};
+
+    ghost default_value = { None };
+
+    ghost only_default = { λ s h. h };
+}
+
+impl DefaultValue for u64 {
+    ghost default_value = { 0 };
+
+    ghost only_default = { λ x h. h };
+}

@@ -1,0 +1,2 @@
+pub mod Provider
+pub mod Requirement
