@@ -1,2 +1,4 @@
 pub mod Decisions
+pub mod Forgetting
 pub mod Literals
+pub mod Variables
