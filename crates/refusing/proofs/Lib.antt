@@ -1,0 +1,4 @@
+mod Asks
+mod Exits
+mod Fields
+mod Steps

@@ -1,0 +1,99 @@
+-- The abstract store, and what a clause store keeps of it. N are the names, S the solvables.
+use Rattle.std.specs.Prelude.{ℕ, Bool, List, [], ◌∷◌, Option, unwrap_or}
+use Rattle.std.specs.Map.{lookup}
+use Rattle.resolvo_ids.specs.declared.id.VersionSetId.{VersionSetId}
+use Rattle.resolvo_pool.specs.declared.requirement.Requirement.{Requirement}
+use Rattle.resolvo_pool.specs.Requirement.{same_requirement}
+use Rattle.resolvo_pool.specs.Provider.{Catalogue, Answers, sorted, sets_of}
+use Rattle.resolvo_clauses.specs.declared.variable_origin.VariableOrigin.{VariableOrigin}
+use Rattle.resolvo_clauses.specs.declared.variable_origin.VariableOrigin.TheVariants.{Root}
+use Rattle.resolvo_clauses.specs.Literals.{Lit, Values}
+use Rattle.resolvo_clauses.specs.Trail.{Entry, val}
+use Rattle.resolvo_queue.specs.declared.requires_clause.RequiresClause.{RequiresClause}
+use Rattle.resolvo_queue.specs.Rows.{Row, rows}
+
+-- the fixed functions of a provider and of its ids
+pub record Provider (N S : Type 0) : Type 0 where
+  pub same_name : N → N → Bool
+  pub same_solvable : S → S → Bool
+  -- nothing can be kept by this id: it is dense, and its index is 2^40 or more
+  pub is_large_name : N → Bool
+  pub is_large_solvable : S → Bool
+  pub catalogue : Catalogue N S
+  pub answers : Answers N S
+
+-- the variables that are tracked under a name, and their helpers
+pub record Tracker : Type 0 where
+  pub tracked : List ℕ
+  pub helpers : List ℕ
+
+-- the abstract store
+pub record Store (N S : Type 0) : Type 0 where
+  pub provider : Provider N S
+  -- what each variable stands for
+  pub origins : List (VariableOrigin N S)
+  -- the requirements that were loaded, with the lists of their candidates' variables, one list a version set
+  pub loaded : List (Requirement × List (List ℕ))
+  -- the requires clauses in the order of registration
+  pub requires : List RequiresClause
+  -- the trail, the oldest entry first
+  pub trail : List Entry
+  pub scores : N → ℕ
+  pub trackers : N → Tracker
+  -- the clauses that watch each literal, front first
+  pub watchers : Lit → List ℕ
+
+-- what the clause store keeps
+pub record Kept (D N S : Type 0) : Type 0 where
+  pub provider : D
+  pub origins : List (VariableOrigin N S)
+  pub loaded : List (Requirement × List (List ℕ))
+  pub requires : List RequiresClause
+  pub trail : List Entry
+
+-- the abstract store of what is kept. No command changes scores, trackers or watch lists yet.
+abbrev pub store_of : {D N S : Type 0} → (D → Provider N S) → Kept D N S → Store N S
+store_of provided kept = record {
+  provider = provided kept.provider;
+  origins = kept.origins;
+  loaded = kept.loaded;
+  requires = kept.requires;
+  trail = kept.trail;
+  scores = λ n. 0;
+  trackers = λ n. record { tracked = []; helpers = [] };
+  watchers = λ l. [];
+}
+
+-- the store that has the root's variable and nothing else
+abbrev pub new_store : {N S : Type 0} → Provider N S → Store N S
+new_store provider = record {
+  provider = provider;
+  origins = Root ∷ [];
+  loaded = [];
+  requires = [];
+  trail = [];
+  scores = λ n. 0;
+  trackers = λ n. record { tracked = []; helpers = [] };
+  watchers = λ l. [];
+}
+
+module _ {N S : Type 0} (st : Store N S) where
+  -- the values of the variables
+  abbrev pub values : Values
+  values = val st.trail
+
+  -- the lists of a requirement, if it was loaded
+  abbrev pub lists_of : Requirement → Option (List (List ℕ))
+  lists_of r = lookup (same_requirement r) st.loaded
+
+  -- the rows of a requirement, none if it wasn't loaded
+  abbrev pub rows_of : Requirement → List Row
+  rows_of r = rows (sets_of r) (unwrap_or (lists_of r) [])
+
+  -- the score of a version set: its package's
+  abbrev pub score_of : VersionSetId → ℕ
+  score_of v = st.scores (st.provider.catalogue.set_name v)
+
+  -- the candidates of a version set
+  abbrev pub candidates_of : VersionSetId → List S
+  candidates_of v = sorted st.provider.catalogue st.provider.answers v
