@@ -5,7 +5,7 @@ use Rattle.resolvo_ids.specs.TotalMaps.{IsUpdate, SameValues}
 use Rattle.resolvo_clauses.specs.declared.variable_origin.VariableOrigin.{VariableOrigin}
 use Rattle.resolvo_clauses.specs.declared.variable_origin.VariableOrigin.TheVariants.{Solvable}
 use Rattle.resolvo_clauses.specs.Forgetting.{forgotten}
-use Rattle.resolvo_clauses.specs.Variables.{is_solvable, solvable_of, variable_of_solvable}
+use Rattle.resolvo_clauses.specs.Variables.{is_solvable, solvable_of, variable_of_solvable, IsRootFirst}
 
 -- the first of two that is there
 abbrev pub or_else : Option ℕ → Option ℕ → Option ℕ
@@ -37,6 +37,13 @@ module _ {X : Type 0} (test : X → Bool) where
   position-append x n m (y ∷ xs) h =
       elim (test y) as (λ b. cond b (Some n) (position_from test (n + 1) (xs ++ x ∷ [])) ≡ or_else (cond b (Some n) (position_from test (n + 1) xs)) (cond (test x) (Some m) None))
       [ true ↦ refl | false ↦ position-append x (n + 1) m xs (omega arith) ]
+
+-- ---- the root
+
+-- it stays first while origins are added
+pub root-append : {N S : Type 0} (os : List (VariableOrigin N S)) (o : VariableOrigin N S) → IsRootFirst os → IsRootFirst (os ++ o ∷ [])
+root-append [] o h = cc
+root-append (p ∷ os) o h = h
 
 -- ---- forgetting
 

@@ -18,19 +18,19 @@ pub struct VariableMap<N: Copy, S: SolverId<A>, A: Allocator + Copy> {
 }
 
 impl<N: Copy, S: SolverId<A>, A: Allocator + Copy> Model for VariableMap<N, S, A> {
-    ghost use Rattle.std.specs.Prelude.{◌≡◌, ◌≤◌, ◌^◌, ◌-◌, List, length};
+    ghost use Rattle.std.specs.Prelude.{List};
     ghost use Rattle.resolvo_clauses.specs.declared.variable_origin.VariableOrigin.{VariableOrigin};
-    ghost use Rattle.resolvo_clauses.specs.Variables.{variable_of_solvable};
+    ghost use Rattle.resolvo_clauses.specs.Variables.{IsVariableMap};
 
     ghost Value = { List (VariableOrigin N S) };
 
     ghost view = { λ m. m.origins.items };
 
-    ghost invariant = { λ m. ((s : S) → S.Slots.value_at m.slots s ≡ variable_of_solvable S.eq m.origins.items s) × (length m.origins.items ≤ 2 ^ 31 - 1) };
+    ghost invariant = { λ m. IsVariableMap S.eq (S.Slots.value_at m.slots) m.origins.items };
 }
 
 impl<N: Copy, S: SolverId<A>, A: Allocator + Copy> VariableMap<N, S, A> {
-    ghost use Rattle.resolvo_clauses.specs.Variables.{variable_of_solvable, interned_variable, interned, are_variables_out};
+    ghost use Rattle.resolvo_clauses.specs.Variables.{variable_of_solvable, interned_variable, interned, are_variables_out, IsRootFirst};
 
     /// The root's variable alone.
     pub fn new(alloc: A) -> Result<Self, StoreError>
@@ -52,6 +52,7 @@ impl<N: Copy, S: SolverId<A>, A: Allocator + Copy> VariableMap<N, S, A> {
     pub fn count(&self) -> usize
         ensures value { result ≡ length self.now }
         ensures bound { result < 2 ^ 31 }
+        ensures root { (1 ≤ result) × IsRootFirst self.now }
     {
         self.origins.len()
     }

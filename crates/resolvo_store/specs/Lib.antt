@@ -1,4 +1,5 @@
 pub mod Command
+pub mod Lists
 pub mod Outcome
 pub mod Refusals
 pub mod Step

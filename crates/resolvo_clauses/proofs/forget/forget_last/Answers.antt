@@ -1,4 +1,4 @@
-use Rattle.std.proofs.Common.{◌≡◌, ◌∙◌, sym, ap, length, [], ◌∷◌, ◌++◌, Some, None}
+use Rattle.std.proofs.Common.{◌≡◌, ◌∙◌, sym, ap, length, Some, None}
 use Rattle.resolvo_clauses.specs.Forgetting.{forgotten}
 use Rattle.resolvo_clauses.specs.Variables.{solvable_of, variable_of_solvable}
 use Rattle.resolvo_clauses.proofs.VariableLemmas.{variable-forgotten, variable-other}

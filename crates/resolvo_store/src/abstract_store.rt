@@ -1,0 +1,26 @@
+//! How contracts name the abstract store.
+use resolvo_ids::{IdMap, Slot, SolverId};
+use resolvo_pool::{DependencyProvider, Interner};
+
+/// The abstract store of what a clause store keeps: contracts write it `⟦<D as AbstractStore>⟧.store self.now`.
+///
+/// Each provider has it. It ties the provider's fixed functions, the equality of its ids and the limits of their storage
+/// into the one value of which steps and runs speak.
+pub trait AbstractStore: DependencyProvider {
+    ghost use Rattle.resolvo_store.specs.Store.{Kept, Store};
+
+    ghost store: { Kept Self Self.NameId Self.SolvableId → Store Self.NameId Self.SolvableId };
+}
+
+impl<D: DependencyProvider> AbstractStore for D {
+    ghost use Rattle.resolvo_store.specs.Store.{store_of};
+
+    ghost store = { λ kept. store_of (λ p. record {
+      same_name = D.NameId.eq;
+      same_solvable = D.SolvableId.eq;
+      is_large_name = D.NameId.Scores.is_too_large;
+      is_large_solvable = D.SolvableId.Slots.is_too_large;
+      catalogue = D.catalogue p;
+      answers = D.answers p;
+    }) kept };
+}

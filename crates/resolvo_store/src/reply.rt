@@ -1,0 +1,34 @@
+//! What a store answers.
+use resolvo_clauses::Decision;
+use resolvo_ids::{ClauseId, StoreError, VariableId};
+use resolvo_queue::QueueDecision;
+use std::alloc::Allocator;
+
+/// The reply to a command. It may hold lists, which are of the store's allocator.
+#[derive(Drop)]
+#[derive_where(Debug, PartialEq, Eq)]
+pub enum Reply<A: Allocator> {
+    /// The solvable's variable.
+    Variable(VariableId),
+    /// The variables of the requirement's candidates, best first, one list a version set.
+    Loaded(Vec<Vec<VariableId, A>, A>),
+    /// The clause was added under this id; whether it is a conflict: it has candidates, all are false already, and its
+    /// parent isn't false yet.
+    Clause(ClauseId, bool),
+    /// The variable had no value, and has this one now.
+    Assigned,
+    /// The variable has this value already.
+    Already,
+    /// The variable has the other value.
+    Clash,
+    /// The assignments were taken back.
+    Undone(Option<(Decision, u32)>),
+    /// This candidate is to be decided next.
+    Decided(QueueDecision),
+    /// No clause wants a decision.
+    NoDecision,
+    /// This clause, the first such one, can't be met any more.
+    Falsified(ClauseId),
+    /// The command was refused, and changed nothing.
+    Refused(StoreError),
+}

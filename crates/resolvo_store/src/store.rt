@@ -1,0 +1,124 @@
+//! The clause store.
+ghost use Rattle.std.specs.Prelude.{◌≡◌, ◌↔◌, None, All, true, false, map, option_map, length, vec_len, IfOk, IfErr};
+ghost use Rattle.resolvo_ids.specs.declared.error.StoreError.TheVariants.{OutOfMemory};
+ghost use Rattle.resolvo_clauses.specs.Trail.{val};
+ghost use Rattle.resolvo_queue.specs.Pick.{decided};
+
+mod assigning;
+mod deciding;
+mod loading;
+mod registering;
+
+use crate::abstract_store::AbstractStore;
+use crate::command::Command;
+use crate::reply::Reply;
+use resolvo_clauses::{DecisionTracker, VariableMap};
+use resolvo_ids::{ClauseId, StoreError, VariableId};
+use resolvo_pool::{DependencyProvider, RequirementMap};
+use resolvo_queue::{DecideQueue, QueueDecision};
+use std::marker::Model;
+
+/// A clause store over the packages of a provider.
+///
+/// A contract speaks of the abstract store, `⟦<D as AbstractStore>⟧.store self.now`: lists of variables, loaded
+/// requirements and clauses, and the trail. Whatever a command is refused for, it is as it was.
+#[derive(Drop)]
+pub struct ClauseStore<D: DependencyProvider> {
+    provider: D,
+    variables: VariableMap<D::NameId, D::SolvableId, D::Alloc>,
+    /// The candidates' variables of each loaded requirement, best first, one list a version set.
+    loaded: RequirementMap<Vec<Vec<VariableId, D::Alloc>, D::Alloc>, D::Alloc>,
+    queue: DecideQueue<D::Alloc>,
+    trail: DecisionTracker<D::Alloc>,
+    alloc: D::Alloc,
+}
+
+impl<D: DependencyProvider> Model for ClauseStore<D> {
+    ghost use Rattle.resolvo_store.specs.Store.{Kept};
+    ghost use Rattle.resolvo_store.specs.Lists.{lists_kept};
+
+    ghost Value = { Kept D D.NameId D.SolvableId };
+
+    ghost view = { λ a. record { provider = a.provider; origins = a.variables; loaded = lists_kept a.loaded; requires = a.queue; trail = a.trail } };
+}
+
+impl<D: DependencyProvider + Drop> ClauseStore<D> {
+    ghost use Rattle.resolvo_store.specs.Command.{command_of, reply_of};
+    ghost use Rattle.resolvo_store.specs.Store.{new_store, store_of, Store};
+    ghost use Rattle.resolvo_store.specs.Outcome.{falsified_clause, picked};
+    ghost use Rattle.resolvo_store.specs.Step.{Step, Run};
+
+    /// A store that has the root's variable, and nothing else.
+    pub fn new(alloc: D::Alloc, provider: D) -> Result<Self, StoreError>
+        ensures provider { IfOk result (λ s. s.provider ≡ provider) }
+        ensures ok { IfOk result (λ s. ⟦<D as AbstractStore>⟧.store s ≡ new_store (⟦<D as AbstractStore>⟧.store s).provider) }
+        ensures err { IfErr result (λ e. e ≡ OutOfMemory) }
+    {
+        let variables = VariableMap::new(alloc)?;
+        Ok(ClauseStore {
+            provider,
+            variables,
+            loaded: RequirementMap::new(alloc),
+            queue: DecideQueue::new(alloc),
+            trail: DecisionTracker::new(alloc),
+            alloc,
+        })
+    }
+
+    /// The provider of the packages.
+    pub fn provider(&self) -> &D
+        ensures { result.now ≡ self.now.provider }
+    {
+        &self.provider
+    }
+
+    /// Obeys a command, and answers it.
+    pub fn step(&mut self, command: &Command<D::SolvableId>) -> Reply<D::Alloc>
+        ensures { Step (⟦<D as AbstractStore>⟧.store self.old) (command_of command.now) (reply_of result) (⟦<D as AbstractStore>⟧.store self.new) }
+    {
+        match *command {
+            Command::Variable(solvable) => self.variable(solvable),
+            Command::Load(requirement) => self.load(requirement),
+            Command::Requires(parent, requirement, disjunction) => {
+                self.requires_clause(parent, requirement, disjunction)
+            }
+            Command::Assign(variable, value, clause, level) => {
+                self.assign(variable, value, clause, level)
+            }
+            Command::UndoUntil(level) => self.undo_until(level),
+            Command::Decide => self.decide(),
+        }
+    }
+
+    /// Obeys commands in turn, and answers each. The room for the replies comes first: where that is refused, no command
+    /// was obeyed. Any later refusal is a reply, and the commands after it are obeyed.
+    pub fn run(
+        &mut self,
+        commands: &[Command<D::SolvableId>],
+    ) -> Result<Vec<Reply<D::Alloc>, D::Alloc>, StoreError>
+        ensures ok { IfOk result (λ replies. Run (⟦<D as AbstractStore>⟧.store self.old) (map command_of commands.now) (map reply_of replies.items) (⟦<D as AbstractStore>⟧.store self.new)) }
+        ensures one_each { IfOk result (λ replies. vec_len replies ≡ length commands.now) }
+        ensures err { IfErr result (λ e. (e ≡ OutOfMemory) × (⟦<D as AbstractStore>⟧.store self.new ≡ ⟦<D as AbstractStore>⟧.store self.old)) }
+    {
+        let mut replies = Vec::new(self.alloc);
+        match replies.reserve(commands.len()) {
+            Ok(()) => {}
+            Err(_) => return Err(StoreError::OutOfMemory),
+        }
+        for command in commands {
+            let reply = self.step(command);
+            match replies.push(reply) {
+                Ok(()) => {}
+                Err(_) => unreachable!(),
+            }
+        }
+        Ok(replies)
+    }
+
+    /// The value of a variable, if it has one. An unknown variable has none.
+    pub fn value(&self, variable: VariableId) -> Option<bool>
+        ensures { result ≡ val (⟦<D as AbstractStore>⟧.store self.now).trail variable }
+    {
+        self.trail.assigned_value(variable)
+    }
+}

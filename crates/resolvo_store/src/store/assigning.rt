@@ -1,0 +1,47 @@
+//! The commands that change the trail: `Assign` and `UndoUntil`.
+ghost use Rattle.std.specs.Prelude.{◌≡◌};
+
+use crate::abstract_store::AbstractStore;
+use crate::reply::Reply;
+use crate::store::ClauseStore;
+use resolvo_clauses::{AddFault, Decision, DecisionTracker};
+use resolvo_ids::{ClauseId, DenseIndex, StoreError, VariableId};
+use resolvo_pool::DependencyProvider;
+
+impl<D: DependencyProvider + Drop> ClauseStore<D> {
+    ghost use Rattle.resolvo_store.specs.Command.{Assign, UndoUntil, reply_of};
+    ghost use Rattle.resolvo_store.specs.Step.{Step};
+
+    /// Gives a variable a value.
+    pub(super) fn assign(
+        &mut self,
+        variable: VariableId,
+        value: bool,
+        clause: ClauseId,
+        level: u32,
+    ) -> Reply<D::Alloc>
+        ensures { Step (⟦<D as AbstractStore>⟧.store self.old) (Assign variable value clause level) (reply_of result) (⟦<D as AbstractStore>⟧.store self.new) }
+    {
+        if variable.to_index() >= self.variables.count() || clause.to_index() >= self.queue.len() {
+            return Reply::Refused(StoreError::UnknownId);
+        }
+        if !DecisionTracker::<D::Alloc>::level_in_range(level) {
+            return Reply::Refused(StoreError::LevelOutOfRange);
+        }
+        let decision = Decision::new(variable, value, clause);
+        match self.trail.try_add_decision(decision, level) {
+            Ok(true) => Reply::Assigned,
+            Ok(false) => Reply::Already,
+            Err(AddFault::Clash) => Reply::Clash,
+            Err(AddFault::Store(e)) => Reply::Refused(e),
+        }
+    }
+
+    /// Takes assignments back.
+    pub(super) fn undo_until(&mut self, level: u32) -> Reply<D::Alloc>
+        ensures { Step (⟦<D as AbstractStore>⟧.store self.old) (UndoUntil level) (reply_of result) (⟦<D as AbstractStore>⟧.store self.new) }
+    {
+        self.trail.undo_until(level);
+        Reply::Undone(None)
+    }
+}

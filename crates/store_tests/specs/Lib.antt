@@ -1,0 +1,4 @@
+pub mod Examples
+pub mod Listed
+pub mod Play
+pub mod Script
