@@ -4,18 +4,24 @@
 //! in an id asks only for [`SolverId`], which chooses the maps itself.
 #![tactic(auto)]
 
+mod clause_id;
 mod default_value;
 mod dense_id;
 mod dense_index;
+mod disjunction_id;
 mod error;
 mod id;
 mod id_map;
 mod solver_id;
+mod variable_id;
 
+pub use clause_id::ClauseId;
 pub use default_value::{DefaultValue, Slot};
 pub use dense_id::{DenseId, NameId, NameTag, SolvableId, SolvableTag};
 pub use dense_index::DenseIndex;
+pub use disjunction_id::DisjunctionId;
 pub use error::StoreError;
-pub use id::{ClauseId, DisjunctionId, VariableId, VersionSetId, VersionSetUnionId};
+pub use id::{VersionSetId, VersionSetUnionId};
 pub use id_map::IdMap;
 pub use solver_id::{SameId, SolverId};
+pub use variable_id::VariableId;

@@ -1,0 +1,52 @@
+//! Clauses. An id is kept as its index plus one, which its `Debug` text shows; a contract sees the index.
+use crate::dense_index::DenseIndex;
+use std::marker::Model;
+
+/// A clause of a store; ids count up from 0.
+#[derive(Clone, Copy, Debug, PartialEq, Eq, PartialOrd, Ord, Hash)]
+pub struct ClauseId {
+    raw: u32,
+}
+
+impl Model for ClauseId {
+    ghost use Rattle.std.specs.Prelude.{◌≡◌, ℕ, ◌-◌, ◌+◌, ◌<◌, ◌≤◌, ◌^◌};
+    ghost use Rattle.std.proofs.Common.{arith, ap};
+
+    ghost Value = { ℕ };
+
+    ghost view = { λ a. a.raw - 1 };
+
+    ghost invariant = { λ a. (1 ≤ a.raw) × (a.raw < 2 ^ 32) };
+
+    ghost inverse = { λ n. record { raw = n + 1 } };
+
+    ghost inverse_ok = { λ a h. let e : a.raw - 1 + 1 ≡ a.raw = Prim.omega arith in ap (λ (n : ℕ). record { raw = n }) e };
+}
+
+impl DenseIndex for ClauseId {
+    ghost use Rattle.std.specs.Prelude.{◌^◌, ◌-◌, refl};
+
+    ghost limit = { 2 ^ 32 - 1 };
+
+    ghost index_of = { λ x. x };
+
+    ghost id_at = { λ x. x };
+
+    ghost round_trip = { λ x h. refl };
+
+    ghost distinct = { λ a b h. h };
+
+    fn in_range(index: usize) -> bool {
+        index <= 4294967294
+    }
+
+    fn from_index(index: usize) -> ClauseId {
+        ClauseId {
+            raw: index as u32 + 1,
+        }
+    }
+
+    fn to_index(self) -> usize {
+        (self.raw - 1) as usize
+    }
+}

@@ -1,0 +1,70 @@
+//! Variables. An id is kept as its index plus one, which its `Debug` text shows; a contract sees the index.
+ghost use Rattle.std.specs.Prelude.{◌≡◌, ◌↔◌, IsTrue};
+
+use crate::dense_index::DenseIndex;
+use std::marker::Model;
+
+/// A variable: 0 is the root's. Indexes end at 2^31 - 2, so that each variable has two literals of 32 bits.
+#[derive(Clone, Copy, Debug, PartialEq, Eq, PartialOrd, Ord, Hash)]
+pub struct VariableId {
+    raw: u32,
+}
+
+impl Model for VariableId {
+    ghost use Rattle.std.specs.Prelude.{◌≡◌, ℕ, ◌-◌, ◌+◌, ◌<◌, ◌≤◌, ◌^◌};
+    ghost use Rattle.std.proofs.Common.{arith, ap};
+
+    ghost Value = { ℕ };
+
+    ghost view = { λ a. a.raw - 1 };
+
+    ghost invariant = { λ a. (1 ≤ a.raw) × (a.raw < 2 ^ 31) };
+
+    ghost inverse = { λ n. record { raw = n + 1 } };
+
+    ghost inverse_ok = { λ a h. let e : a.raw - 1 + 1 ≡ a.raw = Prim.omega arith in ap (λ (n : ℕ). record { raw = n }) e };
+}
+
+impl VariableId {
+    /// The variable of the root.
+    pub fn root() -> VariableId
+        ensures { result ≡ 0 }
+    {
+        VariableId { raw: 1 }
+    }
+
+    /// Whether it is the variable of the root.
+    pub fn is_root(self) -> bool
+        ensures { IsTrue result ↔ (self ≡ 0) }
+    {
+        self.raw == 1
+    }
+}
+
+impl DenseIndex for VariableId {
+    ghost use Rattle.std.specs.Prelude.{◌^◌, ◌-◌, refl};
+
+    ghost limit = { 2 ^ 31 - 1 };
+
+    ghost index_of = { λ x. x };
+
+    ghost id_at = { λ x. x };
+
+    ghost round_trip = { λ x h. refl };
+
+    ghost distinct = { λ a b h. h };
+
+    fn in_range(index: usize) -> bool {
+        index <= 2147483646
+    }
+
+    fn from_index(index: usize) -> VariableId {
+        VariableId {
+            raw: index as u32 + 1,
+        }
+    }
+
+    fn to_index(self) -> usize {
+        (self.raw - 1) as usize
+    }
+}
