@@ -1,1 +1,3 @@
+pub mod TrackerLemmas
+pub mod TrailLemmas
 pub mod VariableLemmas
