@@ -1,0 +1,6 @@
+pub mod Answer
+pub mod Index
+pub mod Pick
+pub mod RowState
+pub mod Rows
+pub mod Scan

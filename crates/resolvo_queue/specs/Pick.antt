@@ -1,0 +1,85 @@
+-- What eligible clauses offer, and which offer is picked.
+use Rattle.std.specs.Prelude.{◌≡◌, ℕ, Bool, false, not, ◌==◌, ◌&&◌, ◌||◌, nat_lt, if◌then◌else◌, List, [], ◌∷◌, ◌++◌, filter_map, fold, Option, None, Some, option_map, All, Contains, IfSome, MatchOption, ◌↔◌}
+use Rattle.resolvo_ids.specs.declared.id.VersionSetId.{VersionSetId}
+use Rattle.resolvo_pool.specs.declared.requirement.Requirement.{Requirement}
+use Rattle.resolvo_clauses.specs.Literals.{Values}
+use Rattle.resolvo_queue.specs.declared.frontier.Frontier.{Frontier}
+use Rattle.resolvo_queue.specs.declared.requires_clause.RequiresClause.{RequiresClause}
+use Rattle.resolvo_queue.specs.declared.queue_decision.QueueDecision.{QueueDecision}
+use Rattle.resolvo_queue.specs.Rows.{Row, frontier}
+use Rattle.resolvo_queue.specs.Scan.{scan, is_open, is_eligible}
+
+-- an eligible clause, with its frontier and its score
+pub record Offer : Type 0 where
+  pub clause : RequiresClause
+  pub frontier : Frontier
+  pub score : ℕ
+
+module _ (val : Values) (rows_of : Requirement → List Row) (score : VersionSetId → ℕ) where
+  -- what a clause offers: none unless it is eligible; the score is its frontier's
+  abbrev pub offer : RequiresClause → Option Offer
+  offer c =
+      if is_open val rows_of c then
+      option_map (λ f. record { clause = c; frontier = f; score = score f.set }) (frontier val (rows_of c.requirement))
+      else None
+
+  -- the eligible clauses, in the order of the scan
+  abbrev pub eligible : List RequiresClause → List Offer
+  eligible cs = filter_map offer (scan cs)
+
+-- no version set has a score yet
+abbrev pub no_score : VersionSetId → ℕ
+no_score set = 0
+
+-- a clause of the root
+abbrev pub is_of_root : Offer → Bool
+is_of_root o = o.clause.parent == 0
+
+-- e has a higher score and a smaller count than b, and doesn't replace a clause of the root unless it is one
+abbrev pub beats : Offer → Offer → Bool
+beats e b = nat_lt b.score e.score && (nat_lt e.frontier.count b.frontier.count && (not (is_of_root b) || is_of_root e))
+
+-- the better of what was picked so far and one more
+abbrev pub better : Option Offer → Offer → Option Offer
+better None e = Some e
+better (Some b) e = Some (if beats e b then e else b)
+
+-- the first, unless a later one beats the best so far
+abbrev pub pick : List Offer → Option Offer
+pick offers = fold better None offers
+
+-- the offer as the decision that is reported
+abbrev pub decided : Offer → QueueDecision
+decided o = record {
+  candidate = o.frontier.variable;
+  required_by = o.clause.parent;
+  clause_id = o.clause.clause_id;
+  package_activity = o.score;
+  candidate_count = o.frontier.count;
+}
+
+-- ---- laws of the pick
+
+-- no offer beats this one
+abbrev pub IsUnbeaten : List Offer → Offer → Type 0
+IsUnbeaten offers best = All (λ e. beats e best ≡ false) offers
+
+-- of any offers: by two equations, none only of none, one of them, and unbeaten
+pub record PickLaw : Type 0 where
+  pub of_none : pick [] ≡ None
+  pub of_more : (offers : List Offer) (e : Offer) → pick (offers ++ e ∷ []) ≡ better (pick offers) e
+  pub none_exactly : (offers : List Offer) → (pick offers ≡ None) ↔ (offers ≡ [])
+  pub one_of_them : (offers : List Offer) → IfSome (pick offers) (Contains offers)
+  pub unbeaten : (offers : List Offer) → IfSome (pick offers) (IsUnbeaten offers)
+
+-- there is no pick exactly when no clause of the scan is eligible, whatever the scores
+abbrev pub NoneExactly : Values → (Requirement → List Row) → List RequiresClause → Type 0
+NoneExactly val rows_of cs =
+    (score : VersionSetId → ℕ) →
+    (pick (eligible val rows_of score cs) ≡ None) ↔ All (λ c. is_eligible val rows_of c ≡ false) (scan cs)
+
+-- the decision is that of an offer that no offer beats; no decision stands for no offers
+abbrev pub DecidesUnbeaten : List Offer → Option QueueDecision → Type 0
+DecidesUnbeaten offers decision =
+    MatchOption decision (offers ≡ [])
+    (λ d. (best : Offer) × (d ≡ decided best) × Contains offers best × IsUnbeaten offers best)

@@ -1,0 +1,57 @@
+-- The rows of a requirement, and its frontier under the values of the variables.
+use Rattle.std.specs.Prelude.{ℕ, Bool, ◌==◌, ◌&&◌, if◌then◌else◌, List, [], ◌∷◌, map, find, count_by, flat_map, zip, Option, None, Some, option_map}
+use Rattle.std.specs.List.{list_any}
+use Rattle.std.specs.Map.{lookup}
+use Rattle.std.specs.declared.vec.Vec.{Vec}
+use Rattle.resolvo_ids.specs.declared.id.VersionSetId.{VersionSetId}
+use Rattle.resolvo_pool.specs.Provider.{sets_of}
+use Rattle.resolvo_pool.specs.Requirement.{same_requirement}
+use Rattle.resolvo_pool.specs.declared.requirement.Requirement.{Requirement}
+use Rattle.resolvo_clauses.specs.Literals.{Values, known_true, undecided}
+use Rattle.resolvo_queue.specs.declared.frontier.Frontier.{Frontier}
+
+-- a row: the variable of a candidate, and the version set in whose list it stands
+pub record Row : Type 0 where
+  pub set : VersionSetId
+  pub variable : ℕ
+
+-- the rows of a version set's list
+abbrev pub list_rows : VersionSetId → List ℕ → List Row
+list_rows set list = map (λ x. record { set = set; variable = x }) list
+
+-- the rows of version sets with their lists: the lists in order, repeats kept
+abbrev pub rows : List VersionSetId → List (List ℕ) → List Row
+rows sets lists = flat_map (λ (l : VersionSetId × List ℕ). list_rows l.0 l.1) (zip sets lists)
+
+-- what a look-up of lists gave; nothing stands for none
+abbrev pub lists_or_none : {A : Type 0} → Option (Vec (Vec ℕ A) A) → List (List ℕ)
+lists_or_none None = []
+lists_or_none (Some lists) = map (λ list. list.items) lists.items
+
+-- the lists that are kept for a requirement
+abbrev pub lists_loaded : {A : Type 0} → List (Requirement × Vec (Vec ℕ A) A) → Requirement → List (List ℕ)
+lists_loaded loaded requirement = lists_or_none (lookup (same_requirement requirement) loaded)
+
+-- the rows of a requirement
+abbrev pub loaded_rows : {A : Type 0} → List (Requirement × Vec (Vec ℕ A) A) → Requirement → List Row
+loaded_rows loaded requirement = rows (sets_of requirement) (lists_loaded loaded requirement)
+
+module _ (val : Values) where
+  -- a row is true: the requirement is met
+  abbrev pub has_true_row : List Row → Bool
+  has_true_row rs = list_any (λ row. known_true (val row.variable)) rs
+
+  abbrev pub is_undecided_row : Row → Bool
+  is_undecided_row row = undecided (val row.variable)
+
+  -- how many rows of the version set are undecided
+  abbrev pub undecided_rows : VersionSetId → List Row → ℕ
+  undecided_rows set rs = count_by (λ row. (row.set.0 == set.0) && is_undecided_row row) rs
+
+  -- the frontier at a row
+  abbrev pub frontier_at : List Row → Row → Frontier
+  frontier_at rs row = record { variable = row.variable; set = row.set; count = undecided_rows row.set rs }
+
+  -- the first undecided row's; none if a row is true or no row is undecided
+  abbrev pub frontier : List Row → Option Frontier
+  frontier rs = if has_true_row rs then None else option_map (frontier_at rs) (find is_undecided_row rs)

@@ -1,0 +1,40 @@
+-- The scan of the requires clauses, and which of them are open.
+use Rattle.std.specs.Prelude.{ℕ, Bool, not, ◌==◌, ◌&&◌, if◌then◌else◌, List, [], ◌∷◌, ◌++◌, map, filter, flat_map, find, fold, Option, is_some, is_none}
+use Rattle.std.specs.List.{list_any}
+use Rattle.resolvo_pool.specs.declared.requirement.Requirement.{Requirement}
+use Rattle.resolvo_clauses.specs.Literals.{Values, known_true}
+use Rattle.resolvo_queue.specs.declared.requires_clause.RequiresClause.{RequiresClause}
+use Rattle.resolvo_queue.specs.Rows.{Row, has_true_row, frontier}
+
+-- a parent is listed once
+abbrev pub add_parent : List ℕ → ℕ → List ℕ
+add_parent seen parent = if list_any (λ p. p == parent) seen then seen else seen ++ parent ∷ []
+
+-- the parents in the order of their first registrations
+abbrev pub parents : List RequiresClause → List ℕ
+parents cs = fold add_parent [] (map (λ c. c.parent) cs)
+
+-- the clauses of a parent, in order
+abbrev pub clauses_of : List RequiresClause → ℕ → List RequiresClause
+clauses_of cs parent = filter (λ c. c.parent == parent) cs
+
+-- for each parent, in the order of first registration, its clauses
+abbrev pub scan : List RequiresClause → List RequiresClause
+scan cs = flat_map (clauses_of cs) (parents cs)
+
+module _ (val : Values) (rows_of : Requirement → List Row) where
+  -- the parent is true, and no row is
+  abbrev pub is_open : RequiresClause → Bool
+  is_open c = known_true (val c.parent) && not (has_true_row val (rows_of c.requirement))
+
+  -- open, with an undecided row
+  abbrev pub is_eligible : RequiresClause → Bool
+  is_eligible c = is_open c && is_some (frontier val (rows_of c.requirement))
+
+  -- open, with none
+  abbrev pub is_falsified : RequiresClause → Bool
+  is_falsified c = is_open c && is_none (frontier val (rows_of c.requirement))
+
+  -- the first falsified clause of the scan
+  abbrev pub first_falsified : List RequiresClause → Option RequiresClause
+  first_falsified cs = find is_falsified (scan cs)

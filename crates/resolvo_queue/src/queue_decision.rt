@@ -1,0 +1,16 @@
+//! What to decide next.
+use resolvo_ids::{ClauseId, VariableId};
+
+/// A candidate to try, and the clause that asks for it.
+#[derive(Clone, Copy, Debug, PartialEq, Eq)]
+pub struct QueueDecision {
+    /// The first undecided candidate of the clause.
+    pub candidate: VariableId,
+    /// The clause's parent.
+    pub required_by: VariableId,
+    pub clause_id: ClauseId,
+    /// The score of the candidate's package.
+    pub package_activity: u64,
+    /// How many candidates of the same version set are undecided.
+    pub candidate_count: usize,
+}

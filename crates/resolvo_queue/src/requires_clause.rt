@@ -1,0 +1,11 @@
+//! Requires clauses, as a queue keeps them.
+use resolvo_ids::{ClauseId, VariableId};
+use resolvo_pool::Requirement;
+
+/// The clause that a parent, if it is true, has its requirement met.
+#[derive(Clone, Copy, Debug, PartialEq, Eq)]
+pub struct RequiresClause {
+    pub parent: VariableId,
+    pub requirement: Requirement,
+    pub clause_id: ClauseId,
+}

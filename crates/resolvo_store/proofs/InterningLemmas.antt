@@ -1,0 +1,133 @@
+-- Solvables that get variables in turn.
+use Rattle.std.proofs.Common.{◌≡◌, ◌≢◌, ℕ, ◌+◌, ◌<◌, ◌≤◌, ◌-◌, ◌^◌, Bool, true, false, cond, ◌||◌, List, [], ◌∷◌, ◌++◌, length, length-append, append_assoc, map, take, drop, Option, None, Some, refl, arith, rules, sym, ◌∙◌, ap, subst, leb, ltb, zero, suc}
+use Rattle.std.specs.Prelude.{is_some, unwrap_or, fold}
+use Rattle.std.specs.List.{position_from, list_any}
+use Rattle.std.proofs.lemmas.Bool.Decides.{nat_tests}
+use Rattle.std.proofs.lemmas.List.{take-append-le, append-nil}
+use Rattle.resolvo_ids.specs.Refusals.{IsGrowthRefusal}
+use Rattle.resolvo_ids.specs.declared.error.StoreError.{StoreError}
+use Rattle.resolvo_ids.specs.declared.error.StoreError.TheVariants.{OutOfMemory, IdSpace}
+use Rattle.resolvo_clauses.specs.declared.variable_origin.VariableOrigin.{VariableOrigin}
+use Rattle.resolvo_clauses.specs.declared.variable_origin.VariableOrigin.TheVariants.{Solvable}
+use Rattle.resolvo_clauses.specs.Variables.{is_solvable, variable_of_solvable, interned_variable, interned, all_interned, are_variables_out}
+use Rattle.resolvo_clauses.proofs.VariableLemmas.{or_else, position-append}
+
+-- a growth that may be refused may also be refused where ids are out in more cases
+pub refusal_wider : (a b : Bool) (e : StoreError) → (a ≡ true → b ≡ true) → IsGrowthRefusal a e → IsGrowthRefusal b e
+refusal_wider a b OutOfMemory h r = r
+refusal_wider a b IdSpace h r = h r
+refusal_wider a b _ h r = absurd r
+
+-- where a known solvable would have been answered, a refused one isn't known
+pub unknown_if_refused : (known : Option ℕ) → (is_some known ≡ true → false ≡ true) → known ≡ None
+unknown_if_refused None h = refl
+unknown_if_refused (Some v) h = let no : false ≡ true = h refl in cc
+
+-- what is found behind a front is found
+pub list_any-drop : {X : Type 0} (test : X → Bool) (i : ℕ) (xs : List X) → list_any test (drop i xs) ≡ true → list_any test xs ≡ true
+list_any-drop test zero xs h = h
+list_any-drop test (suc i) [] h = h
+list_any-drop test (suc i) (x ∷ xs) h = elim (test x) as (λ b. (b || list_any test xs) ≡ true) [ true ↦ refl | false ↦ list_any-drop test i xs h ]
+
+module _ {N S : Type 0} (same : S → S → Bool) where
+  -- the variables of solvables that get them in turn
+  abbrev pub variables_in_turn : List (VariableOrigin N S) → List S → List ℕ
+  variables_in_turn os [] = []
+  variables_in_turn os (s ∷ ss) = interned_variable same os s ∷ variables_in_turn (interned same os s) ss
+
+  -- an origin more takes no solvable its variable
+  variable-kept : (s : S) (o : VariableOrigin N S) (v : ℕ) (os : List (VariableOrigin N S)) → variable_of_solvable same os s ≡ Some v → variable_of_solvable same (os ++ o ∷ []) s ≡ Some v
+  variable-kept s o v os h =
+      position-append (is_solvable same s) o 0 (length os) os (omega arith) ∙ ap (λ p. or_else p (cond (is_solvable same s o) (Some (length os)) None)) h
+
+  kept-interned : (s t : S) (v : ℕ) (os : List (VariableOrigin N S)) → variable_of_solvable same os s ≡ Some v → variable_of_solvable same (interned same os t) s ≡ Some v
+  kept-interned s t v os h =
+      elim (is_some (variable_of_solvable same os t)) as (λ b. variable_of_solvable same (cond b os (os ++ Solvable t ∷ [])) s ≡ Some v)
+      [ true ↦ h | false ↦ variable-kept s (Solvable t) v os h ]
+
+  kept-all : (s : S) (v : ℕ) (os : List (VariableOrigin N S)) (ss : List S) → variable_of_solvable same os s ≡ Some v → variable_of_solvable same (all_interned same os ss) s ≡ Some v
+  kept-all s v os [] h = h
+  kept-all s v os (t ∷ ss) h = kept-all s v (interned same os t) ss (kept-interned s t v os h)
+
+  -- a solvable of which nothing is known makes the list longer
+  pub interned-new : (s : S) (os : List (VariableOrigin N S)) → variable_of_solvable same os s ≡ None → interned same os s ≡ os ++ Solvable s ∷ []
+  interned-new s os h = ap (λ p. cond (is_some p) os (os ++ Solvable s ∷ [])) h
+
+  pub longer-interned : (s : S) (os : List (VariableOrigin N S)) → length os ≤ length (interned same os s)
+  longer-interned s os =
+      elim (is_some (variable_of_solvable same os s)) as (λ b. length os ≤ length (cond b os (os ++ Solvable s ∷ [])))
+      [ true ↦ omega arith | false ↦ omega (arith, length-append os (Solvable s ∷ [])) ]
+
+  -- the variables that were there stay in front
+  pub front-interned : (n : ℕ) (s : S) (os : List (VariableOrigin N S)) → n ≤ length os → take n (interned same os s) ≡ take n os
+  front-interned n s os h =
+      elim (is_some (variable_of_solvable same os s)) as (λ b. take n (cond b os (os ++ Solvable s ∷ [])) ≡ take n os)
+      [ true ↦ refl | false ↦ take-append-le n os (Solvable s ∷ []) h ]
+
+  -- one solvable more of those that get variables in turn
+  pub in_turn-more : (os after first : List (VariableOrigin N S)) (x : S) (rest behind ss : List S) (done : List ℕ) (v : ℕ)
+      → behind ≡ x ∷ rest → v ≡ interned_variable same os x → after ≡ interned same os x
+      → done ++ variables_in_turn os behind ≡ variables_in_turn first ss
+      → (done ++ v ∷ []) ++ variables_in_turn after rest ≡ variables_in_turn first ss
+  in_turn-more os after first x rest behind ss done v e f g h =
+      append_assoc done (v ∷ []) (variables_in_turn after rest)
+      ∙ ap (λ w. done ++ w ∷ variables_in_turn after rest) f
+      ∙ ap (λ vs. done ++ interned_variable same os x ∷ variables_in_turn vs rest) g
+      ∙ sym (ap (λ b. done ++ variables_in_turn os b) e) ∙ h
+
+  pub longer-all : (os : List (VariableOrigin N S)) (ss : List S) → length os ≤ length (all_interned same os ss)
+  longer-all os [] = omega arith
+  longer-all os (s ∷ ss) = omega (arith, longer-interned s os, longer-all (interned same os s) ss)
+
+  module _ (reflexive : (x : S) → same x x ≡ true) where
+    -- a solvable has the variable that it got
+    variable-interned : (s : S) (os : List (VariableOrigin N S)) → variable_of_solvable same (interned same os s) s ≡ Some (interned_variable same os s)
+    variable-interned s os = by_known (variable_of_solvable same os s) refl
+      where
+        by_known : (p : Option ℕ) → variable_of_solvable same os s ≡ p
+            → variable_of_solvable same (cond (is_some p) os (os ++ Solvable s ∷ [])) s ≡ Some (unwrap_or p (length os))
+        by_known (Some v) h = h
+        by_known None h =
+            position-append (is_solvable same s) (Solvable s) 0 (length os) os (omega arith)
+            ∙ ap (λ p. or_else p (cond (same s s) (Some (length os)) None)) h ∙ ap (λ b. cond b (Some (length os)) None) (reflexive s)
+
+    -- the variables that solvables get in turn are those that they have in the end
+    pub variables-in-turn : (os : List (VariableOrigin N S)) (ss : List S) → variables_in_turn os ss ≡ map (interned_variable same (all_interned same os ss)) ss
+    variables-in-turn os [] = refl
+    variables-in-turn os (s ∷ ss) =
+        let last : List (VariableOrigin N S) = all_interned same (interned same os s) ss in
+        let at : interned_variable same last s ≡ interned_variable same os s =
+        ap (λ p. unwrap_or p (length last)) (kept-all s (interned_variable same os s) (interned same os s) ss (variable-interned s os)) in
+        ap (λ v. v ∷ variables_in_turn (interned same os s) ss) (sym at) ∙ ap (λ vs. interned_variable same last s ∷ vs) (variables-in-turn (interned same os s) ss)
+
+  -- ids that are out for one solvable are out for all of them
+  pub ids_out_for_all : (large : S → Bool) (os first : List (VariableOrigin N S)) (x : S) (rest ss : List S)
+      → variable_of_solvable same os x ≡ None → all_interned same os (x ∷ rest) ≡ all_interned same first ss
+      → (list_any large (x ∷ rest) ≡ true → list_any large ss ≡ true)
+      → (are_variables_out (length os) || large x) ≡ true
+      → (ltb (2 ^ 31 - 1) (length (all_interned same first ss)) || list_any large ss) ≡ true
+  ids_out_for_all large os first x rest ss new all any out = by_test (are_variables_out (length os)) (large x) refl refl out
+    where
+      grown : (vs : List (VariableOrigin N S)) → length vs + 1 ≤ length (all_interned same (vs ++ Solvable x ∷ []) rest)
+      grown vs = omega (arith, length-append vs (Solvable x ∷ []), longer-all (vs ++ Solvable x ∷ []) rest)
+
+      by_test : (a b : Bool) → are_variables_out (length os) ≡ a → large x ≡ b → (a || b) ≡ true
+          → (ltb (2 ^ 31 - 1) (length (all_interned same first ss)) || list_any large ss) ≡ true
+      by_test true b f l h =
+          let size : length os + 1 ≤ length (all_interned same first ss) =
+          subst (λ vs. length os + 1 ≤ length vs) all (subst (λ vs. length os + 1 ≤ length (all_interned same vs rest)) (sym (interned-new x os new)) (grown os)) in
+          let few : ltb (2 ^ 31 - 1) (length (all_interned same first ss)) ≡ true = grind (arith, nat_tests, f, size) in
+          ap (λ c. c || list_any large ss) few
+      by_test false true f l h =
+          let some : list_any large ss ≡ true = any (ap (λ c. c || list_any large rest) l) in
+          grind (arith, some)
+      by_test false false f l h = cc
+
+  module _ (reflexive : (x : S) → same x x ≡ true) where
+    -- once all solvables got their variables, those are the variables that they have
+    pub in_turn-all : (os first : List (VariableOrigin N S)) (behind ss : List S) (done : List ℕ) → behind ≡ []
+        → done ++ variables_in_turn os behind ≡ variables_in_turn first ss → all_interned same os behind ≡ all_interned same first ss
+        → done ≡ map (interned_variable same os) ss
+    in_turn-all os first behind ss done e h all =
+        sym (append-nil done) ∙ sym (ap (λ b. done ++ variables_in_turn os b) e) ∙ h ∙ variables-in-turn reflexive first ss
+        ∙ sym (ap (λ vs. map (interned_variable same vs) ss) (sym (ap (all_interned same os) e) ∙ all))

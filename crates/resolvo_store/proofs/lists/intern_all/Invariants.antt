@@ -1,0 +1,14 @@
+use Rattle.std.proofs.Common.{◌≡◌, ◌≤◌, ◌++◌, take, drop, length}
+use Rattle.resolvo_clauses.specs.Variables.{all_interned}
+use Rattle.resolvo_store.proofs.InterningLemmas.{variables_in_turn}
+use Rattle.resolvo_store.proofs.lists.intern_all.Given as goal
+
+abbrev pub invariant-loop-solvable : goal.invariant-loop-solvable
+invariant-loop-solvable g l =
+    let same = g.S.PartialEq.eq in
+    record {
+      list : l.list.items ++ variables_in_turn same l.variables (drop l.solvable-index l.solvables) ≡ variables_in_turn same l.initial.variables l.solvables;
+      all : all_interned same l.variables (drop l.solvable-index l.solvables) ≡ all_interned same l.initial.variables l.solvables;
+      front : take l.before l.variables ≡ l.initial.variables;
+      within : l.before ≤ length l.variables;
+    }
