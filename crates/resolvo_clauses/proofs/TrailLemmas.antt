@@ -16,7 +16,7 @@ none_by_test : {X : Type 0} (b : Bool) (y : X) (o : Option X) → (if b then Som
 none_by_test true y o none = cc
 none_by_test false y o none = (refl, none)
 
--- what gives no value is of another variable, and nor does the rest give one
+-- values that give a variable none have no entry of it at their head, and none after it
 pub none_by_variable : {X : Type 0} (v x : ℕ) (y : X) (o : Option X) → (if v == x then Some y else o) ≡ None
     → (v ≢ x) × (o ≡ None)
 none_by_variable v x y o none =

@@ -39,7 +39,7 @@ abbrev pub IsOnce : List Entry → Type 0
 IsOnce [] = ⊤
 IsOnce (e ∷ es) = (val es e.decision.variable ≡ None) × IsOnce es
 
--- the entry has a level that it may have
+-- the entry's level is in range
 abbrev pub HasLevel : Entry → Type 0
 HasLevel e = (1 ≤ e.level) × (e.level < 2 ^ 31)
 

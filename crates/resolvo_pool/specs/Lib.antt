@@ -1,2 +1,3 @@
 pub mod Provider
 pub mod Requirement
+pub mod RequirementMap

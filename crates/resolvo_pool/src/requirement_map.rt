@@ -2,7 +2,7 @@
 ghost use Rattle.std.specs.Prelude.{◌≡◌, [], OnOk, IfOk, IfErr};
 ghost use Rattle.std.specs.Option.{option_copied};
 ghost use Rattle.std.specs.Map.{lookup};
-ghost use Rattle.indexmap.specs.IndexMap.{insert_entry};
+ghost use Rattle.resolvo_pool.specs.RequirementMap.{with_entry};
 ghost use Rattle.resolvo_pool.specs.Requirement.{same_requirement};
 
 use crate::requirement::Requirement;
@@ -50,7 +50,7 @@ impl<V: Drop, A: Allocator + Copy> RequirementMap<V, A> {
         value: V,
     ) -> Result<Option<V>, AllocFailed<(Requirement, V)>>
         ensures earlier { IfOk result (λ earlier. earlier ≡ lookup (same_requirement requirement) self.old) }
-        ensures ok { OnOk result (self.new ≡ insert_entry same_requirement self.old requirement value) }
+        ensures ok { OnOk result (self.new ≡ with_entry self.old requirement value) }
         ensures err { IfErr result (λ failed. (failed.value ≡ (requirement, value)) × (self.new ≡ self.old)) }
     {
         match self.entries.insert(requirement, value) {

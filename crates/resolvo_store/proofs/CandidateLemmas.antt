@@ -1,5 +1,5 @@
 -- Candidates of a version set.
-use Rattle.std.proofs.Common.{◌≡◌, Bool, true, List}
+use Rattle.std.proofs.Common.{◌≡◌, true, List}
 use Rattle.std.specs.Prelude.{All}
 use Rattle.std.proofs.lemmas.List.Elements.{All-filter}
 use Rattle.resolvo_ids.specs.declared.id.VersionSetId.{VersionSetId}

@@ -1,7 +1,7 @@
 -- Solvables that get variables in turn.
-use Rattle.std.proofs.Common.{◌≡◌, ◌≢◌, ℕ, ◌+◌, ◌<◌, ◌≤◌, ◌-◌, ◌^◌, Bool, true, false, cond, ◌||◌, List, [], ◌∷◌, ◌++◌, length, length-append, append_assoc, map, take, drop, Option, None, Some, refl, arith, rules, sym, ◌∙◌, ap, subst, leb, ltb, zero, suc}
-use Rattle.std.specs.Prelude.{is_some, unwrap_or, fold}
-use Rattle.std.specs.List.{position_from, list_any}
+use Rattle.std.proofs.Common.{◌≡◌, ℕ, ◌+◌, ◌≤◌, ◌-◌, ◌^◌, Bool, true, false, cond, ◌||◌, List, [], ◌∷◌, ◌++◌, length, length-append, append_assoc, map, take, drop, Option, None, Some, refl, arith, sym, ◌∙◌, ap, subst, ltb, zero, suc}
+use Rattle.std.specs.Prelude.{is_some, unwrap_or}
+use Rattle.std.specs.List.{list_any}
 use Rattle.std.proofs.lemmas.Bool.Decides.{nat_tests}
 use Rattle.std.proofs.lemmas.List.{take-append-le, append-nil}
 use Rattle.resolvo_ids.specs.Refusals.{IsGrowthRefusal}

@@ -1,5 +1,5 @@
 -- One step of the abstract store, and a run.
-use Rattle.std.specs.Prelude.{◌≡◌, ℕ, ◌-◌, ◌^◌, Bool, true, false, not, ◌&&◌, ◌||◌, nat_lt, nat_le, List, [], ◌∷◌, flat_map, length, Option, is_none, is_some, MatchOption, IsTrue}
+use Rattle.std.specs.Prelude.{◌≡◌, ◌-◌, ◌^◌, Bool, true, false, not, ◌&&◌, ◌||◌, nat_lt, nat_le, List, [], ◌∷◌, flat_map, length, is_none, is_some, MatchOption, IsTrue}
 use Rattle.std.specs.List.{list_any}
 use Rattle.resolvo_ids.specs.declared.error.StoreError.{StoreError}
 use Rattle.resolvo_ids.specs.declared.error.StoreError.TheVariants.{OutOfMemory, IdSpace}

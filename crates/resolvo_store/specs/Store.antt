@@ -22,6 +22,17 @@ pub record Provider (N S : Type 0) : Type 0 where
   pub catalogue : Catalogue N S
   pub answers : Answers N S
 
+-- the same, gathered
+abbrev pub provided : {D N S : Type 0} → (N → N → Bool) → (S → S → Bool) → (N → Bool) → (S → Bool) → (D → Catalogue N S) → (D → Answers N S) → D → Provider N S
+provided same_name same_solvable is_large_name is_large_solvable catalogue answers p = record {
+  same_name = same_name;
+  same_solvable = same_solvable;
+  is_large_name = is_large_name;
+  is_large_solvable = is_large_solvable;
+  catalogue = catalogue p;
+  answers = answers p;
+}
+
 -- the variables that are tracked under a name, and their helpers
 pub record Tracker : Type 0 where
   pub tracked : List ℕ

@@ -13,14 +13,7 @@ pub trait AbstractStore: DependencyProvider {
 }
 
 impl<D: DependencyProvider> AbstractStore for D {
-    ghost use Rattle.resolvo_store.specs.Store.{store_of};
+    ghost use Rattle.resolvo_store.specs.Store.{store_of, provided};
 
-    ghost store = { λ kept. store_of (λ p. record {
-      same_name = D.NameId.eq;
-      same_solvable = D.SolvableId.eq;
-      is_large_name = D.NameId.Scores.is_too_large;
-      is_large_solvable = D.SolvableId.Slots.is_too_large;
-      catalogue = D.catalogue p;
-      answers = D.answers p;
-    }) kept };
+    ghost store = { store_of (provided D.NameId.eq D.SolvableId.eq D.NameId.Scores.is_too_large D.SolvableId.Slots.is_too_large D.catalogue D.answers) };
 }

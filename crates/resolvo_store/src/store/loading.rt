@@ -1,5 +1,5 @@
 //! The commands that bring solvables: `Variable` and `Load`.
-ghost use Rattle.std.specs.Prelude.{◌≡◌, None, true, map, IfOk, IfErr};
+ghost use Rattle.std.specs.Prelude.{◌≡◌, None, true, map, option_map, IfOk, IfErr};
 ghost use Rattle.resolvo_pool.specs.declared.requirement.Requirement.TheVariants.{Single};
 
 use crate::abstract_store::AbstractStore;
@@ -10,13 +10,13 @@ use crate::store::ClauseStore;
 use resolvo_ids::{StoreError, VersionSetId};
 use resolvo_pool::{DependencyProvider, Interner, Requirement};
 
+/// A requirement has fewer rows than this.
+const ROWS_LIMIT: usize = 1 << 40;
+
 impl<D: DependencyProvider + Drop> ClauseStore<D> {
     ghost use Rattle.resolvo_store.specs.Command.{Variable, Load, reply_of, LoadedAs, Refused};
     ghost use Rattle.resolvo_store.specs.Store.{lists_of};
     ghost use Rattle.resolvo_store.specs.Step.{Step, Answers};
-
-    /// A requirement has fewer rows than this.
-    const ROWS_LIMIT: usize = 1 << 40;
 
     /// The variable of a solvable.
     pub(super) fn variable(&mut self, solvable: D::SolvableId) -> Reply<D::Alloc>
@@ -55,7 +55,7 @@ impl<D: DependencyProvider + Drop> ClauseStore<D> {
         ensures ok { IfOk result (λ lists. Answers (⟦<D as AbstractStore>⟧.store self.old) (Load (Single set)) (LoadedAs (map (λ l. l.items) lists.items)) (⟦<D as AbstractStore>⟧.store self.new)) }
         ensures err { IfErr result (λ e. Answers (⟦<D as AbstractStore>⟧.store self.old) (Load (Single set)) (Refused e) (⟦<D as AbstractStore>⟧.store self.new)) }
     {
-        match self.loaded.get(Requirement::Single(set)) {
+        match self.lists(Requirement::Single(set)) {
             Some(lists) => copy_of_lists(self.alloc, lists),
             None => self.load_new_set(set),
         }
@@ -69,7 +69,7 @@ impl<D: DependencyProvider + Drop> ClauseStore<D> {
         ensures err { IfErr result (λ e. Answers (⟦<D as AbstractStore>⟧.store self.old) (Load (Single set)) (Refused e) (⟦<D as AbstractStore>⟧.store self.new)) }
     {
         let candidates = sorted_candidates(&self.provider, self.alloc, set)?;
-        if candidates.len() >= Self::ROWS_LIMIT {
+        if candidates.len() >= ROWS_LIMIT {
             return Err(StoreError::IdSpace);
         }
         let before = self.variables.count();
@@ -81,5 +81,12 @@ impl<D: DependencyProvider + Drop> ClauseStore<D> {
                 Err(StoreError::OutOfMemory)
             }
         }
+    }
+
+    /// The lists of a requirement, if it was loaded.
+    pub(super) fn lists(&self, requirement: Requirement) -> Option<&VariableLists<D::Alloc>>
+        ensures { option_map (λ lists. map (λ l. l.items) lists.now.items) result ≡ lists_of (⟦<D as AbstractStore>⟧.store self.now) requirement }
+    {
+        self.loaded.get(requirement)
     }
 }

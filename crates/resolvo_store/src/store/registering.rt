@@ -1,5 +1,6 @@
 //! The command that adds requires clauses.
-ghost use Rattle.std.specs.Prelude.{◌≡◌, ◌&&◌};
+ghost use Rattle.std.specs.Prelude.{◌≡◌, ◌-◌, ◌^◌, [], ◌∷◌, ◌++◌, length, false, nat_le, if◌then◌else◌, option_map, IfOk, OnOk, OnErr, IfErr};
+ghost use Rattle.resolvo_ids.specs.declared.error.StoreError.TheVariants.{OutOfMemory, TooManyClauses};
 
 use crate::abstract_store::AbstractStore;
 use crate::conflict::is_conflict;
@@ -9,8 +10,11 @@ use resolvo_ids::{ClauseId, DenseIndex, DisjunctionId, StoreError, VariableId};
 use resolvo_pool::{DependencyProvider, Interner, Requirement};
 
 impl<D: DependencyProvider + Drop> ClauseStore<D> {
-    ghost use Rattle.resolvo_pool.specs.Provider.{knows_requirement};
+    ghost use Rattle.resolvo_pool.specs.Provider.{knows_requirement, sets_of};
+    ghost use Rattle.resolvo_queue.specs.Rows.{rows};
     ghost use Rattle.resolvo_store.specs.Command.{Requires, reply_of};
+    ghost use Rattle.resolvo_store.specs.Store.{lists_of, values};
+    ghost use Rattle.resolvo_store.specs.Outcome.{is_conflict};
     ghost use Rattle.resolvo_store.specs.Step.{Step};
 
     /// Adds a requires clause.
@@ -24,19 +28,15 @@ impl<D: DependencyProvider + Drop> ClauseStore<D> {
     {
         if parent.to_index() >= self.variables.count()
             || !self.knows_requirement(requirement)
-            || disjunction.is_some() {
+            || disjunction.is_some()
+        {
             return Reply::Refused(StoreError::UnknownId);
         }
-        let Some(lists) = self.loaded.get(requirement) else {
+        let Some(conflict) = self.conflict(parent, requirement) else {
             return Reply::Refused(StoreError::NotLoaded);
         };
-        if self.queue.is_full() {
-            return Reply::Refused(StoreError::TooManyClauses);
-        }
-        let conflict = is_conflict(self.trail.map(), parent, requirement, lists);
-        let clause = ClauseId::from_index(self.queue.len());
-        match self.queue.register_clause(parent, requirement, clause) {
-            Ok(()) => Reply::Clause(clause, conflict),
+        match self.register(parent, requirement) {
+            Ok(clause) => Reply::Clause(clause, conflict),
             Err(e) => Reply::Refused(e),
         }
     }
@@ -48,6 +48,38 @@ impl<D: DependencyProvider + Drop> ClauseStore<D> {
         match requirement {
             Requirement::Single(set) => self.provider.knows_version_set(set),
             Requirement::Union(_) => false,
+        }
+    }
+
+    /// Whether a clause of this parent and requirement would be a conflict; none where the requirement isn't loaded.
+    fn conflict(&self, parent: VariableId, requirement: Requirement) -> Option<bool>
+        ensures { result ≡ option_map (λ lists. is_conflict (values (⟦<D as AbstractStore>⟧.store self.now)) parent (rows (sets_of requirement) lists)) (lists_of (⟦<D as AbstractStore>⟧.store self.now) requirement) }
+    {
+        match self.lists(requirement) {
+            Some(lists) => Some(is_conflict(self.trail.map(), parent, requirement, lists)),
+            None => None,
+        }
+    }
+
+    /// Registers a clause under the next id.
+    fn register(
+        &mut self,
+        parent: VariableId,
+        requirement: Requirement,
+    ) -> Result<ClauseId, StoreError>
+        ensures clause { IfOk result (λ clause. clause ≡ length self.old.requires) }
+        ensures ok { OnOk result (self.new ≡ record self.old { requires = self.old.requires ++ (record { parent = parent; requirement = requirement; clause_id = length self.old.requires }) ∷ [] }) }
+        ensures err { OnErr result (self.new ≡ self.old) }
+        ensures refused { IfErr result (λ e. e ≡ (if nat_le (2 ^ 32 - 1) (length self.old.requires) then TooManyClauses else OutOfMemory)) }
+        ensures full { OnOk result (nat_le (2 ^ 32 - 1) (length self.old.requires) ≡ false) }
+    {
+        if self.queue.is_full() {
+            return Err(StoreError::TooManyClauses);
+        }
+        let clause = ClauseId::from_index(self.queue.len());
+        match self.queue.register_clause(parent, requirement, clause) {
+            Ok(()) => Ok(clause),
+            Err(e) => Err(e),
         }
     }
 }
