@@ -1,5 +1,5 @@
 -- The laws of the pick: no offer beats it, it is one of the offers, and there is none only of no offers.
-use Rattle.std.proofs.Common.{◌≡◌, ℕ, suc, Bool, true, false, not, ◌&&◌, ◌||◌, cond, ltb, List, [], ◌∷◌, ◌++◌, Option, Some, None, sym, ap, refl, subst, ◌∙◌, arith}
+use Rattle.std.proofs.Common.{◌≡◌, ℕ, suc, Bool, true, false, not, ◌&&◌, ◌||◌, cond, ltb, List, [], ◌∷◌, Option, Some, None, sym, ap, refl, subst, ◌∙◌, arith}
 use Rattle.std.specs.Prelude.{filter_map, fold, All, Contains, IfSome, is_some, option_map, ◌↔◌}
 use Rattle.std.specs.List.{AllByRecursion, best_of, cons_option}
 use Rattle.std.proofs.lemmas.Bool.Decides.{nat_tests}
@@ -30,7 +30,8 @@ beats-self e = one_way e.score e.frontier.count (is_of_root e)
 
 beats-chain : (e b a : Offer) → beats e b ≡ true → beats b a ≡ true → beats e a ≡ true
 beats-chain e b a p q =
-    chain e.score b.score a.score e.frontier.count b.frontier.count a.frontier.count (is_of_root e) (is_of_root b) (is_of_root a) p q
+    chain e.score b.score a.score e.frontier.count b.frontier.count a.frontier.count
+    (is_of_root e) (is_of_root b) (is_of_root a) p q
 
 -- ---- the best so far
 
@@ -53,7 +54,9 @@ keeps b (x ∷ xs) y h = keeps (cond (beats x b) x b) xs y (not_beaten y x b (be
 
 none_beats : (b : Offer) (xs : List Offer) → AllByRecursion (λ e. beats e (best_of beats b xs) ≡ false) xs
 none_beats b [] = tt
-none_beats b (x ∷ xs) = (keeps (cond (beats x b) x b) xs x (new_is_not x b (beats x b) refl), none_beats (cond (beats x b) x b) xs)
+none_beats b (x ∷ xs) =
+    let best : Offer = cond (beats x b) x b in
+    (keeps best xs x (new_is_not x b (beats x b) refl), none_beats best xs)
 
 -- the pick of some offers is the best of them
 pick-cons : (b : Offer) (xs : List Offer) → fold better (Some b) xs ≡ Some (best_of beats b xs)
@@ -62,7 +65,8 @@ pick-cons b (x ∷ xs) = pick-cons (cond (beats x b) x b) xs
 
 unbeaten_some : (b : Offer) (xs : List Offer) → IsUnbeaten (b ∷ xs) (best_of beats b xs)
 unbeaten_some b xs =
-    All-from_recursion (λ e. beats e (best_of beats b xs) ≡ false) (b ∷ xs) (keeps b xs b (beats-self b), none_beats b xs)
+    All-from_recursion (λ e. beats e (best_of beats b xs) ≡ false) (b ∷ xs)
+    (keeps b xs b (beats-self b), none_beats b xs)
 
 pick_unbeaten : (offers : List Offer) → IfSome (pick offers) (IsUnbeaten offers)
 pick_unbeaten [] = tt
@@ -96,7 +100,8 @@ best_is_member b (x ∷ xs) = best_step (beats x b) _ b x xs (best_is_member (co
 
 pick_member : (offers : List Offer) → IfSome (pick offers) (Contains offers)
 pick_member [] = tt
-pick_member (b ∷ xs) = subst (λ o. IfSome o (Contains (b ∷ xs))) (sym (pick-cons b xs)) (to_contains (best_is_member b xs))
+pick_member (b ∷ xs) =
+    subst (λ o. IfSome o (Contains (b ∷ xs))) (sym (pick-cons b xs)) (to_contains (best_is_member b xs))
 
 pub pick_law : PickLaw
 pick_law = record {
@@ -107,64 +112,82 @@ pick_law = record {
   unbeaten = pick_unbeaten;
 }
 
-pub decides_unbeaten : (offers : List Offer) (d : Option QueueDecision) → d ≡ option_map decided (pick offers) → DecidesUnbeaten offers d
+pub decides_unbeaten : (offers : List Offer) (d : Option QueueDecision) →
+    d ≡ option_map decided (pick offers) → DecidesUnbeaten offers d
 decides_unbeaten offers d e =
-    subst (DecidesUnbeaten offers) (sym e) (go (pick offers) (pick_none offers).0 (pick_member offers) (pick_unbeaten offers))
+    rw e (go (pick offers) (pick_none offers).0 (pick_member offers) (pick_unbeaten offers))
   where
-    go : (o : Option Offer) → (o ≡ None → offers ≡ []) → IfSome o (Contains offers) → IfSome o (IsUnbeaten offers) → DecidesUnbeaten offers (option_map decided o)
+    go : (o : Option Offer) → (o ≡ None → offers ≡ []) → IfSome o (Contains offers) → IfSome o (IsUnbeaten offers) →
+        DecidesUnbeaten offers (option_map decided o)
     go None n m u = n refl
     go (Some best) n m u = (best, refl, m, u)
 
 -- ---- no eligible clause, no decision
 
-nothing_kept : {X Y : Type 0} (h : X → Option Y) (xs : List X) → filter_map h xs ≡ [] → AllByRecursion (λ x. is_some (h x) ≡ false) xs
-nothing_kept h [] e = tt
-nothing_kept {X} {Y} h (x ∷ xs) e = go (h x) refl e (nothing_kept h xs)
-  where
-    go : (o : Option Y) → h x ≡ o → cons_option o (filter_map h xs) ≡ [] →
-        (filter_map h xs ≡ [] → AllByRecursion (λ x. is_some (h x) ≡ false) xs) → (is_some (h x) ≡ false) × AllByRecursion (λ x. is_some (h x) ≡ false) xs
-    go None p q rest = (ap is_some p, rest q)
-    go (Some y) p q rest = absurd (let bad : ◌≡◌ {A = List Y} (y ∷ filter_map h xs) [] = q in cc)
+module _ {X Y : Type 0} (h : X → Option Y) where
+  -- h gives nothing of any of them
+  abbrev GivesNone : List X → Type 0
+  GivesNone xs = AllByRecursion (λ x. is_some (h x) ≡ false) xs
 
-keeps_nothing : {X Y : Type 0} (h : X → Option Y) (xs : List X) → AllByRecursion (λ x. is_some (h x) ≡ false) xs → filter_map h xs ≡ []
-keeps_nothing h [] a = refl
-keeps_nothing {X} {Y} h (x ∷ xs) a = go (h x) refl (keeps_nothing h xs a.1)
-  where
-    go : (o : Option Y) → h x ≡ o → filter_map h xs ≡ [] → cons_option o (filter_map h xs) ≡ []
-    go None p q = q
-    go (Some y) p q = let e : is_some (Some y) ≡ false = (ap is_some (sym p)) ∙ a.0 in cc
+  nothing_kept : (xs : List X) → filter_map h xs ≡ [] → GivesNone xs
+  nothing_kept [] e = tt
+  nothing_kept (x ∷ xs) e = go (h x) refl e (nothing_kept xs)
+    where
+      go : (o : Option Y) → h x ≡ o → cons_option o (filter_map h xs) ≡ [] → (filter_map h xs ≡ [] → GivesNone xs) →
+          (is_some (h x) ≡ false) × GivesNone xs
+      go None p q rest = (ap is_some p, rest q)
+      go (Some y) p q rest = absurd (let bad : ◌≡◌ {A = List Y} (y ∷ filter_map h xs) [] = q in cc)
 
-same_test : {X : Type 0} (p q : X → Bool) → ((x : X) → p x ≡ q x) → (xs : List X) → AllByRecursion (λ x. p x ≡ false) xs → AllByRecursion (λ x. q x ≡ false) xs
+  keeps_nothing : (xs : List X) → GivesNone xs → filter_map h xs ≡ []
+  keeps_nothing [] a = refl
+  keeps_nothing (x ∷ xs) a = go (h x) refl (keeps_nothing xs a.1)
+    where
+      go : (o : Option Y) → h x ≡ o → filter_map h xs ≡ [] → cons_option o (filter_map h xs) ≡ []
+      go None p q = q
+      go (Some y) p q = let e : is_some (Some y) ≡ false = ap is_some (sym p) ∙ a.0 in cc
+
+same_test : {X : Type 0} (p q : X → Bool) → ((x : X) → p x ≡ q x) → (xs : List X) →
+    AllByRecursion (λ x. p x ≡ false) xs → AllByRecursion (λ x. q x ≡ false) xs
 same_test p q e [] a = tt
 same_test p q e (x ∷ xs) a = (sym (e x) ∙ a.0, same_test p q e xs a.1)
 
-module _ (val : Values) (rows_of : Requirement → List Row) where
+module _ (val : Values) (rows_of : Requirement → List Row) (score : VersionSetId → ℕ) (cs : List RequiresClause) where
+  abbrev offered : RequiresClause → Bool
+  offered c = is_some (offer val rows_of score c)
+
+  abbrev offer_at : RequiresClause → Frontier → Offer
+  offer_at c x = record { clause = c; frontier = x; score = score x.set }
+
   -- a clause makes an offer exactly if it is eligible
-  offers_if_eligible : (score : VersionSetId → ℕ) (c : RequiresClause) → is_some (offer val rows_of score c) ≡ is_eligible val rows_of c
-  offers_if_eligible score c = go (is_open val rows_of c) (frontier val (rows_of c.requirement))
+  offered_if_eligible : (c : RequiresClause) → offered c ≡ is_eligible val rows_of c
+  offered_if_eligible c = go (is_open val rows_of c) (frontier val (rows_of c.requirement))
     where
-      go : (o : Bool) (f : Option Frontier) → is_some {T = Offer} (cond o (option_map (λ x. record { clause = c; frontier = x; score = score x.set }) f) None) ≡ (o && is_some f)
+      go : (o : Bool) (f : Option Frontier) → is_some (cond o (option_map (offer_at c) f) None) ≡ (o && is_some f)
       go true None = refl
       go true (Some x) = refl
       go false f = refl
 
-  pub none_exactly : (cs : List RequiresClause) → NoneExactly val rows_of cs
-  none_exactly cs score = (
+  abbrev NoneEligible : Type 0
+  NoneEligible = All (λ c. is_eligible val rows_of c ≡ false) (scan cs)
+
+  none_picked : (pick (eligible val rows_of score cs) ≡ None) ↔ NoneEligible
+  none_picked = (
     λ e. All-from_recursion (λ c. is_eligible val rows_of c ≡ false) (scan cs)
-        (same_test (λ c. is_some (offer val rows_of score c)) (is_eligible val rows_of) (offers_if_eligible score) (scan cs)
+        (same_test offered (is_eligible val rows_of) offered_if_eligible (scan cs)
         (nothing_kept (offer val rows_of score) (scan cs) ((pick_none (eligible val rows_of score cs)).0 e))),
     λ a. (pick_none (eligible val rows_of score cs)).1 (keeps_nothing (offer val rows_of score) (scan cs)
-        (same_test (is_eligible val rows_of) (λ c. is_some (offer val rows_of score c)) (λ c. sym (offers_if_eligible score c)) (scan cs)
+        (same_test (is_eligible val rows_of) offered (λ c. sym (offered_if_eligible c)) (scan cs)
         (recursion_from_All (λ c. is_eligible val rows_of c ≡ false) (scan cs) a))),
   )
 
-  mapped_none : (o : Option Offer) → (option_map decided o ≡ None) ↔ (o ≡ None)
-  mapped_none None = (λ e. refl, λ e. refl)
-  mapped_none (Some x) = (λ e. cc, λ e. cc)
+  pub none_decided : (d : Option QueueDecision) →
+      d ≡ option_map decided (pick (eligible val rows_of score cs)) → (d ≡ None) ↔ NoneEligible
+  none_decided d e = rw e (go (pick (eligible val rows_of score cs)) none_picked)
+    where
+      go : (o : Option Offer) → ((o ≡ None) ↔ NoneEligible) → (option_map decided o ≡ None) ↔ NoneEligible
+      go None h = (λ n. h.0 refl, λ a. refl)
+      go (Some x) h = (λ n. cc, λ a. let bad : Some x ≡ None = h.1 a in cc)
 
-  pub none_decided : (score : VersionSetId → ℕ) (cs : List RequiresClause) (d : Option QueueDecision) → d ≡ option_map decided (pick (eligible val rows_of score cs)) →
-      (d ≡ None) ↔ All (λ c. is_eligible val rows_of c ≡ false) (scan cs)
-  none_decided score cs d e = (
-    λ n. (none_exactly cs score).0 ((mapped_none (pick (eligible val rows_of score cs))).0 (sym e ∙ n)),
-    λ a. e ∙ (mapped_none (pick (eligible val rows_of score cs))).1 ((none_exactly cs score).1 a),
-  )
+pub none_exactly : (val : Values) (rows_of : Requirement → List Row) (cs : List RequiresClause) →
+    NoneExactly val rows_of cs
+none_exactly val rows_of cs = λ score. none_picked val rows_of score cs

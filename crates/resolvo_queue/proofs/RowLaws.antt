@@ -1,6 +1,6 @@
--- The rows of one list, by the list itself, and a walk over it.
-use Rattle.std.proofs.Common.{◌≡◌, ℕ, ◌+◌, Bool, true, false, ◌&&◌, ◌||◌, cond, eqb, List, [], ◌∷◌, ◌++◌, map, Option, Some, None, ◌<◌, ◌≤◌, length, get_or, take, subst, zero-add, add-zero, sym, ap, refl, ◌∙◌, eq-eqb}
-use Rattle.std.specs.Prelude.{find, count_by, option_map, if◌then◌else◌, zip, flat_map}
+-- The rows of one list by its variables, and a walk over them.
+use Rattle.std.proofs.Common.{◌≡◌, ℕ, ◌+◌, ◌<◌, ◌≤◌, Bool, true, false, ◌&&◌, ◌||◌, cond, eqb, List, [], ◌∷◌, ◌++◌, map, length, get_or, take, Option, Some, None, sym, ap, refl, ◌∙◌, zero-add, add-zero, eq-eqb}
+use Rattle.std.specs.Prelude.{find, count_by, option_map}
 use Rattle.std.specs.List.{list_any}
 use Rattle.std.specs.Option.{option_or}
 use Rattle.std.proofs.lemmas.List.{take_all, take_more}
@@ -10,121 +10,128 @@ use Rattle.resolvo_ids.specs.declared.id.VersionSetId.{VersionSetId}
 use Rattle.resolvo_clauses.specs.Literals.{Values, known_true, undecided}
 use Rattle.resolvo_queue.specs.declared.row_state.RowState.{RowState}
 use Rattle.resolvo_queue.specs.declared.row_state.RowState.TheVariants.{Met, Undecided, AllFalse}
-use Rattle.resolvo_queue.specs.Rows.{Row, list_rows, rows, has_true_row, is_undecided_row, undecided_rows, frontier, frontier_at}
+use Rattle.resolvo_queue.specs.Rows.{Row, list_rows, has_true_row, is_undecided_row, undecided_rows, frontier_at}
 use Rattle.resolvo_queue.specs.RowState.{state_of, unmet_state}
 
-abbrev pub is_true : Values → ℕ → Bool
-is_true val x = known_true (val x)
+-- ---- tests of a list that was mapped
 
-abbrev pub is_undecided : Values → ℕ → Bool
-is_undecided val x = undecided (val x)
+list_any-map : {A B : Type 0} (p : B → Bool) (f : A → B) (xs : List A) →
+    list_any p (map f xs) ≡ list_any (λ x. p (f x)) xs
+list_any-map p f [] = refl
+list_any-map p f (x ∷ xs) = ap (λ b. p (f x) || b) (list_any-map p f xs)
+
+cond-map : {A B : Type 0} (f : A → B) (b : Bool) (x : A) (o : Option A) →
+    cond b (Some (f x)) (option_map f o) ≡ option_map f (cond b (Some x) o)
+cond-map f true x o = refl
+cond-map f false x o = refl
+
+find-map : {A B : Type 0} (p : B → Bool) (f : A → B) (xs : List A) →
+    find p (map f xs) ≡ option_map f (find (λ x. p (f x)) xs)
+find-map p f [] = refl
+find-map p f (x ∷ xs) =
+    ap (λ o. cond (p (f x)) (Some (f x)) o) (find-map p f xs) ∙ cond-map f (p (f x)) x (find (λ y. p (f y)) xs)
+
+option_or-none : {X : Type 0} (o : Option X) → option_or o None ≡ o
+option_or-none None = refl
+option_or-none (Some x) = refl
+
+-- ---- the state of a list's rows
+
+-- whether a variable of the list is true
+abbrev some_true : Values → List ℕ → Bool
+some_true val list = list_any (λ x. known_true (val x)) list
+
+abbrev first_undecided : Values → List ℕ → Option ℕ
+first_undecided val list = find (λ x. undecided (val x)) list
+
+abbrev undecided_count : Values → List ℕ → ℕ
+undecided_count val list = count_by (λ x. undecided (val x)) list
 
 -- what a walk makes of the first undecided variable and the number of those
 abbrev pub walked : VersionSetId → Option ℕ → ℕ → RowState
 walked set None count = AllFalse
 walked set (Some v) count = Undecided (record { variable = v; set = set; count = count })
 
-any-rows : (val : Values) (set : VersionSetId) (list : List ℕ) → has_true_row val (list_rows set list) ≡ list_any (is_true val) list
-any-rows val set [] = refl
-any-rows val set (x ∷ xs) = ap (λ b. is_true val x || b) (any-rows val set xs)
+module _ (val : Values) (set : VersionSetId) where
+  abbrev row_of : ℕ → Row
+  row_of x = record { set = set; variable = x }
 
-find-rows : (val : Values) (set : VersionSetId) (list : List ℕ) →
-    find (is_undecided_row val) (list_rows set list) ≡ option_map (λ x. record { set = set; variable = x }) (find (is_undecided val) list)
-find-rows val set [] = refl
-find-rows val set (x ∷ xs) = go (is_undecided val x) (find-rows val set xs)
-  where
-    go : (b : Bool) → find (is_undecided_row val) (list_rows set xs) ≡ option_map (λ x. record { set = set; variable = x }) (find (is_undecided val) xs) →
-        cond b (Some (record { set = set; variable = x })) (find (is_undecided_row val) (list_rows set xs)) ≡ option_map (λ x. record { set = set; variable = x }) (cond b (Some x) (find (is_undecided val) xs))
-    go true e = refl
-    go false e = e
+  count-rows : (list : List ℕ) → undecided_rows val set (list_rows set list) ≡ undecided_count val list
+  count-rows list =
+      fold-map (λ n (row : Row). n + cond (eqb row.set.0 set.0 && is_undecided_row val row) 1 0) row_of 0 list
+      ∙ ap (λ b. count_by (λ x. b && undecided (val x)) list) (eq-eqb set.0 set.0 refl)
 
-count-rows : (val : Values) (set : VersionSetId) (list : List ℕ) → undecided_rows val set (list_rows set list) ≡ count_by (is_undecided val) list
-count-rows val set list =
-    let same : eqb set.0 set.0 ≡ true = eq-eqb set.0 set.0 refl in
-    fold-map (λ (n : ℕ) (row : Row). n + cond (eqb row.set.0 set.0 && is_undecided_row val row) 1 0) (λ x. record { set = set; variable = x }) 0 list
-    ∙ ap (λ b. count_by (λ x. b && is_undecided val x) list) same
+  by_rows : (rs : List Row) (n : ℕ) → undecided_rows val set rs ≡ n → (b : Bool) (o : Option ℕ) →
+      cond b Met (unmet_state (cond b None (option_map (frontier_at val rs) (option_map row_of o))))
+      ≡ cond b Met (walked set o n)
+  by_rows rs n e true o = refl
+  by_rows rs n e false None = refl
+  by_rows rs n e false (Some v) = ap (λ m. walked set (Some v) m) e
 
--- the state of a list's rows
-pub state_of-list : (val : Values) (set : VersionSetId) (list : List ℕ) →
-    state_of val (list_rows set list) ≡ cond (list_any (is_true val) list) Met (walked set (find (is_undecided val) list) (count_by (is_undecided val) list))
-state_of-list val set list = go (has_true_row val (list_rows set list)) (find (is_undecided val) list) (any-rows val set list) (find-rows val set list)
-  where
-    go : (b : Bool) (o : Option ℕ) → b ≡ list_any (is_true val) list → find (is_undecided_row val) (list_rows set list) ≡ option_map (λ x. record { set = set; variable = x }) o →
-        cond b Met (unmet_state (cond b None (option_map (frontier_at val (list_rows set list)) (find (is_undecided_row val) (list_rows set list)))))
-        ≡ cond (list_any (is_true val) list) Met (walked set o (count_by (is_undecided val) list))
-    go true o e f = ap (λ b. cond b Met (walked set o (count_by (is_undecided val) list))) e
-    go false None e f =
-        ap (λ r. unmet_state (option_map (frontier_at val (list_rows set list)) r)) f
-        ∙ ap (λ b. cond b Met AllFalse) e
-    go false (Some v) e f =
-        ap (λ r. unmet_state (option_map (frontier_at val (list_rows set list)) r)) f
-        ∙ (ap (λ n. Undecided (record { variable = v; set = set; count = n })) (count-rows val set list)
-        ∙ ap (λ b. cond b Met (Undecided (record { variable = v; set = set; count = count_by (is_undecided val) list }))) e)
+  state_of-list : (list : List ℕ) →
+      state_of val (list_rows set list)
+      ≡ cond (some_true val list) Met (walked set (first_undecided val list) (undecided_count val list))
+  state_of-list list =
+      go (has_true_row val (list_rows set list)) (find (is_undecided_row val) (list_rows set list))
+      (list_any-map (λ row. known_true (val row.variable)) row_of list) (find-map (is_undecided_row val) row_of list)
+    where
+      go : (b : Bool) (o : Option Row) → b ≡ some_true val list → o ≡ option_map row_of (first_undecided val list) →
+          cond b Met (unmet_state (cond b None (option_map (frontier_at val (list_rows set list)) o)))
+          ≡ cond (some_true val list) Met (walked set (first_undecided val list) (undecided_count val list))
+      go b o any first =
+          rw (any, first) (by_rows (list_rows set list) (undecided_count val list) (count-rows list)
+          (some_true val list) (first_undecided val list))
 
 -- ---- a walk over a list
 
--- what a walk knows once it has gone over the variables and met no true one
+-- what a walk knows of the variables behind it, none of which is true
 pub record Walked (val : Values) (list : List ℕ) (first : Option ℕ) (count : ℕ) : Type 0 where
-  pub none_true : list_any (is_true val) list ≡ false
-  pub first_is : first ≡ find (is_undecided val) list
-  pub count_is : count ≡ count_by (is_undecided val) list
+  pub none_true : some_true val list ≡ false
+  pub first_is : first ≡ first_undecided val list
+  pub count_is : count ≡ undecided_count val list
 
-option_or-none : {X : Type 0} (o : Option X) → option_or o None ≡ o
-option_or-none None = refl
-option_or-none (Some x) = refl
+module _ (val : Values) (list : List ℕ) (i x : ℕ) (within : i < length list) (read : x ≡ get_or list i x) where
+  module _ (first : Option ℕ) (count : ℕ) (was : Walked val (take i list) first count) where
+    -- one more variable that isn't true, by its value
+    more : (v : Option Bool) → val x ≡ v → known_true v ≡ false →
+        Walked val (take i list ++ x ∷ []) (option_or first (cond (undecided v) (Some x) None))
+        (count + cond (undecided v) 1 0)
+    more v e t = record {
+      none_true =
+          list_any-append (λ y. known_true (val y)) (take i list) (x ∷ [])
+          ∙ (ap (λ b. b || (known_true (val x) || false)) was.none_true ∙ ap (λ b. b || false) (ap known_true e ∙ t));
+      first_is = sym (
+          find-append (λ y. undecided (val y)) (take i list) (x ∷ [])
+          ∙ (ap (λ o. option_or o (cond (undecided (val x)) (Some x) None)) (sym was.first_is)
+          ∙ ap (λ u. option_or first (cond (undecided u) (Some x) None)) e));
+      count_is = sym (
+          sum_by-append (λ y. cond (undecided (val y)) 1 0) (take i list) (x ∷ [])
+          ∙ (ap (λ n. n + (0 + cond (undecided (val x)) 1 0)) (sym was.count_is)
+          ∙ (ap (λ u. count + (0 + cond (undecided u) 1 0)) e
+          ∙ ap (λ n. count + n) (zero-add (cond (undecided v) 1 0)))));
+    }
 
--- one more variable, by what is known of its value
-walk_one : (val : Values) (list : List ℕ) (first : Option ℕ) (count x : ℕ) (v : Option Bool) → Walked val list first count → val x ≡ v → known_true v ≡ false →
-    Walked val (list ++ x ∷ []) (option_or first (cond (undecided v) (Some x) None)) (count + cond (undecided v) 1 0)
-walk_one val list first count x v w e t = record {
-  none_true =
-      list_any-append (is_true val) list (x ∷ [])
-      ∙ (ap (λ b. b || (is_true val x || false)) w.none_true
-      ∙ ap (λ b. b || false) (ap known_true e ∙ t));
-  first_is = sym (
-      find-append (is_undecided val) list (x ∷ [])
-      ∙ (ap (λ o. option_or o (cond (is_undecided val x) (Some x) None)) (sym w.first_is)
-      ∙ ap (λ u. option_or first (cond (undecided u) (Some x) None)) e));
-  count_is = sym (
-      sum_by-append (λ y. cond (is_undecided val y) 1 0) list (x ∷ [])
-      ∙ (ap (λ n. n + (0 + cond (is_undecided val x) 1 0)) (sym w.count_is)
-      ∙ (ap (λ u. count + (0 + cond (undecided u) 1 0)) e
-      ∙ ap (λ n. count + n) (zero-add (cond (undecided v) 1 0)))));
-}
+    next : take (i + 1) list ≡ take i list ++ x ∷ []
+    next = take_more list i x within ∙ ap (λ y. take i list ++ y ∷ []) (sym read)
 
--- the step of the walk at a variable's place
-pub walk_more : (val : Values) (list : List ℕ) (i x : ℕ) (first : Option ℕ) (count : ℕ) (v : Option Bool) →
-    i < length list → x ≡ get_or list i x → Walked val (take i list) first count → val x ≡ v → known_true v ≡ false →
-    Walked val (take (i + 1) list) (option_or first (cond (undecided v) (Some x) None)) (count + cond (undecided v) 1 0)
-walk_more val list i x first count v lt is w e t =
-    let at : take (i + 1) list ≡ take i list ++ x ∷ [] = take_more list i x lt ∙ ap (λ y. take i list ++ y ∷ []) (sym is) in
-    let P : List ℕ → Type 0 = λ l. Walked val l (option_or first (cond (undecided v) (Some x) None)) (count + cond (undecided v) 1 0) in
-    subst P (sym at) (walk_one val (take i list) first count x v w e t)
+    pub walk_false : val x ≡ Some false → Walked val (take (i + 1) list) first count
+    walk_false e = rw (next, ← option_or-none first, ← add-zero count) (more (Some false) e refl)
 
-pub walk_false : (val : Values) (list : List ℕ) (i x : ℕ) (first : Option ℕ) (count : ℕ) →
-    i < length list → x ≡ get_or list i x → Walked val (take i list) first count → val x ≡ Some false → Walked val (take (i + 1) list) first count
-walk_false val list i x first count lt is w e =
-    let h = walk_more val list i x first count (Some false) lt is w e refl in
-    let P : Option ℕ → ℕ → Type 0 = λ o n. Walked val (take (i + 1) list) o n in
-    subst (λ n. P first n) (add-zero count) (subst (λ o. P o (count + 0)) (option_or-none first) h)
+    pub walk_undecided : val x ≡ None → Walked val (take (i + 1) list) (option_or first (Some x)) (count + 1)
+    walk_undecided e = rw next (more None e refl)
 
-pub walk_undecided : (val : Values) (list : List ℕ) (i x : ℕ) (first : Option ℕ) (count : ℕ) →
-    i < length list → x ≡ get_or list i x → Walked val (take i list) first count → val x ≡ None → Walked val (take (i + 1) list) (option_or first (Some x)) (count + 1)
-walk_undecided val list i x first count lt is w e = walk_more val list i x first count None lt is w e refl
-
--- a true variable ends it
-pub walk_true : (val : Values) (set : VersionSetId) (list : List ℕ) (i x : ℕ) →
-    i < length list → x ≡ get_or list i x → val x ≡ Some true → state_of val (list_rows set list) ≡ Met
-walk_true val set list i x lt is e =
-    let t : is_true val (get_or list i x) ≡ true = ap (is_true val) (sym is) ∙ ap known_true e in
-    state_of-list val set list
-    ∙ ap (λ b. cond b Met (walked set (find (is_undecided val) list) (count_by (is_undecided val) list))) (list_any_at (is_true val) list i x lt t)
+  -- a true variable ends it
+  pub walk_true : (set : VersionSetId) → val x ≡ Some true → state_of val (list_rows set list) ≡ Met
+  walk_true set e =
+      let t : known_true (val (get_or list i x)) ≡ true = ap (λ y. known_true (val y)) (sym read) ∙ ap known_true e in
+      state_of-list val set list
+      ∙ ap (λ b. cond b Met (walked set (first_undecided val list) (undecided_count val list)))
+      (list_any_at (λ y. known_true (val y)) list i x within t)
 
 pub walk_end : (val : Values) (set : VersionSetId) (list : List ℕ) (i : ℕ) (first : Option ℕ) (count : ℕ) →
     length list ≤ i → Walked val (take i list) first count → state_of val (list_rows set list) ≡ walked set first count
-walk_end val set list i first count le w =
-    let P : List ℕ → Type 0 = λ l. Walked val l first count in
-    let v : Walked val list first count = subst P (take_all i list le) w in
+walk_end val set list i first count past was =
+    let all : Walked val list first count = rw (take_all i list past) at was in
     state_of-list val set list
-    ∙ (ap (λ b. cond b Met (walked set (find (is_undecided val) list) (count_by (is_undecided val) list))) v.none_true
-    ∙ (ap (λ o. walked set o (count_by (is_undecided val) list)) (sym v.first_is) ∙ ap (walked set first) (sym v.count_is)))
+    ∙ (ap (λ b. cond b Met (walked set (first_undecided val list) (undecided_count val list))) all.none_true
+    ∙ (ap (λ o. walked set o (undecided_count val list)) (sym all.first_is) ∙ ap (walked set first) (sym all.count_is)))

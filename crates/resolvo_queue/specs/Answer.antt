@@ -21,7 +21,8 @@ answer None best = picked best
 
 -- the answer of clauses that stand in the order of the scan
 abbrev pub answer_of : Values → (Requirement → List Row) → List RequiresClause → Answer
-answer_of val rows_of cs = answer (find (is_falsified val rows_of) cs) (pick (filter_map (offer val rows_of no_score) cs))
+answer_of val rows_of cs =
+    answer (find (is_falsified val rows_of) cs) (pick (filter_map (offer val rows_of no_score) cs))
 
 -- the answer of clauses and of later ones, by the answers of both
 abbrev pub or_later : Answer → Answer → Answer

@@ -8,7 +8,7 @@ abbrev pub list_at : List (List RequiresClause) → ℕ → List RequiresClause
 list_at lists parent = slice_index_or lists parent []
 
 -- the parents are those of the clauses, and each parent's list has its clauses
-pub record IsIndexed (clauses : List RequiresClause) (listed : List ℕ) (lists : List (List RequiresClause)) : Type 0 where
-  pub in_order : listed ≡ parents clauses
-  pub own : (parent : ℕ) → list_at lists parent ≡ clauses_of clauses parent
-  pub few : length clauses < 2 ^ 32
+pub record IsIndexed (cs : List RequiresClause) (listed : List ℕ) (lists : List (List RequiresClause)) : Type 0 where
+  pub in_order : listed ≡ parents cs
+  pub own : (parent : ℕ) → list_at lists parent ≡ clauses_of cs parent
+  pub few : length cs < 2 ^ 32

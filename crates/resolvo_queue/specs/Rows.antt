@@ -1,5 +1,5 @@
 -- The rows of a requirement, and its frontier under the values of the variables.
-use Rattle.std.specs.Prelude.{ℕ, Bool, ◌==◌, ◌&&◌, if◌then◌else◌, List, [], ◌∷◌, map, find, count_by, flat_map, zip, Option, None, Some, option_map}
+use Rattle.std.specs.Prelude.{ℕ, Bool, ◌==◌, ◌&&◌, if◌then◌else◌, List, [], map, find, count_by, flat_map, zip, Option, None, Some, option_map}
 use Rattle.std.specs.List.{list_any}
 use Rattle.std.specs.Map.{lookup}
 use Rattle.std.specs.declared.vec.Vec.{Vec}
@@ -41,6 +41,7 @@ module _ (val : Values) where
   abbrev pub has_true_row : List Row → Bool
   has_true_row rs = list_any (λ row. known_true (val row.variable)) rs
 
+  -- its variable is undecided
   abbrev pub is_undecided_row : Row → Bool
   is_undecided_row row = undecided (val row.variable)
 

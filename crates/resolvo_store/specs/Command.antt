@@ -1,5 +1,5 @@
 -- Commands and replies, with lists where the program has vectors. S are the solvables.
-use Rattle.std.specs.Prelude.{ℕ, Bool, List, map, Option}
+use Rattle.std.specs.Prelude.{ℕ, Bool, List, map, Option, ⊤}
 use Rattle.resolvo_ids.specs.declared.error.StoreError.{StoreError}
 use Rattle.resolvo_pool.specs.declared.requirement.Requirement.{Requirement}
 use Rattle.resolvo_clauses.specs.declared.decision.Decision.{Decision}
@@ -29,6 +29,10 @@ pub data Reply : Type 0 where
   NoDecision : Reply
   Falsified : (clause : ℕ) → Reply
   Refused : (e : StoreError) → Reply
+
+abbrev pub IsRefused : Reply → Type 0
+IsRefused (Refused e) = ⊤
+IsRefused _ = ⊥
 
 -- the program's command
 abbrev pub command_of : {S : Type 0} → ProgramCommand S → Command S

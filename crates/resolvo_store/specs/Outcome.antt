@@ -10,7 +10,7 @@ use Rattle.resolvo_clauses.specs.Variables.{interned, interned_variable, all_int
 use Rattle.resolvo_clauses.specs.Trail.{Entry, kept_until}
 use Rattle.resolvo_queue.specs.declared.requires_clause.RequiresClause.{RequiresClause}
 use Rattle.resolvo_queue.specs.Rows.{Row}
-use Rattle.resolvo_queue.specs.Scan.{first_falsified}
+use Rattle.resolvo_queue.specs.Scan.{first_falsified, is_eligible}
 use Rattle.resolvo_queue.specs.Pick.{Offer, eligible, pick, decided}
 use Rattle.resolvo_store.specs.Command.{Command, Variable, Load, Requires, Assign, UndoUntil, Decide, Reply, VariableIs, LoadedAs, ClauseIs, Assigned, Already, Clash, Undone, Decided, NoDecision, Falsified}
 use Rattle.resolvo_store.specs.Store.{Store, values, lists_of, rows_of, score_of, candidates_of}
@@ -63,9 +63,17 @@ module _ {N S : Type 0} where
   abbrev pub falsified_clause : Store N S → Option RequiresClause
   falsified_clause st = first_falsified (values st) (rows_of st) st.requires
 
-  -- the pick of the scan's eligible clauses
+  -- a clause's parent is true, and its rows leave a candidate to decide and none to find true
+  abbrev pub is_eligible_clause : Store N S → RequiresClause → Bool
+  is_eligible_clause st c = is_eligible (values st) (rows_of st) c
+
+  -- what the scan's eligible clauses offer
+  abbrev pub offers : Store N S → List Offer
+  offers st = eligible (values st) (rows_of st) (score_of st) st.requires
+
+  -- the pick of them
   abbrev pub picked : Store N S → Option Offer
-  picked st = pick (eligible (values st) (rows_of st) (score_of st) st.requires)
+  picked st = pick (offers st)
 
   -- the reply and the store after a command that nothing refuses
   abbrev pub outcome : Store N S → Command S → Outcome N S

@@ -43,7 +43,7 @@ impl<D: DependencyProvider> Model for ClauseStore<D> {
 }
 
 impl<D: DependencyProvider + Drop> ClauseStore<D> {
-    ghost use Rattle.resolvo_store.specs.Command.{command_of, reply_of};
+    ghost use Rattle.resolvo_store.specs.Command.{command_of, reply_of, IsRefused};
     ghost use Rattle.resolvo_store.specs.Store.{new_store, store_of, Store};
     ghost use Rattle.resolvo_store.specs.Outcome.{falsified_clause, picked};
     ghost use Rattle.resolvo_store.specs.Step.{Step, Run};
@@ -74,7 +74,8 @@ impl<D: DependencyProvider + Drop> ClauseStore<D> {
 
     /// Obeys a command, and answers it.
     pub fn step(&mut self, command: &Command<D::SolvableId>) -> Reply<D::Alloc>
-        ensures { Step (⟦<D as AbstractStore>⟧.store self.old) (command_of command.now) (reply_of result) (⟦<D as AbstractStore>⟧.store self.new) }
+        ensures step { Step (⟦<D as AbstractStore>⟧.store self.old) (command_of command.now) (reply_of result) (⟦<D as AbstractStore>⟧.store self.new) }
+        ensures refused { IsRefused (reply_of result) → ⟦<D as AbstractStore>⟧.store self.new ≡ ⟦<D as AbstractStore>⟧.store self.old }
     {
         match *command {
             Command::Variable(solvable) => self.variable(solvable),

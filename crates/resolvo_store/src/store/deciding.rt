@@ -1,7 +1,8 @@
 //! The decision: the command `Decide`, and its two halves as calls of their own.
 ghost use Rattle.std.specs.Prelude.{◌≡◌, ◌↔◌, None, All, false, option_map};
 ghost use Rattle.resolvo_queue.specs.Answer.{answer};
-ghost use Rattle.resolvo_queue.specs.Pick.{decided};
+ghost use Rattle.resolvo_queue.specs.Pick.{decided, DecidesUnbeaten};
+ghost use Rattle.resolvo_queue.specs.Scan.{scan};
 
 use crate::abstract_store::AbstractStore;
 use crate::reply::Reply;
@@ -12,7 +13,7 @@ use resolvo_queue::{Answer, QueueDecision};
 
 impl<D: DependencyProvider + Drop> ClauseStore<D> {
     ghost use Rattle.resolvo_store.specs.Command.{Decide, reply_of};
-    ghost use Rattle.resolvo_store.specs.Outcome.{falsified_clause, picked};
+    ghost use Rattle.resolvo_store.specs.Outcome.{falsified_clause, is_eligible_clause, offers, picked};
     ghost use Rattle.resolvo_store.specs.Step.{Step};
 
     /// The decision, or the first falsified clause.
@@ -31,24 +32,20 @@ impl<D: DependencyProvider + Drop> ClauseStore<D> {
     pub fn falsified(&self) -> Option<ClauseId>
         ensures { result ≡ option_map (λ c. c.clause_id) (falsified_clause (⟦<D as AbstractStore>⟧.store self.now)) }
     {
-        match self.answer() {
-            Answer::Falsified(clause) => Some(clause),
-            Answer::Decided(_) => None,
-            Answer::NoDecision => None,
-        }
+        self.queue.falsified(self.trail.map(), &self.loaded)
     }
 
-    /// The decision that the scan picks, where nothing is falsified: [`ClauseStore::falsified`] is the test. Linear in the
-    /// rows of the clauses whose parent is true.
+    /// The decision that the scan picks, where nothing is falsified: [`ClauseStore::falsified`] is the test. Takes no
+    /// memory; linear in the rows of the clauses whose parent is true.
     pub fn next_decision(&self) -> Option<QueueDecision>
         requires { falsified_clause (⟦<D as AbstractStore>⟧.store self.now) ≡ None }
-        ensures { result ≡ option_map decided (picked (⟦<D as AbstractStore>⟧.store self.now)) }
+        ensures picked { result ≡ option_map decided (picked (⟦<D as AbstractStore>⟧.store self.now)) }
+
+        // There is none exactly when no clause of the scan is eligible, and no eligible clause beats it.
+        ensures none { (result ≡ None) ↔ All (λ c. is_eligible_clause (⟦<D as AbstractStore>⟧.store self.now) c ≡ false) (scan (⟦<D as AbstractStore>⟧.store self.now).requires) }
+        ensures unbeaten { DecidesUnbeaten (offers (⟦<D as AbstractStore>⟧.store self.now)) result }
     {
-        match self.answer() {
-            Answer::Falsified(_) => None,
-            Answer::Decided(decision) => Some(decision),
-            Answer::NoDecision => None,
-        }
+        self.queue.next_decision(self.trail.map(), &self.loaded)
     }
 
     /// One pass over the clauses whose parent is true.

@@ -1,51 +1,41 @@
-use Rattle.std.proofs.Common.{◌≡◌, Some, None, List}
-use Rattle.std.specs.Prelude.{option_map}
-use Rattle.resolvo_pool.specs.declared.requirement.Requirement.{Requirement}
+use Rattle.std.proofs.Common.{Some, None}
 use Rattle.resolvo_clauses.specs.Decisions.{values_in}
-use Rattle.resolvo_clauses.specs.Literals.{Values}
-use Rattle.resolvo_queue.specs.Pick.{eligible, pick, decided, no_score}
-use Rattle.resolvo_queue.specs.Rows.{Row, loaded_rows}
-use Rattle.resolvo_queue.specs.Scan.{first_falsified}
+use Rattle.resolvo_queue.specs.Pick.{eligible, no_score}
+use Rattle.resolvo_queue.specs.Rows.{loaded_rows}
 use Rattle.resolvo_queue.proofs.AnswerLaws.{decision_is, decision_is_none}
 use Rattle.resolvo_queue.proofs.PickLaws.{pick_law, none_exactly, none_decided, decides_unbeaten}
 use Rattle.resolvo_queue.proofs.decide_queue.DecideQueue.next_decision.Goals as goal
 
 pub returns-in-Decided-clause-none : goal.returns-in-Decided-clause-none
 returns-in-Decided-clause-none g c =
-    let val : Values = values_in c.args.map.now in
-    let rows_of : Requirement → List Row = loaded_rows c.args.lists.now in
-    none_decided val rows_of no_score c.args.self.now (Some c.in-Decided.decision)
-    (decision_is (first_falsified val rows_of c.args.self.now) (pick (eligible val rows_of no_score c.args.self.now)) c.in-Decided.decision c.requires c.in-Decided.ensures)
+    none_decided (values_in c.args.map.now) (loaded_rows c.args.lists.now) no_score c.args.self.now
+    (Some c.in-Decided.decision) (decision_is _ _ c.in-Decided.decision c.requires c.in-Decided.ensures)
 
 pub returns-in-Decided-clause-unbeaten : goal.returns-in-Decided-clause-unbeaten
 returns-in-Decided-clause-unbeaten g c =
-    let val : Values = values_in c.args.map.now in
-    let rows_of : Requirement → List Row = loaded_rows c.args.lists.now in
-    decides_unbeaten (eligible val rows_of no_score c.args.self.now) (Some c.in-Decided.decision)
-    (decision_is (first_falsified val rows_of c.args.self.now) (pick (eligible val rows_of no_score c.args.self.now)) c.in-Decided.decision c.requires c.in-Decided.ensures)
+    decides_unbeaten (eligible (values_in c.args.map.now) (loaded_rows c.args.lists.now) no_score c.args.self.now)
+    (Some c.in-Decided.decision) (decision_is _ _ c.in-Decided.decision c.requires c.in-Decided.ensures)
 
 pub returns-in-Decided-clause-none_exactly : goal.returns-in-Decided-clause-none_exactly
-returns-in-Decided-clause-none_exactly g c = none_exactly (values_in c.args.map.now) (loaded_rows c.args.lists.now) c.args.self.now
+returns-in-Decided-clause-none_exactly g c =
+    none_exactly (values_in c.args.map.now) (loaded_rows c.args.lists.now) c.args.self.now
 
 pub returns-in-Decided-clause-pick_law : goal.returns-in-Decided-clause-pick_law
 returns-in-Decided-clause-pick_law g c = pick_law
 
 pub returns-in-NoDecision-clause-none : goal.returns-in-NoDecision-clause-none
 returns-in-NoDecision-clause-none g c =
-    let val : Values = values_in c.args.map.now in
-    let rows_of : Requirement → List Row = loaded_rows c.args.lists.now in
-    none_decided val rows_of no_score c.args.self.now None
-    (decision_is_none (first_falsified val rows_of c.args.self.now) (pick (eligible val rows_of no_score c.args.self.now)) c.requires c.in-NoDecision.ensures)
+    none_decided (values_in c.args.map.now) (loaded_rows c.args.lists.now) no_score c.args.self.now None
+    (decision_is_none _ _ c.requires c.in-NoDecision.ensures)
 
 pub returns-in-NoDecision-clause-unbeaten : goal.returns-in-NoDecision-clause-unbeaten
 returns-in-NoDecision-clause-unbeaten g c =
-    let val : Values = values_in c.args.map.now in
-    let rows_of : Requirement → List Row = loaded_rows c.args.lists.now in
-    decides_unbeaten (eligible val rows_of no_score c.args.self.now) None
-    (decision_is_none (first_falsified val rows_of c.args.self.now) (pick (eligible val rows_of no_score c.args.self.now)) c.requires c.in-NoDecision.ensures)
+    decides_unbeaten (eligible (values_in c.args.map.now) (loaded_rows c.args.lists.now) no_score c.args.self.now) None
+    (decision_is_none _ _ c.requires c.in-NoDecision.ensures)
 
 pub returns-in-NoDecision-clause-none_exactly : goal.returns-in-NoDecision-clause-none_exactly
-returns-in-NoDecision-clause-none_exactly g c = none_exactly (values_in c.args.map.now) (loaded_rows c.args.lists.now) c.args.self.now
+returns-in-NoDecision-clause-none_exactly g c =
+    none_exactly (values_in c.args.map.now) (loaded_rows c.args.lists.now) c.args.self.now
 
 pub returns-in-NoDecision-clause-pick_law : goal.returns-in-NoDecision-clause-pick_law
 returns-in-NoDecision-clause-pick_law g c = pick_law

@@ -1,4 +1,4 @@
-use Rattle.std.proofs.Common.{◌≡◌, ◌<◌, ◌++◌, ◌∷◌, [], length, Bool, true, false, eqb, ap, sym, ◌∙◌, inl, inr}
+use Rattle.std.proofs.Common.{◌≡◌, ◌<◌, true, false, eqb, ◌∷◌, [], ◌++◌, length, sym, ap, ◌∙◌, inl, inr}
 use Rattle.std.proofs.lemmas.Bool.{cases_lt}
 use Rattle.resolvo_queue.specs.declared.requires_clause.RequiresClause.{RequiresClause}
 use Rattle.resolvo_queue.specs.Index.{list_at}
@@ -8,20 +8,29 @@ use Rattle.resolvo_queue.proofs.decide_queue.DecideQueue.register_clause.Goals.{
 
 pub invariant_of-self-2 : goal.invariant_of-self-2
 invariant_of-self-2 g c =
-    let clause : RequiresClause = record { parent = c.args.parent; requirement = c.args.requirement; clause_id = c.args.clause_id } in
+    let clause : RequiresClause =
+    record { parent = c.args.parent; requirement = c.args.requirement; clause_id = c.args.clause_id } in
     let room : length c.self.inside.clauses.items < 4294967295 =
-    rw c.self.view_is (elim (cases_lt (length c.args.self.now) 4294967295) [ inl h ↦ h | inr h ↦ let bad : false ≡ true = c.if-is_full.ensures.1 h in cc ]) in
+    rw c.self.view_is (elim (cases_lt (length c.args.self.now) 4294967295) [
+      | inl h ↦ h
+      | inr h ↦ let bad : false ≡ true = c.if-is_full.ensures.1 h in cc
+    ]) in
     let is_empty : c.is_empty-is_new.result ≡ eqb (length (list_at c.self.inside.by_parent c.args.parent)) 0 =
     c.is_empty-is_new.ensures ∙ ap (λ l. eqb (length l) 0) c.at.ensures in
     elim c.if-is_new.branch [
-      | then-is_new w ↦ index_more c.self.inside.clauses.items _ c.self.inside.parents.items _ c.self.inside.by_parent _ c.push.new.self clause true
-          c.self.invariant room (sym w.if-is_new.true ∙ is_empty) c.in_ok-push.ensures.ok
-          (c.push_reserved-2.ensures ∙ (ap (λ s. s.clauses.items ++ clause ∷ []) w.self-inside-is ∙ ap (λ l. l ++ clause ∷ []) c.reserve_one.ensures.same))
-          (ap (λ s. s.parents.items) w.self-inside-is ∙ (w.push_reserved.ensures ∙ ap (λ l. l ++ c.args.parent ∷ []) c.reserve_one-2.ensures.same))
+      | then-is_new w ↦
+          index_more c.self.inside.clauses.items _ c.self.inside.parents.items _ c.self.inside.by_parent _
+          c.push.new.self clause true c.self.invariant room (sym w.if-is_new.true ∙ is_empty) c.in_ok-push.ensures.ok
+          (c.push_reserved-2.ensures ∙ (ap (λ s. s.clauses.items ++ clause ∷ []) w.self-inside-is
+          ∙ ap (λ l. l ++ clause ∷ []) c.reserve_one.ensures.same))
+          (ap (λ s. s.parents.items) w.self-inside-is ∙ (w.push_reserved.ensures
+          ∙ ap (λ l. l ++ c.args.parent ∷ []) c.reserve_one-2.ensures.same))
           (ap (λ s. s.by_parent) w.self-inside-is)
-      | else-is_new w ↦ index_more c.self.inside.clauses.items _ c.self.inside.parents.items _ c.self.inside.by_parent _ c.push.new.self clause false
-          c.self.invariant room (sym w.if-is_new.false ∙ is_empty) c.in_ok-push.ensures.ok
-          (c.push_reserved-2.ensures ∙ (ap (λ s. s.clauses.items ++ clause ∷ []) w.self-inside-is ∙ ap (λ l. l ++ clause ∷ []) c.reserve_one.ensures.same))
+      | else-is_new w ↦
+          index_more c.self.inside.clauses.items _ c.self.inside.parents.items _ c.self.inside.by_parent _
+          c.push.new.self clause false c.self.invariant room (sym w.if-is_new.false ∙ is_empty) c.in_ok-push.ensures.ok
+          (c.push_reserved-2.ensures ∙ (ap (λ s. s.clauses.items ++ clause ∷ []) w.self-inside-is
+          ∙ ap (λ l. l ++ clause ∷ []) c.reserve_one.ensures.same))
           (ap (λ s. s.parents.items) w.self-inside-is ∙ c.reserve_one-2.ensures.same)
           (ap (λ s. s.by_parent) w.self-inside-is)
     ]

@@ -7,7 +7,7 @@ use Rattle.resolvo_store.proofs.store.ClauseStore.run.Goals as goal
 pub loop-command-preserved : goal.loop-command-preserved
 loop-command-preserved g c = record {
   ran = rw (take_more c.args.commands.now c.loop-command.command-index c.command-item.result c.loop-command-test.true, ← c.command-item.is, c.in-Ok-push.ensures.items)
-      (simp map-append (run_more (store g c.args.self.now) (store g c.loop-command.self) _ _ _ _ _ c.loop-command.invariant.ran c.step-reply.ensures));
+      (simp map-append (run_more (store g c.args.self.now) (store g c.loop-command.self) _ _ _ _ _ c.loop-command.invariant.ran c.step-reply.ensures.step));
   len = search rules;
   room = search rules;
 }

@@ -1,0 +1,3 @@
+pub mod ExampleProofs
+pub mod ListedLemmas
+pub mod PlayLaws

@@ -1,0 +1,59 @@
+-- What is computed is a run.
+use Rattle.std.proofs.Common.{◌≡◌, ℕ, Bool, true, false, cond, List, [], ◌∷◌, Option, Some, None, refl}
+use Rattle.std.specs.Bool.{beq}
+use Rattle.std.specs.Prelude.{MatchOption}
+use Rattle.resolvo_ids.specs.declared.error.StoreError.{StoreError}
+use Rattle.resolvo_queue.specs.declared.requires_clause.RequiresClause.{RequiresClause}
+use Rattle.resolvo_queue.specs.Pick.{Offer}
+use Rattle.resolvo_store.specs.Command.{Command, Variable, Load, Requires, Assign, UndoUntil, Decide, Reply, Already, Clash, Refused, IsRefused}
+use Rattle.resolvo_store.specs.Store.{Store, values, lists_of}
+use Rattle.resolvo_store.specs.Refusals.{first_refusal}
+use Rattle.resolvo_store.specs.Outcome.{outcome, load, assign_reply, decision, falsified_clause, picked}
+use Rattle.resolvo_store.specs.Step.{Answers, Step}
+use Rattle.store_tests.specs.Play.{answered, answer, PlayIsRun}
+
+module _ {N S : Type 0} where
+  -- no outcome is a refusal
+  not_refused : (st : Store N S) (c : Command S) → IsRefused (outcome st c).reply → ⊥
+  not_refused st (Variable s) h = h
+  not_refused st (Load r) h = by_lists (lists_of st r) h
+    where
+      by_lists : (o : Option (List (List ℕ))) → IsRefused (load st r o).reply → ⊥
+      by_lists (Some lists) h = h
+      by_lists None h = h
+  not_refused st (Requires parent r disjunction) h = h
+  not_refused st (Assign v value clause level) h = by_value (values st v) h
+    where
+      by_test : (b : Bool) → IsRefused (cond b Already Clash) → ⊥
+      by_test true h = h
+      by_test false h = h
+
+      by_value : (o : Option Bool) → IsRefused (assign_reply o value) → ⊥
+      by_value None h = h
+      by_value (Some known) h = by_test (beq known value) h
+  not_refused st (UndoUntil level) h = h
+  not_refused st Decide h = by_answer (falsified_clause st) (picked st) h
+    where
+      by_answer : (f : Option RequiresClause) (o : Option Offer) → IsRefused (decision f o) → ⊥
+      by_answer (Some c) o h = h
+      by_answer None (Some o) h = h
+      by_answer None None h = h
+
+  -- what isn't refused is answered by the outcome
+  outcome_answers : (st : Store N S) (c : Command S) → Answers st c (outcome st c).reply (outcome st c).store
+  outcome_answers st c = by_reply (outcome st c).reply (not_refused st c) refl
+    where
+      by_reply : (reply : Reply) → (IsRefused reply → ⊥) → reply ≡ (outcome st c).reply → Answers st c reply (outcome st c).store
+      by_reply (Refused e) n is = absurd (n tt)
+      by_reply _ n is = (is, refl)
+
+  answer_is_step : (st : Store N S) (c : Command S) → Step st c (answer st c).reply (answer st c).store
+  answer_is_step st c = go (first_refusal st c)
+    where
+      go : (e : Option StoreError) → MatchOption e (Answers st c (answered st c e).reply (answered st c e).store) (λ x. ((answered st c e).reply ≡ Refused x) × ((answered st c e).store ≡ st))
+      go (Some e) = (refl, refl)
+      go None = outcome_answers st c
+
+pub play_is_run : (N S : Type 0) → PlayIsRun N S
+play_is_run N S st [] = refl
+play_is_run N S st (c ∷ cs) = ((answer st c).store, answer_is_step st c, play_is_run N S (answer st c).store cs)

@@ -1,0 +1,18 @@
+use Rattle.std.proofs.Common.{rules, ◌≡◌, ◌==◌, ◌∙◌, sym, true, false}
+use Rattle.store_tests.proofs.ListedLemmas.{named_one, named_other}
+use Rattle.store_tests.proofs.lists.named.Goals as goal
+use Rattle.store_tests.proofs.lists.named.Goals.{then-eq+in-Ok, else-eq}
+
+pub loop-i-preserved : goal.loop-i-preserved
+loop-i-preserved g c =
+    let p = c.index-packages-i.result in
+    elim c.if-eq.branch [
+      | then-eq+in-Ok w ↦ (
+          let same : (p.name == c.args.name) ≡ true = search rules in
+          rw (w.found-is, w.in-Ok.ensures.items, w.from_index.ensures)
+          (named_one c.loop-i.found.items c.args.name c.loop-i.i c.args.packages.now p c.loop-i-test.true c.index-packages-i.is same c.loop-i.invariant))
+      | else-eq w ↦ (
+          let other : (p.name == c.args.name) ≡ false = search rules in
+          rw w.found-is
+          (named_other c.loop-i.found.items c.args.name c.loop-i.i c.args.packages.now p c.loop-i-test.true c.index-packages-i.is other c.loop-i.invariant))
+    ]

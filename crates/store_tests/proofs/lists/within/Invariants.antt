@@ -1,0 +1,14 @@
+use Rattle.std.proofs.Common.{◌≡◌, ◌++◌, drop, ℕ, Bool, List}
+use Rattle.resolvo_pool.specs.Provider.{filtered}
+use Rattle.store_tests.specs.declared.lists.Package.{Package}
+use Rattle.store_tests.specs.declared.lists.VersionRange.{VersionRange}
+use Rattle.store_tests.specs.Listed.{package_at, is_within}
+use Rattle.store_tests.proofs.lists.within.Given as goal
+
+-- whether a solvable's version is in the range
+abbrev pub holds : VersionRange → List Package → ℕ → Bool
+holds range packages s = is_within range (package_at packages s).version
+
+abbrev pub invariant-loop-solvable : goal.invariant-loop-solvable
+invariant-loop-solvable g l =
+    l.found.items ++ filtered (holds l.range l.packages) l.inverse (drop l.solvable-index l.candidates) ≡ filtered (holds l.range l.packages) l.inverse l.candidates

@@ -1,0 +1,51 @@
+//! Callers that know nothing of the provider but its trait, and nothing of the store but its contracts.
+ghost use Rattle.std.specs.Prelude.{◌≡◌, ◌≢◌, true, Some, IfSome};
+ghost use Rattle.resolvo_ids.specs.declared.error.StoreError.TheVariants.{UnknownId};
+ghost use Rattle.resolvo_queue.specs.Pick.{DecidesUnbeaten};
+ghost use Rattle.resolvo_store.specs.Command.{reply_of, Refused, IsRefused};
+ghost use Rattle.resolvo_store.specs.Outcome.{offers};
+
+use resolvo_pool::{DependencyProvider, Interner};
+use resolvo_queue::QueueDecision;
+use resolvo_store::{AbstractStore, ClauseStore, Command, Reply};
+
+/// A command that is refused, whatever it is and why, changes nothing.
+pub fn obey<D: DependencyProvider + Drop>(
+    store: &mut ClauseStore<D>,
+    command: &Command<D::SolvableId>,
+) -> Reply<D::Alloc>
+    ensures { IsRefused (reply_of result) → ⟦<D as AbstractStore>⟧.store store.new ≡ ⟦<D as AbstractStore>⟧.store store.old }
+{
+    store.step(command)
+}
+
+/// A solvable that the provider doesn't know is refused as that, also where memory is short.
+pub fn unknown<D: DependencyProvider + Drop>(
+    store: &mut ClauseStore<D>,
+    solvable: D::SolvableId,
+) -> Reply<D::Alloc>
+    requires { (D.catalogue store.old.provider).knows_solvable solvable ≢ true }
+    ensures reply { reply_of result ≡ Refused UnknownId }
+    ensures same { ⟦<D as AbstractStore>⟧.store store.new ≡ ⟦<D as AbstractStore>⟧.store store.old }
+{
+    store.step(&Command::Variable(solvable))
+}
+
+/// Asking for a decision changes nothing.
+pub fn ask<D: DependencyProvider + Drop>(store: &mut ClauseStore<D>) -> Reply<D::Alloc>
+    ensures { ⟦<D as AbstractStore>⟧.store store.new ≡ ⟦<D as AbstractStore>⟧.store store.old }
+{
+    store.step(&Command::Decide)
+}
+
+/// Where nothing is falsified, the next decision is one that no eligible clause beats.
+pub fn decides_unbeaten<D: DependencyProvider + Drop>(
+    store: &ClauseStore<D>,
+) -> Option<QueueDecision>
+    ensures { IfSome result (λ d. DecidesUnbeaten (offers (⟦<D as AbstractStore>⟧.store store.now)) (Some d)) }
+{
+    match store.falsified() {
+        Some(_) => None,
+        None => store.next_decision(),
+    }
+}

@@ -1,0 +1,19 @@
+//! Tests of the clause store across its crates: a provider of plain lists, callers that are generic in the provider,
+//! worked examples computed from the definitions, and runs in which memory is refused.
+#![tactic(auto)]
+
+#[cfg(test)]
+mod ample;
+mod callers;
+mod computed;
+mod lists;
+#[cfg(test)]
+mod refused;
+#[cfg(test)]
+mod script;
+#[cfg(test)]
+mod worked;
+
+pub use callers::{ask, decides_unbeaten, obey, unknown};
+pub use computed::{examples, play_is_run};
+pub use lists::{Lists, Package, VersionRange};
