@@ -1,7 +1,6 @@
 -- A catalogue of packages, and the provider of it: names and solvables are their numbers, a higher version is preferred.
 use Rattle.std.specs.Prelude.{ℕ, Bool, false, ◌==◌, ◌&&◌, ◌||◌, if◌then◌else◌, nat_lt, nat_le, List, [], ◌∷◌, map, length, filter, fold, Option, Some, None, unwrap_or, option_map, slice_get}
 use Rattle.std.specs.List.{enumerate_from}
-use Rattle.resolvo_ids.specs.declared.id.VersionSetId.{VersionSetId}
 use Rattle.resolvo_store.specs.Store.{Provider}
 
 pub record Solvable : Type 0 where

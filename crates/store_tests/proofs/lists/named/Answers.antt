@@ -1,4 +1,4 @@
-use Rattle.std.proofs.Common.{rules, ◌≡◌, ◌==◌, ◌∙◌, sym, true, false}
+use Rattle.std.proofs.Common.{rules, ◌≡◌, ◌==◌, true, false}
 use Rattle.store_tests.proofs.ListedLemmas.{named_one, named_other}
 use Rattle.store_tests.proofs.lists.named.Goals as goal
 use Rattle.store_tests.proofs.lists.named.Goals.{then-eq+in-Ok, else-eq}
