@@ -12,5 +12,6 @@ abbrev pub SameValues : {K V : Type 0} → (K → V) → (K → V) → Type 0
 SameValues {K} old new = (key : K) → new key ≡ old key
 
 -- what a list gives at a place, if it isn't the default, stands within the list
-pub reads_within : {V : Type 0} (xs : List V) (i n : ℕ) (default : V) → n ≡ length xs → slice_index_or xs i default ≢ default → i < n
+pub reads_within : {V : Type 0} (xs : List V) (i n : ℕ) (default : V) →
+    n ≡ length xs → slice_index_or xs i default ≢ default → i < n
 reads_within xs i n default e h = grind (arith, get_or_past xs i default)

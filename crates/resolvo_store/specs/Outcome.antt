@@ -24,7 +24,8 @@ pub record Outcome (N S : Type 0) : Type 0 where
 -- their variables are false
 abbrev pub is_conflict : Values → ℕ → List Row → Bool
 is_conflict val parent [] = Bool.false
-is_conflict val parent (row ∷ rest) = list_all (λ r. known_false (val r.variable)) (row ∷ rest) && not (known_false (val parent))
+is_conflict val parent (row ∷ rest) =
+    list_all (λ r. known_false (val r.variable)) (row ∷ rest) && not (known_false (val parent))
 
 -- the reply to an assignment, by what is known of the variable
 abbrev pub assign_reply : Option Bool → Bool → Reply
@@ -49,7 +50,8 @@ module _ {N S : Type 0} where
 
   -- the candidates' variables, one list a version set
   abbrev pub variables_loaded : Store N S → Requirement → List (List ℕ)
-  variables_loaded st r = map (λ v. map (interned_variable st.provider.same_solvable (origins_loaded st r)) (candidates_of st v)) (sets_of r)
+  variables_loaded st r =
+      map (λ v. map (interned_variable st.provider.same_solvable (origins_loaded st r)) (candidates_of st v)) (sets_of r)
 
   -- a Load, by the lists that the requirement has already
   abbrev pub load : Store N S → Requirement → Option (List (List ℕ)) → Outcome N S
@@ -84,11 +86,16 @@ module _ {N S : Type 0} where
   outcome st (Load r) = load st r (lists_of st r)
   outcome st (Requires parent r disjunction) = record {
     reply = ClauseIs (length st.requires) (is_conflict (values st) parent (rows_of st r));
-    store = record st { requires = st.requires ++ record { parent = parent; requirement = r; clause_id = length st.requires } ∷ [] };
+    store = record st {
+      requires = st.requires ++ record { parent = parent; requirement = r; clause_id = length st.requires } ∷ [];
+    };
   }
   outcome st (Assign v value clause level) = record {
     reply = assign_reply (values st v) value;
-    store = record st { trail = assigned (values st v) st.trail (record { decision = record { variable = v; value = value; derived_from = clause }; level = level }) };
+    store = record st {
+      trail = assigned (values st v) st.trail
+          (record { decision = record { variable = v; value = value; derived_from = clause }; level = level });
+    };
   }
   outcome st (UndoUntil level) = record { reply = Undone None; store = record st { trail = kept_until level st.trail } }
   outcome st Decide = record { reply = decision (falsified_clause st) (picked st); store = st }

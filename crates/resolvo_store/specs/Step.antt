@@ -16,7 +16,8 @@ module _ {N S : Type 0} where
   -- or 2^40 rows or more
   abbrev pub lacks_ids : Store N S → Command S → Bool
   lacks_ids st (Variable s) =
-      is_none (variable_of_solvable st.provider.same_solvable st.origins s) && (are_variables_out (length st.origins) || st.provider.is_large_solvable s)
+      is_none (variable_of_solvable st.provider.same_solvable st.origins s) &&
+      (are_variables_out (length st.origins) || st.provider.is_large_solvable s)
   lacks_ids st (Load r) =
       is_none (lists_of st r) &&
       (nat_lt (2 ^ 31 - 1) (length (origins_loaded st r)) ||
@@ -45,7 +46,8 @@ module _ {N S : Type 0} where
 
   -- from the old store this command may be given this reply and lead to the new store
   abbrev pub Step : Store N S → Command S → Reply → Store N S → Type 0
-  Step old c reply new = MatchOption (first_refusal old c) (Answers old c reply new) (λ e. (reply ≡ Refused e) × (new ≡ old))
+  Step old c reply new =
+      MatchOption (first_refusal old c) (Answers old c reply new) (λ e. (reply ≡ Refused e) × (new ≡ old))
 
   -- the commands may be given these replies in turn, one each
   abbrev pub Run : Store N S → List (Command S) → List Reply → Store N S → Type 0

@@ -23,7 +23,8 @@ pub record Provider (N S : Type 0) : Type 0 where
   pub answers : Answers N S
 
 -- the same, gathered
-abbrev pub provided : {D N S : Type 0} → (N → N → Bool) → (S → S → Bool) → (N → Bool) → (S → Bool) → (D → Catalogue N S) → (D → Answers N S) → D → Provider N S
+abbrev pub provided : {D N S : Type 0} → (N → N → Bool) → (S → S → Bool) → (N → Bool) → (S → Bool) →
+    (D → Catalogue N S) → (D → Answers N S) → D → Provider N S
 provided same_name same_solvable is_large_name is_large_solvable catalogue answers p = record {
   same_name = same_name;
   same_solvable = same_solvable;

@@ -1,8 +1,7 @@
 //! The clause store.
-ghost use Rattle.std.specs.Prelude.{◌≡◌, ◌↔◌, None, All, true, false, map, option_map, length, vec_len, IfOk, IfErr};
+ghost use Rattle.std.specs.Prelude.{◌≡◌, map, length, vec_len, IfOk, IfErr};
 ghost use Rattle.resolvo_ids.specs.declared.error.StoreError.TheVariants.{OutOfMemory};
 ghost use Rattle.resolvo_clauses.specs.Trail.{val};
-ghost use Rattle.resolvo_queue.specs.Pick.{decided};
 
 mod assigning;
 mod deciding;
@@ -13,9 +12,9 @@ use crate::abstract_store::AbstractStore;
 use crate::command::Command;
 use crate::reply::Reply;
 use resolvo_clauses::{DecisionTracker, VariableMap};
-use resolvo_ids::{ClauseId, StoreError, VariableId};
+use resolvo_ids::{StoreError, VariableId};
 use resolvo_pool::{DependencyProvider, RequirementMap};
-use resolvo_queue::{DecideQueue, QueueDecision};
+use resolvo_queue::DecideQueue;
 use std::marker::Model;
 
 /// A clause store over the packages of a provider.
@@ -39,19 +38,25 @@ impl<D: DependencyProvider> Model for ClauseStore<D> {
 
     ghost Value = { Kept D D.NameId D.SolvableId };
 
-    ghost view = { λ a. record { provider = a.provider; origins = a.variables; loaded = lists_kept a.loaded; requires = a.queue; trail = a.trail } };
+    ghost view = { λ a. record {
+      provider = a.provider;
+      origins = a.variables;
+      loaded = lists_kept a.loaded;
+      requires = a.queue;
+      trail = a.trail;
+    } };
 }
 
 impl<D: DependencyProvider + Drop> ClauseStore<D> {
     ghost use Rattle.resolvo_store.specs.Command.{command_of, reply_of, IsRefused};
-    ghost use Rattle.resolvo_store.specs.Store.{new_store, store_of, Store};
-    ghost use Rattle.resolvo_store.specs.Outcome.{falsified_clause, picked};
+    ghost use Rattle.resolvo_store.specs.Store.{new_store};
     ghost use Rattle.resolvo_store.specs.Step.{Step, Run};
 
     /// A store that has the root's variable, and nothing else.
     pub fn new(alloc: D::Alloc, provider: D) -> Result<Self, StoreError>
         ensures provider { IfOk result (λ s. s.provider ≡ provider) }
-        ensures ok { IfOk result (λ s. ⟦<D as AbstractStore>⟧.store s ≡ new_store (⟦<D as AbstractStore>⟧.store s).provider) }
+        ensures ok { IfOk result (λ s. ⟦<D as AbstractStore>⟧.store s
+            ≡ new_store (⟦<D as AbstractStore>⟧.store s).provider) }
         ensures err { IfErr result (λ e. e ≡ OutOfMemory) }
     {
         let variables = VariableMap::new(alloc)?;
@@ -74,8 +79,10 @@ impl<D: DependencyProvider + Drop> ClauseStore<D> {
 
     /// Obeys a command, and answers it.
     pub fn step(&mut self, command: &Command<D::SolvableId>) -> Reply<D::Alloc>
-        ensures step { Step (⟦<D as AbstractStore>⟧.store self.old) (command_of command.now) (reply_of result) (⟦<D as AbstractStore>⟧.store self.new) }
-        ensures refused { IsRefused (reply_of result) → ⟦<D as AbstractStore>⟧.store self.new ≡ ⟦<D as AbstractStore>⟧.store self.old }
+        ensures step { Step (⟦<D as AbstractStore>⟧.store self.old) (command_of command.now)
+            (reply_of result) (⟦<D as AbstractStore>⟧.store self.new) }
+        ensures refused { IsRefused (reply_of result) →
+            ⟦<D as AbstractStore>⟧.store self.new ≡ ⟦<D as AbstractStore>⟧.store self.old }
     {
         match *command {
             Command::Variable(solvable) => self.variable(solvable),
@@ -97,9 +104,11 @@ impl<D: DependencyProvider + Drop> ClauseStore<D> {
         &mut self,
         commands: &[Command<D::SolvableId>],
     ) -> Result<Vec<Reply<D::Alloc>, D::Alloc>, StoreError>
-        ensures ok { IfOk result (λ replies. Run (⟦<D as AbstractStore>⟧.store self.old) (map command_of commands.now) (map reply_of replies.items) (⟦<D as AbstractStore>⟧.store self.new)) }
+        ensures ok { IfOk result (λ replies. Run (⟦<D as AbstractStore>⟧.store self.old) (map command_of commands.now)
+            (map reply_of replies.items) (⟦<D as AbstractStore>⟧.store self.new)) }
         ensures one_each { IfOk result (λ replies. vec_len replies ≡ length commands.now) }
-        ensures err { IfErr result (λ e. (e ≡ OutOfMemory) × (⟦<D as AbstractStore>⟧.store self.new ≡ ⟦<D as AbstractStore>⟧.store self.old)) }
+        ensures err { IfErr result (λ e. (e ≡ OutOfMemory)
+            × (⟦<D as AbstractStore>⟧.store self.new ≡ ⟦<D as AbstractStore>⟧.store self.old)) }
     {
         let mut replies = Vec::new(self.alloc);
         match replies.reserve(commands.len()) {

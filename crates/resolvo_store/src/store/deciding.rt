@@ -18,7 +18,8 @@ impl<D: DependencyProvider + Drop> ClauseStore<D> {
 
     /// The decision, or the first falsified clause.
     pub(super) fn decide(&mut self) -> Reply<D::Alloc>
-        ensures { Step (⟦<D as AbstractStore>⟧.store self.old) Decide (reply_of result) (⟦<D as AbstractStore>⟧.store self.new) }
+        ensures { Step (⟦<D as AbstractStore>⟧.store self.old) Decide
+            (reply_of result) (⟦<D as AbstractStore>⟧.store self.new) }
     {
         match self.answer() {
             Answer::Falsified(clause) => Reply::Falsified(clause),
@@ -42,7 +43,8 @@ impl<D: DependencyProvider + Drop> ClauseStore<D> {
         ensures picked { result ≡ option_map decided (picked (⟦<D as AbstractStore>⟧.store self.now)) }
 
         // There is none exactly when no clause of the scan is eligible, and no eligible clause beats it.
-        ensures none { (result ≡ None) ↔ All (λ c. is_eligible_clause (⟦<D as AbstractStore>⟧.store self.now) c ≡ false) (scan (⟦<D as AbstractStore>⟧.store self.now).requires) }
+        ensures none { (result ≡ None) ↔
+            All (λ c. is_eligible_clause (⟦<D as AbstractStore>⟧.store self.now) c ≡ false) (scan (⟦<D as AbstractStore>⟧.store self.now).requires) }
         ensures unbeaten { DecidesUnbeaten (offers (⟦<D as AbstractStore>⟧.store self.now)) result }
     {
         self.queue.next_decision(self.trail.map(), &self.loaded)
@@ -50,7 +52,8 @@ impl<D: DependencyProvider + Drop> ClauseStore<D> {
 
     /// One pass over the clauses whose parent is true.
     fn answer(&self) -> Answer
-        ensures { result ≡ answer (falsified_clause (⟦<D as AbstractStore>⟧.store self.now)) (picked (⟦<D as AbstractStore>⟧.store self.now)) }
+        ensures { result ≡ answer (falsified_clause (⟦<D as AbstractStore>⟧.store self.now))
+            (picked (⟦<D as AbstractStore>⟧.store self.now)) }
     {
         self.queue.decide(self.trail.map(), &self.loaded)
     }

@@ -20,7 +20,8 @@ impl<D: DependencyProvider + Drop> ClauseStore<D> {
 
     /// The variable of a solvable.
     pub(super) fn variable(&mut self, solvable: D::SolvableId) -> Reply<D::Alloc>
-        ensures { Step (⟦<D as AbstractStore>⟧.store self.old) (Variable solvable) (reply_of result) (⟦<D as AbstractStore>⟧.store self.new) }
+        ensures { Step (⟦<D as AbstractStore>⟧.store self.old) (Variable solvable)
+            (reply_of result) (⟦<D as AbstractStore>⟧.store self.new) }
     {
         if !self.provider.knows_solvable(solvable) {
             return Reply::Refused(StoreError::UnknownId);
@@ -33,7 +34,8 @@ impl<D: DependencyProvider + Drop> ClauseStore<D> {
 
     /// The candidates' variables of a requirement.
     pub(super) fn load(&mut self, requirement: Requirement) -> Reply<D::Alloc>
-        ensures { Step (⟦<D as AbstractStore>⟧.store self.old) (Load requirement) (reply_of result) (⟦<D as AbstractStore>⟧.store self.new) }
+        ensures { Step (⟦<D as AbstractStore>⟧.store self.old) (Load requirement)
+            (reply_of result) (⟦<D as AbstractStore>⟧.store self.new) }
     {
         match requirement {
             Requirement::Single(set) => {
@@ -52,8 +54,10 @@ impl<D: DependencyProvider + Drop> ClauseStore<D> {
     /// The candidates' variables of a version set, loaded where they aren't yet.
     fn load_set(&mut self, set: VersionSetId) -> Result<VariableLists<D::Alloc>, StoreError>
         requires { (D.catalogue self.old.provider).knows_set set ≡ true }
-        ensures ok { IfOk result (λ lists. Answers (⟦<D as AbstractStore>⟧.store self.old) (Load (Single set)) (LoadedAs (map (λ l. l.items) lists.items)) (⟦<D as AbstractStore>⟧.store self.new)) }
-        ensures err { IfErr result (λ e. Answers (⟦<D as AbstractStore>⟧.store self.old) (Load (Single set)) (Refused e) (⟦<D as AbstractStore>⟧.store self.new)) }
+        ensures ok { IfOk result (λ lists. Answers (⟦<D as AbstractStore>⟧.store self.old) (Load (Single set)) (LoadedAs (map (λ l. l.items) lists.items))
+            (⟦<D as AbstractStore>⟧.store self.new)) }
+        ensures err { IfErr result (λ e. Answers (⟦<D as AbstractStore>⟧.store self.old) (Load (Single set)) (Refused e)
+            (⟦<D as AbstractStore>⟧.store self.new)) }
     {
         match self.lists(Requirement::Single(set)) {
             Some(lists) => copy_of_lists(self.alloc, lists),
@@ -65,8 +69,10 @@ impl<D: DependencyProvider + Drop> ClauseStore<D> {
     fn load_new_set(&mut self, set: VersionSetId) -> Result<VariableLists<D::Alloc>, StoreError>
         requires known { (D.catalogue self.old.provider).knows_set set ≡ true }
         requires new { lists_of (⟦<D as AbstractStore>⟧.store self.old) (Single set) ≡ None }
-        ensures ok { IfOk result (λ lists. Answers (⟦<D as AbstractStore>⟧.store self.old) (Load (Single set)) (LoadedAs (map (λ l. l.items) lists.items)) (⟦<D as AbstractStore>⟧.store self.new)) }
-        ensures err { IfErr result (λ e. Answers (⟦<D as AbstractStore>⟧.store self.old) (Load (Single set)) (Refused e) (⟦<D as AbstractStore>⟧.store self.new)) }
+        ensures ok { IfOk result (λ lists. Answers (⟦<D as AbstractStore>⟧.store self.old) (Load (Single set)) (LoadedAs (map (λ l. l.items) lists.items))
+            (⟦<D as AbstractStore>⟧.store self.new)) }
+        ensures err { IfErr result (λ e. Answers (⟦<D as AbstractStore>⟧.store self.old) (Load (Single set)) (Refused e)
+            (⟦<D as AbstractStore>⟧.store self.new)) }
     {
         let candidates = sorted_candidates(&self.provider, self.alloc, set)?;
         if candidates.len() >= ROWS_LIMIT {
@@ -85,7 +91,8 @@ impl<D: DependencyProvider + Drop> ClauseStore<D> {
 
     /// The lists of a requirement, if it was loaded.
     pub(super) fn lists(&self, requirement: Requirement) -> Option<&VariableLists<D::Alloc>>
-        ensures { option_map (λ lists. map (λ l. l.items) lists.now.items) result ≡ lists_of (⟦<D as AbstractStore>⟧.store self.now) requirement }
+        ensures { option_map (λ lists. map (λ l. l.items) lists.now.items) result ≡
+            lists_of (⟦<D as AbstractStore>⟧.store self.now) requirement }
     {
         self.loaded.get(requirement)
     }

@@ -24,7 +24,8 @@ impl<D: DependencyProvider + Drop> ClauseStore<D> {
         requirement: Requirement,
         disjunction: Option<DisjunctionId>,
     ) -> Reply<D::Alloc>
-        ensures { Step (⟦<D as AbstractStore>⟧.store self.old) (Requires parent requirement disjunction) (reply_of result) (⟦<D as AbstractStore>⟧.store self.new) }
+        ensures { Step (⟦<D as AbstractStore>⟧.store self.old) (Requires parent requirement disjunction)
+            (reply_of result) (⟦<D as AbstractStore>⟧.store self.new) }
     {
         if parent.to_index() >= self.variables.count()
             || !self.knows_requirement(requirement)
@@ -53,7 +54,8 @@ impl<D: DependencyProvider + Drop> ClauseStore<D> {
 
     /// Whether a clause of this parent and requirement would be a conflict; none where the requirement isn't loaded.
     fn conflict(&self, parent: VariableId, requirement: Requirement) -> Option<bool>
-        ensures { result ≡ option_map (λ lists. is_conflict (values (⟦<D as AbstractStore>⟧.store self.now)) parent (rows (sets_of requirement) lists)) (lists_of (⟦<D as AbstractStore>⟧.store self.now) requirement) }
+        ensures { result ≡ option_map (λ lists. is_conflict (values (⟦<D as AbstractStore>⟧.store self.now)) parent (rows (sets_of requirement) lists))
+            (lists_of (⟦<D as AbstractStore>⟧.store self.now) requirement) }
     {
         match self.lists(requirement) {
             Some(lists) => Some(is_conflict(self.trail.map(), parent, requirement, lists)),
@@ -68,9 +70,13 @@ impl<D: DependencyProvider + Drop> ClauseStore<D> {
         requirement: Requirement,
     ) -> Result<ClauseId, StoreError>
         ensures clause { IfOk result (λ clause. clause ≡ length self.old.requires) }
-        ensures ok { OnOk result (self.new ≡ record self.old { requires = self.old.requires ++ (record { parent = parent; requirement = requirement; clause_id = length self.old.requires }) ∷ [] }) }
+        ensures ok { OnOk result (self.new ≡ record self.old {
+          requires = self.old.requires ++
+              (record { parent = parent; requirement = requirement; clause_id = length self.old.requires }) ∷ [];
+        }) }
         ensures err { OnErr result (self.new ≡ self.old) }
-        ensures refused { IfErr result (λ e. e ≡ (if nat_le (2 ^ 32 - 1) (length self.old.requires) then TooManyClauses else OutOfMemory)) }
+        ensures refused { IfErr result (λ e. e ≡
+            (if nat_le (2 ^ 32 - 1) (length self.old.requires) then TooManyClauses else OutOfMemory)) }
         ensures full { OnOk result (nat_le (2 ^ 32 - 1) (length self.old.requires) ≡ false) }
     {
         if self.queue.is_full() {
