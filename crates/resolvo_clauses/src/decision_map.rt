@@ -1,5 +1,5 @@
 //! The values of variables, and the levels at which they got them.
-ghost use Rattle.std.specs.Prelude.{◌≡◌, ◌<◌, ◌≤◌, ◌^◌, [], Some, None, OnOk, OnErr, IfErr};
+ghost use Rattle.std.specs.Prelude.{◌≡◌, [], Some, None, OnOk, OnErr, IfErr};
 ghost use Rattle.resolvo_ids.specs.declared.error.StoreError.TheVariants.{OutOfMemory};
 ghost use Rattle.resolvo_ids.specs.TotalMaps.{IsUpdate, SameValues};
 ghost use Rattle.resolvo_clauses.specs.Decisions.{decision_in, values_in, level_in};
@@ -75,7 +75,6 @@ impl<A: Allocator + Copy> DecisionMap<A> {
 
     /// Gives the variable a value, at a level.
     pub fn set(&mut self, variable: VariableId, value: bool, level: u32) -> Result<(), StoreError>
-        requires { (1 ≤ level) × (level < 2 ^ 31) }
         ensures ok { OnOk result (IsUpdate (decision_in self.old) variable (Some (value, level)) (decision_in self.new)) }
         ensures err { OnErr result (SameValues (decision_in self.old) (decision_in self.new)) }
         ensures memory { IfErr result (λ e. e ≡ OutOfMemory) }

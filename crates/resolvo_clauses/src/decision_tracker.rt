@@ -2,7 +2,7 @@
 ghost use Rattle.std.specs.Prelude.{◌≡◌, ◌<◌, ◌≤◌, ◌-◌, ◌^◌, ◌↔◌, ◌++◌, ◌∷◌, [], None, length, take, map};
 ghost use Rattle.std.specs.Prelude.{IsTrue, OnOk, OnErr, IfErr};
 ghost use Rattle.resolvo_ids.specs.declared.error.StoreError.TheVariants.{OutOfMemory};
-ghost use Rattle.resolvo_clauses.specs.Decisions.{values_in};
+ghost use Rattle.resolvo_clauses.specs.Decisions.{values_in, level_in};
 
 use crate::decision::Decision;
 use crate::decision_map::DecisionMap;
@@ -58,9 +58,10 @@ impl<A: Allocator + Copy> DecisionTracker<A> {
         self.map.value(variable)
     }
 
-    /// The values of all variables.
+    /// The values and levels of all variables.
     pub fn map(&self) -> &DecisionMap<A>
-        ensures { values_in result.now ≡ val self.now }
+        ensures values { values_in result.now ≡ val self.now }
+        ensures levels { level_in result.now ≡ level_of self.now }
     {
         &self.map
     }

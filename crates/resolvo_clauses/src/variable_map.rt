@@ -1,7 +1,7 @@
 //! The variables of a store: what each stands for, and the variable of each solvable.
-ghost use Rattle.std.specs.Prelude.{◌≡◌, ◌<◌, ◌≤◌, ◌+◌, ◌^◌, ◌||◌, [], ◌∷◌, ◌++◌, length, take, IsSome, IsOk, IfOk, OnOk, OnErr, IfErr};
+ghost use Rattle.std.specs.Prelude.{◌≡◌, ◌<◌, ◌≤◌, ◌+◌, ◌^◌, ◌||◌, [], ◌∷◌, ◌++◌, length, take, IsTrue, IsSome, IsNone, IsOk, IfOk, OnOk, OnErr, IfErr};
 ghost use Rattle.resolvo_ids.specs.Refusals.{IsGrowthRefusal};
-ghost use Rattle.resolvo_ids.specs.declared.error.StoreError.TheVariants.{OutOfMemory};
+ghost use Rattle.resolvo_ids.specs.declared.error.StoreError.TheVariants.{OutOfMemory, IdSpace};
 
 use crate::forget::forget_rest;
 use crate::variable_origin::VariableOrigin;
@@ -72,6 +72,7 @@ impl<N: Copy, S: SolverId<A>, A: Allocator + Copy> VariableMap<N, S, A> {
         ensures variable { IfOk result (λ v. v ≡ interned_variable S.eq self.old solvable) }
         ensures ok { OnOk result (self.new ≡ interned S.eq self.old solvable) }
         ensures known { IsSome (variable_of_solvable S.eq self.old solvable) → IsOk result }
+        ensures ids_out { IsNone (variable_of_solvable S.eq self.old solvable) → IsTrue (are_variables_out (length self.old) || S.Slots.is_too_large solvable) → result ≡ Err IdSpace }
         ensures err { OnErr result (self.new ≡ self.old) }
         ensures refused { IfErr result (IsGrowthRefusal (are_variables_out (length self.old) || S.Slots.is_too_large solvable)) }
     {

@@ -2,6 +2,9 @@
 use crate::dense_index::DenseIndex;
 use std::marker::Model;
 
+/// How many ids there are: 2^32 - 1.
+const COUNT: usize = 4294967295;
+
 /// A clause of a store; ids count up from 0.
 #[derive(Clone, Copy, Debug, PartialEq, Eq, PartialOrd, Ord, Hash)]
 pub struct ClauseId {
@@ -37,7 +40,7 @@ impl DenseIndex for ClauseId {
     ghost distinct = { λ a b h. h };
 
     fn in_range(index: usize) -> bool {
-        index <= 4294967294
+        index < COUNT
     }
 
     fn from_index(index: usize) -> ClauseId {

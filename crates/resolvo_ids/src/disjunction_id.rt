@@ -2,6 +2,9 @@
 use crate::dense_index::DenseIndex;
 use std::marker::Model;
 
+/// How many ids there are: 2^32 - 1.
+const COUNT: usize = 4294967295;
+
 /// The literals of a condition, kept by a store.
 #[derive(Clone, Copy, Debug, PartialEq, Eq, PartialOrd, Ord, Hash)]
 pub struct DisjunctionId {
@@ -37,7 +40,7 @@ impl DenseIndex for DisjunctionId {
     ghost distinct = { λ a b h. h };
 
     fn in_range(index: usize) -> bool {
-        index <= 4294967294
+        index < COUNT
     }
 
     fn from_index(index: usize) -> DisjunctionId {

@@ -9,7 +9,7 @@ pub enum StoreError {
     /// The allocator refused a growth.
     #[error("out of memory")]
     OutOfMemory,
-    /// The range of an id type, or the 2^40 indexes of dense storage, are used up.
+    /// The range of an id type, the 2^40 indexes of dense storage or the 2^40 rows of a requirement are used up.
     #[error("no id is left")]
     IdSpace,
     /// An id that this store or its provider doesn't know.

@@ -1,5 +1,6 @@
 //! Total maps that are kept by ids.
-ghost use Rattle.std.specs.Prelude.{◌≡◌, ◌≢◌, Bool, OnOk, OnErr, IfErr};
+ghost use Rattle.std.specs.Prelude.{◌≡◌, ◌≢◌, Bool, IsTrue, OnOk, OnErr, IfErr};
+ghost use Rattle.resolvo_ids.specs.declared.error.StoreError.TheVariants.{IdSpace};
 ghost use Rattle.resolvo_ids.specs.Refusals.{IsGrowthRefusal};
 ghost use Rattle.resolvo_ids.specs.TotalMaps.{IsUpdate, SameValues};
 
@@ -11,7 +12,7 @@ use std::alloc::Allocator;
 /// A total map: a key that was never written has the default value.
 ///
 /// A change that must not be refused half way takes its room first, by [`IdMap::make_room`], and writes by
-/// [`IdMap::put`]. Room lasts: neither call takes it away again.
+/// [`IdMap::put`]. Room lasts: no call takes it away again.
 pub trait IdMap<K, V: DefaultValue, A: Allocator + Copy>: Drop {
     /// The value at a key.
     ghost value_at: { Self → K → V };
@@ -19,7 +20,7 @@ pub trait IdMap<K, V: DefaultValue, A: Allocator + Copy>: Drop {
     /// Writing at the key takes no memory.
     ghost has_room: { Self → K → Type 0 };
 
-    /// The map can't hold the key.
+    /// The map can't hold the key: what would write there is refused `IdSpace`.
     ghost is_too_large: { K → Bool };
 
     /// The map that has the default value at each key. Takes no memory.
@@ -35,6 +36,7 @@ pub trait IdMap<K, V: DefaultValue, A: Allocator + Copy>: Drop {
         ensures ok { OnOk result (IsUpdate (value_at self.old) key value (value_at self.new)) }
         ensures err { OnErr result (SameValues (value_at self.old) (value_at self.new)) }
         ensures refused { IfErr result (IsGrowthRefusal (is_too_large key)) }
+        ensures too_large { IsTrue (is_too_large key) → result ≡ Err IdSpace }
         ensures room { OnOk result (has_room self.new key) }
         ensures keeps { (k : K) → has_room self.old k → has_room self.new k };
 
@@ -43,6 +45,7 @@ pub trait IdMap<K, V: DefaultValue, A: Allocator + Copy>: Drop {
         ensures room { OnOk result (has_room self.new key) }
         ensures same { SameValues (value_at self.old) (value_at self.new) }
         ensures refused { IfErr result (IsGrowthRefusal (is_too_large key)) }
+        ensures too_large { IsTrue (is_too_large key) → result ≡ Err IdSpace }
         ensures keeps { (k : K) → has_room self.old k → has_room self.new k };
 
     /// Writes the value at a key for which there is room. Takes no memory.

@@ -4,6 +4,9 @@ ghost use Rattle.std.specs.Prelude.{◌≡◌, ◌↔◌, IsTrue};
 use crate::dense_index::DenseIndex;
 use std::marker::Model;
 
+/// How many ids there are: 2^31 - 1.
+const COUNT: usize = 2147483647;
+
 /// A variable: 0 is the root's. Indexes end at 2^31 - 2, so that each variable has two literals of 32 bits.
 #[derive(Clone, Copy, Debug, PartialEq, Eq, PartialOrd, Ord, Hash)]
 pub struct VariableId {
@@ -55,7 +58,7 @@ impl DenseIndex for VariableId {
     ghost distinct = { λ a b h. h };
 
     fn in_range(index: usize) -> bool {
-        index <= 2147483646
+        index < COUNT
     }
 
     fn from_index(index: usize) -> VariableId {

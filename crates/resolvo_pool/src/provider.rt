@@ -35,7 +35,7 @@ pub trait DependencyProvider: Interner {
         ensures ok { IfOk result (λ found. listed found ≡ (answers self.now).candidates name) }
         ensures err { IfErr result (λ e. e ≡ OutOfMemory) };
 
-    /// Puts solvables of one name in the order of preference, the best first. A refusal may leave them in any order.
+    /// Puts solvables in the order of preference, the best first. A refusal may leave them in any order.
     fn sort_candidates(
         &self,
         alloc: Self::Alloc,

@@ -12,12 +12,8 @@ use Rattle.resolvo_store.specs.Refusals.{first_refusal}
 use Rattle.resolvo_store.specs.Outcome.{outcome, origins_loaded, falsified_clause}
 
 module _ {N S : Type 0} where
-  -- the command needs more ids than there are: variables beyond the last, an index of 2^40 or more in dense storage,
-  -- or 2^40 rows or more
+  -- a Load needs more ids than there are: variables beyond the last, a solvable that can't be kept, or 2^40 rows or more
   abbrev pub lacks_ids : Store N S → Command S → Bool
-  lacks_ids st (Variable s) =
-      is_none (variable_of_solvable st.provider.same_solvable st.origins s) &&
-      (are_variables_out (length st.origins) || st.provider.is_large_solvable s)
   lacks_ids st (Load r) =
       is_none (lists_of st r) &&
       (nat_lt (2 ^ 31 - 1) (length (origins_loaded st r)) ||
@@ -40,14 +36,14 @@ module _ {N S : Type 0} where
   may_be_refused st c _ = false
 
   -- the command is given its reply and takes effect, or is refused and has none
-  abbrev pub Answers : Store N S → Command S → Reply → Store N S → Type 0
-  Answers old c (Refused e) new = IsTrue (may_be_refused old c e) × (new ≡ old)
-  Answers old c reply new = (reply ≡ (outcome old c).reply) × (new ≡ (outcome old c).store)
+  abbrev pub IsAnswered : Store N S → Command S → Reply → Store N S → Type 0
+  IsAnswered old c (Refused e) new = IsTrue (may_be_refused old c e) × (new ≡ old)
+  IsAnswered old c reply new = (reply ≡ (outcome old c).reply) × (new ≡ (outcome old c).store)
 
   -- from the old store this command may be given this reply and lead to the new store
   abbrev pub Step : Store N S → Command S → Reply → Store N S → Type 0
   Step old c reply new =
-      MatchOption (first_refusal old c) (Answers old c reply new) (λ e. (reply ≡ Refused e) × (new ≡ old))
+      MatchOption (first_refusal old c) (IsAnswered old c reply new) (λ e. (reply ≡ Refused e) × (new ≡ old))
 
   -- the commands may be given these replies in turn, one each
   abbrev pub Run : Store N S → List (Command S) → List Reply → Store N S → Type 0

@@ -16,7 +16,7 @@ use Rattle.resolvo_queue.specs.Rows.{Row, rows}
 pub record Provider (N S : Type 0) : Type 0 where
   pub same_name : N → N → Bool
   pub same_solvable : S → S → Bool
-  -- nothing can be kept by this id: it is dense, and its index is 2^40 or more
+  -- nothing can be kept by this id; for a dense one: its index is 2^40 or more
   pub is_large_name : N → Bool
   pub is_large_solvable : S → Bool
   pub catalogue : Catalogue N S

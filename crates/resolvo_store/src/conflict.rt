@@ -1,6 +1,7 @@
 //! Whether a new clause is a conflict.
 ghost use Rattle.std.specs.Prelude.{◌≡◌, map};
 ghost use Rattle.std.specs.List.{list_all};
+ghost use Rattle.resolvo_ids.specs.declared.id.VersionSetId.{VersionSetId};
 ghost use Rattle.resolvo_pool.specs.Provider.{sets_of};
 ghost use Rattle.resolvo_clauses.specs.Decisions.{values_in};
 ghost use Rattle.resolvo_clauses.specs.Literals.{known_false};
@@ -8,7 +9,7 @@ ghost use Rattle.resolvo_queue.specs.Rows.{rows, list_rows};
 ghost use Rattle.resolvo_store.specs.Outcome.{is_conflict};
 
 use resolvo_clauses::DecisionMap;
-use resolvo_ids::{VariableId, VersionSetId};
+use resolvo_ids::VariableId;
 use resolvo_pool::Requirement;
 use std::alloc::Allocator;
 
@@ -23,22 +24,21 @@ pub(crate) fn is_conflict<A: Allocator + Copy>(
     ensures { result ≡ is_conflict (values_in decisions.now) parent (rows (sets_of requirement) (map (λ l. l.items) lists.now)) }
 {
     match requirement {
-        Requirement::Single(set) => match lists.first() {
-            Some(list) => is_list_conflict(decisions, parent, set, list),
+        Requirement::Single(_) => match lists.first() {
+            Some(list) => is_list_conflict(decisions, parent, list),
             None => false,
         },
         Requirement::Union(_) => false,
     }
 }
 
-/// The same where the candidates are one version set's.
+/// The same where the candidates are one version set's, whichever it is.
 fn is_list_conflict<A: Allocator + Copy>(
     decisions: &DecisionMap<A>,
     parent: VariableId,
-    _set: VersionSetId,
     list: &[VariableId],
 ) -> bool
-    ensures { result ≡ is_conflict (values_in decisions.now) parent (list_rows _set list.now) }
+    ensures { (set : VersionSetId) → result ≡ is_conflict (values_in decisions.now) parent (list_rows set list.now) }
 {
     if list.is_empty() || decisions.value(parent) == Some(false) {
         return false;

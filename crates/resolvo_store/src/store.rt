@@ -83,6 +83,7 @@ impl<D: DependencyProvider + Drop> ClauseStore<D> {
             (reply_of result) (⟦<D as AbstractStore>⟧.store self.new) }
         ensures refused { IsRefused (reply_of result) →
             ⟦<D as AbstractStore>⟧.store self.new ≡ ⟦<D as AbstractStore>⟧.store self.old }
+        ensures provider { self.new.provider ≡ self.old.provider }
     {
         match *command {
             Command::Variable(solvable) => self.variable(solvable),
@@ -106,6 +107,7 @@ impl<D: DependencyProvider + Drop> ClauseStore<D> {
     ) -> Result<Vec<Reply<D::Alloc>, D::Alloc>, StoreError>
         ensures ok { IfOk result (λ replies. Run (⟦<D as AbstractStore>⟧.store self.old) (map command_of commands.now)
             (map reply_of replies.items) (⟦<D as AbstractStore>⟧.store self.new)) }
+        ensures provider { self.new.provider ≡ self.old.provider }
         ensures one_each { IfOk result (λ replies. vec_len replies ≡ length commands.now) }
         ensures err { IfErr result (λ e. (e ≡ OutOfMemory)
             × (⟦<D as AbstractStore>⟧.store self.new ≡ ⟦<D as AbstractStore>⟧.store self.old)) }
@@ -125,7 +127,7 @@ impl<D: DependencyProvider + Drop> ClauseStore<D> {
         Ok(replies)
     }
 
-    /// The value of a variable, if it has one. An unknown variable has none.
+    /// The value of a variable, if it has one: that of its entry on the trail. Takes constant time.
     pub fn value(&self, variable: VariableId) -> Option<bool>
         ensures { result ≡ val (⟦<D as AbstractStore>⟧.store self.now).trail variable }
     {

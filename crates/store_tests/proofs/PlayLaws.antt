@@ -9,7 +9,7 @@ use Rattle.resolvo_store.specs.Command.{Command, Variable, Load, Requires, Assig
 use Rattle.resolvo_store.specs.Store.{Store, values, lists_of}
 use Rattle.resolvo_store.specs.Refusals.{first_refusal}
 use Rattle.resolvo_store.specs.Outcome.{outcome, load, assign_reply, decision, falsified_clause, picked}
-use Rattle.resolvo_store.specs.Step.{Answers, Step}
+use Rattle.resolvo_store.specs.Step.{IsAnswered, Step}
 use Rattle.store_tests.specs.Play.{answered, answer, PlayIsRun}
 
 module _ {N S : Type 0} where
@@ -40,17 +40,17 @@ module _ {N S : Type 0} where
       by_answer None None h = h
 
   -- what isn't refused is answered by the outcome
-  outcome_answers : (st : Store N S) (c : Command S) → Answers st c (outcome st c).reply (outcome st c).store
+  outcome_answers : (st : Store N S) (c : Command S) → IsAnswered st c (outcome st c).reply (outcome st c).store
   outcome_answers st c = by_reply (outcome st c).reply (not_refused st c) refl
     where
-      by_reply : (reply : Reply) → (IsRefused reply → ⊥) → reply ≡ (outcome st c).reply → Answers st c reply (outcome st c).store
+      by_reply : (reply : Reply) → (IsRefused reply → ⊥) → reply ≡ (outcome st c).reply → IsAnswered st c reply (outcome st c).store
       by_reply (Refused e) n is = absurd (n tt)
       by_reply _ n is = (is, refl)
 
   answer_is_step : (st : Store N S) (c : Command S) → Step st c (answer st c).reply (answer st c).store
   answer_is_step st c = go (first_refusal st c)
     where
-      go : (e : Option StoreError) → MatchOption e (Answers st c (answered st c e).reply (answered st c e).store) (λ x. ((answered st c e).reply ≡ Refused x) × ((answered st c e).store ≡ st))
+      go : (e : Option StoreError) → MatchOption e (IsAnswered st c (answered st c e).reply (answered st c e).store) (λ x. ((answered st c e).reply ≡ Refused x) × ((answered st c e).store ≡ st))
       go (Some e) = (refl, refl)
       go None = outcome_answers st c
 

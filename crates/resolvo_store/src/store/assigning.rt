@@ -20,8 +20,9 @@ impl<D: DependencyProvider + Drop> ClauseStore<D> {
         clause: ClauseId,
         level: u32,
     ) -> Reply<D::Alloc>
-        ensures { Step (⟦<D as AbstractStore>⟧.store self.old) (Assign variable value clause level)
+        ensures step { Step (⟦<D as AbstractStore>⟧.store self.old) (Assign variable value clause level)
             (reply_of result) (⟦<D as AbstractStore>⟧.store self.new) }
+        ensures provider { self.new.provider ≡ self.old.provider }
     {
         if variable.to_index() >= self.variables.count() || clause.to_index() >= self.queue.len() {
             return Reply::Refused(StoreError::UnknownId);
@@ -40,8 +41,9 @@ impl<D: DependencyProvider + Drop> ClauseStore<D> {
 
     /// Takes assignments back.
     pub(super) fn undo_until(&mut self, level: u32) -> Reply<D::Alloc>
-        ensures { Step (⟦<D as AbstractStore>⟧.store self.old) (UndoUntil level)
+        ensures step { Step (⟦<D as AbstractStore>⟧.store self.old) (UndoUntil level)
             (reply_of result) (⟦<D as AbstractStore>⟧.store self.new) }
+        ensures provider { self.new.provider ≡ self.old.provider }
     {
         self.trail.undo_until(level);
         Reply::Undone(None)

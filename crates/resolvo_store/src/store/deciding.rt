@@ -18,8 +18,9 @@ impl<D: DependencyProvider + Drop> ClauseStore<D> {
 
     /// The decision, or the first falsified clause.
     pub(super) fn decide(&mut self) -> Reply<D::Alloc>
-        ensures { Step (⟦<D as AbstractStore>⟧.store self.old) Decide
+        ensures step { Step (⟦<D as AbstractStore>⟧.store self.old) Decide
             (reply_of result) (⟦<D as AbstractStore>⟧.store self.new) }
+        ensures provider { self.new.provider ≡ self.old.provider }
     {
         match self.answer() {
             Answer::Falsified(clause) => Reply::Falsified(clause),

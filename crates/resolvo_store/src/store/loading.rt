@@ -16,12 +16,13 @@ const ROWS_LIMIT: usize = 1 << 40;
 impl<D: DependencyProvider + Drop> ClauseStore<D> {
     ghost use Rattle.resolvo_store.specs.Command.{Variable, Load, reply_of, LoadedAs, Refused};
     ghost use Rattle.resolvo_store.specs.Store.{lists_of};
-    ghost use Rattle.resolvo_store.specs.Step.{Step, Answers};
+    ghost use Rattle.resolvo_store.specs.Step.{Step, IsAnswered};
 
     /// The variable of a solvable.
     pub(super) fn variable(&mut self, solvable: D::SolvableId) -> Reply<D::Alloc>
-        ensures { Step (⟦<D as AbstractStore>⟧.store self.old) (Variable solvable)
+        ensures step { Step (⟦<D as AbstractStore>⟧.store self.old) (Variable solvable)
             (reply_of result) (⟦<D as AbstractStore>⟧.store self.new) }
+        ensures provider { self.new.provider ≡ self.old.provider }
     {
         if !self.provider.knows_solvable(solvable) {
             return Reply::Refused(StoreError::UnknownId);
@@ -34,8 +35,9 @@ impl<D: DependencyProvider + Drop> ClauseStore<D> {
 
     /// The candidates' variables of a requirement.
     pub(super) fn load(&mut self, requirement: Requirement) -> Reply<D::Alloc>
-        ensures { Step (⟦<D as AbstractStore>⟧.store self.old) (Load requirement)
+        ensures step { Step (⟦<D as AbstractStore>⟧.store self.old) (Load requirement)
             (reply_of result) (⟦<D as AbstractStore>⟧.store self.new) }
+        ensures provider { self.new.provider ≡ self.old.provider }
     {
         match requirement {
             Requirement::Single(set) => {
@@ -54,10 +56,11 @@ impl<D: DependencyProvider + Drop> ClauseStore<D> {
     /// The candidates' variables of a version set, loaded where they aren't yet.
     fn load_set(&mut self, set: VersionSetId) -> Result<VariableLists<D::Alloc>, StoreError>
         requires { (D.catalogue self.old.provider).knows_set set ≡ true }
-        ensures ok { IfOk result (λ lists. Answers (⟦<D as AbstractStore>⟧.store self.old) (Load (Single set)) (LoadedAs (map (λ l. l.items) lists.items))
+        ensures ok { IfOk result (λ lists. IsAnswered (⟦<D as AbstractStore>⟧.store self.old) (Load (Single set)) (LoadedAs (map (λ l. l.items) lists.items))
             (⟦<D as AbstractStore>⟧.store self.new)) }
-        ensures err { IfErr result (λ e. Answers (⟦<D as AbstractStore>⟧.store self.old) (Load (Single set)) (Refused e)
+        ensures err { IfErr result (λ e. IsAnswered (⟦<D as AbstractStore>⟧.store self.old) (Load (Single set)) (Refused e)
             (⟦<D as AbstractStore>⟧.store self.new)) }
+        ensures provider { self.new.provider ≡ self.old.provider }
     {
         match self.lists(Requirement::Single(set)) {
             Some(lists) => copy_of_lists(self.alloc, lists),
@@ -69,10 +72,11 @@ impl<D: DependencyProvider + Drop> ClauseStore<D> {
     fn load_new_set(&mut self, set: VersionSetId) -> Result<VariableLists<D::Alloc>, StoreError>
         requires known { (D.catalogue self.old.provider).knows_set set ≡ true }
         requires new { lists_of (⟦<D as AbstractStore>⟧.store self.old) (Single set) ≡ None }
-        ensures ok { IfOk result (λ lists. Answers (⟦<D as AbstractStore>⟧.store self.old) (Load (Single set)) (LoadedAs (map (λ l. l.items) lists.items))
+        ensures ok { IfOk result (λ lists. IsAnswered (⟦<D as AbstractStore>⟧.store self.old) (Load (Single set)) (LoadedAs (map (λ l. l.items) lists.items))
             (⟦<D as AbstractStore>⟧.store self.new)) }
-        ensures err { IfErr result (λ e. Answers (⟦<D as AbstractStore>⟧.store self.old) (Load (Single set)) (Refused e)
+        ensures err { IfErr result (λ e. IsAnswered (⟦<D as AbstractStore>⟧.store self.old) (Load (Single set)) (Refused e)
             (⟦<D as AbstractStore>⟧.store self.new)) }
+        ensures provider { self.new.provider ≡ self.old.provider }
     {
         let candidates = sorted_candidates(&self.provider, self.alloc, set)?;
         if candidates.len() >= ROWS_LIMIT {

@@ -24,8 +24,9 @@ impl<D: DependencyProvider + Drop> ClauseStore<D> {
         requirement: Requirement,
         disjunction: Option<DisjunctionId>,
     ) -> Reply<D::Alloc>
-        ensures { Step (⟦<D as AbstractStore>⟧.store self.old) (Requires parent requirement disjunction)
+        ensures step { Step (⟦<D as AbstractStore>⟧.store self.old) (Requires parent requirement disjunction)
             (reply_of result) (⟦<D as AbstractStore>⟧.store self.new) }
+        ensures provider { self.new.provider ≡ self.old.provider }
     {
         if parent.to_index() >= self.variables.count()
             || !self.knows_requirement(requirement)

@@ -11,6 +11,7 @@ store g = store_of (provided g.D.NameId.PartialEq.eq g.D.SolvableId.PartialEq.eq
 abbrev pub invariant-loop-command : goal.invariant-loop-command
 invariant-loop-command g l = record {
   ran : Run (store g l.fn.self) (map command_of (take l.command-index l.commands)) (map reply_of l.replies.items) (store g l.self);
+  provider : l.self.provider ≡ l.fn.self.provider;
   len : vec_len l.replies ≡ l.command-index;
   room : length l.commands ≤ vec_capacity l.replies;
 }
