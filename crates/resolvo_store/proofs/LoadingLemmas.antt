@@ -1,8 +1,8 @@
 -- Loading one version set.
-use Rattle.std.proofs.Common.{◌≡◌, ℕ, ◌-◌, ◌^◌, ◌≤◌, Bool, true, arith, ◌||◌, List, [], ◌∷◌, ◌++◌, length, map, None, ◌∙◌, ap, sym, leb, ltb}
+use Rattle.std.proofs.Common.{◌≡◌, ℕ, ◌-◌, ◌^◌, ◌<◌, ◌≤◌, Bool, true, false, arith, ◌||◌, List, [], ◌∷◌, ◌++◌, length, map, None, ◌∙◌, ap, sym, leb, ltb}
 use Rattle.std.specs.Prelude.{is_none, ◌&&◌}
 use Rattle.std.specs.List.{list_any}
-use Rattle.std.proofs.Math.Bool.{or-true}
+use Rattle.std.proofs.Math.Bool.{or-true, and-false}
 use Rattle.std.proofs.lemmas.Bool.Decides.{nat_tests}
 use Rattle.std.proofs.lemmas.List.{append-nil}
 use Rattle.resolvo_ids.specs.declared.id.VersionSetId.{VersionSetId}
@@ -13,7 +13,7 @@ use Rattle.resolvo_clauses.specs.Variables.{interned_variable, all_interned}
 use Rattle.resolvo_store.specs.Command.{Load, LoadedAs}
 use Rattle.resolvo_store.specs.Store.{Store, lists_of, candidates_of}
 use Rattle.resolvo_store.specs.Outcome.{Outcome, outcome, load}
-use Rattle.resolvo_store.specs.Step.{lacks_ids}
+use Rattle.resolvo_store.specs.Step.{lacks_ids, has_too_many_rows}
 
 module _ {N S : Type 0} (st : Store N S) (set : VersionSetId) where
   abbrev pub same : S → S → Bool
@@ -45,6 +45,13 @@ module _ {N S : Type 0} (st : Store N S) (set : VersionSetId) where
       let short : List S → Bool = λ candidates.
       ltb (2 ^ 31 - 1) (length (origins_after candidates)) || (leb (2 ^ 40) (length candidates) || list_any st.provider.is_large_solvable candidates) in
       ap (λ lists. is_none lists && short (candidates_of st set ++ [])) new ∙ ap short (append-nil (candidates_of st set))
+
+  -- it has too many rows where it has too many candidates
+  pub rows-few : length (candidates_of st set) < 2 ^ 40 → has_too_many_rows st (Load (Single set)) ≡ false
+  rows-few few =
+      let below : leb (2 ^ 40) (length (candidates_of st set)) ≡ false = grind (arith, nat_tests, few) in
+      ap (λ candidates. is_none (lists_of st (Single set)) && leb (2 ^ 40) (length candidates)) (append-nil (candidates_of st set))
+      ∙ ap (λ b. is_none (lists_of st (Single set)) && b) below ∙ and-false (is_none (lists_of st (Single set)))
 
   -- a Load that gave the candidates variables, answered these and kept them, did what it should
   pub load-new : (candidates : List S) (os : List (VariableOrigin N S)) (answer kept : List (List ℕ)) (loaded : List (Requirement × List (List ℕ)))

@@ -5,13 +5,19 @@ use Rattle.resolvo_ids.specs.declared.error.StoreError.{StoreError}
 use Rattle.resolvo_ids.specs.declared.error.StoreError.TheVariants.{OutOfMemory, IdSpace}
 use Rattle.resolvo_pool.specs.Provider.{sets_of}
 use Rattle.resolvo_clauses.specs.Literals.{undecided}
-use Rattle.resolvo_clauses.specs.Variables.{variable_of_solvable, are_variables_out}
+use Rattle.resolvo_clauses.specs.Variables.{variable_of_solvable}
 use Rattle.resolvo_store.specs.Command.{Command, Variable, Load, Assign, UndoUntil, Decide, Reply, Refused}
 use Rattle.resolvo_store.specs.Store.{Store, values, lists_of, candidates_of}
 use Rattle.resolvo_store.specs.Refusals.{first_refusal}
 use Rattle.resolvo_store.specs.Outcome.{outcome, origins_loaded, falsified_clause}
 
 module _ {N S : Type 0} where
+  -- a Load would give its requirement 2^40 rows or more
+  abbrev pub has_too_many_rows : Store N S → Command S → Bool
+  has_too_many_rows st (Load r) =
+      is_none (lists_of st r) && nat_le (2 ^ 40) (length (flat_map (candidates_of st) (sets_of r)))
+  has_too_many_rows st _ = false
+
   -- a Load needs more ids than there are: variables beyond the last, a solvable that can't be kept, or 2^40 rows or more
   abbrev pub lacks_ids : Store N S → Command S → Bool
   lacks_ids st (Load r) =
@@ -38,7 +44,8 @@ module _ {N S : Type 0} where
   -- the command is given its reply and takes effect, or is refused and has none
   abbrev pub IsAnswered : Store N S → Command S → Reply → Store N S → Type 0
   IsAnswered old c (Refused e) new = IsTrue (may_be_refused old c e) × (new ≡ old)
-  IsAnswered old c reply new = (reply ≡ (outcome old c).reply) × (new ≡ (outcome old c).store)
+  IsAnswered old c reply new =
+      (has_too_many_rows old c ≡ false) × (reply ≡ (outcome old c).reply) × (new ≡ (outcome old c).store)
 
   -- from the old store this command may be given this reply and lead to the new store
   abbrev pub Step : Store N S → Command S → Reply → Store N S → Type 0

@@ -1,15 +1,18 @@
 -- What is computed is a run.
-use Rattle.std.proofs.Common.{◌≡◌, ℕ, Bool, true, false, cond, List, [], ◌∷◌, Option, Some, None, refl}
+use Rattle.std.proofs.Common.{◌≡◌, ℕ, Bool, true, false, cond, ◌&&◌, ◌||◌, arith, List, [], ◌∷◌, Option, Some, None, refl}
 use Rattle.std.specs.Bool.{beq}
-use Rattle.std.specs.Prelude.{MatchOption}
+use Rattle.std.specs.Prelude.{◌-◌, ◌^◌, nat_lt, nat_le, flat_map, length, is_none, MatchOption}
+use Rattle.std.specs.List.{list_any}
 use Rattle.resolvo_ids.specs.declared.error.StoreError.{StoreError}
+use Rattle.resolvo_ids.specs.declared.error.StoreError.TheVariants.{IdSpace}
+use Rattle.resolvo_pool.specs.Provider.{sets_of}
 use Rattle.resolvo_queue.specs.declared.requires_clause.RequiresClause.{RequiresClause}
 use Rattle.resolvo_queue.specs.Pick.{Offer}
 use Rattle.resolvo_store.specs.Command.{Command, Variable, Load, Requires, Assign, UndoUntil, Decide, Reply, Already, Clash, Refused, IsRefused}
-use Rattle.resolvo_store.specs.Store.{Store, values, lists_of}
+use Rattle.resolvo_store.specs.Store.{Store, values, lists_of, candidates_of}
 use Rattle.resolvo_store.specs.Refusals.{first_refusal}
-use Rattle.resolvo_store.specs.Outcome.{outcome, load, assign_reply, decision, falsified_clause, picked}
-use Rattle.resolvo_store.specs.Step.{IsAnswered, Step}
+use Rattle.resolvo_store.specs.Outcome.{outcome, origins_loaded, load, assign_reply, decision, falsified_clause, picked}
+use Rattle.resolvo_store.specs.Step.{IsAnswered, Step, has_too_many_rows, lacks_ids}
 use Rattle.store_tests.specs.Play.{answered, answer, PlayIsRun}
 
 module _ {N S : Type 0} where
@@ -39,20 +42,35 @@ module _ {N S : Type 0} where
       by_answer None (Some o) h = h
       by_answer None None h = h
 
-  -- what isn't refused is answered by the outcome
-  outcome_answers : (st : Store N S) (c : Command S) → IsAnswered st c (outcome st c).reply (outcome st c).store
-  outcome_answers st c = by_reply (outcome st c).reply (not_refused st c) refl
+  -- where there aren't too many rows, a command is answered by its outcome
+  outcome_answers : (st : Store N S) (c : Command S) → has_too_many_rows st c ≡ false → IsAnswered st c (outcome st c).reply (outcome st c).store
+  outcome_answers st c few = by_reply (outcome st c).reply (not_refused st c) refl
     where
       by_reply : (reply : Reply) → (IsRefused reply → ⊥) → reply ≡ (outcome st c).reply → IsAnswered st c reply (outcome st c).store
       by_reply (Refused e) n is = absurd (n tt)
-      by_reply _ n is = (is, refl)
+      by_reply _ n is = (few, is, refl)
+
+  -- where there are, it may lack ids
+  rows_lack : (st : Store N S) (c : Command S) → has_too_many_rows st c ≡ true → lacks_ids st c ≡ true
+  rows_lack st (Load r) many =
+      rows_among (is_none (lists_of st r)) (nat_lt (2 ^ 31 - 1) (length (origins_loaded st r))) (nat_le (2 ^ 40) (length (flat_map (candidates_of st) (sets_of r))))
+      (list_any st.provider.is_large_solvable (flat_map (candidates_of st) (sets_of r))) many
+    where
+      rows_among : (a b d e : Bool) → (a && d) ≡ true → (a && (b || (d || e))) ≡ true
+      rows_among a b d e h = grind (arith, h)
+  rows_lack st _ many = cc
 
   answer_is_step : (st : Store N S) (c : Command S) → Step st c (answer st c).reply (answer st c).store
   answer_is_step st c = go (first_refusal st c)
     where
+      by_rows : (b : Bool) → has_too_many_rows st c ≡ b →
+          IsAnswered st c (cond b (record { reply = Refused IdSpace; store = st }) (outcome st c)).reply (cond b (record { reply = Refused IdSpace; store = st }) (outcome st c)).store
+      by_rows true many = (rows_lack st c many, refl)
+      by_rows false few = outcome_answers st c few
+
       go : (e : Option StoreError) → MatchOption e (IsAnswered st c (answered st c e).reply (answered st c e).store) (λ x. ((answered st c e).reply ≡ Refused x) × ((answered st c e).store ≡ st))
       go (Some e) = (refl, refl)
-      go None = outcome_answers st c
+      go None = by_rows (has_too_many_rows st c) refl
 
 pub play_is_run : (N S : Type 0) → PlayIsRun N S
 play_is_run N S st [] = refl
