@@ -1,0 +1,155 @@
+//! Scripts: a catalogue, and then commands, each of which is answered by a line.
+ghost use Rattle.std.specs.Prelude.{◌≡◌, ◌+◌, ◌^◌, ◌<◌, length};
+
+use crate::catalogue::Catalogue;
+use crate::catalogue_line::{CatalogueLine, catalogue_line};
+use crate::command_line::command_line;
+use crate::fault::{LineFault, ScriptFault};
+use crate::input::read_whole;
+use crate::line::next_line;
+use crate::output::{write_much, write_rest};
+use crate::packages::Packages;
+use crate::reply_line::{push_reply, push_unreadable};
+use crate::statement::Line;
+use resolvo_store::ClauseStore;
+use std::alloc::Global;
+use std::io::{Read, Write};
+
+/// The commands of a script: the lines behind its catalogue.
+#[derive(Drop)]
+struct Commands<'a> {
+    packages: Packages,
+    lines: &'a [u8],
+    /// How many lines the catalogue had.
+    before: u64,
+    ghost fits: { before + length lines.now < 2 ^ 64 },
+}
+
+/// Reads a whole script, obeys its commands in turn, and writes a line for each reply. At the first unreadable line the
+/// line that names it is written, and nothing more is read. All that was to be written is written and flushed at every
+/// end but that of a writer that fails.
+pub fn script<R: Read, W: Write>(
+    alloc: Global,
+    reader: &mut R,
+    writer: &mut W,
+) -> Result<(), ScriptFault> {
+    let input = read_whole(alloc, reader)?;
+    let mut waiting = Vec::new(alloc);
+    let ended = obey_text(alloc, &input, &mut waiting, writer);
+    let named = name_unreadable(&mut waiting, ended);
+    write_rest(&mut waiting, writer)?;
+    named
+}
+
+/// How a script ended, once its unreadable line is named.
+fn name_unreadable(
+    waiting: &mut Vec<u8>,
+    ended: Result<(), ScriptFault>,
+) -> Result<(), ScriptFault> {
+    if let Err(ScriptFault::Unreadable(number)) = ended {
+        match push_unreadable(waiting, number) {
+            Ok(()) => {}
+            Err(_) => return Err(ScriptFault::Memory),
+        }
+    }
+    ended
+}
+
+/// Obeys a script's text.
+fn obey_text<W: Write>(
+    alloc: Global,
+    text: &[u8],
+    waiting: &mut Vec<u8>,
+    writer: &mut W,
+) -> Result<(), ScriptFault> {
+    match read_catalogue(alloc, text)? {
+        None => Ok(()),
+        Some(commands) => obey_commands(alloc, commands, waiting, writer),
+    }
+}
+
+/// Reads a catalogue, up to its `begin`; there may be none.
+fn read_catalogue(alloc: Global, text: &[u8]) -> Result<Option<Commands<'_>>, ScriptFault> {
+    let mut catalogue = Catalogue::new(alloc);
+    let mut before = 0;
+    let mut rest = text;
+    while let Some((line, lines)) = next_line(rest) {
+        before += 1;
+        rest = lines;
+        match catalogue_line(line) {
+            Line::Skipped => {}
+            Line::Unreadable => return Err(ScriptFault::Unreadable(before)),
+            Line::Says(CatalogueLine::Begin) => {
+                let packages = catalogue.packages;
+                return Ok(Some(Commands {
+                    packages,
+                    lines,
+                    before,
+                }));
+            }
+            Line::Says(entry) => catalogue.add(entry).map_err(|fault| fault.at(before))?,
+        }
+    }
+    Ok(None)
+}
+
+/// Obeys the commands in turn.
+fn obey_commands<W: Write>(
+    alloc: Global,
+    commands: Commands<'_>,
+    waiting: &mut Vec<u8>,
+    writer: &mut W,
+) -> Result<(), ScriptFault> {
+    let Commands {
+        packages,
+        lines,
+        before,
+    } = commands;
+    match ClauseStore::new(alloc, packages) {
+        Ok(mut store) => obey_lines(&mut store, lines, before, waiting, writer),
+        Err(_) => Err(ScriptFault::Memory),
+    }
+}
+
+/// Obeys the lines in turn, before which so many stand.
+fn obey_lines<W: Write>(
+    store: &mut ClauseStore<Packages>,
+    lines: &[u8],
+    before: u64,
+    waiting: &mut Vec<u8>,
+    writer: &mut W,
+) -> Result<(), ScriptFault>
+    requires { before + length lines.now < 2 ^ 64 }
+{
+    let mut number = before;
+    let mut rest = lines;
+    while let Some((line, others)) = next_line(rest) {
+        number += 1;
+        rest = others;
+        match obey_line(store, line, waiting) {
+            Ok(()) => {}
+            Err(fault) => return Err(fault.at(number)),
+        }
+        write_much(waiting, writer)?;
+    }
+    Ok(())
+}
+
+/// Obeys a line, and puts the line of the reply behind what waits.
+fn obey_line(
+    store: &mut ClauseStore<Packages>,
+    line: &[u8],
+    waiting: &mut Vec<u8>,
+) -> Result<(), LineFault> {
+    match command_line(line) {
+        Line::Skipped => Ok(()),
+        Line::Unreadable => Err(LineFault::Unreadable),
+        Line::Says(command) => {
+            let reply = store.step(&command);
+            match push_reply(waiting, &reply) {
+                Ok(()) => Ok(()),
+                Err(_) => Err(LineFault::Memory),
+            }
+        }
+    }
+}
