@@ -8,6 +8,8 @@ pub mod OrderLaws
 pub mod Output
 pub mod Packages
 pub mod Replies
+pub mod ScriptStore
 pub mod Statements
 pub mod Status
+pub mod Transcript
 pub mod Words

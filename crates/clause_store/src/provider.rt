@@ -12,17 +12,15 @@ use resolvo_pool::{DependencyProvider, Interner};
 use std::alloc::Global;
 
 impl Interner for Packages {
+    ghost use Rattle.clause_store.specs.ScriptStore.{catalogue_of};
+
     type Alloc = Global;
 
     type NameId = NameId;
 
     type SolvableId = SolvableId;
 
-    ghost catalogue = { λ p. record {
-      knows_solvable = λ s. nat_lt s (length p.versions.items);
-      knows_set = λ v. nat_lt v.0 (length p.sets.keys);
-      set_name = λ v. (range_at p.sets.keys v).name;
-    } };
+    ghost catalogue = { catalogue_of };
 
     fn knows_solvable(&self, solvable: SolvableId) -> bool {
         solvable.to_index() < self.versions.len()
@@ -38,14 +36,11 @@ impl Interner for Packages {
 }
 
 impl DependencyProvider for Packages {
+    ghost use Rattle.clause_store.specs.ScriptStore.{answers_of};
     ghost use Rattle.clause_store.specs.Packages.{listed_known};
     ghost use Rattle.clause_store.specs.OrderLaws.{best_first_permutes};
 
-    ghost answers = { λ p. record {
-      candidates = λ n. listed_numbers (span_of p.spans.items (length p.versions.items) n);
-      matches = λ v s. is_within (range_at p.sets.keys v) (version_at p.versions.items s);
-      order = λ list. best_first p.versions.items list;
-    } };
+    ghost answers = { answers_of };
 
     ghost candidates_known = { λ p n. listed_known p.spans.items (length p.versions.items) n };
 

@@ -1,5 +1,10 @@
 //! Scripts: a catalogue, and then commands, each of which is answered by a line.
-ghost use Rattle.std.specs.Prelude.{◌≡◌, ◌+◌, ◌^◌, ◌<◌, length};
+ghost use Rattle.std.specs.Prelude.{◌≡◌, ℕ, List, ◌+◌, ◌^◌, ◌<◌, length};
+ghost use Rattle.clause_store.specs.Lines.{lines as lines_of};
+ghost use Rattle.clause_store.specs.Commands.{command_line_of};
+ghost use Rattle.clause_store.specs.Output.{Writes};
+ghost use Rattle.clause_store.specs.ScriptStore.{script_store};
+ghost use Rattle.clause_store.specs.Transcript.{ObeysLine, Answered, IfRead};
 
 use crate::catalogue::Catalogue;
 use crate::catalogue_line::{CatalogueLine, catalogue_line};
@@ -120,6 +125,8 @@ fn obey_lines<W: Write>(
     writer: &mut W,
 ) -> Result<(), ScriptFault>
     requires { before + length lines.now < 2 ^ 64 }
+    ensures { IfRead result (λ faulty. (text : List ℕ) × Answered (script_store store.old) before (lines_of lines.now) text faulty
+        × Writes (W.contents writer.old) waiting.old.items (W.contents writer.new) waiting.new.items text) }
 {
     let mut number = before;
     let mut rest = lines;
@@ -140,7 +147,9 @@ fn obey_line(
     store: &mut ClauseStore<Packages>,
     line: &[u8],
     waiting: &mut Vec<u8>,
-) -> Result<(), LineFault> {
+) -> Result<(), LineFault>
+    ensures { ObeysLine (script_store store.old) (command_line_of line.now) waiting.old.items result waiting.new.items (script_store store.new) }
+{
     match command_line(line) {
         Line::Skipped => Ok(()),
         Line::Unreadable => Err(LineFault::Unreadable),
