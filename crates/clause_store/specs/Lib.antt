@@ -1,3 +1,4 @@
+pub mod CatalogueEnds
 pub mod CatalogueLines
 pub mod Commands
 pub mod Ids
@@ -9,6 +10,7 @@ pub mod Output
 pub mod Packages
 pub mod Replies
 pub mod ScriptStore
+pub mod Scripts
 pub mod Statements
 pub mod Status
 pub mod Transcript

@@ -29,6 +29,10 @@ same_id a b = (a == b) && true
 abbrev pub is_large : ℕ → Bool
 is_large n = nat_le (2 ^ 40) n
 
+-- what the abstract store knows of the packages
+abbrev pub provider_of : Packages → Provider ℕ ℕ
+provider_of p = provided same_id same_id is_large is_large catalogue_of answers_of p
+
 -- the abstract store of what a store of packages keeps
 abbrev pub script_store : Kept Packages ℕ ℕ → Store ℕ ℕ
-script_store kept = store_of (provided same_id same_id is_large is_large catalogue_of answers_of) kept
+script_store kept = store_of provider_of kept

@@ -1,4 +1,9 @@
 //! The catalogue of a script: its packages, as they are listed.
+ghost use Rattle.std.specs.Prelude.{◌≡◌, IfErr};
+ghost use Rattle.clause_store.specs.declared.fault.LineFault.TheVariants.{Memory, Unreadable};
+ghost use Rattle.clause_store.specs.CatalogueEnds.{IsPackage};
+ghost use Rattle.clause_store.specs.CatalogueLines.{plain_said};
+
 use crate::catalogue_line::CatalogueLine;
 use crate::fault::LineFault;
 use crate::packages::{MOST_IDS, Packages, VersionRange};
@@ -24,7 +29,9 @@ impl<'a> Catalogue<'a> {
     }
 
     /// Adds what a line says.
-    pub fn add(&mut self, line: CatalogueLine<'a>) -> Result<(), LineFault> {
+    pub fn add(&mut self, line: CatalogueLine<'a>) -> Result<(), LineFault>
+        ensures { IfErr result (λ e. e ≡ Unreadable → IsPackage (plain_said line.entry)) }
+    {
         match line {
             CatalogueLine::Package { name, versions } => {
                 let name = self.name(name)?;
@@ -39,7 +46,9 @@ impl<'a> Catalogue<'a> {
     }
 
     /// The id of a name, which gets one if it has none.
-    fn name(&mut self, name: &'a [u8]) -> Result<NameId, LineFault> {
+    fn name(&mut self, name: &'a [u8]) -> Result<NameId, LineFault>
+        ensures { IfErr result (λ e. e ≡ Memory) }
+    {
         match self.names.insert_full(name) {
             Ok((index, is_new)) if index < MOST_IDS => {
                 if is_new {

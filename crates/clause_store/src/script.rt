@@ -1,9 +1,13 @@
 //! Scripts: a catalogue, and then commands, each of which is answered by a line.
-ghost use Rattle.std.specs.Prelude.{◌≡◌, ℕ, List, ◌+◌, ◌^◌, ◌<◌, length};
+ghost use Rattle.std.specs.Prelude.{◌≡◌, ℕ, List, [], ◌++◌, ◌+◌, ◌^◌, ◌<◌, length, IfOk, IfErr, IfSome, MatchOption};
+ghost use Rattle.resolvo_store.specs.Store.{new_store};
+ghost use Rattle.clause_store.specs.declared.fault.ScriptFault.TheVariants.{Device, Memory};
+ghost use Rattle.clause_store.specs.CatalogueEnds.{NeverBegins, CommandsBegin, CatalogueFault};
 ghost use Rattle.clause_store.specs.Lines.{lines as lines_of};
 ghost use Rattle.clause_store.specs.Commands.{command_line_of};
 ghost use Rattle.clause_store.specs.Output.{Writes};
-ghost use Rattle.clause_store.specs.ScriptStore.{script_store};
+ghost use Rattle.clause_store.specs.ScriptStore.{script_store, provider_of};
+ghost use Rattle.clause_store.specs.Scripts.{ScriptAnswered, faulty_text};
 ghost use Rattle.clause_store.specs.Transcript.{ObeysLine, Answered, IfRead};
 
 use crate::catalogue::Catalogue;
@@ -37,7 +41,10 @@ pub fn script<R: Read, W: Write>(
     alloc: Global,
     reader: &mut R,
     writer: &mut W,
-) -> Result<(), ScriptFault> {
+) -> Result<(), ScriptFault>
+    ensures { IfSome (R.remaining reader.old) (λ input. IfRead result (λ faulty. (text : List ℕ) × ScriptAnswered (lines_of input) text faulty
+        × Writes (W.contents writer.old) [] (W.contents writer.new) [] (text ++ faulty_text faulty))) }
+{
     let input = read_whole(alloc, reader)?;
     let mut waiting = Vec::new(alloc);
     let ended = obey_text(alloc, &input, &mut waiting, writer);
@@ -50,7 +57,11 @@ pub fn script<R: Read, W: Write>(
 fn name_unreadable(
     waiting: &mut Vec<u8>,
     ended: Result<(), ScriptFault>,
-) -> Result<(), ScriptFault> {
+) -> Result<(), ScriptFault>
+    ensures read { IfRead result (λ faulty. IfRead ended (λ was. (faulty ≡ was) × (waiting.new.items ≡ waiting.old.items ++ faulty_text was))) }
+    ensures device { ended ≡ Err Device → result ≡ Err Device }
+    ensures memory { ended ≡ Err Memory → result ≡ Err Memory }
+{
     if let Err(ScriptFault::Unreadable(number)) = ended {
         match push_unreadable(waiting, number) {
             Ok(()) => {}
@@ -66,15 +77,22 @@ fn obey_text<W: Write>(
     text: &[u8],
     waiting: &mut Vec<u8>,
     writer: &mut W,
-) -> Result<(), ScriptFault> {
-    match read_catalogue(alloc, text)? {
-        None => Ok(()),
-        Some(commands) => obey_commands(alloc, commands, waiting, writer),
+) -> Result<(), ScriptFault>
+    ensures { IfRead result (λ faulty. (answer : List ℕ) × ScriptAnswered (lines_of text.now) answer faulty
+        × Writes (W.contents writer.old) waiting.old.items (W.contents writer.new) waiting.new.items answer) }
+{
+    match read_catalogue(alloc, text) {
+        Ok(None) => Ok(()),
+        Ok(Some(commands)) => obey_commands(alloc, commands, waiting, writer),
+        Err(fault) => Err(fault),
     }
 }
 
 /// Reads a catalogue, up to its `begin`; there may be none.
-fn read_catalogue(alloc: Global, text: &[u8]) -> Result<Option<Commands<'_>>, ScriptFault> {
+fn read_catalogue(alloc: Global, text: &[u8]) -> Result<Option<Commands<'_>>, ScriptFault>
+    ensures ok { IfOk result (λ o. MatchOption o (NeverBegins (lines_of text.now)) (λ c. CommandsBegin 0 (lines_of text.now) c.before (lines_of c.lines.now))) }
+    ensures err { IfErr result (CatalogueFault (lines_of text.now)) }
+{
     let mut catalogue = Catalogue::new(alloc);
     let mut before = 0;
     let mut rest = text;
@@ -92,7 +110,10 @@ fn read_catalogue(alloc: Global, text: &[u8]) -> Result<Option<Commands<'_>>, Sc
                     before,
                 }));
             }
-            Line::Says(entry) => catalogue.add(entry).map_err(|fault| fault.at(before))?,
+            Line::Says(entry) => match catalogue.add(entry) {
+                Ok(()) => {}
+                Err(fault) => return Err(fault.at(before)),
+            },
         }
     }
     Ok(None)
@@ -104,7 +125,11 @@ fn obey_commands<W: Write>(
     commands: Commands<'_>,
     waiting: &mut Vec<u8>,
     writer: &mut W,
-) -> Result<(), ScriptFault> {
+) -> Result<(), ScriptFault>
+    ensures { IfRead result (λ faulty. (text : List ℕ)
+        × Answered (new_store (provider_of commands.entry.packages)) commands.entry.before (lines_of commands.entry.lines.now) text faulty
+        × Writes (W.contents writer.old) waiting.old.items (W.contents writer.new) waiting.new.items text) }
+{
     let Commands {
         packages,
         lines,
