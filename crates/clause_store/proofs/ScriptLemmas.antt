@@ -34,11 +34,12 @@ whole : (lines : List (List ℕ)) (faulty was : Option ℕ) (held held' held'' :
     → Writes held' w' held'' v [] → v ≡ []
     → (answer : List ℕ) × ScriptAnswered lines answer was × Writes held [] held' w answer
     → (text : List ℕ) × ScriptAnswered lines text faulty × Writes held [] held'' [] (text ++ faulty_text faulty)
-whole lines faulty was held held' held'' w w' v same named rest empty h =
-    ( h.0
-    , subst (λ f. ScriptAnswered lines h.0 f) (sym same) h.1
-    , subst (λ f. Writes held [] held'' [] (h.0 ++ faulty_text f)) (sym same) (subst (λ l. Writes held [] held'' l (h.0 ++ faulty_text was)) empty
-      (Writes-on held held' held'' [] w' v (h.0 ++ faulty_text was) (Writes-trans held held' held' [] w w' h.0 (faulty_text was) h.2 (Writes-wait held' w w' (faulty_text was) named)) rest)) )
+whole lines faulty was held held' held'' w w' v same named rest empty h = (
+  h.0,
+  subst (λ f. ScriptAnswered lines h.0 f) (sym same) h.1,
+  subst (λ f. Writes held [] held'' [] (h.0 ++ faulty_text f)) (sym same) (subst (λ l. Writes held [] held'' l (h.0 ++ faulty_text was)) empty
+      (Writes-on held held' held'' [] w' v (h.0 ++ faulty_text was) (Writes-trans held held' held' [] w w' h.0 (faulty_text was) h.2 (Writes-wait held' w w' (faulty_text was) named)) rest)),
+)
 
 other_end : {T : Type 0} (t : T) (e : ScriptFault) → Ok t ≡ Err e → ⊥
 other_end t e h = cc

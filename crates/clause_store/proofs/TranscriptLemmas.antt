@@ -56,13 +56,14 @@ module _ {N : Type 0} where
       → left ≡ line ∷ lines → ObeysLine now (command_line_of line) w' (Ok t) w'' new → Writes held' w'' held'' v []
       → SoFar first before all held w now number left held' w' → SoFar first before all held w new (number + 1) lines held'' v
   so_far_more first now new before number all left lines line held held' held'' w w' w'' v t behind obeyed written so_far =
-      let more = line_obeyed now new (number + 1) (command_line_of line) lines w' w'' t obeyed in
-      ( so_far.0 ++ more.0
-      , Writes-on held held' held'' w w'' v (so_far.0 ++ more.0)
-        (Writes-trans held held' held' w w' w'' so_far.0 more.0 so_far.1 (Writes-wait held' w' w'' more.0 more.1)) written
-      , λ text faulty goes_on. subst (λ l. Answered first before all l faulty) (sym (append_assoc so_far.0 more.0 text))
-        (so_far.2 (more.0 ++ text) faulty
-        (subst (λ ls. Answered now number ls (more.0 ++ text) faulty) (sym behind) (more.2 text faulty goes_on))))
+      let more = line_obeyed now new (number + 1) (command_line_of line) lines w' w'' t obeyed in (
+        so_far.0 ++ more.0,
+        Writes-on held held' held'' w w'' v (so_far.0 ++ more.0)
+            (Writes-trans held held' held' w w' w'' so_far.0 more.0 so_far.1 (Writes-wait held' w' w'' more.0 more.1)) written,
+        λ text faulty goes_on. subst (λ l. Answered first before all l faulty) (sym (append_assoc so_far.0 more.0 text))
+            (so_far.2 (more.0 ++ text) faulty
+            (subst (λ ls. Answered now number ls (more.0 ++ text) faulty) (sym behind) (more.2 text faulty goes_on))),
+      )
 
   -- the first unreadable line
   unreadable_here : (now : Store N ℕ) (number : ℕ) (said : Line (ProgramCommand ℕ)) (goes_on : Store N ℕ → List ℕ → Type 0) → said ≡ Unreadable
@@ -77,9 +78,10 @@ module _ {N : Type 0} where
       → SoFar first before all held w now number left held' w'
       → IfRead {T = U} (Err (fault_at (number + 1) fault)) (λ faulty. (text : List ℕ) × Answered first before all text faulty × Writes held w held' w'' text)
   ended_faulty T U first now new before number all left lines line held held' w w' w'' OfLine.Memory behind obeyed so_far = tt
-  ended_faulty T U first now new before number all left lines line held held' w w' w'' OfLine.Unreadable behind obeyed so_far =
-      ( so_far.0 ++ []
-      , so_far.2 [] (Some (number + 1))
+  ended_faulty T U first now new before number all left lines line held held' w w' w'' OfLine.Unreadable behind obeyed so_far = (
+    so_far.0 ++ [],
+    so_far.2 [] (Some (number + 1))
         (subst (λ ls. Answered now number ls [] (Some (number + 1))) (sym behind)
-        (unreadable_here now (number + 1) (command_line_of line) (λ mid r. Answered mid (number + 1) lines r (Some (number + 1))) obeyed.0))
-      , Writes-trans held held' held' w w' w'' so_far.0 [] so_far.1 (Writes-wait held' w' w'' [] (obeyed.1 ∙ sym (append-nil w'))) )
+        (unreadable_here now (number + 1) (command_line_of line) (λ mid r. Answered mid (number + 1) lines r (Some (number + 1))) obeyed.0)),
+    Writes-trans held held' held' w w' w'' so_far.0 [] so_far.1 (Writes-wait held' w' w'' [] (obeyed.1 ∙ sym (append-nil w'))),
+  )

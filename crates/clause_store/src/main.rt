@@ -19,6 +19,8 @@ mod provider;
 mod reply_line;
 mod script;
 mod statement;
+#[cfg(test)]
+mod tests;
 mod word;
 
 use std::io;

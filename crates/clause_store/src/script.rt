@@ -54,10 +54,7 @@ pub fn script<R: Read, W: Write>(
 }
 
 /// How a script ended, once its unreadable line is named.
-fn name_unreadable(
-    waiting: &mut Vec<u8>,
-    ended: Result<(), ScriptFault>,
-) -> Result<(), ScriptFault>
+fn name_unreadable(waiting: &mut Vec<u8>, ended: Result<(), ScriptFault>) -> Result<(), ScriptFault>
     ensures read { IfRead result (λ faulty. IfRead ended (λ was. (faulty ≡ was) × (waiting.new.items ≡ waiting.old.items ++ faulty_text was))) }
     ensures device { ended ≡ Err Device → result ≡ Err Device }
     ensures memory { ended ≡ Err Memory → result ≡ Err Memory }
