@@ -1,0 +1,4 @@
+pub mod Numbering
+pub mod ScriptLemmas
+pub mod Sorting
+pub mod TranscriptLemmas

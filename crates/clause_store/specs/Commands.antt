@@ -1,0 +1,71 @@
+-- The commands that lines give.
+use Rattle.std.specs.Prelude.{ℕ, List, [], ◌∷◌, Option, None, Some, option_map, option_and_then, if◌then◌else◌, codes}
+use Rattle.std.specs.List.{list_all}
+use Rattle.std.specs.Str.{bytes_eq}
+use Rattle.resolvo_store.specs.declared.command.Command.{Command}
+use Rattle.resolvo_store.specs.declared.command.Command.TheVariants.{Variable, Load, Requires, Assign, UndoUntil, Decide}
+use Rattle.clause_store.specs.Lines.{is_printed}
+use Rattle.clause_store.specs.Words.{words}
+use Rattle.clause_store.specs.Ids.{number_32, variable_of, clause_of, requirement_of, truth_of}
+use Rattle.clause_store.specs.Statements.{is_comment}
+use Rattle.clause_store.specs.declared.statement.Line.{Line}
+use Rattle.clause_store.specs.declared.statement.Line.TheVariants.{Skipped, Unreadable, Says}
+
+-- the word that stands alone
+abbrev pub only_word : List (List ℕ) → Option (List ℕ)
+only_word (word ∷ []) = Some word
+only_word _ = None
+
+abbrev pub variable_command : List (List ℕ) → Option (Command ℕ)
+variable_command (s ∷ []) = option_map (λ solvable. Variable solvable) (number_32 s)
+variable_command _ = None
+
+abbrev pub load_command : List (List ℕ) → Option (Command ℕ)
+load_command (r ∷ []) = option_map (λ required. Load required) (requirement_of r)
+load_command _ = None
+
+abbrev pub requires_command : List (List ℕ) → Option (Command ℕ)
+requires_command (p ∷ r ∷ []) =
+    option_and_then (λ parent. option_map (λ required. Requires parent required None) (requirement_of r)) (variable_of p)
+requires_command (p ∷ r ∷ d ∷ []) =
+    option_and_then (λ parent. option_and_then (λ required. option_map (λ disjunction. Requires parent required (Some disjunction)) (clause_of d)) (requirement_of r)) (variable_of p)
+requires_command _ = None
+
+abbrev pub assign_command : List (List ℕ) → Option (Command ℕ)
+assign_command (v ∷ b ∷ c ∷ l ∷ []) =
+    option_and_then (λ variable. option_and_then (λ value. option_and_then (λ clause. option_map (λ level. Assign variable value clause level)
+    (number_32 l)) (clause_of c)) (truth_of b)) (variable_of v)
+assign_command _ = None
+
+abbrev pub undo_command : List (List ℕ) → Option (Command ℕ)
+undo_command (l ∷ []) = option_map (λ level. UndoUntil level) (number_32 l)
+undo_command _ = None
+
+abbrev pub decide_command : List (List ℕ) → Option (Command ℕ)
+decide_command [] = Some Decide
+decide_command _ = None
+
+-- the command of a line's words
+abbrev pub command_of : List ℕ → List (List ℕ) → Option (Command ℕ)
+command_of keyword ws =
+    if bytes_eq keyword (codes "assign") then assign_command ws
+    else if bytes_eq keyword (codes "requires") then requires_command ws
+    else if bytes_eq keyword (codes "load") then load_command ws
+    else if bytes_eq keyword (codes "variable") then variable_command ws
+    else if bytes_eq keyword (codes "undo-until") then undo_command ws
+    else if bytes_eq keyword (codes "decide") then decide_command ws
+    else None
+
+-- a command, where there is one
+abbrev pub says : Option (Command ℕ) → Line (Command ℕ)
+says None = Unreadable
+says (Some c) = Says c
+
+-- what the words of a line say: none, or a comment's, are skipped
+abbrev pub words_say : List (List ℕ) → Line (Command ℕ)
+words_say [] = Skipped
+words_say (keyword ∷ ws) = if is_comment keyword then Skipped else says (command_of keyword ws)
+
+-- what a line behind `begin` says
+abbrev pub command_line_of : List ℕ → Line (Command ℕ)
+command_line_of line = if list_all is_printed line then words_say (words line) else Unreadable

@@ -1,0 +1,17 @@
+pub mod CatalogueEnds
+pub mod CatalogueLines
+pub mod Commands
+pub mod Ids
+pub mod Lines
+pub mod Numbers
+pub mod Order
+pub mod OrderLaws
+pub mod Output
+pub mod Packages
+pub mod Replies
+pub mod ScriptStore
+pub mod Scripts
+pub mod Statements
+pub mod Status
+pub mod Transcript
+pub mod Words

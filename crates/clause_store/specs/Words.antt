@@ -1,0 +1,16 @@
+-- The words of a line.
+use Rattle.std.specs.Prelude.{ℕ, ◌==◌, List, [], ◌∷◌, ◌++◌, if◌then◌else◌}
+
+-- the word that a blank or the end leaves: none where there is no byte of it
+abbrev pub begun_word : List ℕ → List (List ℕ)
+begun_word [] = []
+begun_word (b ∷ bs) = (b ∷ bs) ∷ []
+
+-- the words of a line, of whose first word these bytes were read
+abbrev pub words_from : List ℕ → List ℕ → List (List ℕ)
+words_from begun [] = begun_word begun
+words_from begun (b ∷ bs) = if b == 32 then begun_word begun ++ words_from [] bs else words_from (begun ++ b ∷ []) bs
+
+-- the words of a line: what stands between its blanks
+abbrev pub words : List ℕ → List (List ℕ)
+words line = words_from [] line

@@ -1,0 +1,139 @@
+//! Command lines.
+ghost use Rattle.std.specs.Prelude.{◌≡◌, ◌∷◌, [], option_map};
+ghost use Rattle.clause_store.specs.Words.{words};
+ghost use Rattle.clause_store.specs.Ids.{truth_of};
+ghost use Rattle.clause_store.specs.Commands.{command_of, variable_command, load_command, requires_command, assign_command, undo_command, decide_command, only_word, command_line_of};
+
+use crate::id::{id, requirement};
+use crate::statement::{Line, Statement, open_line};
+use crate::word::next_word;
+use resolvo_ids::SolvableId;
+use resolvo_store::Command;
+
+/// What a line behind `begin` says.
+pub fn command_line(line: &[u8]) -> Line<Command<SolvableId>>
+    ensures { result ≡ command_line_of line.now }
+{
+    match open_line(line) {
+        Line::Skipped => Line::Skipped,
+        Line::Unreadable => Line::Unreadable,
+        Line::Says(said) => match command(said) {
+            Some(command) => Line::Says(command),
+            None => Line::Unreadable,
+        },
+    }
+}
+
+/// The command that a statement gives.
+fn command(said: Statement<'_>) -> Option<Command<SolvableId>>
+    ensures { result ≡ command_of said.entry.keyword.now (words said.entry.rest.now) }
+{
+    if said.keyword == b"assign".as_slice() {
+        assign(said.rest)
+    } else if said.keyword == b"requires".as_slice() {
+        requires_clause(said.rest)
+    } else if said.keyword == b"load".as_slice() {
+        load(said.rest)
+    } else if said.keyword == b"variable".as_slice() {
+        variable(said.rest)
+    } else if said.keyword == b"undo-until".as_slice() {
+        undo_until(said.rest)
+    } else if said.keyword == b"decide".as_slice() {
+        decide(said.rest)
+    } else {
+        None
+    }
+}
+
+/// The one word of a text.
+fn only_word(text: &[u8]) -> Option<&[u8]>
+    ensures { option_map (λ w. w.now) result ≡ only_word (words text.now) }
+{
+    let (word, rest) = next_word(text)?;
+    match next_word(rest) {
+        Some(_) => None,
+        None => Some(word),
+    }
+}
+
+/// `variable SOLVABLE`
+fn variable(text: &[u8]) -> Option<Command<SolvableId>>
+    ensures { result ≡ variable_command (words text.now) }
+{
+    let solvable = id(only_word(text)?)?;
+    Some(Command::Variable(solvable))
+}
+
+/// `load R`
+fn load(text: &[u8]) -> Option<Command<SolvableId>>
+    ensures { result ≡ load_command (words text.now) }
+{
+    let loaded = requirement(only_word(text)?)?;
+    Some(Command::Load(loaded))
+}
+
+/// `requires PARENT R` or `requires PARENT R DISJUNCTION`
+fn requires_clause(text: &[u8]) -> Option<Command<SolvableId>>
+    ensures { result ≡ requires_command (words text.now) }
+{
+    let (parent, text) = next_word(text)?;
+    let (required, text) = next_word(text)?;
+    match next_word(text) {
+        None => Some(Command::Requires(id(parent)?, requirement(required)?, None)),
+        Some((disjunction, text)) => match next_word(text) {
+            Some(_) => None,
+            None => {
+                let (parent, required) = (id(parent)?, requirement(required)?);
+                Some(Command::Requires(parent, required, Some(id(disjunction)?)))
+            }
+        },
+    }
+}
+
+/// `assign V BOOL CLAUSE LEVEL`
+fn assign(text: &[u8]) -> Option<Command<SolvableId>>
+    ensures { result ≡ assign_command (words text.now) }
+{
+    let (variable, text) = next_word(text)?;
+    let (value, text) = next_word(text)?;
+    let (clause, text) = next_word(text)?;
+    let (level, text) = next_word(text)?;
+    match next_word(text) {
+        Some(_) => None,
+        None => {
+            let (variable, value) = (id(variable)?, truth(value)?);
+            Some(Command::Assign(variable, value, id(clause)?, id(level)?))
+        }
+    }
+}
+
+/// `undo-until LEVEL`
+fn undo_until(text: &[u8]) -> Option<Command<SolvableId>>
+    ensures { result ≡ undo_command (words text.now) }
+{
+    let level = id(only_word(text)?)?;
+    Some(Command::UndoUntil(level))
+}
+
+/// `decide`
+fn decide(text: &[u8]) -> Option<Command<SolvableId>>
+    ensures { result ≡ decide_command (words text.now) }
+{
+    match next_word(text) {
+        Some(_) => None,
+        None => Some(Command::Decide),
+    }
+}
+
+/// `true` or `false`
+fn truth(word: &[u8]) -> Option<bool>
+    ensures { result ≡ truth_of word.now }
+{
+    if word == b"true".as_slice() {
+        Some(true)
+    } else if word == b"false".as_slice() {
+        Some(false)
+    } else {
+        None
+    }
+}

@@ -1,0 +1,32 @@
+//! Reads a script from standard input, gives its commands to a clause store, and writes a line for each reply.
+//!
+//! docs/FORMAT.md has the format. The exit status is 0 where all lines were read, 1 at a line that can't be read, 2 where
+//! a read or a write failed, and 3 where memory ran out.
+#![tactic(auto)]
+
+mod catalogue;
+mod catalogue_line;
+mod command_line;
+mod fault;
+mod id;
+mod input;
+mod line;
+mod number;
+mod order;
+mod output;
+mod packages;
+mod provider;
+mod reply_line;
+mod script;
+mod statement;
+#[cfg(test)]
+mod tests;
+mod word;
+
+use std::io;
+use std::process::ExitCode;
+
+fn main(rt: HostRuntime) -> ExitCode {
+    let ended = script::script(rt.alloc(), &mut rt.reader(), &mut io::writer(&rt));
+    ExitCode::from(fault::status(&ended))
+}

@@ -1,0 +1,186 @@
+//! Scripts: a catalogue, and then commands, each of which is answered by a line.
+ghost use Rattle.std.specs.Prelude.{◌≡◌, ℕ, List, [], ◌++◌, ◌+◌, ◌^◌, ◌<◌, length, IfOk, IfErr, IfSome, MatchOption};
+ghost use Rattle.resolvo_store.specs.Store.{new_store};
+ghost use Rattle.clause_store.specs.declared.fault.ScriptFault.TheVariants.{Device, Memory};
+ghost use Rattle.clause_store.specs.CatalogueEnds.{NeverBegins, CommandsBegin, CatalogueFault};
+ghost use Rattle.clause_store.specs.Lines.{lines as lines_of};
+ghost use Rattle.clause_store.specs.Commands.{command_line_of};
+ghost use Rattle.clause_store.specs.Output.{Writes};
+ghost use Rattle.clause_store.specs.ScriptStore.{script_store, provider_of};
+ghost use Rattle.clause_store.specs.Scripts.{ScriptAnswered, faulty_text};
+ghost use Rattle.clause_store.specs.Transcript.{ObeysLine, Answered, IfRead};
+
+use crate::catalogue::Catalogue;
+use crate::catalogue_line::{CatalogueLine, catalogue_line};
+use crate::command_line::command_line;
+use crate::fault::{LineFault, ScriptFault};
+use crate::input::read_whole;
+use crate::line::next_line;
+use crate::output::{write_much, write_rest};
+use crate::packages::Packages;
+use crate::reply_line::{push_reply, push_unreadable};
+use crate::statement::Line;
+use resolvo_store::ClauseStore;
+use std::alloc::Global;
+use std::io::{Read, Write};
+
+/// The commands of a script: the lines behind its catalogue.
+#[derive(Drop)]
+struct Commands<'a> {
+    packages: Packages,
+    lines: &'a [u8],
+    /// How many lines the catalogue had.
+    before: u64,
+    ghost fits: { before + length lines.now < 2 ^ 64 },
+}
+
+/// Reads a whole script, obeys its commands in turn, and writes a line for each reply. At the first unreadable line the
+/// line that names it is written, and nothing more is read. All that was to be written is written and flushed at every
+/// end but that of a writer that fails.
+pub fn script<R: Read, W: Write>(
+    alloc: Global,
+    reader: &mut R,
+    writer: &mut W,
+) -> Result<(), ScriptFault>
+    ensures { IfSome (R.remaining reader.old) (λ input. IfRead result (λ faulty. (text : List ℕ) × ScriptAnswered (lines_of input) text faulty
+        × Writes (W.contents writer.old) [] (W.contents writer.new) [] (text ++ faulty_text faulty))) }
+{
+    let input = read_whole(alloc, reader)?;
+    let mut waiting = Vec::new(alloc);
+    let ended = obey_text(alloc, &input, &mut waiting, writer);
+    let named = name_unreadable(&mut waiting, ended);
+    write_rest(&mut waiting, writer)?;
+    named
+}
+
+/// How a script ended, once its unreadable line is named.
+fn name_unreadable(waiting: &mut Vec<u8>, ended: Result<(), ScriptFault>) -> Result<(), ScriptFault>
+    ensures read { IfRead result (λ faulty. IfRead ended (λ was. (faulty ≡ was) × (waiting.new.items ≡ waiting.old.items ++ faulty_text was))) }
+    ensures device { ended ≡ Err Device → result ≡ Err Device }
+    ensures memory { ended ≡ Err Memory → result ≡ Err Memory }
+{
+    if let Err(ScriptFault::Unreadable(number)) = ended {
+        match push_unreadable(waiting, number) {
+            Ok(()) => {}
+            Err(_) => return Err(ScriptFault::Memory),
+        }
+    }
+    ended
+}
+
+/// Obeys a script's text.
+fn obey_text<W: Write>(
+    alloc: Global,
+    text: &[u8],
+    waiting: &mut Vec<u8>,
+    writer: &mut W,
+) -> Result<(), ScriptFault>
+    ensures { IfRead result (λ faulty. (answer : List ℕ) × ScriptAnswered (lines_of text.now) answer faulty
+        × Writes (W.contents writer.old) waiting.old.items (W.contents writer.new) waiting.new.items answer) }
+{
+    match read_catalogue(alloc, text) {
+        Ok(None) => Ok(()),
+        Ok(Some(commands)) => obey_commands(alloc, commands, waiting, writer),
+        Err(fault) => Err(fault),
+    }
+}
+
+/// Reads a catalogue, up to its `begin`; there may be none.
+fn read_catalogue(alloc: Global, text: &[u8]) -> Result<Option<Commands<'_>>, ScriptFault>
+    ensures ok { IfOk result (λ o. MatchOption o (NeverBegins (lines_of text.now)) (λ c. CommandsBegin 0 (lines_of text.now) c.before (lines_of c.lines.now))) }
+    ensures err { IfErr result (CatalogueFault (lines_of text.now)) }
+{
+    let mut catalogue = Catalogue::new(alloc);
+    let mut before = 0;
+    let mut rest = text;
+    while let Some((line, lines)) = next_line(rest) {
+        before += 1;
+        rest = lines;
+        match catalogue_line(line) {
+            Line::Skipped => {}
+            Line::Unreadable => return Err(ScriptFault::Unreadable(before)),
+            Line::Says(CatalogueLine::Begin) => {
+                let packages = catalogue.packages;
+                return Ok(Some(Commands {
+                    packages,
+                    lines,
+                    before,
+                }));
+            }
+            Line::Says(entry) => match catalogue.add(entry) {
+                Ok(()) => {}
+                Err(fault) => return Err(fault.at(before)),
+            },
+        }
+    }
+    Ok(None)
+}
+
+/// Obeys the commands in turn.
+fn obey_commands<W: Write>(
+    alloc: Global,
+    commands: Commands<'_>,
+    waiting: &mut Vec<u8>,
+    writer: &mut W,
+) -> Result<(), ScriptFault>
+    ensures { IfRead result (λ faulty. (text : List ℕ)
+        × Answered (new_store (provider_of commands.entry.packages)) commands.entry.before (lines_of commands.entry.lines.now) text faulty
+        × Writes (W.contents writer.old) waiting.old.items (W.contents writer.new) waiting.new.items text) }
+{
+    let Commands {
+        packages,
+        lines,
+        before,
+    } = commands;
+    match ClauseStore::new(alloc, packages) {
+        Ok(mut store) => obey_lines(&mut store, lines, before, waiting, writer),
+        Err(_) => Err(ScriptFault::Memory),
+    }
+}
+
+/// Obeys the lines in turn, before which so many stand.
+fn obey_lines<W: Write>(
+    store: &mut ClauseStore<Packages>,
+    lines: &[u8],
+    before: u64,
+    waiting: &mut Vec<u8>,
+    writer: &mut W,
+) -> Result<(), ScriptFault>
+    requires { before + length lines.now < 2 ^ 64 }
+    ensures { IfRead result (λ faulty. (text : List ℕ) × Answered (script_store store.old) before (lines_of lines.now) text faulty
+        × Writes (W.contents writer.old) waiting.old.items (W.contents writer.new) waiting.new.items text) }
+{
+    let mut number = before;
+    let mut rest = lines;
+    while let Some((line, others)) = next_line(rest) {
+        number += 1;
+        rest = others;
+        match obey_line(store, line, waiting) {
+            Ok(()) => {}
+            Err(fault) => return Err(fault.at(number)),
+        }
+        write_much(waiting, writer)?;
+    }
+    Ok(())
+}
+
+/// Obeys a line, and puts the line of the reply behind what waits.
+fn obey_line(
+    store: &mut ClauseStore<Packages>,
+    line: &[u8],
+    waiting: &mut Vec<u8>,
+) -> Result<(), LineFault>
+    ensures { ObeysLine (script_store store.old) (command_line_of line.now) waiting.old.items result waiting.new.items (script_store store.new) }
+{
+    match command_line(line) {
+        Line::Skipped => Ok(()),
+        Line::Unreadable => Err(LineFault::Unreadable),
+        Line::Says(command) => {
+            let reply = store.step(&command);
+            match push_reply(waiting, &reply) {
+                Ok(()) => Ok(()),
+                Err(_) => Err(LineFault::Memory),
+            }
+        }
+    }
+}

@@ -1,0 +1,239 @@
+//! Scripts and their answers, and devices that fail.
+use crate::fault::{ScriptFault, status};
+use crate::script::script;
+use std::alloc::Global;
+use std::io;
+use std::io::{Error, ErrorKind, Read, Write};
+use std::process::Abort;
+use std::test::Fail;
+
+/// A script, what it is answered, and the exit status.
+#[derive(Clone, Copy)]
+struct Row {
+    script: &'static [u8],
+    answer: &'static [u8],
+    status: u8,
+}
+
+const fn given(script: &'static [u8], answer: &'static [u8], status: u8) -> Row {
+    Row {
+        script,
+        answer,
+        status,
+    }
+}
+
+/// What a script is answered, and how it ended.
+fn answered(alloc: Global, text: &[u8]) -> (Vec<u8>, Result<(), ScriptFault>) {
+    let mut reader = text;
+    let mut answer = Vec::new(alloc);
+    let ended = script(alloc, &mut reader, &mut answer);
+    (answer, ended)
+}
+
+/// Each script is answered so.
+fn are_answered(rt: &(impl Abort + AllocGlobal), rows: &[Row]) {
+    for row in rows {
+        let (answer, ended) = answered(rt.alloc(), row.script);
+        assert!(rt; answer.as_slice() == row.answer);
+        assert_eq!(rt; status(&ended), row.status);
+    }
+}
+
+/// Refusals, a clause that is falsified, and what takes that back.
+const REFUSALS: &[u8] =
+    b"package a 1 2\nset a 1 3\nbegin\nrequires 0 s0\nload s0\nload u0\nrequires 0 s0 0\nrequires 0 s0\nassign 0 true 0 0\nassign 0 true 0 1\nassign 1 false 0 1\nassign 2 false 0 1\ndecide\nundo-until 0\ndecide\n";
+
+const REFUSALS_ANSWER: &[u8] =
+    b"refused 5\nloaded 1,2\nrefused 3\nrefused 3\nclause 0\nrefused 4\nassigned\nassigned\nassigned\nfalsified 0\nundone\nno decision\n";
+
+#[test]
+fn scripts_are_answered(rt: HostRuntime) -> Result<(), Fail> {
+    let rows = [
+        given(REFUSALS, REFUSALS_ANSWER, 0),
+        given(b"", b"", 0),
+        given(
+            b"begin\ndecide\nfly\n",
+            b"no decision\nline 3 unreadable\n",
+            1,
+        ),
+        given(b"begin\nrequires 0\n", b"line 2 unreadable\n", 1),
+        given(b"package a 1\npackage a 2\n", b"line 2 unreadable\n", 1),
+        given(b"package a\n", b"line 1 unreadable\n", 1),
+        given(b"set a 1 4294967296\n", b"line 1 unreadable\n", 1),
+        given(b"set a 4294967295 0\n", b"", 0),
+        given(b"begin\nbegin\n", b"line 2 unreadable\n", 1),
+        given(b"begin\ndeci", b"line 2 unreadable\n", 1),
+        given(b"begin\ndecide", b"no decision\n", 0),
+        given(b"begin\r\ndecide\r", b"no decision\n", 0),
+        given(b"begin\ndecide\r\r\n", b"line 2 unreadable\n", 1),
+        given(b"  begin  \n\n  #  x  \n  decide  ", b"no decision\n", 0),
+        given(b"begin\n#\t\n", b"line 2 unreadable\n", 1),
+        given(
+            b"begin\ndecide\n#\0\ndecide\n",
+            b"no decision\nline 3 unreadable\n",
+            1,
+        ),
+    ];
+    are_answered(&rt, &rows);
+    Ok(())
+}
+
+/// Numbers and ids at the ends of their ranges.
+#[test]
+fn numbers_have_ranges(rt: HostRuntime) -> Result<(), Fail> {
+    let rows = [
+        given(b"begin\nvariable 00000000000000000000\n", b"refused 3\n", 0),
+        given(
+            b"begin\nvariable 000000000000000000000\n",
+            b"line 2 unreadable\n",
+            1,
+        ),
+        given(
+            b"begin\nvariable 18446744073709551616\n",
+            b"line 2 unreadable\n",
+            1,
+        ),
+        given(b"begin\nvariable 4294967295\n", b"refused 3\n", 0),
+        given(b"begin\nvariable 4294967296\n", b"line 2 unreadable\n", 1),
+        given(
+            b"begin\nrequires 2147483646 s4294967295 4294967294\n",
+            b"refused 3\n",
+            0,
+        ),
+        given(
+            b"begin\nrequires 2147483647 s0\n",
+            b"line 2 unreadable\n",
+            1,
+        ),
+        given(
+            b"begin\nrequires 0 s0 4294967295\n",
+            b"line 2 unreadable\n",
+            1,
+        ),
+        given(b"begin\nassign 0 yes 0 1\n", b"line 2 unreadable\n", 1),
+        given(b"begin\nload s\n", b"line 2 unreadable\n", 1),
+        given(b"begin\nload 0\n", b"line 2 unreadable\n", 1),
+        given(b"begin\nundo-until 4294967295\n", b"undone\n", 0),
+    ];
+    are_answered(&rt, &rows);
+    Ok(())
+}
+
+/// The order of preference, names and version sets that are said twice, a name without a package, and a conflict.
+#[test]
+fn catalogues_are_listed(rt: HostRuntime) -> Result<(), Fail> {
+    let rows = [
+        given(
+            b"set b 2 9\npackage a 7\npackage b 3 5 5 9 1\nset b 2 9\nset b 0 10\nset c 0 9\nbegin\nload s0\nload s1\nload s2\nload s3\nvariable 2\nvariable 0\n",
+            b"loaded 1,2,3\nloaded 4,1,2,3,5\nloaded -\nrefused 3\nvariable 1\nvariable 6\n",
+            0,
+        ),
+        given(
+            b"package a 1\nset a 1 2\nbegin\nload s0\nrequires 0 s0\nassign 1 false 0 1\nassign 1 false 0 2\nassign 1 true 0 2\nrequires 0 s0\n",
+            b"loaded 1\nclause 0\nassigned\nalready\nclash\nclause 1 conflict\n",
+            0,
+        ),
+    ];
+    are_answered(&rt, &rows);
+    Ok(())
+}
+
+/// A comment of 2^20 bytes is skipped, and as many commands are answered as there are.
+#[test]
+fn long_scripts_are_answered(rt: HostRuntime) -> Result<(), Fail> {
+    let mut text = Vec::from_slice(rt.alloc(), b"begin\n")?;
+    text.resize(1048582, b'#')?;
+    for _ in 0..10000 {
+        text.extend_from_slice(b"\ndecide")?;
+    }
+    let (answer, ended) = answered(rt.alloc(), &text);
+    assert_eq!(&rt; answer.len(), 120000);
+    assert!(&rt; ended == Ok(()));
+    Ok(())
+}
+
+/// Gives its text byte by byte, with an interruption before each, and then fails.
+#[derive(Drop)]
+struct Failing<'a> {
+    left: &'a [u8],
+    is_interrupted: bool,
+}
+
+impl Read for Failing<'_> {
+    fn read(&mut self, buf: &mut [u8]) -> io::Result<usize> {
+        self.is_interrupted = !self.is_interrupted;
+        if self.is_interrupted {
+            return Err(Error::from(ErrorKind::Interrupted));
+        }
+        match (self.left, buf) {
+            ([first, rest @ ..], [place, ..]) => {
+                *place = *first;
+                self.left = rest;
+                Ok(1)
+            }
+            _ => Err(Error::from(ErrorKind::BrokenPipe)),
+        }
+    }
+}
+
+/// Where a read fails nothing is written, though whole commands were read.
+#[test]
+fn a_reader_fails(rt: HostRuntime) -> Result<(), Fail> {
+    let mut reader = Failing {
+        left: REFUSALS,
+        is_interrupted: false,
+    };
+    let mut answer = Vec::new(rt.alloc());
+    let ended = script(rt.alloc(), &mut reader, &mut answer);
+    assert_eq!(&rt; answer.len(), 0);
+    assert_eq!(&rt; status(&ended), 2);
+    Ok(())
+}
+
+/// Takes some bytes, three at a time, and then fails.
+#[derive(Drop)]
+struct Full {
+    taken: Vec<u8>,
+    room: usize,
+}
+
+impl Write for Full {
+    fn write(&mut self, buf: &[u8]) -> io::Result<usize> {
+        if self.room == 0 {
+            return Err(Error::from(ErrorKind::StorageFull));
+        }
+        let count = buf.len().min(self.room).min(3);
+        self.taken.extend_from_slice(&buf[..count])?;
+        self.room -= count;
+        Ok(count)
+    }
+
+    fn flush(&mut self) -> io::Result<()> {
+        Ok(())
+    }
+}
+
+/// What a writer took before it failed is a beginning of the answer.
+#[test]
+fn a_writer_fails(rt: HostRuntime) -> Result<(), Fail> {
+    for room in [0, 1, 10, 99] {
+        let mut reader = REFUSALS;
+        let mut writer = Full {
+            taken: Vec::new(rt.alloc()),
+            room,
+        };
+        let ended = script(rt.alloc(), &mut reader, &mut writer);
+        assert_eq!(&rt; status(&ended), 2);
+        assert_eq!(&rt; writer.taken.len(), room);
+        assert!(&rt; REFUSALS_ANSWER.starts_with(writer.taken.as_slice()));
+    }
+    Ok(())
+}
+
+/// Memory that is refused outside a command.
+#[test]
+fn memory_has_a_status(rt: HostRuntime) -> Result<(), Fail> {
+    assert_eq!(&rt; status(&Err(ScriptFault::Memory)), 3);
+    Ok(())
+}
