@@ -1,5 +1,5 @@
 -- What a whole script is answered.
-use Rattle.std.specs.Prelude.{◌≡◌, ℕ, List, [], ◌++◌, ◌⊎◌, Option, None, Some}
+use Rattle.std.specs.Prelude.{◌≡◌, ℕ, List, [], ◌⊎◌, Option, None, Some}
 use Rattle.resolvo_store.specs.Store.{new_store}
 use Rattle.clause_store.specs.declared.packages.Packages.{Packages}
 use Rattle.clause_store.specs.CatalogueEnds.{NeverBegins, CommandsBegin, FaultyAt}
