@@ -1,9 +1,8 @@
 //! The catalogue of a script: its packages, as they are listed.
-ghost use Rattle.std.specs.Prelude.{◌≡◌, not, IfOk, OnOk, IfErr};
+ghost use Rattle.std.specs.Prelude.{◌≡◌, not, Some, None, IfOk, OnOk, IfErr};
 ghost use Rattle.std.specs.List.{list_any};
 ghost use Rattle.std.specs.Str.{bytes_eq};
 ghost use Rattle.clause_store.specs.declared.fault.LineFault.TheVariants.{Memory, Unreadable};
-ghost use Rattle.clause_store.specs.CatalogueEnds.{IsPackage};
 ghost use Rattle.clause_store.specs.CatalogueLines.{plain_said};
 ghost use Rattle.clause_store.specs.Listing.{texts, with_name, with_span, name_number};
 
@@ -23,10 +22,12 @@ pub struct Catalogue<'a> {
 }
 
 impl<'a> Catalogue<'a> {
-    ghost use Rattle.clause_store.specs.Catalogues.{names_of};
+    ghost use Rattle.clause_store.specs.Catalogues.{names_of, listing_of, listed, nothing_listed};
 
     /// The empty catalogue.
-    pub fn new(alloc: Global) -> Catalogue<'a> {
+    pub fn new(alloc: Global) -> Catalogue<'a>
+        ensures { listing_of result ≡ nothing_listed }
+    {
         Catalogue {
             names: IndexSet::new(alloc),
             packages: Packages::new(alloc),
@@ -35,7 +36,8 @@ impl<'a> Catalogue<'a> {
 
     /// Adds what a line says.
     pub fn add(&mut self, line: CatalogueLine<'a>) -> Result<(), LineFault>
-        ensures { IfErr result (λ e. e ≡ Unreadable → IsPackage (plain_said line.entry)) }
+        ensures ok { OnOk result (listed (listing_of self.old) (plain_said line.entry) ≡ Some (listing_of self.new)) }
+        ensures unreadable { IfErr result (λ e. e ≡ Unreadable → listed (listing_of self.old) (plain_said line.entry) ≡ None) }
     {
         match line {
             CatalogueLine::Package { name, versions } => {

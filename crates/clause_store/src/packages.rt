@@ -44,7 +44,11 @@ impl Packages {
     ghost use Rattle.clause_store.specs.Listing.{listed_versions, with_set};
 
     /// No packages.
-    pub fn new(alloc: Global) -> Packages {
+    pub fn new(alloc: Global) -> Packages
+        ensures versions { result.versions.items ≡ [] }
+        ensures spans { result.spans.items ≡ [] }
+        ensures sets { result.sets.keys ≡ [] }
+    {
         Packages {
             versions: Vec::new(alloc),
             spans: Vec::new(alloc),
