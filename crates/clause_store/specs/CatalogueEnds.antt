@@ -48,7 +48,8 @@ CommandsBegin l n (line ∷ lines) before left packages =
 -- before it begins the commands
 abbrev pub FaultyAt : Listing → ℕ → List (List ℕ) → ℕ → Type 0
 FaultyAt l n [] number = ⊥
-FaultyAt l n (line ∷ lines) number = OnEntry (entry_of l (catalogue_line_of line)) (λ more. FaultyAt more (n + 1) lines number) ⊥ (number ≡ n + 1)
+FaultyAt l n (line ∷ lines) number =
+    OnEntry (entry_of l (catalogue_line_of line)) (λ more. FaultyAt more (n + 1) lines number) ⊥ (number ≡ n + 1)
 
 -- the fault of a catalogue
 abbrev pub CatalogueFault : List (List ℕ) → ScriptFault → Type 0

@@ -24,7 +24,12 @@ names_of c = texts c.names.keys
 
 -- what a catalogue lists
 abbrev pub listing_of : Catalogue → Listing
-listing_of c = record { names = names_of c; versions = c.packages.versions.items; spans = c.packages.spans.items; sets = c.packages.sets.keys }
+listing_of c = record {
+  names = names_of c;
+  versions = c.packages.versions.items;
+  spans = c.packages.spans.items;
+  sets = c.packages.sets.keys;
+}
 
 -- the packages are those that are listed
 pub record AreListed (packages : Packages) (l : Listing) : Type 0 where
@@ -33,10 +38,16 @@ pub record AreListed (packages : Packages) (l : Listing) : Type 0 where
   pub sets : packages.sets.keys ≡ l.sets
 
 -- a name with these versions, where it has none yet, and each is a version
-abbrev pub with_versions : List (List ℕ) → ℕ → Option Span → List (Option Span) → List ℕ → List VersionRange → List (List ℕ) → Option Listing
+abbrev pub with_versions : List (List ℕ) → ℕ → Option Span → List (Option Span) → List ℕ → List VersionRange → List (List ℕ)
+    → Option Listing
 with_versions names number (Some span) spans versions sets words = None
 with_versions names number None spans versions sets words =
-    option_map (λ all. record { names = names; versions = all; spans = slice_set spans number (Some (record { first = length versions; end = length all })); sets = sets })
+    option_map (λ all. record {
+      names = names;
+      versions = all;
+      spans = slice_set spans number (Some (record { first = length versions; end = length all }));
+      sets = sets;
+    })
     (listed_versions versions words)
 
 -- what is listed behind an entry, unless it is the second package line of a name or has a word that is no version
