@@ -1,3 +1,4 @@
+pub mod NameLemmas
 pub mod Numbering
 pub mod ScriptLemmas
 pub mod Sorting

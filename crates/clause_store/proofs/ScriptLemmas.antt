@@ -4,6 +4,7 @@ use Rattle.resolvo_store.specs.Store.{new_store}
 use Rattle.clause_store.specs.declared.fault.ScriptFault.{ScriptFault}
 use Rattle.clause_store.specs.declared.fault.ScriptFault.TheVariants.{Unreadable, Device, Memory}
 use Rattle.clause_store.specs.declared.packages.Packages.{Packages}
+use Rattle.clause_store.specs.Catalogues.{nothing_listed}
 use Rattle.clause_store.specs.CatalogueEnds.{CommandsBegin, CatalogueFault}
 use Rattle.clause_store.specs.Lines.{lines as lines_of}
 use Rattle.clause_store.specs.Output.{Writes}
@@ -14,7 +15,7 @@ use Rattle.clause_store.proofs.TranscriptLemmas.{Writes-trans, Writes-wait, Writ
 
 -- the commands are answered, and so the script is
 pub commands_answered : {T : Type 0} (r : Result T ScriptFault) (lines : List (List ℕ)) (packages : Packages) (before : ℕ) (left : List (List ℕ))
-    (held held' : Option (List ℕ)) (w w' : List ℕ) → CommandsBegin 0 lines before left
+    (held held' : Option (List ℕ)) (w w' : List ℕ) → CommandsBegin nothing_listed 0 lines before left packages
     → IfRead r (λ faulty. (text : List ℕ) × Answered (new_store (provider_of packages)) before left text faulty × Writes held w held' w' text)
     → IfRead r (λ faulty. (text : List ℕ) × ScriptAnswered lines text faulty × Writes held w held' w' text)
 commands_answered (Ok t) lines packages before left held held' w w' begun h = (h.0, inr (packages, before, left, begun, h.1), h.2)

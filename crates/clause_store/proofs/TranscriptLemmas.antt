@@ -1,7 +1,6 @@
 -- One line more of a transcript.
-use Rattle.std.proofs.Common.{◌≡◌, ℕ, ◌+◌, List, [], ◌∷◌, ◌++◌, Option, None, Some, Result, Ok, Err, refl, sym, ap, subst, ◌∙◌, append_assoc, append-nil}
+use Rattle.std.proofs.Common.{◌≡◌, ℕ, ◌+◌, List, [], ◌∷◌, ◌++◌, Option, None, Some, Ok, Err, refl, sym, ap, subst, ◌∙◌, append_assoc, append-nil}
 use Rattle.resolvo_store.specs.declared.command.Command.{Command as ProgramCommand}
-use Rattle.resolvo_store.specs.Command.{Reply, command_of}
 use Rattle.resolvo_store.specs.Store.{Store}
 use Rattle.clause_store.specs.declared.fault.LineFault.{LineFault}
 use Rattle.clause_store.specs.declared.fault.LineFault.TheVariants as OfLine

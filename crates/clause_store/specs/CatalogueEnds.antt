@@ -1,55 +1,58 @@
--- Where the catalogue of a script ends, by its lines alone.
-use Rattle.std.specs.Prelude.{◌≡◌, ℕ, ◌+◌, List, [], ◌∷◌, ◌⊎◌, ⊤}
+-- Where the catalogue of a script ends, and what it lists by then.
+use Rattle.std.specs.Prelude.{◌≡◌, ℕ, ◌+◌, List, [], ◌∷◌, Option, None, Some, ⊤}
 use Rattle.clause_store.specs.declared.fault.ScriptFault.{ScriptFault}
 use Rattle.clause_store.specs.declared.fault.ScriptFault.TheVariants as OfScript
+use Rattle.clause_store.specs.declared.packages.Packages.{Packages}
 use Rattle.clause_store.specs.declared.statement.Line.{Line}
 use Rattle.clause_store.specs.declared.statement.Line.TheVariants.{Skipped, Unreadable, Says}
 use Rattle.clause_store.specs.CatalogueLines.{Said, Lists, Bounds, Begins, catalogue_line_of}
+use Rattle.clause_store.specs.Catalogues.{Listing, listed, AreListed, nothing_listed}
 
-abbrev pub EntryNever : Line Said → Type 0 → Type 0
-EntryNever Skipped goes_on = goes_on
-EntryNever Unreadable goes_on = ⊥
-EntryNever (Says (Lists name versions)) goes_on = goes_on
-EntryNever (Says (Bounds name low high)) goes_on = goes_on
-EntryNever (Says Begins) goes_on = ⊥
+-- what a line does: the catalogue goes on with this listing, its end is here, or the line is unreadable
+pub data Entry : Type 0 where
+  GoesOn : (l : Listing) → Entry
+  Ends : Entry
+  Faulty : Entry
 
--- no line begins the commands
-abbrev pub NeverBegins : List (List ℕ) → Type 0
-NeverBegins [] = ⊤
-NeverBegins (line ∷ lines) = EntryNever (catalogue_line_of line) (NeverBegins lines)
+abbrev pub goes_on : Option Listing → Entry
+goes_on None = Faulty
+goes_on (Some l) = GoesOn l
 
-abbrev pub EntryBegins : Line Said → Type 0 → Type 0 → Type 0
-EntryBegins Skipped here goes_on = goes_on
-EntryBegins Unreadable here goes_on = ⊥
-EntryBegins (Says (Lists name versions)) here goes_on = goes_on
-EntryBegins (Says (Bounds name low high)) here goes_on = goes_on
-EntryBegins (Says Begins) here goes_on = here
+abbrev pub entry_of : Listing → Line Said → Entry
+entry_of l Skipped = GoesOn l
+entry_of l Unreadable = Faulty
+entry_of l (Says Begins) = Ends
+entry_of l (Says (Lists name versions)) = goes_on (listed l (Lists name versions))
+entry_of l (Says (Bounds name low high)) = goes_on (listed l (Bounds name low high))
 
--- of lines before which so many stand, the first `begin` is the line of the number `before`, and the commands are in `left`
-abbrev pub CommandsBegin : ℕ → List (List ℕ) → ℕ → List (List ℕ) → Type 0
-CommandsBegin n [] before left = ⊥
-CommandsBegin n (line ∷ lines) before left =
-    EntryBegins (catalogue_line_of line) ((before ≡ n + 1) × (left ≡ lines)) (CommandsBegin (n + 1) lines before left)
+-- a fact for what a line does
+abbrev pub OnEntry : Entry → (Listing → Type 0) → Type 0 → Type 0 → Type 0
+OnEntry (GoesOn l) P ends faulty = P l
+OnEntry Ends P ends faulty = ends
+OnEntry Faulty P ends faulty = faulty
 
-abbrev pub EntryFaulty : Line Said → Type 0 → Type 0 → Type 0
-EntryFaulty Skipped here goes_on = goes_on
-EntryFaulty Unreadable here goes_on = here
-EntryFaulty (Says (Lists name versions)) here goes_on = here ⊎ goes_on
-EntryFaulty (Says (Bounds name low high)) here goes_on = goes_on
-EntryFaulty (Says Begins) here goes_on = ⊥
+-- behind this listing no line begins the commands, and none is unreadable
+abbrev pub NeverBegins : Listing → List (List ℕ) → Type 0
+NeverBegins l [] = ⊤
+NeverBegins l (line ∷ lines) = OnEntry (entry_of l (catalogue_line_of line)) (λ more. NeverBegins more lines) ⊥ ⊥
 
--- of lines before which so many stand, that of this number is unreadable, and stands in the catalogue: it isn't of its
--- form, or lists a package
-abbrev pub FaultyAt : ℕ → List (List ℕ) → ℕ → Type 0
-FaultyAt n [] number = ⊥
-FaultyAt n (line ∷ lines) number = EntryFaulty (catalogue_line_of line) (number ≡ n + 1) (FaultyAt (n + 1) lines number)
+-- of lines behind this listing, before which so many stand, the first `begin` is the line of the number `before`; the
+-- packages are those that are listed by then, and the commands are in `left`
+abbrev pub CommandsBegin : Listing → ℕ → List (List ℕ) → ℕ → List (List ℕ) → Packages → Type 0
+CommandsBegin l n [] before left packages = ⊥
+CommandsBegin l n (line ∷ lines) before left packages =
+    OnEntry (entry_of l (catalogue_line_of line)) (λ more. CommandsBegin more (n + 1) lines before left packages)
+    ((before ≡ n + 1) × (left ≡ lines) × AreListed packages l) ⊥
+
+-- of lines behind this listing, before which so many stand, that of this number is the first unreadable one, and no line
+-- before it begins the commands
+abbrev pub FaultyAt : Listing → ℕ → List (List ℕ) → ℕ → Type 0
+FaultyAt l n [] number = ⊥
+FaultyAt l n (line ∷ lines) number =
+    OnEntry (entry_of l (catalogue_line_of line)) (λ more. FaultyAt more (n + 1) lines number) ⊥ (number ≡ n + 1)
 
 -- the fault of a catalogue
 abbrev pub CatalogueFault : List (List ℕ) → ScriptFault → Type 0
-CatalogueFault lines (OfScript.Unreadable number) = FaultyAt 0 lines number
+CatalogueFault lines (OfScript.Unreadable number) = FaultyAt nothing_listed 0 lines number
 CatalogueFault lines OfScript.Device = ⊥
 CatalogueFault lines OfScript.Memory = ⊤
-
-abbrev pub IsPackage : Said → Type 0
-IsPackage (Lists name versions) = ⊤
-IsPackage _ = ⊥

@@ -28,12 +28,14 @@ abbrev pub requires_command : List (List ℕ) → Option (Command ℕ)
 requires_command (p ∷ r ∷ []) =
     option_and_then (λ parent. option_map (λ required. Requires parent required None) (requirement_of r)) (variable_of p)
 requires_command (p ∷ r ∷ d ∷ []) =
-    option_and_then (λ parent. option_and_then (λ required. option_map (λ disjunction. Requires parent required (Some disjunction)) (clause_of d)) (requirement_of r)) (variable_of p)
+    option_and_then (λ parent. option_and_then (λ required. option_map (λ disjunction. Requires parent required (Some disjunction))
+    (clause_of d)) (requirement_of r)) (variable_of p)
 requires_command _ = None
 
 abbrev pub assign_command : List (List ℕ) → Option (Command ℕ)
 assign_command (v ∷ b ∷ c ∷ l ∷ []) =
-    option_and_then (λ variable. option_and_then (λ value. option_and_then (λ clause. option_map (λ level. Assign variable value clause level)
+    option_and_then (λ variable. option_and_then (λ value. option_and_then (λ clause.
+    option_map (λ level. Assign variable value clause level)
     (number_32 l)) (clause_of c)) (truth_of b)) (variable_of v)
 assign_command _ = None
 

@@ -1,8 +1,10 @@
 pub mod CatalogueEnds
 pub mod CatalogueLines
+pub mod Catalogues
 pub mod Commands
 pub mod Ids
 pub mod Lines
+pub mod Listing
 pub mod Numbers
 pub mod Order
 pub mod OrderLaws

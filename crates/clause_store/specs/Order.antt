@@ -7,7 +7,8 @@ version_at versions s = slice_index_or versions s 0
 
 -- a higher version comes first, and of one version the smaller number
 abbrev pub is_before : List ℕ → ℕ → ℕ → Bool
-is_before versions s t = nat_lt (version_at versions t) (version_at versions s) || ((version_at versions s == version_at versions t) && nat_lt s t)
+is_before versions s t =
+    nat_lt (version_at versions t) (version_at versions s) || ((version_at versions s == version_at versions t) && nat_lt s t)
 
 -- how many at the front come before s
 abbrev pub place_of : List ℕ → ℕ → List ℕ → ℕ

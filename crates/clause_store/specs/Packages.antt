@@ -35,7 +35,8 @@ abbrev pub is_within : VersionRange → ℕ → Bool
 is_within r version = nat_le r.low version && nat_lt version r.high
 
 -- numbers are below where they end
-numbers_below : (first count end : ℕ) → first + count ≤ end → AllByRecursion (λ s. nat_lt s end ≡ true) (numbers first count)
+numbers_below : (first count end : ℕ) → first + count ≤ end
+    → AllByRecursion (λ s. nat_lt s end ≡ true) (numbers first count)
 numbers_below first zero end h = tt
 numbers_below first (suc count) end h =
     let lt : first < end = omega arith in
@@ -51,10 +52,12 @@ span_below first end count h = All-from_recursion _ _ (by_length (end - first) r
     by_length (suc n) e = numbers_below first (suc n) count (omega arith)
 
 -- what a name lists is known
-pub listed_known : (spans : List (Option Span)) (count name : ℕ) → All (λ s. nat_lt s count ≡ true) (listed_numbers (span_of spans count name))
+pub listed_known : (spans : List (Option Span)) (count name : ℕ)
+    → All (λ s. nat_lt s count ≡ true) (listed_numbers (span_of spans count name))
 listed_known spans count name = by_place (slice_get spans name)
   where
-    by_test : (span : Span) (b : Bool) → nat_le span.end count ≡ b → All (λ s. nat_lt s count ≡ true) (listed_numbers (if b then Some span else None))
+    by_test : (span : Span) (b : Bool) → nat_le span.end count ≡ b
+        → All (λ s. nat_lt s count ≡ true) (listed_numbers (if b then Some span else None))
     by_test span true e = span_below span.first span.end count (search rules)
     by_test span false e = All-from_recursion (λ s. nat_lt s count ≡ true) [] tt
 

@@ -31,7 +31,8 @@ truth_text value = if value then codes " true" else codes " false"
 
 abbrev pub undone_text : Option (Decision × ℕ) → List ℕ
 undone_text None = codes "undone"
-undone_text (Some (d, level)) = codes "undone" ++ (field (codes " ") d.variable ++ (truth_text d.value ++ (field (codes " ") d.derived_from ++ field (codes " ") level)))
+undone_text (Some (d, level)) = codes "undone" ++ (field (codes " ") d.variable ++
+    (truth_text d.value ++ (field (codes " ") d.derived_from ++ field (codes " ") level)))
 
 abbrev pub decision_text : QueueDecision → List ℕ
 decision_text d =

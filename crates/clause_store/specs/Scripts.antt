@@ -1,7 +1,8 @@
 -- What a whole script is answered.
-use Rattle.std.specs.Prelude.{◌≡◌, ℕ, List, [], ◌++◌, ◌⊎◌, Option, None, Some}
+use Rattle.std.specs.Prelude.{◌≡◌, ℕ, List, [], ◌⊎◌, Option, None, Some}
 use Rattle.resolvo_store.specs.Store.{new_store}
 use Rattle.clause_store.specs.declared.packages.Packages.{Packages}
+use Rattle.clause_store.specs.Catalogues.{nothing_listed}
 use Rattle.clause_store.specs.CatalogueEnds.{NeverBegins, CommandsBegin, FaultyAt}
 use Rattle.clause_store.specs.Replies.{unreadable_text}
 use Rattle.clause_store.specs.ScriptStore.{provider_of}
@@ -15,10 +16,12 @@ faulty_text (Some number) = unreadable_text number
 -- the commands of a script are answered by this text, over the packages of its catalogue
 abbrev pub CommandsAnswered : List (List ℕ) → List ℕ → Option ℕ → Type 0
 CommandsAnswered lines text faulty =
-    (packages : Packages) × (before : ℕ) × (left : List (List ℕ)) × CommandsBegin 0 lines before left × Answered (new_store (provider_of packages)) before left text faulty
+    (packages : Packages) × (before : ℕ) × (left : List (List ℕ)) × CommandsBegin nothing_listed 0 lines before left packages
+    × Answered (new_store (provider_of packages)) before left text faulty
 
 -- the lines of a script are answered by this text, up to the first unreadable one: it has no commands, or its catalogue
 -- has an unreadable line, or its commands are answered
 abbrev pub ScriptAnswered : List (List ℕ) → List ℕ → Option ℕ → Type 0
-ScriptAnswered lines text None = (NeverBegins lines × (text ≡ [])) ⊎ CommandsAnswered lines text None
-ScriptAnswered lines text (Some number) = (FaultyAt 0 lines number × (text ≡ [])) ⊎ CommandsAnswered lines text (Some number)
+ScriptAnswered lines text None = (NeverBegins nothing_listed lines × (text ≡ [])) ⊎ CommandsAnswered lines text None
+ScriptAnswered lines text (Some number) =
+    (FaultyAt nothing_listed 0 lines number × (text ≡ [])) ⊎ CommandsAnswered lines text (Some number)

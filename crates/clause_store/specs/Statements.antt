@@ -21,4 +21,5 @@ IsSkipped (word ∷ rest) = is_comment word ≡ true
 abbrev pub MeansWords : List ℕ → Line Statement → Type 0
 MeansWords line Unreadable = list_all is_printed line ≡ false
 MeansWords line Skipped = (list_all is_printed line ≡ true) × IsSkipped (words line)
-MeansWords line (Says s) = (list_all is_printed line ≡ true) × (is_comment s.keyword.now ≡ false) × (words line ≡ s.keyword.now ∷ words s.rest.now)
+MeansWords line (Says s) = (list_all is_printed line ≡ true) × (is_comment s.keyword.now ≡ false)
+    × (words line ≡ s.keyword.now ∷ words s.rest.now)

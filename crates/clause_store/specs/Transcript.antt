@@ -16,7 +16,8 @@ use Rattle.clause_store.specs.Replies.{reply_text}
 module _ {N : Type 0} where
   -- a line that says this is obeyed, and a text grows by the reply's line; or the line is unreadable. Nothing is said
   -- where memory was refused
-  abbrev pub ObeysLine : {T : Type 0} → Store N ℕ → Line (ProgramCommand ℕ) → List ℕ → Result T LineFault → List ℕ → Store N ℕ → Type 0
+  abbrev pub ObeysLine : {T : Type 0} → Store N ℕ → Line (ProgramCommand ℕ) → List ℕ → Result T LineFault → List ℕ → Store N ℕ
+      → Type 0
   ObeysLine old said text (Err OfLine.Memory) text' new = ⊤
   ObeysLine old said text (Err OfLine.Unreadable) text' new = (said ≡ Unreadable) × (text' ≡ text)
   ObeysLine old Skipped text (Ok _) text' new = (text' ≡ text) × (new ≡ old)
@@ -25,11 +26,13 @@ module _ {N : Type 0} where
 
   -- a line of this number says this, and what is behind it goes on so from the store that it leaves, with the text that is
   -- left. `faulty` is the number of the first unreadable line, if there is one
-  abbrev pub LineAnswered : Store N ℕ → ℕ → Line (ProgramCommand ℕ) → (Store N ℕ → List ℕ → Type 0) → List ℕ → Option ℕ → Type 0
+  abbrev pub LineAnswered : Store N ℕ → ℕ → Line (ProgramCommand ℕ) → (Store N ℕ → List ℕ → Type 0) → List ℕ → Option ℕ
+      → Type 0
   LineAnswered st number Skipped goes_on text faulty = goes_on st text
   LineAnswered st number Unreadable goes_on text faulty = (text ≡ []) × (faulty ≡ Some number)
   LineAnswered st number (Says c) goes_on text faulty =
-      (reply : Reply) × (mid : Store N ℕ) × (rest : List ℕ) × Step st (command_of c) reply mid × (text ≡ reply_text reply ++ rest) × goes_on mid rest
+      (reply : Reply) × (mid : Store N ℕ) × (rest : List ℕ) × Step st (command_of c) reply mid
+      × (text ≡ reply_text reply ++ rest) × goes_on mid rest
 
   -- the lines, before which so many stand, are answered by this text: a line for each command that was obeyed, in turn, up
   -- to the first unreadable line or the end

@@ -1,6 +1,7 @@
 //! The packages of a script, in plain lists.
-ghost use Rattle.std.specs.Prelude.{◌≡◌, ◌≤◌, ◌^◌, ◌++◌, ◌∷◌, [], length, OnOk, IfErr};
-ghost use Rattle.clause_store.specs.declared.fault.LineFault.TheVariants.{Memory};
+ghost use Rattle.std.specs.Prelude.{◌≡◌, ◌≤◌, ◌^◌, ◌++◌, ◌∷◌, [], ◌⊎◌, length, slice_set, Some, None, IsSome, OnOk, IfErr};
+ghost use Rattle.clause_store.specs.declared.fault.LineFault.TheVariants.{Memory, Unreadable};
+ghost use Rattle.clause_store.specs.Words.{words};
 ghost use Rattle.clause_store.specs.Packages.{span_of};
 
 use crate::fault::LineFault;
@@ -40,8 +41,14 @@ pub struct Packages {
 }
 
 impl Packages {
+    ghost use Rattle.clause_store.specs.Listing.{listed_versions, with_set};
+
     /// No packages.
-    pub fn new(alloc: Global) -> Packages {
+    pub fn new(alloc: Global) -> Packages
+        ensures versions { result.versions.items ≡ [] }
+        ensures spans { result.spans.items ≡ [] }
+        ensures sets { result.sets.keys ≡ [] }
+    {
         Packages {
             versions: Vec::new(alloc),
             spans: Vec::new(alloc),
@@ -61,6 +68,7 @@ impl Packages {
 
     /// Makes room for the solvables of one name more.
     pub fn add_name(&mut self) -> Result<(), LineFault>
+        ensures ok { OnOk result (self.new.spans.items ≡ self.old.spans.items ++ None ∷ []) }
         ensures versions { self.new.versions ≡ self.old.versions }
         ensures sets { self.new.sets ≡ self.old.sets }
         ensures err { IfErr result (λ e. e ≡ Memory) }
@@ -72,7 +80,15 @@ impl Packages {
     }
 
     /// Gives a name its versions, each of which is a solvable. A name is listed once.
-    pub fn list(&mut self, name: NameId, versions: &[u8]) -> Result<(), LineFault> {
+    pub fn list(&mut self, name: NameId, versions: &[u8]) -> Result<(), LineFault>
+        ensures new { OnOk result (span_of self.old.spans.items (length self.old.versions.items) name ≡ None) }
+        ensures ok { OnOk result (Some self.new.versions.items ≡ listed_versions self.old.versions.items (words versions.now)) }
+        ensures span { OnOk result (self.new.spans.items ≡
+            slice_set self.old.spans.items name (Some (record { first = length self.old.versions.items; end = length self.new.versions.items }))) }
+        ensures unreadable { IfErr result (λ e. e ≡ Unreadable →
+            IsSome (span_of self.old.spans.items (length self.old.versions.items) name) ⊎ (listed_versions self.old.versions.items (words versions.now) ≡ None)) }
+        ensures sets { self.new.sets ≡ self.old.sets }
+    {
         if self.span(name).is_some() {
             return Err(LineFault::Unreadable);
         }
@@ -86,7 +102,12 @@ impl Packages {
     }
 
     /// Makes a solvable of each version in the text.
-    fn push_versions(&mut self, text: &[u8]) -> Result<(), LineFault> {
+    fn push_versions(&mut self, text: &[u8]) -> Result<(), LineFault>
+        ensures ok { OnOk result (Some self.new.versions.items ≡ listed_versions self.old.versions.items (words text.now)) }
+        ensures unreadable { IfErr result (λ e. e ≡ Unreadable → listed_versions self.old.versions.items (words text.now) ≡ None) }
+        ensures spans { self.new.spans ≡ self.old.spans }
+        ensures sets { self.new.sets ≡ self.old.sets }
+    {
         let mut rest = text;
         while let Some((word, others)) = next_word(rest) {
             match id(word) {
@@ -116,6 +137,7 @@ impl Packages {
 
     /// Adds a version set, if it isn't there.
     pub fn add_set(&mut self, range: VersionRange) -> Result<(), LineFault>
+        ensures ok { OnOk result (self.new.sets.keys ≡ with_set self.old.sets.keys range) }
         ensures versions { self.new.versions ≡ self.old.versions }
         ensures spans { self.new.spans ≡ self.old.spans }
         ensures err { IfErr result (λ e. e ≡ Memory) }

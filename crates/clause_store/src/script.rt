@@ -2,6 +2,7 @@
 ghost use Rattle.std.specs.Prelude.{◌≡◌, ℕ, List, [], ◌++◌, ◌+◌, ◌^◌, ◌<◌, length, IfOk, IfErr, IfSome, MatchOption};
 ghost use Rattle.resolvo_store.specs.Store.{new_store};
 ghost use Rattle.clause_store.specs.declared.fault.ScriptFault.TheVariants.{Device, Memory};
+ghost use Rattle.clause_store.specs.Catalogues.{nothing_listed};
 ghost use Rattle.clause_store.specs.CatalogueEnds.{NeverBegins, CommandsBegin, CatalogueFault};
 ghost use Rattle.clause_store.specs.Lines.{lines as lines_of};
 ghost use Rattle.clause_store.specs.Commands.{command_line_of};
@@ -87,7 +88,8 @@ fn obey_text<W: Write>(
 
 /// Reads a catalogue, up to its `begin`; there may be none.
 fn read_catalogue(alloc: Global, text: &[u8]) -> Result<Option<Commands<'_>>, ScriptFault>
-    ensures ok { IfOk result (λ o. MatchOption o (NeverBegins (lines_of text.now)) (λ c. CommandsBegin 0 (lines_of text.now) c.before (lines_of c.lines.now))) }
+    ensures ok { IfOk result (λ o. MatchOption o (NeverBegins nothing_listed (lines_of text.now))
+        (λ c. CommandsBegin nothing_listed 0 (lines_of text.now) c.before (lines_of c.lines.now) c.packages)) }
     ensures err { IfErr result (CatalogueFault (lines_of text.now)) }
 {
     let mut catalogue = Catalogue::new(alloc);
