@@ -1,5 +1,5 @@
 -- The refusals: their numbers, and which of them a growth may answer.
-use Rattle.std.specs.Prelude.{ℕ, Bool, IsTrue, ⊤}
+use Rattle.std.specs.Prelude.{ℕ, Bool, IsTrue, ⊤, ◌^◌, min, nat_le}
 use Rattle.resolvo_ids.specs.declared.error.StoreError.{StoreError}
 use Rattle.resolvo_ids.specs.declared.error.StoreError.TheVariants.{OutOfMemory, IdSpace, UnknownId, LevelOutOfRange, NotLoaded, NegatesParent, BadWatch, BadLearnt, EmptyTrail, BadFraction, TooManyClauses, Cancelled}
 
@@ -23,3 +23,11 @@ abbrev pub IsGrowthRefusal : Bool → StoreError → Type 0
 IsGrowthRefusal ids_out OutOfMemory = ⊤
 IsGrowthRefusal ids_out IdSpace = IsTrue ids_out
 IsGrowthRefusal ids_out _ = ⊥
+
+-- dense storage ends before 2^40: it can't hold this index
+abbrev pub is_too_dense : ℕ → Bool
+is_too_dense index = nat_le (2 ^ 40) index
+
+-- of ids that end before the limit none is left behind the first so many
+abbrev pub are_ids_out : ℕ → ℕ → Bool
+are_ids_out limit count = nat_le (min limit (2 ^ 40)) count

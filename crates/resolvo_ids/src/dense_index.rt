@@ -33,6 +33,30 @@ pub trait DenseIndex: Copy {
     ghost distinct: { (a b : Self) → index_of a ≡ index_of b → a ≡ b };
 }
 
+impl DenseIndex for u16 {
+    ghost limit = { 2 ^ 16 };
+
+    ghost index_of = { λ x. x };
+
+    ghost id_at = { λ x. x };
+
+    ghost round_trip = { λ x h. refl };
+
+    ghost distinct = { λ a b h. h };
+
+    fn in_range(index: usize) -> bool {
+        index <= u16::MAX as usize
+    }
+
+    fn from_index(index: usize) -> u16 {
+        index as u16
+    }
+
+    fn to_index(self) -> usize {
+        usize::from(self)
+    }
+}
+
 impl DenseIndex for u32 {
     ghost limit = { 2 ^ 32 };
 
@@ -54,5 +78,29 @@ impl DenseIndex for u32 {
 
     fn to_index(self) -> usize {
         self as usize
+    }
+}
+
+impl DenseIndex for u64 {
+    ghost limit = { 2 ^ 64 };
+
+    ghost index_of = { λ x. x };
+
+    ghost id_at = { λ x. x };
+
+    ghost round_trip = { λ x h. refl };
+
+    ghost distinct = { λ a b h. h };
+
+    fn in_range(index: usize) -> bool {
+        index <= u64::MAX as usize
+    }
+
+    fn from_index(index: usize) -> u64 {
+        index as u64
+    }
+
+    fn to_index(self) -> usize {
+        self as usize // of 64 bits, too
     }
 }

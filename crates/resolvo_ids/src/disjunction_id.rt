@@ -7,9 +7,7 @@ const COUNT: usize = 4294967295;
 
 /// The literals of a condition, kept by a store.
 #[derive(Clone, Copy, Debug, PartialEq, Eq, PartialOrd, Ord, Hash)]
-pub struct DisjunctionId {
-    raw: u32,
-}
+pub struct DisjunctionId(u32);
 
 impl Model for DisjunctionId {
     ghost use Rattle.std.specs.Prelude.{◌≡◌, ℕ, ◌-◌, ◌+◌, ◌<◌, ◌≤◌, ◌^◌};
@@ -17,13 +15,13 @@ impl Model for DisjunctionId {
 
     ghost Value = { ℕ };
 
-    ghost view = { λ a. a.raw - 1 };
+    ghost view = { λ a. a.0 - 1 };
 
-    ghost invariant = { λ a. (1 ≤ a.raw) × (a.raw < 2 ^ 32) };
+    ghost invariant = { λ a. (1 ≤ a.0) × (a.0 < 2 ^ 32) };
 
-    ghost inverse = { λ n. record { raw = n + 1 } };
+    ghost inverse = { λ n. record { 0 = n + 1 } };
 
-    ghost inverse_ok = { λ a h. let e : a.raw - 1 + 1 ≡ a.raw = Prim.omega arith in ap (λ (n : ℕ). record { raw = n }) e };
+    ghost inverse_ok = { λ a h. let e : a.0 - 1 + 1 ≡ a.0 = Prim.omega arith in ap (λ (n : ℕ). record { 0 = n }) e };
 }
 
 impl DenseIndex for DisjunctionId {
@@ -44,12 +42,10 @@ impl DenseIndex for DisjunctionId {
     }
 
     fn from_index(index: usize) -> DisjunctionId {
-        DisjunctionId {
-            raw: index as u32 + 1,
-        }
+        DisjunctionId(index as u32 + 1)
     }
 
     fn to_index(self) -> usize {
-        (self.raw - 1) as usize
+        (self.0 - 1) as usize
     }
 }

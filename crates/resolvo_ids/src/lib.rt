@@ -12,6 +12,7 @@ mod disjunction_id;
 mod error;
 mod id;
 mod id_map;
+mod insert_error;
 mod solver_id;
 mod variable_id;
 
@@ -23,5 +24,6 @@ pub use disjunction_id::DisjunctionId;
 pub use error::StoreError;
 pub use id::{VersionSetId, VersionSetUnionId};
 pub use id_map::IdMap;
+pub use insert_error::InsertError;
 pub use solver_id::{SameId, SolverId};
 pub use variable_id::VariableId;

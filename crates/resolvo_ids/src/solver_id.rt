@@ -15,7 +15,19 @@ pub trait SameId: Copy + Eq + Hash + Debug {
     ghost same: { (a b : Self) → Self.eq a b ≡ true → a ≡ b };
 }
 
+impl SameId for u16 {
+    ghost use Rattle.std.proofs.Common.{rules};
+
+    ghost same = { λ a b h. Prim.search rules };
+}
+
 impl SameId for u32 {
+    ghost use Rattle.std.proofs.Common.{rules};
+
+    ghost same = { λ a b h. Prim.search rules };
+}
+
+impl SameId for u64 {
     ghost use Rattle.std.proofs.Common.{rules};
 
     ghost same = { λ a b h. Prim.search rules };

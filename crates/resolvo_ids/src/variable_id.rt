@@ -9,9 +9,7 @@ const COUNT: usize = 2147483647;
 
 /// A variable: 0 is the root's. Indexes end at 2^31 - 2, so that each variable has two literals of 32 bits.
 #[derive(Clone, Copy, Debug, PartialEq, Eq, PartialOrd, Ord, Hash)]
-pub struct VariableId {
-    raw: u32,
-}
+pub struct VariableId(u32);
 
 impl Model for VariableId {
     ghost use Rattle.std.specs.Prelude.{◌≡◌, ℕ, ◌-◌, ◌+◌, ◌<◌, ◌≤◌, ◌^◌};
@@ -19,13 +17,13 @@ impl Model for VariableId {
 
     ghost Value = { ℕ };
 
-    ghost view = { λ a. a.raw - 1 };
+    ghost view = { λ a. a.0 - 1 };
 
-    ghost invariant = { λ a. (1 ≤ a.raw) × (a.raw < 2 ^ 31) };
+    ghost invariant = { λ a. (1 ≤ a.0) × (a.0 < 2 ^ 31) };
 
-    ghost inverse = { λ n. record { raw = n + 1 } };
+    ghost inverse = { λ n. record { 0 = n + 1 } };
 
-    ghost inverse_ok = { λ a h. let e : a.raw - 1 + 1 ≡ a.raw = Prim.omega arith in ap (λ (n : ℕ). record { raw = n }) e };
+    ghost inverse_ok = { λ a h. let e : a.0 - 1 + 1 ≡ a.0 = Prim.omega arith in ap (λ (n : ℕ). record { 0 = n }) e };
 }
 
 impl VariableId {
@@ -33,14 +31,14 @@ impl VariableId {
     pub fn root() -> VariableId
         ensures { result ≡ 0 }
     {
-        VariableId { raw: 1 }
+        VariableId(1)
     }
 
     /// Whether it is the variable of the root.
     pub fn is_root(self) -> bool
         ensures { IsTrue result ↔ (self ≡ 0) }
     {
-        self.raw == 1
+        self.0 == 1
     }
 }
 
@@ -62,12 +60,10 @@ impl DenseIndex for VariableId {
     }
 
     fn from_index(index: usize) -> VariableId {
-        VariableId {
-            raw: index as u32 + 1,
-        }
+        VariableId(index as u32 + 1)
     }
 
     fn to_index(self) -> usize {
-        (self.raw - 1) as usize
+        (self.0 - 1) as usize
     }
 }

@@ -1,0 +1,3 @@
+//! Tests of the ids and their storage, by the calls that they name.
+#![tactic(auto)]
+

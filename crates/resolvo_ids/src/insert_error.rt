@@ -1,0 +1,23 @@
+//! What a refused insertion hands back.
+use crate::error::StoreError;
+use thiserror::Error;
+
+/// A refused insertion: why, and the value that was to be kept, which stands nowhere.
+#[derive(Clone, Copy, Debug, Drop, PartialEq, Eq, Error)]
+#[error("{error}")]
+pub struct InsertError<V> {
+    /// Why.
+    pub error: StoreError,
+    /// The value.
+    pub value: V,
+}
+
+impl<V: Drop> From<InsertError<V>> for StoreError {
+    ghost use Rattle.std.specs.Prelude.{◌≡◌};
+
+    ghost from_gives = { λ refused e. e ≡ refused.error };
+
+    fn from(refused: InsertError<V>) -> StoreError {
+        refused.error
+    }
+}
