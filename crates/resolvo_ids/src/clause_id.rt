@@ -1,4 +1,6 @@
 //! Clauses. An id is kept as its index plus one, which its `Debug` text shows; a contract sees the index.
+ghost use Rattle.std.specs.Prelude.{◌≡◌};
+
 use crate::dense_index::DenseIndex;
 use std::marker::Model;
 
@@ -22,6 +24,15 @@ impl Model for ClauseId {
     ghost inverse = { λ n. record { 0 = n + 1 } };
 
     ghost inverse_ok = { λ a h. let e : a.0 - 1 + 1 ≡ a.0 = Prim.omega arith in ap (λ (n : ℕ). record { 0 = n }) e };
+}
+
+impl ClauseId {
+    /// The clause with index 0, which in a solver is the one that installs the root.
+    pub fn install_root() -> ClauseId
+        ensures { result ≡ 0 }
+    {
+        ClauseId(1)
+    }
 }
 
 impl DenseIndex for ClauseId {

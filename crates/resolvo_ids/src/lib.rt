@@ -4,26 +4,38 @@
 //! in an id asks only for [`SolverId`], which chooses the maps itself.
 #![tactic(auto)]
 
+mod candidates_id;
 mod clause_id;
+mod condition_id;
 mod default_value;
 mod dense_id;
 mod dense_index;
+mod dependencies_id;
 mod disjunction_id;
 mod error;
-mod id;
 mod id_map;
 mod insert_error;
+mod learnt_clause_id;
 mod solver_id;
+mod string_id;
 mod variable_id;
+mod version_set_id;
+mod version_set_union_id;
 
+pub use candidates_id::CandidatesId;
 pub use clause_id::ClauseId;
+pub use condition_id::ConditionId;
 pub use default_value::{DefaultValue, Slot};
 pub use dense_id::{DenseId, NameId, NameTag, SolvableId, SolvableTag};
 pub use dense_index::DenseIndex;
+pub use dependencies_id::DependenciesId;
 pub use disjunction_id::DisjunctionId;
 pub use error::StoreError;
-pub use id::{VersionSetId, VersionSetUnionId};
 pub use id_map::IdMap;
 pub use insert_error::InsertError;
+pub use learnt_clause_id::LearntClauseId;
 pub use solver_id::{SameId, SolverId};
+pub use string_id::StringId;
 pub use variable_id::VariableId;
+pub use version_set_id::VersionSetId;
+pub use version_set_union_id::VersionSetUnionId;

@@ -1,0 +1,71 @@
+//! Conditions. An id is kept as its index plus one, which its `Debug` text shows; a contract sees the index.
+ghost use Rattle.std.specs.Prelude.{◌≡◌, ◌<◌};
+
+use crate::dense_index::DenseIndex;
+use std::marker::Model;
+
+/// How many ids there are: 2^32 - 1.
+const COUNT: usize = 4294967295;
+
+/// A condition of a requirement, interned in a pool.
+#[derive(Clone, Copy, Debug, PartialEq, Eq, PartialOrd, Ord, Hash)]
+pub struct ConditionId(u32);
+
+impl Model for ConditionId {
+    ghost use Rattle.std.specs.Prelude.{◌≡◌, ℕ, ◌-◌, ◌+◌, ◌<◌, ◌≤◌, ◌^◌};
+    ghost use Rattle.std.proofs.Common.{arith, ap};
+
+    ghost Value = { ℕ };
+
+    ghost view = { λ a. a.0 - 1 };
+
+    ghost invariant = { λ a. (1 ≤ a.0) × (a.0 < 2 ^ 32) };
+
+    ghost inverse = { λ n. record { 0 = n + 1 } };
+
+    ghost inverse_ok = { λ a h. let e : a.0 - 1 + 1 ≡ a.0 = Prim.omega arith in ap (λ (n : ℕ). record { 0 = n }) e };
+}
+
+impl ConditionId {
+    /// The condition with this index.
+    pub fn new(index: u32) -> ConditionId
+        requires { index < u32.MAX }
+        ensures { result ≡ index }
+    {
+        ConditionId(index + 1)
+    }
+
+    /// The index.
+    pub fn as_u32(self) -> u32
+        ensures { result ≡ self }
+    {
+        let raw = self.0;
+        raw - 1
+    }
+}
+
+impl DenseIndex for ConditionId {
+    ghost use Rattle.std.specs.Prelude.{◌^◌, ◌-◌, refl};
+
+    ghost limit = { 2 ^ 32 - 1 };
+
+    ghost index_of = { λ x. x };
+
+    ghost id_at = { λ x. x };
+
+    ghost round_trip = { λ x h. refl };
+
+    ghost distinct = { λ a b h. h };
+
+    fn in_range(index: usize) -> bool {
+        index < COUNT
+    }
+
+    fn from_index(index: usize) -> ConditionId {
+        ConditionId(index as u32 + 1)
+    }
+
+    fn to_index(self) -> usize {
+        (self.0 - 1) as usize
+    }
+}

@@ -1,0 +1,51 @@
+//! Dependencies of solvables. An id is kept as its index plus one, which its `Debug` text shows; a contract sees the index.
+use crate::dense_index::DenseIndex;
+use std::marker::Model;
+
+/// How many ids there are: 2^32 - 1.
+const COUNT: usize = 4294967295;
+
+/// The dependencies of one solvable, kept by a cache.
+#[derive(Clone, Copy, Debug, PartialEq, Eq, Hash)]
+pub struct DependenciesId(u32);
+
+impl Model for DependenciesId {
+    ghost use Rattle.std.specs.Prelude.{◌≡◌, ℕ, ◌-◌, ◌+◌, ◌<◌, ◌≤◌, ◌^◌};
+    ghost use Rattle.std.proofs.Common.{arith, ap};
+
+    ghost Value = { ℕ };
+
+    ghost view = { λ a. a.0 - 1 };
+
+    ghost invariant = { λ a. (1 ≤ a.0) × (a.0 < 2 ^ 32) };
+
+    ghost inverse = { λ n. record { 0 = n + 1 } };
+
+    ghost inverse_ok = { λ a h. let e : a.0 - 1 + 1 ≡ a.0 = Prim.omega arith in ap (λ (n : ℕ). record { 0 = n }) e };
+}
+
+impl DenseIndex for DependenciesId {
+    ghost use Rattle.std.specs.Prelude.{◌^◌, ◌-◌, refl};
+
+    ghost limit = { 2 ^ 32 - 1 };
+
+    ghost index_of = { λ x. x };
+
+    ghost id_at = { λ x. x };
+
+    ghost round_trip = { λ x h. refl };
+
+    ghost distinct = { λ a b h. h };
+
+    fn in_range(index: usize) -> bool {
+        index < COUNT
+    }
+
+    fn from_index(index: usize) -> DependenciesId {
+        DependenciesId(index as u32 + 1)
+    }
+
+    fn to_index(self) -> usize {
+        (self.0 - 1) as usize
+    }
+}

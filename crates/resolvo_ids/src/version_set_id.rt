@@ -1,0 +1,33 @@
+//! Version sets.
+use crate::dense_index::DenseIndex;
+
+/// A set of versions of one package.
+#[derive(Clone, Copy, Debug, Default, PartialEq, Eq, PartialOrd, Ord, Hash)]
+pub struct VersionSetId(pub u32);
+
+impl DenseIndex for VersionSetId {
+    ghost use Rattle.std.specs.Prelude.{◌^◌, ℕ, refl};
+    ghost use Rattle.std.proofs.Common.{ap};
+
+    ghost limit = { 2 ^ 32 };
+
+    ghost index_of = { λ x. x.0 };
+
+    ghost id_at = { λ n. record { 0 = n } };
+
+    ghost round_trip = { λ x h. refl };
+
+    ghost distinct = { λ a b h. ap (λ (n : ℕ). record { 0 = n }) h };
+
+    fn in_range(index: usize) -> bool {
+        index <= u32::MAX as usize
+    }
+
+    fn from_index(index: usize) -> VersionSetId {
+        VersionSetId(index as u32)
+    }
+
+    fn to_index(self) -> usize {
+        self.0 as usize
+    }
+}
