@@ -3,7 +3,7 @@ use Rattle.std.specs.Prelude.{ℕ, Bool, ◌==◌, ◌&&◌, if◌then◌else◌
 use Rattle.std.specs.List.{list_any}
 use Rattle.std.specs.Map.{lookup}
 use Rattle.std.specs.declared.vec.Vec.{Vec}
-use Rattle.resolvo_ids.specs.declared.id.VersionSetId.{VersionSetId}
+use Rattle.resolvo_ids.specs.declared.version_set_id.VersionSetId.{VersionSetId}
 use Rattle.resolvo_pool.specs.Provider.{sets_of}
 use Rattle.resolvo_pool.specs.Requirement.{same_requirement}
 use Rattle.resolvo_pool.specs.declared.requirement.Requirement.{Requirement}

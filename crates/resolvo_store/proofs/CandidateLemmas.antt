@@ -2,7 +2,7 @@
 use Rattle.std.proofs.Common.{◌≡◌, true, List}
 use Rattle.std.specs.Prelude.{All}
 use Rattle.std.proofs.lemmas.List.Elements.{All-filter}
-use Rattle.resolvo_ids.specs.declared.id.VersionSetId.{VersionSetId}
+use Rattle.resolvo_ids.specs.declared.version_set_id.VersionSetId.{VersionSetId}
 use Rattle.resolvo_pool.specs.Provider.{Catalogue, Answers, matching}
 
 -- what a version set holds is known, where all candidates are

@@ -1,7 +1,7 @@
 -- The conflict flag over one version set's list.
 use Rattle.std.proofs.Common.{◌≡◌, ℕ, Bool, true, false, not, ◌&&◌, List, [], ◌∷◌, ◌∙◌, ap, refl, Option, Some, None}
 use Rattle.std.specs.List.{list_all}
-use Rattle.resolvo_ids.specs.declared.id.VersionSetId.{VersionSetId}
+use Rattle.resolvo_ids.specs.declared.version_set_id.VersionSetId.{VersionSetId}
 use Rattle.resolvo_clauses.specs.Literals.{Values, known_false}
 use Rattle.resolvo_queue.specs.Rows.{Row, list_rows}
 use Rattle.resolvo_store.specs.Outcome.{is_conflict}

@@ -1,7 +1,7 @@
 -- The abstract store, and what a clause store keeps of it. N are the names, S the solvables.
 use Rattle.std.specs.Prelude.{ℕ, Bool, List, [], ◌∷◌, Option, unwrap_or}
 use Rattle.std.specs.Map.{lookup}
-use Rattle.resolvo_ids.specs.declared.id.VersionSetId.{VersionSetId}
+use Rattle.resolvo_ids.specs.declared.version_set_id.VersionSetId.{VersionSetId}
 use Rattle.resolvo_pool.specs.declared.requirement.Requirement.{Requirement}
 use Rattle.resolvo_pool.specs.Requirement.{same_requirement}
 use Rattle.resolvo_pool.specs.Provider.{Catalogue, Answers, sorted, sets_of}

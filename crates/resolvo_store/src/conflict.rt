@@ -1,7 +1,7 @@
 //! Whether a new clause is a conflict.
 ghost use Rattle.std.specs.Prelude.{◌≡◌, map};
 ghost use Rattle.std.specs.List.{list_all};
-ghost use Rattle.resolvo_ids.specs.declared.id.VersionSetId.{VersionSetId};
+ghost use Rattle.resolvo_ids.specs.declared.version_set_id.VersionSetId.{VersionSetId};
 ghost use Rattle.resolvo_pool.specs.Provider.{sets_of};
 ghost use Rattle.resolvo_clauses.specs.Decisions.{values_in};
 ghost use Rattle.resolvo_clauses.specs.Literals.{known_false};
