@@ -1,0 +1,32 @@
+//! Measures the storage that is kept by ids, each call beside the same loop over a plain `Vec`, in one run.
+//!
+//! Without an argument it prints nothing and ends. With one it prints a line for each call and each number of values:
+//! nanoseconds a call, of the storage and of the `Vec`.
+#![tactic(auto)]
+
+mod arena;
+mod fault;
+mod indexed_set;
+mod mapping;
+mod order;
+mod report;
+
+use fault::Fault;
+use std::env;
+
+/// Numbers of values.
+const SIZES: [u32; 4] = [1000, 10000, 100000, 1000000];
+
+fn main(rt: HostRuntime) -> Result<(), Fault> {
+    if env::args(&rt)?.count() < 2 {
+        return Ok(());
+    }
+    println!(rt; "| call | values | ns | ns of a Vec |")?;
+    println!(rt; "|---|---|---|---|")?;
+    for size in SIZES {
+        mapping::measure(&rt, size)?;
+        arena::measure(&rt, size)?;
+        indexed_set::measure(&rt, size)?;
+    }
+    Ok(())
+}

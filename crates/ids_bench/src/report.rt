@@ -1,0 +1,52 @@
+//! Lines of the table.
+use std::io;
+use std::rt::Clock;
+use std::time::{Duration, Instant};
+
+/// What a loop took, and the sum of what its calls answered.
+#[derive(Clone, Copy, Debug)]
+pub(crate) struct Measured {
+    took: Duration,
+    sum: u64,
+}
+
+impl Measured {
+    /// A loop that began at the start, and ends now.
+    pub(crate) fn since(rt: &impl Clock, start: Instant, sum: u64) -> io::Result<Measured> {
+        let took = start.elapsed(rt)?;
+        Ok(Measured { took, sum })
+    }
+
+    /// Tenths of a nanosecond a call.
+    fn tenths(&self, calls: u64) -> u128 {
+        self.took
+            .as_nanos()
+            .saturating_mul(10)
+            .checked_div(u128::from(calls))
+            .unwrap_or(0)
+    }
+}
+
+/// Writes the line of a call, which both loops made so often for each of so many values. They must have answered alike.
+pub(crate) fn line(
+    rt: &(impl Print + AllocGlobal),
+    call: &str,
+    size: u32,
+    rounds: u32,
+    ours: Measured,
+    plain: Measured,
+) -> io::Result<()> {
+    if ours.sum != plain.sum {
+        return println!(rt; "| {call} | {size} | the answers differ | |");
+    }
+    let calls = u64::from(size).saturating_mul(u64::from(rounds));
+    let ours = ours.tenths(calls);
+    let plain = plain.tenths(calls);
+    println!(rt;
+        "| {call} | {size} | {}.{} | {}.{} |",
+        ours / 10,
+        ours % 10,
+        plain / 10,
+        plain % 10
+    )
+}
