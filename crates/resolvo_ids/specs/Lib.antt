@@ -1,2 +1,4 @@
 pub mod Refusals
 pub mod TotalMaps
+pub mod Arena
+pub mod ArenaLends

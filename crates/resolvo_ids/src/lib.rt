@@ -4,6 +4,8 @@
 //! in an id asks only for [`SolverId`], which chooses the maps itself.
 #![tactic(auto)]
 
+mod arena;
+mod arena_iter;
 mod clause_id;
 mod default_value;
 mod dense_id;
@@ -16,6 +18,8 @@ mod insert_error;
 mod solver_id;
 mod variable_id;
 
+pub use arena::Arena;
+pub use arena_iter::ArenaIter;
 pub use clause_id::ClauseId;
 pub use default_value::{DefaultValue, Slot};
 pub use dense_id::{DenseId, NameId, NameTag, SolvableId, SolvableTag};
