@@ -1,4 +1,3 @@
 pub mod Refusals
 pub mod TotalMaps
 pub mod Arena
-pub mod ArenaLends

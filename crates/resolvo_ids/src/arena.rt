@@ -116,8 +116,11 @@ impl<TId: DenseIndex, V, A: Allocator> Arena<TId, V, A> {
     }
 
     /// The ids with their values, in the order of the ids.
+    #[tactic(auto, using(crate::proofs::ArenaLemmas::count_of_pairs))]
     pub fn iter(&self) -> ArenaIter<'_, TId, V>
-        ensures { result ≡ pairs_from TId.id_at 0 self.now }
+        ensures pairs { result ≡ pairs_from TId.id_at 0 self.now }
+        ensures len { length result ≡ length self.now }
+        ensures fits { length result ≤ 2 ^ 40 }
     {
         ArenaIter::new(self.values.as_slice())
     }
@@ -138,7 +141,7 @@ impl<TId: DenseIndex, V, A: Allocator> Index<TId> for Arena<TId, V, A> {
 
 /// The value of an id in use, to be changed: no other value is.
 impl<TId: DenseIndex, V, A: Allocator> IndexMut<TId> for Arena<TId, V, A> {
-    ghost use Rattle.resolvo_ids.specs.ArenaLends.{lends_value};
+    ghost use Rattle.resolvo_ids.specs.Arena.{lends_value};
 
     fn index_mut(&mut self, id: TId) -> &mut V
         requires { TId.index_of id < length self.old }
