@@ -1,3 +1,8 @@
 //! Tests of the ids and their storage, by the calls that they name.
 #![tactic(auto)]
 
+#[cfg(test)]
+mod arena;
+mod arena_callers;
+
+pub use arena_callers::{added, count, pairs, replace, total};
