@@ -3,3 +3,6 @@
 
 #[cfg(test)]
 mod ids;
+mod arena;
+mod arena_callers;
+pub use arena_callers::{added, count, pairs, replace, total};

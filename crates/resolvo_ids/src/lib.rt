@@ -5,6 +5,8 @@
 #![tactic(auto)]
 
 mod candidates_id;
+mod arena;
+mod arena_iter;
 mod clause_id;
 mod condition_id;
 mod default_value;
@@ -23,6 +25,8 @@ mod version_set_id;
 mod version_set_union_id;
 
 pub use candidates_id::CandidatesId;
+pub use arena::Arena;
+pub use arena_iter::ArenaIter;
 pub use clause_id::ClauseId;
 pub use condition_id::ConditionId;
 pub use default_value::{DefaultValue, Slot};
