@@ -1,2 +1,4 @@
+pub mod Mapping
+pub mod MappingLends
 pub mod Refusals
 pub mod TotalMaps

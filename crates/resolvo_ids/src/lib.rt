@@ -13,6 +13,8 @@ mod error;
 mod id;
 mod id_map;
 mod insert_error;
+mod mapping;
+mod mapping_iter;
 mod solver_id;
 mod variable_id;
 
@@ -25,5 +27,7 @@ pub use error::StoreError;
 pub use id::{VersionSetId, VersionSetUnionId};
 pub use id_map::IdMap;
 pub use insert_error::InsertError;
+pub use mapping::Mapping;
+pub use mapping_iter::MappingIter;
 pub use solver_id::{SameId, SolverId};
 pub use variable_id::VariableId;
