@@ -65,8 +65,8 @@ impl<TId: DenseIndex, V, A: Allocator> Mapping<TId, V, A> {
         Self::with_capacity(alloc, 1)
     }
 
-    #[tactic(auto, using(crate::proofs::MappingLemmas::no_value_in_empty))]
     /// The map without values that has whole chunks for the indexes below `n`, one at least.
+    #[tactic(auto, using(crate::proofs::MappingLemmas::no_value_in_empty))]
     pub fn with_capacity(alloc: A, n: usize) -> Result<Self, StoreError>
         ensures slots { IfOk result (λ m. length m ≡ slots_for (n - 1)) }
         ensures empty { IfOk result AreEmpty }
@@ -93,16 +93,17 @@ impl<TId: DenseIndex, V, A: Allocator> Mapping<TId, V, A> {
         }
     }
 
-    /// The number of slots. Ids with an index below it take no memory.
+    /// The number of slots. Values at indexes below it take no memory.
     pub fn capacity(&self) -> usize
         ensures { result ≡ length self.now }
     {
         self.slots.len()
     }
 
-    /// The number of slots, filled or not.
+    /// The number of slots, filled or not: whole chunks, and one at least.
     pub fn slots(&self) -> usize
-        ensures { result ≡ length self.now }
+        ensures value { result ≡ length self.now }
+        ensures chunks { (128 ≤ result) × (result % 128 ≡ 0) }
     {
         self.slots.len()
     }
@@ -207,8 +208,8 @@ impl<TId: DenseIndex, V, A: Allocator> Mapping<TId, V, A> {
         earlier
     }
 
-    #[tactic(auto, using(crate::proofs::MappingLemmas::length_of_pairs))]
     /// All ids and values, in the order of the ids' indexes. Takes no memory.
+    #[tactic(auto, using(crate::proofs::MappingLemmas::length_of_pairs))]
     pub fn iter(&self) -> MappingIter<'_, TId, V>
         ensures pairs { result ≡ pairs TId.id_at self.now }
         ensures count { length result ≡ value_count self.now }
@@ -228,8 +229,8 @@ impl<TId: DenseIndex, V, A: Allocator> Mapping<TId, V, A> {
         self.slots[id.to_index()].as_mut()
     }
 
-    /// The id's value, to be changed; where it has none, it is given what `default` answers. A refusal leaves all as it
-    /// was and doesn't call `default`, and nor does a value that stands there.
+    /// The id's value, to be changed. An id without one is first given what `default` answers, which isn't called
+    /// otherwise, nor by a refusal.
     pub fn get_or_insert_with<F: FnOnce() -> V>(
         &mut self,
         id: TId,

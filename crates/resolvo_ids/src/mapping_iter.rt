@@ -1,4 +1,4 @@
-//! What a map's values and their ids come from, one by one.
+//! The walk through the ids and values of a map.
 ghost use Rattle.std.specs.Prelude.{◌≡◌};
 ghost use Rattle.std.specs.Iterator.{YieldsFirstBy, item_count};
 ghost use Rattle.resolvo_ids.specs.Mapping.{IsTail, pairs};
@@ -10,7 +10,7 @@ use std::marker::{Model, PhantomData};
 /// The ids and values of a [`Mapping`](crate::Mapping), in the order of the ids' indexes. A contract sees the list of
 /// those that are left.
 ///
-/// It passes over each slot, filled or not, so a walk takes time with the slots.
+/// A walk takes time with the slots, filled or not. Nothing comes after its end.
 #[derive(Drop)]
 pub struct MappingIter<'a, TId: DenseIndex, V> {
     /// The slots that are left.
