@@ -1,1 +1,2 @@
 pub mod ArenaLemmas
+pub mod MappingLemmas

@@ -1,3 +1,5 @@
+pub mod Mapping
+pub mod MappingLends
 pub mod Refusals
 pub mod TotalMaps
 pub mod Arena
