@@ -1,2 +1,4 @@
+pub mod IndexedSet
 pub mod Refusals
 pub mod TotalMaps
+pub mod WithRoot
