@@ -1,5 +1,6 @@
 //! Keys that are the root or a solvable.
 ghost use Rattle.std.specs.Prelude.{◌≡◌};
+ghost use Rattle.resolvo_ids.specs.declared.solvable_id_or_root.SolvableIdOrRoot.TheVariants.{Root};
 ghost use Rattle.resolvo_ids.specs.WithRoot.{solvable_of};
 
 use crate::solver_id::SameId;
@@ -43,7 +44,7 @@ impl<S> From<S> for SolvableIdOrRoot<S> {
 }
 
 impl<S: SameId> SameId for SolvableIdOrRoot<S> {
-    ghost use Rattle.resolvo_ids.specs.WithRoot.{same_key};
+    ghost use Rattle.std.proofs.Common.{rules};
 
-    ghost same = { λ a b h. same_key S.eq S.same a b h };
+    ghost same = { λ a b h. Prim.search rules };
 }
