@@ -1,10 +1,9 @@
 -- The bits of words.
-use Rattle.std.proofs.Common.{◌≡◌, ℕ, ◌+◌, ◌-◌, ◌*◌, ◌/◌, ◌%◌, ◌^◌, ◌<◌, ◌≤◌, ◌⊎◌, Bool, true, false, not, IsTrue, eqb, List, length, get_or, set, ◌++◌, replicate, refl, sym, ◌∙◌, ap, inl, inr, arith, get_or-set_same, get_or-set_other, eq-eqb, ne_eqb, w64, true≢false}
-use Rattle.std.proofs.lemmas.List.{get_or_past}
-use Rattle.std.proofs.lemmas.Bool.{cases_eq, cases_lt}
+use Rattle.std.proofs.Common.{◌≡◌, ℕ, ◌*◌, ◌/◌, ◌%◌, ◌^◌, ◌<◌, true, not, eqb, List, length, get_or, set, sym, ◌∙◌, ap, inl, inr, arith, get_or-set_same, get_or-set_other, eq-eqb, ne_eqb, w64}
+use Rattle.std.proofs.lemmas.Bool.{cases_eq}
 use Rattle.std.proofs.lemmas.Nat.{one_shl, pow_pos}
-use Rattle.std.proofs.lemmas.Nat.Bits.{bit_at_set_same, bit_at_set_other, bit_at-zero, and_pow}
-use Rattle.std.specs.Prelude.{bit_and, bit_or, ◌≢◌}
+use Rattle.std.proofs.lemmas.Nat.Bits.{bit_at_set_same, bit_at_set_other, and_pow}
+use Rattle.std.specs.Prelude.{bit_and, bit_or}
 use Rattle.std.specs.Int.{bit_at}
 use Rattle.resolvo_ids.specs.IndexedSet.{has_bit}
 use Rattle.resolvo_ids.specs.TotalMaps.{IsUpdate}
@@ -34,15 +33,16 @@ pub bit_set : (words : List ℕ) (index word : ℕ) → index / 64 < length word
 bit_set words index word within read =
     let place : ℕ = index / 64 in
     let marked : ℕ = bit_or word (1 * 2 ^ (index % 64) % 2 ^ 64) in
-    let low : index % 64 < 64 = omega arith in
-    ( ap (λ w. eqb (bit_at w (index % 64)) 1) (get_or-set_same words place marked 0 within)
-      ∙ eq-eqb _ 1 (bit_at_set_same w64 word (index % 64) low)
-    , λ other apart.
-      elim (cases_eq (other / 64) place) as (λ _. has_bit (set words place marked) other ≡ has_bit words other) [
-        | inl row ↦
-            ap (λ x. eqb (bit_at (get_or (set words place marked) x 0) (other % 64)) 1) row
-            ∙ ap (λ x. eqb (bit_at x (other % 64)) 1) (get_or-set_same words place marked 0 within)
-            ∙ ap (λ x. eqb x 1) (bit_at_set_other w64 word (index % 64) low (other % 64) (λ e. apart (omega arith)))
-            ∙ ap (λ x. eqb (bit_at x (other % 64)) 1) (read ∙ ap (λ x. get_or words x 0) (sym row))
-        | inr away ↦ ap (λ x. eqb (bit_at x (other % 64)) 1) (get_or-set_other words place (other / 64) marked 0 away)
-      ])
+    let low : index % 64 < 64 = omega arith in (
+      ap (λ w. eqb (bit_at w (index % 64)) 1) (get_or-set_same words place marked 0 within)
+          ∙ eq-eqb _ 1 (bit_at_set_same w64 word (index % 64) low),
+      λ other apart.
+          elim (cases_eq (other / 64) place) as (λ _. has_bit (set words place marked) other ≡ has_bit words other) [
+            | inl row ↦
+                ap (λ x. eqb (bit_at (get_or (set words place marked) x 0) (other % 64)) 1) row
+                ∙ ap (λ x. eqb (bit_at x (other % 64)) 1) (get_or-set_same words place marked 0 within)
+                ∙ ap (λ x. eqb x 1) (bit_at_set_other w64 word (index % 64) low (other % 64) (λ e. apart (omega arith)))
+                ∙ ap (λ x. eqb (bit_at x (other % 64)) 1) (read ∙ ap (λ x. get_or words x 0) (sym row))
+            | inr away ↦ ap (λ x. eqb (bit_at x (other % 64)) 1) (get_or-set_other words place (other / 64) marked 0 away)
+          ],
+    )

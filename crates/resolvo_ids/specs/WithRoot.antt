@@ -12,3 +12,7 @@ root_or at_root test (Solvable s) = test s
 abbrev pub solvable_of : {S : Type 0} → SolvableIdOrRoot S → Option S
 solvable_of Root = None
 solvable_of (Solvable s) = Some s
+
+-- whether the set has the key, where a set is whether the root is in it and a set of solvables
+abbrev pub has_key : {S T : Type 0} → (T → S → Bool) → Bool × T → SolvableIdOrRoot S → Bool
+has_key has set key = root_or set.0 (has set.1) key

@@ -1,5 +1,5 @@
 //! Sets of dense ids.
-ghost use Rattle.std.specs.Prelude.{◌≡◌, ℕ, ◌<◌, ◌≤◌, ◌/◌, ◌^◌, length, vec_len, true, false, not, IsTrue, OnOk, OnErr, IfOk, IfErr};
+ghost use Rattle.std.specs.Prelude.{◌≡◌, ℕ, ◌<◌, ◌≤◌, ◌+◌, ◌/◌, ◌^◌, max, length, vec_len, true, false, not, IsTrue, OnOk, OnErr, IfOk, IfErr};
 ghost use Rattle.resolvo_ids.specs.declared.error.StoreError.TheVariants.{IdSpace};
 ghost use Rattle.resolvo_ids.specs.IndexedSet.{has_bit};
 ghost use Rattle.resolvo_ids.specs.Refusals.{IsGrowthRefusal, is_too_dense};
@@ -58,6 +58,7 @@ impl<Id: DenseIndex, A: Allocator + Copy> IndexedSet<Id, A> {
     pub fn insert(&mut self, id: Id) -> Result<bool, StoreError>
         ensures added { IfOk result (λ added. added ≡ not (has_bit self.old (Id.index_of id))) }
         ensures ok { OnOk result (IsUpdate (has_bit self.old) (Id.index_of id) true (has_bit self.new)) }
+        ensures words { OnOk result (length self.new ≡ max (length self.old) (Id.index_of id / 64 + 1)) }
         ensures err { OnErr result (self.new ≡ self.old) }
         ensures known { IsTrue (has_bit self.old (Id.index_of id)) → result ≡ Ok false }
         ensures refused { IfErr result (IsGrowthRefusal (is_too_dense (Id.index_of id))) }
@@ -75,7 +76,7 @@ impl<Id: DenseIndex, A: Allocator + Copy> IndexedSet<Id, A> {
 fn reach<A: Allocator>(words: &mut Vec<u64, A>, index: usize) -> Result<(), StoreError>
     requires past { vec_len words.old ≤ index / 64 }
     requires within { vec_len words.old ≤ 2 ^ 34 }
-    ensures reached { OnOk result (index / 64 < vec_len words.new) }
+    ensures reached { OnOk result (vec_len words.new ≡ index / 64 + 1) }
     ensures same { (i : ℕ) → has_bit words.new.items i ≡ has_bit words.old.items i }
     ensures err { OnErr result (words.new.items ≡ words.old.items) }
     ensures bounded { vec_len words.new ≤ 2 ^ 34 }
@@ -97,6 +98,7 @@ fn set_bit(words: &mut [u64], index: usize) -> bool
     requires { index / 64 < length words.old }
     ensures new { result ≡ not (has_bit words.old index) }
     ensures set { IsUpdate (has_bit words.old) index true (has_bit words.new) }
+    ensures words { length words.new ≡ length words.old }
 {
     let word = words[index / WORD_BITS];
     let bit = 1u64 << (index % WORD_BITS);

@@ -14,7 +14,7 @@ pub enum SolvableIdOrRoot<S> {
     Solvable(S),
 }
 
-impl<S: Copy> SolvableIdOrRoot<S> {
+impl<S> SolvableIdOrRoot<S> {
     /// The key of the root.
     pub fn root() -> Self
         ensures { result ≡ Root }

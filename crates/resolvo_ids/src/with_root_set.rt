@@ -1,4 +1,11 @@
 //! Sets of solvables and the root.
+ghost use Rattle.std.specs.Prelude.{◌≡◌, true, false, not, IsTrue, OnOk, OnErr, IfOk, IfErr, IsOk};
+ghost use Rattle.resolvo_ids.specs.declared.error.StoreError.TheVariants.{IdSpace};
+ghost use Rattle.resolvo_ids.specs.declared.solvable_id_or_root.SolvableIdOrRoot.TheVariants.{Root};
+ghost use Rattle.resolvo_ids.specs.Refusals.{IsGrowthRefusal};
+ghost use Rattle.resolvo_ids.specs.TotalMaps.{IsUpdate, SameValues};
+ghost use Rattle.resolvo_ids.specs.WithRoot.{has_key, root_or};
+
 use crate::error::StoreError;
 use crate::id_set::IdSet;
 use crate::solvable_id_or_root::SolvableIdOrRoot;
@@ -22,10 +29,7 @@ impl<S: SolverId<A>, A: Allocator + Copy> Model for WithRootSet<S, A> {
 }
 
 impl<S: SolverId<A>, A: Allocator + Copy> IdSet<SolvableIdOrRoot<S>, A> for WithRootSet<S, A> {
-    ghost use Rattle.std.specs.Prelude.{false};
-    ghost use Rattle.resolvo_ids.specs.WithRoot.{root_or};
-
-    ghost has = { λ set key. root_or set.0 (S.Set.has set.1) key };
+    ghost has = { λ set key. has_key S.Set.has set key };
 
     ghost is_too_large = { λ key. root_or false S.Set.is_too_large key };
 
@@ -43,7 +47,15 @@ impl<S: SolverId<A>, A: Allocator + Copy> IdSet<SolvableIdOrRoot<S>, A> for With
         }
     }
 
-    fn insert(&mut self, key: SolvableIdOrRoot<S>) -> Result<bool, StoreError> {
+    fn insert(&mut self, key: SolvableIdOrRoot<S>) -> Result<bool, StoreError>
+        ensures added { IfOk result (λ added. added ≡ not (has_key S.Set.has self.old key)) }
+        ensures ok { OnOk result (IsUpdate (has_key S.Set.has self.old) key true (has_key S.Set.has self.new)) }
+        ensures err { OnErr result (SameValues (has_key S.Set.has self.old) (has_key S.Set.has self.new)) }
+        ensures known { IsTrue (has_key S.Set.has self.old key) → result ≡ Ok false }
+        ensures root { key ≡ Root → IsOk result }
+        ensures refused { IfErr result (IsGrowthRefusal (root_or false S.Set.is_too_large key)) }
+        ensures too_large { IsTrue (root_or false S.Set.is_too_large key) → result ≡ Err IdSpace }
+    {
         match key {
             SolvableIdOrRoot::Root => {
                 let added = !self.root;

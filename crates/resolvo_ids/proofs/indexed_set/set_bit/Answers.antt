@@ -1,5 +1,5 @@
 -- The tested word and the written one, by their bits.
-use Rattle.std.proofs.Common.{◌%◌, ◌/◌, refl, arith}
+use Rattle.std.proofs.Common.{◌%◌, refl, arith}
 use Rattle.resolvo_ids.proofs.IndexedSetLemmas.{bit_clear, bit_set, get_word}
 use Rattle.resolvo_ids.proofs.indexed_set.set_bit.Goals as goal
 
