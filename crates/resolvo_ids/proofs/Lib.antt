@@ -1,2 +1,3 @@
 pub mod ArenaLemmas
 pub mod MappingLemmas
+pub mod IndexedSetLemmas

@@ -3,3 +3,5 @@ pub mod MappingLends
 pub mod Refusals
 pub mod TotalMaps
 pub mod Arena
+pub mod IndexedSet
+pub mod WithRoot

@@ -1,10 +1,12 @@
-//! Ids that choose how the maps kept by them are stored.
+//! Ids that choose how the maps and sets kept by them are stored.
 ghost use Rattle.std.specs.Prelude.{◌≡◌, true};
 
 use crate::default_value::Slot;
 use crate::dense_id::DenseId;
 use crate::dense_index::DenseIndex;
 use crate::id_map::IdMap;
+use crate::id_set::IdSet;
+use crate::indexed_set::IndexedSet;
 use std::alloc::Allocator;
 use std::fmt::Debug;
 use std::hash::Hash;
@@ -33,17 +35,22 @@ impl SameId for u64 {
     ghost same = { λ a b h. Prim.search rules };
 }
 
-/// An id of a provider, with the total maps that are kept by it.
+/// An id of a provider, with the total maps and the sets that are kept by it.
 pub trait SolverId<A: Allocator + Copy>: SameId {
     /// A map to optional indexes.
     type Slots: IdMap<Self, Slot, A>;
 
     /// A map to scores.
     type Scores: IdMap<Self, u64, A>;
+
+    /// A set of these ids.
+    type Set: IdSet<Self, A>;
 }
 
 impl<Tag, Repr: DenseIndex + SameId, A: Allocator + Copy> SolverId<A> for DenseId<Tag, Repr> {
     type Slots = Vec<Slot, A>;
 
     type Scores = Vec<u64, A>;
+
+    type Set = IndexedSet<Self, A>;
 }
