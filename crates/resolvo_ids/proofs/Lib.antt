@@ -1,3 +1,3 @@
 pub mod ArenaLemmas
-pub mod MappingLemmas
 pub mod IndexedSetLemmas
+pub mod MappingLemmas

@@ -1,12 +1,13 @@
-//! Typed ids, the refusals, and total maps that are kept by ids.
+//! Typed ids, the refusals, and storage that is kept by ids.
 //!
-//! Everything above speaks by these ids. A dense id stands for an index, so that its maps are vectors; what is generic
-//! in an id asks only for [`SolverId`], which chooses the maps itself.
+//! Everything above speaks by these ids. A dense id stands for an index, so that what is kept by it lies in vectors:
+//! lists of values ([`Arena`]), finite maps ([`Mapping`]), total maps ([`IdMap`]) and sets ([`IndexedSet`]). What is
+//! generic in an id asks only for [`SolverId`], which chooses its maps and its set itself.
 #![tactic(auto)]
 
-mod candidates_id;
 mod arena;
 mod arena_iter;
+mod candidates_id;
 mod clause_id;
 mod condition_id;
 mod default_value;
@@ -16,7 +17,6 @@ mod dependencies_id;
 mod disjunction_id;
 mod error;
 mod frozen_copy_map;
-mod id;
 mod id_map;
 mod id_set;
 mod indexed_set;
@@ -32,9 +32,9 @@ mod version_set_id;
 mod version_set_union_id;
 mod with_root_set;
 
-pub use candidates_id::CandidatesId;
 pub use arena::Arena;
 pub use arena_iter::ArenaIter;
+pub use candidates_id::CandidatesId;
 pub use clause_id::ClauseId;
 pub use condition_id::ConditionId;
 pub use default_value::{DefaultValue, Slot};
@@ -44,7 +44,6 @@ pub use dependencies_id::DependenciesId;
 pub use disjunction_id::DisjunctionId;
 pub use error::StoreError;
 pub use frozen_copy_map::FrozenCopyMap;
-pub use id::{VersionSetId, VersionSetUnionId};
 pub use id_map::IdMap;
 pub use id_set::IdSet;
 pub use indexed_set::IndexedSet;
