@@ -1,0 +1,94 @@
+//! The sets with ample memory: none of their calls is refused for want of it, and the answers are as wanted.
+use crate::any_set::{SetAnswers, set_answers};
+use resolvo_ids::{
+    DenseId, FrozenCopyMap, IdSet, IndexedSet, NameId, NameTag, SolvableId, SolvableIdOrRoot,
+    StoreError, WithRootSet,
+};
+use std::alloc::Global;
+use std::collections::HashSet;
+use std::test::Fail;
+
+const WANTED: SetAnswers = SetAnswers {
+    has_before: false,
+    is_new: true,
+    is_new_again: false,
+    has_key: true,
+    has_other: false,
+};
+
+#[test]
+fn dense_sets_keep_each_side_of_a_word(rt: HostRuntime) -> Result<(), Fail> {
+    let mut set: IndexedSet<NameId> = IndexedSet::new(rt.alloc());
+    assert_eq!(rt; set.insert(NameId::from_raw(63))?, true);
+    assert_eq!(rt; set.insert(NameId::from_raw(128))?, true);
+    assert_eq!(rt; set.insert(NameId::from_raw(63))?, false);
+    assert_eq!(rt; set.contains(NameId::from_raw(63)), true);
+    assert_eq!(rt; set.contains(NameId::from_raw(64)), false);
+    assert_eq!(rt; set.contains(NameId::from_raw(127)), false);
+    assert_eq!(rt; set.contains(NameId::from_raw(128)), true);
+    assert_eq!(rt; set.contains(NameId::from_raw(5000)), false);
+    Ok(())
+}
+
+#[test]
+fn dense_sets_end_before_two_to_the_fortieth(rt: HostRuntime) {
+    let mut set: IndexedSet<DenseId<NameTag, u64>> = IndexedSet::new(rt.alloc());
+    let id = DenseId::from_raw(1 << 40);
+    assert_eq!(rt; set.insert(id), Err(StoreError::IdSpace));
+    assert_eq!(rt; set.contains(id), false);
+}
+
+#[test]
+fn every_set_answers_alike(rt: HostRuntime) -> Result<(), Fail> {
+    let key = NameId::from_raw(64);
+    let other = NameId::from_raw(127);
+    let dense = set_answers::<NameId, Global, IndexedSet<NameId>>(rt.alloc(), key, other)?;
+    assert_eq!(rt; dense, WANTED);
+    let hashed = set_answers::<NameId, Global, HashSet<NameId>>(rt.alloc(), key, other)?;
+    assert_eq!(rt; hashed, WANTED);
+    Ok(())
+}
+
+type Key = SolvableIdOrRoot<SolvableId>;
+
+type KeySet = WithRootSet<SolvableId, Global>;
+
+#[test]
+fn the_root_is_no_solvable(rt: HostRuntime) -> Result<(), Fail> {
+    let root: Key = SolvableIdOrRoot::root();
+    let solvable: Key = SolvableIdOrRoot::from(SolvableId::from_raw(0));
+    let answers = set_answers::<Key, Global, KeySet>(rt.alloc(), root, solvable)?;
+    assert_eq!(rt; answers, WANTED);
+    Ok(())
+}
+
+#[test]
+fn a_solvable_is_not_the_root(rt: HostRuntime) -> Result<(), Fail> {
+    let root: Key = SolvableIdOrRoot::root();
+    let solvable: Key = SolvableIdOrRoot::from(SolvableId::from_raw(0));
+    let answers = set_answers::<Key, Global, KeySet>(rt.alloc(), solvable, root)?;
+    assert_eq!(rt; answers, WANTED);
+    Ok(())
+}
+
+#[test]
+fn keys_give_their_solvable_back(rt: HostRuntime) {
+    let solvable = SolvableId::from_raw(7);
+    let key = SolvableIdOrRoot::from(solvable);
+    assert_eq!(rt; key.solvable(), Some(solvable));
+    let root: Key = SolvableIdOrRoot::root();
+    assert_eq!(rt; root.solvable(), None);
+    assert_eq!(rt; key == root, false);
+}
+
+#[test]
+fn frozen_maps_answer_the_earlier_value(rt: HostRuntime) -> Result<(), Fail> {
+    let mut map: FrozenCopyMap<u32, u64> = FrozenCopyMap::new(rt.alloc());
+    assert_eq!(rt; map.insert_copy(3, 10)?, None);
+    assert_eq!(rt; map.insert_copy(4, 20)?, None);
+    assert_eq!(rt; map.insert_copy(3, 30)?, Some(10));
+    assert_eq!(rt; map.get_copy(&3), Some(30));
+    assert_eq!(rt; map.get_copy(&4), Some(20));
+    assert_eq!(rt; map.get_copy(&5), None);
+    Ok(())
+}
