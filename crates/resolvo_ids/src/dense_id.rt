@@ -3,10 +3,11 @@ ghost use Rattle.std.specs.Prelude.{◌≡◌};
 
 use crate::dense_index::DenseIndex;
 use crate::solver_id::SameId;
+use std::fmt;
 use std::marker::{Model, PhantomData};
 
 /// A dense id of the domain that `Tag` names, kept as a `Repr`. A contract sees the raw number.
-#[derive_where(Clone, Copy, Debug, PartialEq, Eq, PartialOrd, Ord, Hash; Repr)]
+#[derive_where(Clone, Copy, PartialEq, Eq, PartialOrd, Ord, Hash; Repr)]
 pub struct DenseId<Tag, Repr = u32> {
     raw: Repr,
     tag: PhantomData<Tag>,
@@ -36,6 +37,15 @@ impl<Tag, Repr: Copy> DenseId<Tag, Repr> {
         ensures { result ≡ self }
     {
         self.raw
+    }
+}
+
+/// Writes as the raw number does.
+impl<Tag, Repr: fmt::Debug> fmt::Debug for DenseId<Tag, Repr> {
+    ghost debug_output = { λ a. Repr.debug_output a };
+
+    fn fmt<W: fmt::Write>(&self, f: &mut fmt::Formatter<W>) -> fmt::Result {
+        self.raw.fmt(f)
     }
 }
 

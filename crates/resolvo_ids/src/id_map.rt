@@ -1,11 +1,10 @@
 //! Total maps that are kept by ids.
-ghost use Rattle.std.specs.Prelude.{◌≡◌, ◌≢◌, Bool, IsTrue, OnOk, OnErr, IfErr};
+ghost use Rattle.std.specs.Prelude.{◌≡◌, ◌≢◌, Bool, IsTrue, IsOk, OnOk, OnErr, IfErr};
 ghost use Rattle.resolvo_ids.specs.declared.error.StoreError.TheVariants.{IdSpace};
 ghost use Rattle.resolvo_ids.specs.Refusals.{IsGrowthRefusal};
-ghost use Rattle.resolvo_ids.specs.TotalMaps.{IsUpdate, SameValues};
+ghost use Rattle.resolvo_ids.specs.TotalMaps.{IsUpdate, SameValues, IsLargest};
 
 use crate::default_value::DefaultValue;
-use crate::dense_index::DenseIndex;
 use crate::error::StoreError;
 use std::alloc::Allocator;
 
@@ -38,11 +37,13 @@ pub trait IdMap<K, V: DefaultValue, A: Allocator + Copy>: Drop {
         ensures refused { IfErr result (IsGrowthRefusal (is_too_large key)) }
         ensures too_large { IsTrue (is_too_large key) → result ≡ Err IdSpace }
         ensures room { OnOk result (has_room self.new key) }
+        ensures succeeds { has_room self.old key → IsOk result }
         ensures keeps { (k : K) → has_room self.old k → has_room self.new k };
 
     /// Takes the memory that writing at the key needs.
     fn make_room(&mut self, key: K) -> Result<(), StoreError>
         ensures room { OnOk result (has_room self.new key) }
+        ensures succeeds { has_room self.old key → IsOk result }
         ensures same { SameValues (value_at self.old) (value_at self.new) }
         ensures refused { IfErr result (IsGrowthRefusal (is_too_large key)) }
         ensures too_large { IsTrue (is_too_large key) → result ≡ Err IdSpace }
@@ -54,58 +55,20 @@ pub trait IdMap<K, V: DefaultValue, A: Allocator + Copy>: Drop {
         ensures put { IsUpdate (value_at self.old) key value (value_at self.new) }
         ensures keeps { (k : K) → has_room self.old k → has_room self.new k };
 
+    /// Changes the value at each key by a function that keeps the default. It is called once for each value that is
+    /// stored. Takes no memory.
+    fn update_all<F: Fn(V) -> V>(&mut self, f: F)
+        requires callable { F.IsAlwaysCallable f }
+        requires keeps_default { F.post f V.default_value V.default_value }
+        ensures changed { (k : K) → F.post f (value_at self.old k) (value_at self.new k) }
+        ensures keeps { (k : K) → has_room self.old k → has_room self.new k };
+
+    /// The largest value of a key, or the default where that is larger. Goes through what is stored. Takes no memory.
+    fn largest(&self) -> V
+    where
+        V: Ord,
+        ensures { IsLargest V.cmp V.default_value (value_at self.now) result };
+
     /// There is room at each key whose value isn't the default.
     ghost written: { (m : Self) (k : K) → value_at m k ≢ V.default_value → has_room m k };
-}
-
-/// The map of dense ids: the value at index i stands at place i. Indexes from 2^40 on are refused.
-impl<K: DenseIndex, V: DefaultValue, A: Allocator + Copy> IdMap<K, V, A> for Vec<V, A> {
-    ghost use Rattle.std.specs.Prelude.{◌<◌, ◌^◌, nat_le, vec_len, slice_index_or};
-    ghost use Rattle.resolvo_ids.specs.TotalMaps.{reads_within};
-
-    ghost value_at = { λ v k. slice_index_or v.items (K.index_of k) V.default_value };
-
-    ghost has_room = { λ v k. K.index_of k < vec_len v };
-
-    ghost is_too_large = { λ k. nat_le (2 ^ 40) (K.index_of k) };
-
-    ghost written = { λ m k h. reads_within m.items (K.index_of k) (vec_len m) V.default_value m.ok.0 h };
-
-    fn new(alloc: A) -> Self {
-        Vec::new(alloc)
-    }
-
-    fn get(&self, key: K) -> V {
-        let index = key.to_index();
-        if index < self.len() {
-            self[index]
-        } else {
-            V::default()
-        }
-    }
-
-    fn set(&mut self, key: K, value: V) -> Result<(), StoreError> {
-        <Self as IdMap<K, V, A>>::make_room(self, key)?;
-        <Self as IdMap<K, V, A>>::put(self, key, value);
-        Ok(())
-    }
-
-    fn make_room(&mut self, key: K) -> Result<(), StoreError> {
-        let index = key.to_index();
-        if index >= 1 << 40 {
-            return Err(StoreError::IdSpace);
-        }
-        if index >= self.len() {
-            match self.resize(index + 1, V::default()) {
-                Ok(()) => {}
-                Err(_) => return Err(StoreError::OutOfMemory),
-            }
-        }
-        Ok(())
-    }
-
-    fn put(&mut self, key: K, value: V) {
-        let index = key.to_index();
-        self[index] = value;
-    }
 }

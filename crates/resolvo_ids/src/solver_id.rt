@@ -7,9 +7,11 @@ use crate::dense_index::DenseIndex;
 use crate::id_map::IdMap;
 use crate::id_set::IdSet;
 use crate::indexed_set::IndexedSet;
+use crate::sparse_id::SparseId;
+use indexmap::IndexMap;
 use std::alloc::Allocator;
 use std::fmt::Debug;
-use std::hash::Hash;
+use std::hash::{BuildHasher, Hash};
 
 /// An id whose `==` is sameness.
 pub trait SameId: Copy + Eq + Hash + Debug {
@@ -53,4 +55,11 @@ impl<Tag, Repr: DenseIndex + SameId, A: Allocator + Copy> SolverId<A> for DenseI
     type Scores = Vec<u64, A>;
 
     type Set = IndexedSet<Self, A>;
+}
+
+impl<Tag, Repr: SameId, H: BuildHasher + Default + Drop, A: Allocator + Copy> SolverId<A>
+    for SparseId<Tag, Repr, H> {
+    type Slots = IndexMap<Self, Slot, H, A>;
+
+    type Scores = IndexMap<Self, u64, H, A>;
 }
