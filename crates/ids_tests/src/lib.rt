@@ -1,11 +1,14 @@
-//! Tests of the ids and their storage, by the calls that they name.
+//! Tests of the ids and their storage, and callers of it that are generic in the ids.
 #![tactic(auto)]
 
+mod any_set;
 #[cfg(test)]
-mod ids;
 mod arena;
 mod arena_callers;
-pub use arena_callers::{added, count, pairs, replace, total};
-mod any_set;
+#[cfg(test)]
+mod ids;
+#[cfg(test)]
 mod sets;
+
 pub use any_set::{SetAnswers, set_answers};
+pub use arena_callers::{added, count, pairs, replace, total};

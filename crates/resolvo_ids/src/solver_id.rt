@@ -10,6 +10,7 @@ use crate::indexed_set::IndexedSet;
 use crate::sparse_id::SparseId;
 use indexmap::IndexMap;
 use std::alloc::Allocator;
+use std::collections::HashSet;
 use std::fmt::Debug;
 use std::hash::{BuildHasher, Hash};
 
@@ -62,4 +63,6 @@ impl<Tag, Repr: SameId, H: BuildHasher + Default + Drop, A: Allocator + Copy> So
     type Slots = IndexMap<Self, Slot, H, A>;
 
     type Scores = IndexMap<Self, u64, H, A>;
+
+    type Set = HashSet<Self, H, A>;
 }
