@@ -46,11 +46,12 @@ pub struct DecisionMap<A: Allocator + Copy> {
 }
 
 impl<A: Allocator + Copy> Model for DecisionMap<A> {
-    ghost use Rattle.std.specs.Prelude.{ℕ, Bool, List, Option};
+    ghost use Rattle.std.specs.Prelude.{ℕ, ◌-◌, ◌^◌, Bool, List, Option};
+    ghost use Rattle.resolvo_ids.specs.TotalMaps.{kept};
 
     ghost Value = { List (Option (Bool × ℕ)) };
 
-    ghost view = { λ m. m.map.items };
+    ghost view = { λ m. kept (2 ^ 31 - 1) m.map.items };
 }
 
 impl<A: Allocator + Copy> DecisionMap<A> {
