@@ -1,12 +1,16 @@
 //! Each call that takes memory, once with ample memory: none of them is refused, and the answers are as wanted. (A body
 //! that always answers want of memory would meet any contract.)
-use crate::script::{clause, decided, loaded, one_package, single, variable};
+use crate::obeys::Obeys;
+use crate::script::{
+    clause, decided, loaded, one_package_store, replies_without, single, variable,
+};
 use resolvo_clauses::{Decision, DecisionMap, DecisionTracker, VariableMap, VariableOrigin};
 use resolvo_ids::{DenseIndex, IdMap, NameId, Slot, SolvableId};
-use resolvo_pool::{DependencyProvider, RequirementMap};
+use resolvo_pool::RequirementMap;
 use resolvo_queue::{Answer, DecideQueue};
-use resolvo_store::{ClauseStore, Command, Reply};
-use std::alloc::Global;
+use resolvo_store::{Command, Reply};
+use std::alloc::{AllocError, Global};
+use std::process::Abort;
 use std::test::Fail;
 
 #[test]
@@ -40,11 +44,12 @@ fn total_maps_keep_what_is_written(rt: HostRuntime) -> Result<(), Fail> {
 #[test]
 fn requirement_maps_keep_the_later_value(rt: HostRuntime) -> Result<(), Fail> {
     let mut map: RequirementMap<u32, Global> = RequirementMap::new(rt.alloc());
-    assert_eq!(rt; map.insert(single(3), 1)?, None);
-    assert_eq!(rt; map.insert(single(4), 2)?, None);
-    assert_eq!(rt; map.insert(single(3), 5)?, Some(1));
-    assert_eq!(rt; map.get(single(3)).copied(), Some(5));
-    assert_eq!(rt; map.get(single(9)).copied(), None);
+    for (set, value, earlier) in [(3, 1, None), (4, 2, None), (3, 5, Some(1))] {
+        assert_eq!(rt; map.insert(single(set), value)?, earlier);
+    }
+    for (set, value) in [(3, Some(5)), (9, None)] {
+        assert_eq!(rt; map.get(single(set)).copied(), value);
+    }
     Ok(())
 }
 
@@ -94,30 +99,47 @@ fn the_queue_takes_clauses(rt: HostRuntime) -> Result<(), Fail> {
 
 #[test]
 fn a_store_obeys_each_command(rt: HostRuntime) -> Result<(), Fail> {
+    let mut store = one_package_store(rt.alloc())?;
+    obeys_each_command(&rt, &mut store)
+}
+
+fn obeys_each_command<S: Obeys<Global>>(
+    rt: &(impl Abort + AllocGlobal),
+    store: &mut S,
+) -> Result<(), Fail> {
     let alloc = rt.alloc();
-    let mut store = ClauseStore::new(alloc, one_package(alloc)?)?;
-    let candidates = store.provider().get_candidates(alloc, NameId::from_raw(0))?;
+    let candidates = store.candidates(alloc, NameId::from_raw(0))?;
     assert_eq!(rt; candidates.map_or(0, |list| list.len()), 2);
-    let solvable = SolvableId::from_raw(0);
-    assert_eq!(rt;
-        store.step(&Command::Variable(solvable)),
-        Reply::Variable(variable(1))
-    );
-    assert_eq!(rt;
-        store.step(&Command::Load(single(0))),
-        loaded(alloc, &[2, 1])?
-    );
-    assert_eq!(rt;
-        store.step(&Command::Load(single(0))),
-        loaded(alloc, &[2, 1])?
-    );
-    let register = Command::Requires(variable(0), single(0), None);
-    assert_eq!(rt; store.step(&register), Reply::Clause(clause(0), false));
-    let assign = Command::Assign(variable(0), true, clause(0), 3);
-    assert_eq!(rt; store.step(&assign), Reply::Assigned);
-    assert_eq!(rt; store.step(&Command::Decide), decided(2, 0, 0, 2));
-    assert_eq!(rt; store.value(variable(0)), Some(true));
-    assert_eq!(rt; store.value(variable(2)), None);
-    assert_eq!(rt; store.falsified(), None);
+    let commands = each_command();
+    let wanted = each_reply(alloc)?;
+    let replies = replies_without(alloc, store, &commands, commands.len())?;
+    assert_eq!(rt; replies.as_slice(), wanted.as_slice());
+    assert_eq!(rt; store.value_of(variable(0)), Some(true));
+    assert_eq!(rt; store.value_of(variable(2)), None);
+    assert_eq!(rt; store.falsified_clause(), None);
     Ok(())
+}
+
+/// Each command that succeeds over one package, but for an undo; a requirement is loaded twice.
+fn each_command() -> [Command<SolvableId>; 6] {
+    [
+        Command::Variable(SolvableId::from_raw(0)),
+        Command::Load(single(0)),
+        Command::Load(single(0)),
+        Command::Requires(variable(0), single(0), None),
+        Command::Assign(variable(0), true, clause(0), 3),
+        Command::Decide,
+    ]
+}
+
+fn each_reply(alloc: Global) -> Result<Vec<Reply<Global>>, AllocError> {
+    let replies = vec![in alloc;
+        Reply::Variable(variable(1)),
+        loaded(alloc, &[2, 1])?,
+        loaded(alloc, &[2, 1])?,
+        Reply::Clause(clause(0), false),
+        Reply::Assigned,
+        decided(2, 0, 0, 2),
+    ]?;
+    Ok(replies)
 }

@@ -8,6 +8,8 @@ mod callers;
 mod computed;
 mod lists;
 #[cfg(test)]
+mod obeys;
+#[cfg(test)]
 mod refused;
 #[cfg(test)]
 mod script;

@@ -1,11 +1,11 @@
 //! Memory refused at each request in turn.
-use crate::lists::Lists;
+use crate::obeys::Obeys;
 use crate::script::{
-    copy_of, replies_without, two_packages, two_packages_commands, two_packages_replies,
+    copy_of_all, replies_without, two_packages_commands, two_packages_replies, two_packages_store,
 };
 use refusing::Refusing;
 use resolvo_ids::{SolvableId, StoreError};
-use resolvo_store::{ClauseStore, Command, Reply};
+use resolvo_store::{Command, Reply};
 use std::alloc::{Allocator, Global};
 use std::test::Fail;
 
@@ -17,7 +17,17 @@ fn steps_refused_at<A: Allocator + Copy>(
     commands: &[Command<SolvableId>],
     number: u64,
 ) -> Result<(Vec<Reply<Global>>, bool), Fail> {
-    let mut store = ClauseStore::new(heap, two_packages(heap)?)?;
+    let store = two_packages_store(heap)?;
+    armed_steps(alloc, store, control, commands, number)
+}
+
+fn armed_steps<A: Allocator, S: Obeys<A> + Drop>(
+    alloc: Global,
+    mut store: S,
+    control: &Refusing<Global>,
+    commands: &[Command<SolvableId>],
+    number: u64,
+) -> Result<(Vec<Reply<Global>>, bool), Fail> {
     control.arm(number);
     let replies = replies_without(alloc, &mut store, commands, commands.len())?;
     Ok((replies, !control.is_armed()))
@@ -31,18 +41,33 @@ fn run_refused_at<A: Allocator + Copy>(
     commands: &[Command<SolvableId>],
     number: u64,
 ) -> Result<Option<Vec<Reply<Global>>>, Fail> {
-    let mut store = ClauseStore::new(heap, two_packages(heap)?)?;
+    let store = two_packages_store(heap)?;
+    armed_run(alloc, store, control, commands, number)
+}
+
+fn armed_run<A: Allocator, S: Obeys<A> + Drop>(
+    alloc: Global,
+    mut store: S,
+    control: &Refusing<Global>,
+    commands: &[Command<SolvableId>],
+    number: u64,
+) -> Result<Option<Vec<Reply<Global>>>, Fail> {
     control.arm(number);
-    match store.run(commands) {
-        Ok(given) => {
-            let mut replies = Vec::new(alloc);
-            for reply in &given {
-                replies.push(copy_of(alloc, reply)?)?;
-            }
-            Ok(Some(replies))
-        }
+    match store.obey_all(commands) {
+        Ok(given) => Ok(Some(copy_of_all(alloc, &given)?)),
         Err(_) => Ok(None),
     }
+}
+
+/// What a store replies by steps in ample memory, but for one command that is left out.
+fn ample_steps_without(
+    alloc: Global,
+    commands: &[Command<SolvableId>],
+    left_out: usize,
+) -> Result<Vec<Reply<Global>>, Fail> {
+    let mut store = two_packages_store(alloc)?;
+    let replies = replies_without(alloc, &mut store, commands, left_out)?;
+    Ok(replies)
 }
 
 /// The place of the reply that memory was refused, or the number of replies.
@@ -63,8 +88,7 @@ fn one_step_is_refused(rt: HostRuntime) -> Result<(), Fail> {
         let (given, met) = steps_refused_at(rt.alloc(), &heap, &heap, &commands, number)?;
         let refused = refused_place(&given);
         assert_eq!(rt; met, refused < commands.len(), "request {number}");
-        let mut ample = ClauseStore::new(rt.alloc(), two_packages(rt.alloc())?)?;
-        let wanted = replies_without(rt.alloc(), &mut ample, &commands, refused)?;
+        let wanted = ample_steps_without(rt.alloc(), &commands, refused)?;
         let mut rest = wanted.iter();
         for (i, reply) in given.iter().enumerate() {
             if i != refused {

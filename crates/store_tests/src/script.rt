@@ -1,5 +1,6 @@
 //! What the tests share: two catalogues, their commands, and the replies that are wanted.
 use crate::lists::{Lists, Package, VersionRange};
+use crate::obeys::Obeys;
 use resolvo_ids::{
     ClauseId, DenseIndex, DisjunctionId, NameId, SolvableId, StoreError, VariableId, VersionSetId,
     VersionSetUnionId,
@@ -8,6 +9,7 @@ use resolvo_pool::Requirement;
 use resolvo_queue::QueueDecision;
 use resolvo_store::{ClauseStore, Command, Reply};
 use std::alloc::{AllocError, Allocator, Global};
+use std::test::Fail;
 
 pub(crate) fn variable(index: u16) -> VariableId {
     VariableId::from_index(index as usize)
@@ -64,10 +66,18 @@ pub(crate) fn loaded(alloc: Global, variables: &[u16]) -> Result<Reply<Global>, 
 }
 
 /// Package 0 in versions 1 and 2, package 1 in version 1, and a version set of all versions of each.
-pub(crate) fn two_packages<A: Allocator + Copy>(alloc: A) -> Result<Lists<A>, AllocError> {
+fn two_packages<A: Allocator + Copy>(alloc: A) -> Result<Lists<A>, AllocError> {
     let packages = vec![in alloc; package(0, 1), package(0, 2), package(1, 1)]?;
     let ranges = vec![in alloc; range(0, 1, 3), range(1, 1, 2)]?;
     Ok(Lists { packages, ranges })
+}
+
+/// A store over them.
+pub(crate) fn two_packages_store<A: Allocator + Copy>(
+    alloc: A,
+) -> Result<ClauseStore<Lists<A>>, Fail> {
+    let store = ClauseStore::new(alloc, two_packages(alloc)?)?;
+    Ok(store)
 }
 
 /// A decision is asked for, taken, undone, and asked for again.
@@ -105,10 +115,18 @@ pub(crate) fn two_packages_replies(alloc: Global) -> Result<Vec<Reply<Global>>, 
 }
 
 /// Package 0 in versions 1 and 2, and a version set of all of them.
-pub(crate) fn one_package<A: Allocator + Copy>(alloc: A) -> Result<Lists<A>, AllocError> {
+fn one_package<A: Allocator + Copy>(alloc: A) -> Result<Lists<A>, AllocError> {
     let packages = vec![in alloc; package(0, 1), package(0, 2)]?;
     let ranges = vec![in alloc; range(0, 1, 3)]?;
     Ok(Lists { packages, ranges })
+}
+
+/// A store over them.
+pub(crate) fn one_package_store<A: Allocator + Copy>(
+    alloc: A,
+) -> Result<ClauseStore<Lists<A>>, Fail> {
+    let store = ClauseStore::new(alloc, one_package(alloc)?)?;
+    Ok(store)
 }
 
 /// Refusals, and a clause that becomes falsified.
@@ -149,11 +167,20 @@ pub(crate) fn one_package_replies(alloc: Global) -> Result<Vec<Reply<Global>>, A
     Ok(replies)
 }
 
-/// The same reply, kept elsewhere.
-pub(crate) fn copy_of<A: Allocator>(
+/// The same replies, kept elsewhere.
+pub(crate) fn copy_of_all<A: Allocator>(
     alloc: Global,
-    reply: &Reply<A>,
-) -> Result<Reply<Global>, AllocError> {
+    replies: &[Reply<A>],
+) -> Result<Vec<Reply<Global>>, AllocError> {
+    let mut copies = Vec::new(alloc);
+    for reply in replies {
+        copies.push(copy_of(alloc, reply)?)?;
+    }
+    Ok(copies)
+}
+
+/// The same reply, kept elsewhere.
+fn copy_of<A: Allocator>(alloc: Global, reply: &Reply<A>) -> Result<Reply<Global>, AllocError> {
     Ok(match reply {
         Reply::Variable(variable) => Reply::Variable(*variable),
         Reply::Loaded(lists) => Reply::Loaded(copy_of_lists(alloc, lists)?),
@@ -181,16 +208,16 @@ fn copy_of_lists<A: Allocator>(
 }
 
 /// The replies to the commands in turn, but for one that is left out.
-pub(crate) fn replies_without<A: Allocator + Copy>(
+pub(crate) fn replies_without<A: Allocator, S: Obeys<A>>(
     alloc: Global,
-    store: &mut ClauseStore<Lists<A>>,
+    store: &mut S,
     commands: &[Command<SolvableId>],
     left_out: usize,
 ) -> Result<Vec<Reply<Global>>, AllocError> {
     let mut replies = Vec::new(alloc);
     for (i, command) in commands.iter().enumerate() {
         if i != left_out {
-            let reply = store.step(command);
+            let reply = store.obey(command);
             replies.push(copy_of(alloc, &reply)?)?;
         }
     }
