@@ -1,5 +1,5 @@
 //! Callers of arenas, generic in the ids: what they are told is enough.
-ghost use Rattle.std.specs.Prelude.{◌≡◌, ◌+◌, ◌*◌, ◌<◌, ◌^◌, length, slice_set, sum, IfOk, IfSome};
+ghost use Rattle.std.specs.Prelude.{◌≡◌, ◌<◌, length, slice_set, sum, IfOk, IfSome};
 ghost use Rattle.resolvo_ids.specs.Arena.{pairs_from};
 
 use resolvo_ids::{Arena, DenseIndex};

@@ -11,5 +11,6 @@ abbrev pub pairs_from : {Id V : Type 0} → (ℕ → Id) → ℕ → List V → 
 pairs_from id_at first values = map (λ placed. (id_at placed.0, placed.1)) (enumerate_from first values)
 
 -- once the borrow ends, the value at the place is the last one written through r, and no other has changed
-abbrev pub lends_value : (TId V A : RattleType) → Indexed TId.Denot → Ghosts A.Denot → MutBor (List V.Denot) → ℕ → MutBor V.Denot → Fml
+abbrev pub lends_value : (TId V A : RattleType) → Indexed TId.Denot → Ghosts A.Denot
+    → MutBor (List V.Denot) → ℕ → MutBor V.Denot → Fml
 lends_value TId V A ids alloc arena place r = Lends (the_row TId V A ids alloc) V arena r (slice_set arena.now place)

@@ -1,5 +1,6 @@
 //! Values that are named by ids.
-ghost use Rattle.std.specs.Prelude.{◌≡◌, ◌<◌, ◌≤◌, ◌^◌, ◌↔◌, [], ◌∷◌, ◌++◌, length, nat_lt, slice_get, Some, IsTrue, OnOk, OnErr, IfOk, IfErr, IsErrAnd};
+ghost use Rattle.std.specs.Prelude.{◌≡◌, ◌<◌, ◌≤◌, ◌^◌, ◌↔◌, [], ◌∷◌, ◌++◌, length, min, nat_lt, slice_get, Some};
+ghost use Rattle.std.specs.Prelude.{IsTrue, OnOk, OnErr, IfOk, IfErr, IsErrAnd};
 ghost use Rattle.std.specs.Borrow.{sem};
 ghost use Rattle.resolvo_ids.specs.declared.error.StoreError.TheVariants.{IdSpace};
 ghost use Rattle.resolvo_ids.specs.Refusals.{IsGrowthRefusal, are_ids_out};
@@ -14,7 +15,7 @@ use std::ops::{Index, IndexMut};
 
 /// A list of values, each named by the id that stands for its place.
 ///
-/// Values are added at the end, and only all together are they taken out. There are at most 2^40 of them.
+/// Values are added at the end, at most 2^40 of them, and are taken out only all together.
 #[derive(Drop)]
 pub struct Arena<TId: DenseIndex, V, A: Allocator = Global> {
     values: Vec<V, A>,
@@ -63,7 +64,7 @@ impl<TId: DenseIndex, V, A: Allocator> Arena<TId, V, A> {
         }
     }
 
-    /// Takes all values out. The room stays. Takes no memory, and time with the number of values.
+    /// Takes all values out, and keeps the room. Takes no memory, and time with the number of values.
     pub fn clear(&mut self)
     where
         V: Drop,
@@ -75,7 +76,7 @@ impl<TId: DenseIndex, V, A: Allocator> Arena<TId, V, A> {
     /// How many values there are. [`DenseIndex::from_index`] may be asked for the id of each place below.
     pub fn len(&self) -> usize
         ensures value { result ≡ length self.now }
-        ensures in_range { result ≤ TId.limit }
+        ensures in_range { result ≤ min TId.limit (2 ^ 40) }
     {
         self.values.len()
     }
@@ -87,14 +88,16 @@ impl<TId: DenseIndex, V, A: Allocator> Arena<TId, V, A> {
         self.values.is_empty()
     }
 
-    /// Adds a value at the end, and answers its id. A refusal hands the value back.
+    /// Adds a value at the end, and answers its id. Takes memory where there is no room left.
     pub fn alloc(&mut self, value: V) -> Result<TId, InsertError<V>>
         ensures id { IfOk result (λ id. id ≡ TId.id_at (length self.old)) }
         ensures ok { OnOk result (self.new ≡ self.old ++ value ∷ []) }
         ensures err { OnErr result (self.new ≡ self.old) }
         ensures value_returned { IfErr result (λ refusal. refusal.value ≡ value) }
-        ensures refused { IfErr result (λ refusal. IsGrowthRefusal (are_ids_out TId.limit (length self.old)) refusal.error) }
-        ensures ids_out { IsTrue (are_ids_out TId.limit (length self.old)) → IsErrAnd result (λ refusal. refusal.error ≡ IdSpace) }
+        ensures refused { IfErr result (λ refusal.
+            IsGrowthRefusal (are_ids_out TId.limit (length self.old)) refusal.error) }
+        ensures ids_out { IsTrue (are_ids_out TId.limit (length self.old)) →
+            IsErrAnd result (λ refusal. refusal.error ≡ IdSpace) }
     {
         let index = self.values.len();
         if index >= 1 << 40 || !TId::in_range(index) {
@@ -115,7 +118,7 @@ impl<TId: DenseIndex, V, A: Allocator> Arena<TId, V, A> {
         Ok(TId::from_index(index))
     }
 
-    /// The ids with their values, in the order of the ids.
+    /// The ids with their values, in the order of the ids. Takes no memory.
     #[tactic(auto, using(crate::proofs::ArenaLemmas::count_of_pairs))]
     pub fn iter(&self) -> ArenaIter<'_, TId, V>
         ensures pairs { result ≡ pairs_from TId.id_at 0 self.now }
@@ -145,7 +148,8 @@ impl<TId: DenseIndex, V, A: Allocator> IndexMut<TId> for Arena<TId, V, A> {
 
     fn index_mut(&mut self, id: TId) -> &mut V
         requires { TId.index_of id < length self.old }
-        ensures* writes_back { sem 𝓛 (lends_value TId.row V.row A.row TId.DenseIndex A.Allocator self.entry (TId.index_of id) result) }
+        ensures* writes_back { sem 𝓛
+            (lends_value TId.row V.row A.row TId.DenseIndex A.Allocator self.entry (TId.index_of id) result) }
         ensures value { slice_get self.old (TId.index_of id) ≡ Some result.now }
     {
         &mut self.values[id.to_index()]
