@@ -8,7 +8,11 @@ mod arena_callers;
 #[cfg(test)]
 mod ids;
 #[cfg(test)]
+mod mapping;
+mod mapping_callers;
+#[cfg(test)]
 mod sets;
 
 pub use any_set::{SetAnswers, set_answers};
 pub use arena_callers::{added, count, pairs, replace, total};
+pub use mapping_callers::{clear, count as count_pairs, exchange, find_at_least};

@@ -1,19 +1,8 @@
 -- Lemmas on the slots of a map, for this crate and its callers.
-use Rattle.std.proofs.Common.{◌≡◌, ◌⊎◌, ℕ, zero, suc, ◌+◌, ◌<◌, List, [], ◌∷◌, length, get_or, Option, Some, None, is_some, cond, replicate, Contains, refl, sym, ap, ◌∙◌, inl, inr, add-zero, arith}
+use Rattle.std.proofs.Common.{◌≡◌, ℕ, zero, suc, ◌+◌, ◌<◌, List, [], ◌∷◌, length, All, Option, Some, None, is_some, true, cond, replicate, refl, ap, add-zero, arith}
+use Rattle.std.proofs.lemmas.List.Elements.{All-nil, All-cons, All-head, All-tail}
 use Rattle.std.proofs.lemmas.List.Sums.{sum_by-cons}
-use Rattle.resolvo_ids.specs.Mapping.{value_at, value_count, pairs_from, IsTail}
-
--- a member of a list is one of a longer list
-member_behind : {X : Type 0} (first x : X) (rest : List X) → Contains rest x → Contains (first ∷ rest) x
-member_behind first x rest member = (suc member.0, omega (arith, member.1), member.2)
-
--- a member of a list is its first one or one of the others
-member_cases : {X : Type 0} (first x : X) (rest : List X) → Contains (first ∷ rest) x → (first ≡ x) ⊎ Contains rest x
-member_cases {X} first x rest member = at member.0 member.1 member.2
-  where
-    at : (place : ℕ) → place < length (first ∷ rest) → get_or (first ∷ rest) place x ≡ x → (first ≡ x) ⊎ Contains rest x
-    at zero within found = inl found
-    at (suc place) within found = inr (place, omega arith, found)
+use Rattle.resolvo_ids.specs.Mapping.{value_at, value_count, pairs_from, pairs, AreBelow, IsTail}
 
 module _ {V : Type 0} where
   -- empty slots have no value anywhere
@@ -45,31 +34,44 @@ module _ {V : Type 0} where
   pub pairs_past_empty : {K : Type 0} (id_at : ℕ → K) (index : ℕ) (slots rest : List (Option V)) (slot : Option V) → slots ≡ slot ∷ rest → slot ≡ None → pairs_from id_at (index + 1) rest ≡ pairs_from id_at index slots
   pairs_past_empty id_at index slots rest slot split empty = rw (split, empty) refl
 
-  -- each value is among the pairs, with the id of its index
-  pub pair_of_value : {K : Type 0} (id_at : ℕ → K) (first : ℕ) (slots : List (Option V)) (place : ℕ) (value : V) → value_at slots place ≡ Some value → Contains (pairs_from id_at first slots) (id_at (first + place), value)
-  pair_of_value id_at first [] place value found = absurd (cc)
-  pair_of_value id_at first (slot ∷ rest) zero value found = rw (found, add-zero) (0, omega arith, refl)
-  pair_of_value id_at first (None ∷ rest) (suc place) value found =
-      let shift : first + suc place ≡ first + 1 + place = omega arith in
-      rw shift (pair_of_value id_at (first + 1) rest place value found)
-  pair_of_value id_at first (Some other ∷ rest) (suc place) value found =
-      let shift : first + suc place ≡ first + 1 + place = omega arith in
-      rw shift (member_behind _ _ _ (pair_of_value id_at (first + 1) rest place value found))
+  -- what holds of a value behind a slot, said from the slot after it
+  later : (K : Type 0) (P : K × V → Type 0) (id_at : ℕ → K) (first : ℕ) (slot : Option V) (rest : List (Option V)) → ((place : ℕ) (value : V) → value_at (slot ∷ rest) place ≡ Some value → P (id_at (first + place), value)) → (place : ℕ) (value : V) → value_at rest place ≡ Some value → P (id_at (first + 1 + place), value)
+  later K P id_at first slot rest holds place value found =
+      let shift : first + 1 + place ≡ first + suc place = omega arith in
+      rw shift (holds (suc place) value found)
 
-  -- each pair has the value at some index, and that index's id
-  pub value_of_pair : {K : Type 0} (id_at : ℕ → K) (first : ℕ) (slots : List (Option V)) (id : K) (value : V) → Contains (pairs_from id_at first slots) (id, value) → (place : ℕ) × (id ≡ id_at (first + place)) × (value_at slots place ≡ Some value)
-  value_of_pair id_at first [] id value member = absurd (omega (arith, member.1))
-  value_of_pair id_at first (None ∷ rest) id value member =
-      let later = value_of_pair id_at (first + 1) rest id value member in
-      let shift : first + 1 + later.0 ≡ first + suc later.0 = omega arith in
-      (suc later.0, later.1 ∙ ap id_at shift, later.2)
-  value_of_pair id_at first (Some other ∷ rest) id value member =
-      elim (member_cases _ _ _ member) [
-        | inl same ↦
-            let here : first ≡ first + 0 = omega arith in
-            (zero, ap (λ pair. pair.0) (sym same) ∙ ap id_at here, ap (λ pair. Some pair.1) same)
-        | inr behind ↦
-            let later = value_of_pair id_at (first + 1) rest id value behind in
-            let shift : first + 1 + later.0 ≡ first + suc later.0 = omega arith in
-            (suc later.0, later.1 ∙ ap id_at shift, later.2)
-      ]
+  -- what holds of each value and its id holds of all pairs
+  pub all_pairs_from : {K : Type 0} (P : K × V → Type 0) (id_at : ℕ → K) (first : ℕ) (slots : List (Option V)) → ((place : ℕ) (value : V) → value_at slots place ≡ Some value → P (id_at (first + place), value)) → All P (pairs_from id_at first slots)
+  all_pairs_from P id_at first [] holds = All-nil P
+  all_pairs_from {K} P id_at first (None ∷ rest) holds = all_pairs_from P id_at (first + 1) rest (later K P id_at first None rest holds)
+  all_pairs_from {K} P id_at first (Some value ∷ rest) holds =
+      All-cons P _ _ (rw add-zero at (holds zero value refl)) (all_pairs_from P id_at (first + 1) rest (later K P id_at first (Some value) rest holds))
+
+  -- what holds of all pairs holds of each value and its id
+  pub each_value_from : {K : Type 0} (P : K × V → Type 0) (id_at : ℕ → K) (first : ℕ) (slots : List (Option V)) → All P (pairs_from id_at first slots) → (place : ℕ) (value : V) → value_at slots place ≡ Some value → P (id_at (first + place), value)
+  each_value_from P id_at first [] all place value found = absurd (cc)
+  each_value_from P id_at first (None ∷ rest) all zero value found = absurd (cc)
+  each_value_from P id_at first (Some other ∷ rest) all zero value found =
+      let same : other ≡ value = cc in
+      rw (add-zero, ← same) (All-head P _ _ all)
+  each_value_from P id_at first (None ∷ rest) all (suc place) value found =
+      let shift : first + suc place ≡ first + 1 + place = omega arith in
+      rw shift (each_value_from P id_at (first + 1) rest all place value found)
+  each_value_from P id_at first (Some other ∷ rest) all (suc place) value found =
+      let shift : first + suc place ≡ first + 1 + place = omega arith in
+      rw shift (each_value_from P id_at (first + 1) rest (All-tail P _ _ all) place value found)
+
+  -- what holds of all pairs of a map holds of each value and its id
+  pub each_value : {K : Type 0} (P : K × V → Type 0) (id_at : ℕ → K) (slots : List (Option V)) → All P (pairs id_at slots) → (index : ℕ) (value : V) → value_at slots index ≡ Some value → P (id_at index, value)
+  each_value P id_at slots all index value found =
+      let start : 0 + index ≡ index = omega arith in
+      rw start at (each_value_from P id_at 0 slots all index value found)
+
+  -- the pairs of a map are its ids with their values
+  pub pairs_are_values : {K : Type 0} (limit : ℕ) (id_at : ℕ → K) (index_of : K → ℕ) (slots : List (Option V)) → ((index : ℕ) → index < limit → index_of (id_at index) ≡ index) → AreBelow limit slots → All (λ pair. value_at slots (index_of pair.0) ≡ Some pair.1) (pairs id_at slots)
+  pairs_are_values limit id_at index_of slots round_trip below =
+      all_pairs_from (λ pair. value_at slots (index_of pair.0) ≡ Some pair.1) id_at 0 slots
+      (λ index value found.
+        let start : 0 + index ≡ index = omega arith in
+        let filled : is_some (value_at slots index) ≡ true = rw found refl in
+        rw (start, round_trip index (below index filled)) found)

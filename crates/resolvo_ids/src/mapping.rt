@@ -1,5 +1,5 @@
 //! Maps from ids to values, in chunks of slots.
-ghost use Rattle.std.specs.Prelude.{◌≡◌, ℕ, ◌+◌, ◌-◌, ◌*◌, ◌/◌, ◌%◌, ◌<◌, ◌≤◌, ◌==◌, ◌++◌, if◌then◌else◌, length, max, replicate, Some, None, is_some, IsSome, IsTrue, IsOk, OnOk, OnErr, IfOk, IfErr, Err, option_copied, vec_len, vec_capacity};
+ghost use Rattle.std.specs.Prelude.{◌≡◌, ℕ, ◌+◌, ◌-◌, ◌*◌, ◌/◌, ◌%◌, ◌<◌, ◌≤◌, ◌==◌, ◌++◌, if◌then◌else◌, length, max, replicate, Some, None, is_some, IsSome, IsTrue, All, IsOk, OnOk, OnErr, IfOk, IfErr, Err, option_copied, vec_len, vec_capacity};
 ghost use Rattle.resolvo_ids.specs.declared.error.StoreError.TheVariants.{OutOfMemory, IdSpace};
 ghost use Rattle.resolvo_ids.specs.Mapping.{slots_for, with_slots, value_at, value_count, pairs, AreEmpty, AreBelow};
 ghost use Rattle.resolvo_ids.specs.Refusals.{IsGrowthRefusal, is_too_dense};
@@ -213,6 +213,7 @@ impl<TId: DenseIndex, V, A: Allocator> Mapping<TId, V, A> {
     pub fn iter(&self) -> MappingIter<'_, TId, V>
         ensures pairs { result ≡ pairs TId.id_at self.now }
         ensures count { length result ≡ value_count self.now }
+        ensures values { All (λ pair. value_at self.now (TId.index_of pair.0) ≡ Some pair.1) result }
         ensures below { AreBelow TId.limit self.now }
     {
         MappingIter::new(self.slots.as_slice())
