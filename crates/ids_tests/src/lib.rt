@@ -15,4 +15,4 @@ mod sets;
 
 pub use any_set::{SetAnswers, set_answers};
 pub use arena_callers::{added, count, pairs, replace, total};
-pub use mapping_callers::{clear, count as count_pairs, exchange, find_at_least};
+pub use mapping_callers::{clear, count_up, exchange, find_at_least};

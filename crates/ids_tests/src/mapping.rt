@@ -1,5 +1,5 @@
 //! Maps of ids, by the calls: what they answer in ample memory, and where their slots end.
-use crate::mapping_callers::{clear, count, exchange, find_at_least};
+use crate::mapping_callers::{clear, count_up, exchange, find_at_least};
 use resolvo_ids::{DenseId, Mapping, MappingIter, SolvableId, StoreError};
 use std::alloc::Global;
 use std::test::Fail;
@@ -132,7 +132,7 @@ fn a_default_is_asked_for_once(rt: HostRuntime) -> Result<(), Fail> {
 fn values_are_changed_in_place(rt: HostRuntime) -> Result<(), Fail> {
     let mut mapping = two_chunks(rt.alloc())?;
     assert_eq!(rt; find_at_least(&mapping, 11), Some(solvable(128)));
-    count(&mut mapping, solvable(0))?;
+    count_up(&mut mapping, solvable(0))?;
     assert_eq!(rt; find_at_least(&mapping, 11), Some(solvable(0)));
     clear(&mut mapping, solvable(128));
     assert_eq!(rt; mapping.get(solvable(128)).copied(), Some(0));

@@ -29,7 +29,7 @@ pub fn clear<TId: DenseIndex>(mapping: &mut Mapping<TId, u32>, id: TId)
 }
 
 /// Counts an id once more, from 0 on.
-pub fn count<TId: DenseIndex>(mapping: &mut Mapping<TId, u32>, id: TId) -> Result<(), StoreError>
+pub fn count_up<TId: DenseIndex>(mapping: &mut Mapping<TId, u32>, id: TId) -> Result<(), StoreError>
     ensures ok { OnOk result (value_at mapping.new (TId.index_of id) ≡ Some (min (unwrap_or (value_at mapping.old (TId.index_of id)) 0 + 1) (2 ^ 32 - 1))) }
     ensures err { OnErr result (mapping.new ≡ mapping.old) }
 {
