@@ -11,6 +11,8 @@ mod ids;
 mod mapping;
 mod mapping_callers;
 #[cfg(test)]
+mod maps;
+#[cfg(test)]
 mod sets;
 
 pub use any_set::{SetAnswers, set_answers};
