@@ -1,4 +1,6 @@
 //! Maps of ids, by the calls: what they answer in ample memory, and where their slots end.
+ghost use Rattle.std.specs.Prelude.{◌≡◌};
+
 use crate::mapping_callers::{clear, count_up, exchange, find_at_least};
 use resolvo_ids::{DenseId, Mapping, MappingIter, SolvableId, StoreError};
 use std::alloc::Global;
@@ -8,7 +10,9 @@ use std::test::Fail;
 struct Wide;
 
 /// The solvable of this number.
-fn solvable(number: u32) -> SolvableId {
+fn solvable(number: u32) -> SolvableId
+    ensures { result ≡ number }
+{
     SolvableId::from_raw(number)
 }
 
@@ -106,8 +110,15 @@ fn room_lasts(rt: HostRuntime) -> Result<(), Fail> {
     assert_eq!(rt; mapping.insert(solvable(300), 1)?, None);
     assert_eq!(rt; mapping.unset(solvable(300)), Some(1));
     assert_eq!(rt; mapping.insert(solvable(300), 2)?, None);
-    assert_eq!(rt; exchange(&mut mapping, solvable(300), 3), Some(2));
-    assert_eq!(rt; mapping.get(solvable(300)).copied(), Some(3));
+    Ok(())
+}
+
+#[test]
+fn a_value_is_exchanged_in_its_slot(rt: HostRuntime) -> Result<(), Fail> {
+    let mut mapping: Mapping<SolvableId, u32> = Mapping::new(rt.alloc())?;
+    assert_eq!(rt; exchange(&mut mapping, solvable(7), 3), None);
+    assert_eq!(rt; exchange(&mut mapping, solvable(7), 4), Some(3));
+    assert_eq!(rt; mapping.get(solvable(7)).copied(), Some(4));
     Ok(())
 }
 

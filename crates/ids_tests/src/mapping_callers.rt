@@ -50,6 +50,7 @@ pub fn exchange<TId: DenseIndex>(
     value: u32,
 ) -> Option<u32>
     requires { TId.index_of id < length mapping.old }
+    ensures slots { length mapping.new ≡ length mapping.old }
     ensures earlier { result ≡ value_at mapping.old (TId.index_of id) }
     ensures put { IsUpdate (value_at mapping.old) (TId.index_of id) (Some value) (value_at mapping.new) }
 {

@@ -147,7 +147,7 @@ impl<TId: DenseIndex, V, A: Allocator> Mapping<TId, V, A> {
         ensures count { value_count self.new ≡ value_count self.old }
         ensures slots { OnOk result (length self.new ≡ max (length self.old) (slots_for (TId.index_of id))) }
         ensures err { OnErr result (self.new ≡ self.old) }
-        ensures room { TId.index_of id < length self.old → IsOk result }
+        ensures room { TId.index_of id < length self.old → IsOk result × (self.new ≡ self.old) }
         ensures refused { IfErr result (IsGrowthRefusal (is_too_dense (TId.index_of id))) }
         ensures too_dense { IsTrue (is_too_dense (TId.index_of id)) → result ≡ Err IdSpace }
     {
@@ -175,7 +175,7 @@ impl<TId: DenseIndex, V, A: Allocator> Mapping<TId, V, A> {
         ensures count { IfOk result (λ earlier. value_count self.new + (if is_some earlier then 1 else 0) ≡ value_count self.old + 1) }
         ensures slots { OnOk result (length self.new ≡ max (length self.old) (slots_for (TId.index_of id))) }
         ensures err { IfErr result (λ refused. (refused.value ≡ value) × (self.new ≡ self.old)) }
-        ensures room { TId.index_of id < length self.old → IsOk result }
+        ensures room { TId.index_of id < length self.old → IsOk result × (length self.new ≡ length self.old) }
         ensures refused { IfErr result (λ refused. IsGrowthRefusal (is_too_dense (TId.index_of id)) refused.error) }
         ensures too_dense { IsTrue (is_too_dense (TId.index_of id)) → result ≡ Err (record { error = IdSpace; value = value }) }
     {

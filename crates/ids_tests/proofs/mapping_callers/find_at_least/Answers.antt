@@ -1,4 +1,4 @@
-use Rattle.std.proofs.Common.{◌≡◌, ◌<◌, ℕ, List, Some, sym, ◌∙◌, arith}
+use Rattle.std.proofs.Common.{◌≡◌, ◌<◌, ℕ, Some, sym, ◌∙◌, arith}
 use Rattle.std.proofs.lemmas.List.Elements.{All-same, All-rest, All-cons}
 use Rattle.resolvo_ids.specs.Mapping.{value_at}
 use Rattle.resolvo_ids.proofs.MappingLemmas.{each_value}
