@@ -1,13 +1,13 @@
 -- From the parts of a script to the whole.
 use Rattle.std.proofs.Common.{◌≡◌, ℕ, List, [], ◌++◌, Option, None, Some, Result, Ok, Err, IfSome, refl, sym, subst, inl, inr, ◌∙◌, append-nil}
 use Rattle.resolvo_store.specs.Store.{new_store}
-use Rattle.clause_store.specs.declared.fault.ScriptFault.{ScriptFault}
-use Rattle.clause_store.specs.declared.fault.ScriptFault.TheVariants.{Unreadable, Device, Memory}
-use Rattle.clause_store.specs.declared.packages.Packages.{Packages}
-use Rattle.clause_store.specs.Catalogues.{nothing_listed}
-use Rattle.clause_store.specs.CatalogueEnds.{CommandsBegin, CatalogueFault}
-use Rattle.clause_store.specs.Lines.{lines as lines_of}
-use Rattle.clause_store.specs.Output.{Writes}
+use Rattle.script_packages.specs.declared.fault.ScriptFault.{ScriptFault}
+use Rattle.script_packages.specs.declared.fault.ScriptFault.TheVariants.{Unreadable, Device, Memory}
+use Rattle.script_packages.specs.declared.packages.Packages.{Packages}
+use Rattle.script_packages.specs.Catalogues.{nothing_listed}
+use Rattle.script_packages.specs.CatalogueEnds.{CommandsBegin, CatalogueFault}
+use Rattle.script_packages.specs.Lines.{lines as lines_of}
+use Rattle.script_packages.specs.Output.{Writes}
 use Rattle.clause_store.specs.ScriptStore.{provider_of}
 use Rattle.clause_store.specs.Scripts.{ScriptAnswered, faulty_text}
 use Rattle.clause_store.specs.Transcript.{Answered, IfRead}

@@ -2,14 +2,14 @@
 use Rattle.std.proofs.Common.{◌≡◌, ℕ, ◌+◌, List, [], ◌∷◌, ◌++◌, Option, None, Some, Ok, Err, refl, sym, ap, subst, ◌∙◌, append_assoc, append-nil}
 use Rattle.resolvo_store.specs.declared.command.Command.{Command as ProgramCommand}
 use Rattle.resolvo_store.specs.Store.{Store}
-use Rattle.clause_store.specs.declared.fault.LineFault.{LineFault}
-use Rattle.clause_store.specs.declared.fault.LineFault.TheVariants as OfLine
-use Rattle.clause_store.specs.declared.statement.Line.{Line}
-use Rattle.clause_store.specs.declared.statement.Line.TheVariants.{Skipped, Unreadable, Says}
+use Rattle.script_packages.specs.declared.fault.LineFault.{LineFault}
+use Rattle.script_packages.specs.declared.fault.LineFault.TheVariants as OfLine
+use Rattle.script_packages.specs.declared.statement.Line.{Line}
+use Rattle.script_packages.specs.declared.statement.Line.TheVariants.{Skipped, Unreadable, Says}
+use Rattle.script_packages.specs.Output.{Writes}
+use Rattle.script_packages.specs.Status.{fault_at}
 use Rattle.clause_store.specs.Commands.{command_line_of}
-use Rattle.clause_store.specs.Output.{Writes}
 use Rattle.clause_store.specs.Replies.{reply_text}
-use Rattle.clause_store.specs.Status.{fault_at}
 use Rattle.clause_store.specs.Transcript.{ObeysLine, LineAnswered, Answered, IfRead}
 
 -- what was written and waits, and then more of it

@@ -4,12 +4,12 @@ use Rattle.resolvo_store.specs.declared.command.Command.{Command as ProgramComma
 use Rattle.resolvo_store.specs.Command.{Reply, command_of}
 use Rattle.resolvo_store.specs.Store.{Store}
 use Rattle.resolvo_store.specs.Step.{Step}
-use Rattle.clause_store.specs.declared.fault.LineFault.{LineFault}
-use Rattle.clause_store.specs.declared.fault.LineFault.TheVariants as OfLine
-use Rattle.clause_store.specs.declared.fault.ScriptFault.{ScriptFault}
-use Rattle.clause_store.specs.declared.fault.ScriptFault.TheVariants as OfScript
-use Rattle.clause_store.specs.declared.statement.Line.{Line}
-use Rattle.clause_store.specs.declared.statement.Line.TheVariants.{Skipped, Unreadable, Says}
+use Rattle.script_packages.specs.declared.fault.LineFault.{LineFault}
+use Rattle.script_packages.specs.declared.fault.LineFault.TheVariants as OfLine
+use Rattle.script_packages.specs.declared.fault.ScriptFault.{ScriptFault}
+use Rattle.script_packages.specs.declared.fault.ScriptFault.TheVariants as OfScript
+use Rattle.script_packages.specs.declared.statement.Line.{Line}
+use Rattle.script_packages.specs.declared.statement.Line.TheVariants.{Skipped, Unreadable, Says}
 use Rattle.clause_store.specs.Commands.{command_line_of}
 use Rattle.clause_store.specs.Replies.{reply_text}
 

@@ -1,14 +1,12 @@
 //! Command lines.
 ghost use Rattle.std.specs.Prelude.{◌≡◌, ◌∷◌, [], option_map};
-ghost use Rattle.clause_store.specs.Words.{words};
-ghost use Rattle.clause_store.specs.Ids.{truth_of};
+ghost use Rattle.script_packages.specs.Words.{words};
+ghost use Rattle.script_packages.specs.Ids.{truth_of};
 ghost use Rattle.clause_store.specs.Commands.{command_of, variable_command, load_command, requires_command, assign_command, undo_command, decide_command, only_word, command_line_of};
 
-use crate::id::{id, requirement};
-use crate::statement::{Line, Statement, open_line};
-use crate::word::next_word;
 use resolvo_ids::SolvableId;
 use resolvo_store::Command;
+use script_packages::{Line, Statement, id, next_word, open_line, requirement};
 
 /// What a line behind `begin` says.
 pub fn command_line(line: &[u8]) -> Line<Command<SolvableId>>

@@ -4,29 +4,17 @@
 //! a read or a write failed, and 3 where memory ran out.
 #![tactic(auto)]
 
-mod catalogue;
-mod catalogue_line;
 mod command_line;
-mod fault;
-mod id;
-mod input;
-mod line;
-mod number;
-mod order;
-mod output;
-mod packages;
-mod provider;
 mod reply_line;
 mod script;
-mod statement;
 #[cfg(test)]
 mod tests;
-mod word;
 
+use script_packages::status;
 use std::io;
 use std::process::ExitCode;
 
 fn main(rt: HostRuntime) -> ExitCode {
     let ended = script::script(rt.alloc(), &mut rt.reader(), &mut io::writer(&rt));
-    ExitCode::from(fault::status(&ended))
+    ExitCode::from(status(&ended))
 }

@@ -1,39 +1,23 @@
 //! Scripts: a catalogue, and then commands, each of which is answered by a line.
-ghost use Rattle.std.specs.Prelude.{◌≡◌, ℕ, List, [], ◌++◌, ◌+◌, ◌^◌, ◌<◌, length, IfOk, IfErr, IfSome, MatchOption};
+ghost use Rattle.std.specs.Prelude.{◌≡◌, ℕ, List, [], ◌++◌, ◌+◌, ◌^◌, ◌<◌, length, IfSome};
 ghost use Rattle.resolvo_store.specs.Store.{new_store};
-ghost use Rattle.clause_store.specs.declared.fault.ScriptFault.TheVariants.{Device, Memory};
-ghost use Rattle.clause_store.specs.Catalogues.{nothing_listed};
-ghost use Rattle.clause_store.specs.CatalogueEnds.{NeverBegins, CommandsBegin, CatalogueFault};
-ghost use Rattle.clause_store.specs.Lines.{lines as lines_of};
+ghost use Rattle.script_packages.specs.declared.fault.ScriptFault.TheVariants.{Device, Memory};
+ghost use Rattle.script_packages.specs.Lines.{lines as lines_of};
+ghost use Rattle.script_packages.specs.Output.{Writes};
 ghost use Rattle.clause_store.specs.Commands.{command_line_of};
-ghost use Rattle.clause_store.specs.Output.{Writes};
 ghost use Rattle.clause_store.specs.ScriptStore.{script_store, provider_of};
 ghost use Rattle.clause_store.specs.Scripts.{ScriptAnswered, faulty_text};
 ghost use Rattle.clause_store.specs.Transcript.{ObeysLine, Answered, IfRead};
 
-use crate::catalogue::Catalogue;
-use crate::catalogue_line::{CatalogueLine, catalogue_line};
 use crate::command_line::command_line;
-use crate::fault::{LineFault, ScriptFault};
-use crate::input::read_whole;
-use crate::line::next_line;
-use crate::output::{write_much, write_rest};
-use crate::packages::Packages;
 use crate::reply_line::{push_reply, push_unreadable};
-use crate::statement::Line;
 use resolvo_store::ClauseStore;
+use script_packages::{
+    Commands, Line, LineFault, Packages, ScriptFault, next_line, read_catalogue, read_whole,
+    write_much, write_rest,
+};
 use std::alloc::Global;
 use std::io::{Read, Write};
-
-/// The commands of a script: the lines behind its catalogue.
-#[derive(Drop)]
-struct Commands<'a> {
-    packages: Packages,
-    lines: &'a [u8],
-    /// How many lines the catalogue had.
-    before: u64,
-    ghost fits: { before + length lines.now < 2 ^ 64 },
-}
 
 /// Reads a whole script, obeys its commands in turn, and writes a line for each reply. At the first unreadable line the
 /// line that names it is written, and nothing more is read. All that was to be written is written and flushed at every
@@ -84,38 +68,6 @@ fn obey_text<W: Write>(
         Ok(Some(commands)) => obey_commands(alloc, commands, waiting, writer),
         Err(fault) => Err(fault),
     }
-}
-
-/// Reads a catalogue, up to its `begin`; there may be none.
-fn read_catalogue(alloc: Global, text: &[u8]) -> Result<Option<Commands<'_>>, ScriptFault>
-    ensures ok { IfOk result (λ o. MatchOption o (NeverBegins nothing_listed (lines_of text.now))
-        (λ c. CommandsBegin nothing_listed 0 (lines_of text.now) c.before (lines_of c.lines.now) c.packages)) }
-    ensures err { IfErr result (CatalogueFault (lines_of text.now)) }
-{
-    let mut catalogue = Catalogue::new(alloc);
-    let mut before = 0;
-    let mut rest = text;
-    while let Some((line, lines)) = next_line(rest) {
-        before += 1;
-        rest = lines;
-        match catalogue_line(line) {
-            Line::Skipped => {}
-            Line::Unreadable => return Err(ScriptFault::Unreadable(before)),
-            Line::Says(CatalogueLine::Begin) => {
-                let packages = catalogue.packages;
-                return Ok(Some(Commands {
-                    packages,
-                    lines,
-                    before,
-                }));
-            }
-            Line::Says(entry) => match catalogue.add(entry) {
-                Ok(()) => {}
-                Err(fault) => return Err(fault.at(before)),
-            },
-        }
-    }
-    Ok(None)
 }
 
 /// Obeys the commands in turn.

@@ -1,6 +1,6 @@
 //! Scripts and their answers, and devices that fail.
-use crate::fault::{ScriptFault, status};
 use crate::script::script;
+use script_packages::{ScriptFault, status};
 use std::alloc::Global;
 use std::io;
 use std::io::{Error, ErrorKind, Read, Write};

@@ -1,5 +1,5 @@
 use Rattle.std.proofs.Common.{arith}
-use Rattle.clause_store.specs.Lines.{lines as lines_of}
+use Rattle.script_packages.specs.Lines.{lines as lines_of}
 use Rattle.clause_store.specs.ScriptStore.{script_store}
 use Rattle.clause_store.proofs.TranscriptLemmas.{so_far_more, ended_faulty}
 use Rattle.clause_store.proofs.script.obey_lines.Goals as goal

@@ -1,5 +1,5 @@
 use Rattle.std.proofs.Common.{◌+◌, ◌≤◌, length}
-use Rattle.clause_store.specs.Lines.{lines as lines_of}
+use Rattle.script_packages.specs.Lines.{lines as lines_of}
 use Rattle.clause_store.specs.ScriptStore.{script_store}
 use Rattle.clause_store.proofs.TranscriptLemmas.{SoFar}
 use Rattle.clause_store.proofs.script.obey_lines.Given as goal

@@ -1,4 +1,4 @@
-use Rattle.clause_store.specs.Lines.{lines as lines_of}
+use Rattle.script_packages.specs.Lines.{lines as lines_of}
 use Rattle.clause_store.proofs.ScriptLemmas.{commands_answered, catalogue_faulty}
 use Rattle.clause_store.proofs.script.obey_text.Goals as goal
 

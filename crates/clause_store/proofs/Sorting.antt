@@ -1,8 +1,0 @@
--- What the order of preference keeps.
-use Rattle.std.proofs.Common.{◌≡◌, ℕ, List, length}
-use Rattle.std.proofs.lemmas.List.Sorted.{length_permutation}
-use Rattle.clause_store.specs.Order.{best_first}
-use Rattle.clause_store.specs.OrderLaws.{best_first_permutes}
-
-pub length-best_first : (versions list : List ℕ) → length (best_first versions list) ≡ length list
-length-best_first versions list = length_permutation list (best_first versions list) (best_first_permutes versions list)

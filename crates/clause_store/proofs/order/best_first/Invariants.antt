@@ -1,6 +1,0 @@
-use Rattle.std.proofs.Common.{◌≡◌, drop, fold}
-use Rattle.clause_store.specs.Order.{inserted, best_first}
-use Rattle.clause_store.proofs.order.best_first.Given as goal
-
-abbrev pub invariant-loop-solvable : goal.invariant-loop-solvable
-invariant-loop-solvable l = fold (inserted l.versions) l.sorted.items (drop l.solvable-index l.solvables) ≡ best_first l.versions l.solvables

@@ -1,7 +1,0 @@
-use Rattle.std.proofs.Common.{◌∙◌, sym, ap, length}
-use Rattle.clause_store.proofs.Sorting.{length-best_first}
-use Rattle.clause_store.proofs.provider.PackagesDependencyProvider.sort_candidates.Goals as goal
-
-pub copy_from_slice-requires : goal.copy_from_slice-requires
-copy_from_slice-requires c =
-    sym (ap length (c.deref-2.ensures.value ∙ c.in_ok-sorted.ensures.ok) ∙ length-best_first c.deref.result.now c.args.solvables.now)

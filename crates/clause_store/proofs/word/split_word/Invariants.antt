@@ -1,6 +1,0 @@
-use Rattle.std.proofs.Common.{◌≡◌, take, drop}
-use Rattle.clause_store.specs.Words.{words, words_from}
-use Rattle.clause_store.proofs.word.split_word.Given as goal
-
-abbrev pub invariant-loop-i : goal.invariant-loop-i
-invariant-loop-i l = words_from (take l.i l.text) (drop l.i l.text) ≡ words l.text

@@ -1,9 +1,0 @@
-use Rattle.std.proofs.Common.{◌≡◌, ◌≤◌, length}
-use Rattle.clause_store.specs.Words.{words}
-use Rattle.clause_store.proofs.word.without_blanks.Given as goal
-
-abbrev pub invariant-loop-text : goal.invariant-loop-text
-invariant-loop-text l = record { words : words l.text ≡ words l.line; shorter : length l.text ≤ length l.line }
-
-abbrev pub decreases-loop-text : goal.decreases-loop-text
-decreases-loop-text l = length l.text

@@ -1,0 +1,63 @@
+-- What the lines of a catalogue say.
+use Rattle.std.specs.Prelude.{ℕ, List, [], ◌∷◌, Option, None, Some, option_map, option_and_then, if◌then◌else◌, codes}
+use Rattle.std.specs.List.{list_all}
+use Rattle.std.specs.Str.{bytes_eq}
+use Rattle.script_packages.specs.Lines.{is_printed}
+use Rattle.script_packages.specs.Words.{words}
+use Rattle.script_packages.specs.Ids.{number_32}
+use Rattle.script_packages.specs.Statements.{is_comment}
+use Rattle.script_packages.specs.declared.statement.Line.{Line}
+use Rattle.script_packages.specs.declared.statement.Line.TheVariants.{Skipped, Unreadable, Says}
+use Rattle.script_packages.specs.declared.catalogue_line.CatalogueLine.{CatalogueLine}
+use Rattle.script_packages.specs.declared.catalogue_line.CatalogueLine.TheVariants.{Package, Set, Begin}
+
+-- what a line says, with lists where the program has slices
+pub data Said : Type 0 where
+  Lists : (name : List ℕ) (versions : List (List ℕ)) → Said
+  Bounds : (name : List ℕ) (low high : ℕ) → Said
+  Begins : Said
+
+abbrev pub plain_said : CatalogueLine → Said
+plain_said (Package name versions) = Lists name.now (words versions.now)
+plain_said (Set name low high) = Bounds name.now low high
+plain_said Begin = Begins
+
+abbrev pub plain : Option CatalogueLine → Option Said
+plain None = None
+plain (Some said) = Some (plain_said said)
+
+abbrev pub plain_line : Line CatalogueLine → Line Said
+plain_line Skipped = Skipped
+plain_line Unreadable = Unreadable
+plain_line (Says said) = Says (plain_said said)
+
+abbrev pub package_of : List (List ℕ) → Option Said
+package_of (name ∷ version ∷ versions) = Some (Lists name (version ∷ versions))
+package_of _ = None
+
+abbrev pub set_of : List (List ℕ) → Option Said
+set_of (name ∷ low ∷ high ∷ []) = option_and_then (λ l. option_map (λ h. Bounds name l h) (number_32 high)) (number_32 low)
+set_of _ = None
+
+abbrev pub begin_of : List (List ℕ) → Option Said
+begin_of [] = Some Begins
+begin_of _ = None
+
+abbrev pub said_of : List ℕ → List (List ℕ) → Option Said
+said_of keyword ws =
+    if bytes_eq keyword (codes "package") then package_of ws
+    else if bytes_eq keyword (codes "set") then set_of ws
+    else if bytes_eq keyword (codes "begin") then begin_of ws
+    else None
+
+abbrev pub says : Option Said → Line Said
+says None = Unreadable
+says (Some said) = Says said
+
+abbrev pub words_say : List (List ℕ) → Line Said
+words_say [] = Skipped
+words_say (keyword ∷ ws) = if is_comment keyword then Skipped else says (said_of keyword ws)
+
+-- what a line up to `begin` says
+abbrev pub catalogue_line_of : List ℕ → Line Said
+catalogue_line_of line = if list_all is_printed line then words_say (words line) else Unreadable

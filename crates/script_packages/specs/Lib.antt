@@ -1,0 +1,15 @@
+pub mod CatalogueEnds
+pub mod CatalogueLines
+pub mod Catalogues
+pub mod Ids
+pub mod Lines
+pub mod Listing
+pub mod Numbers
+pub mod Order
+pub mod OrderLaws
+pub mod Output
+pub mod PackageAnswers
+pub mod Packages
+pub mod Statements
+pub mod Status
+pub mod Words

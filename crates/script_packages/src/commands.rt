@@ -1,0 +1,55 @@
+//! The commands of a script, which stand behind its catalogue.
+ghost use Rattle.std.specs.Prelude.{◌≡◌, ◌+◌, ◌^◌, ◌<◌, length, IfOk, IfErr, MatchOption};
+ghost use Rattle.script_packages.specs.Catalogues.{nothing_listed};
+ghost use Rattle.script_packages.specs.CatalogueEnds.{NeverBegins, CommandsBegin, CatalogueFault};
+ghost use Rattle.script_packages.specs.Lines.{lines as lines_of};
+
+use crate::catalogue::Catalogue;
+use crate::catalogue_line::{CatalogueLine, catalogue_line};
+use crate::fault::ScriptFault;
+use crate::line::next_line;
+use crate::packages::Packages;
+use crate::statement::Line;
+use std::alloc::Global;
+
+/// The commands of a script: the lines behind its catalogue, and the packages that it lists.
+#[derive(Drop)]
+pub struct Commands<'a> {
+    pub packages: Packages,
+    pub lines: &'a [u8],
+    /// How many lines the catalogue had.
+    pub before: u64,
+    ghost fits: { before + length lines.now < 2 ^ 64 },
+}
+
+/// Reads a catalogue, up to its `begin`; there may be none.
+pub fn read_catalogue(alloc: Global, text: &[u8]) -> Result<Option<Commands<'_>>, ScriptFault>
+    ensures ok { IfOk result (λ o. MatchOption o (NeverBegins nothing_listed (lines_of text.now))
+        (λ c. CommandsBegin nothing_listed 0 (lines_of text.now) c.before (lines_of c.lines.now) c.packages)) }
+    ensures err { IfErr result (CatalogueFault (lines_of text.now)) }
+{
+    let mut catalogue = Catalogue::new(alloc);
+    let mut before = 0;
+    let mut rest = text;
+    while let Some((line, lines)) = next_line(rest) {
+        before += 1;
+        rest = lines;
+        match catalogue_line(line) {
+            Line::Skipped => {}
+            Line::Unreadable => return Err(ScriptFault::Unreadable(before)),
+            Line::Says(CatalogueLine::Begin) => {
+                let packages = catalogue.packages;
+                return Ok(Some(Commands {
+                    packages,
+                    lines,
+                    before,
+                }));
+            }
+            Line::Says(entry) => match catalogue.add(entry) {
+                Ok(()) => {}
+                Err(fault) => return Err(fault.at(before)),
+            },
+        }
+    }
+    Ok(None)
+}

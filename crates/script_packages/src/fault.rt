@@ -1,0 +1,54 @@
+//! How a script can end.
+ghost use Rattle.std.specs.Prelude.{◌≡◌};
+ghost use Rattle.script_packages.specs.Status.{status_of};
+
+use thiserror::Error;
+
+/// Why a script was left before its end.
+#[derive(Clone, Copy, Debug, PartialEq, Eq, Error)]
+pub enum ScriptFault {
+    /// This line isn't in the format. Lines are counted from 1.
+    #[error("line {0} is unreadable")]
+    Unreadable(u64),
+    /// A read or a write failed.
+    #[error("a read or a write failed")]
+    Device,
+    /// Memory was refused outside a command, or the catalogue has more ids than there are.
+    #[error("out of memory")]
+    Memory,
+}
+
+/// Why a line was left before its end.
+#[derive(Clone, Copy, Debug, PartialEq, Eq)]
+pub enum LineFault {
+    /// It isn't in the format.
+    Unreadable,
+    /// Memory was refused, or ids ran out.
+    Memory,
+}
+
+impl LineFault {
+    ghost use Rattle.script_packages.specs.Status.{fault_at};
+
+    /// The fault of the script whose line of this number is faulty.
+    pub fn at(self, number: u64) -> ScriptFault
+        ensures { result ≡ fault_at number self }
+    {
+        match self {
+            LineFault::Unreadable => ScriptFault::Unreadable(number),
+            LineFault::Memory => ScriptFault::Memory,
+        }
+    }
+}
+
+/// The exit status of a script: 0 to its end, 1 at an unreadable line, 2 and 3 as the faults stand.
+pub fn status(ended: &Result<(), ScriptFault>) -> u8
+    ensures { result ≡ status_of ended.now }
+{
+    match ended {
+        Ok(()) => 0,
+        Err(ScriptFault::Unreadable(_)) => 1,
+        Err(ScriptFault::Device) => 2,
+        Err(ScriptFault::Memory) => 3,
+    }
+}

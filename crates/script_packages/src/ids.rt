@@ -1,0 +1,37 @@
+//! Numbers that stand for ids.
+ghost use Rattle.std.specs.Prelude.{◌≡◌, option_map, Some, None};
+ghost use Rattle.script_packages.specs.Numbers.{number_of, below};
+ghost use Rattle.script_packages.specs.Ids.{requirement_of};
+
+use crate::number::number;
+use resolvo_ids::{DenseIndex, VersionSetId, VersionSetUnionId};
+use resolvo_pool::Requirement;
+
+/// The id that a word stands for: its number is an index in range.
+pub fn id<I: DenseIndex>(word: &[u8]) -> Option<I>
+    ensures { result ≡ option_map I.id_at (below I.limit (number_of word.now)) }
+{
+    let index = number(word)? as usize;
+    if I::in_range(index) {
+        Some(I::from_index(index))
+    } else {
+        None
+    }
+}
+
+/// A requirement: `s` or `u`, and the number of a version set or of a union directly behind it.
+pub fn requirement(word: &[u8]) -> Option<Requirement>
+    ensures { result ≡ requirement_of word.now }
+{
+    match word {
+        [b's', set @ ..] => match id(set) {
+            Some(index) => Some(Requirement::Single(VersionSetId(index))),
+            None => None,
+        },
+        [b'u', union @ ..] => match id(union) {
+            Some(index) => Some(Requirement::Union(VersionSetUnionId(index))),
+            None => None,
+        },
+        _ => None,
+    }
+}

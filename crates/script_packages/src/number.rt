@@ -1,0 +1,37 @@
+//! Numbers of a script.
+ghost use Rattle.std.specs.Prelude.{◌≡◌};
+ghost use Rattle.script_packages.specs.Numbers.{number_of, value_from, with_digit};
+
+/// How many digits a number has at most.
+const MOST_DIGITS: usize = 20;
+
+/// The number that a word writes: one to twenty decimal digits, and a value below 2^64.
+pub(crate) fn number(word: &[u8]) -> Option<u64>
+    ensures { result ≡ number_of word.now }
+{
+    if word.is_empty() || word.len() > MOST_DIGITS {
+        return None;
+    }
+    value(word)
+}
+
+/// The value of decimal digits, where it is below 2^64.
+fn value(digits: &[u8]) -> Option<u64>
+    ensures { result ≡ value_from 0 digits.now }
+{
+    let mut value = 0u64;
+    for digit in digits {
+        value = with_digit(value, *digit)?;
+    }
+    Some(value)
+}
+
+/// The value with one more decimal digit behind it.
+fn with_digit(value: u64, digit: u8) -> Option<u64>
+    ensures { result ≡ with_digit value digit }
+{
+    if !digit.is_ascii_digit() {
+        return None;
+    }
+    value.checked_mul(10)?.checked_add(u64::from(digit - b'0'))
+}

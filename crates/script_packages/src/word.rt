@@ -1,0 +1,44 @@
+//! Words of a line.
+ghost use Rattle.std.specs.Prelude.{◌≡◌, ◌<◌, ◌≤◌, [], ◌∷◌, ◌++◌, length, MatchOption, Some, ◌≢◌};
+ghost use Rattle.std.specs.Prelude.{slice_get, IfSome};
+ghost use Rattle.script_packages.specs.Words.{words, words_from, begun_word};
+
+/// The first word of a line, and what stands behind it; none where no word is left.
+pub fn next_word(line: &[u8]) -> Option<(&[u8], &[u8])>
+    ensures first { MatchOption result (words line.now ≡ []) (λ r. words line.now ≡ r.0.now ∷ words r.1.now) }
+    ensures shorter { MatchOption result (words line.now ≡ []) (λ r. length r.1.now < length line.now) }
+{
+    let text = without_blanks(line);
+    if text.is_empty() {
+        return None;
+    }
+    Some(split_word(text))
+}
+
+/// A line from its first word on.
+fn without_blanks(line: &[u8]) -> &[u8]
+    ensures words { words result.now ≡ words line.now }
+    ensures begins { IfSome (slice_get result.now 0) (λ b. b ≢ 32) }
+    ensures shorter { length result.now ≤ length line.now }
+{
+    let mut text = line;
+    while let [b' ', rest @ ..] = text {
+        text = rest;
+    }
+    text
+}
+
+/// The bytes up to the first blank or the end, and those from there on.
+fn split_word(text: &[u8]) -> (&[u8], &[u8])
+    requires some { 0 < length text.now }
+    requires begins { IfSome (slice_get text.now 0) (λ b. b ≢ 32) }
+    ensures first { words text.now ≡ result.0.now ∷ words result.1.now }
+    ensures shorter { length result.1.now < length text.now }
+{
+    for (i, byte) in text.iter().enumerate() {
+        if *byte == b' ' {
+            return text.split_at(i);
+        }
+    }
+    (text, &text[text.len()..])
+}
