@@ -8,10 +8,7 @@ use std::rt::Clock;
 use std::time::Instant;
 
 /// Measures `insert` into new sets, and `contains`.
-pub(crate) fn measure(
-    rt: &(impl Print + Clock + AllocGlobal),
-    size: u32,
-) -> Result<(), Fault> {
+pub(crate) fn measure(rt: &(impl Print + Clock + AllocGlobal), size: u32) -> Result<(), Fault> {
     let ids = ids(rt.alloc(), size)?;
     let rounds = rounds(size);
     let start = Instant::now(rt)?;

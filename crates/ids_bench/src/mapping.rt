@@ -7,10 +7,7 @@ use std::rt::Clock;
 use std::time::Instant;
 
 /// Measures `insert` over filled slots, and `get`.
-pub(crate) fn measure(
-    rt: &(impl Print + Clock + AllocGlobal),
-    size: u32,
-) -> Result<(), Fault> {
+pub(crate) fn measure(rt: &(impl Print + Clock + AllocGlobal), size: u32) -> Result<(), Fault> {
     let ids = ids(rt.alloc(), size)?;
     let rounds = rounds(size);
     let mut mapping: Mapping<NameId, u64> = Mapping::with_capacity(rt.alloc(), ids.len())?;
@@ -33,7 +30,11 @@ pub(crate) fn measure(
     Ok(())
 }
 
-fn insert_often(mapping: &mut Mapping<NameId, u64>, ids: &[NameId], rounds: u32) -> Result<u64, StoreError> {
+fn insert_often(
+    mapping: &mut Mapping<NameId, u64>,
+    ids: &[NameId],
+    rounds: u32,
+) -> Result<u64, StoreError> {
     let mut sum: u64 = 0;
     for round in 0..rounds {
         sum = sum.wrapping_add(insert_each(mapping, ids, u64::from(round))?);
@@ -41,7 +42,11 @@ fn insert_often(mapping: &mut Mapping<NameId, u64>, ids: &[NameId], rounds: u32)
     Ok(sum)
 }
 
-fn insert_each(mapping: &mut Mapping<NameId, u64>, ids: &[NameId], value: u64) -> Result<u64, StoreError> {
+fn insert_each(
+    mapping: &mut Mapping<NameId, u64>,
+    ids: &[NameId],
+    value: u64,
+) -> Result<u64, StoreError> {
     let mut sum: u64 = 0;
     for id in ids {
         let earlier = mapping.insert(*id, value)?;
