@@ -1,11 +1,12 @@
 //! The sets with ample memory: none of their calls is refused for want of it, and the answers are as wanted.
+ghost use Rattle.std.specs.Prelude.{◌≢◌};
+
 use crate::any_set::{SetAnswers, set_answers};
 use resolvo_ids::{
-    DenseId, FrozenCopyMap, IdSet, IndexedSet, NameId, NameTag, SolvableId, SolvableIdOrRoot,
-    StoreError, WithRootSet,
+    DenseId, FrozenCopyMap, IndexedSet, NameId, NameTag, SolvableId, SolvableIdOrRoot, SolverId,
+    SparseId, StoreError, WithRootSet,
 };
 use std::alloc::Global;
-use std::collections::HashSet;
 use std::test::Fail;
 
 const WANTED: SetAnswers = SetAnswers {
@@ -38,14 +39,25 @@ fn dense_sets_end_before_two_to_the_fortieth(rt: HostRuntime) {
     assert_eq!(rt; set.contains(id), false);
 }
 
+/// What the set says that an id chooses for itself.
+fn answers_of_its_set<S: SolverId<Global>>(
+    alloc: Global,
+    key: S,
+    other: S,
+) -> Result<SetAnswers, StoreError>
+    requires { other ≢ key }
+{
+    set_answers::<S, Global, S::Set>(alloc, key, other)
+}
+
 #[test]
-fn every_set_answers_alike(rt: HostRuntime) -> Result<(), Fail> {
-    let key = NameId::from_raw(64);
-    let other = NameId::from_raw(127);
-    let dense = set_answers::<NameId, Global, IndexedSet<NameId>>(rt.alloc(), key, other)?;
+fn dense_and_sparse_ids_sets_answer_alike(rt: HostRuntime) -> Result<(), Fail> {
+    let alloc = rt.alloc();
+    let dense = answers_of_its_set(alloc, NameId::from_raw(64), NameId::from_raw(127))?;
     assert_eq!(rt; dense, WANTED);
-    let hashed = set_answers::<NameId, Global, HashSet<NameId>>(rt.alloc(), key, other)?;
-    assert_eq!(rt; hashed, WANTED);
+    let key: SparseId<NameTag> = SparseId::from_raw(64);
+    let sparse = answers_of_its_set(alloc, key, SparseId::from_raw(127))?;
+    assert_eq!(rt; sparse, WANTED);
     Ok(())
 }
 
