@@ -1,5 +1,5 @@
 //! The commands of a script, which stand behind its catalogue.
-ghost use Rattle.std.specs.Prelude.{◌≡◌, ◌+◌, ◌^◌, ◌<◌, length, IfOk, IfErr, MatchOption};
+ghost use Rattle.std.specs.Prelude.{◌+◌, ◌^◌, ◌<◌, length, IfOk, IfErr, MatchOption};
 ghost use Rattle.script_packages.specs.Catalogues.{nothing_listed};
 ghost use Rattle.script_packages.specs.CatalogueEnds.{NeverBegins, CommandsBegin, CatalogueFault};
 ghost use Rattle.script_packages.specs.Lines.{lines as lines_of};
