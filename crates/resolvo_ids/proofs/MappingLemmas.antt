@@ -72,6 +72,6 @@ module _ {V : Type 0} where
   pairs_are_values limit id_at index_of slots round_trip below =
       all_pairs_from (λ pair. value_at slots (index_of pair.0) ≡ Some pair.1) id_at 0 slots
       (λ index value found.
-        let start : 0 + index ≡ index = omega arith in
-        let filled : is_some (value_at slots index) ≡ true = rw found refl in
-        rw (start, round_trip index (below index filled)) found)
+      let start : 0 + index ≡ index = omega arith in
+      let filled : is_some (value_at slots index) ≡ true = rw found refl in
+      rw (start, round_trip index (below index filled)) found)
