@@ -10,6 +10,7 @@ mod indexed_set;
 mod mapping;
 mod order;
 mod report;
+mod total_map;
 
 use fault::Fault;
 use std::env;
@@ -27,6 +28,7 @@ fn main(rt: HostRuntime) -> Result<(), Fault> {
         mapping::measure(&rt, size)?;
         arena::measure(&rt, size)?;
         indexed_set::measure(&rt, size)?;
+        total_map::measure(&rt, size)?;
     }
     Ok(())
 }
