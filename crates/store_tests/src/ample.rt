@@ -1,42 +1,36 @@
 //! Each call that takes memory, once with ample memory: none of them is refused, and the answers are as wanted. (A body
 //! that always answers want of memory would meet any contract.)
 use crate::obeys::Obeys;
-use crate::script::{
-    clause, decided, loaded, one_package_store, replies_without, single, variable,
-};
+use crate::script::{clause, each_command, each_reply, one_package, single, variable};
+use crate::sparse_lists::{SparseLists, SparseName, SparseSolvable};
+use crate::stores::replies_without;
 use resolvo_clauses::{Decision, DecisionMap, DecisionTracker, VariableMap, VariableOrigin};
-use resolvo_ids::{DenseIndex, IdMap, NameId, Slot, SolvableId};
-use resolvo_pool::RequirementMap;
+use resolvo_ids::{DenseIndex, IdMap, NameId, Slot, SolvableId, SolverId, StoreError};
+use resolvo_pool::{DependencyProvider, Interner, RequirementMap};
 use resolvo_queue::{Answer, DecideQueue};
-use resolvo_store::{Command, Reply};
-use std::alloc::{AllocError, Global};
+use resolvo_store::{ClauseStore, Command};
+use std::alloc::{Allocator, Global};
 use std::process::Abort;
 use std::test::Fail;
 
 #[test]
-fn total_maps_keep_what_is_written(rt: HostRuntime) -> Result<(), Fail> {
+fn total_maps_keep_numbers(rt: HostRuntime) -> Result<(), Fail> {
     let mut map: Vec<u64> = IdMap::<NameId, u64, Global>::new(rt.alloc());
     IdMap::<NameId, u64, Global>::set(&mut map, NameId::from_raw(5), 4)?;
     IdMap::<NameId, u64, Global>::make_room(&mut map, NameId::from_raw(9))?;
-    assert_eq!(rt;
-        IdMap::<NameId, u64, Global>::get(&map, NameId::from_raw(5)),
-        4
-    );
-    assert_eq!(rt;
-        IdMap::<NameId, u64, Global>::get(&map, NameId::from_raw(9)),
-        0
-    );
-    assert_eq!(rt;
-        IdMap::<NameId, u64, Global>::get(&map, NameId::from_raw(70)),
-        0
-    );
+    for (name, value) in [(5, 4), (9, 0), (70, 0)] {
+        let kept = IdMap::<NameId, u64, Global>::get(&map, NameId::from_raw(name));
+        assert_eq!(rt; kept, value, "of name {name}");
+    }
+    Ok(())
+}
+
+#[test]
+fn total_maps_keep_slots(rt: HostRuntime) -> Result<(), Fail> {
+    let first = SolvableId::from_raw(1);
     let mut slots: Vec<Slot> = IdMap::<SolvableId, Slot, Global>::new(rt.alloc());
-    IdMap::<SolvableId, Slot, Global>::set(
-        &mut slots,
-        SolvableId::from_raw(1),
-        Slot::new(Some(7)),
-    )?;
-    let slot = IdMap::<SolvableId, Slot, Global>::get(&slots, SolvableId::from_raw(1));
+    IdMap::<SolvableId, Slot, Global>::set(&mut slots, first, Slot::new(Some(7)))?;
+    let slot = IdMap::<SolvableId, Slot, Global>::get(&slots, first);
     assert_eq!(rt; slot.number(), Some(7));
     Ok(())
 }
@@ -56,63 +50,133 @@ fn requirement_maps_keep_the_later_value(rt: HostRuntime) -> Result<(), Fail> {
 #[test]
 fn variables_count_up(rt: HostRuntime) -> Result<(), Fail> {
     let mut variables: VariableMap<NameId, SolvableId, Global> = VariableMap::new(rt.alloc())?;
-    let first = SolvableId::from_raw(8);
-    let second = SolvableId::from_raw(2);
-    assert_eq!(rt; variables.intern_solvable(first)?, variable(1));
-    assert_eq!(rt; variables.intern_solvable(second)?, variable(2));
-    assert_eq!(rt; variables.intern_solvable(first)?, variable(1));
+    count_up(
+        &rt,
+        &mut variables,
+        SolvableId::from_raw(8),
+        SolvableId::from_raw(2),
+    )
+}
+
+fn count_up<N: Copy, S: SolverId<A>, A: Allocator + Copy>(
+    rt: &impl Abort,
+    variables: &mut VariableMap<N, S, A>,
+    first: S,
+    second: S,
+) -> Result<(), Fail> {
+    interns_as(rt, variables, first, 1)?;
+    interns_as(rt, variables, second, 2)?;
+    interns_as(rt, variables, first, 1)?;
     assert_eq!(rt; variables.lookup_solvable(second), Some(variable(2)));
+    assert_eq!(rt; variables.count(), 3);
     variables.forget_from(2);
     assert_eq!(rt; variables.lookup_solvable(second), None);
     assert_eq!(rt; variables.count(), 2);
-    let origin: VariableOrigin<NameId, SolvableId> = VariableOrigin::Solvable(first);
-    assert_eq!(rt; origin.as_solvable(), Some(first));
+    Ok(())
+}
+
+fn interns_as<N: Copy, S: SolverId<A>, A: Allocator + Copy>(
+    rt: &impl Abort,
+    variables: &mut VariableMap<N, S, A>,
+    solvable: S,
+    index: u16,
+) -> Result<(), Fail> {
+    assert_eq!(rt; variables.intern_solvable(solvable)?, variable(index));
     Ok(())
 }
 
 #[test]
-fn the_trail_takes_decisions(rt: HostRuntime) -> Result<(), Fail> {
+fn origins_name_their_solvable(rt: HostRuntime) {
+    let first = SolvableId::from_raw(8);
+    let origin: VariableOrigin<NameId, SolvableId> = VariableOrigin::Solvable(first);
+    assert_eq!(rt; origin.as_solvable(), Some(first));
+}
+
+#[test]
+fn maps_of_decisions_keep_values(rt: HostRuntime) -> Result<(), Fail> {
     let mut map: DecisionMap<Global> = DecisionMap::new(rt.alloc());
     map.set(variable(3), false, 2)?;
     assert_eq!(rt; map.value(variable(3)), Some(false));
+    Ok(())
+}
+
+#[test]
+fn the_trail_takes_decisions(rt: HostRuntime) {
     let mut trail: DecisionTracker<Global> = DecisionTracker::new(rt.alloc());
-    let first = Decision::new(variable(4), true, clause(0));
-    assert_eq!(rt; trail.try_add_decision(first, 7), Ok(true));
-    let again = Decision::new(variable(4), true, clause(1));
-    assert_eq!(rt; trail.try_add_decision(again, 9), Ok(false));
+    takes_decisions(&rt, &mut trail);
+}
+
+fn takes_decisions<A: Allocator + Copy>(rt: &impl Abort, trail: &mut DecisionTracker<A>) {
+    for (from, level, is_new) in [(0, 7, true), (1, 9, false)] {
+        let decision = Decision::new(variable(4), true, clause(from));
+        assert_eq!(rt; trail.try_add_decision(decision, level), Ok(is_new));
+    }
     assert_eq!(rt; trail.assigned_value(variable(4)), Some(true));
     assert_eq!(rt; trail.level(variable(4)), 7);
-    Ok(())
 }
 
 #[test]
 fn the_queue_takes_clauses(rt: HostRuntime) -> Result<(), Fail> {
     let mut queue: DecideQueue<Global> = DecideQueue::new(rt.alloc());
+    let mut values: DecisionMap<Global> = DecisionMap::new(rt.alloc());
+    takes_clauses(&rt, rt.alloc(), &mut queue, &mut values)
+}
+
+fn takes_clauses<A: Allocator + Copy>(
+    rt: &impl Abort,
+    heap: A,
+    queue: &mut DecideQueue<A>,
+    values: &mut DecisionMap<A>,
+) -> Result<(), Fail> {
     queue.register_clause(variable(1), single(0), clause(0))?;
     assert_eq!(rt; queue.len(), 1);
-    let mut values: DecisionMap<Global> = DecisionMap::new(rt.alloc());
     values.set(variable(1), true, 1)?;
-    let lists = RequirementMap::new(rt.alloc());
-    assert_eq!(rt; queue.decide(&values, &lists), Answer::Falsified(clause(0)));
+    let lists = RequirementMap::new(heap);
+    assert_eq!(rt; queue.decide(values, &lists), Answer::Falsified(clause(0)));
     Ok(())
 }
 
 #[test]
 fn a_store_obeys_each_command(rt: HostRuntime) -> Result<(), Fail> {
-    let mut store = one_package_store(rt.alloc())?;
-    obeys_each_command(&rt, &mut store)
+    let provider = one_package(rt.alloc())?;
+    let commands = each_command(SolvableId::from_raw(0));
+    obeys_each_command(&rt, rt.alloc(), provider, NameId::from_raw(0), &commands)
 }
 
-fn obeys_each_command<S: Obeys<Global>>(
+#[test]
+fn a_store_of_sparse_ids_obeys_each_command(rt: HostRuntime) -> Result<(), Fail> {
+    let provider = SparseLists(one_package(rt.alloc())?);
+    let commands = each_command(SparseSolvable::from_raw(0));
+    obeys_each_command(
+        &rt,
+        rt.alloc(),
+        provider,
+        SparseName::from_raw(0),
+        &commands,
+    )
+}
+
+fn obeys_each_command<D: DependencyProvider + Drop>(
     rt: &(impl Abort + AllocGlobal),
-    store: &mut S,
+    heap: D::Alloc,
+    provider: D,
+    name: D::NameId,
+    commands: &[Command<D::SolvableId>],
 ) -> Result<(), Fail> {
-    let alloc = rt.alloc();
-    let candidates = store.candidates(alloc, NameId::from_raw(0))?;
-    assert_eq!(rt; candidates.map_or(0, |list| list.len()), 2);
-    let commands = each_command();
-    let wanted = each_reply(alloc)?;
-    let replies = replies_without(alloc, store, &commands, commands.len())?;
+    let mut store = ClauseStore::new(heap, provider)?;
+    gives_each_reply(rt, heap, &mut store, name, commands)
+}
+
+fn gives_each_reply<N, S: Copy, A: Allocator, T: Obeys<N, S, A>>(
+    rt: &(impl Abort + AllocGlobal),
+    heap: A,
+    store: &mut T,
+    name: N,
+    commands: &[Command<S>],
+) -> Result<(), Fail> {
+    assert_eq!(rt; candidate_count(heap, store, name)?, 2);
+    let wanted = each_reply(rt.alloc())?;
+    let replies = replies_without(rt.alloc(), store, commands, commands.len())?;
     assert_eq!(rt; replies.as_slice(), wanted.as_slice());
     assert_eq!(rt; store.value_of(variable(0)), Some(true));
     assert_eq!(rt; store.value_of(variable(2)), None);
@@ -120,26 +184,13 @@ fn obeys_each_command<S: Obeys<Global>>(
     Ok(())
 }
 
-/// Each command that succeeds over one package, but for an undo; a requirement is loaded twice.
-fn each_command() -> [Command<SolvableId>; 6] {
-    [
-        Command::Variable(SolvableId::from_raw(0)),
-        Command::Load(single(0)),
-        Command::Load(single(0)),
-        Command::Requires(variable(0), single(0), None),
-        Command::Assign(variable(0), true, clause(0), 3),
-        Command::Decide,
-    ]
-}
-
-fn each_reply(alloc: Global) -> Result<Vec<Reply<Global>>, AllocError> {
-    let replies = vec![in alloc;
-        Reply::Variable(variable(1)),
-        loaded(alloc, &[2, 1])?,
-        loaded(alloc, &[2, 1])?,
-        Reply::Clause(clause(0), false),
-        Reply::Assigned,
-        decided(2, 0, 0, 2),
-    ]?;
-    Ok(replies)
+fn candidate_count<N, S: Copy, A: Allocator, T: Obeys<N, S, A>>(
+    heap: A,
+    store: &T,
+    name: N,
+) -> Result<usize, StoreError> {
+    match store.candidates(heap, name)? {
+        Some(list) => Ok(list.len()),
+        None => Ok(0),
+    }
 }

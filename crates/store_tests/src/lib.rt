@@ -1,5 +1,5 @@
-//! Tests of the clause store across its crates: a provider of plain lists, callers that are generic in the provider,
-//! worked examples computed from the definitions, and runs in which memory is refused.
+//! Tests of the clause store across its crates: providers of plain lists with dense ids and with sparse ones, callers
+//! that are generic in the provider, worked examples computed from the definitions, and runs in which memory is refused.
 #![tactic(auto)]
 
 #[cfg(test)]
@@ -13,9 +13,13 @@ mod obeys;
 mod refused;
 #[cfg(test)]
 mod script;
+mod sparse_lists;
+#[cfg(test)]
+mod stores;
 #[cfg(test)]
 mod worked;
 
 pub use callers::{ask, decides_unbeaten, obey, unknown};
 pub use computed::{examples, play_is_run};
 pub use lists::{Lists, Package, VersionRange};
+pub use sparse_lists::{SparseLists, SparseName, SparseSolvable};

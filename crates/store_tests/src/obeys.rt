@@ -1,36 +1,33 @@
 //! What the tests ask of a store. What they share is generic in it, since a proof over a type parameter is much shorter
 //! than one over the store's own type.
-use crate::lists::Lists;
-use resolvo_ids::{ClauseId, NameId, SolvableId, StoreError, VariableId};
-use resolvo_pool::DependencyProvider;
+use resolvo_ids::{ClauseId, StoreError, VariableId};
+use resolvo_pool::{DependencyProvider, Interner};
 use resolvo_store::{ClauseStore, Command, Reply};
 use std::alloc::Allocator;
 
-/// A store over plain lists.
-pub(crate) trait Obeys<A: Allocator> {
-    fn obey(&mut self, command: &Command<SolvableId>) -> Reply<A>;
+/// A store over a provider with names `N` and solvables `S`.
+pub(crate) trait Obeys<N, S, A: Allocator> {
+    fn obey(&mut self, command: &Command<S>) -> Reply<A>;
 
-    fn obey_all(
-        &mut self,
-        commands: &[Command<SolvableId>],
-    ) -> Result<Vec<Reply<A>, A>, StoreError>;
+    fn obey_all(&mut self, commands: &[Command<S>]) -> Result<Vec<Reply<A>, A>, StoreError>;
 
     fn value_of(&self, variable: VariableId) -> Option<bool>;
 
     fn falsified_clause(&self) -> Option<ClauseId>;
 
-    fn candidates(&self, alloc: A, name: NameId) -> Result<Option<Vec<SolvableId, A>>, StoreError>;
+    /// The candidates that the provider lists of a name.
+    fn candidates(&self, heap: A, name: N) -> Result<Option<Vec<S, A>>, StoreError>;
 }
 
-impl<A: Allocator + Copy> Obeys<A> for ClauseStore<Lists<A>> {
-    fn obey(&mut self, command: &Command<SolvableId>) -> Reply<A> {
+impl<D: DependencyProvider + Drop> Obeys<D::NameId, D::SolvableId, D::Alloc> for ClauseStore<D> {
+    fn obey(&mut self, command: &Command<D::SolvableId>) -> Reply<D::Alloc> {
         self.step(command)
     }
 
     fn obey_all(
         &mut self,
-        commands: &[Command<SolvableId>],
-    ) -> Result<Vec<Reply<A>, A>, StoreError> {
+        commands: &[Command<D::SolvableId>],
+    ) -> Result<Vec<Reply<D::Alloc>, D::Alloc>, StoreError> {
         self.run(commands)
     }
 
@@ -42,7 +39,11 @@ impl<A: Allocator + Copy> Obeys<A> for ClauseStore<Lists<A>> {
         self.falsified()
     }
 
-    fn candidates(&self, alloc: A, name: NameId) -> Result<Option<Vec<SolvableId, A>>, StoreError> {
-        self.provider().get_candidates(alloc, name)
+    fn candidates(
+        &self,
+        heap: D::Alloc,
+        name: D::NameId,
+    ) -> Result<Option<Vec<D::SolvableId, D::Alloc>>, StoreError> {
+        self.provider().get_candidates(heap, name)
     }
 }

@@ -1,15 +1,13 @@
 //! What the tests share: two catalogues, their commands, and the replies that are wanted.
 use crate::lists::{Lists, Package, VersionRange};
-use crate::obeys::Obeys;
 use resolvo_ids::{
-    ClauseId, DenseIndex, DisjunctionId, NameId, SolvableId, StoreError, VariableId, VersionSetId,
+    ClauseId, DenseIndex, DisjunctionId, NameId, StoreError, VariableId, VersionSetId,
     VersionSetUnionId,
 };
 use resolvo_pool::Requirement;
 use resolvo_queue::QueueDecision;
-use resolvo_store::{ClauseStore, Command, Reply};
+use resolvo_store::{Command, Reply};
 use std::alloc::{AllocError, Allocator, Global};
-use std::test::Fail;
 
 pub(crate) fn variable(index: u16) -> VariableId {
     VariableId::from_index(index as usize)
@@ -66,22 +64,14 @@ pub(crate) fn loaded(alloc: Global, variables: &[u16]) -> Result<Reply<Global>, 
 }
 
 /// Package 0 in versions 1 and 2, package 1 in version 1, and a version set of all versions of each.
-fn two_packages<A: Allocator + Copy>(alloc: A) -> Result<Lists<A>, AllocError> {
+pub(crate) fn two_packages<A: Allocator + Copy>(alloc: A) -> Result<Lists<A>, AllocError> {
     let packages = vec![in alloc; package(0, 1), package(0, 2), package(1, 1)]?;
     let ranges = vec![in alloc; range(0, 1, 3), range(1, 1, 2)]?;
     Ok(Lists { packages, ranges })
 }
 
-/// A store over them.
-pub(crate) fn two_packages_store<A: Allocator + Copy>(
-    alloc: A,
-) -> Result<ClauseStore<Lists<A>>, Fail> {
-    let store = ClauseStore::new(alloc, two_packages(alloc)?)?;
-    Ok(store)
-}
-
 /// A decision is asked for, taken, undone, and asked for again.
-pub(crate) fn two_packages_commands() -> [Command<SolvableId>; 11] {
+pub(crate) fn two_packages_commands<S>() -> [Command<S>; 11] {
     [
         Command::Load(single(0)),
         Command::Load(single(1)),
@@ -115,22 +105,14 @@ pub(crate) fn two_packages_replies(alloc: Global) -> Result<Vec<Reply<Global>>, 
 }
 
 /// Package 0 in versions 1 and 2, and a version set of all of them.
-fn one_package<A: Allocator + Copy>(alloc: A) -> Result<Lists<A>, AllocError> {
+pub(crate) fn one_package<A: Allocator + Copy>(alloc: A) -> Result<Lists<A>, AllocError> {
     let packages = vec![in alloc; package(0, 1), package(0, 2)]?;
     let ranges = vec![in alloc; range(0, 1, 3)]?;
     Ok(Lists { packages, ranges })
 }
 
-/// A store over them.
-pub(crate) fn one_package_store<A: Allocator + Copy>(
-    alloc: A,
-) -> Result<ClauseStore<Lists<A>>, Fail> {
-    let store = ClauseStore::new(alloc, one_package(alloc)?)?;
-    Ok(store)
-}
-
 /// Refusals, and a clause that becomes falsified.
-pub(crate) fn one_package_commands() -> [Command<SolvableId>; 12] {
+pub(crate) fn one_package_commands<S>() -> [Command<S>; 12] {
     let union = Requirement::Union(VersionSetUnionId(0));
     let disjunction = DisjunctionId::from_index(0);
     [
@@ -167,6 +149,30 @@ pub(crate) fn one_package_replies(alloc: Global) -> Result<Vec<Reply<Global>>, A
     Ok(replies)
 }
 
+/// Each command that succeeds over one package, but for an undo; a requirement is loaded twice.
+pub(crate) fn each_command<S>(first: S) -> [Command<S>; 6] {
+    [
+        Command::Variable(first),
+        Command::Load(single(0)),
+        Command::Load(single(0)),
+        Command::Requires(variable(0), single(0), None),
+        Command::Assign(variable(0), true, clause(0), 3),
+        Command::Decide,
+    ]
+}
+
+pub(crate) fn each_reply(alloc: Global) -> Result<Vec<Reply<Global>>, AllocError> {
+    let replies = vec![in alloc;
+        Reply::Variable(variable(1)),
+        loaded(alloc, &[2, 1])?,
+        loaded(alloc, &[2, 1])?,
+        Reply::Clause(clause(0), false),
+        Reply::Assigned,
+        decided(2, 0, 0, 2),
+    ]?;
+    Ok(replies)
+}
+
 /// The same replies, kept elsewhere.
 pub(crate) fn copy_of_all<A: Allocator>(
     alloc: Global,
@@ -180,7 +186,10 @@ pub(crate) fn copy_of_all<A: Allocator>(
 }
 
 /// The same reply, kept elsewhere.
-fn copy_of<A: Allocator>(alloc: Global, reply: &Reply<A>) -> Result<Reply<Global>, AllocError> {
+pub(crate) fn copy_of<A: Allocator>(
+    alloc: Global,
+    reply: &Reply<A>,
+) -> Result<Reply<Global>, AllocError> {
     Ok(match reply {
         Reply::Variable(variable) => Reply::Variable(*variable),
         Reply::Loaded(lists) => Reply::Loaded(copy_of_lists(alloc, lists)?),
@@ -205,21 +214,4 @@ fn copy_of_lists<A: Allocator>(
         copies.push(Vec::from_slice(alloc, list)?)?;
     }
     Ok(copies)
-}
-
-/// The replies to the commands in turn, but for one that is left out.
-pub(crate) fn replies_without<A: Allocator, S: Obeys<A>>(
-    alloc: Global,
-    store: &mut S,
-    commands: &[Command<SolvableId>],
-    left_out: usize,
-) -> Result<Vec<Reply<Global>>, AllocError> {
-    let mut replies = Vec::new(alloc);
-    for (i, command) in commands.iter().enumerate() {
-        if i != left_out {
-            let reply = store.obey(command);
-            replies.push(copy_of(alloc, &reply)?)?;
-        }
-    }
-    Ok(replies)
 }

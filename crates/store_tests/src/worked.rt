@@ -1,63 +1,138 @@
-//! The worked examples, by the code: each list of commands by steps, and as one run.
-use crate::obeys::Obeys;
+//! The worked examples, by the code: each list of commands by steps, and as one run, with dense ids and with sparse ones.
 use crate::script::{
-    one_package_commands, one_package_replies, one_package_store, replies_without,
-    two_packages_commands, two_packages_replies, two_packages_store,
+    one_package, one_package_commands, one_package_replies, two_packages, two_packages_commands,
+    two_packages_replies,
 };
-use resolvo_ids::SolvableId;
+use crate::sparse_lists::SparseLists;
+use crate::stores::{Way, replies_of};
+use resolvo_pool::{DependencyProvider, Interner};
 use resolvo_store::{Command, Reply};
 use std::alloc::Global;
 use std::process::Abort;
 use std::test::Fail;
 
-/// The commands are given these replies by steps.
-fn gives_by_steps<S: Obeys<Global> + Drop>(
+/// A new store over the provider gives these replies.
+fn gives<D: DependencyProvider + Drop>(
     rt: &(impl Abort + AllocGlobal),
-    mut store: S,
-    commands: &[Command<SolvableId>],
+    heap: D::Alloc,
+    provider: D,
+    commands: &[Command<D::SolvableId>],
+    way: Way,
     wanted: &[Reply<Global>],
 ) -> Result<(), Fail> {
-    let replies = replies_without(rt.alloc(), &mut store, commands, commands.len())?;
-    assert_eq!(rt; replies.as_slice(), wanted);
-    Ok(())
-}
-
-/// The commands are given these replies in one run.
-fn gives_by_run<S: Obeys<Global> + Drop>(
-    rt: &(impl Abort + AllocGlobal),
-    mut store: S,
-    commands: &[Command<SolvableId>],
-    wanted: &[Reply<Global>],
-) -> Result<(), Fail> {
-    let replies = store.obey_all(commands)?;
-    assert_eq!(rt; replies.as_slice(), wanted);
+    let replies = replies_of(rt.alloc(), heap, provider, commands, way)?;
+    assert_eq!(rt; replies.ok_or("the run is refused")?.as_slice(), wanted);
     Ok(())
 }
 
 #[test]
 fn two_packages_are_decided_by_steps(rt: HostRuntime) -> Result<(), Fail> {
     let wanted = two_packages_replies(rt.alloc())?;
-    let store = two_packages_store(rt.alloc())?;
-    gives_by_steps(&rt, store, &two_packages_commands(), &wanted)
+    let provider = two_packages(rt.alloc())?;
+    gives(
+        &rt,
+        rt.alloc(),
+        provider,
+        &two_packages_commands(),
+        Way::Steps,
+        &wanted,
+    )
 }
 
 #[test]
 fn two_packages_are_decided_by_a_run(rt: HostRuntime) -> Result<(), Fail> {
     let wanted = two_packages_replies(rt.alloc())?;
-    let store = two_packages_store(rt.alloc())?;
-    gives_by_run(&rt, store, &two_packages_commands(), &wanted)
+    let provider = two_packages(rt.alloc())?;
+    gives(
+        &rt,
+        rt.alloc(),
+        provider,
+        &two_packages_commands(),
+        Way::Run,
+        &wanted,
+    )
 }
 
 #[test]
 fn one_package_is_falsified_by_steps(rt: HostRuntime) -> Result<(), Fail> {
     let wanted = one_package_replies(rt.alloc())?;
-    let store = one_package_store(rt.alloc())?;
-    gives_by_steps(&rt, store, &one_package_commands(), &wanted)
+    let provider = one_package(rt.alloc())?;
+    gives(
+        &rt,
+        rt.alloc(),
+        provider,
+        &one_package_commands(),
+        Way::Steps,
+        &wanted,
+    )
 }
 
 #[test]
 fn one_package_is_falsified_by_a_run(rt: HostRuntime) -> Result<(), Fail> {
     let wanted = one_package_replies(rt.alloc())?;
-    let store = one_package_store(rt.alloc())?;
-    gives_by_run(&rt, store, &one_package_commands(), &wanted)
+    let provider = one_package(rt.alloc())?;
+    gives(
+        &rt,
+        rt.alloc(),
+        provider,
+        &one_package_commands(),
+        Way::Run,
+        &wanted,
+    )
+}
+
+#[test]
+fn two_packages_of_sparse_ids_are_decided_by_steps(rt: HostRuntime) -> Result<(), Fail> {
+    let wanted = two_packages_replies(rt.alloc())?;
+    let provider = SparseLists(two_packages(rt.alloc())?);
+    gives(
+        &rt,
+        rt.alloc(),
+        provider,
+        &two_packages_commands(),
+        Way::Steps,
+        &wanted,
+    )
+}
+
+#[test]
+fn two_packages_of_sparse_ids_are_decided_by_a_run(rt: HostRuntime) -> Result<(), Fail> {
+    let wanted = two_packages_replies(rt.alloc())?;
+    let provider = SparseLists(two_packages(rt.alloc())?);
+    gives(
+        &rt,
+        rt.alloc(),
+        provider,
+        &two_packages_commands(),
+        Way::Run,
+        &wanted,
+    )
+}
+
+#[test]
+fn one_package_of_sparse_ids_is_falsified_by_steps(rt: HostRuntime) -> Result<(), Fail> {
+    let wanted = one_package_replies(rt.alloc())?;
+    let provider = SparseLists(one_package(rt.alloc())?);
+    gives(
+        &rt,
+        rt.alloc(),
+        provider,
+        &one_package_commands(),
+        Way::Steps,
+        &wanted,
+    )
+}
+
+#[test]
+fn one_package_of_sparse_ids_is_falsified_by_a_run(rt: HostRuntime) -> Result<(), Fail> {
+    let wanted = one_package_replies(rt.alloc())?;
+    let provider = SparseLists(one_package(rt.alloc())?);
+    gives(
+        &rt,
+        rt.alloc(),
+        provider,
+        &one_package_commands(),
+        Way::Run,
+        &wanted,
+    )
 }
