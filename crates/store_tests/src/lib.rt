@@ -1,5 +1,6 @@
 //! Tests of the clause store across its crates: providers of plain lists with dense ids and with sparse ones, callers
-//! that are generic in the provider, worked examples computed from the definitions, and runs in which memory is refused.
+//! that are generic in the provider, worked examples computed from the definitions, and runs in which memory is
+//! refused.
 #![tactic(auto)]
 
 #[cfg(test)]

@@ -1,4 +1,5 @@
-//! The worked examples, by the code: each list of commands by steps, and as one run, with dense ids and with sparse ones.
+//! The worked examples, by the code: each list of commands by steps, and as one run, with dense ids and with sparse
+//! ones.
 use crate::script::{
     one_package, one_package_commands, one_package_replies, two_packages, two_packages_commands,
     two_packages_replies,
