@@ -1,15 +1,48 @@
 -- What a provider of packages says, and the candidate lists that come of it. N are the names, S the solvables.
-use Rattle.std.specs.Prelude.{Bool, false, not, if◌then◌else◌, List, [], ◌∷◌, filter, Option, None, Some}
+use Rattle.std.specs.Prelude.{◌≡◌, ◌<◌, ℕ, Bool, true, false, not, if◌then◌else◌, List, [], ◌∷◌, filter, All, Option, None, Some}
 use Rattle.std.specs.declared.vec.Vec.{Vec}
+use Rattle.resolvo_ids.specs.declared.string_id.StringId.{StringId}
 use Rattle.resolvo_ids.specs.declared.version_set_id.VersionSetId.{VersionSetId}
+use Rattle.resolvo_ids.specs.declared.version_set_union_id.VersionSetUnionId.{VersionSetUnionId}
+use Rattle.resolvo_pool.specs.declared.condition.Condition.{Condition}
+use Rattle.resolvo_pool.specs.declared.condition.Condition.TheVariants as Cond
 use Rattle.resolvo_pool.specs.declared.requirement.Requirement.{Requirement}
 use Rattle.resolvo_pool.specs.declared.requirement.Requirement.TheVariants.{Single, Union}
 
--- the ids that are known, and the package of each version set
+-- the ids that are known, and how they belong together
 pub record Catalogue (N S : Type 0) : Type 0 where
+  pub knows_string : StringId → Bool
+  pub knows_name : N → Bool
   pub knows_solvable : S → Bool
   pub knows_set : VersionSetId → Bool
+  pub knows_union : VersionSetUnionId → Bool
+  pub knows_condition : ℕ → Bool
+  -- the package of a solvable, and of a version set
+  pub solvable_name : S → N
   pub set_name : VersionSetId → N
+  -- the version sets of a union, in order
+  pub union_sets : VersionSetUnionId → List VersionSetId
+  pub condition : ℕ → Condition
+
+module _ {N S : Type 0} (c : Catalogue N S) where
+  -- ---- what is known is made of what is known
+  abbrev pub AreSolvableNamesKnown : Type 0
+  AreSolvableNamesKnown = (s : S) → c.knows_solvable s ≡ true → c.knows_name (c.solvable_name s) ≡ true
+
+  abbrev pub AreSetNamesKnown : Type 0
+  AreSetNamesKnown = (v : VersionSetId) → c.knows_set v ≡ true → c.knows_name (c.set_name v) ≡ true
+
+  abbrev pub AreUnionSetsKnown : Type 0
+  AreUnionSetsKnown = (u : VersionSetUnionId) → c.knows_union u ≡ true → All (λ v. c.knows_set v ≡ true) (c.union_sets u)
+
+  -- of the condition of this index; the conditions that it joins have smaller indexes
+  abbrev pub IsMadeOfKnown : ℕ → Condition → Type 0
+  IsMadeOfKnown index (Cond.Binary operator left right) =
+      (c.knows_condition left ≡ true) × (left < index) × (c.knows_condition right ≡ true) × (right < index)
+  IsMadeOfKnown index (Cond.Requirement set) = c.knows_set set ≡ true
+
+  abbrev pub AreOperandsKnown : Type 0
+  AreOperandsKnown = (index : ℕ) → c.knows_condition index ≡ true → IsMadeOfKnown index (c.condition index)
 
 -- the fixed answers of a provider
 pub record Answers (N S : Type 0) : Type 0 where
@@ -38,11 +71,11 @@ module _ {N S : Type 0} (catalogue : Catalogue N S) (answers : Answers N S) wher
   abbrev pub sorted : VersionSetId → List S
   sorted v = answers.order (matching v)
 
--- the version sets of a requirement (no union is known yet)
-abbrev pub sets_of : Requirement → List VersionSetId
-sets_of (Single v) = v ∷ []
-sets_of (Union u) = []
+-- the version sets of a requirement, in order
+abbrev pub sets_of : {N S : Type 0} → Catalogue N S → Requirement → List VersionSetId
+sets_of catalogue (Single v) = v ∷ []
+sets_of catalogue (Union u) = catalogue.union_sets u
 
 abbrev pub knows_requirement : {N S : Type 0} → Catalogue N S → Requirement → Bool
 knows_requirement catalogue (Single v) = catalogue.knows_set v
-knows_requirement catalogue (Union u) = false
+knows_requirement catalogue (Union u) = catalogue.knows_union u

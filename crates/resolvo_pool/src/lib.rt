@@ -1,12 +1,16 @@
 //! What a resolver asks of its packages: requirements, and the provider that answers.
 #![tactic(auto)]
 
+mod condition;
 mod interner;
 mod provider;
 mod requirement;
 mod requirement_map;
+mod version_sets;
 
+pub use condition::{Condition, LogicalOperator};
 pub use interner::Interner;
 pub use provider::DependencyProvider;
 pub use requirement::Requirement;
 pub use requirement_map::RequirementMap;
+pub use version_sets::VersionSets;
