@@ -4,7 +4,7 @@ use Rattle.resolvo_store.specs.Store.{new_store}
 use Rattle.script_packages.specs.declared.fault.ScriptFault.{ScriptFault}
 use Rattle.script_packages.specs.declared.fault.ScriptFault.TheVariants.{Unreadable, Device, Memory}
 use Rattle.script_packages.specs.declared.packages.Packages.{Packages}
-use Rattle.script_packages.specs.Catalogues.{nothing_listed}
+use Rattle.script_packages.specs.Listing.{nothing_listed}
 use Rattle.script_packages.specs.CatalogueEnds.{CommandsBegin, CatalogueFault}
 use Rattle.script_packages.specs.Lines.{lines as lines_of}
 use Rattle.script_packages.specs.Output.{Writes}

@@ -2,7 +2,8 @@
 use Rattle.std.specs.Prelude.{ℕ, ◌^◌, Bool, nat_le}
 use Rattle.resolvo_store.specs.Store.{Store, Kept, Provider, store_of, provided}
 use Rattle.script_packages.specs.declared.packages.Packages.{Packages}
-use Rattle.script_packages.specs.PackageAnswers.{same_id, catalogue_of, answers_of}
+use Rattle.script_packages.specs.Packages.{same_id}
+use Rattle.script_packages.specs.PackageAnswers.{catalogue_of, answers_of}
 
 -- maps keep no id of such a number
 abbrev pub is_large : ℕ → Bool

@@ -2,7 +2,7 @@
 use Rattle.std.specs.Prelude.{◌≡◌, ℕ, List, [], ◌⊎◌, Option, None, Some}
 use Rattle.resolvo_store.specs.Store.{new_store}
 use Rattle.script_packages.specs.declared.packages.Packages.{Packages}
-use Rattle.script_packages.specs.Catalogues.{nothing_listed}
+use Rattle.script_packages.specs.Listing.{nothing_listed}
 use Rattle.script_packages.specs.CatalogueEnds.{NeverBegins, CommandsBegin, FaultyAt}
 use Rattle.clause_store.specs.Replies.{unreadable_text}
 use Rattle.clause_store.specs.ScriptStore.{provider_of}

@@ -139,6 +139,57 @@ fn catalogues_are_listed(rt: HostRuntime) -> Result<(), Fail> {
     Ok(())
 }
 
+/// A union has a list for each of its version sets, and counts what is open in all lists of a set.
+const UNIONS: &[u8] =
+    b"package a 1 2\nset a 1 3\nunion 0 0\nbegin\nload u0\nrequires 0 u0\nassign 0 true 0 1\ndecide\nassign 1 false 0 1\ndecide\n";
+
+const UNIONS_ANSWER: &[u8] =
+    b"loaded 1,2 1,2\nclause 0\nassigned\ndecided 1 by 0 clause 0 score 0 count 4\nassigned\ndecided 2 by 0 clause 0 score 0 count 2\n";
+
+#[test]
+fn unions_are_loaded(rt: HostRuntime) -> Result<(), Fail> {
+    let rows = [
+        given(UNIONS, UNIONS_ANSWER, 0),
+        given(
+            b"package a 1 2\npackage b 7\nset a 1 3\nset b 0 1\nset a 2 9\nunion 2 1 0\nbegin\nload u0\nload s0\nrequires 0 u0\nload u1\n",
+            b"loaded 1 - 2,1\nloaded 2,1\nclause 0\nrefused 3\n",
+            0,
+        ),
+        given(
+            b"package a 1 2\npackage b 7\nset a 1 2\nset b 0 9\nunion 0 1\nbegin\nload u0\nrequires 0 u0\nassign 0 true 0 1\nassign 1 false 0 1\ndecide\nassign 2 false 0 1\ndecide\nrequires 0 u0\n",
+            b"loaded 1 2\nclause 0\nassigned\nassigned\ndecided 2 by 0 clause 0 score 0 count 1\nassigned\nfalsified 0\nclause 1 conflict\n",
+            0,
+        ),
+    ];
+    are_answered(&rt, &rows);
+    Ok(())
+}
+
+/// Unions, conditions and strings of the catalogue, and what makes such a line unreadable.
+#[test]
+fn catalogues_have_unions_conditions_and_strings(rt: HostRuntime) -> Result<(), Fail> {
+    let rows = [
+        given(
+            b"set a 0 1\nstring x\nstring x\ncondition set 0\ncondition set 0\ncondition and 0 0\ncondition or 0 1\nbegin\ndecide\n",
+            b"no decision\n",
+            0,
+        ),
+        given(b"union 0\n", b"line 1 unreadable\n", 1),
+        given(b"set a 0 1\nunion\n", b"line 2 unreadable\n", 1),
+        given(b"set a 0 1\nunion 0 1\n", b"line 2 unreadable\n", 1),
+        given(b"condition set 0\n", b"line 1 unreadable\n", 1),
+        given(b"set a 0 1\ncondition set 0\ncondition and 0 1\n", b"line 3 unreadable\n", 1),
+        given(b"set a 0 1\ncondition set 0\ncondition or 1 0\n", b"line 3 unreadable\n", 1),
+        given(b"set a 0 1\ncondition set 0\ncondition set 0 0\n", b"line 3 unreadable\n", 1),
+        given(b"set a 0 1\ncondition set 0\ncondition and 0\n", b"line 3 unreadable\n", 1),
+        given(b"set a 0 1\ncondition set 0\ncondition xor 0 0\n", b"line 3 unreadable\n", 1),
+        given(b"string\n", b"line 1 unreadable\n", 1),
+        given(b"string a b\n", b"line 1 unreadable\n", 1),
+    ];
+    are_answered(&rt, &rows);
+    Ok(())
+}
+
 /// A comment of 2^20 bytes is skipped, and as many commands are answered as there are.
 #[test]
 fn long_scripts_are_answered(rt: HostRuntime) -> Result<(), Fail> {

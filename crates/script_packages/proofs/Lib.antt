@@ -1,3 +1,3 @@
-pub mod NameLemmas
 pub mod Numbering
+pub mod Printing
 pub mod Sorting

@@ -5,8 +5,9 @@ use Rattle.script_packages.specs.declared.fault.ScriptFault.TheVariants as OfScr
 use Rattle.script_packages.specs.declared.packages.Packages.{Packages}
 use Rattle.script_packages.specs.declared.statement.Line.{Line}
 use Rattle.script_packages.specs.declared.statement.Line.TheVariants.{Skipped, Unreadable, Says}
-use Rattle.script_packages.specs.CatalogueLines.{Said, Lists, Bounds, Begins, catalogue_line_of}
-use Rattle.script_packages.specs.Catalogues.{Listing, listed, AreListed, nothing_listed}
+use Rattle.script_packages.specs.CatalogueLines.{Said, Lists, Bounds, Unites, Conditions, Strings, Begins, catalogue_line_of}
+use Rattle.script_packages.specs.Catalogues.{listed, AreListed}
+use Rattle.script_packages.specs.Listing.{Listing, nothing_listed}
 
 -- what a line does: the catalogue goes on with this listing, its end is here, or the line is unreadable
 pub data Entry : Type 0 where
@@ -24,6 +25,9 @@ entry_of l Unreadable = Faulty
 entry_of l (Says Begins) = Ends
 entry_of l (Says (Lists name versions)) = goes_on (listed l (Lists name versions))
 entry_of l (Says (Bounds name low high)) = goes_on (listed l (Bounds name low high))
+entry_of l (Says (Unites sets)) = goes_on (listed l (Unites sets))
+entry_of l (Says (Conditions c)) = goes_on (listed l (Conditions c))
+entry_of l (Says (Strings text)) = goes_on (listed l (Strings text))
 
 -- a fact for what a line does
 abbrev pub OnEntry : Entry → (Listing → Type 0) → Type 0 → Type 0 → Type 0

@@ -12,7 +12,7 @@ number_32 word = option_map (λ n. n) (below (2 ^ 32) (number_of word))
 abbrev pub variable_of : List ℕ → Option ℕ
 variable_of word = option_map (λ n. n) (below (2 ^ 31 - 1) (number_of word))
 
--- clauses, and disjunctions too
+-- clauses; disjunctions and conditions too
 abbrev pub clause_of : List ℕ → Option ℕ
 clause_of word = option_map (λ n. n) (below (2 ^ 32 - 1) (number_of word))
 

@@ -1,5 +1,6 @@
 -- The lines of a text.
-use Rattle.std.specs.Prelude.{ℕ, ◌-◌, ◌==◌, Bool, ◌&&◌, nat_le, List, [], ◌∷◌, ◌++◌, length, take, slice_index_or, if◌then◌else◌}
+use Rattle.std.specs.Prelude.{◌≡◌, ℕ, ◌-◌, ◌==◌, Bool, true, ◌&&◌, nat_le, List, [], ◌∷◌, ◌++◌, length, take, slice_index_or, if◌then◌else◌}
+use Rattle.std.specs.List.{list_all}
 
 -- a line but for the carriage return at its end
 abbrev pub without_return : List ℕ → List ℕ
@@ -22,3 +23,6 @@ lines text = lines_from [] text
 -- a byte of ASCII's printed characters, or the blank
 abbrev pub is_printed : ℕ → Bool
 is_printed b = nat_le 32 b && nat_le b 126
+
+abbrev pub IsPrinted : List ℕ → Type 0
+IsPrinted bytes = list_all is_printed bytes ≡ true

@@ -1,37 +1,103 @@
 -- What the lines of a catalogue make of the packages.
-use Rattle.std.specs.Prelude.{ℕ, Bool, ◌==◌, ◌&&◌, List, [], ◌∷◌, ◌++◌, map, Option, None, Some, option_and_then, if◌then◌else◌}
-use Rattle.std.specs.List.{list_any, position_or_len}
+use Rattle.std.specs.Prelude.{ℕ, Bool, ◌==◌, ◌&&◌, ◌-◌, nat_lt, length, List, [], ◌∷◌, ◌++◌, map, Option, None, Some, is_some, option_map, option_and_then, if◌then◌else◌}
+use Rattle.std.specs.Map.{lookup}
 use Rattle.std.specs.Str.{bytes_eq}
-use denote.Ref.{Bor}
+use Rattle.std.specs.String.{string_bytes}
+use Rattle.resolvo_ids.specs.declared.version_set_id.VersionSetId.{VersionSetId}
+use Rattle.resolvo_pool.specs.declared.condition.Condition.{Condition}
+use Rattle.resolvo_pool.specs.declared.condition.Condition.TheVariants.{Binary, Requirement}
+use Rattle.resolvo_pool.specs.Interned.{interned_place}
+use Rattle.resolvo_pool.specs.Pool.{Lists, nothing, with_name, with_solvable, with_version_set, with_union, with_condition}
+use Rattle.script_packages.specs.declared.packages.Packages.{Packages}
 use Rattle.script_packages.specs.declared.packages.Span.{Span}
 use Rattle.script_packages.specs.declared.packages.VersionRange.{VersionRange}
+use Rattle.script_packages.specs.Numbers.{below}
 use Rattle.script_packages.specs.Ids.{number_32}
-use Rattle.script_packages.specs.PackageAnswers.{same_id}
+use Rattle.script_packages.specs.Packages.{same_id}
 
--- the versions with those of these words behind them, where each word is one
-abbrev pub listed_versions : List ℕ → List (List ℕ) → Option (List ℕ)
-listed_versions versions [] = Some versions
-listed_versions versions (word ∷ words) = option_and_then (λ v. listed_versions (versions ++ v ∷ []) words) (number_32 word)
+-- what is listed: a pool whose names are their bytes, and the solvables of each name that a package line listed
+pub record Listing : Type 0 where
+  pub pool : Lists (List ℕ) VersionRange ℕ
+  pub spans : List (ℕ × Span)
+
+abbrev pub nothing_listed : Listing
+nothing_listed = record { pool = nothing; spans = [] }
+
+-- what the packages list
+abbrev pub listing_of : Packages → Listing
+listing_of p = record {
+  pool = record {
+    strings = p.pool.strings;
+    names = map string_bytes p.pool.names;
+    solvables = p.pool.solvables;
+    version_sets = p.pool.version_sets;
+    unions = p.pool.unions;
+    conditions = p.pool.conditions;
+  };
+  spans = p.spans;
+}
 
 abbrev pub same_range : VersionRange → VersionRange → Bool
-same_range a b = same_id a.name b.name && ((a.low == b.low) && (a.high == b.high))
+same_range a b = (a.low == b.low) && (a.high == b.high)
 
--- the version sets with this one, which may be there already
-abbrev pub with_set : List VersionRange → VersionRange → List VersionRange
-with_set sets range = if list_any (same_range range) sets then sets else sets ++ range ∷ []
+module _ (l : Listing) where
+  abbrev pub with_pool : Lists (List ℕ) VersionRange ℕ → Listing
+  with_pool pool = record l { pool = pool }
 
--- the texts of words
-abbrev pub texts : List (Bor (List ℕ)) → List (List ℕ)
-texts words = map (λ w. w.now) words
+  -- with a name, which may be there already, and the number that it has then
+  abbrev pub named : List ℕ → Listing
+  named name = with_pool (with_name l.pool bytes_eq name)
 
--- the names with this one, which may be there already
-abbrev pub with_name : List (List ℕ) → List ℕ → List (List ℕ)
-with_name names name = if list_any (bytes_eq name) names then names else names ++ name ∷ []
+  abbrev pub name_number : List ℕ → ℕ
+  name_number name = interned_place bytes_eq l.pool.names name
 
--- the spans of the names, of which a new one has none
-abbrev pub with_span : List (List ℕ) → List ℕ → List (Option Span) → List (Option Span)
-with_span names name spans = if list_any (bytes_eq name) names then spans else spans ++ None ∷ []
+  -- with a version of a package
+  abbrev pub with_version : ℕ → ℕ → Listing
+  with_version name version = with_pool (with_solvable l.pool (record { name = name; payload = version }))
 
--- the number of a name, that of the next one if it isn't there
-abbrev pub name_number : List (List ℕ) → List ℕ → ℕ
-name_number names name = position_or_len (bytes_eq name) names
+  -- with a version set of a package, which may be there already
+  abbrev pub with_set : ℕ → VersionRange → Listing
+  with_set name range = with_pool (with_version_set l.pool same_range name range)
+
+  -- whether a package line listed the name
+  abbrev pub has_span : ℕ → Bool
+  has_span name = is_some (lookup (same_id name) l.spans)
+
+  abbrev pub is_made_of_listed : Condition → Bool
+  is_made_of_listed (Binary operator left right) =
+      nat_lt left (length l.pool.conditions) && nat_lt right (length l.pool.conditions)
+  is_made_of_listed (Requirement set) = nat_lt set.0 (length l.pool.version_sets)
+
+-- with the versions of a package that these words write, where each word is one
+abbrev pub listed_versions : Listing → ℕ → List (List ℕ) → Option Listing
+listed_versions l name [] = Some l
+listed_versions l name (word ∷ words) =
+    option_and_then (λ version. listed_versions (with_version l name version) name words) (number_32 word)
+
+-- with a span, whose first solvable has this number, and whose last one is the last of all
+abbrev pub with_span_from : ℕ → ℕ → Listing → Listing
+with_span_from name first l =
+    record l { spans = l.spans ++ (name, record { first = first; last = length l.pool.solvables - 1 }) ∷ [] }
+
+-- with the versions of a name, where it has none yet, and each of the words, of which there are some, is a version
+abbrev pub with_versions : Listing → ℕ → List (List ℕ) → Option Listing
+with_versions l name [] = None
+with_versions l name (word ∷ words) =
+    if has_span l name then None
+    else option_map (with_span_from name (length l.pool.solvables)) (listed_versions l name (word ∷ words))
+
+-- the version sets with those of these words behind them, where each word is one of so many
+abbrev pub listed_sets : ℕ → List VersionSetId → List (List ℕ) → Option (List VersionSetId)
+listed_sets count sets [] = Some sets
+listed_sets count sets (word ∷ words) =
+    option_and_then (λ v. listed_sets count (sets ++ record { 0 = v } ∷ []) words) (below count (number_32 word))
+
+-- with a union of these version sets, where there are some
+abbrev pub with_some_union : Listing → Option (List VersionSetId) → Option Listing
+with_some_union l None = None
+with_some_union l (Some []) = None
+with_some_union l (Some (set ∷ sets)) = Some (with_pool l (with_union l.pool (set ∷ sets)))
+
+-- with a condition that is made of what is listed; it may be there already
+abbrev pub with_listed_condition : Listing → Condition → Option Listing
+with_listed_condition l c = if is_made_of_listed l c then Some (with_pool l (with_condition l.pool c)) else None

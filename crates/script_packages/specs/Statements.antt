@@ -1,7 +1,7 @@
 -- Lines that are skipped, and those that say something.
 use Rattle.std.specs.Prelude.{◌≡◌, ℕ, ◌==◌, Bool, false, true, List, [], ◌∷◌, ⊤}
 use Rattle.std.specs.List.{list_all}
-use Rattle.script_packages.specs.Lines.{is_printed}
+use Rattle.script_packages.specs.Lines.{is_printed, IsPrinted}
 use Rattle.script_packages.specs.Words.{words}
 use Rattle.script_packages.specs.declared.statement.Line.{Line}
 use Rattle.script_packages.specs.declared.statement.Line.TheVariants.{Skipped, Unreadable, Says}
@@ -23,3 +23,8 @@ MeansWords line Unreadable = list_all is_printed line ≡ false
 MeansWords line Skipped = (list_all is_printed line ≡ true) × IsSkipped (words line)
 MeansWords line (Says s) = (list_all is_printed line ≡ true) × (is_comment s.keyword.now ≡ false)
     × (words line ≡ s.keyword.now ∷ words s.rest.now)
+
+-- what stands behind the first word is printed
+abbrev pub IsRestPrinted : Line Statement → Type 0
+IsRestPrinted (Says s) = IsPrinted s.rest.now
+IsRestPrinted _ = ⊤

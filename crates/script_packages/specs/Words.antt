@@ -1,5 +1,6 @@
 -- The words of a line.
 use Rattle.std.specs.Prelude.{ℕ, ◌==◌, List, [], ◌∷◌, ◌++◌, if◌then◌else◌}
+use Rattle.script_packages.specs.Lines.{IsPrinted}
 
 -- the word that a blank or the end leaves: none where there is no byte of it
 abbrev pub begun_word : List ℕ → List (List ℕ)
@@ -14,3 +15,7 @@ words_from begun (b ∷ bs) = if b == 32 then begun_word begun ++ words_from [] 
 -- the words of a line: what stands between its blanks
 abbrev pub words : List ℕ → List (List ℕ)
 words line = words_from [] line
+
+-- a word and what stands behind it
+abbrev pub ArePrinted : List ℕ → List ℕ → Type 0
+ArePrinted word rest = IsPrinted word × IsPrinted rest

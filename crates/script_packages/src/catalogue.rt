@@ -1,83 +1,156 @@
-//! The catalogue of a script: its packages, as they are listed.
-ghost use Rattle.std.specs.Prelude.{◌≡◌, not, Some, None, IfOk, OnOk, IfErr};
-ghost use Rattle.std.specs.List.{list_any};
-ghost use Rattle.std.specs.Str.{bytes_eq};
+//! What the lines of a catalogue list.
+ghost use Rattle.std.specs.Prelude.{◌≡◌, ◌-◌, ◌<◌, [], All, length, Some, None, IfOk, OnOk, IfErr};
 ghost use Rattle.script_packages.specs.declared.fault.LineFault.TheVariants.{Memory, Unreadable};
+ghost use Rattle.script_packages.specs.Words.{words};
 ghost use Rattle.script_packages.specs.CatalogueLines.{plain_said};
-ghost use Rattle.script_packages.specs.Listing.{texts, with_name, with_span, name_number};
+ghost use Rattle.script_packages.specs.Listing.{listed_versions, listed_sets, with_some_union, with_listed_condition};
+ghost use Rattle.script_packages.specs.Numbers.{below};
+ghost use Rattle.script_packages.specs.Ids.{number_32};
 
 use crate::catalogue_line::CatalogueLine;
 use crate::fault::LineFault;
-use crate::packages::{MOST_IDS, Packages, VersionRange};
-use indexmap::IndexSet;
-use resolvo_ids::{DenseIndex, NameId};
-use std::alloc::Global;
+use crate::ids::id;
+use crate::packages::{Packages, Span, VersionRange};
+use crate::word::next_word;
+use resolvo_ids::{NameId, SolvableId, VersionSetId};
+use resolvo_pool::Condition;
 
-/// The packages that were listed, and their names.
-#[derive(Drop)]
-pub(crate) struct Catalogue<'a> {
-    /// The names by number.
-    names: IndexSet<&'a [u8]>,
-    pub(crate) packages: Packages,
-}
-
-impl<'a> Catalogue<'a> {
-    ghost use Rattle.script_packages.specs.Catalogues.{names_of, listing_of, listed, nothing_listed};
-
-    /// The empty catalogue.
-    pub(crate) fn new(alloc: Global) -> Catalogue<'a>
-        ensures { listing_of result ≡ nothing_listed }
-    {
-        Catalogue {
-            names: IndexSet::new(alloc),
-            packages: Packages::new(alloc),
-        }
-    }
+impl Packages {
+    ghost use Rattle.script_packages.specs.Listing.{listing_of, with_versions};
+    ghost use Rattle.script_packages.specs.Catalogues.{listed};
 
     /// Adds what a line says.
-    pub(crate) fn add(&mut self, line: CatalogueLine<'a>) -> Result<(), LineFault>
+    pub(crate) fn add(&mut self, line: CatalogueLine<'_>) -> Result<(), LineFault>
         ensures ok { OnOk result (listed (listing_of self.old) (plain_said line.entry) ≡ Some (listing_of self.new)) }
         ensures unreadable { IfErr result (λ e. e ≡ Unreadable → listed (listing_of self.old) (plain_said line.entry) ≡ None) }
     {
         match line {
             CatalogueLine::Package { name, versions } => {
                 let name = self.name(name)?;
-                self.packages.list(name, versions)
+                self.add_versions(name, versions)
             }
             CatalogueLine::Set { name, low, high } => {
                 let name = self.name(name)?;
-                self.packages.add_set(VersionRange { name, low, high })
+                self.add_set(name, VersionRange { low, high })
             }
+            CatalogueLine::Union { sets } => self.add_union(sets),
+            CatalogueLine::Condition(condition) => self.add_condition(condition),
+            CatalogueLine::String(text) => self.add_string(text),
             CatalogueLine::Begin => Ok(()),
         }
     }
 
-    /// The id of a name, which gets one if it has none.
-    fn name(&mut self, name: &'a [u8]) -> Result<NameId, LineFault>
-        ensures number { IfOk result (λ n. n ≡ name_number (names_of self.old) name.now) }
-        ensures names { OnOk result (names_of self.new ≡ with_name (names_of self.old) name.now) }
-        ensures spans { OnOk result (self.new.packages.spans.items ≡ with_span (names_of self.old) name.now self.old.packages.spans.items) }
-        ensures versions { self.new.packages.versions ≡ self.old.packages.versions }
-        ensures sets { self.new.packages.sets ≡ self.old.packages.sets }
-        ensures err { IfErr result (λ e. e ≡ Memory) }
+    /// Gives a name its versions, each of which is a solvable. A name is listed once.
+    fn add_versions(&mut self, name: NameId, versions: &[u8]) -> Result<(), LineFault>
+        requires { name < length self.old.pool.names }
+        ensures ok { OnOk result (with_versions (listing_of self.old) name (words versions.now) ≡ Some (listing_of self.new)) }
+        ensures unreadable { IfErr result (λ e. e ≡ Unreadable → with_versions (listing_of self.old) name (words versions.now) ≡ None) }
     {
-        let (number, is_new) = intern(&mut self.names, name)?;
-        if is_new {
-            self.packages.add_name()?;
+        if self.spans.get_copy(&name).is_some() {
+            return Err(LineFault::Unreadable);
         }
-        Ok(number)
+        let Some((word, others)) = next_word(versions) else {
+            return Err(LineFault::Unreadable);
+        };
+        let Some(version) = id(word) else {
+            return Err(LineFault::Unreadable);
+        };
+        let first = self.add_version(name, version)?;
+        let last = self.add_others(name, first, others)?;
+        match self.spans.insert_copy(name, Span { first, last }) {
+            Ok(_) => Ok(()),
+            Err(_) => Err(LineFault::Memory),
+        }
     }
-}
 
-/// The number of a name, which gets one if it has none, and whether it is a new one.
-fn intern<'a>(names: &mut IndexSet<&'a [u8]>, name: &'a [u8]) -> Result<(NameId, bool), LineFault>
-    ensures number { IfOk result (λ r. r.0 ≡ name_number (texts names.old.keys) name.now) }
-    ensures is_new { IfOk result (λ r. r.1 ≡ not (list_any (bytes_eq name.now) (texts names.old.keys))) }
-    ensures names { OnOk result (texts names.new.keys ≡ with_name (texts names.old.keys) name.now) }
-    ensures err { IfErr result (λ e. e ≡ Memory) }
-{
-    match names.insert_full(name) {
-        Ok((index, is_new)) if index < MOST_IDS => Ok((NameId::from_index(index), is_new)),
-        _ => Err(LineFault::Memory),
+    /// Makes a solvable of each version in the text, behind the last one; answers which is the last one then.
+    fn add_others(
+        &mut self,
+        name: NameId,
+        mut last: SolvableId,
+        text: &[u8],
+    ) -> Result<SolvableId, LineFault>
+        requires name { name < length self.old.pool.names }
+        requires last { last ≡ length self.old.pool.solvables - 1 }
+        ensures ok { OnOk result (listed_versions (listing_of self.old) name (words text.now) ≡ Some (listing_of self.new)) }
+        ensures last { IfOk result (λ s. s ≡ length self.new.pool.solvables - 1) }
+        ensures unreadable { IfErr result (λ e. e ≡ Unreadable → listed_versions (listing_of self.old) name (words text.now) ≡ None) }
+    {
+        let mut rest = text;
+        while let Some((word, others)) = next_word(rest) {
+            match id(word) {
+                Some(version) => last = self.add_version(name, version)?,
+                None => return Err(LineFault::Unreadable),
+            }
+            rest = others;
+        }
+        Ok(last)
+    }
+
+    /// Adds a union of the version sets in the text.
+    fn add_union(&mut self, text: &[u8]) -> Result<(), LineFault>
+        ensures ok { OnOk result (with_some_union (listing_of self.old) (listed_sets (length self.old.pool.version_sets) [] (words text.now))
+            ≡ Some (listing_of self.new)) }
+        ensures unreadable { IfErr result (λ e. e ≡ Unreadable →
+            with_some_union (listing_of self.old) (listed_sets (length self.old.pool.version_sets) [] (words text.now)) ≡ None) }
+    {
+        let sets = self.sets(text)?;
+        let Some((first, others)) = sets.split_first() else {
+            return Err(LineFault::Unreadable);
+        };
+        match self.pool.intern_version_set_union(*first, others) {
+            Ok(_) => Ok(()),
+            Err(_) => Err(LineFault::Memory),
+        }
+    }
+
+    /// The version sets in a text, each of which is there.
+    fn sets(&self, text: &[u8]) -> Result<Vec<VersionSetId>, LineFault>
+        ensures ok { IfOk result (λ sets. listed_sets (length self.now.pool.version_sets) [] (words text.now) ≡ Some sets.items) }
+        ensures known { IfOk result (λ sets. All (λ v. v.0 < length self.now.pool.version_sets) sets.items) }
+        ensures unreadable { IfErr result (λ e. e ≡ Unreadable → listed_sets (length self.now.pool.version_sets) [] (words text.now) ≡ None) }
+    {
+        let mut sets = Vec::new(self.alloc);
+        let mut rest = text;
+        while let Some((word, others)) = next_word(rest) {
+            let set = self.set(word)?;
+            match sets.push(set) {
+                Ok(()) => {}
+                Err(_) => return Err(LineFault::Memory),
+            }
+            rest = others;
+        }
+        Ok(sets)
+    }
+
+    /// The version set that a word stands for.
+    fn set(&self, word: &[u8]) -> Result<VersionSetId, LineFault>
+        ensures ok { IfOk result (λ set. below (length self.now.pool.version_sets) (number_32 word.now) ≡ Some set.0) }
+        ensures unreadable { IfErr result (λ e. (e ≡ Unreadable) × (below (length self.now.pool.version_sets) (number_32 word.now) ≡ None)) }
+    {
+        match id(word) {
+            Some(index) if self.pool.knows_version_set(VersionSetId(index)) => Ok(VersionSetId(index)),
+            _ => Err(LineFault::Unreadable),
+        }
+    }
+
+    /// Adds a condition, if it isn't there.
+    fn add_condition(&mut self, condition: Condition) -> Result<(), LineFault>
+        ensures ok { OnOk result (with_listed_condition (listing_of self.old) condition ≡ Some (listing_of self.new)) }
+        ensures unreadable { IfErr result (λ e. e ≡ Unreadable → with_listed_condition (listing_of self.old) condition ≡ None) }
+    {
+        let is_made_of_known = match condition {
+            Condition::Binary(_, left, right) => {
+                self.pool.knows_condition(left) && self.pool.knows_condition(right)
+            }
+            Condition::Requirement(set) => self.pool.knows_version_set(set),
+        };
+        if !is_made_of_known {
+            return Err(LineFault::Unreadable);
+        }
+        match self.pool.intern_condition(condition) {
+            Ok(_) => Ok(()),
+            Err(_) => Err(LineFault::Memory),
+        }
     }
 }

@@ -1,20 +1,28 @@
 //! Catalogue lines.
 ghost use Rattle.std.specs.Prelude.{◌≡◌};
+ghost use Rattle.script_packages.specs.Lines.{IsPrinted};
 ghost use Rattle.script_packages.specs.Words.{words};
 ghost use Rattle.script_packages.specs.CatalogueLines.{plain_line, plain, catalogue_line_of};
-ghost use Rattle.script_packages.specs.CatalogueLines.{said_of, package_of, set_of, begin_of};
+ghost use Rattle.script_packages.specs.CatalogueLines.{said_of, package_of, set_of, union_of, condition_of, string_of};
+ghost use Rattle.script_packages.specs.CatalogueLines.{set_condition, operator_of, joined_condition, begin_of};
 
 use crate::ids::id;
 use crate::statement::{Line, Statement, open_line};
-use crate::word::next_word;
+use crate::word::{next_word, text_of};
+use resolvo_ids::VersionSetId;
+use resolvo_pool::{Condition, LogicalOperator};
 
 /// What a line up to `begin` says.
 #[derive(Clone, Copy)]
 pub(crate) enum CatalogueLine<'a> {
     /// The versions of a package, in words that stand in one text.
-    Package { name: &'a [u8], versions: &'a [u8] },
+    Package { name: &'a str, versions: &'a [u8] },
     /// The version set of a package's versions from `low` to below `high`.
-    Set { name: &'a [u8], low: u32, high: u32 },
+    Set { name: &'a str, low: u32, high: u32 },
+    /// The version sets of a union, in words that stand in one text.
+    Union { sets: &'a [u8] },
+    Condition(Condition),
+    String(&'a str),
     /// The catalogue ends here.
     Begin,
 }
@@ -35,12 +43,19 @@ pub(crate) fn catalogue_line(line: &[u8]) -> Line<CatalogueLine<'_>>
 
 /// What a statement says in the catalogue.
 fn entry(said: Statement<'_>) -> Option<CatalogueLine<'_>>
+    requires { IsPrinted said.rest.now }
     ensures { plain result ≡ said_of said.entry.keyword.now (words said.entry.rest.now) }
 {
     if said.keyword == b"package".as_slice() {
         package(said.rest)
     } else if said.keyword == b"set".as_slice() {
         set(said.rest)
+    } else if said.keyword == b"union".as_slice() {
+        union_line(said.rest)
+    } else if said.keyword == b"condition".as_slice() {
+        condition(said.rest)
+    } else if said.keyword == b"string".as_slice() {
+        string(said.rest)
     } else if said.keyword == b"begin".as_slice() {
         begin(said.rest)
     } else {
@@ -50,17 +65,22 @@ fn entry(said: Statement<'_>) -> Option<CatalogueLine<'_>>
 
 /// `package NAME VERSION ..`; the versions are read as they are taken.
 fn package(text: &[u8]) -> Option<CatalogueLine<'_>>
+    requires { IsPrinted text.now }
     ensures { plain result ≡ package_of (words text.now) }
 {
     let (name, versions) = next_word(text)?;
     match next_word(versions) {
-        Some(_) => Some(CatalogueLine::Package { name, versions }),
+        Some(_) => {
+            let name = text_of(name);
+            Some(CatalogueLine::Package { name, versions })
+        }
         None => None,
     }
 }
 
 /// `set NAME LOW HIGH`
 fn set(text: &[u8]) -> Option<CatalogueLine<'_>>
+    requires { IsPrinted text.now }
     ensures { plain result ≡ set_of (words text.now) }
 {
     let (name, text) = next_word(text)?;
@@ -69,9 +89,82 @@ fn set(text: &[u8]) -> Option<CatalogueLine<'_>>
     match next_word(text) {
         Some(_) => None,
         None => {
+            let name = text_of(name);
             let (low, high) = (id(low)?, id(high)?);
             Some(CatalogueLine::Set { name, low, high })
         }
+    }
+}
+
+/// `union SET ..`; the version sets are read as they are taken.
+fn union_line(text: &[u8]) -> Option<CatalogueLine<'_>>
+    ensures { plain result ≡ union_of (words text.now) }
+{
+    match next_word(text) {
+        Some(_) => Some(CatalogueLine::Union { sets: text }),
+        None => None,
+    }
+}
+
+/// `condition set SET`, `condition and C C` or `condition or C C`
+fn condition(text: &[u8]) -> Option<CatalogueLine<'_>>
+    ensures { plain result ≡ condition_of (words text.now) }
+{
+    let (kind, text) = next_word(text)?;
+    let (first, text) = next_word(text)?;
+    match next_word(text) {
+        None => Some(CatalogueLine::Condition(set_condition(kind, first)?)),
+        Some((second, rest)) => match next_word(rest) {
+            None => Some(CatalogueLine::Condition(joined_condition(
+                kind, first, second,
+            )?)),
+            Some(_) => None,
+        },
+    }
+}
+
+/// A version set as a condition.
+fn set_condition(kind: &[u8], set: &[u8]) -> Option<Condition>
+    ensures { result ≡ set_condition kind.now set.now }
+{
+    if kind == b"set".as_slice() {
+        let index = id(set)?;
+        Some(Condition::Requirement(VersionSetId(index)))
+    } else {
+        None
+    }
+}
+
+/// Two conditions as one.
+fn joined_condition(kind: &[u8], left: &[u8], right: &[u8]) -> Option<Condition>
+    ensures { result ≡ joined_condition (operator_of kind.now) left.now right.now }
+{
+    let operator = operator(kind)?;
+    let (left, right) = (id(left)?, id(right)?);
+    Some(Condition::Binary(operator, left, right))
+}
+
+fn operator(kind: &[u8]) -> Option<LogicalOperator>
+    ensures { result ≡ operator_of kind.now }
+{
+    if kind == b"and".as_slice() {
+        Some(LogicalOperator::And)
+    } else if kind == b"or".as_slice() {
+        Some(LogicalOperator::Or)
+    } else {
+        None
+    }
+}
+
+/// `string WORD`
+fn string(text: &[u8]) -> Option<CatalogueLine<'_>>
+    requires { IsPrinted text.now }
+    ensures { plain result ≡ string_of (words text.now) }
+{
+    let (word, text) = next_word(text)?;
+    match next_word(text) {
+        Some(_) => None,
+        None => Some(CatalogueLine::String(text_of(word))),
     }
 }
 

@@ -1,10 +1,9 @@
 //! The commands of a script, which stand behind its catalogue.
 ghost use Rattle.std.specs.Prelude.{◌+◌, ◌^◌, ◌<◌, length, IfOk, IfErr, MatchOption};
-ghost use Rattle.script_packages.specs.Catalogues.{nothing_listed};
+ghost use Rattle.script_packages.specs.Listing.{nothing_listed};
 ghost use Rattle.script_packages.specs.CatalogueEnds.{NeverBegins, CommandsBegin, CatalogueFault};
 ghost use Rattle.script_packages.specs.Lines.{lines as lines_of};
 
-use crate::catalogue::Catalogue;
 use crate::catalogue_line::{CatalogueLine, catalogue_line};
 use crate::fault::ScriptFault;
 use crate::line::next_line;
@@ -28,7 +27,7 @@ pub fn read_catalogue(alloc: Global, text: &[u8]) -> Result<Option<Commands<'_>>
         (λ c. CommandsBegin nothing_listed 0 (lines_of text.now) c.before (lines_of c.lines.now) c.packages)) }
     ensures err { IfErr result (CatalogueFault (lines_of text.now)) }
 {
-    let mut catalogue = Catalogue::new(alloc);
+    let mut packages = Packages::new(alloc);
     let mut before = 0;
     let mut rest = text;
     while let Some((line, lines)) = next_line(rest) {
@@ -38,14 +37,13 @@ pub fn read_catalogue(alloc: Global, text: &[u8]) -> Result<Option<Commands<'_>>
             Line::Skipped => {}
             Line::Unreadable => return Err(ScriptFault::Unreadable(before)),
             Line::Says(CatalogueLine::Begin) => {
-                let packages = catalogue.packages;
                 return Ok(Some(Commands {
                     packages,
                     lines,
                     before,
                 }));
             }
-            Line::Says(entry) => match catalogue.add(entry) {
+            Line::Says(entry) => match packages.add(entry) {
                 Ok(()) => {}
                 Err(fault) => return Err(fault.at(before)),
             },

@@ -1,18 +1,22 @@
 //! The provider of a script's packages.
-ghost use Rattle.std.specs.Prelude.{◌≡◌, ◌<◌, ◌≤◌, ◌-◌, ◌^◌, All, length, IfOk, IfErr, nat_lt};
+ghost use Rattle.std.specs.Prelude.{◌≡◌, ◌+◌, ◌-◌, length, IfOk, OnOk, OnErr, IfErr};
 ghost use Rattle.resolvo_ids.specs.declared.error.StoreError.TheVariants.{OutOfMemory};
 ghost use Rattle.resolvo_pool.specs.Provider.{filtered};
-ghost use Rattle.script_packages.specs.Packages.{numbers, span_of, listed_numbers, range_at, is_within};
+ghost use Rattle.resolvo_pool.specs.Texts.{IsAppended, IsSameText};
+ghost use Rattle.script_packages.specs.Packages.{numbers, is_within};
 ghost use Rattle.script_packages.specs.Order.{version_at, best_first};
 
 use crate::order::{best_first, version_at};
 use crate::packages::{Packages, Span, VersionRange};
-use resolvo_ids::{DenseIndex, NameId, SolvableId, StoreError, VersionSetId};
-use resolvo_pool::{DependencyProvider, Interner};
+use resolvo_ids::{
+    ConditionId, DenseIndex, NameId, SolvableId, StoreError, StringId, VersionSetId,
+    VersionSetUnionId,
+};
+use resolvo_pool::{Condition, DependencyProvider, Interner, Pool};
 use std::alloc::Global;
 
 impl Interner for Packages {
-    ghost use Rattle.script_packages.specs.PackageAnswers.{catalogue_of};
+    ghost use Rattle.script_packages.specs.PackageAnswers.{catalogue_of, texts_of};
 
     type Alloc = Global;
 
@@ -22,16 +26,85 @@ impl Interner for Packages {
 
     ghost catalogue = { catalogue_of };
 
+    ghost texts = { texts_of };
+
+    fn knows_string(&self, string: StringId) -> bool {
+        self.pool.knows_string(string)
+    }
+
+    fn knows_name(&self, name: NameId) -> bool {
+        self.pool.knows_name(name)
+    }
+
     fn knows_solvable(&self, solvable: SolvableId) -> bool {
-        solvable.to_index() < self.versions.len()
+        self.pool.knows_solvable(solvable)
     }
 
     fn knows_version_set(&self, set: VersionSetId) -> bool {
-        (set.0 as usize) < self.sets.as_slice().len()
+        self.pool.knows_version_set(set)
+    }
+
+    fn knows_union(&self, union: VersionSetUnionId) -> bool {
+        self.pool.knows_union(union)
+    }
+
+    fn knows_condition(&self, condition: ConditionId) -> bool {
+        self.pool.knows_condition(condition)
     }
 
     fn version_set_name(&self, set: VersionSetId) -> NameId {
-        self.sets.as_slice()[set.0 as usize].name
+        self.pool.resolve_version_set_package_name(set)
+    }
+
+    fn solvable_name(&self, solvable: SolvableId) -> NameId {
+        self.pool.resolve_solvable(solvable).name
+    }
+
+    fn version_sets_in_union(&self, union: VersionSetUnionId) -> &[VersionSetId] {
+        self.pool.resolve_version_set_union(union)
+    }
+
+    fn resolve_condition(&self, condition: ConditionId) -> Condition {
+        *self.pool.resolve_condition(condition)
+    }
+
+    fn display_solvable(&self, solvable: SolvableId, out: &mut String) -> Result<(), StoreError> {
+        let solvable = self.pool.resolve_solvable(solvable);
+        let name = self.pool.resolve_package_name(solvable.name);
+        let version = solvable.payload;
+        match format!(in *out.allocator(); "{name} {version}") {
+            Ok(text) => append(out, &text),
+            Err(_) => Err(StoreError::OutOfMemory),
+        }
+    }
+
+    fn display_name(&self, name: NameId, out: &mut String) -> Result<(), StoreError> {
+        append(out, self.pool.resolve_package_name(name))
+    }
+
+    fn display_version_set(&self, set: VersionSetId, out: &mut String) -> Result<(), StoreError> {
+        let range = self.pool.resolve_version_set(set);
+        let (low, high) = (range.low, range.high);
+        match format!(in *out.allocator(); ">={low}, <{high}") {
+            Ok(text) => append(out, &text),
+            Err(_) => Err(StoreError::OutOfMemory),
+        }
+    }
+
+    fn display_string(&self, string: StringId, out: &mut String) -> Result<(), StoreError> {
+        append(out, self.pool.resolve_string(string))
+    }
+}
+
+/// Appends a text.
+fn append(out: &mut String, text: &str) -> Result<(), StoreError>
+    ensures ok { OnOk result (IsAppended out.old out.new text.now) }
+    ensures err { OnErr result (IsSameText out.old out.new) }
+    ensures memory { IfErr result (λ e. e ≡ OutOfMemory) }
+{
+    match out.push_str(text) {
+        Ok(()) => Ok(()),
+        Err(_) => Err(StoreError::OutOfMemory),
     }
 }
 
@@ -42,9 +115,9 @@ impl DependencyProvider for Packages {
 
     ghost answers = { answers_of };
 
-    ghost candidates_known = { λ p n. listed_known p.spans.items (length p.versions.items) n };
+    ghost candidates_known = { λ p n. listed_known p.spans (length p.pool.solvables) n };
 
-    ghost order_permutes = { λ p list. best_first_permutes p.versions.items list };
+    ghost order_permutes = { λ p list. best_first_permutes p.pool.solvables list };
 
     fn filter_candidates(
         &self,
@@ -53,8 +126,8 @@ impl DependencyProvider for Packages {
         set: VersionSetId,
         inverse: bool,
     ) -> Result<Vec<SolvableId>, StoreError> {
-        let range = self.sets.as_slice()[set.0 as usize];
-        within(alloc, &self.versions, candidates, range, inverse)
+        let range = *self.pool.resolve_version_set(set);
+        within(alloc, &self.pool, candidates, range, inverse)
     }
 
     fn get_candidates(
@@ -73,7 +146,7 @@ impl DependencyProvider for Packages {
         alloc: Global,
         solvables: &mut [SolvableId],
     ) -> Result<(), StoreError> {
-        let sorted = best_first(alloc, &self.versions, solvables)?;
+        let sorted = best_first(alloc, &self.pool, solvables)?;
         solvables.copy_from_slice(&sorted);
         Ok(())
     }
@@ -81,12 +154,11 @@ impl DependencyProvider for Packages {
 
 /// The solvables of a span.
 fn numbers(alloc: Global, span: Span) -> Result<Vec<SolvableId>, StoreError>
-    requires { span.end ≤ 2 ^ 32 }
-    ensures ok { IfOk result (λ found. found.items ≡ numbers span.first (span.end - span.first)) }
+    ensures ok { IfOk result (λ found. found.items ≡ numbers span.first (span.last + 1 - span.first)) }
     ensures err { IfErr result (λ e. e ≡ OutOfMemory) }
 {
     let mut found = Vec::new(alloc);
-    for i in span.first..span.end {
+    for i in span.first.to_index()..span.last.to_index() + 1 {
         match found.push(SolvableId::from_index(i)) {
             Ok(()) => {}
             Err(_) => return Err(StoreError::OutOfMemory),
@@ -98,17 +170,17 @@ fn numbers(alloc: Global, span: Span) -> Result<Vec<SolvableId>, StoreError>
 /// The solvables whose versions are in the range, or, if `inverse`, the others.
 fn within(
     alloc: Global,
-    versions: &[u32],
+    pool: &Pool<VersionRange>,
     candidates: &[SolvableId],
     range: VersionRange,
     inverse: bool,
 ) -> Result<Vec<SolvableId>, StoreError>
-    ensures ok { IfOk result (λ found. found.items ≡ filtered (λ s. is_within range (version_at versions.now s)) inverse candidates.now) }
+    ensures ok { IfOk result (λ found. found.items ≡ filtered (λ s. is_within range (version_at pool.now.solvables s)) inverse candidates.now) }
     ensures err { IfErr result (λ e. e ≡ OutOfMemory) }
 {
     let mut found = Vec::new(alloc);
     for solvable in candidates {
-        let version = version_at(versions, *solvable);
+        let version = version_at(pool, *solvable);
         if (range.low <= version && version < range.high) != inverse {
             match found.push(*solvable) {
                 Ok(()) => {}

@@ -1,6 +1,6 @@
 //! Lines that say something.
 ghost use Rattle.std.specs.Prelude.{◌≡◌};
-ghost use Rattle.script_packages.specs.Statements.{MeansWords};
+ghost use Rattle.script_packages.specs.Statements.{MeansWords, IsRestPrinted};
 
 use crate::line::is_printed;
 use crate::word::next_word;
@@ -24,7 +24,8 @@ pub struct Statement<'a> {
 
 /// The line as a statement.
 pub fn open_line(line: &[u8]) -> Line<Statement<'_>>
-    ensures { MeansWords line.now result }
+    ensures means { MeansWords line.now result }
+    ensures printed { IsRestPrinted result }
 {
     if !is_printed(line) {
         return Line::Unreadable;

@@ -1,12 +1,16 @@
 //! Words of a line.
 ghost use Rattle.std.specs.Prelude.{◌≡◌, ◌<◌, ◌≤◌, [], ◌∷◌, ◌++◌, length, MatchOption, Some, ◌≢◌};
 ghost use Rattle.std.specs.Prelude.{slice_get, IfSome};
-ghost use Rattle.script_packages.specs.Words.{words, words_from, begun_word};
+ghost use Rattle.script_packages.specs.Lines.{IsPrinted};
+ghost use Rattle.script_packages.specs.Words.{words, words_from, begun_word, ArePrinted};
+
+use std::str;
 
 /// The first word of a line, and what stands behind it; none where no word is left.
 pub fn next_word(line: &[u8]) -> Option<(&[u8], &[u8])>
     ensures first { MatchOption result (words line.now ≡ []) (λ r. words line.now ≡ r.0.now ∷ words r.1.now) }
     ensures shorter { MatchOption result (words line.now ≡ []) (λ r. length r.1.now < length line.now) }
+    ensures printed { IsPrinted line.now → IfSome result (λ r. ArePrinted r.0.now r.1.now) }
 {
     let text = without_blanks(line);
     if text.is_empty() {
@@ -20,6 +24,7 @@ fn without_blanks(line: &[u8]) -> &[u8]
     ensures words { words result.now ≡ words line.now }
     ensures begins { IfSome (slice_get result.now 0) (λ b. b ≢ 32) }
     ensures shorter { length result.now ≤ length line.now }
+    ensures printed { IsPrinted line.now → IsPrinted result.now }
 {
     let mut text = line;
     while let [b' ', rest @ ..] = text {
@@ -29,11 +34,13 @@ fn without_blanks(line: &[u8]) -> &[u8]
 }
 
 /// The bytes up to the first blank or the end, and those from there on.
+#[tactic(auto, using(crate::proofs::Printing::printed_parts))]
 fn split_word(text: &[u8]) -> (&[u8], &[u8])
     requires some { 0 < length text.now }
     requires begins { IfSome (slice_get text.now 0) (λ b. b ≢ 32) }
     ensures first { words text.now ≡ result.0.now ∷ words result.1.now }
     ensures shorter { length result.1.now < length text.now }
+    ensures printed { IsPrinted text.now → ArePrinted result.0.now result.1.now }
 {
     for (i, byte) in text.iter().enumerate() {
         if *byte == b' ' {
@@ -41,4 +48,16 @@ fn split_word(text: &[u8]) -> (&[u8], &[u8])
         }
     }
     (text, &text[text.len()..])
+}
+
+/// A printed word as text.
+#[tactic(auto, using(crate::proofs::Printing::printed_utf8))]
+pub(crate) fn text_of(word: &[u8]) -> &str
+    requires { IsPrinted word.now }
+    ensures { result.now ≡ word.now }
+{
+    match str::from_utf8(word) {
+        Ok(text) => text,
+        Err(_) => unreachable!(),
+    }
 }

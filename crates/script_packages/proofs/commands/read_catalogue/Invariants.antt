@@ -1,7 +1,7 @@
 use Rattle.std.proofs.Common.{◌+◌, ◌≤◌, length, ℕ, List}
 use Rattle.script_packages.specs.declared.packages.Packages.{Packages}
 use Rattle.script_packages.specs.CatalogueEnds.{NeverBegins, CommandsBegin, FaultyAt}
-use Rattle.script_packages.specs.Catalogues.{listing_of, nothing_listed}
+use Rattle.script_packages.specs.Listing.{listing_of, nothing_listed}
 use Rattle.script_packages.specs.Lines.{lines as lines_of}
 use Rattle.script_packages.proofs.commands.read_catalogue.Given as goal
 
@@ -9,10 +9,10 @@ use Rattle.script_packages.proofs.commands.read_catalogue.Given as goal
 abbrev pub invariant-loop-line : goal.invariant-loop-line
 invariant-loop-line l = record {
   fits : l.before + length l.rest ≤ length l.text;
-  never : NeverBegins (listing_of l.catalogue) (lines_of l.rest) → NeverBegins nothing_listed (lines_of l.text);
-  begins : (before : ℕ) (left : List (List ℕ)) (packages : Packages) → CommandsBegin (listing_of l.catalogue) l.before (lines_of l.rest) before left packages
+  never : NeverBegins (listing_of l.packages) (lines_of l.rest) → NeverBegins nothing_listed (lines_of l.text);
+  begins : (before : ℕ) (left : List (List ℕ)) (packages : Packages) → CommandsBegin (listing_of l.packages) l.before (lines_of l.rest) before left packages
       → CommandsBegin nothing_listed 0 (lines_of l.text) before left packages;
-  faulty : (number : ℕ) → FaultyAt (listing_of l.catalogue) l.before (lines_of l.rest) number → FaultyAt nothing_listed 0 (lines_of l.text) number;
+  faulty : (number : ℕ) → FaultyAt (listing_of l.packages) l.before (lines_of l.rest) number → FaultyAt nothing_listed 0 (lines_of l.text) number;
 }
 
 abbrev pub decreases-loop-line : goal.decreases-loop-line

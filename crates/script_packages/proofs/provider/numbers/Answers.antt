@@ -7,7 +7,7 @@ pub loop-i-preserved : goal.loop-i-preserved
 loop-i-preserved c =
     let found = c.loop-i.found.items in
     let i = c.loop-i.i in
-    let end = c.args.span.end in
+    let end = c.args.span.last + 1 in
     let one_more : c.push.new.self.items ≡ found ++ i ∷ [] = c.in-Ok.ensures.items ∙ ap (λ n. found ++ n ∷ []) c.from_index.ensures in
     ap (λ l. l ++ numbers (i + 1) (end - (i + 1))) one_more
     ∙ append_assoc found (i ∷ []) (numbers (i + 1) (end - (i + 1)))
