@@ -1,3 +1,4 @@
+pub mod Interned
 pub mod Provider
 pub mod Requirement
 pub mod RequirementMap

@@ -2,10 +2,13 @@
 #![tactic(auto)]
 
 mod condition;
+mod interned;
 mod interner;
 mod provider;
 mod requirement;
 mod requirement_map;
+mod solvable;
+mod version_set;
 mod version_sets;
 
 pub use condition::{Condition, LogicalOperator};
@@ -13,4 +16,6 @@ pub use interner::Interner;
 pub use provider::DependencyProvider;
 pub use requirement::Requirement;
 pub use requirement_map::RequirementMap;
+pub use solvable::Solvable;
+pub use version_set::VersionSet;
 pub use version_sets::VersionSets;
