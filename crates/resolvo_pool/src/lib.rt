@@ -4,6 +4,7 @@
 mod condition;
 mod interned;
 mod interner;
+mod pool;
 mod provider;
 mod requirement;
 mod requirement_map;
@@ -13,6 +14,7 @@ mod version_sets;
 
 pub use condition::{Condition, LogicalOperator};
 pub use interner::Interner;
+pub use pool::Pool;
 pub use provider::DependencyProvider;
 pub use requirement::Requirement;
 pub use requirement_map::RequirementMap;
