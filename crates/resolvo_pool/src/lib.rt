@@ -4,6 +4,7 @@
 mod condition;
 mod interned;
 mod interner;
+mod name_text;
 mod pool;
 mod provider;
 mod requirement;
@@ -14,6 +15,7 @@ mod version_sets;
 
 pub use condition::{Condition, LogicalOperator};
 pub use interner::Interner;
+pub use name_text::NameText;
 pub use pool::Pool;
 pub use provider::DependencyProvider;
 pub use requirement::Requirement;
