@@ -1,1 +1,3 @@
+pub mod ConditionLemmas
 pub mod EntryLemmas
+pub mod InternedLemmas

@@ -1,3 +1,5 @@
+pub mod Interned
+pub mod Pool
 pub mod Provider
 pub mod Requirement
 pub mod RequirementMap
