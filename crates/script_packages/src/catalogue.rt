@@ -20,9 +20,9 @@ impl Packages {
     ghost use Rattle.script_packages.specs.Catalogues.{listed};
 
     /// Adds what a line says.
-    pub(crate) fn add(&mut self, line: CatalogueLine<'_>) -> Result<(), LineFault>
-        ensures ok { OnOk result (listed (listing_of self.old) (plain_said line.entry) ≡ Some (listing_of self.new)) }
-        ensures unreadable { IfErr result (λ e. e ≡ Unreadable → listed (listing_of self.old) (plain_said line.entry) ≡ None) }
+    pub(crate) fn add(&mut self, line: &CatalogueLine<'_>) -> Result<(), LineFault>
+        ensures ok { OnOk result (listed (listing_of self.old) (plain_said line.now) ≡ Some (listing_of self.new)) }
+        ensures unreadable { IfErr result (λ e. e ≡ Unreadable → listed (listing_of self.old) (plain_said line.now) ≡ None) }
     {
         match line {
             CatalogueLine::Package { name, versions } => {
@@ -31,10 +31,16 @@ impl Packages {
             }
             CatalogueLine::Set { name, low, high } => {
                 let name = self.name(name)?;
-                self.add_set(name, VersionRange { low, high })
+                self.add_set(
+                    name,
+                    VersionRange {
+                        low: *low,
+                        high: *high,
+                    },
+                )
             }
             CatalogueLine::Union { sets } => self.add_union(sets),
-            CatalogueLine::Condition(condition) => self.add_condition(condition),
+            CatalogueLine::Condition(condition) => self.add_condition(*condition),
             CatalogueLine::String(text) => self.add_string(text),
             CatalogueLine::Begin => Ok(()),
         }
@@ -46,7 +52,7 @@ impl Packages {
         ensures ok { OnOk result (with_versions (listing_of self.old) name (words versions.now) ≡ Some (listing_of self.new)) }
         ensures unreadable { IfErr result (λ e. e ≡ Unreadable → with_versions (listing_of self.old) name (words versions.now) ≡ None) }
     {
-        if self.spans.get_copy(&name).is_some() {
+        if self.has_span(name) {
             return Err(LineFault::Unreadable);
         }
         let Some((word, others)) = next_word(versions) else {
@@ -57,10 +63,7 @@ impl Packages {
         };
         let first = self.add_version(name, version)?;
         let last = self.add_others(name, first, others)?;
-        match self.spans.insert_copy(name, Span { first, last }) {
-            Ok(_) => Ok(()),
-            Err(_) => Err(LineFault::Memory),
-        }
+        self.add_span(name, Span { first, last })
     }
 
     /// Makes a solvable of each version in the text, behind the last one; answers which is the last one then.
@@ -74,6 +77,7 @@ impl Packages {
         requires last { last ≡ length self.old.pool.solvables - 1 }
         ensures ok { OnOk result (listed_versions (listing_of self.old) name (words text.now) ≡ Some (listing_of self.new)) }
         ensures last { IfOk result (λ s. s ≡ length self.new.pool.solvables - 1) }
+        ensures spans { self.new.spans ≡ self.old.spans }
         ensures unreadable { IfErr result (λ e. e ≡ Unreadable → listed_versions (listing_of self.old) name (words text.now) ≡ None) }
     {
         let mut rest = text;

@@ -43,7 +43,7 @@ pub fn read_catalogue(alloc: Global, text: &[u8]) -> Result<Option<Commands<'_>>
                     before,
                 }));
             }
-            Line::Says(entry) => match packages.add(entry) {
+            Line::Says(entry) => match packages.add(&entry) {
                 Ok(()) => {}
                 Err(fault) => return Err(fault.at(before)),
             },

@@ -12,6 +12,7 @@ mod commands;
 mod fault;
 mod ids;
 mod input;
+mod interning;
 mod line;
 mod number;
 mod order;

@@ -28,6 +28,14 @@ impl Interner for Packages {
 
     ghost texts = { texts_of };
 
+    ghost solvable_names_known = { ? };
+
+    ghost set_names_known = { ? };
+
+    ghost union_sets_known = { ? };
+
+    ghost operands_known = { ? };
+
     fn knows_string(&self, string: StringId) -> bool {
         self.pool.knows_string(string)
     }

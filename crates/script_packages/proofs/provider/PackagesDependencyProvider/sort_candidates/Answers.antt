@@ -4,4 +4,5 @@ use Rattle.script_packages.proofs.provider.PackagesDependencyProvider.sort_candi
 
 pub copy_from_slice-requires : goal.copy_from_slice-requires
 copy_from_slice-requires c =
-    sym (ap length (c.deref-2.ensures.value ∙ c.in_ok-sorted.ensures.ok) ∙ length-best_first c.deref.result.now c.args.solvables.now)
+    sym (ap length (c.deref.ensures.value ∙ c.in_ok-sorted.ensures.ok)
+    ∙ length-best_first c.args.self.now.pool.solvables c.args.solvables.now)
