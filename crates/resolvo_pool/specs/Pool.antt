@@ -1,5 +1,5 @@
 -- What a pool keeps: six lists. N are the names, VS the version sets, V what they hold. An id is a place in its list.
-use Rattle.std.specs.Prelude.{◌≤◌, ◌^◌, ◌-◌, ℕ, Bool, true, false, ◌==◌, ◌&&◌, List, [], ◌∷◌, ◌++◌, length, bytes_eq}
+use Rattle.std.specs.Prelude.{◌≡◌, ◌<◌, ◌≤◌, ◌^◌, ◌-◌, ℕ, Bool, true, false, ◌==◌, ◌&&◌, List, [], ◌∷◌, ◌++◌, length, slice_get, All, Some, bytes_eq}
 use Rattle.resolvo_ids.specs.declared.version_set_id.VersionSetId.{VersionSetId}
 use Rattle.resolvo_pool.specs.declared.condition.Condition.{Condition}
 use Rattle.resolvo_pool.specs.declared.condition.Condition.TheVariants.{Binary, Requirement}
@@ -17,6 +17,10 @@ pub record Lists (N VS V : Type 0) : Type 0 where
   pub version_sets : List (ℕ × VS)
   pub unions : List (List VersionSetId)
   pub conditions : List Condition
+
+-- each value meets P with its place
+abbrev pub Placed : {X : Type 0} → (ℕ → X → Type 0) → List X → Type 0
+Placed {X} P list = (place : ℕ) (x : X) → slice_get list place ≡ Some x → P place x
 
 -- a pool without anything in it
 abbrev pub nothing : {N VS V : Type 0} → Lists N VS V
@@ -67,3 +71,25 @@ module _ {N VS V : Type 0} (p : Lists N VS V) where
     pub version_sets : length p.version_sets ≤ 2 ^ 32
     pub unions : length p.unions ≤ 2 ^ 32
     pub conditions : length p.conditions ≤ 2 ^ 32 - 1
+
+  -- ---- what is in the pool is made of what is in it
+  -- of conditions below this place, or of a version set
+  abbrev pub IsMadeBelow : ℕ → Condition → Type 0
+  IsMadeBelow place (Binary operator left right) = (left < place) × (right < place)
+  IsMadeBelow place (Requirement set) = set.0 < length p.version_sets
+
+  abbrev pub AreSetsHere : List VersionSetId → Type 0
+  AreSetsHere sets = All (λ v. v.0 < length p.version_sets) sets
+
+  pub record IsOfItself : Type 0 where
+    -- the names of solvables and of version sets
+    pub solvables : Placed (λ _ solvable. solvable.name < length p.names) p.solvables
+    pub version_sets : Placed (λ _ set. set.0 < length p.names) p.version_sets
+    -- the sets of unions
+    pub unions : Placed (λ _ sets. AreSetsHere sets) p.unions
+    -- each condition is made of earlier ones
+    pub conditions : Placed IsMadeBelow p.conditions
+
+  pub record IsSound : Type 0 where
+    pub fits : FitsIds
+    pub own : IsOfItself
