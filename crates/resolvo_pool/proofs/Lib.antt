@@ -1,3 +1,4 @@
 pub mod ConditionLemmas
 pub mod EntryLemmas
 pub mod InternedLemmas
+pub mod PoolLemmas

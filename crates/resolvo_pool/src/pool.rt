@@ -5,7 +5,7 @@ ghost use Rattle.resolvo_ids.specs.Arena.{pairs_from};
 ghost use Rattle.resolvo_ids.specs.declared.error.StoreError.TheVariants.{IdSpace, OutOfMemory};
 ghost use Rattle.resolvo_ids.specs.Refusals.{IsGrowthRefusal, are_ids_out};
 ghost use Rattle.resolvo_pool.specs.Interned.{has_same, interned, interned_place};
-ghost use Rattle.resolvo_pool.specs.Pool.{nothing, same_set, same_condition, with_string, with_name, with_solvable, with_version_set, with_union, with_condition};
+ghost use Rattle.resolvo_pool.specs.Pool.{nothing, IsSound, IsMadeBelow, AreSetsHere, same_set, same_condition, with_string, with_name, with_solvable, with_version_set, with_union, with_condition};
 
 use crate::condition::Condition;
 use crate::interned::intern;
@@ -35,28 +35,15 @@ pub struct Pool<VS: VersionSet, N: Eq + Hash = String, A: Allocator = Global> {
 
 /// The six lists.
 impl<VS: VersionSet, N: Eq + Hash, A: Allocator> Model for Pool<VS, N, A> {
-    ghost use Rattle.std.specs.Prelude.{map, string_bytes};
-    ghost use Rattle.resolvo_pool.specs.Pool.{Lists, FitsIds};
+    ghost use Rattle.resolvo_pool.specs.Pool.{Lists, IsSound};
 
     ghost Value = { Lists N VS VS.V };
 
-    ghost view = { λ p. record {
-        strings = map string_bytes p.strings.keys;
-        names = p.names.keys;
-        solvables = p.solvables;
-        version_sets = p.version_sets.keys;
-        unions = map (λ u. u.items) p.unions;
-        conditions = p.conditions.keys
-    } };
+    ghost use Rattle.resolvo_pool.specs.PoolView.{lists_of};
 
-    ghost invariant = { λ p. FitsIds (record {
-        strings = map string_bytes p.strings.keys;
-        names = p.names.keys;
-        solvables = p.solvables;
-        version_sets = p.version_sets.keys;
-        unions = map (λ u. u.items) p.unions;
-        conditions = p.conditions.keys
-    }) };
+    ghost view = { lists_of };
+
+    ghost invariant = { λ p. IsSound (lists_of p) };
 }
 
 impl<VS: VersionSet, N: Eq + Hash, A: Allocator + Copy> Pool<VS, N, A> {
@@ -72,6 +59,13 @@ impl<VS: VersionSet, N: Eq + Hash, A: Allocator + Copy> Pool<VS, N, A> {
             unions: Arena::new(alloc),
             conditions: IndexSet::new(alloc),
         }
+    }
+
+    /// What every pool keeps: its ids are of it, and of their types. Does nothing.
+    pub fn soundness(&self)
+        ensures { IsSound self.now }
+    {
+        let _ = &self.conditions;
     }
 
     /// Whether the string is of this pool.
@@ -143,7 +137,8 @@ impl<VS: VersionSet, N: Eq + Hash, A: Allocator + Copy> Pool<VS, N, A> {
     /// The solvable of this id.
     pub fn resolve_solvable(&self, solvable: SolvableId) -> &Solvable<VS::V>
         requires { solvable < length self.now.solvables }
-        ensures { slice_get self.now.solvables solvable ≡ Some result.now }
+        ensures value { slice_get self.now.solvables solvable ≡ Some result.now }
+        ensures known { result.now.name < length self.now.names }
     {
         &self.solvables[solvable]
     }
@@ -167,7 +162,8 @@ impl<VS: VersionSet, N: Eq + Hash, A: Allocator + Copy> Pool<VS, N, A> {
     /// The package whose versions the set holds.
     pub fn resolve_version_set_package_name(&self, set: VersionSetId) -> NameId
         requires { set.0 < length self.now.version_sets }
-        ensures { option_map (λ s. s.0) (slice_get self.now.version_sets set.0) ≡ Some result }
+        ensures value { option_map (λ s. s.0) (slice_get self.now.version_sets set.0) ≡ Some result }
+        ensures known { result < length self.now.names }
     {
         let (name, _) = &self.version_sets.as_slice()[set.to_index()];
         *name
@@ -176,7 +172,8 @@ impl<VS: VersionSet, N: Eq + Hash, A: Allocator + Copy> Pool<VS, N, A> {
     /// The version sets of this union, in order.
     pub fn resolve_version_set_union(&self, union: VersionSetUnionId) -> &[VersionSetId]
         requires { union.0 < length self.now.unions }
-        ensures { slice_get self.now.unions union.0 ≡ Some result.now }
+        ensures value { slice_get self.now.unions union.0 ≡ Some result.now }
+        ensures known { AreSetsHere self.now result.now }
     {
         self.unions[union].as_slice()
     }
@@ -184,7 +181,8 @@ impl<VS: VersionSet, N: Eq + Hash, A: Allocator + Copy> Pool<VS, N, A> {
     /// The condition of this id.
     pub fn resolve_condition(&self, condition: ConditionId) -> &Condition
         requires { condition < length self.now.conditions }
-        ensures { slice_get self.now.conditions condition ≡ Some result.now }
+        ensures value { slice_get self.now.conditions condition ≡ Some result.now }
+        ensures known { IsMadeBelow self.now condition result.now }
     {
         &self.conditions.as_slice()[condition.to_index()]
     }
@@ -231,6 +229,7 @@ impl<VS: VersionSet + Drop, N: Eq + Hash + Drop, A: Allocator + Copy> Pool<VS, N
         name: NameId,
         payload: VS::V,
     ) -> Result<SolvableId, InsertError<VS::V>>
+        requires { name < length self.old.names }
         ensures id { IfOk result (λ id. id ≡ length self.old.solvables) }
         ensures ok { OnOk result (self.new ≡ with_solvable self.old (record { name = name; payload = payload })) }
         ensures err { OnErr result (self.new ≡ self.old) }
@@ -255,6 +254,7 @@ impl<VS: VersionSet + Drop, N: Eq + Hash + Drop, A: Allocator + Copy> Pool<VS, N
         name: NameId,
         set: VS,
     ) -> Result<VersionSetId, InsertError<VS>>
+        requires { name < length self.old.names }
         ensures id { IfOk result (λ id. id.0 ≡ interned_place (same_set VS.eq) self.old.version_sets (name, set)) }
         ensures ok { OnOk result (self.new ≡ with_version_set self.old VS.eq name set) }
         ensures err { OnErr result (self.new ≡ self.old) }
@@ -284,6 +284,7 @@ impl<VS: VersionSet + Drop, N: Eq + Hash + Drop, A: Allocator + Copy> Pool<VS, N
         first: VersionSetId,
         others: &[VersionSetId],
     ) -> Result<VersionSetUnionId, StoreError>
+        requires { AreSetsHere self.old (first ∷ others.now) }
         ensures id { IfOk result (λ id. id.0 ≡ length self.old.unions) }
         ensures ok { OnOk result (self.new ≡ with_union self.old (first ∷ others.now)) }
         ensures err { OnErr result (self.new ≡ self.old) }
@@ -294,14 +295,16 @@ impl<VS: VersionSet + Drop, N: Eq + Hash + Drop, A: Allocator + Copy> Pool<VS, N
             return Err(StoreError::IdSpace);
         }
         let sets = union_of(*self.conditions.allocator(), first, others)?;
-        match self.unions.alloc(sets) {
-            Ok(id) => Ok(id),
-            Err(refusal) => Err(refusal.error),
-        }
+        let id = match self.unions.alloc(sets) {
+            Ok(id) => id,
+            Err(refusal) => return Err(refusal.error),
+        };
+        Ok(id)
     }
 
     /// The id of a condition, which comes into the pool if it isn't there.
     pub fn intern_condition(&mut self, condition: Condition) -> Result<ConditionId, StoreError>
+        requires { IsMadeBelow self.old (length self.old.conditions) condition }
         ensures id { IfOk result (λ id. id ≡ interned_place same_condition self.old.conditions condition) }
         ensures ok { OnOk result (self.new ≡ with_condition self.old condition) }
         ensures err { OnErr result (self.new ≡ self.old) }

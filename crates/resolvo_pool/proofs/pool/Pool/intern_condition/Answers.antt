@@ -1,6 +1,21 @@
-use Rattle.std.proofs.Common.{string_bytes, map, ap, ◌∙◌}
+use Rattle.std.proofs.Common.{string_bytes, map, ap, sym, subst, length, rules, ◌∙◌}
 use Rattle.resolvo_pool.proofs.ConditionLemmas.{has_condition, place_of_condition, interned_condition}
+use Rattle.resolvo_pool.specs.contracts.condition.ConditionPartialEq.TheImpl.{eq-value}
+use Rattle.resolvo_pool.specs.Pool.{IsMadeBelow}
+use Rattle.resolvo_pool.specs.PoolView.{lists_of}
+use Rattle.resolvo_pool.proofs.PoolLemmas.{placed_interned, own_with_conditions}
 use Rattle.resolvo_pool.proofs.pool.Pool.intern_condition.Goals as goal
+
+pub invariant_of-self-2 : goal.invariant_of-self-2
+invariant_of-self-2 g c =
+    let keys = c.self.inside.conditions.keys in
+    let new = c.intern.new.table.keys in
+    let made : IsMadeBelow (lists_of c.self.inside) (length keys) c.args.condition = subst (λ p. IsMadeBelow p (length p.conditions) c.args.condition) (sym c.self.view_is) c.requires in
+    record {
+      fits = search rules;
+      own = own_with_conditions (lists_of c.self.inside) c.self.invariant.own new
+        (placed_interned eq-value.it keys c.args.condition (IsMadeBelow (lists_of c.self.inside)) new c.in-Ok.ensures.ok c.self.invariant.own.conditions made);
+    }
 
 pub returns-in-Err-clause-known : goal.returns-in-Err-clause-known
 returns-in-Err-clause-known g c =
