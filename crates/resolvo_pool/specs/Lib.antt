@@ -1,5 +1,6 @@
 pub mod Interned
 pub mod Pool
+pub mod PoolProps
 pub mod PoolView
 pub mod Provider
 pub mod Requirement

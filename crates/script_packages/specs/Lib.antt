@@ -9,6 +9,7 @@ pub mod Order
 pub mod OrderLaws
 pub mod Output
 pub mod PackageAnswers
+pub mod PackageLaws
 pub mod Packages
 pub mod Statements
 pub mod Status

@@ -102,7 +102,9 @@ impl Packages {
         let Some((first, others)) = sets.split_first() else {
             return Err(LineFault::Unreadable);
         };
-        match self.pool.intern_version_set_union(*first, others) {
+        let interned = self.pool.intern_version_set_union(*first, others);
+        self.pool.soundness();
+        match interned {
             Ok(_) => Ok(()),
             Err(_) => Err(LineFault::Memory),
         }
@@ -152,7 +154,9 @@ impl Packages {
         if !is_made_of_known {
             return Err(LineFault::Unreadable);
         }
-        match self.pool.intern_condition(condition) {
+        let interned = self.pool.intern_condition(condition);
+        self.pool.soundness();
+        match interned {
             Ok(_) => Ok(()),
             Err(_) => Err(LineFault::Memory),
         }

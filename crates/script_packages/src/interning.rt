@@ -18,8 +18,10 @@ impl Packages {
     pub(crate) fn new(alloc: Global) -> Packages
         ensures { listing_of result ≡ nothing_listed }
     {
+        let pool = Pool::new(alloc);
+        pool.soundness();
         Packages {
-            pool: Pool::new(alloc),
+            pool,
             spans: FrozenCopyMap::new(alloc),
             alloc,
         }
@@ -63,7 +65,9 @@ impl Packages {
         ensures err { IfErr result (λ e. e ≡ Memory) }
     {
         let text = owned(self.alloc, name)?;
-        match self.pool.intern_package_name(text) {
+        let interned = self.pool.intern_package_name(text);
+        self.pool.soundness();
+        match interned {
             Ok(id) => Ok(id),
             Err(refused) => {
                 drop(refused);
@@ -78,7 +82,9 @@ impl Packages {
         ensures err { IfErr result (λ e. e ≡ Memory) }
     {
         let text = owned(self.alloc, text)?;
-        match self.pool.intern_string(text) {
+        let interned = self.pool.intern_string(text);
+        self.pool.soundness();
+        match interned {
             Ok(_) => Ok(()),
             Err(refused) => {
                 drop(refused);
@@ -95,7 +101,9 @@ impl Packages {
         ensures spans { self.new.spans ≡ self.old.spans }
         ensures err { IfErr result (λ e. e ≡ Memory) }
     {
-        match self.pool.intern_solvable(name, version) {
+        let interned = self.pool.intern_solvable(name, version);
+        self.pool.soundness();
+        match interned {
             Ok(id) => Ok(id),
             Err(_) => Err(LineFault::Memory),
         }
@@ -107,7 +115,9 @@ impl Packages {
         ensures ok { OnOk result (listing_of self.new ≡ with_set (listing_of self.old) name range) }
         ensures err { IfErr result (λ e. e ≡ Memory) }
     {
-        match self.pool.intern_version_set(name, range) {
+        let interned = self.pool.intern_version_set(name, range);
+        self.pool.soundness();
+        match interned {
             Ok(_) => Ok(()),
             Err(_) => Err(LineFault::Memory),
         }

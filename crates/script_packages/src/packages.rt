@@ -1,4 +1,6 @@
 //! The packages of a script, which stand in a pool.
+ghost use Rattle.resolvo_pool.specs.Pool.{IsOfItself};
+ghost use Rattle.resolvo_pool.specs.PoolProps.{pool_props};
 
 use resolvo_ids::{FrozenCopyMap, NameId, SolvableId};
 use resolvo_pool::{Pool, VersionSet};
@@ -30,4 +32,5 @@ pub struct Packages {
     /// The solvables of each name that a package line listed.
     pub spans: FrozenCopyMap<NameId, Span>,
     pub(crate) alloc: Global,
+    ghost of_itself: { IsOfItself pool } by { Prim.hlevel pool_props },
 }

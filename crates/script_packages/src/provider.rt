@@ -17,6 +17,7 @@ use std::alloc::Global;
 
 impl Interner for Packages {
     ghost use Rattle.script_packages.specs.PackageAnswers.{catalogue_of, texts_of};
+    ghost use Rattle.script_packages.specs.PackageLaws.{solvable_names_known, set_names_known, union_sets_known, operands_known};
 
     type Alloc = Global;
 
@@ -28,13 +29,13 @@ impl Interner for Packages {
 
     ghost texts = { texts_of };
 
-    ghost solvable_names_known = { ? };
+    ghost solvable_names_known = { solvable_names_known };
 
-    ghost set_names_known = { ? };
+    ghost set_names_known = { set_names_known };
 
-    ghost union_sets_known = { ? };
+    ghost union_sets_known = { union_sets_known };
 
-    ghost operands_known = { ? };
+    ghost operands_known = { operands_known };
 
     fn knows_string(&self, string: StringId) -> bool {
         self.pool.knows_string(string)

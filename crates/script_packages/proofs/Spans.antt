@@ -1,0 +1,15 @@
+-- A span of a name that had none stands behind the others.
+use Rattle.std.proofs.Common.{◌≡◌, ℕ, Bool, true, false, cond, List, [], ◌∷◌, ◌++◌, Option, Some, None, ap, refl}
+use Rattle.std.specs.Prelude.{is_some}
+use Rattle.std.specs.Map.{lookup}
+use Rattle.indexmap.specs.IndexMap.{insert_entry}
+use Rattle.script_packages.specs.declared.packages.Span.{Span}
+use Rattle.script_packages.specs.Packages.{same_id}
+
+pub inserted_span : (spans : List (ℕ × Span)) (name : ℕ) (span : Span) → is_some (lookup (same_id name) spans) ≡ false
+    → insert_entry same_id spans name span ≡ spans ++ (name, span) ∷ []
+inserted_span [] name span new = refl
+inserted_span (e ∷ es) name span new =
+    (elim (same_id name e.0) as (λ b. is_some (cond b (Some e.1) (lookup (same_id name) es)) ≡ false
+    → cond b ((e.0, span) ∷ es) (e ∷ insert_entry same_id es name span) ≡ e ∷ (es ++ (name, span) ∷ []))
+    [ true ↦ λ h. (let no : true ≡ false = h in cc) | false ↦ λ h. ap (λ l. e ∷ l) (inserted_span es name span h) ]) new
