@@ -1,5 +1,5 @@
 -- Lists in which equal values stand once, where their values are seen in another way.
-use Rattle.std.proofs.Common.{◌≡◌, ℕ, Bool, true, false, not, cond, ◌||◌, List, [], ◌∷◌, ◌++◌, ◌+◌, ◌<◌, arith, length, map, refl, ap, ◌∙◌}
+use Rattle.std.proofs.Common.{◌≡◌, Bool, true, false, not, cond, ◌||◌, List, [], ◌∷◌, ◌++◌, ◌+◌, map, refl, ap, ◌∙◌}
 use Rattle.std.proofs.lemmas.List.{map-append}
 use Rattle.resolvo_pool.specs.Interned.{has_same, interned, interned_place}
 
@@ -38,14 +38,3 @@ module _ {X : Type 0} (eq same : X → X → Bool) (agree : (x y : X) → eq x y
 
   pub interned_by_test : (xs : List X) (x : X) → interned eq xs x ≡ interned same xs x
   interned_by_test xs x = ap (λ b. cond b xs (xs ++ x ∷ [])) (has_by_test xs x)
-
--- a value has a place in the list that it came into
-pub place_within : {X : Type 0} (same : X → X → Bool) (xs : List X) (x : X) → interned_place same xs x < length (interned same xs x)
-place_within same [] x = omega arith
-place_within same (k ∷ ks) x =
-    elim (same x k) as (λ b. cond (not b) (1 + interned_place same ks x) 0 < length (cond (b || has_same same ks x) (k ∷ ks) (k ∷ (ks ++ x ∷ []))))
-    [ true ↦ omega arith | false ↦ by_rest (has_same same ks x) (place_within same ks x) ]
-  where
-    by_rest : (b : Bool) → interned_place same ks x < length (cond b ks (ks ++ x ∷ [])) → 1 + interned_place same ks x < length (cond b (k ∷ ks) (k ∷ (ks ++ x ∷ [])))
-    by_rest true h = omega (arith, h)
-    by_rest false h = omega (arith, h)

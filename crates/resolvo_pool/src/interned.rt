@@ -1,5 +1,6 @@
 //! Tables in which equal values stand once, in the order in which they came. A value's place is its id.
-ghost use Rattle.std.specs.Prelude.{◌≡◌, ◌≤◌, ◌^◌, true, false, length, min, IsTrue, IsOk, IfOk, OnOk, IfErr, OnErr, IsErrAnd};
+ghost use Rattle.std.specs.Prelude.{◌≡◌, ◌≤◌, ◌^◌, true, false, length, min};
+ghost use Rattle.std.specs.Prelude.{IsTrue, IsOk, IfOk, OnOk, IfErr, OnErr, IsErrAnd};
 ghost use Rattle.indexmap.specs.IndexSet.{index_set_len};
 ghost use Rattle.resolvo_ids.specs.declared.error.StoreError.TheVariants.{IdSpace};
 ghost use Rattle.resolvo_ids.specs.Refusals.{IsGrowthRefusal, are_ids_out};

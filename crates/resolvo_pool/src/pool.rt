@@ -1,11 +1,13 @@
 //! Where an ecosystem keeps what its ids stand for.
-ghost use Rattle.std.specs.Prelude.{◌≡◌, ◌<◌, ◌^◌, ◌-◌, ◌++◌, ◌∷◌, [], true, false, length, nat_lt, slice_get, bytes_eq, string_bytes, option_map, IsTrue, IsOk, IfOk, OnOk, IfErr, OnErr, IsErrAnd};
+ghost use Rattle.std.specs.Prelude.{◌≡◌, ◌<◌, ◌^◌, ◌-◌, ◌∷◌, false, length, nat_lt, slice_get, bytes_eq, string_bytes};
+ghost use Rattle.std.specs.Prelude.{option_map, IsTrue, IsOk, IfOk, OnOk, IfErr, OnErr, IsErrAnd};
 ghost use Rattle.std.specs.List.{position};
 ghost use Rattle.resolvo_ids.specs.Arena.{pairs_from};
 ghost use Rattle.resolvo_ids.specs.declared.error.StoreError.TheVariants.{IdSpace, OutOfMemory};
 ghost use Rattle.resolvo_ids.specs.Refusals.{IsGrowthRefusal, are_ids_out};
 ghost use Rattle.resolvo_pool.specs.Interned.{has_same, interned, interned_place};
-ghost use Rattle.resolvo_pool.specs.Pool.{nothing, IsSound, IsMadeBelow, AreSetsHere, same_set, same_condition, with_string, with_name, with_solvable, with_version_set, with_union, with_condition};
+ghost use Rattle.resolvo_pool.specs.Pool.{nothing, IsSound, IsMadeBelow, AreSetsHere, same_set, same_condition};
+ghost use Rattle.resolvo_pool.specs.Pool.{with_string, with_name, with_solvable, with_version_set, with_union, with_condition};
 
 use crate::condition::Condition;
 use crate::interned::intern;

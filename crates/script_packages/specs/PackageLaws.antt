@@ -17,7 +17,7 @@ at_place : {X : Type 0} (Q : Option X → Type 0) (list : List X) (place : ℕ) 
     → ((x : X) → slice_get list place ≡ Some x → Q (Some x)) → Q (slice_get list place)
 at_place Q [] place h each = let no : place < 0 = ltb-true place 0 h in absurd (omega (arith, no))
 at_place Q (x ∷ xs) zero h each = each x refl
-at_place Q (x ∷ xs) (suc place) h each = at_place Q xs place h each
+at_place Q (x ∷ xs) (suc place) h each = at_place Q xs place (lt-ltb _ _ (omega (arith, ltb-true _ _ h))) each
 
 module _ (p : Packages) where
   pub solvable_names_known : AreSolvableNamesKnown (catalogue_of p)

@@ -102,8 +102,9 @@ impl Packages {
         let Some((first, others)) = sets.split_first() else {
             return Err(LineFault::Unreadable);
         };
-        let interned = self.pool.intern_version_set_union(*first, others);
-        self.pool.soundness();
+        let pool = &mut self.pool;
+        let interned = pool.intern_version_set_union(*first, others);
+        pool.soundness();
         match interned {
             Ok(_) => Ok(()),
             Err(_) => Err(LineFault::Memory),
@@ -154,8 +155,9 @@ impl Packages {
         if !is_made_of_known {
             return Err(LineFault::Unreadable);
         }
-        let interned = self.pool.intern_condition(condition);
-        self.pool.soundness();
+        let pool = &mut self.pool;
+        let interned = pool.intern_condition(condition);
+        pool.soundness();
         match interned {
             Ok(_) => Ok(()),
             Err(_) => Err(LineFault::Memory),

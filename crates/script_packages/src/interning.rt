@@ -65,8 +65,9 @@ impl Packages {
         ensures err { IfErr result (λ e. e ≡ Memory) }
     {
         let text = owned(self.alloc, name)?;
-        let interned = self.pool.intern_package_name(text);
-        self.pool.soundness();
+        let pool = &mut self.pool;
+        let interned = pool.intern_package_name(text);
+        pool.soundness();
         match interned {
             Ok(id) => Ok(id),
             Err(refused) => {
@@ -82,8 +83,9 @@ impl Packages {
         ensures err { IfErr result (λ e. e ≡ Memory) }
     {
         let text = owned(self.alloc, text)?;
-        let interned = self.pool.intern_string(text);
-        self.pool.soundness();
+        let pool = &mut self.pool;
+        let interned = pool.intern_string(text);
+        pool.soundness();
         match interned {
             Ok(_) => Ok(()),
             Err(refused) => {
@@ -101,8 +103,9 @@ impl Packages {
         ensures spans { self.new.spans ≡ self.old.spans }
         ensures err { IfErr result (λ e. e ≡ Memory) }
     {
-        let interned = self.pool.intern_solvable(name, version);
-        self.pool.soundness();
+        let pool = &mut self.pool;
+        let interned = pool.intern_solvable(name, version);
+        pool.soundness();
         match interned {
             Ok(id) => Ok(id),
             Err(_) => Err(LineFault::Memory),
@@ -115,8 +118,9 @@ impl Packages {
         ensures ok { OnOk result (listing_of self.new ≡ with_set (listing_of self.old) name range) }
         ensures err { IfErr result (λ e. e ≡ Memory) }
     {
-        let interned = self.pool.intern_version_set(name, range);
-        self.pool.soundness();
+        let pool = &mut self.pool;
+        let interned = pool.intern_version_set(name, range);
+        pool.soundness();
         match interned {
             Ok(_) => Ok(()),
             Err(_) => Err(LineFault::Memory),

@@ -14,7 +14,7 @@ invariant_of-self-2 g c =
     record {
       fits = search rules;
       own = own_with_conditions (lists_of c.self.inside) c.self.invariant.own new
-        (placed_interned eq-value.it keys c.args.condition (IsMadeBelow (lists_of c.self.inside)) new c.in-Ok.ensures.ok c.self.invariant.own.conditions made);
+          (placed_interned eq-value.it keys c.args.condition (IsMadeBelow (lists_of c.self.inside)) new c.in-Ok.ensures.ok c.self.invariant.own.conditions made);
     }
 
 pub returns-in-Err-clause-known : goal.returns-in-Err-clause-known

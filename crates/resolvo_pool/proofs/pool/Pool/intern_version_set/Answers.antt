@@ -15,8 +15,8 @@ invariant_of-self-2 g c =
     record {
       fits = search rules;
       own = own_with_sets (lists_of c.self.inside) c.self.invariant.own new
-        (interned_grows eq keys entry new c.in-Ok.ensures.ok)
-        (placed_interned eq keys entry (λ _ set. set.0 < length c.self.inside.names.keys) new c.in-Ok.ensures.ok c.self.invariant.own.version_sets known);
+          (interned_grows eq keys entry new c.in-Ok.ensures.ok)
+          (placed_interned eq keys entry (λ _ set. set.0 < length c.self.inside.names.keys) new c.in-Ok.ensures.ok c.self.invariant.own.version_sets known);
     }
 
 pub returns-clause-id : goal.returns-clause-id
@@ -24,11 +24,11 @@ returns-clause-id g c =
     let same = g.VS.PartialEq.eq in
     rw (← c.self.view_is)
     (ap (λ id. id.0) c.in-Ok.ensures.id
-      ∙ place_by_test (λ a b. ((a.0 == b.0) && true) && same a.1 b.1) (same_set same) (λ a b. search rules) c.self.inside.version_sets.keys (c.args.name, c.args.set))
+    ∙ place_by_test (λ a b. ((a.0 == b.0) && true) && same a.1 b.1) (same_set same) (λ a b. search rules) c.self.inside.version_sets.keys (c.args.name, c.args.set))
 
 pub returns-clause-ids_out : goal.returns-clause-ids_out
 returns-clause-ids_out g c =
     let same = g.VS.PartialEq.eq in
     rw (← c.self.view_is)
     (λ out h. absurd (c.in-Ok.ensures.ids_out out
-      (has_by_test (λ a b. ((a.0 == b.0) && true) && same a.1 b.1) (same_set same) (λ a b. search rules) c.self.inside.version_sets.keys (c.args.name, c.args.set) ∙ h)))
+    (has_by_test (λ a b. ((a.0 == b.0) && true) && same a.1 b.1) (same_set same) (λ a b. search rules) c.self.inside.version_sets.keys (c.args.name, c.args.set) ∙ h)))

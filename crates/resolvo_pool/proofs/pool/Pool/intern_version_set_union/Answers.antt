@@ -21,5 +21,5 @@ invariant_of-self-2 g c =
         conditions = c.self.invariant.fits.conditions;
       };
       own = rw (c.in-Ok.ensures.ok, map-append (λ u. u.items) unions (sets ∷ []))
-        (own_with_union (lists_of c.self.inside) c.self.invariant.own sets.items here);
+          (own_with_union (lists_of c.self.inside) c.self.invariant.own sets.items here);
     }

@@ -1,6 +1,3 @@
-use Rattle.std.proofs.Common.{◌≡◌, sym, subst, rules}
-use Rattle.resolvo_pool.specs.Pool.{nothing, IsSound}
-use Rattle.resolvo_pool.specs.PoolView.{lists_of}
 use Rattle.resolvo_pool.proofs.PoolLemmas.{sound_nothing}
 use Rattle.resolvo_pool.proofs.pool.Pool.new.Goals as goal
 

@@ -1,4 +1,3 @@
-use Rattle.std.proofs.Common.{rules}
 use Rattle.resolvo_pool.proofs.PoolLemmas.{got_map}
 use Rattle.resolvo_pool.proofs.pool.Pool.resolve_version_set_union.Goals as goal
 
@@ -6,4 +5,4 @@ pub returns-clause-known : goal.returns-clause-known
 returns-clause-known g c =
     rw (← c.self.view_is, c.as_slice.ensures.value)
     (c.self.invariant.own.unions c.args.union.0 c.index.result.now.items
-      (got_map (λ u. u.items) c.self.inside.unions c.args.union.0 c.index.result.now c.index.ensures))
+    (got_map (λ u. u.items) c.self.inside.unions c.args.union.0 c.index.result.now c.index.ensures))

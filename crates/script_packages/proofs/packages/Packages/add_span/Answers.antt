@@ -8,6 +8,6 @@ pub returns-in-Ok-clause-ok : goal.returns-in-Ok-clause-ok
 returns-in-Ok-clause-ok c =
     let p = c.args.self.now in
     let name = c.args.name in
-    let with_spans : List (ℕ × Span) → Listing = λ spans. record listing_of p { spans = spans } in
+    let with_spans : List (ℕ × Span) → Listing = λ spans. record (listing_of p) { spans = spans } in
     ap with_spans (c.in-Ok.ensures.ok ∙ inserted_span p.spans name c.args.span c.requires.new)
     ∙ ap (λ last. with_spans (p.spans ++ (name, record { first = c.args.span.first; last = last }) ∷ [])) c.requires.last

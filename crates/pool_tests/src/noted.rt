@@ -1,0 +1,20 @@
+//! A name, and a version set, of which `==` reads a part.
+use resolvo_pool::VersionSet;
+
+/// A key with a note, which `==` doesn't read.
+#[derive(Drop, Debug)]
+#[derive_where(PartialEq, Eq, Hash)]
+pub(crate) struct Noted {
+    pub(crate) key: u32,
+    #[derive_where(skip)]
+    pub(crate) note: u32,
+}
+
+impl VersionSet for Noted {
+    type V = u32;
+}
+
+/// The key with this note.
+pub(crate) fn noted(key: u32, note: u32) -> Noted {
+    Noted { key, note }
+}
