@@ -6,6 +6,8 @@ use Rattle.std.specs.String.{string_bytes}
 use Rattle.std.specs.declared.string.String.{String}
 use Rattle.resolvo_ids.specs.declared.string_id.StringId.{StringId}
 use Rattle.resolvo_ids.specs.declared.version_set_id.VersionSetId.{VersionSetId}
+use Rattle.resolvo_pool.specs.Provider.{Catalogue, sets_of}
+use Rattle.resolvo_pool.specs.declared.requirement.Requirement.{Requirement}
 
 -- the fixed texts of an interner
 pub record Texts (N S : Type 0) : Type 0 where
@@ -24,3 +26,12 @@ IsContinued old new = (text : List ℕ) × IsAppended old new text
 
 abbrev pub IsSameText : {A : Type 0} → String A → String A → Type 0
 IsSameText old new = string_bytes new ≡ string_bytes old
+
+module _ {N S : Type 0} (catalogue : Catalogue N S) (texts : Texts N S) where
+  -- of a version set: its package's name, a blank and its own text, without white space at the end
+  abbrev pub single_text : VersionSetId → List ℕ
+  single_text v = trim_end (texts.name (catalogue.set_name v) ++ 32 ∷ texts.version_set v)
+
+  -- of a requirement: the texts of its version sets, with a bar between blanks between them
+  abbrev pub requirement_text : Requirement → List ℕ
+  requirement_text r = join_by single_text (codes " | ") (sets_of catalogue r)

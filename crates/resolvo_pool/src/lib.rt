@@ -3,9 +3,11 @@
 
 mod condition;
 mod interner;
+mod joined;
 mod provider;
 mod requirement;
 mod requirement_map;
+mod requirement_text;
 mod version_sets;
 
 pub use condition::{Condition, LogicalOperator};

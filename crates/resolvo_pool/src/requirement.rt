@@ -1,10 +1,14 @@
 //! What a package asks of another one.
-ghost use Rattle.std.specs.Prelude.{◌≡◌, true};
+ghost use Rattle.std.specs.Prelude.{◌≡◌, true, OnOk, OnErr, IfErr};
+ghost use Rattle.resolvo_ids.specs.declared.error.StoreError.TheVariants.{OutOfMemory};
 ghost use Rattle.resolvo_pool.specs.Provider.{sets_of, knows_requirement};
+ghost use Rattle.resolvo_pool.specs.Texts.{IsAppended, IsSameText, requirement_text};
 
 use crate::interner::Interner;
+use crate::joined::append_joined;
+use crate::requirement_text::texts_of_sets;
 use crate::version_sets::VersionSets;
-use resolvo_ids::{VersionSetId, VersionSetUnionId};
+use resolvo_ids::{StoreError, VersionSetId, VersionSetUnionId};
 use std::slice;
 
 /// One of the candidates of a version set, or of any set of a union.
@@ -24,5 +28,23 @@ impl Requirement {
             Requirement::Single(set) => VersionSets::new(slice::from_ref(set)),
             Requirement::Union(union) => VersionSets::new(interner.version_sets_in_union(*union)),
         }
+    }
+
+    /// Appends the requirement's text: of each version set the name of its package, a blank and its own text, without
+    /// the white space at the end ([`char::is_whitespace`]); ` | ` stands between the texts of a union's sets. After a
+    /// refusal `out` is as it was.
+    pub fn display<I: Interner>(
+        &self,
+        interner: &I,
+        out: &mut String<I::Alloc>,
+    ) -> Result<(), StoreError>
+        requires { knows_requirement (I.catalogue interner.now) self.now ≡ true }
+        ensures ok { OnOk result (IsAppended out.old out.new (requirement_text (I.catalogue interner.now) (I.texts interner.now) self.now)) }
+        ensures err { OnErr result (IsSameText out.old out.new) }
+        ensures memory { IfErr result (λ e. e ≡ OutOfMemory) }
+    {
+        let sets = self.version_sets(interner);
+        let texts = texts_of_sets(interner, *out.allocator(), sets.as_slice())?;
+        append_joined(&texts, out)
     }
 }
