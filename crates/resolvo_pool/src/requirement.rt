@@ -1,14 +1,15 @@
 //! What a package asks of another one.
-ghost use Rattle.std.specs.Prelude.{◌≡◌, true, OnOk, OnErr, IfErr};
+ghost use Rattle.std.specs.Prelude.{◌≡◌, true, Some, OnOk, OnErr, IfErr};
 ghost use Rattle.resolvo_ids.specs.declared.error.StoreError.TheVariants.{OutOfMemory};
 ghost use Rattle.resolvo_pool.specs.Provider.{sets_of, knows_requirement};
 ghost use Rattle.resolvo_pool.specs.Texts.{IsAppended, IsSameText, requirement_text};
 
+use crate::conditional_requirement::ConditionalRequirement;
 use crate::interner::Interner;
 use crate::joined::append_joined;
 use crate::requirement_text::texts_of_sets;
 use crate::version_sets::VersionSets;
-use resolvo_ids::{StoreError, VersionSetId, VersionSetUnionId};
+use resolvo_ids::{ConditionId, StoreError, VersionSetId, VersionSetUnionId};
 use std::slice;
 
 /// One of the candidates of a version set, or of any set of a union.
@@ -19,6 +20,17 @@ pub enum Requirement {
 }
 
 impl Requirement {
+    /// The requirement, asked for only where the condition is met.
+    pub fn with_condition(self, condition: ConditionId) -> ConditionalRequirement
+        ensures condition { result.condition ≡ Some condition }
+        ensures requirement { result.requirement ≡ self }
+    {
+        ConditionalRequirement {
+            condition: Some(condition),
+            requirement: self,
+        }
+    }
+
     /// The version sets of which one is enough, in order; a union may name one more than once.
     pub fn version_sets<'i, I: Interner>(&'i self, interner: &'i I) -> VersionSets<'i>
         requires { knows_requirement (I.catalogue interner.now) self.now ≡ true }
@@ -46,5 +58,36 @@ impl Requirement {
         let sets = self.version_sets(interner);
         let texts = texts_of_sets(interner, *out.allocator(), sets.as_slice())?;
         append_joined(&texts, out)
+    }
+}
+
+/// The version set of index 0.
+impl Default for Requirement {
+    ghost use Rattle.resolvo_pool.specs.declared.requirement.Requirement.TheVariants.{Single};
+
+    ghost is_default = { λ requirement. requirement ≡ Single (record { 0 = 0 }) };
+
+    fn default() -> Self {
+        Requirement::Single(VersionSetId::default())
+    }
+}
+
+impl From<VersionSetId> for Requirement {
+    ghost use Rattle.resolvo_pool.specs.declared.requirement.Requirement.TheVariants.{Single};
+
+    ghost from_gives = { λ set requirement. requirement ≡ Single set };
+
+    fn from(set: VersionSetId) -> Self {
+        Requirement::Single(set)
+    }
+}
+
+impl From<VersionSetUnionId> for Requirement {
+    ghost use Rattle.resolvo_pool.specs.declared.requirement.Requirement.TheVariants.{Union};
+
+    ghost from_gives = { λ union requirement. requirement ≡ Union union };
+
+    fn from(union: VersionSetUnionId) -> Self {
+        Requirement::Union(union)
     }
 }
