@@ -25,7 +25,7 @@ fn shows_requirement<I: Interner>(
     Ok(())
 }
 
-/// The merged solvables' text is this one, and so is a key's.
+/// The merged solvables' text is this one.
 fn shows_solvables<I: Interner>(
     rt: &impl Abort,
     heap: I::Alloc,

@@ -45,7 +45,7 @@ abbrev pub key_text : {S : Type 0} → (S → List ℕ) → SolvableIdOrRoot S �
 key_text text Root = codes "root"
 key_text text (Solvable s) = text s
 
--- of solvables together: new is old, a name, a blank and the distinct texts in order, with a bar between blanks between them
+-- new is old, a name, a blank and the distinct texts in order, with a bar between blanks between them
 pub record IsMerged {A : Type 0} (name : List ℕ) (texts : List (String A)) (old new : List ℕ) : Type 0 where
   -- the texts in ascending order of their bytes
   pub ordered : List (String A)

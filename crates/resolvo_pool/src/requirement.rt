@@ -51,7 +51,8 @@ impl Requirement {
         out: &mut String<I::Alloc>,
     ) -> Result<(), StoreError>
         requires { knows_requirement (I.catalogue interner.now) self.now ≡ true }
-        ensures ok { OnOk result (IsAppended out.old out.new (requirement_text (I.catalogue interner.now) (I.texts interner.now) self.now)) }
+        ensures ok { OnOk result (IsAppended out.old out.new
+            (requirement_text (I.catalogue interner.now) (I.texts interner.now) self.now)) }
         ensures err { OnErr result (IsSameText out.old out.new) }
         ensures memory { IfErr result (λ e. e ≡ OutOfMemory) }
     {

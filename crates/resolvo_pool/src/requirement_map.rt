@@ -90,7 +90,8 @@ impl<V: Drop, A: Allocator + Copy> RequirementMap<V, A> {
     ) -> Result<(), StoreError>
         requires absent { lookup (same_requirement requirement) self.old ≡ None }
         requires callable { F.pre default }
-        ensures ok { OnOk result ((value : V) × F.post default value × (self.new ≡ with_entry self.old requirement value)) }
+        ensures ok { OnOk result ((value : V) ×
+            F.post default value × (self.new ≡ with_entry self.old requirement value)) }
         ensures err { OnErr result (self.new ≡ self.old) }
         ensures memory { IfErr result (λ e. e ≡ OutOfMemory) }
     {
@@ -126,7 +127,8 @@ impl<V: Drop, A: Allocator + Copy> RequirementMap<V, A> {
     ) -> Result<&mut V, StoreError>
         requires { ForNone (lookup (same_requirement requirement) self.old) (F.pre default) }
         ensures* writes_back { sem 𝓛 (lends_inserted V.row A.row A.Allocator self.entry requirement result) }
-        ensures value { IfOk result (λ r. MatchOption (lookup (same_requirement requirement) self.old) (F.post default r.now) (λ value. r.now ≡ value)) }
+        ensures value { IfOk result (λ r. MatchOption (lookup (same_requirement requirement) self.old)
+            (F.post default r.now) (λ value. r.now ≡ value)) }
         ensures memory { IfErr result (λ e. e ≡ OutOfMemory) }
         ensures known { IsSome (lookup (same_requirement requirement) self.old) → IsOk result }
     {

@@ -14,7 +14,8 @@ fn text_of_set<I: Interner>(
     set: VersionSetId,
 ) -> Result<String<I::Alloc>, StoreError>
     requires { (I.catalogue interner.now).knows_set set ≡ true }
-    ensures ok { IfOk result (λ text. string_bytes text ≡ single_text (I.catalogue interner.now) (I.texts interner.now) set) }
+    ensures ok { IfOk result (λ text.
+        string_bytes text ≡ single_text (I.catalogue interner.now) (I.texts interner.now) set) }
     ensures err { IfErr result (λ e. e ≡ OutOfMemory) }
 {
     let mut whole = String::new(alloc);
@@ -34,7 +35,8 @@ pub(crate) fn texts_of_sets<I: Interner>(
     sets: &[VersionSetId],
 ) -> Result<Vec<String<I::Alloc>, I::Alloc>, StoreError>
     requires { All (λ v. (I.catalogue interner.now).knows_set v ≡ true) sets.now }
-    ensures ok { IfOk result (λ texts. map string_bytes texts.items ≡ map (single_text (I.catalogue interner.now) (I.texts interner.now)) sets.now) }
+    ensures ok { IfOk result (λ texts.
+        map string_bytes texts.items ≡ map (single_text (I.catalogue interner.now) (I.texts interner.now)) sets.now) }
     ensures err { IfErr result (λ e. e ≡ OutOfMemory) }
 {
     let mut texts = Vec::new(alloc);
