@@ -81,7 +81,8 @@ impl<'w, A: Allocator + Copy> Interner for FewWords<'w, A> {
 
     ghost set_names_known = { λ w v h. refl };
 
-    ghost union_sets_known = { λ w u h. AllPass-from_list_all (λ v. nat_lt v.0 (length w.sets.now)) w.union.now w.known };
+    ghost union_sets_known = { λ w u h.
+        AllPass-from_list_all (λ v. nat_lt v.0 (length w.sets.now)) w.union.now w.known };
 
     ghost operands_known = { λ w c h. Prim.absurd (true≢false (sym h)) };
 

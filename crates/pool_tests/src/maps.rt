@@ -4,6 +4,7 @@ use refusing::Refusing;
 use resolvo_ids::{InsertError, StoreError, VersionSetId, VersionSetUnionId};
 use resolvo_pool::{ConditionalRequirement, Requirement, RequirementMap};
 use std::alloc::Global;
+use std::cell::Cell;
 use std::test::Fail;
 
 #[test]
@@ -18,7 +19,11 @@ fn a_map_keeps_values(rt: HostRuntime) -> Result<(), Fail> {
     assert_eq!(rt; map.get(set).copied(), Some(7));
     clear(&mut map, set);
     clear(&mut map, Requirement::default());
-    for (requirement, value) in [(set, Some(0)), (union, Some(1)), (Requirement::default(), None)] {
+    for (requirement, value) in [
+        (set, Some(0)),
+        (union, Some(1)),
+        (Requirement::default(), None),
+    ] {
         assert_eq!(rt; map.get(requirement).copied(), value);
     }
     if map.get(union).is_some() {
@@ -41,6 +46,22 @@ fn a_refused_map_hands_the_value_back(rt: HostRuntime) {
     heap.arm(1);
     assert_eq!(rt; count_up(&mut map, set), Err(StoreError::OutOfMemory));
     assert_eq!(rt; map.get(set).copied(), None);
+}
+
+#[test]
+fn a_refused_map_asks_for_no_value(rt: HostRuntime) {
+    let heap = Refusing::new(rt.alloc());
+    let mut map: RequirementMap<u32, &Refusing<Global>> = RequirementMap::new(&heap);
+    for (number, is_asked) in [(1, false), (0, true)] {
+        let asked = Cell::new(false);
+        heap.arm(number);
+        let lent = map.get_or_insert_with(Requirement::default(), || {
+            asked.set(true);
+            9
+        });
+        assert_eq!(rt; lent.is_ok(), is_asked);
+        assert_eq!(rt; asked.get(), is_asked);
+    }
 }
 
 #[test]
