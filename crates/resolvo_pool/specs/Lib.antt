@@ -5,4 +5,5 @@ pub mod PoolView
 pub mod Provider
 pub mod Requirement
 pub mod RequirementMap
+pub mod RequirementMapLends
 pub mod Texts

@@ -1,6 +1,8 @@
 -- What a provider of packages says, and the candidate lists that come of it. N are the names, S the solvables.
 use Rattle.std.specs.Prelude.{◌≡◌, ◌<◌, ℕ, Bool, true, false, not, if◌then◌else◌, List, [], ◌∷◌, filter, All, Option, None, Some}
 use Rattle.std.specs.declared.vec.Vec.{Vec}
+use Rattle.resolvo_ids.specs.declared.solvable_id_or_root.SolvableIdOrRoot.{SolvableIdOrRoot}
+use Rattle.resolvo_ids.specs.declared.solvable_id_or_root.SolvableIdOrRoot.TheVariants.{Root, Solvable}
 use Rattle.resolvo_ids.specs.declared.string_id.StringId.{StringId}
 use Rattle.resolvo_ids.specs.declared.version_set_id.VersionSetId.{VersionSetId}
 use Rattle.resolvo_ids.specs.declared.version_set_union_id.VersionSetUnionId.{VersionSetUnionId}
@@ -79,3 +81,8 @@ sets_of catalogue (Union u) = catalogue.union_sets u
 abbrev pub knows_requirement : {N S : Type 0} → Catalogue N S → Requirement → Bool
 knows_requirement catalogue (Single v) = catalogue.knows_set v
 knows_requirement catalogue (Union u) = catalogue.knows_union u
+
+-- the key of the root is always known, that of a solvable where the solvable is
+abbrev pub knows_key : {S : Type 0} → (S → Bool) → SolvableIdOrRoot S → Bool
+knows_key knows Root = true
+knows_key knows (Solvable s) = knows s

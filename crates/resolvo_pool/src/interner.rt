@@ -5,9 +5,8 @@ ghost use Rattle.resolvo_pool.specs.Provider.{Catalogue, AreSolvableNamesKnown, 
 ghost use Rattle.resolvo_pool.specs.Texts.{Texts, IsAppended, IsContinued, IsSameText};
 
 use crate::condition::Condition;
-use resolvo_ids::{
-    ConditionId, SolverId, StoreError, StringId, VersionSetId, VersionSetUnionId,
-};
+use crate::joined::append_merged;
+use resolvo_ids::{ConditionId, SolverId, StoreError, StringId, VersionSetId, VersionSetUnionId};
 use std::alloc::Allocator;
 
 /// Tells which ids are known, what they stand for, and their texts. Its answers are fixed: they follow from its value
@@ -122,6 +121,37 @@ pub trait Interner {
         ensures memory { IfErr result (λ e. e ≡ OutOfMemory) }
     {
         self.display_name(self.solvable_name(solvable), out)
+    }
+
+    /// Appends a text for solvables of one package together. By default that is nothing for none, and else the text of
+    /// [`Interner::display_solvable_name`] for the first, a blank, and the solvables' distinct texts in ascending order
+    /// of their bytes, with ` | ` between them.
+    fn display_merged_solvables(
+        &self,
+        solvables: &[Self::SolvableId],
+        out: &mut String<Self::Alloc>,
+    ) -> Result<(), StoreError>
+        requires { All (λ s. (catalogue self.now).knows_solvable s ≡ true) solvables.now }
+        ensures ok { OnOk result (IsContinued out.old out.new) }
+        ensures err { OnErr result (IsSameText out.old out.new) }
+        ensures memory { IfErr result (λ e. e ≡ OutOfMemory) }
+    {
+        if solvables.is_empty() {
+            return Ok(());
+        }
+        let alloc = *out.allocator();
+        let mut name = String::new(alloc);
+        self.display_solvable_name(solvables[0], &mut name)?;
+        let mut texts = Vec::new(alloc);
+        for solvable in solvables {
+            let mut text = String::new(alloc);
+            self.display_solvable(*solvable, &mut text)?;
+            match texts.push(text) {
+                Ok(()) => {}
+                Err(_) => return Err(StoreError::OutOfMemory),
+            }
+        }
+        append_merged(name, texts, out)
     }
 
     /// What is known is made of what is known.

@@ -1,0 +1,152 @@
+//! An interner of one package, whose texts stand in lists.
+ghost use Rattle.std.specs.Prelude.{◌≡◌, ◌==◌, true, false, [], length, nat_lt, codes, OnOk, OnErr, IfErr};
+ghost use Rattle.std.specs.List.{list_all};
+ghost use Rattle.resolvo_ids.specs.declared.error.StoreError.TheVariants.{OutOfMemory};
+ghost use Rattle.resolvo_pool.specs.Texts.{IsAppended, IsSameText};
+ghost use Rattle.pool_tests.specs.Words.{text_at};
+
+use resolvo_ids::{
+    ConditionId, DenseIndex, NameId, SolvableId, StoreError, StringId, VersionSetId,
+    VersionSetUnionId,
+};
+use resolvo_pool::{Condition, Interner};
+use std::alloc::Allocator;
+use std::marker::PhantomData;
+
+/// The package `a`. The text of a solvable or of a version set stands at the place of its id, and that of a set may be
+/// empty. There is one union, of these sets.
+#[derive(Drop)]
+pub struct FewWords<'w, A: Allocator> {
+    pub solvables: &'w [&'w str],
+    pub sets: &'w [&'w str],
+    pub union: &'w [VersionSetId],
+    pub heap: PhantomData<A>,
+    ghost known: { list_all (λ v. nat_lt v.0 (length sets.now)) union.now ≡ true },
+}
+
+/// The text at a place, or none.
+fn text_at<'w>(texts: &[&'w str], place: usize) -> &'w str
+    ensures { result.now ≡ text_at texts.now place }
+{
+    match texts.get(place) {
+        Some(text) => *text,
+        None => "",
+    }
+}
+
+/// Appends a text.
+fn append<A: Allocator>(out: &mut String<A>, text: &str) -> Result<(), StoreError>
+    ensures ok { OnOk result (IsAppended out.old out.new text.now) }
+    ensures err { OnErr result (IsSameText out.old out.new) }
+    ensures memory { IfErr result (λ e. e ≡ OutOfMemory) }
+{
+    match out.push_str(text) {
+        Ok(()) => Ok(()),
+        Err(_) => Err(StoreError::OutOfMemory),
+    }
+}
+
+impl<'w, A: Allocator + Copy> Interner for FewWords<'w, A> {
+    ghost use Rattle.std.proofs.lemmas.List.Sums.{AllPass-from_list_all};
+    ghost use Rattle.std.proofs.Common.{refl, sym, true≢false};
+    ghost use Rattle.resolvo_pool.specs.declared.condition.Condition.TheVariants as Cond;
+
+    type Alloc = A;
+
+    type NameId = NameId;
+
+    type SolvableId = SolvableId;
+
+    ghost catalogue = { λ w. record {
+      knows_string = λ _. false;
+      knows_name = λ _. true;
+      knows_solvable = λ s. nat_lt s (length w.solvables.now);
+      knows_set = λ v. nat_lt v.0 (length w.sets.now);
+      knows_union = λ u. u.0 == 0;
+      knows_condition = λ _. false;
+      solvable_name = λ _. 0;
+      set_name = λ _. 0;
+      union_sets = λ _. w.union.now;
+      condition = λ _. Cond.Requirement (record { 0 = 0 });
+    } };
+
+    ghost texts = { λ w. record {
+      solvable = λ s. text_at w.solvables.now s;
+      name = λ _. codes "a";
+      version_set = λ v. text_at w.sets.now v.0;
+      string = λ _. [];
+    } };
+
+    ghost solvable_names_known = { λ w s h. refl };
+
+    ghost set_names_known = { λ w v h. refl };
+
+    ghost union_sets_known = { λ w u h.
+        AllPass-from_list_all (λ v. nat_lt v.0 (length w.sets.now)) w.union.now w.known };
+
+    ghost operands_known = { λ w c h. Prim.absurd (true≢false (sym h)) };
+
+    fn knows_string(&self, _string: StringId) -> bool {
+        false
+    }
+
+    fn knows_name(&self, _name: NameId) -> bool {
+        true
+    }
+
+    fn knows_solvable(&self, solvable: SolvableId) -> bool {
+        solvable.to_index() < self.solvables.len()
+    }
+
+    fn knows_version_set(&self, set: VersionSetId) -> bool {
+        (set.0 as usize) < self.sets.len()
+    }
+
+    fn knows_union(&self, union: VersionSetUnionId) -> bool {
+        union.0 == 0
+    }
+
+    fn knows_condition(&self, _condition: ConditionId) -> bool {
+        false
+    }
+
+    fn version_set_name(&self, _set: VersionSetId) -> NameId {
+        NameId::from_raw(0)
+    }
+
+    fn solvable_name(&self, _solvable: SolvableId) -> NameId {
+        NameId::from_raw(0)
+    }
+
+    fn version_sets_in_union(&self, _union: VersionSetUnionId) -> &[VersionSetId] {
+        self.union
+    }
+
+    fn resolve_condition(&self, _condition: ConditionId) -> Condition {
+        Condition::Requirement(VersionSetId(0))
+    }
+
+    fn display_solvable(
+        &self,
+        solvable: SolvableId,
+        out: &mut String<A>,
+    ) -> Result<(), StoreError> {
+        append(out, text_at(self.solvables, solvable.to_index()))
+    }
+
+    fn display_name(&self, _name: NameId, out: &mut String<A>) -> Result<(), StoreError> {
+        append(out, "a")
+    }
+
+    fn display_version_set(
+        &self,
+        set: VersionSetId,
+        out: &mut String<A>,
+    ) -> Result<(), StoreError> {
+        append(out, text_at(self.sets, set.0 as usize))
+    }
+
+    fn display_string(&self, _string: StringId, out: &mut String<A>) -> Result<(), StoreError> {
+        append(out, "")
+    }
+}
