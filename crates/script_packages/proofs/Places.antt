@@ -1,5 +1,5 @@
 -- A value has a place in the list that it came into.
-use Rattle.std.proofs.Common.{ℕ, Bool, true, false, not, cond, ◌||◌, List, [], ◌∷◌, ◌++◌, ◌+◌, ◌<◌, arith, length}
+use Rattle.std.proofs.Common.{Bool, true, false, not, cond, ◌||◌, List, [], ◌∷◌, ◌++◌, ◌+◌, ◌<◌, arith, length}
 use Rattle.resolvo_pool.specs.Interned.{has_same, interned, interned_place}
 
 pub place_within : {X : Type 0} (same : X → X → Bool) (xs : List X) (x : X) → interned_place same xs x < length (interned same xs x)

@@ -1,5 +1,5 @@
 -- What the lines of a catalogue list.
-use Rattle.std.specs.Prelude.{◌≡◌, [], Option, None, Some, length}
+use Rattle.std.specs.Prelude.{◌≡◌, [], Option, Some, length}
 use Rattle.script_packages.specs.declared.packages.Packages.{Packages}
 use Rattle.script_packages.specs.CatalogueLines.{Said, Lists, Bounds, Unites, Conditions, Strings, Begins}
 use Rattle.resolvo_pool.specs.Pool.{with_string}

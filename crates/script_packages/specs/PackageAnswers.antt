@@ -1,5 +1,5 @@
 -- What a script's packages know and answer.
-use Rattle.std.specs.Prelude.{ℕ, nat_lt, length, List, [], ◌∷◌, ◌++◌, slice_get, unwrap_or, option_map, codes, decimal}
+use Rattle.std.specs.Prelude.{ℕ, nat_lt, length, List, [], ◌++◌, slice_get, unwrap_or, option_map, codes, decimal}
 use Rattle.std.specs.String.{string_bytes}
 use Rattle.resolvo_ids.specs.declared.version_set_id.VersionSetId.{VersionSetId}
 use Rattle.resolvo_pool.specs.declared.condition.Condition.TheVariants.{Requirement}

@@ -1,12 +1,12 @@
 -- What a script's packages know is made of what they know.
-use Rattle.std.specs.Prelude.{◌≡◌, ℕ, ◌<◌, ◌∷◌, true, nat_lt, length, List, [], slice_get, unwrap_or, option_map, All, Option, None, Some}
+use Rattle.std.specs.Prelude.{◌≡◌, ℕ, ◌<◌, ◌∷◌, true, nat_lt, length, List, [], slice_get, unwrap_or, option_map, All, Option, Some}
 use Rattle.std.proofs.Common.{arith, refl, zero, suc}
 use Rattle.std.proofs.lemmas.Bool.{lt-ltb, ltb-true}
 use Rattle.resolvo_ids.specs.declared.version_set_id.VersionSetId.{VersionSetId}
 use Rattle.resolvo_pool.specs.declared.condition.Condition.{Condition}
 use Rattle.resolvo_pool.specs.declared.condition.Condition.TheVariants.{Binary, Requirement}
 use Rattle.resolvo_pool.specs.declared.solvable.Solvable.{Solvable}
-use Rattle.resolvo_pool.specs.Pool.{IsOfItself, IsMadeBelow}
+use Rattle.resolvo_pool.specs.Pool.{IsMadeBelow}
 use Rattle.resolvo_pool.specs.Provider.{AreSolvableNamesKnown, AreSetNamesKnown, AreUnionSetsKnown, AreOperandsKnown, IsMadeOfKnown}
 use Rattle.script_packages.specs.declared.packages.Packages.{Packages}
 use Rattle.script_packages.specs.declared.packages.VersionRange.{VersionRange}

@@ -136,7 +136,9 @@ impl Packages {
         ensures unreadable { IfErr result (λ e. (e ≡ Unreadable) × (below (length self.now.pool.version_sets) (number_32 word.now) ≡ None)) }
     {
         match id(word) {
-            Some(index) if self.pool.knows_version_set(VersionSetId(index)) => Ok(VersionSetId(index)),
+            Some(index) if self.pool.knows_version_set(VersionSetId(index)) => Ok(VersionSetId(
+                index,
+            )),
             _ => Err(LineFault::Unreadable),
         }
     }

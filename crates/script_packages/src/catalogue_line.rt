@@ -115,9 +115,7 @@ fn condition(text: &[u8]) -> Option<CatalogueLine<'_>>
     match next_word(text) {
         None => Some(CatalogueLine::Condition(set_condition(kind, first)?)),
         Some((second, rest)) => match next_word(rest) {
-            None => Some(CatalogueLine::Condition(joined_condition(
-                kind, first, second,
-            )?)),
+            None => Some(CatalogueLine::Condition(joined_condition(kind, first, second)?)),
             Some(_) => None,
         },
     }

@@ -96,7 +96,11 @@ impl Packages {
     }
 
     /// Adds a version of a package, as a solvable.
-    pub(crate) fn add_version(&mut self, name: NameId, version: u32) -> Result<SolvableId, LineFault>
+    pub(crate) fn add_version(
+        &mut self,
+        name: NameId,
+        version: u32,
+    ) -> Result<SolvableId, LineFault>
         requires { name < length self.old.pool.names }
         ensures id { IfOk result (λ s. s ≡ length self.old.pool.solvables) }
         ensures ok { OnOk result (listing_of self.new ≡ with_version (listing_of self.old) name version) }

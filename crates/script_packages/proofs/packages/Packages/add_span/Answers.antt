@@ -1,4 +1,4 @@
-use Rattle.std.proofs.Common.{◌≡◌, ◌∙◌, ap, ◌++◌, ◌∷◌, [], List, ℕ}
+use Rattle.std.proofs.Common.{◌∙◌, ap, ◌++◌, ◌∷◌, [], List, ℕ}
 use Rattle.script_packages.specs.declared.packages.Span.{Span}
 use Rattle.script_packages.specs.Listing.{Listing, listing_of}
 use Rattle.script_packages.proofs.Spans.{inserted_span}

@@ -1,4 +1,4 @@
-use Rattle.std.proofs.Common.{◌≡◌, ◌<◌, length, sym, ◌∙◌, subst}
+use Rattle.std.proofs.Common.{◌<◌, length, sym, ◌∙◌, subst}
 use Rattle.std.specs.Prelude.{All}
 use Rattle.resolvo_ids.specs.declared.version_set_id.VersionSetId.{VersionSetId}
 use Rattle.script_packages.proofs.packages.Packages.add_union.Goals as goal
