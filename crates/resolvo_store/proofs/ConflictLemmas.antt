@@ -15,12 +15,6 @@ and-true : (b : Bool) → (b && true) ≡ b
 and-true true = refl
 and-true false = refl
 
--- no conflict where the parent is false
-pub conflict-false : (val : Values) (parent : ℕ) (rows : List Row) → val parent ≡ Some false → is_conflict val parent rows ≡ false
-conflict-false val parent [] h = refl
-conflict-false val parent (r ∷ rs) h =
-    ap (λ p. list_all (λ r. known_false (val r.variable)) (r ∷ rs) && not (known_false p)) h ∙ and-false _
-
 module _ (val : Values) where
   -- there was a row or is one, and all are false
   abbrev pub all_false_of_some : Bool → List Row → Bool

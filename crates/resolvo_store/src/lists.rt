@@ -88,19 +88,19 @@ fn intern_each<N: Copy, S: SolverId<A>, A: Allocator + Copy>(
     ensures err { IfErr result (λ e. variables.new ≡ variables.old) }
     ensures refused { IfErr result (IsGrowthRefusal (nat_lt (2 ^ 31 - 1) (length (all_interned S.eq variables.old (flat_map (λ l. l.items) lists.now))) || list_any S.Slots.is_too_large (flat_map (λ l. l.items) lists.now))) }
 {
-    let before = variables.count();
+    let start = variables.count();
     let mut made = Vec::new(alloc);
     for list in lists {
         match intern_all(variables, alloc, list) {
             Ok(own) => match made.push(own) {
                 Ok(()) => {}
                 Err(_) => {
-                    variables.forget_from(before);
+                    variables.forget_from(start);
                     return Err(StoreError::OutOfMemory);
                 }
             },
             Err(e) => {
-                variables.forget_from(before);
+                variables.forget_from(start);
                 return Err(e);
             }
         }

@@ -12,6 +12,6 @@ invariant-loop-list g l =
       lists : map (λ c. c.items) l.made.items ++ lists_in_turn same l.variables (map (λ c. c.items) behind)
           ≡ lists_in_turn same l.initial.variables (map (λ c. c.items) l.lists);
       all : all_interned same l.variables (flat_map (λ c. c.items) behind) ≡ all_interned same l.initial.variables (flat_map (λ c. c.items) l.lists);
-      front : take l.before l.variables ≡ l.initial.variables;
-      within : l.before ≤ length l.variables;
+      front : take l.start l.variables ≡ l.initial.variables;
+      within : l.start ≤ length l.variables;
     }
