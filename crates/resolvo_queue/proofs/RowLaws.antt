@@ -1,137 +1,196 @@
--- The rows of one list by its variables, and a walk over them.
-use Rattle.std.proofs.Common.{◌≡◌, ℕ, ◌+◌, ◌<◌, ◌≤◌, Bool, true, false, ◌&&◌, ◌||◌, cond, eqb, List, [], ◌∷◌, ◌++◌, map, length, get_or, take, Option, Some, None, sym, ap, refl, ◌∙◌, zero-add, add-zero, eq-eqb}
-use Rattle.std.specs.Prelude.{find, count_by, option_map}
-use Rattle.std.specs.List.{list_any}
-use Rattle.std.specs.Option.{option_or}
-use Rattle.std.proofs.lemmas.List.{take_all, take_more}
-use Rattle.std.proofs.lemmas.List.Folds.{find-append, fold-map, list_any-append, list_any_at}
-use Rattle.std.proofs.lemmas.List.Sums.{sum_by-append}
+-- The state of rows, found in one walk over them.
+use Rattle.std.proofs.Common.{◌≡◌, ℕ, ◌+◌, ◌<◌, ◌≤◌, Bool, true, false, ◌&&◌, ◌||◌, cond, eqb, List, [], ◌∷◌, ◌++◌, map, length, fold, Option, Some, None, sym, ap, refl, ◌∙◌, eq-eqb, add-zero, arith, length-append, subst}
+use Rattle.std.specs.Prelude.{find, option_map, flat_map, ◌^◌}
+use Rattle.std.specs.Map.{lookup}
+use Rattle.std.specs.declared.vec.Vec.{Vec}
+use Rattle.std.proofs.lemmas.List.{length-map}
+use Rattle.std.proofs.lemmas.List.Folds.{flat_map-map}
+use Rattle.std.proofs.lemmas.List.Sums.{fold-append}
 use Rattle.resolvo_ids.specs.declared.version_set_id.VersionSetId.{VersionSetId}
+use Rattle.resolvo_pool.specs.Requirement.{same_requirement}
+use Rattle.resolvo_pool.specs.declared.requirement.Requirement.{Requirement}
 use Rattle.resolvo_clauses.specs.Literals.{Values, known_true, undecided}
+use Rattle.resolvo_queue.specs.declared.frontier.Frontier.{Frontier}
 use Rattle.resolvo_queue.specs.declared.row_state.RowState.{RowState}
 use Rattle.resolvo_queue.specs.declared.row_state.RowState.TheVariants.{Met, Undecided, AllFalse}
-use Rattle.resolvo_queue.specs.Rows.{Row, list_rows, has_true_row, is_undecided_row, undecided_rows, frontier_at}
-use Rattle.resolvo_queue.specs.RowState.{state_of, unmet_state}
+use Rattle.resolvo_queue.specs.Rows.{Row, list_rows, rows, lists_or_none, lists_loaded, has_true_row, is_undecided_row, frontier_at}
+use Rattle.resolvo_queue.specs.RowState.{state_of, unmet_state, counted, with_row, with_rows}
 
--- ---- tests of a list that was mapped
+-- without lists there are no rows
+no_rows : (sets : List VersionSetId) → rows sets [] ≡ []
+no_rows [] = refl
+no_rows (s ∷ ss) = refl
 
-list_any-map : {A B : Type 0} (p : B → Bool) (f : A → B) (xs : List A) →
-    list_any p (map f xs) ≡ list_any (λ x. p (f x)) xs
-list_any-map p f [] = refl
-list_any-map p f (x ∷ xs) = ap (λ b. p (f x) || b) (list_any-map p f xs)
-
-cond-map : {A B : Type 0} (f : A → B) (b : Bool) (x : A) (o : Option A) →
-    cond b (Some (f x)) (option_map f o) ≡ option_map f (cond b (Some x) o)
-cond-map f true x o = refl
-cond-map f false x o = refl
-
-find-map : {A B : Type 0} (p : B → Bool) (f : A → B) (xs : List A) →
-    find p (map f xs) ≡ option_map f (find (λ x. p (f x)) xs)
-find-map p f [] = refl
-find-map p f (x ∷ xs) =
-    ap (λ o. cond (p (f x)) (Some (f x)) o) (find-map p f xs) ∙ cond-map f (p (f x)) x (find (λ y. p (f y)) xs)
-
-option_or-none : {X : Type 0} (o : Option X) → option_or o None ≡ o
-option_or-none None = refl
-option_or-none (Some x) = refl
-
--- ---- the state of a list's rows
-
--- whether a variable of the list is true
-abbrev some_true : Values → List ℕ → Bool
-some_true val list = list_any (λ x. known_true (val x)) list
-
-abbrev first_undecided : Values → List ℕ → Option ℕ
-first_undecided val list = find (λ x. undecided (val x)) list
-
-abbrev undecided_count : Values → List ℕ → ℕ
-undecided_count val list = count_by (λ x. undecided (val x)) list
-
--- what a walk makes of the first undecided variable and the number of those
-abbrev pub walked : VersionSetId → Option ℕ → ℕ → RowState
-walked set None count = AllFalse
-walked set (Some v) count = Undecided (record { variable = v; set = set; count = count })
-
-module _ (val : Values) (set : VersionSetId) where
-  abbrev row_of : ℕ → Row
-  row_of x = record { set = set; variable = x }
-
-  count-rows : (list : List ℕ) → undecided_rows val set (list_rows set list) ≡ undecided_count val list
-  count-rows list =
-      fold-map (λ n (row : Row). n + cond (eqb row.set.0 set.0 && is_undecided_row val row) 1 0) row_of 0 list
-      ∙ ap (λ b. count_by (λ x. b && undecided (val x)) list) (eq-eqb set.0 set.0 refl)
-
-  by_rows : (rs : List Row) (n : ℕ) → undecided_rows val set rs ≡ n → (b : Bool) (o : Option ℕ) →
-      cond b Met (unmet_state (cond b None (option_map (frontier_at val rs) (option_map row_of o))))
-      ≡ cond b Met (walked set o n)
-  by_rows rs n e true o = refl
-  by_rows rs n e false None = refl
-  by_rows rs n e false (Some v) = ap (λ m. walked set (Some v) m) e
-
-  state_of-list : (list : List ℕ) →
-      state_of val (list_rows set list)
-      ≡ cond (some_true val list) Met (walked set (first_undecided val list) (undecided_count val list))
-  state_of-list list =
-      go (has_true_row val (list_rows set list)) (find (is_undecided_row val) (list_rows set list))
-      (list_any-map (λ row. known_true (val row.variable)) row_of list) (find-map (is_undecided_row val) row_of list)
+module _ (val : Values) where
+  -- a true row ends the walk
+  pub met-rows : (rs : List Row) → with_rows val Met rs ≡ Met
+  met-rows [] = refl
+  met-rows (r ∷ rs) = go (val r.variable) (met-rows rs)
     where
-      go : (b : Bool) (o : Option Row) → b ≡ some_true val list → o ≡ option_map row_of (first_undecided val list) →
-          cond b Met (unmet_state (cond b None (option_map (frontier_at val (list_rows set list)) o)))
-          ≡ cond (some_true val list) Met (walked set (first_undecided val list) (undecided_count val list))
-      go b o any first =
-          rw (any, first) (by_rows (list_rows set list) (undecided_count val list) (count-rows list)
-          (some_true val list) (first_undecided val list))
+      go : (v : Option Bool) → with_rows val Met rs ≡ Met → with_rows val (with_row Met v r) rs ≡ Met
+      go None e = e
+      go (Some true) e = e
+      go (Some false) e = e
 
--- ---- a walk over a list
+  -- counts the undecided rows of a version set, from a number on
+  abbrev count_from : VersionSetId → ℕ → List Row → ℕ
+  count_from set n rs = fold (λ m (row : Row). m + cond (eqb row.set.0 set.0 && is_undecided_row val row) 1 0) n rs
 
--- what a walk knows of the variables behind it, none of which is true
-pub record Walked (val : Values) (list : List ℕ) (first : Option ℕ) (count : ℕ) : Type 0 where
-  pub none_true : some_true val list ≡ false
-  pub first_is : first ≡ first_undecided val list
-  pub count_is : count ≡ undecided_count val list
+  abbrev counting : Frontier → ℕ → RowState
+  counting f n = Undecided (record { variable = f.variable; set = f.set; count = n })
 
-module _ (val : Values) (list : List ℕ) (i x : ℕ) (within : i < length list) (read : x ≡ get_or list i x) where
-  module _ (first : Option ℕ) (count : ℕ) (was : Walked val (take i list) first count) where
-    -- one more variable that isn't true, by its value
-    more : (v : Option Bool) → val x ≡ v → known_true v ≡ false →
-        Walked val (take i list ++ x ∷ []) (option_or first (cond (undecided v) (Some x) None))
-        (count + cond (undecided v) 1 0)
-    more v e t = record {
-      none_true =
-          list_any-append (λ y. known_true (val y)) (take i list) (x ∷ [])
-          ∙ (ap (λ b. b || (known_true (val x) || false)) was.none_true ∙ ap (λ b. b || false) (ap known_true e ∙ t));
-      first_is = sym (
-          find-append (λ y. undecided (val y)) (take i list) (x ∷ [])
-          ∙ (ap (λ o. option_or o (cond (undecided (val x)) (Some x) None)) (sym was.first_is)
-          ∙ ap (λ u. option_or first (cond (undecided u) (Some x) None)) e));
-      count_is = sym (
-          sum_by-append (λ y. cond (undecided (val y)) 1 0) (take i list) (x ∷ [])
-          ∙ (ap (λ n. n + (0 + cond (undecided (val x)) 1 0)) (sym was.count_is)
-          ∙ (ap (λ u. count + (0 + cond (undecided u) 1 0)) e
-          ∙ ap (λ n. count + n) (zero-add (cond (undecided v) 1 0)))));
-    }
+  and-true : (b : Bool) → (b && true) ≡ b
+  and-true true = refl
+  and-true false = refl
 
-    next : take (i + 1) list ≡ take i list ++ x ∷ []
-    next = take_more list i x within ∙ ap (λ y. take i list ++ y ∷ []) (sym read)
+  and-false : (b : Bool) → (b && false) ≡ false
+  and-false true = refl
+  and-false false = refl
 
-    pub walk_false : val x ≡ Some false → Walked val (take (i + 1) list) first count
-    walk_false e = rw (next, ← option_or-none first, ← add-zero count) (more (Some false) e refl)
+  -- behind an undecided row the walk counts
+  undecided-rows : (v : ℕ) (set : VersionSetId) (n : ℕ) (rs : List Row) →
+      with_rows val (Undecided (record { variable = v; set = set; count = n })) rs
+      ≡ cond (has_true_row val rs) Met (Undecided (record { variable = v; set = set; count = count_from set n rs }))
+  undecided-rows v set n [] = refl
+  undecided-rows v set n (r ∷ rs) = go (val r.variable) (λ m. undecided-rows v set m rs)
+    where
+      at : ℕ → RowState
+      at m = Undecided (record { variable = v; set = set; count = m })
 
-    pub walk_undecided : val x ≡ None → Walked val (take (i + 1) list) (option_or first (Some x)) (count + 1)
-    walk_undecided e = rw next (more None e refl)
+      Behind : ℕ → Type 0
+      Behind m = with_rows val (at m) rs ≡ cond (has_true_row val rs) Met (at (count_from set m rs))
 
-  -- a true variable ends it
-  pub walk_true : (set : VersionSetId) → val x ≡ Some true → state_of val (list_rows set list) ≡ Met
-  walk_true set e =
-      let t : known_true (val (get_or list i x)) ≡ true = ap (λ y. known_true (val y)) (sym read) ∙ ap known_true e in
-      state_of-list val set list
-      ∙ ap (λ b. cond b Met (walked set (first_undecided val list) (undecided_count val list)))
-      (list_any_at (λ y. known_true (val y)) list i x within t)
+      go : (w : Option Bool) → ((m : ℕ) → Behind m) →
+          with_rows val (with_row (at n) w r) rs
+          ≡ cond (known_true w || has_true_row val rs) Met
+          (at (count_from set (n + cond (eqb r.set.0 set.0 && undecided w) 1 0) rs))
+      go None more =
+          more (n + cond (eqb r.set.0 set.0) 1 0)
+          ∙ ap (λ b. cond (has_true_row val rs) Met (at (count_from set (n + cond b 1 0) rs)))
+          (sym (and-true (eqb r.set.0 set.0)))
+      go (Some true) more = met-rows rs
+      go (Some false) more =
+          more n
+          ∙ ap (λ m. cond (has_true_row val rs) Met (at (count_from set m rs))) (sym (add-zero n))
+          ∙ ap (λ b. cond (has_true_row val rs) Met (at (count_from set (n + cond b 1 0) rs)))
+          (sym (and-false (eqb r.set.0 set.0)))
 
-pub walk_end : (val : Values) (set : VersionSetId) (list : List ℕ) (i : ℕ) (first : Option ℕ) (count : ℕ) →
-    length list ≤ i → Walked val (take i list) first count → state_of val (list_rows set list) ≡ walked set first count
-walk_end val set list i first count past was =
-    let all : Walked val list first count = rw (take_all i list past) at was in
-    state_of-list val set list
-    ∙ (ap (λ b. cond b Met (walked set (first_undecided val list) (undecided_count val list))) all.none_true
-    ∙ (ap (λ o. walked set o (undecided_count val list)) (sym all.first_is) ∙ ap (walked set first) (sym all.count_is)))
+  -- the walk finds the state
+  pub state-rows : (rs : List Row) → with_rows val AllFalse rs ≡ state_of val rs
+  state-rows [] = refl
+  state-rows (r ∷ rs) = go (val r.variable) (state-rows rs)
+    where
+      -- the state by the row's value
+      by : Option Bool → RowState
+      by w =
+          cond (known_true w || has_true_row val rs) Met
+          (unmet_state (cond (known_true w || has_true_row val rs) None
+          (option_map (λ (row : Row). record {
+            variable = row.variable;
+            set = row.set;
+            count = count_from row.set (0 + cond (eqb r.set.0 row.set.0 && undecided w) 1 0) rs;
+          })
+          (cond (undecided w) (Some r) (find (is_undecided_row val) rs)))))
+
+      hidden : (b : Bool) (s : RowState) (f : Option Frontier) → (b ≡ false → s ≡ unmet_state f) →
+          cond b Met s ≡ cond b Met (unmet_state (cond b None f))
+      hidden true s f h = refl
+      hidden false s f h = h refl
+
+      same_count : (row : Row) → count_from row.set 0 rs ≡ count_from row.set (0 + cond (eqb r.set.0 row.set.0 && false) 1 0) rs
+      same_count row = ap (λ b. count_from row.set (0 + cond b 1 0) rs) (sym (and-false (eqb r.set.0 row.set.0)))
+
+      other : (o : Option Row) →
+          unmet_state (option_map (frontier_at val rs) o)
+          ≡ unmet_state (option_map (λ (row : Row). record {
+            variable = row.variable;
+            set = row.set;
+            count = count_from row.set (0 + cond (eqb r.set.0 row.set.0 && false) 1 0) rs;
+          }) o)
+      other None = refl
+      other (Some row) = ap (λ n. Undecided (record { variable = row.variable; set = row.set; count = n })) (same_count row)
+
+      shown : (b : Bool) (o p : Option Frontier) → unmet_state o ≡ unmet_state p →
+          cond b Met (unmet_state (cond b None o)) ≡ cond b Met (unmet_state (cond b None p))
+      shown true o p e = refl
+      shown false o p e = e
+
+      go : (w : Option Bool) → with_rows val AllFalse rs ≡ state_of val rs →
+          with_rows val (with_row AllFalse w r) rs ≡ by w
+      go None e =
+          undecided-rows r.variable r.set 1 rs
+          ∙ hidden (has_true_row val rs) _ _
+          (λ h. ap (λ b. Undecided (record { variable = r.variable; set = r.set; count = count_from r.set (0 + cond (b && true) 1 0) rs }))
+          (sym (eq-eqb r.set.0 r.set.0 refl)))
+      go (Some true) e = met-rows rs
+      go (Some false) e = e ∙ shown (has_true_row val rs) _ _ (other (find (is_undecided_row val) rs))
+
+  -- a walk counts each row at most once
+  pub counted-rows : (state : RowState) (rs : List Row) → counted (with_rows val state rs) ≤ counted state + length rs
+  counted-rows state [] = omega arith
+  counted-rows state (r ∷ rs) =
+      omega (arith, counted-rows (with_row state (val r.variable) r) rs, counted-row state (val r.variable))
+    where
+      counted-row : (s : RowState) (w : Option Bool) → counted (with_row s w r) ≤ counted s + 1
+      counted-row s (Some true) = omega arith
+      counted-row s (Some false) = omega arith
+      counted-row Met None = omega arith
+      counted-row AllFalse None = omega arith
+      counted-row (Undecided f) None = go (eqb r.set.0 f.set.0)
+        where
+          go : (b : Bool) → f.count + cond b 1 0 ≤ f.count + 1
+          go true = omega arith
+          go false = omega arith
+
+  -- ---- lists one after another
+
+  -- one list more of those that lead to the same
+  pub next-list : (whole state next : RowState) (sets others : List VersionSetId) (set : VersionSetId) (lists behind : List (List ℕ)) (list : List ℕ) →
+      sets ≡ set ∷ others → lists ≡ list ∷ behind → next ≡ with_rows val state (list_rows set list) →
+      with_rows val state (rows sets lists) ≡ whole → with_rows val next (rows others behind) ≡ whole
+  next-list whole state next sets others set lists behind list s l n h =
+      ap (λ t. with_rows val t (rows others behind)) n
+      ∙ (sym (fold-append (λ t row. with_row t (val row.variable) row) state (list_rows set list) (rows others behind))
+      ∙ (sym (ap (λ ss. with_rows val state (rows ss lists)) s ∙ ap (λ ls. with_rows val state (rows (set ∷ others) ls)) l) ∙ h))
+
+  -- where no version set is left, or no list, no row is
+  pub no_set : (state whole : RowState) (sets : List VersionSetId) (lists : List (List ℕ)) →
+      length sets ≡ 0 → with_rows val state (rows sets lists) ≡ whole → state ≡ whole
+  no_set state whole [] lists e h = h
+  no_set state whole (s ∷ ss) lists e h = absurd (omega (arith, e))
+
+  pub no_list : (state whole : RowState) (sets : List VersionSetId) (lists : List (List ℕ)) →
+      lists ≡ [] → with_rows val state (rows sets lists) ≡ whole → state ≡ whole
+  no_list state whole sets lists e h =
+      sym (ap (with_rows val state) (no_rows sets)) ∙ (sym (ap (λ ls. with_rows val state (rows sets ls)) e) ∙ h)
+
+  -- a list that leads to a true row
+  pub met-whole : (whole next : RowState) (rs : List Row) → next ≡ Met → with_rows val next rs ≡ whole → Met ≡ whole
+  met-whole whole next rs e h = sym (met-rows rs) ∙ (sym (ap (λ t. with_rows val t rs) e) ∙ h)
+
+  -- the rows of a list are counted with those before, and so few are left
+  pub few-left : (state next : RowState) (set : VersionSetId) (list rest all : List ℕ) →
+      next ≡ with_rows val state (list_rows set list) → all ≡ list ++ rest →
+      counted state + length all < 2 ^ 40 → counted next + length rest < 2 ^ 40
+  few-left state next set list rest all n e h =
+      let joined : length all ≡ length list + length rest = ap length e ∙ length-append list rest in
+      let size : length (list_rows set list) ≡ length list = length-map list (λ x. record { set = set; variable = x }) in
+      let now : counted next ≤ counted state + length (list_rows set list) = rw n (counted-rows state (list_rows set list)) in
+      omega (arith, joined, size, now, h)
+
+-- what was looked up has few rows, as all that is loaded has
+pub few_kept : {A : Type 0} (lists : List (Vec ℕ A)) (found : Vec (Vec ℕ A) A) (loaded : List (Requirement × Vec (Vec ℕ A) A)) (r : Requirement) →
+    lists ≡ found.items → Some found ≡ lookup (same_requirement r) loaded →
+    length (flat_map (λ list. list) (lists_loaded loaded r)) < 2 ^ 40 → length (flat_map (λ l. l.items) lists) < 2 ^ 40
+few_kept lists found loaded r e f h =
+    let kept : lists_loaded loaded r ≡ map (λ l. l.items) lists =
+    ap lists_or_none (sym f) ∙ ap (map (λ l. l.items)) (sym e) in
+    let same : flat_map (λ list. list) (lists_loaded loaded r) ≡ flat_map (λ l. l.items) lists =
+    ap (flat_map (λ list. list)) kept ∙ flat_map-map (λ list. list) (λ l. l.items) lists in
+    subst (λ all. length all < 2 ^ 40) same h
+
+-- what isn't loaded has none
+pub none_kept : {A : Type 0} (val : Values) (sets : List VersionSetId) (loaded : List (Requirement × Vec (Vec ℕ A) A)) (r : Requirement) →
+    None ≡ lookup (same_requirement r) loaded → AllFalse ≡ state_of val (rows sets (lists_loaded loaded r))
+none_kept val sets loaded r e =
+    ap (state_of val) (sym (no_rows sets)) ∙ ap (λ o. state_of val (rows sets (lists_or_none o))) e

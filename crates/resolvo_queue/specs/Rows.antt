@@ -1,10 +1,10 @@
 -- The rows of a requirement, and its frontier under the values of the variables.
-use Rattle.std.specs.Prelude.{ℕ, Bool, ◌==◌, ◌&&◌, if◌then◌else◌, List, [], map, find, count_by, flat_map, zip, Option, None, Some, option_map}
+use Rattle.std.specs.Prelude.{ℕ, ◌<◌, ◌^◌, Bool, ◌==◌, ◌&&◌, if◌then◌else◌, List, [], map, find, count_by, flat_map, length, zip, Option, None, Some, option_map}
 use Rattle.std.specs.List.{list_any}
 use Rattle.std.specs.Map.{lookup}
 use Rattle.std.specs.declared.vec.Vec.{Vec}
 use Rattle.resolvo_ids.specs.declared.version_set_id.VersionSetId.{VersionSetId}
-use Rattle.resolvo_pool.specs.Provider.{sets_of}
+use Rattle.resolvo_pool.specs.Provider.{Catalogue, sets_of}
 use Rattle.resolvo_pool.specs.Requirement.{same_requirement}
 use Rattle.resolvo_pool.specs.declared.requirement.Requirement.{Requirement}
 use Rattle.resolvo_clauses.specs.Literals.{Values, known_true, undecided}
@@ -32,9 +32,13 @@ lists_or_none (Some lists) = map (λ list. list.items) lists.items
 abbrev pub lists_loaded : {A : Type 0} → List (Requirement × Vec (Vec ℕ A) A) → Requirement → List (List ℕ)
 lists_loaded loaded requirement = lists_or_none (lookup (same_requirement requirement) loaded)
 
+-- each requirement's lists hold fewer rows than 2^40, so that they can be counted
+abbrev pub AreFew : {A : Type 0} → List (Requirement × Vec (Vec ℕ A) A) → Type 0
+AreFew loaded = (requirement : Requirement) → length (flat_map (λ list. list) (lists_loaded loaded requirement)) < 2 ^ 40
+
 -- the rows of a requirement
-abbrev pub loaded_rows : {A : Type 0} → List (Requirement × Vec (Vec ℕ A) A) → Requirement → List Row
-loaded_rows loaded requirement = rows (sets_of requirement) (lists_loaded loaded requirement)
+abbrev pub loaded_rows : {N S A : Type 0} → Catalogue N S → List (Requirement × Vec (Vec ℕ A) A) → Requirement → List Row
+loaded_rows catalogue loaded requirement = rows (sets_of catalogue requirement) (lists_loaded loaded requirement)
 
 module _ (val : Values) where
   -- a row is true: the requirement is met

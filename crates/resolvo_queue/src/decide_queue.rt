@@ -4,7 +4,8 @@ ghost use Rattle.resolvo_ids.specs.declared.error.StoreError.TheVariants.{OutOfM
 ghost use Rattle.resolvo_clauses.specs.Decisions.{values_in};
 ghost use Rattle.resolvo_queue.specs.Answer.{answer, answer_of};
 ghost use Rattle.resolvo_queue.specs.Pick.{eligible, pick, decided, no_score, PickLaw, NoneExactly, DecidesUnbeaten};
-ghost use Rattle.resolvo_queue.specs.Rows.{loaded_rows};
+ghost use Rattle.resolvo_pool.specs.Provider.{knows_requirement};
+ghost use Rattle.resolvo_queue.specs.Rows.{loaded_rows, AreFew};
 ghost use Rattle.resolvo_queue.specs.Scan.{first_falsified, is_eligible, scan};
 
 use crate::answer::Answer;
@@ -15,7 +16,7 @@ use crate::requires_clause::RequiresClause;
 use crate::row_state::{RowState, requirement_state};
 use resolvo_clauses::DecisionMap;
 use resolvo_ids::{ClauseId, StoreError, VariableId};
-use resolvo_pool::{Requirement, RequirementMap};
+use resolvo_pool::{Interner, Requirement, RequirementMap};
 use std::alloc::Allocator;
 use std::marker::Model;
 
@@ -115,16 +116,19 @@ impl<A: Allocator + Copy> DecideQueue<A> {
 
     /// The first falsified clause if there is one, else the decision to take, else neither. One pass, which ends at
     /// the first falsified clause and takes no memory.
-    pub fn decide(
+    pub fn decide<I: Interner>(
         &self,
         map: &DecisionMap<A>,
         lists: &RequirementMap<Vec<Vec<VariableId, A>, A>, A>,
+        interner: &I,
     ) -> Answer
-        ensures { let val = values_in map.now in let rows_of = loaded_rows lists.now in result ≡ answer (first_falsified val rows_of self.now) (pick (eligible val rows_of no_score self.now)) }
+        requires known { All (λ c. knows_requirement (I.catalogue interner.now) c.requirement ≡ true) self.now }
+        requires few { AreFew lists.now }
+        ensures { let val = values_in map.now in let rows_of = loaded_rows (I.catalogue interner.now) lists.now in result ≡ answer (first_falsified val rows_of self.now) (pick (eligible val rows_of no_score self.now)) }
     {
         let mut answer = Answer::NoDecision;
         for parent in &self.parents {
-            let own = parent_answer(map, lists, *parent, self.by_parent.at(*parent));
+            let own = parent_answer(map, lists, *parent, self.by_parent.at(*parent), interner);
             answer = answer.or_later(own);
             if let Answer::Falsified(_) = answer {
                 return answer;
@@ -134,14 +138,17 @@ impl<A: Allocator + Copy> DecideQueue<A> {
     }
 
     /// The first falsified clause of the scan. The cost is that of [`DecideQueue::decide`].
-    pub fn falsified(
+    pub fn falsified<I: Interner>(
         &self,
         map: &DecisionMap<A>,
         lists: &RequirementMap<Vec<Vec<VariableId, A>, A>, A>,
+        interner: &I,
     ) -> Option<ClauseId>
-        ensures { result ≡ option_map (λ c. c.clause_id) (first_falsified (values_in map.now) (loaded_rows lists.now) self.now) }
+        requires known { All (λ c. knows_requirement (I.catalogue interner.now) c.requirement ≡ true) self.now }
+        requires few { AreFew lists.now }
+        ensures { result ≡ option_map (λ c. c.clause_id) (first_falsified (values_in map.now) (loaded_rows (I.catalogue interner.now) lists.now) self.now) }
     {
-        match self.decide(map, lists) {
+        match self.decide(map, lists, interner) {
             Answer::Falsified(clause_id) => Some(clause_id),
             Answer::Decided(_) => None,
             Answer::NoDecision => None,
@@ -149,21 +156,24 @@ impl<A: Allocator + Copy> DecideQueue<A> {
     }
 
     /// The decision to take where no clause is falsified, which [`DecideQueue::falsified`] tells.
-    pub fn next_decision(
+    pub fn next_decision<I: Interner>(
         &self,
         map: &DecisionMap<A>,
         lists: &RequirementMap<Vec<Vec<VariableId, A>, A>, A>,
+        interner: &I,
     ) -> Option<QueueDecision>
-        requires { first_falsified (values_in map.now) (loaded_rows lists.now) self.now ≡ None }
-        ensures picked { let val = values_in map.now in let rows_of = loaded_rows lists.now in result ≡ option_map decided (pick (eligible val rows_of no_score self.now)) }
-        ensures none { let val = values_in map.now in let rows_of = loaded_rows lists.now in (result ≡ None) ↔ All (λ c. is_eligible val rows_of c ≡ false) (scan self.now) }
-        ensures unbeaten { let val = values_in map.now in let rows_of = loaded_rows lists.now in DecidesUnbeaten (eligible val rows_of no_score self.now) result }
+        requires known { All (λ c. knows_requirement (I.catalogue interner.now) c.requirement ≡ true) self.now }
+        requires few { AreFew lists.now }
+        requires none_falsified { first_falsified (values_in map.now) (loaded_rows (I.catalogue interner.now) lists.now) self.now ≡ None }
+        ensures picked { let val = values_in map.now in let rows_of = loaded_rows (I.catalogue interner.now) lists.now in result ≡ option_map decided (pick (eligible val rows_of no_score self.now)) }
+        ensures none { let val = values_in map.now in let rows_of = loaded_rows (I.catalogue interner.now) lists.now in (result ≡ None) ↔ All (λ c. is_eligible val rows_of c ≡ false) (scan self.now) }
+        ensures unbeaten { let val = values_in map.now in let rows_of = loaded_rows (I.catalogue interner.now) lists.now in DecidesUnbeaten (eligible val rows_of no_score self.now) result }
 
         // The same whatever the scores and the offers.
-        ensures none_exactly { NoneExactly (values_in map.now) (loaded_rows lists.now) self.now }
+        ensures none_exactly { NoneExactly (values_in map.now) (loaded_rows (I.catalogue interner.now) lists.now) self.now }
         ensures pick_law { PickLaw }
     {
-        match self.decide(map, lists) {
+        match self.decide(map, lists, interner) {
             Answer::Falsified(_) => unreachable!(),
             Answer::Decided(decision) => Some(decision),
             Answer::NoDecision => None,
@@ -195,21 +205,24 @@ fn push_reserved<T: Drop, A: Allocator>(items: &mut Vec<T, A>, item: T)
 }
 
 /// What a parent's clauses answer, in their order. Those of a parent that isn't true are not looked at.
-fn parent_answer<A: Allocator + Copy>(
+fn parent_answer<I: Interner, A: Allocator + Copy>(
     map: &DecisionMap<A>,
     lists: &RequirementMap<Vec<Vec<VariableId, A>, A>, A>,
     parent: VariableId,
     clauses: &[RequiresClause],
+    interner: &I,
 ) -> Answer
-    requires { All (λ c. c.parent ≡ parent) clauses.now }
-    ensures { result ≡ answer_of (values_in map.now) (loaded_rows lists.now) clauses.now }
+    requires own { All (λ c. c.parent ≡ parent) clauses.now }
+    requires known { All (λ c. knows_requirement (I.catalogue interner.now) c.requirement ≡ true) clauses.now }
+    requires few { AreFew lists.now }
+    ensures { result ≡ answer_of (values_in map.now) (loaded_rows (I.catalogue interner.now) lists.now) clauses.now }
 {
     if map.value(parent) != Some(true) {
         return Answer::NoDecision;
     }
     let mut own = Answer::NoDecision;
     for clause in clauses {
-        own = own.or_later(open_answer(map, lists, clause));
+        own = own.or_later(open_answer(map, lists, clause, interner));
         if let Answer::Falsified(_) = own {
             return own;
         }
@@ -218,15 +231,18 @@ fn parent_answer<A: Allocator + Copy>(
 }
 
 /// What a clause whose parent is true answers.
-fn open_answer<A: Allocator + Copy>(
+fn open_answer<I: Interner, A: Allocator + Copy>(
     map: &DecisionMap<A>,
     lists: &RequirementMap<Vec<Vec<VariableId, A>, A>, A>,
     clause: &RequiresClause,
+    interner: &I,
 ) -> Answer
-    requires { values_in map.now clause.now.parent ≡ Some true }
-    ensures { result ≡ answer_of (values_in map.now) (loaded_rows lists.now) (clause.now ∷ []) }
+    requires known { knows_requirement (I.catalogue interner.now) clause.now.requirement ≡ true }
+    requires few { AreFew lists.now }
+    requires parent { values_in map.now clause.now.parent ≡ Some true }
+    ensures { result ≡ answer_of (values_in map.now) (loaded_rows (I.catalogue interner.now) lists.now) (clause.now ∷ []) }
 {
-    match requirement_state(map, lists, clause.requirement) {
+    match requirement_state(map, lists, clause.requirement, interner) {
         RowState::Met => Answer::NoDecision,
         RowState::AllFalse => Answer::Falsified(clause.clause_id),
         RowState::Undecided(frontier) => Answer::Decided(decision(clause, frontier)),

@@ -1,15 +1,16 @@
 //! What the rows of a requirement come to.
 //!
 //! A row is a candidate of a requirement: a variable, in the list of one of the requirement's version sets.
-ghost use Rattle.std.specs.Prelude.{◌≡◌};
+ghost use Rattle.std.specs.Prelude.{◌≡◌, ◌+◌, ◌<◌, ◌≤◌, ◌^◌, true, map, flat_map, length};
 ghost use Rattle.resolvo_clauses.specs.Decisions.{values_in};
-ghost use Rattle.resolvo_queue.specs.Rows.{list_rows, loaded_rows};
-ghost use Rattle.resolvo_queue.specs.RowState.{state_of};
+ghost use Rattle.resolvo_pool.specs.Provider.{knows_requirement};
+ghost use Rattle.resolvo_queue.specs.Rows.{list_rows, rows, loaded_rows, AreFew};
+ghost use Rattle.resolvo_queue.specs.RowState.{state_of, counted, with_row, with_rows};
 
 use crate::frontier::Frontier;
 use resolvo_clauses::DecisionMap;
 use resolvo_ids::{VariableId, VersionSetId};
-use resolvo_pool::{Requirement, RequirementMap};
+use resolvo_pool::{Interner, Requirement, RequirementMap};
 use std::alloc::Allocator;
 
 /// A row is true, or else there is an undecided one, or else all are false.
@@ -20,52 +21,91 @@ pub(crate) enum RowState {
     AllFalse,
 }
 
-/// The state of a version set's list, in one walk that ends at the first true variable.
-fn walk<A: Allocator + Copy>(
-    map: &DecisionMap<A>,
+/// The state once there is a row more, whose variable has this value.
+fn with_row(
+    state: RowState,
+    value: Option<bool>,
     set: VersionSetId,
-    list: &[VariableId],
+    variable: VariableId,
 ) -> RowState
-    ensures { result ≡ state_of (values_in map.now) (list_rows set list.now) }
+    requires { counted state + 1 < 2 ^ 64 }
+    ensures { result ≡ with_row state value (record { set = set; variable = variable }) }
 {
-    let mut first = None;
-    let mut count = 0;
-    for variable in list {
-        match map.value(*variable) {
-            Some(true) => return RowState::Met,
-            Some(false) => {}
-            None => {
-                first = first.or(Some(*variable));
-                count += 1;
-            }
-        }
-    }
-    match first {
-        Some(variable) => RowState::Undecided(Frontier {
+    match (value, state) {
+        (Some(true), _) => RowState::Met,
+        (Some(false), _) => state,
+        (None, RowState::Met) => RowState::Met,
+        (None, RowState::AllFalse) => RowState::Undecided(Frontier {
             variable,
             set,
-            count,
+            count: 1,
         }),
-        None => RowState::AllFalse,
+        (None, RowState::Undecided(mut frontier)) => {
+            if set == frontier.set {
+                frontier.count += 1;
+            }
+            RowState::Undecided(frontier)
+        }
     }
 }
 
+/// The state once there are the rows of one list more, in one walk that ends at the first true variable.
+fn walk<A: Allocator + Copy>(
+    decisions: &DecisionMap<A>,
+    mut state: RowState,
+    set: VersionSetId,
+    list: &[VariableId],
+) -> RowState
+    requires { counted state + length list.now < 2 ^ 64 }
+    ensures { result ≡ with_rows (values_in decisions.now) state (list_rows set list.now) }
+{
+    for variable in list {
+        state = with_row(state, decisions.value(*variable), set, *variable);
+        if let RowState::Met = state {
+            return RowState::Met;
+        }
+    }
+    state
+}
+
+/// The state of version sets with their lists, one after another. The walk ends at the first true variable.
+fn rows_state<A: Allocator + Copy>(
+    decisions: &DecisionMap<A>,
+    sets: &[VersionSetId],
+    lists: &[Vec<VariableId, A>],
+) -> RowState
+    requires { length (flat_map (λ l. l.items) lists.now) < 2 ^ 40 }
+    ensures { result ≡ state_of (values_in decisions.now) (rows sets.now (map (λ l. l.items) lists.now)) }
+{
+    let mut state = RowState::AllFalse;
+    let mut left = sets;
+    for list in lists {
+        let Some((set, others)) = left.split_first() else {
+            return state;
+        };
+        state = walk(decisions, state, *set, list);
+        if let RowState::Met = state {
+            return RowState::Met;
+        }
+        left = others;
+    }
+    state
+}
+
 /// The state of a requirement by the lists that are loaded. What isn't loaded has no rows.
-pub(crate) fn requirement_state<A: Allocator + Copy>(
-    map: &DecisionMap<A>,
+pub(crate) fn requirement_state<I: Interner, A: Allocator + Copy>(
+    decisions: &DecisionMap<A>,
     lists: &RequirementMap<Vec<Vec<VariableId, A>, A>, A>,
     requirement: Requirement,
+    interner: &I,
 ) -> RowState
-    ensures { result ≡ state_of (values_in map.now) (loaded_rows lists.now requirement) }
+    requires known { knows_requirement (I.catalogue interner.now) requirement ≡ true }
+    requires few { AreFew lists.now }
+    ensures { result ≡ state_of (values_in decisions.now) (loaded_rows (I.catalogue interner.now) lists.now requirement) }
 {
-    match requirement {
-        Requirement::Single(set) => match lists.get(requirement) {
-            Some(lists) => match lists.first() {
-                Some(list) => walk(map, set, list),
-                None => RowState::AllFalse,
-            },
-            None => RowState::AllFalse,
-        },
-        Requirement::Union(_) => RowState::AllFalse,
+    let sets = requirement.version_sets(interner);
+    match lists.get(requirement) {
+        Some(lists) => rows_state(decisions, sets.as_slice(), lists),
+        None => RowState::AllFalse,
     }
 }

@@ -1,4 +1,4 @@
--- Candidates of a version set.
+-- Candidates of version sets.
 use Rattle.std.proofs.Common.{◌≡◌, true, List}
 use Rattle.std.specs.Prelude.{All}
 use Rattle.std.proofs.lemmas.List.Elements.{All-filter}

@@ -1,9 +1,12 @@
 -- Solvables that get variables in turn.
 use Rattle.std.proofs.Common.{◌≡◌, ℕ, ◌+◌, ◌≤◌, ◌-◌, ◌^◌, Bool, true, false, cond, ◌||◌, List, [], ◌∷◌, ◌++◌, length, length-append, append_assoc, map, take, drop, Option, None, Some, refl, arith, sym, ◌∙◌, ap, subst, ltb, zero, suc}
-use Rattle.std.specs.Prelude.{is_some, unwrap_or}
+use Rattle.std.specs.Prelude.{is_some, unwrap_or, flat_map}
 use Rattle.std.specs.List.{list_any}
+use Rattle.std.proofs.Math.Bool.{or-true}
 use Rattle.std.proofs.lemmas.Bool.Decides.{nat_tests}
 use Rattle.std.proofs.lemmas.List.{take-append-le, append-nil}
+use Rattle.std.proofs.lemmas.List.Folds.{list_any-append}
+use Rattle.std.proofs.lemmas.List.Sums.{fold-append}
 use Rattle.resolvo_ids.specs.Refusals.{IsGrowthRefusal}
 use Rattle.resolvo_ids.specs.declared.error.StoreError.{StoreError}
 use Rattle.resolvo_ids.specs.declared.error.StoreError.TheVariants.{OutOfMemory, IdSpace}
@@ -29,11 +32,25 @@ list_any-drop test zero xs h = h
 list_any-drop test (suc i) [] h = h
 list_any-drop test (suc i) (x ∷ xs) h = elim (test x) as (λ b. (b || list_any test xs) ≡ true) [ true ↦ refl | false ↦ list_any-drop test i xs h ]
 
+-- and so is what is found in the pieces behind some
+pub list_any-drop-pieces : {X Y : Type 0} (test : Y → Bool) (pieces : X → List Y) (i : ℕ) (xs : List X)
+    → list_any test (flat_map pieces (drop i xs)) ≡ true → list_any test (flat_map pieces xs) ≡ true
+list_any-drop-pieces test pieces zero xs h = h
+list_any-drop-pieces test pieces (suc i) [] h = h
+list_any-drop-pieces test pieces (suc i) (x ∷ xs) h =
+    list_any-append test (pieces x) (flat_map pieces xs)
+    ∙ ap (λ b. list_any test (pieces x) || b) (list_any-drop-pieces test pieces i xs h) ∙ or-true (list_any test (pieces x))
+
 module _ {N S : Type 0} (same : S → S → Bool) where
   -- the variables of solvables that get them in turn
   abbrev pub variables_in_turn : List (VariableOrigin N S) → List S → List ℕ
   variables_in_turn os [] = []
   variables_in_turn os (s ∷ ss) = interned_variable same os s ∷ variables_in_turn (interned same os s) ss
+
+  -- the variables of lists of solvables that get them list by list
+  abbrev pub lists_in_turn : List (VariableOrigin N S) → List (List S) → List (List ℕ)
+  lists_in_turn os [] = []
+  lists_in_turn os (ss ∷ lists) = map (interned_variable same (all_interned same os ss)) ss ∷ lists_in_turn (all_interned same os ss) lists
 
   -- an origin more takes no solvable its variable
   variable-kept : (s : S) (o : VariableOrigin N S) (v : ℕ) (os : List (VariableOrigin N S)) → variable_of_solvable same os s ≡ Some v → variable_of_solvable same (os ++ o ∷ []) s ≡ Some v
@@ -91,14 +108,32 @@ module _ {N S : Type 0} (same : S → S → Bool) where
             position-append (is_solvable same s) (Solvable s) 0 (length os) os (omega arith)
             ∙ ap (λ p. or_else p (cond (same s s) (Some (length os)) None)) h ∙ ap (λ b. cond b (Some (length os)) None) (reflexive s)
 
-    -- the variables that solvables get in turn are those that they have in the end
-    pub variables-in-turn : (os : List (VariableOrigin N S)) (ss : List S) → variables_in_turn os ss ≡ map (interned_variable same (all_interned same os ss)) ss
-    variables-in-turn os [] = refl
-    variables-in-turn os (s ∷ ss) =
-        let last : List (VariableOrigin N S) = all_interned same (interned same os s) ss in
+    -- the variables that solvables get in turn are those that they have in the end, also behind others
+    variables-later : (os : List (VariableOrigin N S)) (ss rest : List S) → variables_in_turn os ss ≡ map (interned_variable same (all_interned same os (ss ++ rest))) ss
+    variables-later os [] rest = refl
+    variables-later os (s ∷ ss) rest =
+        let last : List (VariableOrigin N S) = all_interned same (interned same os s) (ss ++ rest) in
         let at : interned_variable same last s ≡ interned_variable same os s =
-        ap (λ p. unwrap_or p (length last)) (kept-all s (interned_variable same os s) (interned same os s) ss (variable-interned s os)) in
-        ap (λ v. v ∷ variables_in_turn (interned same os s) ss) (sym at) ∙ ap (λ vs. interned_variable same last s ∷ vs) (variables-in-turn (interned same os s) ss)
+        ap (λ p. unwrap_or p (length last)) (kept-all s (interned_variable same os s) (interned same os s) (ss ++ rest) (variable-interned s os)) in
+        ap (λ v. v ∷ variables_in_turn (interned same os s) ss) (sym at) ∙ ap (λ vs. interned_variable same last s ∷ vs) (variables-later (interned same os s) ss rest)
+
+    pub variables-in-turn : (os : List (VariableOrigin N S)) (ss : List S) → variables_in_turn os ss ≡ map (interned_variable same (all_interned same os ss)) ss
+    variables-in-turn os ss =
+        variables-later os ss [] ∙ ap (λ all. map (interned_variable same (all_interned same os all)) ss) (append-nil ss)
+
+    -- and so are those of lists
+    pub lists-in-turn : (os : List (VariableOrigin N S)) (lists : List (List S))
+        → lists_in_turn os lists ≡ map (map (interned_variable same (all_interned same os (flat_map (λ l. l) lists)))) lists
+    lists-in-turn os [] = refl
+    lists-in-turn os (ss ∷ lists) =
+        let rest : List S = flat_map (λ l. l) lists in
+        let after : List (VariableOrigin N S) = all_interned same os ss in
+        let own : map (interned_variable same after) ss ≡ map (interned_variable same (all_interned same os (ss ++ rest))) ss =
+        sym (variables-in-turn os ss) ∙ variables-later os ss rest in
+        ap (λ l. l ∷ lists_in_turn after lists) own
+        ∙ ap (λ ls. map (interned_variable same (all_interned same os (ss ++ rest))) ss ∷ ls)
+        (lists-in-turn after lists
+        ∙ ap (λ vs. map (map (interned_variable same vs)) lists) (sym (fold-append (interned same) os ss rest)))
 
   -- ids that are out for one solvable are out for all of them
   pub ids_out_for_all : (large : S → Bool) (os first : List (VariableOrigin N S)) (x : S) (rest ss : List S)
@@ -131,3 +166,33 @@ module _ {N S : Type 0} (same : S → S → Bool) where
     in_turn-all os first behind ss done e h all =
         sym (append-nil done) ∙ sym (ap (λ b. done ++ variables_in_turn os b) e) ∙ h ∙ variables-in-turn reflexive first ss
         ∙ sym (ap (λ vs. map (interned_variable same vs) ss) (sym (ap (all_interned same os) e) ∙ all))
+
+    -- once all lists' solvables got their variables, those are the variables that they have
+    pub lists-all : (os first : List (VariableOrigin N S)) (behind lists : List (List S)) (done : List (List ℕ)) → behind ≡ []
+        → done ++ lists_in_turn os behind ≡ lists_in_turn first lists → os ≡ all_interned same first (flat_map (λ l. l) lists)
+        → done ≡ map (map (interned_variable same os)) lists
+    lists-all os first behind lists done e h all =
+        sym (append-nil done) ∙ sym (ap (λ b. done ++ lists_in_turn os b) e) ∙ h ∙ lists-in-turn reflexive first lists
+        ∙ sym (ap (λ vs. map (map (interned_variable same vs)) lists) all)
+
+  -- ids that are out for one list are out for all of them
+  pub ids_out_for_lists : (large : S → Bool) (os first : List (VariableOrigin N S)) (ss rest all : List S)
+      → all_interned same os (ss ++ rest) ≡ all_interned same first all
+      → (list_any large (ss ++ rest) ≡ true → list_any large all ≡ true)
+      → (ltb (2 ^ 31 - 1) (length (all_interned same os ss)) || list_any large ss) ≡ true
+      → (ltb (2 ^ 31 - 1) (length (all_interned same first all)) || list_any large all) ≡ true
+  ids_out_for_lists large os first ss rest all e any out =
+      by_test (ltb (2 ^ 31 - 1) (length (all_interned same os ss))) (list_any large ss) refl refl out
+    where
+      by_test : (a b : Bool) → ltb (2 ^ 31 - 1) (length (all_interned same os ss)) ≡ a → list_any large ss ≡ b → (a || b) ≡ true
+          → (ltb (2 ^ 31 - 1) (length (all_interned same first all)) || list_any large all) ≡ true
+      by_test true b f l h =
+          let grown : length (all_interned same os ss) ≤ length (all_interned same first all) =
+          subst (λ vs. length (all_interned same os ss) ≤ length vs) (sym (fold-append (interned same) os ss rest) ∙ e)
+          (longer-all (all_interned same os ss) rest) in
+          let many : ltb (2 ^ 31 - 1) (length (all_interned same first all)) ≡ true = grind (arith, nat_tests, f, grown) in
+          ap (λ c. c || list_any large all) many
+      by_test false true f l h =
+          let some : list_any large all ≡ true = any (list_any-append large ss rest ∙ ap (λ c. c || list_any large rest) l) in
+          grind (arith, some)
+      by_test false false f l h = cc

@@ -1,18 +1,24 @@
 -- The rows of loaded requirements, by what is kept of them.
-use Rattle.std.proofs.Common.{◌≡◌, ℕ, true, false, cond, List, [], ◌∷◌, ◌++◌, map, Option, Some, None, refl, ◌∙◌, sym, ap}
-use Rattle.std.specs.Prelude.{option_map, unwrap_or}
+use Rattle.std.proofs.Common.{◌≡◌, ℕ, ◌+◌, length-append, Bool, arith, true, false, cond, List, [], ◌∷◌, ◌++◌, map, Option, Some, None, refl, ◌∙◌, sym, ap}
+use Rattle.std.specs.Prelude.{◌<◌, ◌^◌, length, flat_map, option_map, unwrap_or}
 use Rattle.std.specs.Borrow.{Bor}
 use Rattle.std.specs.Map.{lookup}
 use Rattle.std.specs.Option.{option_copied}
 use Rattle.std.specs.declared.vec.Vec.{Vec}
 use Rattle.std.proofs.Math.Path.{fun_ext}
+use Rattle.std.proofs.lemmas.List.{length-map}
+use Rattle.std.proofs.lemmas.List.Folds.{flat_map-map}
 use Rattle.std.proofs.lemmas.Map.Made.{lookup-map_values}
 use Rattle.resolvo_pool.specs.RequirementMap.{with_entry}
 use Rattle.resolvo_pool.specs.declared.requirement.Requirement.{Requirement}
 use Rattle.resolvo_pool.specs.Requirement.{same_requirement}
-use Rattle.resolvo_pool.specs.Provider.{sets_of}
-use Rattle.resolvo_queue.specs.Rows.{Row, rows, lists_or_none, loaded_rows}
+use Rattle.resolvo_pool.specs.Provider.{Catalogue, sets_of}
+use Rattle.resolvo_queue.specs.Rows.{Row, rows, lists_or_none, loaded_rows, AreFew}
 use Rattle.resolvo_store.specs.Lists.{lists_kept}
+
+-- lists have few rows in all
+abbrev pub HasFew : List (List ℕ) → Type 0
+HasFew lists = length (flat_map (λ list. list) lists) < 2 ^ 40
 
 module _ {A : Type 0} where
   -- the lists in a vector of vectors
@@ -29,9 +35,10 @@ module _ {A : Type 0} where
   none_or_items (Some lists) = refl
 
   -- the rows of each requirement are those of the abstract store
-  pub rows-kept : (loaded : List (Requirement × Vec (Vec ℕ A) A))
-      → ◌≡◌ {A = Requirement → List Row} (loaded_rows loaded) (λ r. rows (sets_of r) (unwrap_or (lookup (same_requirement r) (lists_kept loaded)) []))
-  rows-kept loaded = fun_ext (λ r. ap (rows (sets_of r)) (none_or_items (lookup (same_requirement r) loaded) ∙ ap (λ o. unwrap_or o []) (sym (lookup-kept loaded r))))
+  pub rows-kept : {N S : Type 0} (catalogue : Catalogue N S) (loaded : List (Requirement × Vec (Vec ℕ A) A))
+      → ◌≡◌ {A = Requirement → List Row} (loaded_rows catalogue loaded)
+      (λ r. rows (sets_of catalogue r) (unwrap_or (lookup (same_requirement r) (lists_kept loaded)) []))
+  rows-kept catalogue loaded = fun_ext (λ r. ap (rows (sets_of catalogue r)) (none_or_items (lookup (same_requirement r) loaded) ∙ ap (λ o. unwrap_or o []) (sym (lookup-kept loaded r))))
 
   -- what was found of the lists
   pub items-copied : (o : Option (Bor (Vec (Vec ℕ A) A))) → option_map (λ l. items_of l.now) o ≡ option_map items_of (option_copied o)
@@ -46,3 +53,54 @@ module _ {A : Type 0} where
       (elim (same_requirement r e.0) as (λ b. cond b (Some (items_of e.1)) (lookup (same_requirement r) (lists_kept es)) ≡ None
       → lists_kept (cond b ((e.0, lists) ∷ es) (e ∷ with_entry es r lists)) ≡ lists_kept (e ∷ es) ++ (r, items_of lists) ∷ [])
       [ true ↦ λ h. (let no : ⊥ = cc in absurd no) | false ↦ λ h. ap (λ l. (e.0, items_of e.1) ∷ l) (insert-kept es r lists h) ]) new
+
+  -- ---- few rows
+
+  -- what is loaded has few rows still once a requirement is given lists that have few
+  pub few-more : (loaded : List (Requirement × Vec (Vec ℕ A) A)) (r : Requirement) (lists : Vec (Vec ℕ A) A) → AreFew loaded → HasFew (items_of lists)
+      → AreFew (with_entry loaded r lists)
+  few-more loaded r lists few h = λ q. one loaded q (few q)
+    where
+      Few : Option (Vec (Vec ℕ A) A) → Type 0
+      Few o = HasFew (lists_or_none o)
+
+      none : Few None
+      none = omega arith
+
+      one : (es : List (Requirement × Vec (Vec ℕ A) A)) (q : Requirement) → Few (lookup (same_requirement q) es)
+          → Few (lookup (same_requirement q) (with_entry es r lists))
+      one [] q f = (elim (same_requirement q r) as (λ b. Few (cond b (Some lists) None)) [ true ↦ h | false ↦ none ])
+      one (e ∷ es) q f = by_test (same_requirement r e.0) (λ k. one es q k)
+        where
+          Before : Type 0
+          Before = Few (lookup (same_requirement q) es)
+
+          After : Type 0
+          After = Few (lookup (same_requirement q) (with_entry es r lists))
+
+          replaced : (b : Bool) → Few (cond b (Some e.1) (lookup (same_requirement q) es)) → Few (cond b (Some lists) (lookup (same_requirement q) es))
+          replaced true k = h
+          replaced false k = k
+
+          kept : (b : Bool) → (Before → After) → Few (cond b (Some e.1) (lookup (same_requirement q) es))
+              → Few (cond b (Some e.1) (lookup (same_requirement q) (with_entry es r lists)))
+          kept true more k = k
+          kept false more k = more k
+
+          by_test : (a : Bool) → (Before → After) → Few (lookup (same_requirement q) (cond a ((e.0, lists) ∷ es) (e ∷ with_entry es r lists)))
+          by_test true more = replaced (same_requirement q e.0) f
+          by_test false more = kept (same_requirement q e.0) more f
+
+-- lists of something made of each member are as long
+pub length-mapped : {X L Y : Type 0} (members : L → List X) (f : X → Y) (ls : List L)
+    → length (flat_map (λ l. map f (members l)) ls) ≡ length (flat_map members ls)
+length-mapped members f [] = refl
+length-mapped members f (l ∷ ls) =
+    length-append (map f (members l)) (flat_map (λ l. map f (members l)) ls)
+    ∙ ap (λ n. n + length (flat_map (λ l. map f (members l)) ls)) (length-map (members l) f)
+    ∙ ap (λ n. length (members l) + n) (length-mapped members f ls)
+    ∙ sym (length-append (members l) (flat_map members ls))
+
+-- equal lists of lists have the same members one after another
+pub same-joined : {X Y Z : Type 0} (f : X → List Z) (g : Y → List Z) (xs : List X) (ys : List Y) → map f xs ≡ map g ys → flat_map f xs ≡ flat_map g ys
+same-joined f g xs ys e = sym (flat_map-map (λ l. l) f xs) ∙ ap (flat_map (λ l. l)) e ∙ flat_map-map (λ l. l) g ys

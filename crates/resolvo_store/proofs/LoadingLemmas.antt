@@ -1,78 +1,95 @@
--- Loading one version set.
-use Rattle.std.proofs.Common.{◌≡◌, ℕ, ◌-◌, ◌^◌, ◌<◌, ◌≤◌, Bool, true, false, arith, ◌||◌, List, [], ◌∷◌, ◌++◌, length, map, None, ◌∙◌, ap, sym, leb, ltb}
-use Rattle.std.specs.Prelude.{is_none, ◌&&◌}
+-- Loading a requirement.
+use Rattle.std.proofs.Common.{◌≡◌, ℕ, ◌-◌, ◌^◌, ◌<◌, Bool, true, false, arith, ◌||◌, List, [], ◌∷◌, ◌++◌, length, map, None, ◌∙◌, ap, sym, leb, ltb, refl}
+use Rattle.std.specs.Prelude.{is_none, ◌&&◌, flat_map}
 use Rattle.std.specs.List.{list_any}
 use Rattle.std.proofs.Math.Bool.{or-true, and-false}
 use Rattle.std.proofs.lemmas.Bool.Decides.{nat_tests}
-use Rattle.std.proofs.lemmas.List.{append-nil}
-use Rattle.resolvo_ids.specs.declared.version_set_id.VersionSetId.{VersionSetId}
+use Rattle.std.proofs.lemmas.List.Folds.{flat_map-map}
+use Rattle.std.proofs.lemmas.Simd.{map-map}
+use Rattle.resolvo_ids.specs.Refusals.{IsGrowthRefusal}
+use Rattle.resolvo_ids.specs.declared.error.StoreError.{StoreError}
+use Rattle.resolvo_ids.specs.declared.error.StoreError.TheVariants.{OutOfMemory, IdSpace}
 use Rattle.resolvo_pool.specs.declared.requirement.Requirement.{Requirement}
-use Rattle.resolvo_pool.specs.declared.requirement.Requirement.TheVariants.{Single}
+use Rattle.resolvo_pool.specs.Provider.{sets_of}
 use Rattle.resolvo_clauses.specs.declared.variable_origin.VariableOrigin.{VariableOrigin}
 use Rattle.resolvo_clauses.specs.Variables.{interned_variable, all_interned}
 use Rattle.resolvo_store.specs.Command.{Load, LoadedAs}
 use Rattle.resolvo_store.specs.Store.{Store, lists_of, candidates_of}
-use Rattle.resolvo_store.specs.Outcome.{Outcome, outcome, load}
-use Rattle.resolvo_store.specs.Step.{lacks_ids, has_too_many_rows}
+use Rattle.resolvo_store.specs.Outcome.{outcome, load, origins_loaded, variables_loaded}
+use Rattle.resolvo_store.specs.Step.{lacks_ids, has_too_many_rows, may_be_refused}
 
-module _ {N S : Type 0} (st : Store N S) (set : VersionSetId) where
+module _ {N S : Type 0} (st : Store N S) (r : Requirement) where
   abbrev pub same : S → S → Bool
   same = st.provider.same_solvable
 
-  -- the origins, and the variables of the candidates, where these are interned
-  abbrev pub origins_after : List S → List (VariableOrigin N S)
-  origins_after candidates = all_interned same st.origins candidates
+  -- the requirement's candidates, and all of them in one list
+  abbrev pub candidate_lists : List (List S)
+  candidate_lists = map (candidates_of st) (sets_of st.provider.catalogue r)
 
-  abbrev pub variables_after : List S → List ℕ
-  variables_after candidates = map (interned_variable same (origins_after candidates)) candidates
+  abbrev pub all_candidates : List S
+  all_candidates = flat_map (candidates_of st) (sets_of st.provider.catalogue r)
 
-  -- a version set that isn't loaded gets its one list
-  pub outcome-new : lists_of st (Single set) ≡ None → outcome st (Load (Single set)) ≡ record {
-    reply = LoadedAs (variables_after (candidates_of st set) ∷ []);
-    store = record st { origins = origins_after (candidates_of st set); loaded = st.loaded ++ (Single set, variables_after (candidates_of st set) ∷ []) ∷ [] };
-  }
-  outcome-new new =
-      let after : List S → Outcome N S = λ candidates. record {
-        reply = LoadedAs (map (interned_variable same (origins_after candidates)) (candidates_of st set) ∷ []);
-        store = record st { origins = origins_after candidates; loaded = st.loaded ++ (Single set, map (interned_variable same (origins_after candidates)) (candidates_of st set) ∷ []) ∷ [] };
-      } in
-      ap (load st (Single set)) new ∙ ap after (append-nil (candidates_of st set))
-
-  -- and lacks ids where its candidates do
-  pub lacks_ids-new : lists_of st (Single set) ≡ None → lacks_ids st (Load (Single set)) ≡
-      (ltb (2 ^ 31 - 1) (length (origins_after (candidates_of st set))) || (leb (2 ^ 40) (length (candidates_of st set)) || list_any st.provider.is_large_solvable (candidates_of st set)))
+  -- a requirement that isn't loaded lacks ids where its candidates do
+  pub lacks_ids-new : lists_of st r ≡ None → lacks_ids st (Load r) ≡
+      (ltb (2 ^ 31 - 1) (length (origins_loaded st r)) || (leb (2 ^ 40) (length all_candidates) || list_any st.provider.is_large_solvable all_candidates))
   lacks_ids-new new =
-      let short : List S → Bool = λ candidates.
-      ltb (2 ^ 31 - 1) (length (origins_after candidates)) || (leb (2 ^ 40) (length candidates) || list_any st.provider.is_large_solvable candidates) in
-      ap (λ lists. is_none lists && short (candidates_of st set ++ [])) new ∙ ap short (append-nil (candidates_of st set))
+      ap (λ lists. is_none lists && (ltb (2 ^ 31 - 1) (length (origins_loaded st r)) ||
+      (leb (2 ^ 40) (length all_candidates) || list_any st.provider.is_large_solvable all_candidates))) new
 
-  -- it has too many rows where it has too many candidates
-  pub rows-few : length (candidates_of st set) < 2 ^ 40 → has_too_many_rows st (Load (Single set)) ≡ false
+  -- few candidates are few rows
+  pub rows-few : length all_candidates < 2 ^ 40 → has_too_many_rows st (Load r) ≡ false
   rows-few few =
-      let below : leb (2 ^ 40) (length (candidates_of st set)) ≡ false = grind (arith, nat_tests, few) in
-      ap (λ candidates. is_none (lists_of st (Single set)) && leb (2 ^ 40) (length candidates)) (append-nil (candidates_of st set))
-      ∙ ap (λ b. is_none (lists_of st (Single set)) && b) below ∙ and-false (is_none (lists_of st (Single set)))
+      let below : leb (2 ^ 40) (length all_candidates) ≡ false = grind (arith, nat_tests, few) in
+      ap (λ b. is_none (lists_of st r) && b) below ∙ and-false (is_none (lists_of st r))
+
+  -- candidate lists one after another are all candidates
+  pub joined : (lists : List (List S)) → lists ≡ candidate_lists → flat_map (λ l. l) lists ≡ all_candidates
+  joined lists e = ap (flat_map (λ l. l)) e ∙ flat_map-map (λ l. l) (candidates_of st) (sets_of st.provider.catalogue r)
 
   -- a Load that gave the candidates variables, answered these and kept them, did what it should
-  pub load-new : (candidates : List S) (os : List (VariableOrigin N S)) (answer kept : List (List ℕ)) (loaded : List (Requirement × List (List ℕ)))
-      → lists_of st (Single set) ≡ None → candidates ≡ candidates_of st set → os ≡ origins_after candidates
-      → answer ≡ map (interned_variable same os) candidates ∷ [] → kept ≡ map (interned_variable same os) candidates ∷ []
-      → loaded ≡ st.loaded ++ (Single set, kept) ∷ []
-      → (LoadedAs answer ≡ (outcome st (Load (Single set))).reply) × (record st { origins = os; loaded = loaded } ≡ (outcome st (Load (Single set))).store)
-  load-new candidates os answer kept loaded new cs after answered keeps more =
-      let done = outcome-new new in
-      let origins : os ≡ origins_after (candidates_of st set) = after ∙ ap origins_after cs in
-      let list : ◌≡◌ {A = List (List ℕ)} (map (interned_variable same os) candidates ∷ []) (variables_after (candidates_of st set) ∷ []) =
-      ap (λ vs. map (interned_variable same vs) candidates ∷ []) origins
-      ∙ ap (λ ss. map (interned_variable same (origins_after (candidates_of st set))) ss ∷ []) cs in (
-        ap LoadedAs (answered ∙ list) ∙ sym (ap (λ o. o.reply) done),
+  pub load-new : (lists : List (List S)) (os : List (VariableOrigin N S)) (answer kept : List (List ℕ)) (loaded : List (Requirement × List (List ℕ)))
+      → lists_of st r ≡ None → lists ≡ candidate_lists → os ≡ all_interned same st.origins (flat_map (λ l. l) lists)
+      → answer ≡ map (map (interned_variable same os)) lists → kept ≡ map (map (interned_variable same os)) lists
+      → loaded ≡ st.loaded ++ (r, kept) ∷ []
+      → (LoadedAs answer ≡ (outcome st (Load r)).reply) × (record st { origins = os; loaded = loaded } ≡ (outcome st (Load r)).store)
+  load-new lists os answer kept loaded new cs after answered keeps more =
+      let done : outcome st (Load r) ≡ load st r None = ap (load st r) new in
+      let origins : os ≡ origins_loaded st r = after ∙ ap (all_interned same st.origins) (joined lists cs) in
+      let variables : map (map (interned_variable same os)) lists ≡ variables_loaded st r =
+      ap (λ vs. map (map (interned_variable same vs)) lists) origins
+      ∙ ap (map (map (interned_variable same (origins_loaded st r)))) cs
+      ∙ map-map (map (interned_variable same (origins_loaded st r))) (candidates_of st) (sets_of st.provider.catalogue r) in (
+        ap LoadedAs (answered ∙ variables) ∙ sym (ap (λ o. o.reply) done),
         ap (λ vs. record st { origins = vs; loaded = loaded }) origins
-            ∙ ap (λ l. record st { origins = origins_after (candidates_of st set); loaded = l }) (more ∙ ap (λ l. st.loaded ++ (Single set, l) ∷ []) (keeps ∙ list))
+            ∙ ap (λ l. record st { origins = origins_loaded st r; loaded = l }) (more ∙ ap (λ l. st.loaded ++ (r, l) ∷ []) (keeps ∙ variables))
             ∙ sym (ap (λ o. o.store) done),
       )
 
--- too many rows are too many, whatever else there is too much of
-pub too_many_rows : (a b : Bool) (rows : ℕ) → 2 ^ 40 ≤ rows → (a || (leb (2 ^ 40) rows || b)) ≡ true
-too_many_rows a b rows many =
-    let over : leb (2 ^ 40) rows ≡ true = grind (arith, nat_tests, many) in
-    ap (λ t. a || (t || b)) over ∙ or-true a
+  -- a refusal that comes where ids are lacking may come of a Load
+  pub refused-new : (lacking : Bool) (e : StoreError) → lists_of st r ≡ None
+      → (lacking ≡ true → (ltb (2 ^ 31 - 1) (length (origins_loaded st r)) ||
+      (leb (2 ^ 40) (length all_candidates) || list_any st.provider.is_large_solvable all_candidates)) ≡ true)
+      → IsGrowthRefusal lacking e → may_be_refused st (Load r) e ≡ true
+  refused-new lacking OutOfMemory new h k = refl
+  refused-new lacking IdSpace new h k = lacks_ids-new new ∙ h k
+  refused-new lacking _ new h k = absurd k
+
+  -- too many rows are such a lack, and so are ids that are out for the candidate lists
+  pub too_many_rows : (lacking : Bool) → lacking ≡ leb (2 ^ 40) (length all_candidates) → lacking ≡ true
+      → (ltb (2 ^ 31 - 1) (length (origins_loaded st r)) || (leb (2 ^ 40) (length all_candidates) || list_any st.provider.is_large_solvable all_candidates)) ≡ true
+  too_many_rows lacking e h =
+      let over : leb (2 ^ 40) (length all_candidates) ≡ true = sym e ∙ h in
+      ap (λ t. ltb (2 ^ 31 - 1) (length (origins_loaded st r)) || (t || list_any st.provider.is_large_solvable all_candidates)) over
+      ∙ or-true (ltb (2 ^ 31 - 1) (length (origins_loaded st r)))
+
+  pub ids_out : (all : List S) → all ≡ all_candidates
+      → (ltb (2 ^ 31 - 1) (length (all_interned same st.origins all)) || list_any st.provider.is_large_solvable all) ≡ true
+      → (ltb (2 ^ 31 - 1) (length (origins_loaded st r)) || (leb (2 ^ 40) (length all_candidates) || list_any st.provider.is_large_solvable all_candidates)) ≡ true
+  ids_out all e h =
+      wider (ltb (2 ^ 31 - 1) (length (origins_loaded st r))) (leb (2 ^ 40) (length all_candidates)) (list_any st.provider.is_large_solvable all_candidates)
+      (sym (ap (λ l. ltb (2 ^ 31 - 1) (length (all_interned same st.origins l)) || list_any st.provider.is_large_solvable l) e) ∙ h)
+    where
+      wider : (a b d : Bool) → (a || d) ≡ true → (a || (b || d)) ≡ true
+      wider true b d k = refl
+      wider false true d k = refl
+      wider false false d k = k

@@ -46,12 +46,13 @@ decision None None = NoDecision
 module _ {N S : Type 0} where
   -- the origins once a requirement's candidates have variables
   abbrev pub origins_loaded : Store N S → Requirement → List (VariableOrigin N S)
-  origins_loaded st r = all_interned st.provider.same_solvable st.origins (flat_map (candidates_of st) (sets_of r))
+  origins_loaded st r = all_interned st.provider.same_solvable st.origins (flat_map (candidates_of st) (sets_of st.provider.catalogue r))
 
   -- the candidates' variables, one list a version set
   abbrev pub variables_loaded : Store N S → Requirement → List (List ℕ)
   variables_loaded st r =
-      map (λ v. map (interned_variable st.provider.same_solvable (origins_loaded st r)) (candidates_of st v)) (sets_of r)
+      map (λ v. map (interned_variable st.provider.same_solvable (origins_loaded st r)) (candidates_of st v))
+      (sets_of st.provider.catalogue r)
 
   -- a Load, by the lists that the requirement has already
   abbrev pub load : Store N S → Requirement → Option (List (List ℕ)) → Outcome N S

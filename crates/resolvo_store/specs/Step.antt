@@ -15,7 +15,7 @@ module _ {N S : Type 0} where
   -- a Load would give its requirement 2^40 rows or more
   abbrev pub has_too_many_rows : Store N S → Command S → Bool
   has_too_many_rows st (Load r) =
-      is_none (lists_of st r) && nat_le (2 ^ 40) (length (flat_map (candidates_of st) (sets_of r)))
+      is_none (lists_of st r) && nat_le (2 ^ 40) (length (flat_map (candidates_of st) (sets_of st.provider.catalogue r)))
   has_too_many_rows st _ = false
 
   -- a Load needs more ids than there are: variables beyond the last, a solvable that can't be kept, or 2^40 rows or more
@@ -23,8 +23,8 @@ module _ {N S : Type 0} where
   lacks_ids st (Load r) =
       is_none (lists_of st r) &&
       (nat_lt (2 ^ 31 - 1) (length (origins_loaded st r)) ||
-      (nat_le (2 ^ 40) (length (flat_map (candidates_of st) (sets_of r))) ||
-      list_any st.provider.is_large_solvable (flat_map (candidates_of st) (sets_of r))))
+      (nat_le (2 ^ 40) (length (flat_map (candidates_of st) (sets_of st.provider.catalogue r))) ||
+      list_any st.provider.is_large_solvable (flat_map (candidates_of st) (sets_of st.provider.catalogue r))))
   lacks_ids st _ = false
 
   -- the command is answered without taking memory

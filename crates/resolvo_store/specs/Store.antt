@@ -100,7 +100,7 @@ module _ {N S : Type 0} (st : Store N S) where
 
   -- the rows of a requirement, none if it wasn't loaded
   abbrev pub rows_of : Requirement → List Row
-  rows_of r = rows (sets_of r) (unwrap_or (lists_of r) [])
+  rows_of r = rows (sets_of st.provider.catalogue r) (unwrap_or (lists_of r) [])
 
   -- the score of a version set: its package's
   abbrev pub score_of : VersionSetId → ℕ

@@ -1,10 +1,17 @@
-//! The candidates of a version set, asked of the provider.
-ghost use Rattle.std.specs.Prelude.{◌≡◌, true, All, IfOk, IfErr};
-ghost use Rattle.resolvo_ids.specs.declared.error.StoreError.TheVariants.{OutOfMemory};
-ghost use Rattle.resolvo_pool.specs.Provider.{matching, sorted};
+//! The candidates of version sets, asked of the provider.
+ghost use Rattle.std.specs.Prelude.{◌≡◌, ◌+◌, ◌<◌, ◌≤◌, ◌^◌, nat_le, true, All, map, flat_map, length, IfOk, OnOk, IfErr};
+ghost use Rattle.resolvo_ids.specs.Refusals.{IsGrowthRefusal};
+ghost use Rattle.resolvo_ids.specs.declared.error.StoreError.TheVariants.{OutOfMemory, IdSpace};
+ghost use Rattle.resolvo_pool.specs.Provider.{matching, sorted, sets_of, knows_requirement};
 
 use resolvo_ids::{StoreError, VersionSetId};
-use resolvo_pool::{DependencyProvider, Interner};
+use resolvo_pool::{DependencyProvider, Interner, Requirement};
+
+/// A requirement has fewer rows than this.
+const ROWS_LIMIT: usize = 1 << 40;
+
+/// Lists of solvables, one a version set.
+pub(crate) type CandidateLists<S, A> = Vec<Vec<S, A>, A>;
 
 /// The candidates of a package; a package that there isn't has none.
 fn candidates_of<D: DependencyProvider>(
@@ -51,7 +58,7 @@ fn in_order<D: DependencyProvider>(
 }
 
 /// The candidate list of a version set: what it holds, best first.
-pub(crate) fn sorted_candidates<D: DependencyProvider>(
+fn sorted_candidates<D: DependencyProvider>(
     provider: &D,
     alloc: D::Alloc,
     set: VersionSetId,
@@ -62,4 +69,58 @@ pub(crate) fn sorted_candidates<D: DependencyProvider>(
 {
     let found = matching_candidates(provider, alloc, set)?;
     in_order(provider, alloc, found)
+}
+
+/// How many rows there are with those of one list more.
+fn more_rows(rows: usize, list: usize) -> Result<usize, StoreError>
+    requires { rows < 2 ^ 40 }
+    ensures ok { IfOk result (λ more. (more ≡ rows + list) × (more < 2 ^ 40)) }
+    ensures err { IfErr result (λ e. (e ≡ IdSpace) × (2 ^ 40 ≤ rows + list)) }
+{
+    if list >= ROWS_LIMIT - rows {
+        return Err(StoreError::IdSpace);
+    }
+    Ok(rows + list)
+}
+
+/// The candidate lists of version sets, in order.
+fn sorted_lists<D: DependencyProvider>(
+    provider: &D,
+    alloc: D::Alloc,
+    sets: &[VersionSetId],
+) -> Result<CandidateLists<D::SolvableId, D::Alloc>, StoreError>
+    requires { All (λ v. (D.catalogue provider.now).knows_set v ≡ true) sets.now }
+    ensures ok { IfOk result (λ lists. map (λ l. l.items) lists.items ≡ map (sorted (D.catalogue provider.now) (D.answers provider.now)) sets.now) }
+    ensures few { OnOk result (length (flat_map (sorted (D.catalogue provider.now) (D.answers provider.now)) sets.now) < 2 ^ 40) }
+    ensures refused { IfErr result (IsGrowthRefusal (nat_le (2 ^ 40) (length (flat_map (sorted (D.catalogue provider.now) (D.answers provider.now)) sets.now)))) }
+{
+    let mut lists = Vec::new(alloc);
+    let mut rows = 0;
+    for set in sets {
+        let list = sorted_candidates(provider, alloc, *set)?;
+        rows = more_rows(rows, list.len())?;
+        match lists.push(list) {
+            Ok(()) => {}
+            Err(_) => return Err(StoreError::OutOfMemory),
+        }
+    }
+    Ok(lists)
+}
+
+/// The candidate lists of a requirement, one a version set. A requirement with too many rows is refused.
+pub(crate) fn candidate_lists<D: DependencyProvider>(
+    provider: &D,
+    alloc: D::Alloc,
+    requirement: Requirement,
+) -> Result<CandidateLists<D::SolvableId, D::Alloc>, StoreError>
+    requires { knows_requirement (D.catalogue provider.now) requirement ≡ true }
+    ensures ok { IfOk result (λ lists. map (λ l. l.items) lists.items ≡
+        map (sorted (D.catalogue provider.now) (D.answers provider.now)) (sets_of (D.catalogue provider.now) requirement)) }
+    ensures few { OnOk result (length (flat_map (sorted (D.catalogue provider.now) (D.answers provider.now))
+        (sets_of (D.catalogue provider.now) requirement)) < 2 ^ 40) }
+    ensures refused { IfErr result (IsGrowthRefusal (nat_le (2 ^ 40) (length (flat_map
+        (sorted (D.catalogue provider.now) (D.answers provider.now)) (sets_of (D.catalogue provider.now) requirement))))) }
+{
+    let sets = requirement.version_sets(provider);
+    sorted_lists(provider, alloc, sets.as_slice())
 }

@@ -1,5 +1,5 @@
 //! Lists of variables: those of a requirement's candidates, and copies of them.
-ghost use Rattle.std.specs.Prelude.{◌≡◌, ◌<◌, ◌≤◌, ◌-◌, ◌^◌, ◌||◌, nat_lt, [], ◌∷◌, map, length, take, IfOk, OnOk, IfErr};
+ghost use Rattle.std.specs.Prelude.{◌≡◌, ◌<◌, ◌≤◌, ◌-◌, ◌^◌, ◌||◌, nat_lt, map, flat_map, length, take, IfOk, OnOk, IfErr};
 ghost use Rattle.std.specs.List.{list_any};
 ghost use Rattle.resolvo_ids.specs.Refusals.{IsGrowthRefusal};
 ghost use Rattle.resolvo_ids.specs.declared.error.StoreError.TheVariants.{OutOfMemory};
@@ -42,36 +42,6 @@ pub(crate) fn copy_of_lists<A: Allocator + Copy>(
     Ok(copies)
 }
 
-/// The one list of a single version set.
-fn one_list<A: Allocator + Copy>(
-    alloc: A,
-    list: Vec<VariableId, A>,
-) -> Result<VariableLists<A>, StoreError>
-    ensures ok { IfOk result (λ lists. map (λ l. l.items) lists.items ≡ list.items ∷ []) }
-    ensures err { IfErr result (λ e. e ≡ OutOfMemory) }
-{
-    let mut lists = Vec::new(alloc);
-    match lists.push(list) {
-        Ok(()) => Ok(lists),
-        Err(_) => Err(StoreError::OutOfMemory),
-    }
-}
-
-/// The one list of a single version set twice: to answer, and to keep.
-fn one_list_twice<A: Allocator + Copy>(
-    alloc: A,
-    list: Vec<VariableId, A>,
-) -> Result<(VariableLists<A>, VariableLists<A>), StoreError>
-    ensures first { IfOk result (λ both. map (λ l. l.items) both.0.items ≡ list.items ∷ []) }
-    ensures second { IfOk result (λ both. map (λ l. l.items) both.1.items ≡ list.items ∷ []) }
-    ensures err { IfErr result (λ e. e ≡ OutOfMemory) }
-{
-    let copy = copy_of(alloc, &list)?;
-    let answer = one_list(alloc, list)?;
-    let kept = one_list(alloc, copy)?;
-    Ok((answer, kept))
-}
-
 /// The variables of solvables, each of which gets one if it has none; all of them or, after a refusal, none.
 fn intern_all<N: Copy, S: SolverId<A>, A: Allocator + Copy>(
     variables: &mut VariableMap<N, S, A>,
@@ -105,25 +75,57 @@ fn intern_all<N: Copy, S: SolverId<A>, A: Allocator + Copy>(
     Ok(list)
 }
 
-/// The one list of a version set's candidates, as variables, twice: to answer, and to keep. A refusal leaves the
-/// variables as they were.
-pub(crate) fn intern_list<N: Copy, S: SolverId<A>, A: Allocator + Copy>(
+/// The variables of lists of solvables, list by list; those of all lists or, after a refusal, none.
+fn intern_each<N: Copy, S: SolverId<A>, A: Allocator + Copy>(
     variables: &mut VariableMap<N, S, A>,
     alloc: A,
-    solvables: &[S],
-) -> Result<(VariableLists<A>, VariableLists<A>), StoreError>
-    ensures answer { IfOk result (λ both. map (λ l. l.items) both.0.items ≡ map (interned_variable S.eq variables.new) solvables.now ∷ []) }
-    ensures kept { IfOk result (λ both. map (λ l. l.items) both.1.items ≡ map (interned_variable S.eq variables.new) solvables.now ∷ []) }
-    ensures ok { OnOk result (variables.new ≡ all_interned S.eq variables.old solvables.now) }
+    lists: &[Vec<S, A>],
+) -> Result<VariableLists<A>, StoreError>
+    ensures lists { IfOk result (λ made. map (λ l. l.items) made.items ≡ map (λ l. map (interned_variable S.eq variables.new) l.items) lists.now) }
+    ensures ok { OnOk result (variables.new ≡ all_interned S.eq variables.old (flat_map (λ l. l.items) lists.now)) }
     ensures front { OnOk result (take (length variables.old) variables.new ≡ variables.old) }
     ensures longer { OnOk result (length variables.old ≤ length variables.new) }
     ensures err { IfErr result (λ e. variables.new ≡ variables.old) }
-    ensures refused { IfErr result (IsGrowthRefusal (nat_lt (2 ^ 31 - 1) (length (all_interned S.eq variables.old solvables.now)) || list_any S.Slots.is_too_large solvables.now)) }
+    ensures refused { IfErr result (IsGrowthRefusal (nat_lt (2 ^ 31 - 1) (length (all_interned S.eq variables.old (flat_map (λ l. l.items) lists.now))) || list_any S.Slots.is_too_large (flat_map (λ l. l.items) lists.now))) }
+{
+    let start = variables.count();
+    let mut made = Vec::new(alloc);
+    for list in lists {
+        match intern_all(variables, alloc, list) {
+            Ok(own) => match made.push(own) {
+                Ok(()) => {}
+                Err(_) => {
+                    variables.forget_from(start);
+                    return Err(StoreError::OutOfMemory);
+                }
+            },
+            Err(e) => {
+                variables.forget_from(start);
+                return Err(e);
+            }
+        }
+    }
+    Ok(made)
+}
+
+/// The lists of candidates, as variables, twice: to answer, and to keep. A refusal leaves the variables as they were.
+pub(crate) fn intern_lists<N: Copy, S: SolverId<A>, A: Allocator + Copy>(
+    variables: &mut VariableMap<N, S, A>,
+    alloc: A,
+    lists: &[Vec<S, A>],
+) -> Result<(VariableLists<A>, VariableLists<A>), StoreError>
+    ensures answer { IfOk result (λ both. map (λ l. l.items) both.0.items ≡ map (λ l. map (interned_variable S.eq variables.new) l.items) lists.now) }
+    ensures kept { IfOk result (λ both. map (λ l. l.items) both.1.items ≡ map (λ l. map (interned_variable S.eq variables.new) l.items) lists.now) }
+    ensures ok { OnOk result (variables.new ≡ all_interned S.eq variables.old (flat_map (λ l. l.items) lists.now)) }
+    ensures front { OnOk result (take (length variables.old) variables.new ≡ variables.old) }
+    ensures longer { OnOk result (length variables.old ≤ length variables.new) }
+    ensures err { IfErr result (λ e. variables.new ≡ variables.old) }
+    ensures refused { IfErr result (IsGrowthRefusal (nat_lt (2 ^ 31 - 1) (length (all_interned S.eq variables.old (flat_map (λ l. l.items) lists.now))) || list_any S.Slots.is_too_large (flat_map (λ l. l.items) lists.now))) }
 {
     let before = variables.count();
-    let list = intern_all(variables, alloc, solvables)?;
-    match one_list_twice(alloc, list) {
-        Ok(both) => Ok(both),
+    let made = intern_each(variables, alloc, lists)?;
+    match copy_of_lists(alloc, &made) {
+        Ok(copy) => Ok((made, copy)),
         Err(e) => {
             variables.forget_from(before);
             Err(e)

@@ -34,7 +34,7 @@ pub struct ClauseStore<D: DependencyProvider> {
 
 impl<D: DependencyProvider> Model for ClauseStore<D> {
     ghost use Rattle.resolvo_store.specs.Store.{Kept};
-    ghost use Rattle.resolvo_store.specs.Lists.{lists_kept};
+    ghost use Rattle.resolvo_store.specs.Lists.{lists_kept, IsDecidable};
 
     ghost Value = { Kept D D.NameId D.SolvableId };
 
@@ -45,6 +45,8 @@ impl<D: DependencyProvider> Model for ClauseStore<D> {
       requires = a.queue;
       trail = a.trail;
     } };
+
+    ghost invariant = { λ a. IsDecidable (D.catalogue a.provider) a.loaded a.queue };
 }
 
 impl<D: DependencyProvider + Drop> ClauseStore<D> {

@@ -34,7 +34,8 @@ impl<D: DependencyProvider + Drop> ClauseStore<D> {
     pub fn falsified(&self) -> Option<ClauseId>
         ensures { result ≡ option_map (λ c. c.clause_id) (falsified_clause (⟦<D as AbstractStore>⟧.store self.now)) }
     {
-        self.queue.falsified(self.trail.map(), &self.loaded)
+        self.queue
+            .falsified(self.trail.map(), &self.loaded, &self.provider)
     }
 
     /// The decision that the scan picks, where nothing is falsified: [`ClauseStore::falsified`] is the test. Takes no
@@ -48,7 +49,8 @@ impl<D: DependencyProvider + Drop> ClauseStore<D> {
             All (λ c. is_eligible_clause (⟦<D as AbstractStore>⟧.store self.now) c ≡ false) (scan (⟦<D as AbstractStore>⟧.store self.now).requires) }
         ensures unbeaten { DecidesUnbeaten (offers (⟦<D as AbstractStore>⟧.store self.now)) result }
     {
-        self.queue.next_decision(self.trail.map(), &self.loaded)
+        self.queue
+            .next_decision(self.trail.map(), &self.loaded, &self.provider)
     }
 
     /// One pass over the clauses whose parent is true.
@@ -56,6 +58,7 @@ impl<D: DependencyProvider + Drop> ClauseStore<D> {
         ensures { result ≡ answer (falsified_clause (⟦<D as AbstractStore>⟧.store self.now))
             (picked (⟦<D as AbstractStore>⟧.store self.now)) }
     {
-        self.queue.decide(self.trail.map(), &self.loaded)
+        self.queue
+            .decide(self.trail.map(), &self.loaded, &self.provider)
     }
 }

@@ -1,17 +1,14 @@
 //! The commands that bring solvables: `Variable` and `Load`.
 ghost use Rattle.std.specs.Prelude.{◌≡◌, None, true, map, option_map, IfOk, IfErr};
-ghost use Rattle.resolvo_pool.specs.declared.requirement.Requirement.TheVariants.{Single};
+ghost use Rattle.resolvo_pool.specs.Provider.{knows_requirement};
 
 use crate::abstract_store::AbstractStore;
-use crate::candidates::sorted_candidates;
-use crate::lists::{VariableLists, copy_of_lists, intern_list};
+use crate::candidates::candidate_lists;
+use crate::lists::{VariableLists, copy_of_lists, intern_lists};
 use crate::reply::Reply;
 use crate::store::ClauseStore;
-use resolvo_ids::{StoreError, VersionSetId};
+use resolvo_ids::StoreError;
 use resolvo_pool::{DependencyProvider, Interner, Requirement};
-
-/// A requirement has fewer rows than this.
-const ROWS_LIMIT: usize = 1 << 40;
 
 impl<D: DependencyProvider + Drop> ClauseStore<D> {
     ghost use Rattle.resolvo_store.specs.Command.{Variable, Load, reply_of, LoadedAs, Refused};
@@ -33,58 +30,53 @@ impl<D: DependencyProvider + Drop> ClauseStore<D> {
         }
     }
 
-    /// The candidates' variables of a requirement.
+    /// The candidates' variables of a requirement, loaded where they aren't yet.
     pub(super) fn load(&mut self, requirement: Requirement) -> Reply<D::Alloc>
         ensures step { Step (⟦<D as AbstractStore>⟧.store self.old) (Load requirement)
             (reply_of result) (⟦<D as AbstractStore>⟧.store self.new) }
         ensures provider { self.new.provider ≡ self.old.provider }
     {
-        match requirement {
-            Requirement::Single(set) => {
-                if !self.provider.knows_version_set(set) {
-                    return Reply::Refused(StoreError::UnknownId);
-                }
-                match self.load_set(set) {
-                    Ok(lists) => Reply::Loaded(lists),
-                    Err(e) => Reply::Refused(e),
-                }
-            }
-            Requirement::Union(_) => Reply::Refused(StoreError::UnknownId),
+        if !self.knows_requirement(requirement) {
+            return Reply::Refused(StoreError::UnknownId);
+        }
+        match self.load_known(requirement) {
+            Ok(lists) => Reply::Loaded(lists),
+            Err(e) => Reply::Refused(e),
         }
     }
 
-    /// The candidates' variables of a version set, loaded where they aren't yet.
-    fn load_set(&mut self, set: VersionSetId) -> Result<VariableLists<D::Alloc>, StoreError>
-        requires { (D.catalogue self.old.provider).knows_set set ≡ true }
-        ensures ok { IfOk result (λ lists. IsAnswered (⟦<D as AbstractStore>⟧.store self.old) (Load (Single set)) (LoadedAs (map (λ l. l.items) lists.items))
+    /// The candidates' variables of a requirement that the provider knows.
+    fn load_known(
+        &mut self,
+        requirement: Requirement,
+    ) -> Result<VariableLists<D::Alloc>, StoreError>
+        requires { knows_requirement (D.catalogue self.old.provider) requirement ≡ true }
+        ensures ok { IfOk result (λ lists. IsAnswered (⟦<D as AbstractStore>⟧.store self.old) (Load requirement) (LoadedAs (map (λ l. l.items) lists.items))
             (⟦<D as AbstractStore>⟧.store self.new)) }
-        ensures err { IfErr result (λ e. IsAnswered (⟦<D as AbstractStore>⟧.store self.old) (Load (Single set)) (Refused e)
+        ensures err { IfErr result (λ e. IsAnswered (⟦<D as AbstractStore>⟧.store self.old) (Load requirement) (Refused e)
             (⟦<D as AbstractStore>⟧.store self.new)) }
         ensures provider { self.new.provider ≡ self.old.provider }
     {
-        match self.lists(Requirement::Single(set)) {
+        match self.lists(requirement) {
             Some(lists) => copy_of_lists(self.alloc, lists),
-            None => self.load_new_set(set),
+            None => self.load_new(requirement),
         }
     }
 
-    /// Loads a version set. What is refused half way gives the variables back that it made.
-    fn load_new_set(&mut self, set: VersionSetId) -> Result<VariableLists<D::Alloc>, StoreError>
-        requires known { (D.catalogue self.old.provider).knows_set set ≡ true }
-        requires new { lists_of (⟦<D as AbstractStore>⟧.store self.old) (Single set) ≡ None }
-        ensures ok { IfOk result (λ lists. IsAnswered (⟦<D as AbstractStore>⟧.store self.old) (Load (Single set)) (LoadedAs (map (λ l. l.items) lists.items))
+    /// Loads a requirement. What is refused half way gives the variables back that it made.
+    fn load_new(&mut self, requirement: Requirement) -> Result<VariableLists<D::Alloc>, StoreError>
+        requires known { knows_requirement (D.catalogue self.old.provider) requirement ≡ true }
+        requires new { lists_of (⟦<D as AbstractStore>⟧.store self.old) requirement ≡ None }
+        ensures ok { IfOk result (λ lists. IsAnswered (⟦<D as AbstractStore>⟧.store self.old) (Load requirement) (LoadedAs (map (λ l. l.items) lists.items))
             (⟦<D as AbstractStore>⟧.store self.new)) }
-        ensures err { IfErr result (λ e. IsAnswered (⟦<D as AbstractStore>⟧.store self.old) (Load (Single set)) (Refused e)
+        ensures err { IfErr result (λ e. IsAnswered (⟦<D as AbstractStore>⟧.store self.old) (Load requirement) (Refused e)
             (⟦<D as AbstractStore>⟧.store self.new)) }
         ensures provider { self.new.provider ≡ self.old.provider }
     {
-        let candidates = sorted_candidates(&self.provider, self.alloc, set)?;
-        if candidates.len() >= ROWS_LIMIT {
-            return Err(StoreError::IdSpace);
-        }
+        let candidates = candidate_lists(&self.provider, self.alloc, requirement)?;
         let before = self.variables.count();
-        let (answer, kept) = intern_list(&mut self.variables, self.alloc, &candidates)?;
-        match self.loaded.insert(Requirement::Single(set), kept) {
+        let (answer, kept) = intern_lists(&mut self.variables, self.alloc, &candidates)?;
+        match self.loaded.insert(requirement, kept) {
             Ok(_) => Ok(answer),
             Err(_) => {
                 self.variables.forget_from(before);

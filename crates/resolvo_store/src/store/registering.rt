@@ -1,5 +1,5 @@
 //! The command that adds requires clauses.
-ghost use Rattle.std.specs.Prelude.{◌≡◌, ◌-◌, ◌^◌, [], ◌∷◌, ◌++◌, length, false, nat_le, if◌then◌else◌, option_map, IfOk, OnOk, OnErr, IfErr};
+ghost use Rattle.std.specs.Prelude.{◌≡◌, ◌-◌, ◌^◌, [], ◌∷◌, ◌++◌, length, true, false, nat_le, if◌then◌else◌, option_map, IfOk, OnOk, OnErr, IfErr};
 ghost use Rattle.resolvo_ids.specs.declared.error.StoreError.TheVariants.{OutOfMemory, TooManyClauses};
 
 use crate::abstract_store::AbstractStore;
@@ -43,25 +43,25 @@ impl<D: DependencyProvider + Drop> ClauseStore<D> {
         }
     }
 
-    /// Whether the provider knows the requirement's version sets. No union is known yet.
-    fn knows_requirement(&self, requirement: Requirement) -> bool
+    /// Whether the provider knows the requirement's version set, or its union.
+    pub(super) fn knows_requirement(&self, requirement: Requirement) -> bool
         ensures { result ≡ knows_requirement (D.catalogue self.now.provider) requirement }
     {
         match requirement {
             Requirement::Single(set) => self.provider.knows_version_set(set),
-            Requirement::Union(_) => false,
+            Requirement::Union(union) => self.provider.knows_union(union),
         }
     }
 
     /// Whether a clause of this parent and requirement would be a conflict; none where the requirement isn't loaded.
     fn conflict(&self, parent: VariableId, requirement: Requirement) -> Option<bool>
-        ensures { result ≡ option_map (λ lists. is_conflict (values (⟦<D as AbstractStore>⟧.store self.now)) parent (rows (sets_of requirement) lists))
-            (lists_of (⟦<D as AbstractStore>⟧.store self.now) requirement) }
+        requires { knows_requirement (D.catalogue self.now.provider) requirement ≡ true }
+        ensures { result ≡ option_map (λ lists. is_conflict (values (⟦<D as AbstractStore>⟧.store self.now)) parent
+            (rows (sets_of (D.catalogue self.now.provider) requirement) lists)) (lists_of (⟦<D as AbstractStore>⟧.store self.now) requirement) }
     {
-        match self.lists(requirement) {
-            Some(lists) => Some(is_conflict(self.trail.map(), parent, requirement, lists)),
-            None => None,
-        }
+        let lists = self.lists(requirement)?;
+        let sets = requirement.version_sets(&self.provider);
+        Some(is_conflict(self.trail.map(), parent, sets.as_slice(), lists))
     }
 
     /// Registers a clause under the next id.
@@ -70,6 +70,7 @@ impl<D: DependencyProvider + Drop> ClauseStore<D> {
         parent: VariableId,
         requirement: Requirement,
     ) -> Result<ClauseId, StoreError>
+        requires { knows_requirement (D.catalogue self.old.provider) requirement ≡ true }
         ensures clause { IfOk result (λ clause. clause ≡ length self.old.requires) }
         ensures ok { OnOk result (self.new ≡ record self.old {
           requires = self.old.requires ++

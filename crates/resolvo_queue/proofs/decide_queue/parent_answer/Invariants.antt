@@ -7,5 +7,5 @@ use Rattle.resolvo_queue.proofs.decide_queue.parent_answer.Given as goal
 
 abbrev pub invariant-loop-clause : goal.invariant-loop-clause
 invariant-loop-clause g l =
-    answer_of (values_in l.map) (loaded_rows l.lists) l.clauses
-    ≡ or_later l.own (left (values_in l.map) (loaded_rows l.lists) (λ c. c ∷ []) l.clauses l.clause-index)
+    answer_of (values_in l.map) (loaded_rows (g.I.Interner.catalogue l.interner) l.lists) l.clauses
+    ≡ or_later l.own (left (values_in l.map) (loaded_rows (g.I.Interner.catalogue l.interner) l.lists) (λ c. c ∷ []) l.clauses l.clause-index)

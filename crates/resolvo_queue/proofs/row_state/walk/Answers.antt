@@ -1,37 +1,23 @@
-use Rattle.std.proofs.Common.{Some, sym, ap, ◌∙◌}
+use Rattle.std.proofs.Common.{◌≡◌, ◌∷◌, ◌+◌, sym, ap, ◌∙◌, drop}
+use Rattle.std.proofs.lemmas.List.{drop_more}
 use Rattle.resolvo_clauses.specs.Decisions.{values_in}
-use Rattle.resolvo_queue.proofs.RowLaws.{walk_true, walk_false, walk_undecided, walk_end, walked}
+use Rattle.resolvo_queue.specs.Rows.{list_rows}
+use Rattle.resolvo_queue.specs.RowState.{with_row, with_rows}
+use Rattle.resolvo_queue.proofs.RowLaws.{met-whole}
 use Rattle.resolvo_queue.proofs.row_state.walk.Goals as goal
-use Rattle.resolvo_queue.proofs.row_state.walk.Goals.{in-Some-false, in-None}
 
-pub returns-in-Some-true : goal.returns-in-Some-true
-returns-in-Some-true g c =
-    sym (walk_true (values_in c.args.map.now) c.args.list.now c.loop-variable.variable-index c.variable-item.result
-    c.loop-variable-test.true c.variable-item.is c.args.set
-    (sym c.value.ensures ∙ (c.in-Some-true.is ∙ ap Some c.in-Some-true.field-0-test)))
-
-pub loop-variable-preserved : goal.loop-variable-preserved
-loop-variable-preserved g c =
-    elim c.match-value.branch [
-      | in-Some-false w ↦
-          rw (w.first-is, w.count-is) (walk_false (values_in c.args.map.now) c.args.list.now
-          c.loop-variable.variable-index c.variable-item.result c.loop-variable-test.true c.variable-item.is
-          c.loop-variable.first c.loop-variable.count c.loop-variable.invariant
-          (sym c.value.ensures ∙ (w.in-Some-false.is ∙ ap Some w.in-Some-false.field-0-test)))
-      | in-None w ↦
-          rw (w.first-is, w.or-first.ensures, w.count-is) (walk_undecided (values_in c.args.map.now) c.args.list.now
-          c.loop-variable.variable-index c.variable-item.result c.loop-variable-test.true c.variable-item.is
-          c.loop-variable.first c.loop-variable.count c.loop-variable.invariant (sym c.value.ensures ∙ w.in-None.is))
-    ]
-
-pub returns-in-Some : goal.returns-in-Some
-returns-in-Some g c =
-    sym (walk_end (values_in c.args.map.now) c.args.set c.args.list.now c.loop-variable.variable-index
-    c.loop-variable.first c.loop-variable.count c.loop-variable-test.false c.loop-variable.invariant
-    ∙ ap (λ o. walked c.args.set o c.loop-variable.count) c.in-Some.is)
-
-pub returns-in-None-first : goal.returns-in-None-first
-returns-in-None-first g c =
-    sym (walk_end (values_in c.args.map.now) c.args.set c.args.list.now c.loop-variable.variable-index
-    c.loop-variable.first c.loop-variable.count c.loop-variable-test.false c.loop-variable.invariant
-    ∙ ap (λ o. walked c.args.set o c.loop-variable.count) c.in-None-first.is)
+pub returns-in-Met : goal.returns-in-Met
+returns-in-Met g c =
+    let val = values_in c.args.decisions.now in
+    let list = c.args.list.now in
+    let x = c.variable-item.result in
+    let state = c.loop-variable.state in
+    let rest = drop (c.loop-variable.variable-index + 1) list in
+    let behind : drop c.loop-variable.variable-index list ≡ x ∷ rest =
+    drop_more list c.loop-variable.variable-index x c.loop-variable-test.true ∙ ap (λ y. y ∷ rest) (sym c.variable-item.is) in
+    let next : c.with_row-state.result ≡ with_row state (val x) (record { set = c.args.set; variable = x }) =
+    c.with_row-state.ensures ∙ ap (λ v. with_row state v (record { set = c.args.set; variable = x })) c.value.ensures in
+    met-whole val (with_rows val c.args.state (list_rows c.args.set list)) c.with_row-state.result (list_rows c.args.set rest)
+    c.in-Met.is
+    (ap (λ s. with_rows val s (list_rows c.args.set rest)) next
+    ∙ (sym (ap (λ l. with_rows val state (list_rows c.args.set l)) behind) ∙ c.loop-variable.invariant.left))

@@ -8,5 +8,5 @@ use Rattle.resolvo_queue.proofs.decide_queue.DecideQueue.decide.Given as goal
 
 abbrev pub invariant-loop-parent : goal.invariant-loop-parent
 invariant-loop-parent g l =
-    answer_of (values_in l.map) (loaded_rows l.lists) (scan l.self)
-    ≡ or_later l.answer (left (values_in l.map) (loaded_rows l.lists) (clauses_of l.self) l.parent-items l.parent-index)
+    answer_of (values_in l.map) (loaded_rows (g.I.Interner.catalogue l.interner) l.lists) (scan l.self)
+    ≡ or_later l.answer (left (values_in l.map) (loaded_rows (g.I.Interner.catalogue l.interner) l.lists) (clauses_of l.self) l.parent-items l.parent-index)
