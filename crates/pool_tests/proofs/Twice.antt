@@ -17,7 +17,7 @@ module _ (texts : List (List ℕ)) (text : List ℕ) where
   text_stands =
       let s = stands bytes_eq text itself texts in
       kept bytes_eq text itself (interned bytes_eq texts text) (interned_place bytes_eq texts text) text
-        (s.1 ∙ ap (λ k. Some k) (sym ((bytes_eq-Decides text s.0).0 s.2)))
+      (s.1 ∙ ap (λ k. Some k) (sym ((bytes_eq-Decides text s.0).0 s.2)))
 
   pub place_within : interned_place bytes_eq texts text < length (interned bytes_eq (interned bytes_eq texts text) text)
   place_within = slice_get_within (interned bytes_eq (interned bytes_eq texts text) text) (interned_place bytes_eq texts text) text text_stands

@@ -21,8 +21,14 @@ fn strings_and_names_stand_once(rt: HostRuntime) -> Result<(), Fail> {
     assert_eq!(rt; (a.into_raw(), b.into_raw(), again.into_raw()), (0, 1, 0));
     assert!(rt; pool.knows_name(b) && !pool.knows_name(NameId::from_raw(2)));
     assert_eq!(rt; pool.resolve_package_name(b).as_str(), "b");
-    assert_eq!(rt; pool.lookup_package_name(&String::from_str(alloc, "b")?), Some(b));
-    assert_eq!(rt; pool.lookup_package_name(&String::from_str(alloc, "c")?), None);
+    assert_eq!(rt;
+        pool.lookup_package_name(&String::from_str(alloc, "b")?),
+        Some(b)
+    );
+    assert_eq!(rt;
+        pool.lookup_package_name(&String::from_str(alloc, "c")?),
+        None
+    );
     let mut out = String::from_str(alloc, "name ")?;
     b.display(&pool, &mut out)?;
     assert_eq!(rt; out.as_str(), "name b");
@@ -46,7 +52,10 @@ fn solvables_and_unions_are_new_each_time(rt: HostRuntime) -> Result<(), Fail> {
     let second = pool.intern_version_set_union(set, &[set, set])?;
     assert_eq!(rt; (first.0, second.0), (0, 1));
     assert!(rt; pool.knows_union(second));
-    assert_eq!(rt; pool.resolve_version_set_union(second), [set, set, set].as_slice());
+    assert_eq!(rt;
+        pool.resolve_version_set_union(second),
+        [set, set, set].as_slice()
+    );
     Ok(())
 }
 
