@@ -19,8 +19,7 @@ pub fn interns_once<VS: VersionSet + Drop, N: Eq + Hash + Drop, A: Allocator + C
 {
     let id = pool.intern_string(first)?;
     let again = pool.intern_string(second)?;
-    if !pool.knows_string(id) {
-        return Ok(false);
-    }
-    Ok(id == again && pool.resolve_string(id) == text)
+    let stands = pool.resolve_string(id) == text;
+    let is_same = id == again;
+    Ok(is_same && stands)
 }

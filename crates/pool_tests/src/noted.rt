@@ -2,8 +2,8 @@
 use resolvo_pool::VersionSet;
 
 /// A key with a note, which `==` doesn't read.
-#[derive(Drop, Debug)]
-#[derive_where(PartialEq, Eq, Hash)]
+#[derive(Drop)]
+#[derive_where(Debug, PartialEq, Eq, Hash)]
 pub(crate) struct Noted {
     pub(crate) key: u32,
     #[derive_where(skip)]
@@ -15,6 +15,6 @@ impl VersionSet for Noted {
 }
 
 /// The key with this note.
-pub(crate) fn noted(key: u32, note: u32) -> Noted {
+pub(crate) fn with_note(key: u32, note: u32) -> Noted {
     Noted { key, note }
 }

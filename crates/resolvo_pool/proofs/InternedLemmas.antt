@@ -1,5 +1,6 @@
 -- Lists in which equal values stand once, where their values are seen in another way.
-use Rattle.std.proofs.Common.{◌≡◌, Bool, true, false, not, cond, ◌||◌, List, [], ◌∷◌, ◌++◌, ◌+◌, map, refl, ap, ◌∙◌}
+use Rattle.std.proofs.Common.{◌≡◌, ℕ, zero, suc, Bool, true, false, not, cond, ◌||◌, List, [], ◌∷◌, ◌++◌, ◌+◌, map, Some, refl, ap, arith, add_comm, add-one, ◌∙◌}
+use Rattle.std.specs.Prelude.{slice_get}
 use Rattle.std.proofs.lemmas.List.{map-append}
 use Rattle.resolvo_pool.specs.Interned.{has_same, interned, interned_place}
 
@@ -38,3 +39,46 @@ module _ {X : Type 0} (eq same : X → X → Bool) (agree : (x y : X) → eq x y
 
   pub interned_by_test : (xs : List X) (x : X) → interned eq xs x ≡ interned same xs x
   interned_by_test xs x = ap (λ b. cond b xs (xs ++ x ∷ [])) (has_by_test xs x)
+
+-- what an interned value gets
+module _ {X : Type 0} (same : X → X → Bool) (x : X) (itself : same x x ≡ true) where
+  place_push : (list : List X) → interned_place same (list ++ x ∷ []) x ≡ interned_place same list x
+  place_push [] = ap (λ b. cond (not b) 1 0) itself
+  place_push (k ∷ ks) = ap (λ n. cond (not (same x k)) (1 + n) 0) (place_push ks)
+
+  place_either : (b : Bool) (list : List X) → interned_place same (cond b list (list ++ x ∷ [])) x ≡ interned_place same list x
+  place_either true list = refl
+  place_either false list = place_push list
+
+  -- the second time it has the same place
+  pub place_again : (list : List X) → interned_place same (interned same list x) x ≡ interned_place same list x
+  place_again list = place_either (has_same same list x) list
+
+  -- an equal value stands at the place
+  abbrev pub StandsAt : ℕ → List X → Type 0
+  StandsAt place list = (k : X) × (slice_get list place ≡ Some k) × (same x k ≡ true)
+
+  stands_behind : (b : Bool) (k : X) (ks : List X) (place : ℕ) → StandsAt place (cond b ks (ks ++ x ∷ [])) → StandsAt (suc place) (cond b (k ∷ ks) (k ∷ ks ++ x ∷ []))
+  stands_behind true k ks place h = h
+  stands_behind false k ks place h = h
+
+  pub stands : (list : List X) → StandsAt (interned_place same list x) (interned same list x)
+  stands [] = (x, refl, itself)
+  stands (k ∷ ks) =
+      elim (same x k) as (λ b. same x k ≡ b → StandsAt (cond (not b) (1 + interned_place same ks x) 0) (cond (b || has_same same ks x) (k ∷ ks) (k ∷ ks ++ x ∷ []))) [
+        | true ↦ λ h. (k, refl, h)
+        | false ↦ λ h. rw (add_comm 1 (interned_place same ks x), add-one) (stands_behind (has_same same ks x) k ks (interned_place same ks x) (stands ks))
+      ] refl
+
+  kept_push : (list : List X) (place : ℕ) (k : X) → slice_get list place ≡ Some k → slice_get (list ++ x ∷ []) place ≡ Some k
+  kept_push [] place k h = absurd (grind arith)
+  kept_push (y ∷ ys) zero k h = h
+  kept_push (y ∷ ys) (suc place) k h = kept_push ys place k h
+
+  kept_either : (b : Bool) (list : List X) (place : ℕ) (k : X) → slice_get list place ≡ Some k → slice_get (cond b list (list ++ x ∷ [])) place ≡ Some k
+  kept_either true list place k h = h
+  kept_either false list place k h = kept_push list place k h
+
+  -- what stood at a place stands there
+  pub kept : (list : List X) (place : ℕ) (k : X) → slice_get list place ≡ Some k → slice_get (interned same list x) place ≡ Some k
+  kept list = kept_either (has_same same list x) list
