@@ -86,10 +86,13 @@ fn obey_commands<W: Write>(
         lines,
         before,
     } = commands;
-    match ClauseStore::new(alloc, packages) {
-        Ok(mut store) => obey_lines(&mut store, lines, before, waiting, writer),
-        Err(_) => Err(ScriptFault::Memory),
-    }
+    let mut store = match ClauseStore::new(alloc, packages) {
+        Ok(store) => store,
+        Err(_) => return Err(ScriptFault::Memory),
+    };
+    let ended = obey_lines(&mut store, lines, before, waiting, writer);
+    drop(store);
+    ended
 }
 
 /// Obeys the lines in turn, before which so many stand.
