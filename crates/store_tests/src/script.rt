@@ -40,6 +40,18 @@ fn range(name: u32, low: u32, high: u32) -> VersionRange {
     }
 }
 
+/// The unions of a catalogue that has this one alone.
+fn one_union<A: Allocator + Copy>(
+    alloc: A,
+    sets: Vec<VersionSetId, A>,
+) -> Result<Vec<Vec<VersionSetId, A>, A>, AllocError> {
+    let mut unions = Vec::new(alloc);
+    match unions.push(sets) {
+        Ok(()) => Ok(unions),
+        Err(_) => Err(AllocError),
+    }
+}
+
 /// The decision of a candidate, where no package has a score.
 pub(crate) fn decided<A: Allocator>(
     candidate: u16,
@@ -81,7 +93,7 @@ pub(crate) fn two_packages<A: Allocator + Copy>(alloc: A) -> Result<Lists<A>, Al
     let packages = vec![in alloc; package(0, 1), package(0, 2), package(1, 1)]?;
     let ranges = vec![in alloc; range(0, 1, 3), range(1, 1, 2)]?;
     let both = vec![in alloc; VersionSetId(0), VersionSetId(1)]?;
-    let unions = vec![in alloc; both]?;
+    let unions = one_union(alloc, both)?;
     Ok(Lists {
         packages,
         ranges,
@@ -178,7 +190,7 @@ pub(crate) fn set_twice<A: Allocator + Copy>(alloc: A) -> Result<Lists<A>, Alloc
     let packages = vec![in alloc; package(0, 1), package(0, 2)]?;
     let ranges = vec![in alloc; range(0, 1, 3)]?;
     let twice = vec![in alloc; VersionSetId(0), VersionSetId(0)]?;
-    let unions = vec![in alloc; twice]?;
+    let unions = one_union(alloc, twice)?;
     Ok(Lists {
         packages,
         ranges,
