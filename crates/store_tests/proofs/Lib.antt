@@ -1,3 +1,4 @@
 pub mod ExampleProofs
 pub mod ListedLemmas
+pub mod LoadLaws
 pub mod PlayLaws

@@ -53,8 +53,8 @@ module _ {N S : Type 0} where
   -- where there are, it may lack ids
   rows_lack : (st : Store N S) (c : Command S) → has_too_many_rows st c ≡ true → lacks_ids st c ≡ true
   rows_lack st (Load r) many =
-      rows_among (is_none (lists_of st r)) (nat_lt (2 ^ 31 - 1) (length (origins_loaded st r))) (nat_le (2 ^ 40) (length (flat_map (candidates_of st) (sets_of r))))
-      (list_any st.provider.is_large_solvable (flat_map (candidates_of st) (sets_of r))) many
+      rows_among (is_none (lists_of st r)) (nat_lt (2 ^ 31 - 1) (length (origins_loaded st r))) (nat_le (2 ^ 40) (length (flat_map (candidates_of st) (sets_of st.provider.catalogue r))))
+      (list_any st.provider.is_large_solvable (flat_map (candidates_of st) (sets_of st.provider.catalogue r))) many
     where
       rows_among : (a b d e : Bool) → (a && d) ≡ true → (a && (b || (d || e))) ≡ true
       rows_among a b d e h = grind (arith, h)

@@ -34,21 +34,22 @@ abbrev pub decides : ℕ → ℕ → ℕ → ℕ → Reply
 decides candidate parent clause count =
     Decided (record { candidate = candidate; required_by = parent; clause_id = clause; package_activity = 0; candidate_count = count })
 
--- ---- two packages: a decision is asked for, taken, undone, and asked for again
+-- ---- two packages: a decision is asked for, taken, undone, and asked for again; then their union is loaded
 
 abbrev pub TwoPackages : Type 0
 TwoPackages =
-    Gives (record { solvables = solvable 0 1 ∷ solvable 0 2 ∷ solvable 1 1 ∷ []; sets = range 0 1 3 ∷ range 1 1 2 ∷ [] })
+    Gives (record { solvables = solvable 0 1 ∷ solvable 0 2 ∷ solvable 1 1 ∷ []; sets = range 0 1 3 ∷ range 1 1 2 ∷ []; unions = (0 ∷ 1 ∷ []) ∷ [] })
     (Load (single 0) ∷ Load (single 1) ∷ Requires 0 (single 0) None ∷ Requires 0 (single 1) None ∷ Decide ∷
-    Assign 0 true 0 1 ∷ Decide ∷ Assign 1 true 0 2 ∷ Decide ∷ UndoUntil 1 ∷ Decide ∷ [])
+    Assign 0 true 0 1 ∷ Decide ∷ Assign 1 true 0 2 ∷ Decide ∷ UndoUntil 1 ∷ Decide ∷ Load (union 0) ∷ [])
     (LoadedAs ((1 ∷ 2 ∷ []) ∷ []) ∷ LoadedAs ((3 ∷ []) ∷ []) ∷ ClauseIs 0 false ∷ ClauseIs 1 false ∷ NoDecision ∷
-    Assigned ∷ decides 1 0 0 2 ∷ Assigned ∷ decides 3 0 1 1 ∷ Undone None ∷ decides 1 0 0 2 ∷ [])
+    Assigned ∷ decides 1 0 0 2 ∷ Assigned ∷ decides 3 0 1 1 ∷ Undone None ∷ decides 1 0 0 2 ∷
+    LoadedAs ((1 ∷ 2 ∷ []) ∷ (3 ∷ []) ∷ []) ∷ [])
 
 -- ---- refusals, and a clause that becomes falsified
 
 abbrev pub OnePackage : Type 0
 OnePackage =
-    Gives (record { solvables = solvable 0 1 ∷ solvable 0 2 ∷ []; sets = range 0 1 3 ∷ [] })
+    Gives (record { solvables = solvable 0 1 ∷ solvable 0 2 ∷ []; sets = range 0 1 3 ∷ []; unions = [] })
     (Requires 0 (single 0) None ∷ Load (single 0) ∷ Load (union 0) ∷ Requires 0 (single 0) (Some 0) ∷ Requires 0 (single 0) None ∷
     Assign 0 true 0 0 ∷ Assign 0 true 0 1 ∷ Assign 1 false 0 1 ∷ Assign 2 false 0 1 ∷ Decide ∷ UndoUntil 0 ∷ Decide ∷ [])
     (Refused NotLoaded ∷ LoadedAs ((1 ∷ 2 ∷ []) ∷ []) ∷ Refused UnknownId ∷ Refused UnknownId ∷ ClauseIs 0 false ∷
@@ -58,7 +59,7 @@ OnePackage =
 
 abbrev pub MetAndUndone : Type 0
 MetAndUndone =
-    Gives (record { solvables = solvable 0 1 ∷ []; sets = range 0 1 2 ∷ [] })
+    Gives (record { solvables = solvable 0 1 ∷ []; sets = range 0 1 2 ∷ []; unions = [] })
     (Load (single 0) ∷ Requires 0 (single 0) None ∷ Assign 0 true 0 1 ∷ Assign 1 true 0 2 ∷ Decide ∷ UndoUntil 1 ∷ Decide ∷ [])
     (LoadedAs ((1 ∷ []) ∷ []) ∷ ClauseIs 0 false ∷ Assigned ∷ Assigned ∷ NoDecision ∷ Undone None ∷ decides 1 0 0 1 ∷ [])
 
@@ -66,13 +67,13 @@ MetAndUndone =
 
 abbrev pub FalseCandidate : Type 0
 FalseCandidate =
-    Gives (record { solvables = solvable 0 1 ∷ []; sets = range 0 1 2 ∷ [] })
+    Gives (record { solvables = solvable 0 1 ∷ []; sets = range 0 1 2 ∷ []; unions = [] })
     (Load (single 0) ∷ Requires 0 (single 0) None ∷ Assign 0 true 0 1 ∷ Assign 1 false 0 1 ∷ Decide ∷ [])
     (LoadedAs ((1 ∷ []) ∷ []) ∷ ClauseIs 0 false ∷ Assigned ∷ Assigned ∷ Falsified 0 ∷ [])
 
 abbrev pub NoCandidates : Type 0
 NoCandidates =
-    Gives (record { solvables = []; sets = range 0 1 2 ∷ [] })
+    Gives (record { solvables = []; sets = range 0 1 2 ∷ []; unions = [] })
     (Load (single 0) ∷ Requires 0 (single 0) None ∷ Assign 0 true 0 1 ∷ Decide ∷ [])
     (LoadedAs ([] ∷ []) ∷ ClauseIs 0 false ∷ Assigned ∷ Falsified 0 ∷ [])
 
@@ -81,7 +82,7 @@ NoCandidates =
 
 abbrev pub FirstFalsifiedOfScan : Type 0
 FirstFalsifiedOfScan =
-    Gives (record { solvables = solvable 0 1 ∷ solvable 1 1 ∷ solvable 2 1 ∷ []; sets = range 2 1 2 ∷ range 3 1 2 ∷ [] })
+    Gives (record { solvables = solvable 0 1 ∷ solvable 1 1 ∷ solvable 2 1 ∷ []; sets = range 2 1 2 ∷ range 3 1 2 ∷ []; unions = [] })
     (Variable 0 ∷ Variable 1 ∷ Load (single 0) ∷ Load (single 1) ∷
     Requires 1 (single 0) None ∷ Requires 2 (single 1) None ∷ Requires 1 (single 1) None ∷
     Assign 1 true 0 1 ∷ Assign 2 true 0 1 ∷ Decide ∷ [])
@@ -92,11 +93,34 @@ FirstFalsifiedOfScan =
 
 abbrev pub ConflictFlag : Type 0
 ConflictFlag =
-    Gives (record { solvables = solvable 0 1 ∷ solvable 1 1 ∷ []; sets = range 1 1 2 ∷ [] })
+    Gives (record { solvables = solvable 0 1 ∷ solvable 1 1 ∷ []; sets = range 1 1 2 ∷ []; unions = [] })
     (Variable 0 ∷ Load (single 0) ∷ Requires 1 (single 0) None ∷ Assign 2 false 0 1 ∷ Requires 1 (single 0) None ∷
     Assign 1 false 0 1 ∷ Requires 1 (single 0) None ∷ Assign 1 false 0 2 ∷ Assign 1 true 0 2 ∷ [])
     (VariableIs 1 ∷ LoadedAs ((2 ∷ []) ∷ []) ∷ ClauseIs 0 false ∷ Assigned ∷ ClauseIs 1 true ∷
     Assigned ∷ ClauseIs 2 false ∷ Already ∷ Clash ∷ [])
+
+-- ---- a union that names one version set twice: its candidates stand in both lists, and each row counts
+
+abbrev pub SetTwice : Type 0
+SetTwice =
+    Gives (record { solvables = solvable 0 1 ∷ solvable 0 2 ∷ []; sets = range 0 1 3 ∷ []; unions = (0 ∷ 0 ∷ []) ∷ [] })
+    (Load (union 0) ∷ Requires 0 (union 0) None ∷ Assign 0 true 0 1 ∷ Decide ∷ Assign 1 false 0 1 ∷ Decide ∷ [])
+    (LoadedAs ((1 ∷ 2 ∷ []) ∷ (1 ∷ 2 ∷ []) ∷ []) ∷ ClauseIs 0 false ∷ Assigned ∷ decides 1 0 0 4 ∷ Assigned ∷ decides 2 0 0 2 ∷ [])
+
+-- ---- a union of two packages: one list each, in the union's order; a count is that of one of them; a clause of it is a
+-- conflict only once the candidates of all lists are false
+
+abbrev pub TwoPackagesInOne : Type 0
+TwoPackagesInOne =
+    Gives (record {
+      solvables = solvable 0 1 ∷ solvable 0 2 ∷ solvable 1 1 ∷ [];
+      sets = range 0 1 3 ∷ range 1 1 2 ∷ [];
+      unions = (1 ∷ 0 ∷ []) ∷ [];
+    })
+    (Load (union 0) ∷ Load (union 1) ∷ Requires 0 (union 0) None ∷ Assign 0 true 0 1 ∷ Decide ∷ Assign 1 false 0 1 ∷ Decide ∷
+    Requires 0 (union 0) None ∷ Assign 2 false 0 1 ∷ Assign 3 false 0 1 ∷ Requires 0 (union 0) None ∷ Decide ∷ [])
+    (LoadedAs ((1 ∷ []) ∷ (2 ∷ 3 ∷ []) ∷ []) ∷ Refused UnknownId ∷ ClauseIs 0 false ∷ Assigned ∷ decides 1 0 0 1 ∷ Assigned ∷ decides 2 0 0 2 ∷
+    ClauseIs 1 false ∷ Assigned ∷ Assigned ∷ ClauseIs 2 true ∷ Falsified 0 ∷ [])
 
 -- ---- parts of the rule that the commands can't show yet
 
@@ -147,6 +171,8 @@ pub record Examples : Type 0 where
   pub no_candidates : NoCandidates
   pub first_falsified_of_scan : FirstFalsifiedOfScan
   pub conflict_flag : ConflictFlag
+  pub set_twice : SetTwice
+  pub two_packages_in_one : TwoPackagesInOne
   pub count_of_one_set : CountOfOneSet
   pub better_offer : BetterOffer
   pub equal_count : EqualCount

@@ -1,9 +1,12 @@
 -- What a provider of plain lists answers. A package stands in its list at the place that is its number.
-use Rattle.std.specs.Prelude.{◌≡◌, ℕ, ◌<◌, ◌≤◌, ◌+◌, Bool, true, false, ◌&&◌, ◌==◌, if◌then◌else◌, nat_le, nat_lt, List, [], ◌∷◌, length, slice_index_or, All}
-use Rattle.std.specs.List.{AllByRecursion}
+use Rattle.std.specs.Prelude.{◌≡◌, ℕ, ◌<◌, ◌≤◌, ◌+◌, Bool, true, false, ◌&&◌, ◌==◌, if◌then◌else◌, nat_le, nat_lt, List, [], ◌∷◌, codes, length, slice_index_or, All}
+use Rattle.std.specs.List.{AllByRecursion, list_all}
 use Rattle.std.proofs.lemmas.List.Elements.{All-from_recursion}
-use Rattle.std.proofs.Common.{arith, rules, cond}
+use Rattle.std.proofs.Common.{arith, rules, cond, refl}
 use Rattle.resolvo_ids.specs.declared.version_set_id.VersionSetId.{VersionSetId}
+use Rattle.resolvo_ids.specs.declared.version_set_union_id.VersionSetUnionId.{VersionSetUnionId}
+use Rattle.resolvo_pool.specs.declared.condition.Condition.{Condition}
+use Rattle.resolvo_pool.specs.declared.condition.Condition.TheVariants.{Requirement}
 use Rattle.store_tests.specs.declared.lists.Package.{Package}
 use Rattle.store_tests.specs.declared.lists.VersionRange.{VersionRange}
 
@@ -20,8 +23,27 @@ package_at packages s = slice_index_or packages s (record { name = 0; version = 
 abbrev pub range_at : List VersionRange → VersionSetId → VersionRange
 range_at ranges v = slice_index_or ranges v.0 (record { name = 0; low = 0; high = 0 })
 
+-- the version sets of a union, where there is one at the place
+abbrev pub union_at : List (List VersionSetId) → VersionSetUnionId → List VersionSetId
+union_at unions u = slice_index_or unions u.0 []
+
+-- of so many version sets these are some
+abbrev pub are_known : ℕ → List VersionSetId → Bool
+are_known count sets = list_all (λ v. nat_lt v.0 count) sets
+
+-- the text of each package, and what stands for a condition where there is none
+abbrev pub every_name : List ℕ
+every_name = codes "package"
+
+abbrev pub no_condition : Condition
+no_condition = Requirement (record { 0 = 0 })
+
 abbrev pub is_within : VersionRange → ℕ → Bool
 is_within r version = nat_le r.low version && nat_lt version r.high
+
+-- nothing is known where nothing is
+pub none_known : {P : Type 0} → false ≡ true → P
+none_known h = cc
 
 -- each place is below the end of the list
 places_below : (name n end : ℕ) (ps : List Package) → n + length ps ≤ end → AllByRecursion (λ s. nat_lt s end ≡ true) (places_of name n ps)
@@ -35,3 +57,17 @@ places_below name n end (p ∷ ps) h =
 -- the places of packages in a list are within it
 pub places_known : (name : ℕ) (ps : List Package) → All (λ s. nat_lt s (length ps) ≡ true) (places_of name 0 ps)
 places_known name ps = All-from_recursion _ _ (places_below name 0 (length ps) ps (omega arith))
+
+-- so all of them are known, whatever else is known of a union
+pub unions_known : (count : ℕ) (sets : List VersionSetId) (b : Bool) → (b && are_known count sets) ≡ true → All (λ v. nat_lt v.0 count ≡ true) sets
+unions_known count sets true h = All-from_recursion _ _ (each sets h)
+  where
+    each : (vs : List VersionSetId) → are_known count vs ≡ true → AllByRecursion (λ v. nat_lt v.0 count ≡ true) vs
+    each [] k = tt
+    each (v ∷ vs) k = both (nat_lt v.0 count) refl k (each vs)
+      where
+        both : (a : Bool) → nat_lt v.0 count ≡ a → (a && are_known count vs) ≡ true → (are_known count vs ≡ true → AllByRecursion (λ w. nat_lt w.0 count ≡ true) vs)
+            → (nat_lt v.0 count ≡ true) × AllByRecursion (λ w. nat_lt w.0 count ≡ true) vs
+        both true e k rest = (e, rest k)
+        both false e k rest = none_known k
+unions_known count sets false h = none_known h

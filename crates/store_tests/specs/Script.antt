@@ -1,7 +1,9 @@
 -- A catalogue of packages, and the provider of it: names and solvables are their numbers, a higher version is preferred.
-use Rattle.std.specs.Prelude.{ℕ, Bool, false, ◌==◌, ◌&&◌, ◌||◌, if◌then◌else◌, nat_lt, nat_le, List, [], ◌∷◌, map, length, filter, fold, Option, Some, None, unwrap_or, option_map, slice_get}
+use Rattle.std.specs.Prelude.{ℕ, Bool, true, false, ◌==◌, ◌&&◌, ◌||◌, if◌then◌else◌, nat_lt, nat_le, List, [], ◌∷◌, map, length, filter, fold, Option, Some, None, unwrap_or, option_map, slice_get}
 use Rattle.std.specs.List.{enumerate_from}
+use Rattle.resolvo_ids.specs.declared.version_set_id.VersionSetId.{VersionSetId}
 use Rattle.resolvo_store.specs.Store.{Provider}
+use Rattle.store_tests.specs.Listed.{no_condition}
 
 pub record Solvable : Type 0 where
   pub name : ℕ
@@ -16,6 +18,8 @@ pub record Range : Type 0 where
 pub record Catalogue : Type 0 where
   pub solvables : List Solvable
   pub sets : List Range
+  -- the version sets of each union, by number
+  pub unions : List (List ℕ)
 
 module _ (c : Catalogue) where
   -- the solvables of a name, by number
@@ -37,6 +41,10 @@ module _ (c : Catalogue) where
   is_within None v = false
   is_within (Some r) v = nat_le r.low v && nat_lt v r.high
 
+  -- a version set by its number
+  abbrev pub set_of : ℕ → VersionSetId
+  set_of v = record { 0 = v }
+
   abbrev pub provider_of : Provider ℕ ℕ
   provider_of = record {
     same_name = λ m n. m == n;
@@ -44,9 +52,16 @@ module _ (c : Catalogue) where
     is_large_name = λ n. false;
     is_large_solvable = λ s. false;
     catalogue = record {
+      knows_string = λ s. false;
+      knows_name = λ n. true;
       knows_solvable = λ s. nat_lt s (length c.solvables);
       knows_set = λ v. nat_lt v.0 (length c.sets);
+      knows_union = λ u. nat_lt u.0 (length c.unions);
+      knows_condition = λ x. false;
+      solvable_name = λ s. unwrap_or (option_map (λ x. x.name) (slice_get c.solvables s)) 0;
       set_name = λ v. unwrap_or (option_map (λ r. r.name) (slice_get c.sets v.0)) 0;
+      union_sets = λ u. map set_of (unwrap_or (slice_get c.unions u.0) []);
+      condition = λ x. no_condition;
     };
     answers = record {
       candidates = named;

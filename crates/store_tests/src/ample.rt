@@ -1,12 +1,16 @@
 //! Each call that takes memory, once with ample memory: none of them is refused, and the answers are as wanted. (A body
 //! that always answers want of memory would meet any contract.)
+ghost use Rattle.std.specs.Prelude.{◌≡◌, []};
+
 use crate::obeys::Obeys;
 use crate::script::{clause, each_command, each_reply, one_package, single, variable};
 use crate::sparse_lists::{SparseLists, SparseName, SparseSolvable};
 use crate::stores::replies_without;
 use resolvo_clauses::{Decision, DecisionMap, DecisionTracker, VariableMap, VariableOrigin};
-use resolvo_ids::{DenseIndex, IdMap, NameId, Slot, SolvableId, SolverId, StoreError};
-use resolvo_pool::{DependencyProvider, Interner, RequirementMap};
+use resolvo_ids::{
+    DenseIndex, IdMap, NameId, Slot, SolvableId, SolverId, StoreError, VersionSetId,
+};
+use resolvo_pool::{DependencyProvider, Interner, Requirement, RequirementMap};
 use resolvo_queue::{Answer, DecideQueue};
 use resolvo_store::{ClauseStore, Command};
 use std::alloc::{Allocator, Global};
@@ -119,20 +123,29 @@ fn takes_decisions<A: Allocator + Copy>(rt: &impl Abort, trail: &mut DecisionTra
 fn the_queue_takes_clauses(rt: HostRuntime) -> Result<(), Fail> {
     let mut queue: DecideQueue<Global> = DecideQueue::new(rt.alloc());
     let mut values: DecisionMap<Global> = DecisionMap::new(rt.alloc());
-    takes_clauses(&rt, rt.alloc(), &mut queue, &mut values)
+    let provider = one_package(rt.alloc())?;
+    takes_clauses(&rt, rt.alloc(), &mut queue, &mut values, &provider)
 }
 
-fn takes_clauses<A: Allocator + Copy>(
+fn takes_clauses<I: Interner, A: Allocator + Copy>(
     rt: &impl Abort,
     heap: A,
     queue: &mut DecideQueue<A>,
     values: &mut DecisionMap<A>,
-) -> Result<(), Fail> {
-    queue.register_clause(variable(1), single(0), clause(0))?;
+    interner: &I,
+) -> Result<(), Fail>
+    requires { queue.old ≡ [] }
+{
+    let set = VersionSetId(0);
+    assert!(rt; interner.knows_version_set(set));
+    queue.register_clause(variable(1), Requirement::Single(set), clause(0))?;
     assert_eq!(rt; queue.len(), 1);
     values.set(variable(1), true, 1)?;
     let lists = RequirementMap::new(heap);
-    assert_eq!(rt; queue.decide(values, &lists), Answer::Falsified(clause(0)));
+    assert_eq!(rt;
+        queue.decide(values, &lists, interner),
+        Answer::Falsified(clause(0))
+    );
     Ok(())
 }
 

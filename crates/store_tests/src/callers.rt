@@ -1,11 +1,13 @@
 //! Callers that know nothing of the provider but its trait, and nothing of the store but its contracts.
-ghost use Rattle.std.specs.Prelude.{◌≡◌, ◌≢◌, true, Some, IfSome};
+ghost use Rattle.std.specs.Prelude.{◌≡◌, ◌≢◌, ℕ, true, List, length, Some, None, IfSome};
 ghost use Rattle.resolvo_ids.specs.declared.error.StoreError.TheVariants.{UnknownId};
+ghost use Rattle.resolvo_pool.specs.Provider.{sets_of};
 ghost use Rattle.resolvo_queue.specs.Pick.{DecidesUnbeaten};
-ghost use Rattle.resolvo_store.specs.Command.{reply_of, Refused, IsRefused};
+ghost use Rattle.resolvo_store.specs.Command.{reply_of, LoadedAs, Refused, IsRefused};
 ghost use Rattle.resolvo_store.specs.Outcome.{offers};
+ghost use Rattle.resolvo_store.specs.Store.{lists_of};
 
-use resolvo_pool::{DependencyProvider, Interner};
+use resolvo_pool::{DependencyProvider, Interner, Requirement};
 use resolvo_queue::QueueDecision;
 use resolvo_store::{AbstractStore, ClauseStore, Command, Reply};
 
@@ -29,6 +31,17 @@ pub fn unknown<D: DependencyProvider + Drop>(
     ensures same { ⟦<D as AbstractStore>⟧.store store.new ≡ ⟦<D as AbstractStore>⟧.store store.old }
 {
     store.step(&Command::Variable(solvable))
+}
+
+/// Where a requirement is loaded for the first time, what is answered is one list a version set, in particular of a union.
+pub fn load_first<D: DependencyProvider + Drop>(
+    store: &mut ClauseStore<D>,
+    requirement: Requirement,
+) -> Reply<D::Alloc>
+    requires { lists_of (⟦<D as AbstractStore>⟧.store store.old) requirement ≡ None }
+    ensures { (lists : List (List ℕ)) → reply_of result ≡ LoadedAs lists → length lists ≡ length (sets_of (D.catalogue store.old.provider) requirement) }
+{
+    store.step(&Command::Load(requirement))
 }
 
 /// Asking for a decision changes nothing.

@@ -20,7 +20,7 @@ mod stores;
 #[cfg(test)]
 mod worked;
 
-pub use callers::{ask, decides_unbeaten, obey, unknown};
+pub use callers::{ask, decides_unbeaten, load_first, obey, unknown};
 pub use computed::{examples, play_is_run};
 pub use lists::{Lists, Package, VersionRange};
 pub use sparse_lists::{SparseLists, SparseName, SparseSolvable};

@@ -1,11 +1,15 @@
 //! A provider of plain lists.
-ghost use Rattle.std.specs.Prelude.{◌≡◌, ◌<◌, ◌≤◌, ◌^◌, All, length, reverse, IfOk, IfErr, nat_lt};
+ghost use Rattle.std.specs.Prelude.{◌≡◌, ◌<◌, ◌≤◌, ◌^◌, ◌&&◌, [], true, false, All, map, length, reverse, refl, IfOk, OnOk, OnErr, IfErr, nat_lt};
 ghost use Rattle.resolvo_ids.specs.declared.error.StoreError.TheVariants.{OutOfMemory};
 ghost use Rattle.resolvo_pool.specs.Provider.{filtered};
-ghost use Rattle.store_tests.specs.Listed.{places_of, package_at, range_at, is_within};
+ghost use Rattle.resolvo_pool.specs.Texts.{IsAppended, IsSameText};
+ghost use Rattle.store_tests.specs.Listed.{places_of, package_at, range_at, union_at, are_known, is_within, every_name, no_condition};
 
-use resolvo_ids::{DenseIndex, NameId, SolvableId, StoreError, VersionSetId};
-use resolvo_pool::{DependencyProvider, Interner};
+use resolvo_ids::{
+    ConditionId, DenseIndex, NameId, SolvableId, StoreError, StringId, VersionSetId,
+    VersionSetUnionId,
+};
+use resolvo_pool::{Condition, DependencyProvider, Interner};
 use std::alloc::Allocator;
 
 /// A solvable: a version of a package. Its id is its place in the list.
@@ -23,11 +27,14 @@ pub struct VersionRange {
     pub high: u32,
 }
 
-/// Packages and version sets in lists. The later a package stands, the better.
+/// Packages, version sets and unions in lists. The later a package stands, the better. There are no strings and no
+/// conditions, and each package has the same text.
 #[derive(Drop)]
 pub struct Lists<A: Allocator> {
     pub packages: Vec<Package, A>,
     pub ranges: Vec<VersionRange, A>,
+    /// The version sets of each union, whose id is its place in the list. It is known if all of them are.
+    pub unions: Vec<Vec<VersionSetId, A>, A>,
     ghost few: { length packages.items ≤ 2 ^ 32 },
 }
 
@@ -38,11 +45,43 @@ impl<A: Allocator + Copy> Interner for Lists<A> {
 
     type SolvableId = SolvableId;
 
+    ghost use Rattle.store_tests.specs.Listed.{unions_known, none_known};
+
     ghost catalogue = { λ p. record {
+      knows_string = λ s. false;
+      knows_name = λ n. true;
       knows_solvable = λ s. nat_lt s (length p.packages.items);
       knows_set = λ v. nat_lt v.0 (length p.ranges.items);
+      knows_union = λ u. nat_lt u.0 (length p.unions.items) && are_known (length p.ranges.items) (union_at (map (λ l. l.items) p.unions.items) u);
+      knows_condition = λ c. false;
+      solvable_name = λ s. (package_at p.packages.items s).name;
       set_name = λ v. (range_at p.ranges.items v).name;
+      union_sets = λ u. union_at (map (λ l. l.items) p.unions.items) u;
+      condition = λ c. no_condition;
     } };
+
+    ghost texts = { λ p. record {
+      solvable = λ s. every_name;
+      name = λ n. every_name;
+      version_set = λ v. [];
+      string = λ s. [];
+    } };
+
+    ghost solvable_names_known = { λ p s h. refl };
+
+    ghost set_names_known = { λ p v h. refl };
+
+    ghost union_sets_known = { λ p u h. unions_known (length p.ranges.items) (union_at (map (λ l. l.items) p.unions.items) u) _ h };
+
+    ghost operands_known = { λ p c h. none_known h };
+
+    fn knows_string(&self, _string: StringId) -> bool {
+        false
+    }
+
+    fn knows_name(&self, _name: NameId) -> bool {
+        true
+    }
 
     fn knows_solvable(&self, solvable: SolvableId) -> bool {
         solvable.to_index() < self.packages.len()
@@ -52,8 +91,53 @@ impl<A: Allocator + Copy> Interner for Lists<A> {
         (set.0 as usize) < self.ranges.len()
     }
 
+    fn knows_union(&self, union: VersionSetUnionId) -> bool {
+        (union.0 as usize) < self.unions.len()
+            && all_below(sets_at(&self.unions, union), self.ranges.len())
+    }
+
+    fn knows_condition(&self, _condition: ConditionId) -> bool {
+        false
+    }
+
     fn version_set_name(&self, set: VersionSetId) -> NameId {
         self.ranges[set.0 as usize].name
+    }
+
+    fn solvable_name(&self, solvable: SolvableId) -> NameId {
+        self.packages[solvable.to_index()].name
+    }
+
+    fn version_sets_in_union(&self, union: VersionSetUnionId) -> &[VersionSetId] {
+        sets_at(&self.unions, union)
+    }
+
+    fn resolve_condition(&self, _condition: ConditionId) -> Condition {
+        unreachable!()
+    }
+
+    fn display_solvable(
+        &self,
+        _solvable: SolvableId,
+        out: &mut String<A>,
+    ) -> Result<(), StoreError> {
+        append_name(out)
+    }
+
+    fn display_name(&self, _name: NameId, out: &mut String<A>) -> Result<(), StoreError> {
+        append_name(out)
+    }
+
+    fn display_version_set(
+        &self,
+        _set: VersionSetId,
+        _out: &mut String<A>,
+    ) -> Result<(), StoreError> {
+        Ok(())
+    }
+
+    fn display_string(&self, _string: StringId, _out: &mut String<A>) -> Result<(), StoreError> {
+        Ok(())
     }
 }
 
@@ -94,6 +178,38 @@ impl<A: Allocator + Copy> DependencyProvider for Lists<A> {
     fn sort_candidates(&self, _alloc: A, solvables: &mut [SolvableId]) -> Result<(), StoreError> {
         solvables.reverse();
         Ok(())
+    }
+}
+
+/// The version sets of a union; none where there is no such union.
+fn sets_at<A: Allocator>(
+    unions: &[Vec<VersionSetId, A>],
+    union: VersionSetUnionId,
+) -> &[VersionSetId]
+    ensures { result.now ≡ union_at (map (λ l. l.items) unions.now) union }
+{
+    match unions.get(union.0 as usize) {
+        Some(sets) => sets.as_slice(),
+        None => &[],
+    }
+}
+
+/// Whether all of the version sets are among so many.
+fn all_below(sets: &[VersionSetId], count: usize) -> bool
+    ensures { result ≡ are_known count sets.now }
+{
+    sets.iter().all(|set| (set.0 as usize) < count)
+}
+
+/// Appends the text of each package.
+fn append_name<A: Allocator>(out: &mut String<A>) -> Result<(), StoreError>
+    ensures ok { OnOk result (IsAppended out.old out.new every_name) }
+    ensures err { OnErr result (IsSameText out.old out.new) }
+    ensures memory { IfErr result (λ e. e ≡ OutOfMemory) }
+{
+    match out.push_str("package") {
+        Ok(()) => Ok(()),
+        Err(_) => Err(StoreError::OutOfMemory),
     }
 }
 

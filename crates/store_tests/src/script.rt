@@ -21,6 +21,10 @@ pub(crate) fn single(set: u32) -> Requirement {
     Requirement::Single(VersionSetId(set))
 }
 
+fn union(index: u32) -> Requirement {
+    Requirement::Union(VersionSetUnionId(index))
+}
+
 fn package(name: u32, version: u32) -> Package {
     Package {
         name: NameId::from_raw(name),
@@ -33,6 +37,18 @@ fn range(name: u32, low: u32, high: u32) -> VersionRange {
         name: NameId::from_raw(name),
         low,
         high,
+    }
+}
+
+/// The unions of a catalogue that has this one alone.
+fn one_union<A: Allocator + Copy>(
+    alloc: A,
+    sets: Vec<VersionSetId, A>,
+) -> Result<Vec<Vec<VersionSetId, A>, A>, AllocError> {
+    let mut unions = Vec::new(alloc);
+    match unions.push(sets) {
+        Ok(()) => Ok(unions),
+        Err(_) => Err(AllocError),
     }
 }
 
@@ -54,24 +70,39 @@ pub(crate) fn decided<A: Allocator>(
 
 /// The reply that a requirement's one list has these variables.
 pub(crate) fn loaded(alloc: Global, variables: &[u16]) -> Result<Reply<Global>, AllocError> {
+    let lists = vec![in alloc; list_of(alloc, variables)?]?;
+    Ok(Reply::Loaded(lists))
+}
+
+/// The reply that the two lists of a union have these variables.
+fn loaded_both(alloc: Global, first: &[u16], second: &[u16]) -> Result<Reply<Global>, AllocError> {
+    let lists = vec![in alloc; list_of(alloc, first)?, list_of(alloc, second)?]?;
+    Ok(Reply::Loaded(lists))
+}
+
+fn list_of(alloc: Global, variables: &[u16]) -> Result<Vec<VariableId>, AllocError> {
     let mut list = Vec::new(alloc);
     for index in variables {
         list.push(variable(*index))?;
     }
-    let mut lists = Vec::new(alloc);
-    lists.push(list)?;
-    Ok(Reply::Loaded(lists))
+    Ok(list)
 }
 
-/// Package 0 in versions 1 and 2, package 1 in version 1, and a version set of all versions of each.
+/// Package 0 in versions 1 and 2, package 1 in version 1, a version set of all versions of each, and the union of both.
 pub(crate) fn two_packages<A: Allocator + Copy>(alloc: A) -> Result<Lists<A>, AllocError> {
     let packages = vec![in alloc; package(0, 1), package(0, 2), package(1, 1)]?;
     let ranges = vec![in alloc; range(0, 1, 3), range(1, 1, 2)]?;
-    Ok(Lists { packages, ranges })
+    let both = vec![in alloc; VersionSetId(0), VersionSetId(1)]?;
+    let unions = one_union(alloc, both)?;
+    Ok(Lists {
+        packages,
+        ranges,
+        unions,
+    })
 }
 
-/// A decision is asked for, taken, undone, and asked for again.
-pub(crate) fn two_packages_commands<S>() -> [Command<S>; 11] {
+/// A decision is asked for, taken, undone, and asked for again; then the union is loaded.
+pub(crate) fn two_packages_commands<S>() -> [Command<S>; 12] {
     [
         Command::Load(single(0)),
         Command::Load(single(1)),
@@ -84,6 +115,7 @@ pub(crate) fn two_packages_commands<S>() -> [Command<S>; 11] {
         Command::Decide,
         Command::UndoUntil(1),
         Command::Decide,
+        Command::Load(union(0)),
     ]
 }
 
@@ -100,6 +132,7 @@ pub(crate) fn two_packages_replies(alloc: Global) -> Result<Vec<Reply<Global>>, 
         decided(3, 0, 1, 1),
         Reply::Undone(None),
         decided(1, 0, 0, 2),
+        loaded_both(alloc, &[1, 2], &[3])?,
     ]?;
     Ok(replies)
 }
@@ -108,17 +141,20 @@ pub(crate) fn two_packages_replies(alloc: Global) -> Result<Vec<Reply<Global>>, 
 pub(crate) fn one_package<A: Allocator + Copy>(alloc: A) -> Result<Lists<A>, AllocError> {
     let packages = vec![in alloc; package(0, 1), package(0, 2)]?;
     let ranges = vec![in alloc; range(0, 1, 3)]?;
-    Ok(Lists { packages, ranges })
+    Ok(Lists {
+        packages,
+        ranges,
+        unions: Vec::new(alloc),
+    })
 }
 
 /// Refusals, and a clause that becomes falsified.
 pub(crate) fn one_package_commands<S>() -> [Command<S>; 12] {
-    let union = Requirement::Union(VersionSetUnionId(0));
     let disjunction = DisjunctionId::from_index(0);
     [
         Command::Requires(variable(0), single(0), None),
         Command::Load(single(0)),
-        Command::Load(union),
+        Command::Load(union(0)),
         Command::Requires(variable(0), single(0), Some(disjunction)),
         Command::Requires(variable(0), single(0), None),
         Command::Assign(variable(0), true, clause(0), 0),
@@ -145,6 +181,43 @@ pub(crate) fn one_package_replies(alloc: Global) -> Result<Vec<Reply<Global>>, A
         Reply::Falsified(clause(0)),
         Reply::Undone(None),
         Reply::NoDecision,
+    ]?;
+    Ok(replies)
+}
+
+/// Package 0 in versions 1 and 2, a version set of all of them, and a union that names it twice.
+pub(crate) fn set_twice<A: Allocator + Copy>(alloc: A) -> Result<Lists<A>, AllocError> {
+    let packages = vec![in alloc; package(0, 1), package(0, 2)]?;
+    let ranges = vec![in alloc; range(0, 1, 3)]?;
+    let twice = vec![in alloc; VersionSetId(0), VersionSetId(0)]?;
+    let unions = one_union(alloc, twice)?;
+    Ok(Lists {
+        packages,
+        ranges,
+        unions,
+    })
+}
+
+/// The union's decision, also once a candidate is false.
+pub(crate) fn set_twice_commands<S>() -> [Command<S>; 6] {
+    [
+        Command::Load(union(0)),
+        Command::Requires(variable(0), union(0), None),
+        Command::Assign(variable(0), true, clause(0), 1),
+        Command::Decide,
+        Command::Assign(variable(1), false, clause(0), 1),
+        Command::Decide,
+    ]
+}
+
+pub(crate) fn set_twice_replies(alloc: Global) -> Result<Vec<Reply<Global>>, AllocError> {
+    let replies = vec![in alloc;
+        loaded_both(alloc, &[1, 2], &[1, 2])?,
+        Reply::Clause(clause(0), false),
+        Reply::Assigned,
+        decided(1, 0, 0, 4),
+        Reply::Assigned,
+        decided(2, 0, 0, 2),
     ]?;
     Ok(replies)
 }

@@ -1,10 +1,13 @@
 //! A provider of plain lists whose ids are sparse.
-ghost use Rattle.std.specs.Prelude.{◌≡◌, IfOk, IfErr};
+ghost use Rattle.std.specs.Prelude.{◌≡◌, map, length, refl, IfOk, IfErr};
 ghost use Rattle.resolvo_ids.specs.declared.error.StoreError.TheVariants.{OutOfMemory};
 
 use crate::lists::Lists;
-use resolvo_ids::{NameId, NameTag, SolvableId, SolvableTag, SparseId, StoreError, VersionSetId};
-use resolvo_pool::{DependencyProvider, Interner};
+use resolvo_ids::{
+    ConditionId, NameId, NameTag, SolvableId, SolvableTag, SparseId, StoreError, StringId,
+    VersionSetId, VersionSetUnionId,
+};
+use resolvo_pool::{Condition, DependencyProvider, Interner};
 use std::alloc::Allocator;
 
 /// The sparse id of a name.
@@ -25,7 +28,27 @@ impl<A: Allocator + Copy> Interner for SparseLists<A> {
 
     type SolvableId = SparseSolvable;
 
+    ghost use Rattle.store_tests.specs.Listed.{union_at, unions_known, none_known};
+
     ghost catalogue = { λ p. ⟦<Lists<A> as Interner>⟧.catalogue p.0 };
+
+    ghost texts = { λ p. ⟦<Lists<A> as Interner>⟧.texts p.0 };
+
+    ghost solvable_names_known = { λ p s h. refl };
+
+    ghost set_names_known = { λ p v h. refl };
+
+    ghost union_sets_known = { λ p u h. unions_known (length p.0.ranges.items) (union_at (map (λ l. l.items) p.0.unions.items) u) _ h };
+
+    ghost operands_known = { λ p c h. none_known h };
+
+    fn knows_string(&self, string: StringId) -> bool {
+        self.0.knows_string(string)
+    }
+
+    fn knows_name(&self, name: SparseName) -> bool {
+        self.0.knows_name(dense_name(name))
+    }
 
     fn knows_solvable(&self, solvable: SparseSolvable) -> bool {
         self.0.knows_solvable(dense_solvable(solvable))
@@ -35,9 +58,52 @@ impl<A: Allocator + Copy> Interner for SparseLists<A> {
         self.0.knows_version_set(set)
     }
 
+    fn knows_union(&self, union: VersionSetUnionId) -> bool {
+        self.0.knows_union(union)
+    }
+
+    fn knows_condition(&self, condition: ConditionId) -> bool {
+        self.0.knows_condition(condition)
+    }
+
     fn version_set_name(&self, set: VersionSetId) -> SparseName {
-        let name = self.0.version_set_name(set);
-        SparseId::from_raw(name.into_raw())
+        sparse_name(self.0.version_set_name(set))
+    }
+
+    fn solvable_name(&self, solvable: SparseSolvable) -> SparseName {
+        sparse_name(self.0.solvable_name(dense_solvable(solvable)))
+    }
+
+    fn version_sets_in_union(&self, union: VersionSetUnionId) -> &[VersionSetId] {
+        self.0.version_sets_in_union(union)
+    }
+
+    fn resolve_condition(&self, condition: ConditionId) -> Condition {
+        self.0.resolve_condition(condition)
+    }
+
+    fn display_solvable(
+        &self,
+        solvable: SparseSolvable,
+        out: &mut String<A>,
+    ) -> Result<(), StoreError> {
+        self.0.display_solvable(dense_solvable(solvable), out)
+    }
+
+    fn display_name(&self, name: SparseName, out: &mut String<A>) -> Result<(), StoreError> {
+        self.0.display_name(dense_name(name), out)
+    }
+
+    fn display_version_set(
+        &self,
+        set: VersionSetId,
+        out: &mut String<A>,
+    ) -> Result<(), StoreError> {
+        self.0.display_version_set(set, out)
+    }
+
+    fn display_string(&self, string: StringId, out: &mut String<A>) -> Result<(), StoreError> {
+        self.0.display_string(string, out)
     }
 }
 
@@ -68,8 +134,7 @@ impl<A: Allocator + Copy> DependencyProvider for SparseLists<A> {
         alloc: A,
         name: SparseName,
     ) -> Result<Option<Vec<SparseSolvable, A>>, StoreError> {
-        let name = NameId::from_raw(name.into_raw());
-        match self.0.get_candidates(alloc, name)? {
+        match self.0.get_candidates(alloc, dense_name(name))? {
             Some(found) => Ok(Some(sparse_list(alloc, &found)?)),
             None => Ok(None),
         }
@@ -83,6 +148,18 @@ impl<A: Allocator + Copy> DependencyProvider for SparseLists<A> {
         solvables.reverse();
         Ok(())
     }
+}
+
+fn dense_name(name: SparseName) -> NameId
+    ensures { result ≡ name }
+{
+    NameId::from_raw(name.into_raw())
+}
+
+fn sparse_name(name: NameId) -> SparseName
+    ensures { result ≡ name }
+{
+    SparseName::from_raw(name.into_raw())
 }
 
 fn dense_solvable(solvable: SparseSolvable) -> SolvableId

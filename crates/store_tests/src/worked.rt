@@ -1,8 +1,8 @@
 //! The worked examples, by the code: each list of commands by steps, and as one run, with dense ids and with sparse
 //! ones.
 use crate::script::{
-    one_package, one_package_commands, one_package_replies, two_packages, two_packages_commands,
-    two_packages_replies,
+    one_package, one_package_commands, one_package_replies, set_twice, set_twice_commands,
+    set_twice_replies, two_packages, two_packages_commands, two_packages_replies,
 };
 use crate::sparse_lists::SparseLists;
 use crate::stores::{Way, replies_of};
@@ -133,6 +133,34 @@ fn one_package_of_sparse_ids_is_falsified_by_a_run(rt: HostRuntime) -> Result<()
         rt.alloc(),
         provider,
         &one_package_commands(),
+        Way::Run,
+        &wanted,
+    )
+}
+
+#[test]
+fn a_union_of_one_set_twice_is_decided_by_steps(rt: HostRuntime) -> Result<(), Fail> {
+    let wanted = set_twice_replies(rt.alloc())?;
+    let provider = set_twice(rt.alloc())?;
+    gives(
+        &rt,
+        rt.alloc(),
+        provider,
+        &set_twice_commands(),
+        Way::Steps,
+        &wanted,
+    )
+}
+
+#[test]
+fn a_union_over_sparse_ids_is_decided_by_a_run(rt: HostRuntime) -> Result<(), Fail> {
+    let wanted = set_twice_replies(rt.alloc())?;
+    let provider = SparseLists(set_twice(rt.alloc())?);
+    gives(
+        &rt,
+        rt.alloc(),
+        provider,
+        &set_twice_commands(),
         Way::Run,
         &wanted,
     )
