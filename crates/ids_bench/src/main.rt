@@ -1,7 +1,8 @@
-//! Measures the storage that is kept by ids, each call beside the same loop over a plain `Vec`, in one run.
+//! Measures the storage that is kept by ids, each call beside the same loop over a plain `Vec` or, where names are
+//! looked for, a `HashMap`, in one run.
 //!
 //! Without an argument it prints nothing and ends. With one it prints a line for each call and each number of values:
-//! nanoseconds a call, of the storage and of the `Vec`.
+//! nanoseconds a call, of the storage and of what stands beside it.
 #![tactic(auto)]
 
 mod arena;
@@ -9,6 +10,7 @@ mod fault;
 mod indexed_set;
 mod mapping;
 mod order;
+mod pool;
 mod report;
 mod total_map;
 
@@ -22,13 +24,14 @@ fn main(rt: HostRuntime) -> Result<(), Fault> {
     if env::args(&rt)?.count() < 2 {
         return Ok(());
     }
-    println!(rt; "| call | values | ns | ns of a Vec |")?;
+    println!(rt; "| call | values | ns | ns of a Vec or HashMap |")?;
     println!(rt; "|---|---|---|---|")?;
     for size in SIZES {
         mapping::measure(&rt, size)?;
         arena::measure(&rt, size)?;
         indexed_set::measure(&rt, size)?;
         total_map::measure(&rt, size)?;
+        pool::measure(&rt, size)?;
     }
     Ok(())
 }

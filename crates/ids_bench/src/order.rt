@@ -10,6 +10,15 @@ pub(crate) fn rounds(size: u32) -> u32 {
     CALLS.checked_div(size).unwrap_or(1)
 }
 
+/// The ids below the size, in order.
+pub(crate) fn ascending(alloc: Global, size: u32) -> Result<Vec<NameId>, AllocError> {
+    let mut ids = Vec::new(alloc);
+    for raw in 0..size {
+        ids.push(NameId::from_raw(raw))?;
+    }
+    Ok(ids)
+}
+
 /// The ids below the size, each once, in an order that jumps about (for sizes that 7919 doesn't divide).
 pub(crate) fn ids(alloc: Global, size: u32) -> Result<Vec<NameId>, AllocError> {
     let mut ids = Vec::new(alloc);

@@ -4,7 +4,7 @@ use std::rt::Clock;
 use std::time::{Duration, Instant};
 
 /// What a loop took, and the sum of what its calls answered.
-#[derive(Clone, Copy, Debug)]
+#[derive(Clone, Copy, Debug, Default)]
 pub(crate) struct Measured {
     took: Duration,
     sum: u64,
@@ -15,6 +15,14 @@ impl Measured {
     pub(crate) fn since(rt: &impl Clock, start: Instant, sum: u64) -> io::Result<Measured> {
         let took = start.elapsed(rt)?;
         Ok(Measured { took, sum })
+    }
+
+    /// Both loops, as one.
+    pub(crate) fn and(self, other: Measured) -> Measured {
+        Measured {
+            took: self.took.saturating_add(other.took),
+            sum: self.sum.wrapping_add(other.sum),
+        }
     }
 
     /// Tenths of a nanosecond a call.
