@@ -1,6 +1,8 @@
 //! Scripts and their answers, and devices that fail.
 use crate::script::script;
-use script_packages::{ScriptFault, status};
+use resolvo_ids::{VersionSetId, VersionSetUnionId};
+use resolvo_pool::{Interner, Requirement};
+use script_packages::{Packages, ScriptFault, read_catalogue, status};
 use std::alloc::Global;
 use std::io;
 use std::io::{Error, ErrorKind, Read, Write};
@@ -152,7 +154,7 @@ fn unions_are_loaded(rt: HostRuntime) -> Result<(), Fail> {
         given(UNIONS, UNIONS_ANSWER, 0),
         given(
             b"package a 1 2\npackage b 7\nset a 1 3\nset b 0 1\nset a 2 9\nunion 2 1 0\nbegin\nload u0\nload s0\nrequires 0 u0\nload u1\n",
-            b"loaded 1 - 2,1\nloaded 2,1\nclause 0\nrefused 3\n",
+            b"loaded 1 - 1,2\nloaded 1,2\nclause 0\nrefused 3\n",
             0,
         ),
         given(
@@ -163,6 +165,31 @@ fn unions_are_loaded(rt: HostRuntime) -> Result<(), Fail> {
     ];
     are_answered(&rt, &rows);
     Ok(())
+}
+
+fn have_texts(rt: &(impl Abort + AllocGlobal), packages: &Packages) -> Result<(), Fail> {
+    assert!(rt; packages.knows_version_set(VersionSetId(0)));
+    assert!(rt; packages.knows_union(VersionSetUnionId(0)));
+    let mut out = String::new(rt.alloc());
+    Requirement::Single(VersionSetId(0)).display(packages, &mut out)?;
+    assert_eq!(rt; out.as_str(), "a >=1, <3");
+    out.clear();
+    Requirement::Union(VersionSetUnionId(0)).display(packages, &mut out)?;
+    assert_eq!(rt; out.as_str(), "a >=1, <3 | a >=1, <3");
+    Ok(())
+}
+
+/// The texts of a script's requirements.
+#[test]
+fn requirements_have_texts(rt: HostRuntime) -> Result<(), Fail> {
+    match read_catalogue(rt.alloc(), UNIONS) {
+        Ok(Some(commands)) => {
+            let ended = have_texts(&rt, &commands.packages);
+            drop(commands);
+            ended
+        }
+        _ => panic!(&rt; "the catalogue has a begin"),
+    }
 }
 
 /// Unions, conditions and strings of the catalogue, and what makes such a line unreadable.
