@@ -1,5 +1,5 @@
 //! An interner of one package, whose texts stand in lists.
-ghost use Rattle.std.specs.Prelude.{◌≡◌, ◌==◌, true, false, [], length, nat_lt, codes, OnOk, OnErr, IfErr};
+ghost use Rattle.std.specs.Prelude.{◌≡◌, ◌==◌, true, [], length, nat_lt, codes, OnOk, OnErr, IfErr};
 ghost use Rattle.std.specs.List.{list_all};
 ghost use Rattle.resolvo_ids.specs.declared.error.StoreError.TheVariants.{OutOfMemory};
 ghost use Rattle.resolvo_pool.specs.Texts.{IsAppended, IsSameText};
@@ -14,7 +14,7 @@ use std::alloc::Allocator;
 use std::marker::PhantomData;
 
 /// The package `a`. The text of a solvable or of a version set stands at the place of its id, and that of a set may be
-/// empty. There is one union, of these sets.
+/// empty. There is one union, of these sets, one string, which is empty, and a condition for each set: that it is met.
 #[derive(Drop)]
 pub struct FewWords<'w, A: Allocator> {
     pub solvables: &'w [&'w str],
@@ -48,7 +48,7 @@ fn append<A: Allocator>(out: &mut String<A>, text: &str) -> Result<(), StoreErro
 
 impl<'w, A: Allocator + Copy> Interner for FewWords<'w, A> {
     ghost use Rattle.std.proofs.lemmas.List.Sums.{AllPass-from_list_all};
-    ghost use Rattle.std.proofs.Common.{refl, sym, true≢false};
+    ghost use Rattle.std.proofs.Common.{refl};
     ghost use Rattle.resolvo_pool.specs.declared.condition.Condition.TheVariants as Cond;
 
     type Alloc = A;
@@ -58,16 +58,16 @@ impl<'w, A: Allocator + Copy> Interner for FewWords<'w, A> {
     type SolvableId = SolvableId;
 
     ghost catalogue = { λ w. record {
-      knows_string = λ _. false;
+      knows_string = λ t. t.0 == 0;
       knows_name = λ _. true;
       knows_solvable = λ s. nat_lt s (length w.solvables.now);
       knows_set = λ v. nat_lt v.0 (length w.sets.now);
       knows_union = λ u. u.0 == 0;
-      knows_condition = λ _. false;
+      knows_condition = λ c. nat_lt c (length w.sets.now);
       solvable_name = λ _. 0;
       set_name = λ _. 0;
       union_sets = λ _. w.union.now;
-      condition = λ _. Cond.Requirement (record { 0 = 0 });
+      condition = λ c. Cond.Requirement (record { 0 = c });
     } };
 
     ghost texts = { λ w. record {
@@ -84,10 +84,10 @@ impl<'w, A: Allocator + Copy> Interner for FewWords<'w, A> {
     ghost union_sets_known = { λ w u h.
         AllPass-from_list_all (λ v. nat_lt v.0 (length w.sets.now)) w.union.now w.known };
 
-    ghost operands_known = { λ w c h. Prim.absurd (true≢false (sym h)) };
+    ghost operands_known = { λ w c h. h };
 
-    fn knows_string(&self, _string: StringId) -> bool {
-        false
+    fn knows_string(&self, string: StringId) -> bool {
+        string.0 == 0
     }
 
     fn knows_name(&self, _name: NameId) -> bool {
@@ -106,8 +106,8 @@ impl<'w, A: Allocator + Copy> Interner for FewWords<'w, A> {
         union.0 == 0
     }
 
-    fn knows_condition(&self, _condition: ConditionId) -> bool {
-        false
+    fn knows_condition(&self, condition: ConditionId) -> bool {
+        (condition.as_u32() as usize) < self.sets.len()
     }
 
     fn version_set_name(&self, _set: VersionSetId) -> NameId {
@@ -122,8 +122,8 @@ impl<'w, A: Allocator + Copy> Interner for FewWords<'w, A> {
         self.union
     }
 
-    fn resolve_condition(&self, _condition: ConditionId) -> Condition {
-        Condition::Requirement(VersionSetId(0))
+    fn resolve_condition(&self, condition: ConditionId) -> Condition {
+        Condition::Requirement(VersionSetId(condition.as_u32()))
     }
 
     fn display_solvable(

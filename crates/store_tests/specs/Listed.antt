@@ -31,12 +31,13 @@ union_at unions u = slice_index_or unions u.0 []
 abbrev pub are_known : ℕ → List VersionSetId → Bool
 are_known count sets = list_all (λ v. nat_lt v.0 count) sets
 
--- the text of each package, and what stands for a condition where there is none
+-- the text of each package
 abbrev pub every_name : List ℕ
 every_name = codes "package"
 
-abbrev pub no_condition : Condition
-no_condition = Requirement (record { 0 = 0 })
+-- the condition of this number: the version set of this number is met
+abbrev pub set_condition : ℕ → Condition
+set_condition n = Requirement (record { 0 = n })
 
 abbrev pub is_within : VersionRange → ℕ → Bool
 is_within r version = nat_le r.low version && nat_lt version r.high

@@ -3,7 +3,7 @@ use Rattle.std.specs.Prelude.{ℕ, Bool, true, false, ◌==◌, ◌&&◌, ◌||�
 use Rattle.std.specs.List.{enumerate_from}
 use Rattle.resolvo_ids.specs.declared.version_set_id.VersionSetId.{VersionSetId}
 use Rattle.resolvo_store.specs.Store.{Provider}
-use Rattle.store_tests.specs.Listed.{no_condition}
+use Rattle.store_tests.specs.Listed.{set_condition}
 
 pub record Solvable : Type 0 where
   pub name : ℕ
@@ -61,7 +61,7 @@ module _ (c : Catalogue) where
       solvable_name = λ s. unwrap_or (option_map (λ x. x.name) (slice_get c.solvables s)) 0;
       set_name = λ v. unwrap_or (option_map (λ r. r.name) (slice_get c.sets v.0)) 0;
       union_sets = λ u. map set_of (unwrap_or (slice_get c.unions u.0) []);
-      condition = λ x. no_condition;
+      condition = λ x. set_condition x;
     };
     answers = record {
       candidates = named;

@@ -1,9 +1,9 @@
 //! A provider of plain lists.
-ghost use Rattle.std.specs.Prelude.{◌≡◌, ◌<◌, ◌≤◌, ◌^◌, ◌&&◌, [], true, false, All, map, length, reverse, refl, IfOk, OnOk, OnErr, IfErr, nat_lt};
+ghost use Rattle.std.specs.Prelude.{◌≡◌, ◌<◌, ◌≤◌, ◌^◌, ◌==◌, ◌&&◌, [], true, All, map, length, reverse, refl, IfOk, OnOk, OnErr, IfErr, nat_lt};
 ghost use Rattle.resolvo_ids.specs.declared.error.StoreError.TheVariants.{OutOfMemory};
 ghost use Rattle.resolvo_pool.specs.Provider.{filtered};
 ghost use Rattle.resolvo_pool.specs.Texts.{IsAppended, IsSameText};
-ghost use Rattle.store_tests.specs.Listed.{places_of, package_at, range_at, union_at, are_known, is_within, every_name, no_condition};
+ghost use Rattle.store_tests.specs.Listed.{places_of, package_at, range_at, union_at, are_known, is_within, every_name, set_condition};
 
 use resolvo_ids::{
     ConditionId, DenseIndex, NameId, SolvableId, StoreError, StringId, VersionSetId,
@@ -27,8 +27,8 @@ pub struct VersionRange {
     pub high: u32,
 }
 
-/// Packages, version sets and unions in lists. The later a package stands, the better. There are no strings and no
-/// conditions, and each package has the same text.
+/// Packages, version sets and unions in lists. The later a package stands, the better. There is one string, which is
+/// empty, a condition for each version set, that it is met, and the same text for each package.
 #[derive(Drop)]
 pub struct Lists<A: Allocator> {
     pub packages: Vec<Package, A>,
@@ -45,19 +45,19 @@ impl<A: Allocator + Copy> Interner for Lists<A> {
 
     type SolvableId = SolvableId;
 
-    ghost use Rattle.store_tests.specs.Listed.{unions_known, none_known};
+    ghost use Rattle.store_tests.specs.Listed.{unions_known};
 
     ghost catalogue = { λ p. record {
-      knows_string = λ s. false;
+      knows_string = λ s. s.0 == 0;
       knows_name = λ n. true;
       knows_solvable = λ s. nat_lt s (length p.packages.items);
       knows_set = λ v. nat_lt v.0 (length p.ranges.items);
       knows_union = λ u. nat_lt u.0 (length p.unions.items) && are_known (length p.ranges.items) (union_at (map (λ l. l.items) p.unions.items) u);
-      knows_condition = λ c. false;
+      knows_condition = λ c. nat_lt c (length p.ranges.items);
       solvable_name = λ s. (package_at p.packages.items s).name;
       set_name = λ v. (range_at p.ranges.items v).name;
       union_sets = λ u. union_at (map (λ l. l.items) p.unions.items) u;
-      condition = λ c. no_condition;
+      condition = λ c. set_condition c;
     } };
 
     ghost texts = { λ p. record {
@@ -73,10 +73,10 @@ impl<A: Allocator + Copy> Interner for Lists<A> {
 
     ghost union_sets_known = { λ p u h. unions_known (length p.ranges.items) (union_at (map (λ l. l.items) p.unions.items) u) _ h };
 
-    ghost operands_known = { λ p c h. none_known h };
+    ghost operands_known = { λ p c h. h };
 
-    fn knows_string(&self, _string: StringId) -> bool {
-        false
+    fn knows_string(&self, string: StringId) -> bool {
+        string.0 == 0
     }
 
     fn knows_name(&self, _name: NameId) -> bool {
@@ -96,8 +96,8 @@ impl<A: Allocator + Copy> Interner for Lists<A> {
             && all_below(sets_at(&self.unions, union), self.ranges.len())
     }
 
-    fn knows_condition(&self, _condition: ConditionId) -> bool {
-        false
+    fn knows_condition(&self, condition: ConditionId) -> bool {
+        (condition.as_u32() as usize) < self.ranges.len()
     }
 
     fn version_set_name(&self, set: VersionSetId) -> NameId {
@@ -112,8 +112,8 @@ impl<A: Allocator + Copy> Interner for Lists<A> {
         sets_at(&self.unions, union)
     }
 
-    fn resolve_condition(&self, _condition: ConditionId) -> Condition {
-        unreachable!()
+    fn resolve_condition(&self, condition: ConditionId) -> Condition {
+        Condition::Requirement(VersionSetId(condition.as_u32()))
     }
 
     fn display_solvable(

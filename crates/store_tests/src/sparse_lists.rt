@@ -28,7 +28,7 @@ impl<A: Allocator + Copy> Interner for SparseLists<A> {
 
     type SolvableId = SparseSolvable;
 
-    ghost use Rattle.store_tests.specs.Listed.{union_at, unions_known, none_known};
+    ghost use Rattle.store_tests.specs.Listed.{union_at, unions_known};
 
     ghost catalogue = { λ p. ⟦<Lists<A> as Interner>⟧.catalogue p.0 };
 
@@ -40,7 +40,7 @@ impl<A: Allocator + Copy> Interner for SparseLists<A> {
 
     ghost union_sets_known = { λ p u h. unions_known (length p.0.ranges.items) (union_at (map (λ l. l.items) p.0.unions.items) u) _ h };
 
-    ghost operands_known = { λ p c h. none_known h };
+    ghost operands_known = { λ p c h. h };
 
     fn knows_string(&self, string: StringId) -> bool {
         self.0.knows_string(string)
