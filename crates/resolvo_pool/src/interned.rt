@@ -1,5 +1,5 @@
 //! Tables in which equal values stand once, in the order in which they came. A value's place is its id.
-ghost use Rattle.std.specs.Prelude.{◌≡◌, ◌≤◌, ◌^◌, true, false, length, min};
+ghost use Rattle.std.specs.Prelude.{◌≡◌, ◌≤◌, ◌<◌, ◌^◌, true, false, length, min};
 ghost use Rattle.std.specs.Prelude.{IsTrue, IsOk, IfOk, OnOk, IfErr, OnErr, IsErrAnd};
 ghost use Rattle.indexmap.specs.IndexSet.{index_set_len};
 ghost use Rattle.resolvo_ids.specs.declared.error.StoreError.TheVariants.{IdSpace};
@@ -20,6 +20,7 @@ pub(crate) fn intern<Id: DenseIndex, T: Eq + Hash + Drop, A: Allocator + Copy>(
     requires { index_set_len table.old ≤ min Id.limit (2 ^ 40) }
     ensures id { IfOk result (λ id. id ≡ Id.id_at (interned_place T.eq table.old.keys value)) }
     ensures ok { OnOk result (table.new.keys ≡ interned T.eq table.old.keys value) }
+    ensures within { OnOk result (interned_place T.eq table.old.keys value < length table.new.keys) }
     ensures err { OnErr result (table.new.keys ≡ table.old.keys) }
     ensures fits { index_set_len table.new ≤ min Id.limit (2 ^ 40) }
     ensures value_returned { IfErr result (λ refusal. refusal.value ≡ value) }
@@ -50,6 +51,7 @@ fn known_or_out<Id: DenseIndex, T: Eq + Hash + Drop, A: Allocator + Copy>(
     requires { index_set_len table.now ≤ min Id.limit (2 ^ 40) }
     ensures id { IfOk result (λ id. id ≡ Id.id_at (interned_place T.eq table.now.keys value)) }
     ensures found { IfOk result (λ _. has_same T.eq table.now.keys value ≡ true) }
+    ensures within { OnOk result (interned_place T.eq table.now.keys value < length table.now.keys) }
     ensures absent { OnErr result (has_same T.eq table.now.keys value ≡ false) }
     ensures refusal { IfErr result (λ refusal. refusal ≡ record { error = IdSpace; value = value }) }
 {

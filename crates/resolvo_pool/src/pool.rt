@@ -197,6 +197,7 @@ impl<VS: VersionSet + Drop, N: Eq + Hash + Drop, A: Allocator + Copy> Pool<VS, N
     pub fn intern_string(&mut self, text: String<A>) -> Result<StringId, InsertError<String<A>>>
         ensures id { IfOk result (λ id. id.0 ≡ interned_place bytes_eq self.old.strings (string_bytes text)) }
         ensures ok { OnOk result (self.new ≡ with_string self.old (string_bytes text)) }
+        ensures here { IfOk result (λ id. id.0 < length self.new.strings) }
         ensures err { OnErr result (self.new ≡ self.old) }
         ensures value_returned { IfErr result (λ refusal. refusal.value ≡ text) }
         ensures refused { IfErr result (λ refusal.
@@ -213,6 +214,7 @@ impl<VS: VersionSet + Drop, N: Eq + Hash + Drop, A: Allocator + Copy> Pool<VS, N
     pub fn intern_package_name(&mut self, name: N) -> Result<NameId, InsertError<N>>
         ensures id { IfOk result (λ id. id ≡ interned_place N.eq self.old.names name) }
         ensures ok { OnOk result (self.new ≡ with_name self.old N.eq name) }
+        ensures here { IfOk result (λ id. id < length self.new.names) }
         ensures err { OnErr result (self.new ≡ self.old) }
         ensures value_returned { IfErr result (λ refusal. refusal.value ≡ name) }
         ensures refused { IfErr result (λ refusal.
@@ -234,6 +236,7 @@ impl<VS: VersionSet + Drop, N: Eq + Hash + Drop, A: Allocator + Copy> Pool<VS, N
         requires { name < length self.old.names }
         ensures id { IfOk result (λ id. id ≡ length self.old.solvables) }
         ensures ok { OnOk result (self.new ≡ with_solvable self.old (record { name = name; payload = payload })) }
+        ensures here { IfOk result (λ id. id < length self.new.solvables) }
         ensures err { OnErr result (self.new ≡ self.old) }
         ensures value_returned { IfErr result (λ refusal. refusal.value ≡ payload) }
         ensures refused { IfErr result (λ refusal.
@@ -259,6 +262,7 @@ impl<VS: VersionSet + Drop, N: Eq + Hash + Drop, A: Allocator + Copy> Pool<VS, N
         requires { name < length self.old.names }
         ensures id { IfOk result (λ id. id.0 ≡ interned_place (same_set VS.eq) self.old.version_sets (name, set)) }
         ensures ok { OnOk result (self.new ≡ with_version_set self.old VS.eq name set) }
+        ensures here { IfOk result (λ id. id.0 < length self.new.version_sets) }
         ensures err { OnErr result (self.new ≡ self.old) }
         ensures value_returned { IfErr result (λ refusal. refusal.value ≡ set) }
         ensures refused { IfErr result (λ refusal.
@@ -289,6 +293,7 @@ impl<VS: VersionSet + Drop, N: Eq + Hash + Drop, A: Allocator + Copy> Pool<VS, N
         requires { AreSetsHere self.old (first ∷ others.now) }
         ensures id { IfOk result (λ id. id.0 ≡ length self.old.unions) }
         ensures ok { OnOk result (self.new ≡ with_union self.old (first ∷ others.now)) }
+        ensures here { IfOk result (λ id. id.0 < length self.new.unions) }
         ensures err { OnErr result (self.new ≡ self.old) }
         ensures refused { IfErr result (IsGrowthRefusal (are_ids_out (2 ^ 32) (length self.old.unions))) }
         ensures ids_out { IsTrue (are_ids_out (2 ^ 32) (length self.old.unions)) → result ≡ Err IdSpace }
@@ -309,6 +314,7 @@ impl<VS: VersionSet + Drop, N: Eq + Hash + Drop, A: Allocator + Copy> Pool<VS, N
         requires { IsMadeBelow self.old (length self.old.conditions) condition }
         ensures id { IfOk result (λ id. id ≡ interned_place same_condition self.old.conditions condition) }
         ensures ok { OnOk result (self.new ≡ with_condition self.old condition) }
+        ensures here { IfOk result (λ id. id < length self.new.conditions) }
         ensures err { OnErr result (self.new ≡ self.old) }
         ensures refused { IfErr result (IsGrowthRefusal (are_ids_out (2 ^ 32 - 1) (length self.old.conditions))) }
         ensures known { IsTrue (has_same same_condition self.old.conditions condition) → IsOk result }

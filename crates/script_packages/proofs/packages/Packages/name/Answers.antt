@@ -1,12 +1,11 @@
-use Rattle.std.proofs.Common.{◌≡◌, ◌<◌, ℕ, List, refl, ◌∙◌, ap, map, length, subst, sym}
+use Rattle.std.proofs.Common.{ℕ, List, refl, ◌∙◌, ap, map}
 use Rattle.std.specs.Str.{bytes_eq}
 use Rattle.std.specs.String.{string_bytes, string_eq}
-use Rattle.resolvo_pool.specs.Interned.{interned, interned_place}
+use Rattle.resolvo_pool.specs.Interned.{interned}
 use Rattle.resolvo_pool.specs.Pool.{Lists}
 use Rattle.resolvo_pool.proofs.InternedLemmas.{place_by_view, interned_by_view}
 use Rattle.script_packages.specs.declared.packages.VersionRange.{VersionRange}
 use Rattle.script_packages.specs.Listing.{Listing, listing_of, name_number}
-use Rattle.script_packages.proofs.Places.{place_within}
 use Rattle.script_packages.proofs.packages.Packages.name.Goals as goal
 
 pub returns-in-Ok-clause-number : goal.returns-in-Ok-clause-number
@@ -44,12 +43,3 @@ returns-in-Ok-clause-ok c =
     ap (λ (pool : Lists _ VersionRange ℕ). seen pool) c.in-Ok.ensures.ok
     ∙ ap with_names (interned_by_view string_bytes string_eq bytes_eq (λ x y. refl) p.pool.names c.in_ok-text.text
     ∙ ap (interned bytes_eq (map string_bytes p.pool.names)) c.in_ok-text.ensures.ok)
-
-pub returns-in-Ok-clause-known : goal.returns-in-Ok-clause-known
-returns-in-Ok-clause-known c =
-    let names = c.args.self.now.pool.names in
-    let text = c.in_ok-text.text in
-    let new = c.intern_package_name-interned.new.self.names in
-    let same : new ≡ interned string_eq names text = ap (λ (p : Lists _ VersionRange ℕ). p.names) c.in-Ok.ensures.ok in
-    subst (λ n. n < length new) (sym c.in-Ok.ensures.id)
-    (subst (λ ns. interned_place string_eq names text < length ns) (sym same) (place_within string_eq names text))
