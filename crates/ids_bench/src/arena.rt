@@ -10,24 +10,53 @@ use std::time::Instant;
 /// Measures `alloc` from empty on, and the index.
 pub(crate) fn measure(rt: &(impl Print + Clock + AllocGlobal), size: u32) -> Result<(), Fault> {
     let ids = ids(rt.alloc(), size)?;
-    let rounds = rounds(size);
     let mut arena: Arena<NameId, u64> = Arena::new(rt.alloc());
     let mut values: Vec<u64> = Vec::new(rt.alloc());
-    let start = Instant::now(rt)?;
-    let sum = alloc_often(&mut arena, size, rounds)?;
-    let ours = Measured::since(rt, start, sum)?;
-    let start = Instant::now(rt)?;
-    let sum = push_often(&mut values, size, rounds)?;
-    let plain = Measured::since(rt, start, sum)?;
+    measure_both(rt, &mut arena, &mut values, &ids, size)
+}
+
+/// Measures the arena beside the values, which are empty; afterwards both hold a value for each id.
+fn measure_both(
+    rt: &(impl Print + Clock + AllocGlobal),
+    arena: &mut Arena<NameId, u64>,
+    values: &mut Vec<u64>,
+    ids: &[NameId],
+    size: u32,
+) -> Result<(), Fault> {
+    let rounds = rounds(size);
+    let ours = alloc_measured(rt, arena, size, rounds)?;
+    let plain = push_measured(rt, values, size, rounds)?;
     line(rt, "Arena::alloc", size, rounds, ours, plain)?;
     let start = Instant::now(rt)?;
-    let sum = index_often(&arena, &ids, rounds);
+    let sum = index_often(arena, ids, rounds);
     let ours = Measured::since(rt, start, sum)?;
     let start = Instant::now(rt)?;
-    let sum = read_often(&values, &ids, rounds);
+    let sum = read_often(values, ids, rounds);
     let plain = Measured::since(rt, start, sum)?;
     line(rt, "Arena::index", size, rounds, ours, plain)?;
     Ok(())
+}
+
+fn alloc_measured(
+    rt: &impl Clock,
+    arena: &mut Arena<NameId, u64>,
+    size: u32,
+    rounds: u32,
+) -> Result<Measured, Fault> {
+    let start = Instant::now(rt)?;
+    let sum = alloc_often(arena, size, rounds)?;
+    Ok(Measured::since(rt, start, sum)?)
+}
+
+fn push_measured(
+    rt: &impl Clock,
+    values: &mut Vec<u64>,
+    size: u32,
+    rounds: u32,
+) -> Result<Measured, Fault> {
+    let start = Instant::now(rt)?;
+    let sum = push_often(values, size, rounds)?;
+    Ok(Measured::since(rt, start, sum)?)
 }
 
 fn alloc_often(arena: &mut Arena<NameId, u64>, size: u32, rounds: u32) -> Result<u64, StoreError> {

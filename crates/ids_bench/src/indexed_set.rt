@@ -10,21 +10,57 @@ use std::time::Instant;
 /// Measures `insert` into new sets, and `contains`.
 pub(crate) fn measure(rt: &(impl Print + Clock + AllocGlobal), size: u32) -> Result<(), Fault> {
     let ids = ids(rt.alloc(), size)?;
-    let rounds = rounds(size);
-    let start = Instant::now(rt)?;
-    let sum = insert_often(rt.alloc(), &ids, rounds)?;
-    let ours = Measured::since(rt, start, sum)?;
-    let start = Instant::now(rt)?;
-    let sum = set_often(rt.alloc(), &ids, rounds)?;
-    let plain = Measured::since(rt, start, sum)?;
-    line(rt, "IndexedSet::insert", size, rounds, ours, plain)?;
+    measure_insert(rt, &ids, size)?;
     let set = even_ids(rt.alloc(), &ids)?;
     let flags = even_flags(rt.alloc(), &ids)?;
+    measure_contains(rt, &set, &flags, &ids, size)
+}
+
+fn measure_insert(
+    rt: &(impl Print + Clock + AllocGlobal),
+    ids: &[NameId],
+    size: u32,
+) -> Result<(), Fault> {
+    let rounds = rounds(size);
+    let ours = insert_measured(rt, ids, rounds)?;
+    let plain = set_measured(rt, ids, rounds)?;
+    line(rt, "IndexedSet::insert", size, rounds, ours, plain)?;
+    Ok(())
+}
+
+fn insert_measured(
+    rt: &(impl Clock + AllocGlobal),
+    ids: &[NameId],
+    rounds: u32,
+) -> Result<Measured, Fault> {
     let start = Instant::now(rt)?;
-    let sum = contains_often(&set, &ids, rounds);
+    let sum = insert_often(rt.alloc(), ids, rounds)?;
+    Ok(Measured::since(rt, start, sum)?)
+}
+
+fn set_measured(
+    rt: &(impl Clock + AllocGlobal),
+    ids: &[NameId],
+    rounds: u32,
+) -> Result<Measured, Fault> {
+    let start = Instant::now(rt)?;
+    let sum = set_often(rt.alloc(), ids, rounds)?;
+    Ok(Measured::since(rt, start, sum)?)
+}
+
+fn measure_contains(
+    rt: &(impl Print + Clock + AllocGlobal),
+    set: &IndexedSet<NameId>,
+    flags: &[bool],
+    ids: &[NameId],
+    size: u32,
+) -> Result<(), Fault> {
+    let rounds = rounds(size);
+    let start = Instant::now(rt)?;
+    let sum = contains_often(set, ids, rounds);
     let ours = Measured::since(rt, start, sum)?;
     let start = Instant::now(rt)?;
-    let sum = read_often(&flags, &ids, rounds);
+    let sum = read_often(flags, ids, rounds);
     let plain = Measured::since(rt, start, sum)?;
     line(rt, "IndexedSet::contains", size, rounds, ours, plain)?;
     Ok(())

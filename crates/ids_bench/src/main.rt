@@ -16,6 +16,7 @@ mod total_map;
 
 use fault::Fault;
 use std::env;
+use std::rt::Clock;
 
 /// Numbers of values.
 const SIZES: [u32; 4] = [1000, 10000, 100000, 1000000];
@@ -24,14 +25,24 @@ fn main(rt: HostRuntime) -> Result<(), Fault> {
     if env::args(&rt)?.count() < 2 {
         return Ok(());
     }
+    measure_all(&rt)
+}
+
+/// Prints the table.
+fn measure_all(rt: &(impl Print + Clock + AllocGlobal)) -> Result<(), Fault> {
     println!(rt; "| call | values | ns | ns of a Vec or HashMap |")?;
     println!(rt; "|---|---|---|---|")?;
     for size in SIZES {
-        mapping::measure(&rt, size)?;
-        arena::measure(&rt, size)?;
-        indexed_set::measure(&rt, size)?;
-        total_map::measure(&rt, size)?;
-        pool::measure(&rt, size)?;
+        measure_each(rt, size)?;
     }
     Ok(())
+}
+
+/// Prints the lines of so many values.
+fn measure_each(rt: &(impl Print + Clock + AllocGlobal), size: u32) -> Result<(), Fault> {
+    mapping::measure(rt, size)?;
+    arena::measure(rt, size)?;
+    indexed_set::measure(rt, size)?;
+    total_map::measure(rt, size)?;
+    pool::measure(rt, size)
 }

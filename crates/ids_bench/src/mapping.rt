@@ -9,22 +9,54 @@ use std::time::Instant;
 /// Measures `insert` over filled slots, and `get`.
 pub(crate) fn measure(rt: &(impl Print + Clock + AllocGlobal), size: u32) -> Result<(), Fault> {
     let ids = ids(rt.alloc(), size)?;
-    let rounds = rounds(size);
     let mut mapping: Mapping<NameId, u64> = Mapping::with_capacity(rt.alloc(), ids.len())?;
     let mut values: Vec<Option<u64>> = Vec::new(rt.alloc());
+    measure_both(rt, &mut mapping, &mut values, &ids, size)
+}
+
+fn measure_both(
+    rt: &(impl Print + Clock + AllocGlobal),
+    mapping: &mut Mapping<NameId, u64>,
+    values: &mut Vec<Option<u64>>,
+    ids: &[NameId],
+    size: u32,
+) -> Result<(), Fault> {
     values.resize(ids.len(), None)?;
+    measure_insert(rt, mapping, values, ids, size)?;
+    measure_get(rt, mapping, values, ids, size)
+}
+
+fn measure_insert(
+    rt: &(impl Print + Clock + AllocGlobal),
+    mapping: &mut Mapping<NameId, u64>,
+    values: &mut [Option<u64>],
+    ids: &[NameId],
+    size: u32,
+) -> Result<(), Fault> {
+    let rounds = rounds(size);
     let start = Instant::now(rt)?;
-    let sum = insert_often(&mut mapping, &ids, rounds)?;
+    let sum = insert_often(mapping, ids, rounds)?;
     let ours = Measured::since(rt, start, sum)?;
     let start = Instant::now(rt)?;
-    let sum = replace_often(&mut values, &ids, rounds);
+    let sum = replace_often(values, ids, rounds);
     let plain = Measured::since(rt, start, sum)?;
     line(rt, "Mapping::insert", size, rounds, ours, plain)?;
+    Ok(())
+}
+
+fn measure_get(
+    rt: &(impl Print + Clock + AllocGlobal),
+    mapping: &Mapping<NameId, u64>,
+    values: &[Option<u64>],
+    ids: &[NameId],
+    size: u32,
+) -> Result<(), Fault> {
+    let rounds = rounds(size);
     let start = Instant::now(rt)?;
-    let sum = get_often(&mapping, &ids, rounds);
+    let sum = get_often(mapping, ids, rounds);
     let ours = Measured::since(rt, start, sum)?;
     let start = Instant::now(rt)?;
-    let sum = read_often(&values, &ids, rounds);
+    let sum = read_often(values, ids, rounds);
     let plain = Measured::since(rt, start, sum)?;
     line(rt, "Mapping::get", size, rounds, ours, plain)?;
     Ok(())

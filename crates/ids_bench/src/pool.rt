@@ -51,25 +51,55 @@ fn measure_known(
     let below = ascending(rt.alloc(), size)?;
     let ids = ids(rt.alloc(), size)?;
     intern_each(pool, names(rt.alloc(), &below)?)?;
-    let asked = names(rt.alloc(), &ids)?;
-    let found = get_measured(rt, &below, &asked, rounds)?;
-    let ours = intern_known(rt, pool, &ids, rounds)?;
+    measure_finding(rt, pool, &below, &ids, size, rounds)?;
+    measure_resolving(rt, pool, &below, &ids, size, rounds)
+}
+
+/// Measures the calls that are given a name.
+fn measure_finding(
+    rt: &(impl Print + Clock + AllocGlobal),
+    pool: &mut Pool<Version>,
+    below: &[NameId],
+    ids: &[NameId],
+    size: u32,
+    rounds: u32,
+) -> Result<(), Fault> {
+    let asked = names(rt.alloc(), ids)?;
+    let found = get_measured(rt, below, &asked, rounds)?;
+    let known = intern_known(rt, pool, ids, rounds)?;
+    let looked_up = lookup_measured(rt, pool, &asked, rounds)?;
     line(
         rt,
         "Pool::intern_package_name, known",
         size,
         rounds,
-        ours,
+        known,
         found,
     )?;
+    line(
+        rt,
+        "Pool::lookup_package_name",
+        size,
+        rounds,
+        looked_up,
+        found,
+    )?;
+    Ok(())
+}
+
+/// Measures the call that is given an id.
+fn measure_resolving(
+    rt: &(impl Print + Clock + AllocGlobal),
+    pool: &Pool<Version>,
+    below: &[NameId],
+    ids: &[NameId],
+    size: u32,
+    rounds: u32,
+) -> Result<(), Fault> {
     let start = Instant::now(rt)?;
-    let sum = lookup_often(pool, &asked, rounds);
+    let sum = resolve_often(pool, ids, rounds);
     let ours = Measured::since(rt, start, sum)?;
-    line(rt, "Pool::lookup_package_name", size, rounds, ours, found)?;
-    let start = Instant::now(rt)?;
-    let sum = resolve_often(pool, &ids, rounds);
-    let ours = Measured::since(rt, start, sum)?;
-    let plain = read_measured(rt, &below, &ids, rounds)?;
+    let plain = read_measured(rt, below, ids, rounds)?;
     line(rt, "Pool::resolve_package_name", size, rounds, ours, plain)?;
     Ok(())
 }
@@ -172,10 +202,21 @@ fn get_measured(
     asked: &[String],
     rounds: u32,
 ) -> Result<Measured, Fault> {
+    let names = names(rt.alloc(), below)?;
     let mut map = HashMap::new(rt.alloc());
-    insert_each(&mut map, names(rt.alloc(), below)?)?;
+    get_from_measured(rt, &mut map, names, asked, rounds)
+}
+
+fn get_from_measured(
+    rt: &impl Clock,
+    map: &mut HashMap<String, u64>,
+    names: Vec<String>,
+    asked: &[String],
+    rounds: u32,
+) -> Result<Measured, Fault> {
+    insert_each(map, names)?;
     let start = Instant::now(rt)?;
-    let sum = get_often(&map, asked, rounds);
+    let sum = get_often(map, asked, rounds);
     Ok(Measured::since(rt, start, sum)?)
 }
 
@@ -189,6 +230,17 @@ fn get_often(map: &HashMap<String, u64>, asked: &[String], rounds: u32) -> u64 {
         }
     }
     sum
+}
+
+fn lookup_measured(
+    rt: &impl Clock,
+    pool: &Pool<Version>,
+    asked: &[String],
+    rounds: u32,
+) -> Result<Measured, Fault> {
+    let start = Instant::now(rt)?;
+    let sum = lookup_often(pool, asked, rounds);
+    Ok(Measured::since(rt, start, sum)?)
 }
 
 fn lookup_often(pool: &Pool<Version>, asked: &[String], rounds: u32) -> u64 {

@@ -48,8 +48,17 @@ pub(crate) fn line(
         return println!(rt; "| {call} | {size} | the answers differ | |");
     }
     let calls = u64::from(size).saturating_mul(u64::from(rounds));
-    let ours = ours.tenths(calls);
-    let plain = plain.tenths(calls);
+    line_of_tenths(rt, call, size, ours.tenths(calls), plain.tenths(calls))
+}
+
+/// Writes the line of two loops that answered alike.
+fn line_of_tenths(
+    rt: &(impl Print + AllocGlobal),
+    call: &str,
+    size: u32,
+    ours: u128,
+    plain: u128,
+) -> io::Result<()> {
     println!(rt;
         "| {call} | {size} | {}.{} | {}.{} |",
         ours / 10,

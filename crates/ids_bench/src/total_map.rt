@@ -10,14 +10,30 @@ use std::time::Instant;
 /// Measures `set` at ascending ids, from an empty map on.
 pub(crate) fn measure(rt: &(impl Print + Clock + AllocGlobal), size: u32) -> Result<(), Fault> {
     let rounds = rounds(size);
-    let start = Instant::now(rt)?;
-    let sum = set_often(rt.alloc(), size, rounds)?;
-    let ours = Measured::since(rt, start, sum)?;
-    let start = Instant::now(rt)?;
-    let sum = push_often(rt.alloc(), size, rounds)?;
-    let plain = Measured::since(rt, start, sum)?;
+    let ours = set_measured(rt, size, rounds)?;
+    let plain = push_measured(rt, size, rounds)?;
     line(rt, "IdMap::set, ascending", size, rounds, ours, plain)?;
     Ok(())
+}
+
+fn set_measured(
+    rt: &(impl Clock + AllocGlobal),
+    size: u32,
+    rounds: u32,
+) -> Result<Measured, Fault> {
+    let start = Instant::now(rt)?;
+    let sum = set_often(rt.alloc(), size, rounds)?;
+    Ok(Measured::since(rt, start, sum)?)
+}
+
+fn push_measured(
+    rt: &(impl Clock + AllocGlobal),
+    size: u32,
+    rounds: u32,
+) -> Result<Measured, Fault> {
+    let start = Instant::now(rt)?;
+    let sum = push_often(rt.alloc(), size, rounds)?;
+    Ok(Measured::since(rt, start, sum)?)
 }
 
 fn set_often(alloc: Global, size: u32, rounds: u32) -> Result<u64, StoreError> {

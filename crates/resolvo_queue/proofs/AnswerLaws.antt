@@ -162,6 +162,12 @@ not_true None e = refl
 not_true (Some false) e = refl
 not_true (Some true) e = e
 
+-- a test for true that didn't fail
+pub is_true : (v : Option Bool) → false ≡ not (option_eq beq v (Some true)) → v ≡ Some true
+is_true None e = cc
+is_true (Some false) e = cc
+is_true (Some true) e = refl
+
 -- ---- what an answer tells of the pick where nothing is falsified
 
 pub decision_is : (f : Option RequiresClause) (best : Option Offer) (d : QueueDecision) →
