@@ -6,6 +6,7 @@
 #![tactic(auto)]
 
 mod arena;
+mod asking;
 mod fault;
 mod indexed_set;
 mod mapping;

@@ -1,7 +1,8 @@
 //! The names of a `Pool` beside a `HashMap` with the same hasher, and beside a `Vec`.
 //!
 //! A name is the eight digits of a number. The names come in by ascending numbers, and are asked for in an order that
-//! jumps about.
+//! jumps about. `crate::asking` looks for them.
+use crate::asking::measure_finding;
 use crate::fault::Fault;
 use crate::order::{ascending, ids, rounds};
 use crate::report::{Measured, line};
@@ -51,40 +52,10 @@ fn measure_known(
     let below = ascending(rt.alloc(), size)?;
     let ids = ids(rt.alloc(), size)?;
     intern_each(pool, names(rt.alloc(), &below)?)?;
-    measure_finding(rt, pool, &below, &ids, size, rounds)?;
+    let mut map = HashMap::new(rt.alloc());
+    insert_each(&mut map, names(rt.alloc(), &below)?)?;
+    measure_finding(rt, pool, &map, &ids, rounds)?;
     measure_resolving(rt, pool, &below, &ids, size, rounds)
-}
-
-/// Measures the calls that are given a name.
-fn measure_finding(
-    rt: &(impl Print + Clock + AllocGlobal),
-    pool: &mut Pool<Version>,
-    below: &[NameId],
-    ids: &[NameId],
-    size: u32,
-    rounds: u32,
-) -> Result<(), Fault> {
-    let asked = names(rt.alloc(), ids)?;
-    let found = get_measured(rt, below, &asked, rounds)?;
-    let known = intern_known(rt, pool, ids, rounds)?;
-    let looked_up = lookup_measured(rt, pool, &asked, rounds)?;
-    line(
-        rt,
-        "Pool::intern_package_name, known",
-        size,
-        rounds,
-        known,
-        found,
-    )?;
-    line(
-        rt,
-        "Pool::lookup_package_name",
-        size,
-        rounds,
-        looked_up,
-        found,
-    )?;
-    Ok(())
 }
 
 /// Measures the call that is given an id.
@@ -105,7 +76,7 @@ fn measure_resolving(
 }
 
 /// The names whose numbers these are.
-fn names(alloc: Global, ids: &[NameId]) -> Result<Vec<String>, Fault> {
+pub(crate) fn names(alloc: Global, ids: &[NameId]) -> Result<Vec<String>, Fault> {
     let mut names = Vec::new(alloc);
     for id in ids {
         let name = format!(in alloc; "{:08}", id.into_raw())?;
@@ -128,21 +99,6 @@ fn intern_new(rt: &(impl Clock + AllocGlobal), size: u32, rounds: u32) -> Result
     Ok(total)
 }
 
-/// Asks for all names each round, by names that are made before, which is not measured.
-fn intern_known(
-    rt: &(impl Clock + AllocGlobal),
-    pool: &mut Pool<Version>,
-    ids: &[NameId],
-    rounds: u32,
-) -> Result<Measured, Fault> {
-    let mut total = Measured::default();
-    for _ in 0..rounds {
-        let names = names(rt.alloc(), ids)?;
-        total = total.and(intern_measured(rt, pool, names)?);
-    }
-    Ok(total)
-}
-
 fn intern_measured(
     rt: &impl Clock,
     pool: &mut Pool<Version>,
@@ -153,7 +109,7 @@ fn intern_measured(
     Ok(Measured::since(rt, start, sum)?)
 }
 
-fn intern_each(pool: &mut Pool<Version>, names: Vec<String>) -> Result<u64, StoreError> {
+pub(crate) fn intern_each(pool: &mut Pool<Version>, names: Vec<String>) -> Result<u64, StoreError> {
     let mut sum: u64 = 0;
     for name in names {
         let id = pool.intern_package_name(name)?;
@@ -193,66 +149,6 @@ fn insert_each(map: &mut HashMap<String, u64>, names: Vec<String>) -> Result<u64
         next = next.wrapping_add(1);
     }
     Ok(sum)
-}
-
-/// Fills a map, and measures `get`.
-fn get_measured(
-    rt: &(impl Clock + AllocGlobal),
-    below: &[NameId],
-    asked: &[String],
-    rounds: u32,
-) -> Result<Measured, Fault> {
-    let names = names(rt.alloc(), below)?;
-    let mut map = HashMap::new(rt.alloc());
-    get_from_measured(rt, &mut map, names, asked, rounds)
-}
-
-fn get_from_measured(
-    rt: &impl Clock,
-    map: &mut HashMap<String, u64>,
-    names: Vec<String>,
-    asked: &[String],
-    rounds: u32,
-) -> Result<Measured, Fault> {
-    insert_each(map, names)?;
-    let start = Instant::now(rt)?;
-    let sum = get_often(map, asked, rounds);
-    Ok(Measured::since(rt, start, sum)?)
-}
-
-fn get_often(map: &HashMap<String, u64>, asked: &[String], rounds: u32) -> u64 {
-    let mut sum: u64 = 0;
-    for _ in 0..rounds {
-        for name in asked {
-            if let Some(value) = map.get(name) {
-                sum = sum.wrapping_add(*value);
-            }
-        }
-    }
-    sum
-}
-
-fn lookup_measured(
-    rt: &impl Clock,
-    pool: &Pool<Version>,
-    asked: &[String],
-    rounds: u32,
-) -> Result<Measured, Fault> {
-    let start = Instant::now(rt)?;
-    let sum = lookup_often(pool, asked, rounds);
-    Ok(Measured::since(rt, start, sum)?)
-}
-
-fn lookup_often(pool: &Pool<Version>, asked: &[String], rounds: u32) -> u64 {
-    let mut sum: u64 = 0;
-    for _ in 0..rounds {
-        for name in asked {
-            if let Some(id) = pool.lookup_package_name(name) {
-                sum = sum.wrapping_add(u64::from(id.into_raw()));
-            }
-        }
-    }
-    sum
 }
 
 fn resolve_often(pool: &Pool<Version>, ids: &[NameId], rounds: u32) -> u64 {
