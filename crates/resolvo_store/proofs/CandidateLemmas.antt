@@ -1,12 +1,10 @@
 -- Candidates of version sets.
-use Rattle.std.proofs.Common.{◌≡◌, true, List}
+use Rattle.std.proofs.Common.{◌≡◌, Bool, true, List}
 use Rattle.std.specs.Prelude.{All}
 use Rattle.std.proofs.lemmas.List.Elements.{All-filter}
-use Rattle.resolvo_ids.specs.declared.version_set_id.VersionSetId.{VersionSetId}
-use Rattle.resolvo_pool.specs.Provider.{Catalogue, Answers, matching}
+use Rattle.resolvo_pool.specs.Provider.{filtered}
 
--- what a version set holds is known, where all candidates are
-pub matching_known : {N S : Type 0} (c : Catalogue N S) (a : Answers N S) (v : VersionSetId)
-    → ((n : N) → All (λ s. c.knows_solvable s ≡ true) (a.candidates n))
-    → (found : List S) → found ≡ matching c a v → All (λ s. c.knows_solvable s ≡ true) found
-matching_known c a v known found e = rw e (All-filter _ (λ s. c.knows_solvable s ≡ true) _ (known (c.set_name v)))
+-- what is found among known candidates is known
+pub found_known : {S : Type 0} (known test : S → Bool) (candidates all found : List S)
+    → All (λ s. known s ≡ true) all → candidates ≡ all → found ≡ filtered test Bool.false candidates → All (λ s. known s ≡ true) found
+found_known known test candidates all found h same e = rw (e, same) (All-filter _ (λ s. known s ≡ true) all h)
