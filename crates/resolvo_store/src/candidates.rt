@@ -36,6 +36,7 @@ fn matching_candidates<D: DependencyProvider>(
 ) -> Result<Vec<D::SolvableId, D::Alloc>, StoreError>
     requires { (D.catalogue provider.now).knows_set set ≡ true }
     ensures ok { IfOk result (λ list. list.items ≡ matching (D.catalogue provider.now) (D.answers provider.now) set) }
+    ensures known { IfOk result (λ list. All (λ s. (D.catalogue provider.now).knows_solvable s ≡ true) list.items) }
     ensures err { IfErr result (λ e. e ≡ OutOfMemory) }
 {
     let name = provider.version_set_name(set);

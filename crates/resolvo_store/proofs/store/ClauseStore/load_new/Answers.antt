@@ -1,4 +1,4 @@
-use Rattle.std.proofs.Common.{◌≡◌, ◌<◌, ◌^◌, ◌∙◌, Bool, sym, ap, subst, refl, length, None, map, leb, Result, Ok, Err}
+use Rattle.std.proofs.Common.{◌≡◌, ◌<◌, ◌^◌, ◌∙◌, Bool, sym, ap, subst, refl, length, take, None, map, leb, Result, Ok, Err}
 use Rattle.std.specs.Prelude.{flat_map, IfErr}
 use Rattle.std.specs.Result.{IsErrAnd}
 use Rattle.std.proofs.lemmas.List.Folds.{flat_map-map}
@@ -86,3 +86,16 @@ returns-in-Ok-clause-ok g c =
     (c.in_ok-answer.ensures.answer ∙ sym split) (c.in_ok-answer.ensures.kept ∙ sym split)
     (ap lists_kept c.in-Ok.ensures.ok ∙ insert-kept inside.loaded r c.in_ok-answer.kept new) in
     rw (← c.self.view_is) (rows-few st r c.in_ok-candidates.ensures.few, loaded.0, loaded.1)
+
+pub returns-clause-err : goal.returns-clause-err
+returns-clause-err g c =
+    let store = store_of (provided g.D.NameId.PartialEq.eq g.D.SolvableId.PartialEq.eq g.D.NameId.Scores.IdMap.is_too_large g.D.SolvableId.Slots.IdMap.is_too_large g.D.Interner.catalogue g.D.DependencyProvider.answers) in
+    let inside = c.self.inside in
+    let origins : c.forget_from.new.self ≡ inside.variables =
+    c.forget_from.ensures ∙ ap (λ n. take n c.intern_lists.new.variables) c.count-before.ensures.value ∙ c.in_ok-answer.ensures.front in
+    rw (← c.self.view_is) (
+      refl,
+      ap (λ vs. store (record { provider = inside.provider; origins = vs; loaded = lists_kept c.insert.new.self; requires = inside.queue; trail = inside.trail })) origins
+          ∙ ap (λ l. store (record { provider = inside.provider; origins = inside.variables; loaded = lists_kept l; requires = inside.queue; trail = inside.trail }))
+          c.in-Err.ensures.err.1,
+    )

@@ -1,5 +1,7 @@
-use Rattle.std.proofs.Common.{◌∙◌, rules}
-use Rattle.std.proofs.lemmas.List.{take_more, map-append}
+use Rattle.std.proofs.Common.{◌∙◌, map, subst, arith, rules}
+use Rattle.std.proofs.lemmas.List.{take_more, take_all, map-append}
+use Rattle.resolvo_store.specs.Command.{command_of, reply_of}
+use Rattle.resolvo_store.specs.Step.{Run}
 use Rattle.resolvo_store.proofs.RunLemmas.{run_more}
 use Rattle.resolvo_store.proofs.store.ClauseStore.run.Invariants.{store}
 use Rattle.resolvo_store.proofs.store.ClauseStore.run.Goals as goal
@@ -12,3 +14,11 @@ loop-command-preserved g c = record {
   len = search rules;
   room = search rules;
 }
+
+pub returns-clause-ok : goal.returns-clause-ok
+returns-clause-ok g c =
+    subst (λ cs. Run (store g c.args.self.now) (map command_of cs) (map reply_of c.loop-command.replies.items) (store g c.loop-command.self))
+    (take_all c.loop-command.command-index c.args.commands.now c.loop-command-test.false) c.loop-command.invariant.ran
+
+pub returns-clause-one_each : goal.returns-clause-one_each
+returns-clause-one_each g c = omega (arith, c.loop-command.invariant.len, c.loop-command-test.false, c.loop-command.auto.command-index-end)

@@ -1,0 +1,14 @@
+use Rattle.std.proofs.Common.{◌≡◌, ◌∙◌, Bool}
+use Rattle.std.proofs.lemmas.Result.{IfOk-weaker}
+use Rattle.resolvo_pool.specs.Provider.{filtered}
+use Rattle.resolvo_store.proofs.CandidateLemmas.{found_known}
+use Rattle.resolvo_store.proofs.candidates.matching_candidates.Goals as goal
+
+pub returns-clause-known : goal.returns-clause-known
+returns-clause-known g c =
+    let now = c.args.provider.now in
+    let matches = (g.D.DependencyProvider.answers now).matches c.args.set in
+    IfOk-weaker c.filter_candidates.result (λ list. list.items ≡ filtered matches Bool.false c.deref.result.now) _
+    (λ list. found_known (g.D.Interner.catalogue now).knows_solvable matches c.deref.result.now _ list.items
+    (g.met.D.DependencyProvider.candidates_known now c.version_set_name-name.result) (c.deref.ensures.value ∙ c.in_ok-candidates.ensures.ok))
+    c.filter_candidates.ensures.ok
