@@ -1,11 +1,12 @@
 -- The variables of solvables, while origins come and go at the end of the list.
-use Rattle.std.proofs.Common.{◌≡◌, ◌≢◌, ℕ, ◌+◌, ◌<◌, ◌==◌, Bool, true, false, cond, List, [], ◌∷◌, ◌++◌, length, Option, None, Some, refl, arith, rules, sym, ◌∙◌, ap, subst}
+use Rattle.std.proofs.Common.{◌≡◌, ◌≢◌, ℕ, ◌+◌, ◌<◌, ◌==◌, Bool, true, false, cond, IsSome, List, [], ◌∷◌, ◌++◌, length, Option, None, Some, refl, arith, rules, sym, ◌∙◌, ap, subst}
 use Rattle.std.specs.List.{position_from}
+use Rattle.std.specs.Prelude.{is_some, unwrap_or}
 use Rattle.resolvo_ids.specs.TotalMaps.{IsUpdate, SameValues}
 use Rattle.resolvo_clauses.specs.declared.variable_origin.VariableOrigin.{VariableOrigin}
 use Rattle.resolvo_clauses.specs.declared.variable_origin.VariableOrigin.TheVariants.{Solvable}
 use Rattle.resolvo_clauses.specs.Forgetting.{forgotten}
-use Rattle.resolvo_clauses.specs.Variables.{is_solvable, solvable_of, variable_of_solvable, IsRootFirst}
+use Rattle.resolvo_clauses.specs.Variables.{is_solvable, solvable_of, variable_of_solvable, interned, interned_variable, IsRootFirst, IsVariableMap}
 
 -- the first of two that is there
 abbrev pub or_else : Option ℕ → Option ℕ → Option ℕ
@@ -44,6 +45,26 @@ module _ {X : Type 0} (test : X → Bool) where
 pub root-append : {N S : Type 0} (os : List (VariableOrigin N S)) (o : VariableOrigin N S) → IsRootFirst os → IsRootFirst (os ++ o ∷ [])
 root-append [] o h = cc
 root-append (p ∷ os) o h = h
+
+-- ---- a solvable that has no variable yet
+
+-- what is absent isn't there
+pub not_known : {X : Type 0} (o : Option X) → o ≡ None → IsSome o → ⊥
+not_known None e h = search rules
+not_known (Some x) e h = cc
+
+module _ {N S : Type 0} (same : S → S → Bool) (x : S) (os : List (VariableOrigin N S)) (absent : variable_of_solvable same os x ≡ None) where
+  -- it gets the next variable, which stands at the end
+  pub interned_variable-new : interned_variable same os x ≡ length os
+  interned_variable-new = ap (λ p. unwrap_or p (length os)) absent
+
+  pub interned-new : interned same os x ≡ os ++ Solvable x ∷ []
+  interned-new = ap (λ p. cond (is_some p) os (os ++ Solvable x ∷ [])) absent
+
+-- the same values at each solvable belong to the same variables
+pub IsVariableMap-same : {N S : Type 0} (same : S → S → Bool) (f g : S → Option ℕ) (os : List (VariableOrigin N S)) → SameValues f g
+    → IsVariableMap same f os → IsVariableMap same g os
+IsVariableMap-same same f g os e m = record { agrees = λ s. e s ∙ m.agrees s; few = m.few; root_first = m.root_first }
 
 -- ---- forgetting
 
