@@ -3,7 +3,7 @@ use crate::map_callers::{clear, count_up};
 use refusing::Refusing;
 use resolvo_ids::{InsertError, StoreError, VersionSetId, VersionSetUnionId};
 use resolvo_pool::{ConditionalRequirement, Requirement, RequirementMap};
-use std::alloc::Global;
+use std::alloc::{Allocator, Global};
 use std::cell::Cell;
 use std::test::Fail;
 
@@ -12,24 +12,55 @@ fn a_map_keeps_values(rt: HostRuntime) -> Result<(), Fail> {
     let mut map: RequirementMap<u32, Global> = RequirementMap::new(rt.alloc());
     let set = Requirement::from(VersionSetId(3));
     let union = Requirement::from(VersionSetUnionId(3));
-    assert_eq!(rt; map.insert(set, 1)?, None);
-    assert_eq!(rt; map.insert(set, 6)?, Some(1));
-    count_up(&mut map, set)?;
-    count_up(&mut map, union)?;
-    assert_eq!(rt; map.get(set).copied(), Some(7));
-    clear(&mut map, set);
-    clear(&mut map, Requirement::default());
-    for (requirement, value) in [
-        (set, Some(0)),
-        (union, Some(1)),
-        (Requirement::default(), None),
-    ] {
-        assert_eq!(rt; map.get(requirement).copied(), value);
-    }
-    if map.get(union).is_some() {
-        assert_eq!(rt; map[union], 1);
-    }
+    let counted = counted(&mut map, set, union);
+    let kept = kept_once_cleared(&mut map, set, union);
+    drop(map);
+    assert_eq!(rt; counted?, [None, Some(1), Some(7)]);
+    assert_eq!(rt; kept, [Some(0), Some(1), None, Some(1)]);
     Ok(())
+}
+
+/// What a new map answers to two values of a set, and what it keeps of the set once it is counted, and so is the union.
+fn counted<A: Allocator + Copy>(
+    map: &mut RequirementMap<u32, A>,
+    set: Requirement,
+    union: Requirement,
+) -> Result<[Option<u32>; 3], Fail> {
+    let earlier = map.insert(set, 1)?;
+    let later = map.insert(set, 6)?;
+    count_up(map, set)?;
+    count_up(map, union)?;
+    Ok([earlier, later, map.get(set).copied()])
+}
+
+/// What a map keeps of a set, a union and a requirement that it doesn't have, once the first and the last are cleared, and
+/// at the union's place.
+fn kept_once_cleared<A: Allocator + Copy>(
+    map: &mut RequirementMap<u32, A>,
+    set: Requirement,
+    union: Requirement,
+) -> [Option<u32>; 4] {
+    let absent = Requirement::default();
+    clear(map, set);
+    clear(map, absent);
+    [
+        map.get(set).copied(),
+        map.get(union).copied(),
+        map.get(absent).copied(),
+        at_place(map, union),
+    ]
+}
+
+/// What a map has in a requirement's place, if it has one.
+fn at_place<A: Allocator + Copy>(
+    map: &RequirementMap<u32, A>,
+    requirement: Requirement,
+) -> Option<u32> {
+    if map.get(requirement).is_some() {
+        Some(map[requirement])
+    } else {
+        None
+    }
 }
 
 #[test]

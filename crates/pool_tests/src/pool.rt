@@ -1,43 +1,51 @@
 //! The pool with ample memory: none of its calls is refused, and the answers are as wanted.
+ghost use Rattle.std.specs.Prelude.{◌<◌, length};
+
 use crate::callers::interns_once;
 use crate::noted::{Noted, with_note};
 use resolvo_ids::{NameId, StringId, VersionSetId};
 use resolvo_pool::{Condition, NameText, Pool};
+use std::alloc::Global;
 use std::process::Abort;
 use std::test::Fail;
 
-fn strings(rt: &(impl Abort + AllocGlobal), pool: &mut Pool<Noted>) -> Result<(), Fail> {
-    let alloc = rt.alloc();
+/// The ids of two strings, of which the first comes again.
+fn strings(alloc: Global, pool: &mut Pool<Noted>) -> Result<[StringId; 3], Fail> {
     let a = pool.intern_string(String::from_str(alloc, "a")?)?;
     let b = pool.intern_string(String::from_str(alloc, "b")?)?;
     let again = pool.intern_string(String::from_str(alloc, "a")?)?;
-    assert_eq!(rt; (a.0, b.0, again.0), (0, 1, 0));
-    assert!(rt; pool.knows_string(b) && !pool.knows_string(StringId(2)));
-    assert_eq!(rt; pool.resolve_string(b), "b");
-    Ok(())
+    Ok([a, b, again])
 }
 
-fn names(rt: &(impl Abort + AllocGlobal), pool: &mut Pool<Noted>) -> Result<(), Fail> {
-    let alloc = rt.alloc();
+/// Whether the string is of the pool and has this text.
+fn is_string(pool: &Pool<Noted>, string: StringId, text: &str) -> bool {
+    pool.knows_string(string) && pool.resolve_string(string) == text
+}
+
+/// The ids of two names, of which the first comes again.
+fn names(alloc: Global, pool: &mut Pool<Noted>) -> Result<[NameId; 3], Fail> {
     let a = pool.intern_package_name(String::from_str(alloc, "a")?)?;
     let b = pool.intern_package_name(String::from_str(alloc, "b")?)?;
     let again = pool.intern_package_name(String::from_str(alloc, "a")?)?;
-    assert_eq!(rt; (a.into_raw(), b.into_raw(), again.into_raw()), (0, 1, 0));
-    assert!(rt; pool.knows_name(b) && !pool.knows_name(NameId::from_raw(2)));
-    assert_eq!(rt; pool.resolve_package_name(b).as_str(), "b");
-    let mut out = String::from_str(alloc, "name ")?;
-    b.display(pool, &mut out)?;
-    assert_eq!(rt; out.as_str(), "name b");
-    Ok(())
+    Ok([a, b, again])
 }
 
-fn looked_up(rt: &(impl Abort + AllocGlobal), pool: &Pool<Noted>) -> Result<(), Fail> {
-    let alloc = rt.alloc();
+/// Whether the name is of the pool, is this text, and is written so behind what is there.
+fn is_name(alloc: Global, pool: &Pool<Noted>, name: NameId, text: &str) -> Result<bool, Fail> {
+    if !pool.knows_name(name) {
+        return Ok(false);
+    }
+    let mut out = String::from_str(alloc, "name ")?;
+    name.display(pool, &mut out)?;
+    let is_written = out.strip_prefix("name ") == Some(text);
+    Ok(is_written && pool.resolve_package_name(name).as_str() == text)
+}
+
+/// The ids of a name that is there and of one that isn't.
+fn looked_up(alloc: Global, pool: &Pool<Noted>) -> Result<[Option<NameId>; 2], Fail> {
     let b = String::from_str(alloc, "b")?;
     let c = String::from_str(alloc, "c")?;
-    assert_eq!(rt; pool.lookup_package_name(&b), Some(NameId::from_raw(1)));
-    assert_eq!(rt; pool.lookup_package_name(&c), None);
-    Ok(())
+    Ok([pool.lookup_package_name(&b), pool.lookup_package_name(&c)])
 }
 
 #[test]
@@ -49,9 +57,23 @@ fn strings_and_names_stand_once(rt: HostRuntime) -> Result<(), Fail> {
 }
 
 fn strings_and_names(rt: &(impl Abort + AllocGlobal), pool: &mut Pool<Noted>) -> Result<(), Fail> {
-    strings(rt, pool)?;
-    names(rt, pool)?;
-    looked_up(rt, pool)
+    strings_stand_once(rt, pool)?;
+    names_stand_once(rt, pool)
+}
+
+fn strings_stand_once(rt: &(impl Abort + AllocGlobal), pool: &mut Pool<Noted>) -> Result<(), Fail> {
+    let [a, b, again] = strings(rt.alloc(), pool)?;
+    assert_eq!(rt; (a.0, b.0, again.0), (0, 1, 0));
+    assert!(rt; is_string(pool, b, "b") && !pool.knows_string(StringId(2)));
+    Ok(())
+}
+
+fn names_stand_once(rt: &(impl Abort + AllocGlobal), pool: &mut Pool<Noted>) -> Result<(), Fail> {
+    let [a, b, again] = names(rt.alloc(), pool)?;
+    assert_eq!(rt; (a.into_raw(), b.into_raw(), again.into_raw()), (0, 1, 0));
+    assert!(rt; is_name(rt.alloc(), pool, b, "b")? && !pool.knows_name(NameId::from_raw(2)));
+    assert_eq!(rt; looked_up(rt.alloc(), pool)?, [Some(b), None]);
+    Ok(())
 }
 
 fn solvables(rt: &impl Abort, pool: &mut Pool<Noted, u32>, name: NameId) -> Result<(), Fail> {
@@ -124,15 +146,37 @@ fn first_names(rt: &impl Abort, pool: &mut Pool<Noted, Noted>) -> Result<(), Fai
 fn first_sets(rt: &impl Abort, pool: &mut Pool<Noted, Noted>) -> Result<(), Fail> {
     let (name, other) = (NameId::from_raw(0), NameId::from_raw(1));
     assert!(rt; pool.knows_name(name) && pool.knows_name(other));
+    let [first, second, third] = sets(pool, name, other)?;
+    assert_eq!(rt; (first.0, second.0, third.0), (0, 1, 0));
+    assert_eq!(rt; note_of(pool, first), Some((1, name)));
+    assert_eq!(rt; note_of(pool, second), Some((2, other)));
+    assert!(rt; !pool.knows_version_set(VersionSetId(2)));
+    Ok(())
+}
+
+/// The ids of a set of two names, which comes again with the first.
+fn sets(
+    pool: &mut Pool<Noted, Noted>,
+    name: NameId,
+    other: NameId,
+) -> Result<[VersionSetId; 3], Fail>
+    requires name { name < length pool.old.names }
+    requires other { other < length pool.old.names }
+{
     let first = pool.intern_version_set(name, with_note(5, 1))?;
     let second = pool.intern_version_set(other, with_note(5, 2))?;
     let third = pool.intern_version_set(name, with_note(5, 3))?;
-    assert_eq!(rt; (first.0, second.0, third.0), (0, 1, 0));
-    assert!(rt; pool.knows_version_set(first) && pool.knows_version_set(second));
-    assert!(rt; !pool.knows_version_set(VersionSetId(2)));
-    assert_eq!(rt; pool.resolve_version_set(first).note, 1);
-    assert_eq!(rt; pool.resolve_version_set_package_name(second).into_raw(), 1);
-    Ok(())
+    Ok([first, second, third])
+}
+
+/// The note of a version set of the pool, and its package's name.
+fn note_of(pool: &Pool<Noted, Noted>, set: VersionSetId) -> Option<(u32, NameId)> {
+    if pool.knows_version_set(set) {
+        let name = pool.resolve_version_set_package_name(set);
+        Some((pool.resolve_version_set(set).note, name))
+    } else {
+        None
+    }
 }
 
 fn first_of_equals(rt: &impl Abort, pool: &mut Pool<Noted, Noted>) -> Result<(), Fail> {
