@@ -1,4 +1,5 @@
-use Rattle.std.proofs.Common.{◌≡◌, ◌∙◌, Bool}
+use Rattle.std.proofs.Common.{◌≡◌, ◌∙◌, Bool, true}
+use Rattle.std.specs.Prelude.{All}
 use Rattle.std.proofs.lemmas.Result.{IfOk-weaker}
 use Rattle.resolvo_pool.specs.Provider.{filtered}
 use Rattle.resolvo_store.proofs.CandidateLemmas.{found_known}
@@ -7,8 +8,10 @@ use Rattle.resolvo_store.proofs.candidates.matching_candidates.Goals as goal
 pub returns-clause-known : goal.returns-clause-known
 returns-clause-known g c =
     let now = c.args.provider.now in
+    let known = (g.D.Interner.catalogue now).knows_solvable in
     let matches = (g.D.DependencyProvider.answers now).matches c.args.set in
-    IfOk-weaker c.filter_candidates.result (λ list. list.items ≡ filtered matches Bool.false c.deref.result.now) _
-    (λ list. found_known (g.D.Interner.catalogue now).knows_solvable matches c.deref.result.now _ list.items
-    (g.met.D.DependencyProvider.candidates_known now c.version_set_name-name.result) (c.deref.ensures.value ∙ c.in_ok-candidates.ensures.ok))
+    let name = c.version_set_name-name.result in
+    IfOk-weaker c.filter_candidates.result (λ list. list.items ≡ filtered matches Bool.false c.deref.result.now) (λ list. All (λ s. known s ≡ true) list.items)
+    (λ list. found_known known matches c.deref.result.now ((g.D.DependencyProvider.answers now).candidates name) list.items
+    (g.met.D.DependencyProvider.candidates_known now name) (c.deref.ensures.value ∙ c.in_ok-candidates.ensures.ok))
     c.filter_candidates.ensures.ok

@@ -1,4 +1,4 @@
-use Rattle.std.proofs.Common.{◌∙◌, map, subst, arith, rules}
+use Rattle.std.proofs.Common.{◌∙◌, ◌+◌, ap, map, subst, arith, rules}
 use Rattle.std.proofs.lemmas.List.{take_more, take_all, map-append}
 use Rattle.resolvo_store.specs.Command.{command_of, reply_of}
 use Rattle.resolvo_store.specs.Step.{Run}
@@ -11,7 +11,7 @@ loop-command-preserved g c = record {
   ran = rw (take_more c.args.commands.now c.loop-command.command-index c.command-item.result c.loop-command-test.true, ← c.command-item.is, c.in-Ok-push.ensures.items)
       (simp map-append (run_more (store g c.args.self.now) (store g c.loop-command.self) _ _ _ _ _ c.loop-command.invariant.ran c.step-reply.ensures.step));
   provider = c.step-reply.ensures.provider ∙ c.loop-command.invariant.provider;
-  len = search rules;
+  len = c.in-Ok-push.ensures.len ∙ ap (λ n. n + 1) c.loop-command.invariant.len;
   room = search rules;
 }
 
