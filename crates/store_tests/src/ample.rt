@@ -2,91 +2,124 @@
 //! that always answers want of memory would meet any contract.)
 ghost use Rattle.std.specs.Prelude.{◌≡◌, []};
 
-use crate::obeys::Obeys;
-use crate::script::{clause, each_command, each_reply, one_package, single, variable};
-use crate::sparse_lists::{SparseLists, SparseName, SparseSolvable};
-use crate::stores::replies_without;
-use resolvo_clauses::{Decision, DecisionMap, DecisionTracker, VariableMap, VariableOrigin};
-use resolvo_ids::{
-    DenseIndex, IdMap, NameId, Slot, SolvableId, SolverId, StoreError, VersionSetId,
+use crate::script::{EACH_WANTED, clause, each_command, one_package, single, variable};
+use crate::sparse_lists::SparseSolvable;
+use crate::stores::{Way, dense_gives, sparse_gives};
+use resolvo_clauses::{
+    AddFault, Decision, DecisionMap, DecisionTracker, VariableMap, VariableOrigin,
 };
-use resolvo_pool::{DependencyProvider, Interner, Requirement, RequirementMap};
+use resolvo_ids::{
+    DenseIndex, IdMap, NameId, Slot, SolvableId, SolverId, StoreError, VariableId, VersionSetId,
+};
+use resolvo_pool::{Interner, Requirement, RequirementMap};
 use resolvo_queue::{Answer, DecideQueue};
-use resolvo_store::{ClauseStore, Command};
 use std::alloc::{Allocator, Global};
-use std::process::Abort;
 use std::test::Fail;
 
 #[test]
 fn total_maps_keep_numbers(rt: HostRuntime) -> Result<(), Fail> {
     let mut map: Vec<u64> = IdMap::<NameId, u64, Global>::new(rt.alloc());
-    IdMap::<NameId, u64, Global>::set(&mut map, NameId::from_raw(5), 4)?;
-    IdMap::<NameId, u64, Global>::make_room(&mut map, NameId::from_raw(9))?;
-    for (name, value) in [(5, 4), (9, 0), (70, 0)] {
-        let kept = IdMap::<NameId, u64, Global>::get(&map, NameId::from_raw(name));
-        assert_eq!(rt; kept, value, "of name {name}");
-    }
+    let names = [
+        NameId::from_raw(5),
+        NameId::from_raw(9),
+        NameId::from_raw(70),
+    ];
+    let kept = kept_numbers(&mut map, names);
+    drop(map);
+    assert_eq!(rt; kept?, [4, 0, 0]);
     Ok(())
+}
+
+/// The numbers that a map keeps at three keys, of which the first is written, and there is room at the second.
+fn kept_numbers<K: Copy, A: Allocator + Copy, M: IdMap<K, u64, A>>(
+    map: &mut M,
+    keys: [K; 3],
+) -> Result<[u64; 3], StoreError> {
+    let [first, second, third] = keys;
+    map.set(first, 4)?;
+    map.make_room(second)?;
+    Ok([map.get(first), map.get(second), map.get(third)])
 }
 
 #[test]
 fn total_maps_keep_slots(rt: HostRuntime) -> Result<(), Fail> {
-    let first = SolvableId::from_raw(1);
     let mut slots: Vec<Slot> = IdMap::<SolvableId, Slot, Global>::new(rt.alloc());
-    IdMap::<SolvableId, Slot, Global>::set(&mut slots, first, Slot::new(Some(7)))?;
-    let slot = IdMap::<SolvableId, Slot, Global>::get(&slots, first);
-    assert_eq!(rt; slot.number(), Some(7));
+    let kept = kept_slot(&mut slots, SolvableId::from_raw(1), Slot::new(Some(7)));
+    drop(slots);
+    assert_eq!(rt; kept?.number(), Some(7));
     Ok(())
+}
+
+/// What a map keeps of a slot.
+fn kept_slot<K: Copy, A: Allocator + Copy, M: IdMap<K, Slot, A>>(
+    slots: &mut M,
+    key: K,
+    slot: Slot,
+) -> Result<Slot, StoreError> {
+    slots.set(key, slot)?;
+    Ok(slots.get(key))
 }
 
 #[test]
 fn requirement_maps_keep_the_later_value(rt: HostRuntime) -> Result<(), Fail> {
     let mut map: RequirementMap<u32, Global> = RequirementMap::new(rt.alloc());
-    for (set, value, earlier) in [(3, 1, None), (4, 2, None), (3, 5, Some(1))] {
-        assert_eq!(rt; map.insert(single(set), value)?, earlier);
-    }
-    for (set, value) in [(3, Some(5)), (9, None)] {
-        assert_eq!(rt; map.get(single(set)).copied(), value);
-    }
+    let earlier = earlier_values(&mut map);
+    let kept = [map.get(single(3)).copied(), map.get(single(9)).copied()];
+    drop(map);
+    assert_eq!(rt; earlier?, [None, None, Some(1)]);
+    assert_eq!(rt; kept, [Some(5), None]);
     Ok(())
+}
+
+/// What a new map answers to three values, of which the last has the first one's requirement.
+fn earlier_values<A: Allocator + Copy>(
+    map: &mut RequirementMap<u32, A>,
+) -> Result<[Option<u32>; 3], Fail> {
+    let first = map.insert(single(3), 1)?;
+    let other = map.insert(single(4), 2)?;
+    Ok([first, other, map.insert(single(3), 5)?])
 }
 
 #[test]
 fn variables_count_up(rt: HostRuntime) -> Result<(), Fail> {
-    let mut variables: VariableMap<NameId, SolvableId, Global> = VariableMap::new(rt.alloc())?;
-    count_up(
-        &rt,
-        &mut variables,
-        SolvableId::from_raw(8),
-        SolvableId::from_raw(2),
-    )
+    let (first, second) = (SolvableId::from_raw(8), SolvableId::from_raw(2));
+    let seen = new_variables_seen::<NameId, _, Global>(rt.alloc(), first, second)?;
+    assert_eq!(rt; seen.0, [variable(1), variable(2), variable(1)]);
+    assert_eq!(rt; seen.1, [(3, Some(variable(2))), (2, None)]);
+    Ok(())
 }
 
-fn count_up<N: Copy, S: SolverId<A>, A: Allocator + Copy>(
-    rt: &impl Abort,
+/// What is seen of variables: what each of two solvables is interned as, where the first comes again; and how many there
+/// are and the second's, before and after it is forgotten.
+type Seen = ([VariableId; 3], [(usize, Option<VariableId>); 2]);
+
+fn new_variables_seen<N: Copy, S: SolverId<A>, A: Allocator + Copy>(
+    heap: A,
+    first: S,
+    second: S,
+) -> Result<Seen, StoreError> {
+    let mut variables: VariableMap<N, S, A> = VariableMap::new(heap)?;
+    let seen = variables_seen(&mut variables, first, second);
+    drop(variables);
+    seen
+}
+
+fn variables_seen<N: Copy, S: SolverId<A>, A: Allocator + Copy>(
     variables: &mut VariableMap<N, S, A>,
     first: S,
     second: S,
-) -> Result<(), Fail> {
-    interns_as(rt, variables, first, 1)?;
-    interns_as(rt, variables, second, 2)?;
-    interns_as(rt, variables, first, 1)?;
-    assert_eq!(rt; variables.lookup_solvable(second), Some(variable(2)));
-    assert_eq!(rt; variables.count(), 3);
-    variables.forget_from(2);
-    assert_eq!(rt; variables.lookup_solvable(second), None);
-    assert_eq!(rt; variables.count(), 2);
-    Ok(())
-}
-
-fn interns_as<N: Copy, S: SolverId<A>, A: Allocator + Copy>(
-    rt: &impl Abort,
-    variables: &mut VariableMap<N, S, A>,
-    solvable: S,
-    index: u16,
-) -> Result<(), Fail> {
-    assert_eq!(rt; variables.intern_solvable(solvable)?, variable(index));
-    Ok(())
+) -> Result<Seen, StoreError> {
+    let interned = [
+        variables.intern_solvable(first)?,
+        variables.intern_solvable(second)?,
+        variables.intern_solvable(first)?,
+    ];
+    let before = (variables.count(), variables.lookup_solvable(second));
+    if variables.count() > 2 {
+        variables.forget_from(2);
+    }
+    let after = (variables.count(), variables.lookup_solvable(second));
+    Ok((interned, [before, after]))
 }
 
 #[test]
@@ -107,103 +140,75 @@ fn maps_of_decisions_keep_values(rt: HostRuntime) -> Result<(), Fail> {
 #[test]
 fn the_trail_takes_decisions(rt: HostRuntime) {
     let mut trail: DecisionTracker<Global> = DecisionTracker::new(rt.alloc());
-    takes_decisions(&rt, &mut trail);
+    let taken = taken(&mut trail);
+    let kept = (trail.assigned_value(variable(4)), trail.level(variable(4)));
+    drop(trail);
+    assert_eq!(rt; taken, (Ok(true), Ok(false)));
+    assert_eq!(rt; kept, (Some(true), 7));
 }
 
-fn takes_decisions<A: Allocator + Copy>(rt: &impl Abort, trail: &mut DecisionTracker<A>) {
-    for (from, level, is_new) in [(0, 7, true), (1, 9, false)] {
-        let decision = Decision::new(variable(4), true, clause(from));
-        assert_eq!(rt; trail.try_add_decision(decision, level), Ok(is_new));
-    }
-    assert_eq!(rt; trail.assigned_value(variable(4)), Some(true));
-    assert_eq!(rt; trail.level(variable(4)), 7);
+/// Whether the trail takes a decision as a new one, and the same of another clause at another level.
+fn taken<A: Allocator + Copy>(
+    trail: &mut DecisionTracker<A>,
+) -> (Result<bool, AddFault>, Result<bool, AddFault>) {
+    let first = trail.try_add_decision(Decision::new(variable(4), true, clause(0)), 7);
+    let again = trail.try_add_decision(Decision::new(variable(4), true, clause(1)), 9);
+    (first, again)
 }
 
 #[test]
 fn the_queue_takes_clauses(rt: HostRuntime) -> Result<(), Fail> {
-    let mut queue: DecideQueue<Global> = DecideQueue::new(rt.alloc());
-    let mut values: DecisionMap<Global> = DecisionMap::new(rt.alloc());
     let provider = one_package(rt.alloc())?;
-    takes_clauses(&rt, rt.alloc(), &mut queue, &mut values, &provider)
+    let answer = new_queue_answer(rt.alloc(), provider)?;
+    assert_eq!(rt; answer, Some((1, Answer::Falsified(clause(0)))));
+    Ok(())
 }
 
-fn takes_clauses<I: Interner, A: Allocator + Copy>(
-    rt: &impl Abort,
+/// How many clauses a new queue has, and what it answers, once it has one whose parent is true. None if the interner
+/// knows no version set.
+fn new_queue_answer<I: Interner + Drop, A: Allocator + Copy>(
+    heap: A,
+    interner: I,
+) -> Result<Option<(usize, Answer)>, StoreError> {
+    let mut queue: DecideQueue<A> = DecideQueue::new(heap);
+    let mut values: DecisionMap<A> = DecisionMap::new(heap);
+    let answer = queue_answer(heap, &mut queue, &mut values, &interner);
+    drop(queue);
+    drop(values);
+    drop(interner);
+    answer
+}
+
+fn queue_answer<I: Interner, A: Allocator + Copy>(
     heap: A,
     queue: &mut DecideQueue<A>,
     values: &mut DecisionMap<A>,
     interner: &I,
-) -> Result<(), Fail>
+) -> Result<Option<(usize, Answer)>, StoreError>
     requires { queue.old ≡ [] }
 {
     let set = VersionSetId(0);
-    assert!(rt; interner.knows_version_set(set));
+    if !interner.knows_version_set(set) {
+        return Ok(None);
+    }
     queue.register_clause(variable(1), Requirement::Single(set), clause(0))?;
-    assert_eq!(rt; queue.len(), 1);
     values.set(variable(1), true, 1)?;
     let lists = RequirementMap::new(heap);
-    assert_eq!(rt;
-        queue.decide(values, &lists, interner),
-        Answer::Falsified(clause(0))
-    );
-    Ok(())
+    let answer = queue.decide(values, &lists, interner);
+    drop(lists);
+    Ok(Some((queue.len(), answer)))
 }
 
 #[test]
 fn a_store_obeys_each_command(rt: HostRuntime) -> Result<(), Fail> {
-    let provider = one_package(rt.alloc())?;
+    let lists = one_package(rt.alloc())?;
     let commands = each_command(SolvableId::from_raw(0));
-    obeys_each_command(&rt, rt.alloc(), provider, NameId::from_raw(0), &commands)
+    dense_gives(&rt, lists, &commands, EACH_WANTED, Way::Steps)
 }
 
 #[test]
 fn a_store_of_sparse_ids_obeys_each_command(rt: HostRuntime) -> Result<(), Fail> {
-    let provider = SparseLists(one_package(rt.alloc())?);
+    let lists = one_package(rt.alloc())?;
     let commands = each_command(SparseSolvable::from_raw(0));
-    obeys_each_command(
-        &rt,
-        rt.alloc(),
-        provider,
-        SparseName::from_raw(0),
-        &commands,
-    )
-}
-
-fn obeys_each_command<D: DependencyProvider + Drop>(
-    rt: &(impl Abort + AllocGlobal),
-    heap: D::Alloc,
-    provider: D,
-    name: D::NameId,
-    commands: &[Command<D::SolvableId>],
-) -> Result<(), Fail> {
-    let mut store = ClauseStore::new(heap, provider)?;
-    gives_each_reply(rt, heap, &mut store, name, commands)
-}
-
-fn gives_each_reply<N, S: Copy, A: Allocator, T: Obeys<N, S, A>>(
-    rt: &(impl Abort + AllocGlobal),
-    heap: A,
-    store: &mut T,
-    name: N,
-    commands: &[Command<S>],
-) -> Result<(), Fail> {
-    assert_eq!(rt; candidate_count(heap, store, name)?, 2);
-    let wanted = each_reply(rt.alloc())?;
-    let replies = replies_without(rt.alloc(), store, commands, commands.len())?;
-    assert_eq!(rt; replies.as_slice(), wanted.as_slice());
-    assert_eq!(rt; store.value_of(variable(0)), Some(true));
-    assert_eq!(rt; store.value_of(variable(2)), None);
-    assert_eq!(rt; store.falsified_clause(), None);
-    Ok(())
-}
-
-fn candidate_count<N, S: Copy, A: Allocator, T: Obeys<N, S, A>>(
-    heap: A,
-    store: &T,
-    name: N,
-) -> Result<usize, StoreError> {
-    match store.candidates(heap, name)? {
-        Some(list) => Ok(list.len()),
-        None => Ok(0),
-    }
+    sparse_gives(&rt, lists, &commands, EACH_WANTED, Way::Steps)
 }

@@ -18,6 +18,8 @@ mod sparse_lists;
 #[cfg(test)]
 mod stores;
 #[cfg(test)]
+mod wanted;
+#[cfg(test)]
 mod worked;
 
 pub use callers::{ask, decides_unbeaten, load_first, obey, unknown};

@@ -1,13 +1,13 @@
 //! What the tests share: two catalogues, their commands, and the replies that are wanted.
 use crate::lists::{Lists, Package, VersionRange};
+use crate::wanted::{Wanted, WantedDecision, WantedPlay};
 use resolvo_ids::{
     ClauseId, DenseIndex, DisjunctionId, NameId, StoreError, VariableId, VersionSetId,
     VersionSetUnionId,
 };
 use resolvo_pool::Requirement;
-use resolvo_queue::QueueDecision;
-use resolvo_store::{Command, Reply};
-use std::alloc::{AllocError, Allocator, Global};
+use resolvo_store::Command;
+use std::alloc::{AllocError, Allocator};
 
 pub(crate) fn variable(index: u16) -> VariableId {
     VariableId::from_index(index as usize)
@@ -52,42 +52,6 @@ fn one_union<A: Allocator + Copy>(
     }
 }
 
-/// The decision of a candidate, where no package has a score.
-pub(crate) fn decided<A: Allocator>(
-    candidate: u16,
-    parent: u16,
-    clause_index: u16,
-    count: usize,
-) -> Reply<A> {
-    Reply::Decided(QueueDecision {
-        candidate: variable(candidate),
-        required_by: variable(parent),
-        clause_id: clause(clause_index),
-        package_activity: 0,
-        candidate_count: count,
-    })
-}
-
-/// The reply that a requirement's one list has these variables.
-pub(crate) fn loaded(alloc: Global, variables: &[u16]) -> Result<Reply<Global>, AllocError> {
-    let lists = vec![in alloc; list_of(alloc, variables)?]?;
-    Ok(Reply::Loaded(lists))
-}
-
-/// The reply that the two lists of a union have these variables.
-fn loaded_both(alloc: Global, first: &[u16], second: &[u16]) -> Result<Reply<Global>, AllocError> {
-    let lists = vec![in alloc; list_of(alloc, first)?, list_of(alloc, second)?]?;
-    Ok(Reply::Loaded(lists))
-}
-
-fn list_of(alloc: Global, variables: &[u16]) -> Result<Vec<VariableId>, AllocError> {
-    let mut list = Vec::new(alloc);
-    for index in variables {
-        list.push(variable(*index))?;
-    }
-    Ok(list)
-}
-
 /// Package 0 in versions 1 and 2, package 1 in version 1, a version set of all versions of each, and the union of both.
 pub(crate) fn two_packages<A: Allocator + Copy>(alloc: A) -> Result<Lists<A>, AllocError> {
     let packages = vec![in alloc; package(0, 1), package(0, 2), package(1, 1)]?;
@@ -119,23 +83,38 @@ pub(crate) fn two_packages_commands<S>() -> [Command<S>; 12] {
     ]
 }
 
-pub(crate) fn two_packages_replies(alloc: Global) -> Result<Vec<Reply<Global>>, AllocError> {
-    let replies = vec![in alloc;
-        loaded(alloc, &[1, 2])?,
-        loaded(alloc, &[3])?,
-        Reply::Clause(clause(0), false),
-        Reply::Clause(clause(1), false),
-        Reply::NoDecision,
-        Reply::Assigned,
-        decided(1, 0, 0, 2),
-        Reply::Assigned,
-        decided(3, 0, 1, 1),
-        Reply::Undone(None),
-        decided(1, 0, 0, 2),
-        loaded_both(alloc, &[1, 2], &[3])?,
-    ]?;
-    Ok(replies)
-}
+pub(crate) const TWO_PACKAGES_WANTED: WantedPlay = WantedPlay {
+    replies: &[
+        Wanted::Loaded(&[&[1, 2]]),
+        Wanted::Loaded(&[&[3]]),
+        Wanted::Clause(0),
+        Wanted::Clause(1),
+        Wanted::NoDecision,
+        Wanted::Assigned,
+        Wanted::Decided(WantedDecision {
+            candidate: 1,
+            parent: 0,
+            clause: 0,
+            count: 2,
+        }),
+        Wanted::Assigned,
+        Wanted::Decided(WantedDecision {
+            candidate: 3,
+            parent: 0,
+            clause: 1,
+            count: 1,
+        }),
+        Wanted::Undone,
+        Wanted::Decided(WantedDecision {
+            candidate: 1,
+            parent: 0,
+            clause: 0,
+            count: 2,
+        }),
+        Wanted::Loaded(&[&[1, 2], &[3]]),
+    ],
+    root: Some(true),
+};
 
 /// Package 0 in versions 1 and 2, and a version set of all of them.
 pub(crate) fn one_package<A: Allocator + Copy>(alloc: A) -> Result<Lists<A>, AllocError> {
@@ -167,23 +146,23 @@ pub(crate) fn one_package_commands<S>() -> [Command<S>; 12] {
     ]
 }
 
-pub(crate) fn one_package_replies(alloc: Global) -> Result<Vec<Reply<Global>>, AllocError> {
-    let replies = vec![in alloc;
-        Reply::Refused(StoreError::NotLoaded),
-        loaded(alloc, &[1, 2])?,
-        Reply::Refused(StoreError::UnknownId),
-        Reply::Refused(StoreError::UnknownId),
-        Reply::Clause(clause(0), false),
-        Reply::Refused(StoreError::LevelOutOfRange),
-        Reply::Assigned,
-        Reply::Assigned,
-        Reply::Assigned,
-        Reply::Falsified(clause(0)),
-        Reply::Undone(None),
-        Reply::NoDecision,
-    ]?;
-    Ok(replies)
-}
+pub(crate) const ONE_PACKAGE_WANTED: WantedPlay = WantedPlay {
+    replies: &[
+        Wanted::Refused(StoreError::NotLoaded),
+        Wanted::Loaded(&[&[1, 2]]),
+        Wanted::Refused(StoreError::UnknownId),
+        Wanted::Refused(StoreError::UnknownId),
+        Wanted::Clause(0),
+        Wanted::Refused(StoreError::LevelOutOfRange),
+        Wanted::Assigned,
+        Wanted::Assigned,
+        Wanted::Assigned,
+        Wanted::Falsified(0),
+        Wanted::Undone,
+        Wanted::NoDecision,
+    ],
+    root: None,
+};
 
 /// Package 0 in versions 1 and 2, a version set of all of them, and a union that names it twice.
 pub(crate) fn set_twice<A: Allocator + Copy>(alloc: A) -> Result<Lists<A>, AllocError> {
@@ -210,17 +189,27 @@ pub(crate) fn set_twice_commands<S>() -> [Command<S>; 6] {
     ]
 }
 
-pub(crate) fn set_twice_replies(alloc: Global) -> Result<Vec<Reply<Global>>, AllocError> {
-    let replies = vec![in alloc;
-        loaded_both(alloc, &[1, 2], &[1, 2])?,
-        Reply::Clause(clause(0), false),
-        Reply::Assigned,
-        decided(1, 0, 0, 4),
-        Reply::Assigned,
-        decided(2, 0, 0, 2),
-    ]?;
-    Ok(replies)
-}
+pub(crate) const SET_TWICE_WANTED: WantedPlay = WantedPlay {
+    replies: &[
+        Wanted::Loaded(&[&[1, 2], &[1, 2]]),
+        Wanted::Clause(0),
+        Wanted::Assigned,
+        Wanted::Decided(WantedDecision {
+            candidate: 1,
+            parent: 0,
+            clause: 0,
+            count: 4,
+        }),
+        Wanted::Assigned,
+        Wanted::Decided(WantedDecision {
+            candidate: 2,
+            parent: 0,
+            clause: 0,
+            count: 2,
+        }),
+    ],
+    root: Some(true),
+};
 
 /// Each command that succeeds over one package, but for an undo; a requirement is loaded twice.
 pub(crate) fn each_command<S>(first: S) -> [Command<S>; 6] {
@@ -234,57 +223,19 @@ pub(crate) fn each_command<S>(first: S) -> [Command<S>; 6] {
     ]
 }
 
-pub(crate) fn each_reply(alloc: Global) -> Result<Vec<Reply<Global>>, AllocError> {
-    let replies = vec![in alloc;
-        Reply::Variable(variable(1)),
-        loaded(alloc, &[2, 1])?,
-        loaded(alloc, &[2, 1])?,
-        Reply::Clause(clause(0), false),
-        Reply::Assigned,
-        decided(2, 0, 0, 2),
-    ]?;
-    Ok(replies)
-}
-
-/// The same replies, kept elsewhere.
-pub(crate) fn copy_of_all<A: Allocator>(
-    alloc: Global,
-    replies: &[Reply<A>],
-) -> Result<Vec<Reply<Global>>, AllocError> {
-    let mut copies = Vec::new(alloc);
-    for reply in replies {
-        copies.push(copy_of(alloc, reply)?)?;
-    }
-    Ok(copies)
-}
-
-/// The same reply, kept elsewhere.
-pub(crate) fn copy_of<A: Allocator>(
-    alloc: Global,
-    reply: &Reply<A>,
-) -> Result<Reply<Global>, AllocError> {
-    Ok(match reply {
-        Reply::Variable(variable) => Reply::Variable(*variable),
-        Reply::Loaded(lists) => Reply::Loaded(copy_of_lists(alloc, lists)?),
-        Reply::Clause(clause, conflict) => Reply::Clause(*clause, *conflict),
-        Reply::Assigned => Reply::Assigned,
-        Reply::Already => Reply::Already,
-        Reply::Clash => Reply::Clash,
-        Reply::Undone(last) => Reply::Undone(*last),
-        Reply::Decided(decision) => Reply::Decided(*decision),
-        Reply::NoDecision => Reply::NoDecision,
-        Reply::Falsified(clause) => Reply::Falsified(*clause),
-        Reply::Refused(e) => Reply::Refused(*e),
-    })
-}
-
-fn copy_of_lists<A: Allocator>(
-    alloc: Global,
-    lists: &[Vec<VariableId, A>],
-) -> Result<Vec<Vec<VariableId>>, AllocError> {
-    let mut copies = Vec::new(alloc);
-    for list in lists {
-        copies.push(Vec::from_slice(alloc, list)?)?;
-    }
-    Ok(copies)
-}
+pub(crate) const EACH_WANTED: WantedPlay = WantedPlay {
+    replies: &[
+        Wanted::Variable(1),
+        Wanted::Loaded(&[&[2, 1]]),
+        Wanted::Loaded(&[&[2, 1]]),
+        Wanted::Clause(0),
+        Wanted::Assigned,
+        Wanted::Decided(WantedDecision {
+            candidate: 2,
+            parent: 0,
+            clause: 0,
+            count: 2,
+        }),
+    ],
+    root: Some(true),
+};

@@ -1,95 +1,151 @@
-//! New stores over any provider, and what they reply to a list of commands. They are generic in the provider, so that
-//! no proof spells out the type of a store over lists.
+//! New stores, whose replies to a list of commands are compared with those that are wanted. What is shared is generic in
+//! the provider, and only two functions name a provider of lists: a proof spells out a provider's traits wherever a call
+//! names it.
+use crate::lists::Lists;
 use crate::obeys::Obeys;
-use crate::script::{copy_of, copy_of_all};
-use refusing::Refusing;
+use crate::script::variable;
+use crate::sparse_lists::{SparseLists, SparseName, SparseSolvable};
+use crate::wanted::{Wanted, WantedPlay, is_wanted};
+use resolvo_ids::{NameId, SolvableId, StoreError};
 use resolvo_pool::{DependencyProvider, Interner};
 use resolvo_store::{ClauseStore, Command, Reply};
-use std::alloc::{AllocError, Allocator, Global};
+use std::alloc::{Allocator, Global};
+use std::process::Abort;
 use std::test::Fail;
 
 /// How a store is given commands.
 #[derive(Clone, Copy)]
-pub(crate) enum Way<'a> {
+pub(crate) enum Way {
     /// By steps.
     Steps,
-    /// By steps, but for the command at this place.
-    StepsWithout(usize),
-    /// By steps, where the request of this number is refused.
-    RefusedSteps(&'a Refusing<Global>, u64),
     /// In one run.
     Run,
-    /// In one run, where the request of this number is refused.
-    RefusedRun(&'a Refusing<Global>, u64),
 }
 
-/// What a new store replies to the commands, or none where a run is refused whole.
-pub(crate) fn replies_of<D: DependencyProvider + Drop>(
-    alloc: Global,
+/// A new store over the lists replies as wanted.
+pub(crate) fn dense_gives(
+    rt: &(impl Abort + AllocGlobal),
+    lists: Lists<Global>,
+    commands: &[Command<SolvableId>],
+    wanted: WantedPlay,
+    way: Way,
+) -> Result<(), Fail> {
+    gives(
+        rt,
+        rt.alloc(),
+        (lists, NameId::from_raw(0)),
+        commands,
+        wanted,
+        way,
+    )
+}
+
+/// A new store over the lists with sparse ids replies as wanted.
+pub(crate) fn sparse_gives(
+    rt: &(impl Abort + AllocGlobal),
+    lists: Lists<Global>,
+    commands: &[Command<SparseSolvable>],
+    wanted: WantedPlay,
+    way: Way,
+) -> Result<(), Fail> {
+    let provider = SparseLists(lists);
+    gives(
+        rt,
+        rt.alloc(),
+        (provider, SparseName::from_raw(0)),
+        commands,
+        wanted,
+        way,
+    )
+}
+
+/// A new store over the provider, which lists two candidates of the name, replies as wanted.
+fn gives<D: DependencyProvider + Drop>(
+    rt: &impl Abort,
     heap: D::Alloc,
-    provider: D,
+    (provider, name): (D, D::NameId),
     commands: &[Command<D::SolvableId>],
+    wanted: WantedPlay,
     way: Way,
-) -> Result<Option<Vec<Reply<Global>>>, Fail> {
+) -> Result<(), Fail> {
     let mut store = ClauseStore::new(heap, provider)?;
-    replies_in(alloc, &mut store, commands, way)
+    lists_two(rt, heap, &store, name);
+    let ended = plays(rt, &mut store, commands, wanted, way);
+    drop(store);
+    ended
 }
 
-fn replies_in<N, S, A: Allocator, T: Obeys<N, S, A>>(
-    alloc: Global,
+/// The provider lists two candidates of the name.
+fn lists_two<N, S: Copy, A: Allocator, T: Obeys<N, S, A>>(
+    rt: &impl Abort,
+    heap: A,
+    store: &T,
+    name: N,
+) {
+    assert_eq!(rt; candidate_count(heap, store, name), Ok(2));
+}
+
+fn candidate_count<N, S: Copy, A: Allocator, T: Obeys<N, S, A>>(
+    heap: A,
+    store: &T,
+    name: N,
+) -> Result<usize, StoreError> {
+    match store.candidates(heap, name)? {
+        Some(list) => Ok(list.len()),
+        None => Ok(0),
+    }
+}
+
+/// The store replies as wanted, and ends with the root's value, no other and no falsified clause.
+fn plays<N, S, A: Allocator, T: Obeys<N, S, A>>(
+    rt: &impl Abort,
     store: &mut T,
     commands: &[Command<S>],
+    wanted: WantedPlay,
     way: Way,
-) -> Result<Option<Vec<Reply<Global>>>, Fail> {
+) -> Result<(), Fail> {
     match way {
-        Way::Steps => by_steps(alloc, store, commands, commands.len()),
-        Way::StepsWithout(left_out) => by_steps(alloc, store, commands, left_out),
-        Way::RefusedSteps(control, number) => {
-            control.arm(number);
-            by_steps(alloc, store, commands, commands.len())
-        }
-        Way::Run => by_run(alloc, store, commands),
-        Way::RefusedRun(control, number) => {
-            control.arm(number);
-            by_run(alloc, store, commands)
-        }
+        Way::Steps => steps_give(rt, store, commands, wanted.replies),
+        Way::Run => a_run_gives(rt, store, commands, wanted.replies)?,
+    }
+    let values = (store.value_of(variable(0)), store.value_of(variable(2)));
+    assert_eq!(rt;
+        (values, store.falsified_clause()),
+        ((wanted.root, None), None)
+    );
+    Ok(())
+}
+
+/// The store gives these replies to the commands in turn.
+fn steps_give<N, S, A: Allocator, T: Obeys<N, S, A>>(
+    rt: &impl Abort,
+    store: &mut T,
+    commands: &[Command<S>],
+    wanted: &[Wanted],
+) {
+    assert_eq!(rt; commands.len(), wanted.len());
+    for (i, (command, wanted)) in commands.iter().zip(wanted).enumerate() {
+        let reply = store.obey(command);
+        assert!(rt; is_wanted(&reply, wanted), "command {i}: {reply:?}");
     }
 }
 
-fn by_steps<N, S, A: Allocator, T: Obeys<N, S, A>>(
-    alloc: Global,
+fn a_run_gives<N, S, A: Allocator, T: Obeys<N, S, A>>(
+    rt: &impl Abort,
     store: &mut T,
     commands: &[Command<S>],
-    left_out: usize,
-) -> Result<Option<Vec<Reply<Global>>>, Fail> {
-    let replies = replies_without(alloc, store, commands, left_out)?;
-    Ok(Some(replies))
+    wanted: &[Wanted],
+) -> Result<(), Fail> {
+    let replies = store.obey_all(commands)?;
+    are_wanted(rt, &replies, wanted);
+    drop(replies);
+    Ok(())
 }
 
-/// The replies to the commands in turn, but for one that is left out.
-pub(crate) fn replies_without<N, S, A: Allocator, T: Obeys<N, S, A>>(
-    alloc: Global,
-    store: &mut T,
-    commands: &[Command<S>],
-    left_out: usize,
-) -> Result<Vec<Reply<Global>>, AllocError> {
-    let mut replies = Vec::new(alloc);
-    for (i, command) in commands.iter().enumerate() {
-        if i != left_out {
-            let reply = store.obey(command);
-            replies.push(copy_of(alloc, &reply)?)?;
-        }
-    }
-    Ok(replies)
-}
-
-fn by_run<N, S, A: Allocator, T: Obeys<N, S, A>>(
-    alloc: Global,
-    store: &mut T,
-    commands: &[Command<S>],
-) -> Result<Option<Vec<Reply<Global>>>, Fail> {
-    match store.obey_all(commands) {
-        Ok(replies) => Ok(Some(copy_of_all(alloc, &replies)?)),
-        Err(_) => Ok(None),
+/// The replies are those that are wanted.
+fn are_wanted<A: Allocator>(rt: &impl Abort, replies: &[Reply<A>], wanted: &[Wanted]) {
+    assert_eq!(rt; replies.len(), wanted.len());
+    for (i, (reply, wanted)) in replies.iter().zip(wanted).enumerate() {
+        assert!(rt; is_wanted(reply, wanted), "command {i}: {reply:?}");
     }
 }

@@ -1,0 +1,85 @@
+//! The replies that are wanted, in plain numbers, and what compares a reply with one in place. They own nothing, so that
+//! a list of them is a constant.
+use crate::script::{clause, variable};
+use resolvo_ids::{StoreError, VariableId};
+use resolvo_queue::QueueDecision;
+use resolvo_store::Reply;
+use std::alloc::Allocator;
+
+/// A reply that is wanted.
+#[derive(Clone, Copy)]
+pub(crate) enum Wanted {
+    Variable(u16),
+    /// The variables of a requirement's candidates, one list a version set.
+    Loaded(&'static [&'static [u16]]),
+    /// The clause is added, and is no conflict.
+    Clause(u16),
+    Assigned,
+    /// All assignments are taken back.
+    Undone,
+    Decided(WantedDecision),
+    NoDecision,
+    Falsified(u16),
+    Refused(StoreError),
+}
+
+/// The replies to a list of commands that are wanted, and the value that the root variable then has.
+#[derive(Clone, Copy)]
+pub(crate) struct WantedPlay {
+    pub(crate) replies: &'static [Wanted],
+    pub(crate) root: Option<bool>,
+}
+
+/// A decision that is wanted, where no package has a score.
+#[derive(Clone, Copy)]
+pub(crate) struct WantedDecision {
+    pub(crate) candidate: u16,
+    pub(crate) parent: u16,
+    pub(crate) clause: u16,
+    pub(crate) count: usize,
+}
+
+/// Whether the reply is the wanted one.
+pub(crate) fn is_wanted<A: Allocator>(reply: &Reply<A>, wanted: &Wanted) -> bool {
+    match (reply, wanted) {
+        (Reply::Variable(given), Wanted::Variable(index)) => *given == variable(*index),
+        (Reply::Loaded(given), Wanted::Loaded(lists)) => are_lists(given, lists),
+        (Reply::Clause(given, conflict), Wanted::Clause(index)) => {
+            *given == clause(*index) && !*conflict
+        }
+        (Reply::Assigned, Wanted::Assigned) => true,
+        (Reply::Undone(last), Wanted::Undone) => last.is_none(),
+        (Reply::Decided(given), Wanted::Decided(decision)) => is_decision(*given, *decision),
+        (Reply::NoDecision, Wanted::NoDecision) => true,
+        (Reply::Falsified(given), Wanted::Falsified(index)) => *given == clause(*index),
+        (Reply::Refused(given), Wanted::Refused(error)) => *given == *error,
+        _ => false,
+    }
+}
+
+/// Whether the decision is the wanted one.
+fn is_decision(given: QueueDecision, wanted: WantedDecision) -> bool {
+    given.candidate == variable(wanted.candidate)
+        && given.required_by == variable(wanted.parent)
+        && given.clause_id == clause(wanted.clause)
+        && given.package_activity == 0
+        && given.candidate_count == wanted.count
+}
+
+/// Whether the lists have the wanted variables.
+fn are_lists<A: Allocator>(given: &[Vec<VariableId, A>], wanted: &[&[u16]]) -> bool {
+    given.len() == wanted.len()
+        && given
+            .iter()
+            .zip(wanted)
+            .all(|(list, indices)| is_list(list, indices))
+}
+
+/// Whether the list has the wanted variables.
+fn is_list(given: &[VariableId], wanted: &[u16]) -> bool {
+    given.len() == wanted.len()
+        && given
+            .iter()
+            .zip(wanted)
+            .all(|(given, index)| *given == variable(*index))
+}
