@@ -1,4 +1,4 @@
-use Rattle.std.proofs.Common.{length, subst, sym, ap, ◌<◌, ◌≡◌, ◌∙◌, Some, string_bytes}
+use Rattle.std.proofs.Common.{length, subst, sym, ap, ◌<◌, ◌∙◌, Some, string_bytes}
 use Rattle.std.proofs.lemmas.List.{length-map}
 use Rattle.resolvo_pool.specs.PoolView.{lists_of}
 use Rattle.resolvo_pool.proofs.PoolLemmas.{read_at, got_map}
