@@ -1,5 +1,6 @@
 -- What comes into a pool leaves it made of what is in it.
-use Rattle.std.proofs.Common.{◌≡◌, ◌<◌, ◌≤◌, ℕ, zero, suc, true, false, Bool, cond, List, [], ◌∷◌, ◌++◌, length, map, Some, ap, subst, arith, length-append}
+use Rattle.std.proofs.Common.{◌≡◌, ◌∙◌, ◌<◌, ◌≤◌, ℕ, zero, suc, true, false, Bool, cond, List, [], ◌∷◌, ◌++◌, length, get_or, map, Some, ap, refl, subst, arith, length-append}
+use Rattle.std.proofs.lemmas.Option.{slice_get_read}
 use Rattle.std.proofs.lemmas.List.Elements.{All-weaker}
 use Rattle.std.specs.Prelude.{slice_get}
 use Rattle.std.specs.Option.{unwrap_or, option_map}
@@ -15,6 +16,11 @@ placed_push P [] x old new zero y h = subst (λ z. P 0 z) (ap (λ o. unwrap_or o
 placed_push P [] x old new (suc i) y h = absurd (grind arith)
 placed_push P (k ∷ ks) x old new zero y h = old zero y h
 placed_push P (k ∷ ks) x old new (suc i) y h = placed_push (λ j. P (suc j)) ks x (λ j z e. old (suc j) z e) new i y h
+
+-- what was read of a list, at a place within it
+pub read_at : {X : Type 0} (xs ys : List X) (i j : ℕ) (x : X) → i < length xs → ys ≡ xs → j ≡ i → x ≡ get_or ys j x → slice_get xs i ≡ Some x
+read_at xs ys i j x within list place read =
+    slice_get_read xs (length xs) i x refl within (read ∙ (ap (λ l. get_or l j x) list ∙ ap (λ k. get_or xs k x) place))
 
 pub got_map : {X Y : Type 0} (f : X → Y) (xs : List X) (i : ℕ) (x : X) → slice_get xs i ≡ Some x → slice_get (map f xs) i ≡ Some (f x)
 got_map f [] i x h = absurd (grind arith)

@@ -1,4 +1,4 @@
-use Rattle.std.proofs.Common.{◌<◌, ◌^◌, rules, arith, sym, subst, length, length-append, [], ◌∷◌}
+use Rattle.std.proofs.Common.{◌<◌, ◌^◌, rules, arith, sym, subst, ap, ◌∙◌, map, string_bytes, length, length-append, [], ◌∷◌, ◌++◌}
 use Rattle.std.proofs.lemmas.List.{map-append, length-map}
 use Rattle.resolvo_pool.specs.Pool.{AreSetsHere}
 use Rattle.resolvo_pool.specs.PoolView.{lists_of}
@@ -23,3 +23,20 @@ invariant_of-self-2 g c =
       own = rw (c.in-Ok.ensures.ok, map-append (λ u. u.items) unions (sets ∷ []))
           (own_with_union (lists_of c.self.inside) c.self.invariant.own sets.items here);
     }
+
+pub invariant_of-self : goal.invariant_of-self
+invariant_of-self g c = rw c.in-Err.ensures.err c.self.invariant
+
+pub returns-clause-ok : goal.returns-clause-ok
+returns-clause-ok g c =
+    let unions = c.self.inside.unions in
+    rw (← c.self.view_is)
+    (ap (λ all. record {
+      strings = map string_bytes c.self.inside.strings.keys;
+      names = c.self.inside.names.keys;
+      solvables = c.self.inside.solvables;
+      version_sets = c.self.inside.version_sets.keys;
+      unions = all;
+      conditions = c.self.inside.conditions.keys;
+    }) (ap (map (λ u. u.items)) c.in-Ok.ensures.ok ∙ (map-append (λ u. u.items) unions (c.in_ok-sets.sets ∷ [])
+    ∙ ap (λ union. map (λ u. u.items) unions ++ union ∷ []) c.in_ok-sets.ensures.ok)))
