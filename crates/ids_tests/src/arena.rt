@@ -1,7 +1,7 @@
 //! Arenas by their calls: each with ample memory, and the ids of 16 bits to their end.
 use crate::arena_callers::{added, count, pairs, replace, total};
 use resolvo_ids::{Arena, DenseIndex, InsertError, SolvableId, StoreError};
-use std::alloc::Global;
+use std::alloc::{Allocator, Global};
 use std::test::Fail;
 
 /// An arena with these values.
@@ -16,17 +16,29 @@ fn filled(alloc: Global, values: &[u16]) -> Result<Arena<u16, u16, Global>, Stor
 #[test]
 fn ids_end_after_the_last_of_16_bits(rt: HostRuntime) -> Result<(), Fail> {
     let mut arena: Arena<u16, u64, Global> = Arena::new(rt.alloc());
-    for value in 0..65536 {
-        let id = arena.alloc(value + 7)?;
-        assert_eq!(rt; u64::from(id), value);
-    }
+    let misplaced = first_misplaced(&mut arena);
+    let full = (arena.alloc(5), arena.len());
+    drop(arena);
+    assert_eq!(rt; misplaced?, None);
     let refusal = InsertError {
         error: StoreError::IdSpace,
         value: 5,
     };
-    assert_eq!(rt; arena.alloc(5), Err(refusal));
-    assert_eq!(rt; arena.len(), 65536);
+    assert_eq!(rt; full, (Err(refusal), 65536));
     Ok(())
+}
+
+/// Adds a value for each id of 16 bits: the first place whose value gets another id.
+fn first_misplaced<A: Allocator + Copy>(
+    arena: &mut Arena<u16, u64, A>,
+) -> Result<Option<u64>, Fail> {
+    for place in 0..65536 {
+        let id = arena.alloc(place + 7)?;
+        if u64::from(id) != place {
+            return Ok(Some(place));
+        }
+    }
+    Ok(None)
 }
 
 #[test]
@@ -54,34 +66,71 @@ fn values_are_read_by_their_ids(rt: HostRuntime) -> Result<(), Fail> {
 #[test]
 fn pairs_come_in_the_order_of_ids(rt: HostRuntime) -> Result<(), Fail> {
     let arena = filled(rt.alloc(), &[9, 8, 7])?;
-    let mut iterator = arena.iter();
-    assert_eq!(rt; iterator.next(), Some((0, &9)));
-    assert_eq!(rt; iterator.next(), Some((1, &8)));
-    assert_eq!(rt; iterator.next(), Some((2, &7)));
-    assert_eq!(rt; iterator.next(), None);
-    assert_eq!(rt; iterator.next(), None);
+    let first_five = first_five(&arena);
+    drop(arena);
+    let wanted = [Some((0, 9)), Some((1, 8)), Some((2, 7)), None, None];
+    assert_eq!(rt; first_five, wanted);
     Ok(())
+}
+
+/// What an arena's iterator answers to five calls.
+fn first_five<A: Allocator>(arena: &Arena<u16, u16, A>) -> [Option<(u16, u16)>; 5] {
+    let mut iterator = arena.iter();
+    [
+        pair_of(iterator.next()),
+        pair_of(iterator.next()),
+        pair_of(iterator.next()),
+        pair_of(iterator.next()),
+        pair_of(iterator.next()),
+    ]
+}
+
+/// A pair, with its value copied.
+fn pair_of(pair: Option<(u16, &u16)>) -> Option<(u16, u16)> {
+    match pair {
+        Some((id, value)) => Some((id, *value)),
+        None => None,
+    }
 }
 
 #[test]
 fn cleared_arenas_begin_again(rt: HostRuntime) -> Result<(), Fail> {
     let mut arena = filled(rt.alloc(), &[9, 8])?;
     arena.clear();
-    assert_eq!(rt; (arena.len(), arena.is_empty()), (0, true));
-    assert_eq!(rt; arena.alloc(6)?, 0);
-    assert_eq!(rt; arena.len(), 1);
+    let cleared = (arena.len(), arena.is_empty());
+    let begun = (arena.alloc(6), arena.len());
+    drop(arena);
+    assert_eq!(rt; cleared, (0, true));
+    assert_eq!(rt; begun, (Ok(0), 1));
     Ok(())
 }
 
 #[test]
 fn callers_are_told_enough(rt: HostRuntime) -> Result<(), Fail> {
     let mut arena = filled(rt.alloc(), &[9, 8, 7])?;
-    assert_eq!(rt; (count(&arena), total(&arena)), (3, 24));
-    let list = pairs(rt.alloc(), &arena)?;
-    assert_eq!(rt; list.as_slice(), [(0, 9), (1, 8), (2, 7)].as_slice());
-    assert_eq!(rt; added(&mut arena, 5), Some(5));
-    assert_eq!(rt; arena.len(), 4);
-    replace(&mut arena, 1, 4);
-    assert_eq!(rt; total(&arena), 25);
+    let listed = is_listed(rt.alloc(), &arena);
+    let told = told(&mut arena);
+    drop(arena);
+    assert!(rt; listed?, "the pairs of an arena");
+    assert_eq!(rt; told, ((3, 24), (Some(5), 4), 25));
     Ok(())
+}
+
+/// Whether the pairs are those of three values.
+fn is_listed(alloc: Global, arena: &Arena<u16, u16, Global>) -> Result<bool, Fail> {
+    let list = pairs(alloc, arena)?;
+    Ok(list.as_slice() == [(0, 9), (1, 8), (2, 7)].as_slice())
+}
+
+/// How many values there are, and their sum; the next one that is added, and how many there are then; and the sum once the
+/// second is replaced.
+fn told<A: Allocator + Copy>(
+    arena: &mut Arena<u16, u16, A>,
+) -> ((usize, u64), (Option<u16>, usize), u64) {
+    let before = (count(arena), total(arena));
+    let next = (added(arena, 5), arena.len());
+    if arena.len() > 1 {
+        replace(arena, 1, 4);
+    }
+    (before, next, total(arena))
 }

@@ -96,11 +96,17 @@ fn keys_give_their_solvable_back(rt: HostRuntime) {
 #[test]
 fn frozen_maps_answer_the_earlier_value(rt: HostRuntime) -> Result<(), Fail> {
     let mut map: FrozenCopyMap<u32, u64> = FrozenCopyMap::new(rt.alloc());
-    assert_eq!(rt; map.insert_copy(3, 10)?, None);
-    assert_eq!(rt; map.insert_copy(4, 20)?, None);
-    assert_eq!(rt; map.insert_copy(3, 30)?, Some(10));
-    assert_eq!(rt; map.get_copy(&3), Some(30));
-    assert_eq!(rt; map.get_copy(&4), Some(20));
-    assert_eq!(rt; map.get_copy(&5), None);
+    let earlier = earlier_values(&mut map);
+    let kept = [map.get_copy(&3), map.get_copy(&4), map.get_copy(&5)];
+    drop(map);
+    assert_eq!(rt; earlier?, [None, None, Some(10)]);
+    assert_eq!(rt; kept, [Some(30), Some(20), None]);
     Ok(())
+}
+
+/// What a new map answers to three values, of which the last has the first one's key.
+fn earlier_values(map: &mut FrozenCopyMap<u32, u64>) -> Result<[Option<u64>; 3], Fail> {
+    let first = map.insert_copy(3, 10)?;
+    let other = map.insert_copy(4, 20)?;
+    Ok([first, other, map.insert_copy(3, 30)?])
 }

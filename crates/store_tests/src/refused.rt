@@ -144,7 +144,11 @@ fn is_met(
 ) -> Result<bool, Fail> {
     let heap = Refusing::new(rt.alloc());
     let ample = Refusing::new(rt.alloc());
-    let ended = lists_agree(rt, way, &heap, &ample, commands, number);
+    let refusal = Refusal {
+        heap: &heap,
+        number,
+    };
+    let ended = lists_agree(rt, way, [&heap, &ample], commands, refusal);
     let is_met = !heap.is_armed();
     drop(ample);
     drop(heap);
@@ -152,16 +156,14 @@ fn is_met(
     Ok(is_met)
 }
 
-/// Stores over two packages agree.
-fn lists_agree<'h>(
+/// Stores over two packages agree, the first of which is refused the request.
+fn lists_agree<A: Allocator + Copy>(
     rt: &impl Abort,
     way: Way,
-    heap: &'h Refusing<Global>,
-    ample: &'h Refusing<Global>,
+    [heap, ample]: [A; 2],
     commands: &[Command<SolvableId>],
-    number: u64,
+    refusal: Refusal,
 ) -> Result<(), Fail> {
-    let refusal = Refusal { heap, number };
     let refusing = two_packages(heap)?;
     let never_refusing = two_packages(ample)?;
     agree(
