@@ -1,7 +1,7 @@
-use Rattle.std.proofs.Common.{◌≡◌, ◌∷◌, ◌++◌, ◌+◌, ◌∙◌, sym, ap, drop, take, length, map}
+use Rattle.std.proofs.Common.{◌≡◌, ◌∷◌, ◌++◌, ◌+◌, ◌∙◌, sym, ap, drop, map}
 use Rattle.std.specs.Prelude.{flat_map}
 use Rattle.std.specs.List.{list_any}
-use Rattle.std.proofs.lemmas.List.{drop_more, drop_all, take-take}
+use Rattle.std.proofs.lemmas.List.{drop_more, drop_all}
 use Rattle.std.proofs.lemmas.Simd.{map-map}
 use Rattle.std.proofs.lemmas.List.Folds.{flat_map-map}
 use Rattle.resolvo_clauses.specs.Variables.{interned_variable, all_interned}
@@ -38,16 +38,3 @@ returns-clause-lists g c =
     lists-all same g.met.S.Eq.laws.refl vs c.args.variables.now (map (λ l. l.items) (drop i lists)) (map (λ l. l.items) lists)
     (map (λ l. l.items) c.loop-list.made.items) (ap (map (λ l. l.items)) none) c.loop-list.invariant.lists all
     ∙ map-map (map (interned_variable same vs)) (λ l. l.items) lists
-
-pub returns-in-Err-push-clause-err : goal.returns-in-Err-push-clause-err
-returns-in-Err-push-clause-err g c =
-    let start = c.count-start.result in
-    let vs = c.loop-list.variables in
-    c.forget_from.ensures
-    ∙ sym (take-take start (length vs) c.intern_all.new.variables c.loop-list.invariant.within)
-    ∙ ap (take start) c.in-Ok.ensures.front
-    ∙ c.loop-list.invariant.front
-
-pub returns-in-Err-clause-err : goal.returns-in-Err-clause-err
-returns-in-Err-clause-err g c =
-    c.forget_from-in-Err.ensures ∙ ap (take c.count-start.result) c.in-Err.ensures.err ∙ c.loop-list.invariant.front
