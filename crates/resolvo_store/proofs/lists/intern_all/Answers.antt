@@ -1,4 +1,4 @@
-use Rattle.std.proofs.Common.{◌≡◌, ◌∷◌, ◌+◌, ◌∙◌, sym, ap, drop, take, None, arith}
+use Rattle.std.proofs.Common.{◌≡◌, ◌∷◌, ◌+◌, ◌∙◌, sym, ap, drop, None, arith}
 use Rattle.std.specs.List.{list_any}
 use Rattle.std.proofs.lemmas.List.{drop_more, drop_all}
 use Rattle.resolvo_clauses.specs.Variables.{variable_of_solvable, interned, all_interned}
@@ -46,14 +46,3 @@ returns-in-Err-clause-refused g c =
     (sym (ap (all_interned same vs) behind) ∙ c.loop-solvable.invariant.all)
     (λ any. list_any-drop large c.loop-solvable.solvable-index ss (ap (list_any large) behind ∙ any)))
     c.in-Err.ensures.refused
-
-pub returns-in-Err-push-clause-err : goal.returns-in-Err-push-clause-err
-returns-in-Err-push-clause-err g c =
-    let before = c.count-before.result in
-    c.forget_from.ensures ∙ ap (take before) c.in-Ok.ensures.ok
-    ∙ front-interned g.S.PartialEq.eq before c.solvable-item.result c.loop-solvable.variables c.loop-solvable.invariant.within
-    ∙ c.loop-solvable.invariant.front
-
-pub returns-in-Err-clause-err : goal.returns-in-Err-clause-err
-returns-in-Err-clause-err g c =
-    c.forget_from-in-Err.ensures ∙ ap (take c.count-before.result) c.in-Err.ensures.err ∙ c.loop-solvable.invariant.front
