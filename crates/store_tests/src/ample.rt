@@ -89,7 +89,7 @@ fn variables_count_up(rt: HostRuntime) -> Result<(), Fail> {
     Ok(())
 }
 
-/// What is seen of variables: what each of two solvables is interned as, where the first comes again; and how many there
+/// What is seen of variables: what two solvables are interned as, where the first comes again; and how many there
 /// are and the second's, before and after it is forgotten.
 type Seen = ([VariableId; 3], [(usize, Option<VariableId>); 2]);
 
