@@ -6,10 +6,8 @@
 #![tactic(auto)]
 
 mod abstract_store;
-mod candidates;
 mod command;
 mod conflict;
-mod lists;
 mod reply;
 mod store;
 

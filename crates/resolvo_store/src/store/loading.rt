@@ -3,11 +3,10 @@ ghost use Rattle.std.specs.Prelude.{◌≡◌, None, true, map, option_map, IfOk
 ghost use Rattle.resolvo_pool.specs.Provider.{knows_requirement};
 
 use crate::abstract_store::AbstractStore;
-use crate::candidates::candidate_lists;
-use crate::lists::{VariableLists, copy_of_lists, intern_lists};
 use crate::reply::Reply;
 use crate::store::ClauseStore;
 use resolvo_ids::StoreError;
+use resolvo_loading::{VariableLists, candidate_lists, copy_of_lists, intern_lists};
 use resolvo_pool::{DependencyProvider, Interner, Requirement};
 
 impl<D: DependencyProvider + Drop> ClauseStore<D> {

@@ -1,8 +1,8 @@
 use Rattle.std.proofs.Common.{◌≡◌, ◌≤◌, ◌++◌, take, drop, length, map}
 use Rattle.std.specs.Prelude.{flat_map}
 use Rattle.resolvo_clauses.specs.Variables.{all_interned}
-use Rattle.resolvo_store.proofs.InterningLemmas.{lists_in_turn}
-use Rattle.resolvo_store.proofs.lists.intern_each.Given as goal
+use Rattle.resolvo_loading.proofs.InterningLemmas.{lists_in_turn}
+use Rattle.resolvo_loading.proofs.lists.intern_each.Given as goal
 
 abbrev pub invariant-loop-list : goal.invariant-loop-list
 invariant-loop-list g l =

@@ -2,8 +2,8 @@ use Rattle.std.proofs.Common.{◌≡◌, ◌∷◌, ◌+◌, ◌∙◌, sym, ap,
 use Rattle.std.specs.List.{list_any}
 use Rattle.std.proofs.lemmas.List.{drop_more, drop_all}
 use Rattle.resolvo_clauses.specs.Variables.{variable_of_solvable, interned, all_interned}
-use Rattle.resolvo_store.proofs.InterningLemmas.{in_turn-more, front-interned, longer-interned, in_turn-all, ids_out_for_all, refusal_wider, list_any-drop, unknown_if_refused}
-use Rattle.resolvo_store.proofs.lists.intern_all.Goals as goal
+use Rattle.resolvo_loading.proofs.InterningLemmas.{in_turn-more, front-interned, longer-interned, in_turn-all, ids_out_for_all, refusal_wider, list_any-drop, unknown_if_refused}
+use Rattle.resolvo_loading.proofs.lists.intern_all.Goals as goal
 
 pub loop-solvable-preserved : goal.loop-solvable-preserved
 loop-solvable-preserved g c =

@@ -1,7 +1,7 @@
 use Rattle.std.proofs.Common.{◌≡◌, ◌≤◌, ◌++◌, take, drop, length}
 use Rattle.resolvo_clauses.specs.Variables.{all_interned}
-use Rattle.resolvo_store.proofs.InterningLemmas.{variables_in_turn}
-use Rattle.resolvo_store.proofs.lists.intern_all.Given as goal
+use Rattle.resolvo_loading.proofs.InterningLemmas.{variables_in_turn}
+use Rattle.resolvo_loading.proofs.lists.intern_all.Given as goal
 
 abbrev pub invariant-loop-solvable : goal.invariant-loop-solvable
 invariant-loop-solvable g l =

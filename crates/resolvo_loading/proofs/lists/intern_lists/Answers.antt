@@ -1,5 +1,5 @@
 use Rattle.std.proofs.Common.{◌∙◌, ap, take}
-use Rattle.resolvo_store.proofs.lists.intern_lists.Goals as goal
+use Rattle.resolvo_loading.proofs.lists.intern_lists.Goals as goal
 
 pub returns-in-Err-clause-err : goal.returns-in-Err-clause-err
 returns-in-Err-clause-err g c =

@@ -1,7 +1,7 @@
 use Rattle.std.proofs.Common.{◌≡◌, ◌+◌, ◌<◌, ◌++◌, ◌^◌, map, drop, length}
 use Rattle.std.specs.Prelude.{flat_map}
 use Rattle.resolvo_pool.specs.Provider.{sorted}
-use Rattle.resolvo_store.proofs.candidates.sorted_lists.Given as goal
+use Rattle.resolvo_loading.proofs.candidates.sorted_lists.Given as goal
 
 abbrev pub invariant-loop-set : goal.invariant-loop-set
 invariant-loop-set g l =

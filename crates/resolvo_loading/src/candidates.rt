@@ -11,7 +11,7 @@ use resolvo_pool::{DependencyProvider, Interner, Requirement};
 const ROWS_LIMIT: usize = 1 << 40;
 
 /// Lists of solvables, one a version set.
-pub(crate) type CandidateLists<S, A> = Vec<Vec<S, A>, A>;
+pub type CandidateLists<S, A> = Vec<Vec<S, A>, A>;
 
 /// The candidates of a package; a package that there isn't has none.
 fn candidates_of<D: DependencyProvider>(
@@ -109,7 +109,7 @@ fn sorted_lists<D: DependencyProvider>(
 }
 
 /// The candidate lists of a requirement, one a version set. A requirement with too many rows is refused.
-pub(crate) fn candidate_lists<D: DependencyProvider>(
+pub fn candidate_lists<D: DependencyProvider>(
     provider: &D,
     alloc: D::Alloc,
     requirement: Requirement,

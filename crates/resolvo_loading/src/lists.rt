@@ -10,7 +10,7 @@ use resolvo_ids::{SolverId, StoreError, VariableId};
 use std::alloc::Allocator;
 
 /// Lists of variables, one a version set.
-pub(crate) type VariableLists<A> = Vec<Vec<VariableId, A>, A>;
+pub type VariableLists<A> = Vec<Vec<VariableId, A>, A>;
 
 /// A list again.
 fn copy_of<A: Allocator>(alloc: A, list: &[VariableId]) -> Result<Vec<VariableId, A>, StoreError>
@@ -24,7 +24,7 @@ fn copy_of<A: Allocator>(alloc: A, list: &[VariableId]) -> Result<Vec<VariableId
 }
 
 /// Lists again.
-pub(crate) fn copy_of_lists<A: Allocator + Copy>(
+pub fn copy_of_lists<A: Allocator + Copy>(
     alloc: A,
     lists: &[Vec<VariableId, A>],
 ) -> Result<VariableLists<A>, StoreError>
@@ -109,7 +109,7 @@ fn intern_each<N: Copy, S: SolverId<A>, A: Allocator + Copy>(
 }
 
 /// The lists of candidates, as variables, twice: to answer, and to keep. A refusal leaves the variables as they were.
-pub(crate) fn intern_lists<N: Copy, S: SolverId<A>, A: Allocator + Copy>(
+pub fn intern_lists<N: Copy, S: SolverId<A>, A: Allocator + Copy>(
     variables: &mut VariableMap<N, S, A>,
     alloc: A,
     lists: &[Vec<S, A>],

@@ -2,8 +2,8 @@ use Rattle.std.proofs.Common.{◌≡◌, ◌∙◌, Bool, true}
 use Rattle.std.specs.Prelude.{All}
 use Rattle.std.proofs.lemmas.Result.{IfOk-weaker}
 use Rattle.resolvo_pool.specs.Provider.{filtered}
-use Rattle.resolvo_store.proofs.CandidateLemmas.{found_known}
-use Rattle.resolvo_store.proofs.candidates.matching_candidates.Goals as goal
+use Rattle.resolvo_loading.proofs.CandidateLemmas.{found_known}
+use Rattle.resolvo_loading.proofs.candidates.matching_candidates.Goals as goal
 
 pub returns-clause-known : goal.returns-clause-known
 returns-clause-known g c =

@@ -1,0 +1,2 @@
+pub mod CandidateLemmas
+pub mod InterningLemmas
