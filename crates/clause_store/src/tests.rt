@@ -1,7 +1,7 @@
 //! Scripts and their answers, and devices that fail.
 use crate::script::script;
 use resolvo_ids::{VersionSetId, VersionSetUnionId};
-use resolvo_pool::{Interner, Requirement};
+use resolvo_provider::{Interner, Requirement};
 use script_packages::{Packages, ScriptFault, read_catalogue, status};
 use std::alloc::Global;
 use std::io;

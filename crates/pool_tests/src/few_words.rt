@@ -2,14 +2,14 @@
 ghost use Rattle.std.specs.Prelude.{◌≡◌, ◌==◌, true, [], length, nat_lt, codes, OnOk, OnErr, IfErr};
 ghost use Rattle.std.specs.List.{list_all};
 ghost use Rattle.resolvo_ids.specs.declared.error.StoreError.TheVariants.{OutOfMemory};
-ghost use Rattle.resolvo_pool.specs.Texts.{IsAppended, IsSameText};
+ghost use Rattle.resolvo_provider.specs.Texts.{IsAppended, IsSameText};
 ghost use Rattle.pool_tests.specs.Words.{text_at};
 
 use resolvo_ids::{
     ConditionId, DenseIndex, NameId, SolvableId, StoreError, StringId, VersionSetId,
     VersionSetUnionId,
 };
-use resolvo_pool::{Condition, Interner};
+use resolvo_provider::{Condition, Interner};
 use std::alloc::Allocator;
 use std::marker::PhantomData;
 
@@ -49,7 +49,7 @@ fn append<A: Allocator>(out: &mut String<A>, text: &str) -> Result<(), StoreErro
 impl<'w, A: Allocator + Copy> Interner for FewWords<'w, A> {
     ghost use Rattle.std.proofs.lemmas.List.Sums.{AllPass-from_list_all};
     ghost use Rattle.std.proofs.Common.{refl};
-    ghost use Rattle.resolvo_pool.specs.declared.condition.Condition.TheVariants as Cond;
+    ghost use Rattle.resolvo_provider.specs.declared.condition.Condition.TheVariants as Cond;
 
     type Alloc = A;
 

@@ -1,11 +1,11 @@
 //! Callers of maps of requirements that know nothing of them but their contracts.
 ghost use Rattle.std.specs.Prelude.{◌≡◌, ◌+◌, ◌-◌, ◌^◌, min, unwrap_or, None, IsSome, OnOk, OnErr};
 ghost use Rattle.std.specs.Map.{lookup, set_value};
-ghost use Rattle.resolvo_pool.specs.Requirement.{same_requirement};
-ghost use Rattle.resolvo_pool.specs.RequirementMap.{with_entry};
+ghost use Rattle.resolvo_provider.specs.Requirement.{same_requirement};
+ghost use Rattle.resolvo_provider.specs.RequirementMap.{with_entry};
 
 use resolvo_ids::StoreError;
-use resolvo_pool::{Requirement, RequirementMap};
+use resolvo_provider::{Requirement, RequirementMap};
 use std::alloc::Allocator;
 
 /// Puts zero in the place of a requirement's value, if it has one.

@@ -2,7 +2,7 @@
 use crate::map_callers::{clear, count_up};
 use refusing::Refusing;
 use resolvo_ids::{InsertError, StoreError, VersionSetId, VersionSetUnionId};
-use resolvo_pool::{ConditionalRequirement, Requirement, RequirementMap};
+use resolvo_provider::{ConditionalRequirement, Requirement, RequirementMap};
 use std::alloc::{Allocator, Global};
 use std::cell::Cell;
 use std::test::Fail;

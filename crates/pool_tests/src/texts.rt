@@ -1,10 +1,10 @@
 //! The texts of requirements, of root keys and of merged solvables.
 ghost use Rattle.std.specs.Prelude.{◌≡◌, true, All};
-ghost use Rattle.resolvo_pool.specs.Provider.{knows_requirement, knows_key};
+ghost use Rattle.resolvo_provider.specs.Provider.{knows_requirement, knows_key};
 
 use crate::few_words::FewWords;
 use resolvo_ids::{SolvableId, SolvableIdOrRoot, VersionSetId, VersionSetUnionId};
-use resolvo_pool::{Interner, Requirement, RootText};
+use resolvo_provider::{Interner, Requirement, RootText};
 use std::marker::PhantomData;
 use std::process::Abort;
 use std::test::Fail;

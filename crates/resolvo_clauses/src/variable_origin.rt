@@ -2,7 +2,7 @@
 ghost use Rattle.std.specs.Prelude.{◌≡◌};
 
 use resolvo_ids::VersionSetId;
-use resolvo_pool::Requirement;
+use resolvo_provider::Requirement;
 
 /// What a variable stands for.
 #[derive(Clone, Copy, Debug)]

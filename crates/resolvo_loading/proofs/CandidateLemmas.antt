@@ -2,7 +2,7 @@
 use Rattle.std.proofs.Common.{◌≡◌, Bool, true, List}
 use Rattle.std.specs.Prelude.{All}
 use Rattle.std.proofs.lemmas.List.Elements.{All-filter}
-use Rattle.resolvo_pool.specs.Provider.{filtered}
+use Rattle.resolvo_provider.specs.Provider.{filtered}
 
 -- what is found among known candidates is known
 pub found_known : {S : Type 0} (known test : S → Bool) (candidates all found : List S)

@@ -2,10 +2,10 @@
 ghost use Rattle.std.specs.Prelude.{◌≡◌, ◌+◌, ◌<◌, ◌≤◌, ◌^◌, nat_le, true, All, map, flat_map, length, IfOk, OnOk, IfErr};
 ghost use Rattle.resolvo_ids.specs.Refusals.{IsGrowthRefusal};
 ghost use Rattle.resolvo_ids.specs.declared.error.StoreError.TheVariants.{OutOfMemory, IdSpace};
-ghost use Rattle.resolvo_pool.specs.Provider.{matching, sorted, sets_of, knows_requirement};
+ghost use Rattle.resolvo_provider.specs.Provider.{matching, sorted, sets_of, knows_requirement};
 
 use resolvo_ids::{StoreError, VersionSetId};
-use resolvo_pool::{DependencyProvider, Interner, Requirement};
+use resolvo_provider::{DependencyProvider, Interner, Requirement};
 
 /// A requirement has fewer rows than this.
 const ROWS_LIMIT: usize = 1 << 40;

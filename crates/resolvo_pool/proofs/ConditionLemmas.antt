@@ -1,7 +1,7 @@
 -- The `==` of conditions is what the definitions say.
 use Rattle.std.proofs.Common.{◌≡◌, List, rules}
-use Rattle.resolvo_pool.specs.contracts.condition.ConditionPartialEq.TheImpl.{eq-value}
-use Rattle.resolvo_pool.specs.declared.condition.Condition.{Condition}
+use Rattle.resolvo_provider.specs.contracts.condition.ConditionPartialEq.TheImpl.{eq-value}
+use Rattle.resolvo_provider.specs.declared.condition.Condition.{Condition}
 use Rattle.resolvo_pool.specs.Interned.{has_same, interned, interned_place}
 use Rattle.resolvo_pool.specs.Pool.{same_condition}
 use Rattle.resolvo_pool.proofs.InternedLemmas.{has_by_test, place_by_test, interned_by_test}

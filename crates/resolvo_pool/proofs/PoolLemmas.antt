@@ -5,8 +5,8 @@ use Rattle.std.proofs.lemmas.List.Elements.{All-weaker}
 use Rattle.std.specs.Prelude.{slice_get}
 use Rattle.std.specs.Option.{unwrap_or, option_map}
 use Rattle.resolvo_ids.specs.declared.version_set_id.VersionSetId.{VersionSetId}
-use Rattle.resolvo_pool.specs.declared.condition.Condition.{Condition}
-use Rattle.resolvo_pool.specs.declared.condition.Condition.TheVariants.{Binary, Requirement}
+use Rattle.resolvo_provider.specs.declared.condition.Condition.{Condition}
+use Rattle.resolvo_provider.specs.declared.condition.Condition.TheVariants.{Binary, Requirement}
 use Rattle.resolvo_pool.specs.Interned.{has_same, interned}
 use Rattle.resolvo_pool.specs.Pool.{Lists, nothing, IsSound, Placed, IsOfItself, IsMadeBelow, AreSetsHere}
 

@@ -1,10 +1,10 @@
 -- What a pool keeps: six lists. N are the names, VS the version sets, V what they hold. An id is a place in its list.
 use Rattle.std.specs.Prelude.{◌≡◌, ◌<◌, ◌≤◌, ◌^◌, ◌-◌, ℕ, Bool, true, false, ◌==◌, ◌&&◌, List, [], ◌∷◌, ◌++◌, length, slice_get, All, Some, bytes_eq}
 use Rattle.resolvo_ids.specs.declared.version_set_id.VersionSetId.{VersionSetId}
-use Rattle.resolvo_pool.specs.declared.condition.Condition.{Condition}
-use Rattle.resolvo_pool.specs.declared.condition.Condition.TheVariants.{Binary, Requirement}
-use Rattle.resolvo_pool.specs.declared.condition.LogicalOperator.{LogicalOperator}
-use Rattle.resolvo_pool.specs.declared.condition.LogicalOperator.TheVariants.{And, Or}
+use Rattle.resolvo_provider.specs.declared.condition.Condition.{Condition}
+use Rattle.resolvo_provider.specs.declared.condition.Condition.TheVariants.{Binary, Requirement}
+use Rattle.resolvo_provider.specs.declared.condition.LogicalOperator.{LogicalOperator}
+use Rattle.resolvo_provider.specs.declared.condition.LogicalOperator.TheVariants.{And, Or}
 use Rattle.resolvo_pool.specs.declared.solvable.Solvable.{Solvable}
 use Rattle.resolvo_pool.specs.Interned.{interned}
 

@@ -1,8 +1,8 @@
 -- Whether a pool is made of itself is a proposition: a struct may carry the fact.
 use Rattle.std.specs.Prelude.{ℕ}
 use Rattle.std.proofs.Props.{props}
-use Rattle.resolvo_pool.specs.declared.condition.Condition.{Condition}
-use Rattle.resolvo_pool.specs.declared.condition.Condition.TheVariants.{Binary, Requirement}
+use Rattle.resolvo_provider.specs.declared.condition.Condition.{Condition}
+use Rattle.resolvo_provider.specs.declared.condition.Condition.TheVariants.{Binary, Requirement}
 use Rattle.resolvo_pool.specs.Pool.{Lists, IsMadeBelow}
 
 pub IsMadeBelow-prop : {N VS V : Type 0} (p : Lists N VS V) (place : ℕ) (c : Condition) → IsProp (IsMadeBelow p place c)

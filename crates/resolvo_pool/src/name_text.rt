@@ -1,7 +1,7 @@
 //! What a name reads as.
 ghost use Rattle.std.specs.Prelude.{◌≡◌, ◌<◌, ℕ, length, slice_get, OnOk, OnErr, IfErr, IfSome};
 ghost use Rattle.resolvo_ids.specs.declared.error.StoreError.TheVariants.{OutOfMemory};
-ghost use Rattle.resolvo_pool.specs.Texts.{IsAppended, IsContinued, IsSameText};
+ghost use Rattle.resolvo_provider.specs.Texts.{IsAppended, IsContinued, IsSameText};
 
 use crate::pool::Pool;
 use crate::version_set::VersionSet;

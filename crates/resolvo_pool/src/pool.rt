@@ -9,7 +9,6 @@ ghost use Rattle.resolvo_pool.specs.Interned.{has_same, interned, interned_place
 ghost use Rattle.resolvo_pool.specs.Pool.{nothing, IsSound, IsMadeBelow, AreSetsHere, same_set, same_condition};
 ghost use Rattle.resolvo_pool.specs.Pool.{with_string, with_name, with_solvable, with_version_set, with_union, with_condition};
 
-use crate::condition::Condition;
 use crate::interned::intern;
 use crate::solvable::Solvable;
 use crate::version_set::VersionSet;
@@ -18,6 +17,7 @@ use resolvo_ids::{
     Arena, ArenaIter, ConditionId, DenseIndex, InsertError, NameId, SolvableId, StoreError,
     StringId, VersionSetId, VersionSetUnionId,
 };
+use resolvo_provider::Condition;
 use std::alloc::{Allocator, Global};
 use std::hash::{BuildHasherDefault, FoldHasher, Hash};
 use std::marker::Model;

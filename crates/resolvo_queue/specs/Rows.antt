@@ -4,9 +4,9 @@ use Rattle.std.specs.List.{list_any}
 use Rattle.std.specs.Map.{lookup}
 use Rattle.std.specs.declared.vec.Vec.{Vec}
 use Rattle.resolvo_ids.specs.declared.version_set_id.VersionSetId.{VersionSetId}
-use Rattle.resolvo_pool.specs.Provider.{Catalogue, sets_of}
-use Rattle.resolvo_pool.specs.Requirement.{same_requirement}
-use Rattle.resolvo_pool.specs.declared.requirement.Requirement.{Requirement}
+use Rattle.resolvo_provider.specs.Provider.{Catalogue, sets_of}
+use Rattle.resolvo_provider.specs.Requirement.{same_requirement}
+use Rattle.resolvo_provider.specs.declared.requirement.Requirement.{Requirement}
 use Rattle.resolvo_clauses.specs.Literals.{Values, known_true, undecided}
 use Rattle.resolvo_queue.specs.declared.frontier.Frontier.{Frontier}
 

@@ -4,7 +4,7 @@ ghost use Rattle.resolvo_ids.specs.declared.error.StoreError.TheVariants.{OutOfM
 ghost use Rattle.resolvo_clauses.specs.Decisions.{values_in};
 ghost use Rattle.resolvo_queue.specs.Answer.{answer, answer_of};
 ghost use Rattle.resolvo_queue.specs.Pick.{eligible, pick, decided, no_score, PickLaw, NoneExactly, DecidesUnbeaten};
-ghost use Rattle.resolvo_pool.specs.Provider.{knows_requirement};
+ghost use Rattle.resolvo_provider.specs.Provider.{knows_requirement};
 ghost use Rattle.resolvo_queue.specs.Rows.{loaded_rows, AreFew};
 ghost use Rattle.resolvo_queue.specs.Scan.{first_falsified, is_eligible, scan};
 
@@ -16,7 +16,7 @@ use crate::requires_clause::RequiresClause;
 use crate::row_state::{RowState, requirement_state};
 use resolvo_clauses::DecisionMap;
 use resolvo_ids::{ClauseId, StoreError, VariableId};
-use resolvo_pool::{Interner, Requirement, RequirementMap};
+use resolvo_provider::{Interner, Requirement, RequirementMap};
 use std::alloc::Allocator;
 use std::marker::Model;
 

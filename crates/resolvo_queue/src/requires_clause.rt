@@ -1,6 +1,6 @@
 //! Requires clauses, as a queue keeps them.
 use resolvo_ids::{ClauseId, VariableId};
-use resolvo_pool::Requirement;
+use resolvo_provider::Requirement;
 
 /// The clause that a parent, if it is true, has its requirement met.
 #[derive(Clone, Copy, Debug, PartialEq, Eq)]

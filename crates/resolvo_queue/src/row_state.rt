@@ -3,14 +3,14 @@
 //! A row is a candidate of a requirement: a variable, in the list of one of the requirement's version sets.
 ghost use Rattle.std.specs.Prelude.{◌≡◌, ◌+◌, ◌<◌, ◌≤◌, ◌^◌, true, map, flat_map, length};
 ghost use Rattle.resolvo_clauses.specs.Decisions.{values_in};
-ghost use Rattle.resolvo_pool.specs.Provider.{knows_requirement};
+ghost use Rattle.resolvo_provider.specs.Provider.{knows_requirement};
 ghost use Rattle.resolvo_queue.specs.Rows.{list_rows, rows, loaded_rows, AreFew};
 ghost use Rattle.resolvo_queue.specs.RowState.{state_of, counted, with_row, with_rows};
 
 use crate::frontier::Frontier;
 use resolvo_clauses::DecisionMap;
 use resolvo_ids::{VariableId, VersionSetId};
-use resolvo_pool::{Interner, Requirement, RequirementMap};
+use resolvo_provider::{Interner, Requirement, RequirementMap};
 use std::alloc::Allocator;
 
 /// A row is true, or else there is an undecided one, or else all are false.

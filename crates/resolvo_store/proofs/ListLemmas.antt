@@ -9,10 +9,10 @@ use Rattle.std.proofs.Math.Path.{fun_ext}
 use Rattle.std.proofs.lemmas.List.{length-map}
 use Rattle.std.proofs.lemmas.List.Folds.{flat_map-map}
 use Rattle.std.proofs.lemmas.Map.Made.{lookup-map_values}
-use Rattle.resolvo_pool.specs.RequirementMap.{with_entry}
-use Rattle.resolvo_pool.specs.declared.requirement.Requirement.{Requirement}
-use Rattle.resolvo_pool.specs.Requirement.{same_requirement}
-use Rattle.resolvo_pool.specs.Provider.{Catalogue, sets_of}
+use Rattle.resolvo_provider.specs.RequirementMap.{with_entry}
+use Rattle.resolvo_provider.specs.declared.requirement.Requirement.{Requirement}
+use Rattle.resolvo_provider.specs.Requirement.{same_requirement}
+use Rattle.resolvo_provider.specs.Provider.{Catalogue, sets_of}
 use Rattle.resolvo_queue.specs.Rows.{Row, rows, lists_or_none, loaded_rows, AreFew}
 use Rattle.resolvo_store.specs.Lists.{lists_kept}
 

@@ -9,8 +9,8 @@ use Rattle.std.proofs.lemmas.Simd.{map-map}
 use Rattle.resolvo_ids.specs.Refusals.{IsGrowthRefusal}
 use Rattle.resolvo_ids.specs.declared.error.StoreError.{StoreError}
 use Rattle.resolvo_ids.specs.declared.error.StoreError.TheVariants.{OutOfMemory, IdSpace}
-use Rattle.resolvo_pool.specs.declared.requirement.Requirement.{Requirement}
-use Rattle.resolvo_pool.specs.Provider.{sets_of}
+use Rattle.resolvo_provider.specs.declared.requirement.Requirement.{Requirement}
+use Rattle.resolvo_provider.specs.Provider.{sets_of}
 use Rattle.resolvo_clauses.specs.declared.variable_origin.VariableOrigin.{VariableOrigin}
 use Rattle.resolvo_clauses.specs.Variables.{interned_variable, all_interned}
 use Rattle.resolvo_store.specs.Command.{Load, LoadedAs}

@@ -1,8 +1,8 @@
 -- Lists of variables as they are kept, and what is true of what a store keeps.
 use Rattle.std.specs.Prelude.{◌≡◌, ℕ, true, List, map, All}
 use Rattle.std.specs.declared.vec.Vec.{Vec}
-use Rattle.resolvo_pool.specs.declared.requirement.Requirement.{Requirement}
-use Rattle.resolvo_pool.specs.Provider.{Catalogue, knows_requirement}
+use Rattle.resolvo_provider.specs.declared.requirement.Requirement.{Requirement}
+use Rattle.resolvo_provider.specs.Provider.{Catalogue, knows_requirement}
 use Rattle.resolvo_queue.specs.declared.requires_clause.RequiresClause.{RequiresClause}
 use Rattle.resolvo_queue.specs.Rows.{AreFew}
 

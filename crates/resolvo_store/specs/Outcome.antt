@@ -2,8 +2,8 @@
 use Rattle.std.specs.Prelude.{ℕ, Bool, not, ◌&&◌, List, [], ◌∷◌, ◌++◌, map, length, flat_map, Option, Some, None, if◌then◌else◌}
 use Rattle.std.specs.List.{list_all}
 use Rattle.std.specs.Bool.{beq}
-use Rattle.resolvo_pool.specs.declared.requirement.Requirement.{Requirement}
-use Rattle.resolvo_pool.specs.Provider.{sets_of}
+use Rattle.resolvo_provider.specs.declared.requirement.Requirement.{Requirement}
+use Rattle.resolvo_provider.specs.Provider.{sets_of}
 use Rattle.resolvo_clauses.specs.declared.variable_origin.VariableOrigin.{VariableOrigin}
 use Rattle.resolvo_clauses.specs.Literals.{Values, known_false}
 use Rattle.resolvo_clauses.specs.Variables.{interned, interned_variable, all_interned}

@@ -3,7 +3,7 @@ use Rattle.std.specs.Prelude.{◌≡◌, ◌-◌, ◌^◌, Bool, true, false, no
 use Rattle.std.specs.List.{list_any}
 use Rattle.resolvo_ids.specs.declared.error.StoreError.{StoreError}
 use Rattle.resolvo_ids.specs.declared.error.StoreError.TheVariants.{OutOfMemory, IdSpace}
-use Rattle.resolvo_pool.specs.Provider.{sets_of}
+use Rattle.resolvo_provider.specs.Provider.{sets_of}
 use Rattle.resolvo_clauses.specs.Literals.{undecided}
 use Rattle.resolvo_clauses.specs.Variables.{variable_of_solvable}
 use Rattle.resolvo_store.specs.Command.{Command, Variable, Load, Assign, UndoUntil, Decide, Reply, Refused}

@@ -2,9 +2,9 @@
 use Rattle.std.specs.Prelude.{ℕ, Bool, List, [], ◌∷◌, Option, unwrap_or}
 use Rattle.std.specs.Map.{lookup}
 use Rattle.resolvo_ids.specs.declared.version_set_id.VersionSetId.{VersionSetId}
-use Rattle.resolvo_pool.specs.declared.requirement.Requirement.{Requirement}
-use Rattle.resolvo_pool.specs.Requirement.{same_requirement}
-use Rattle.resolvo_pool.specs.Provider.{Catalogue, Answers, sorted, sets_of}
+use Rattle.resolvo_provider.specs.declared.requirement.Requirement.{Requirement}
+use Rattle.resolvo_provider.specs.Requirement.{same_requirement}
+use Rattle.resolvo_provider.specs.Provider.{Catalogue, Answers, sorted, sets_of}
 use Rattle.resolvo_clauses.specs.declared.variable_origin.VariableOrigin.{VariableOrigin}
 use Rattle.resolvo_clauses.specs.declared.variable_origin.VariableOrigin.TheVariants.{Root}
 use Rattle.resolvo_clauses.specs.Literals.{Lit, Values}

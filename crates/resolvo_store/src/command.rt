@@ -1,6 +1,6 @@
 //! What a store is asked.
 use resolvo_ids::{ClauseId, DisjunctionId, VariableId};
-use resolvo_pool::Requirement;
+use resolvo_provider::Requirement;
 
 /// A command. `S` are the provider's solvables.
 ///

@@ -13,7 +13,7 @@ use crate::command::Command;
 use crate::reply::Reply;
 use resolvo_clauses::{DecisionTracker, VariableMap};
 use resolvo_ids::{StoreError, VariableId};
-use resolvo_pool::{DependencyProvider, RequirementMap};
+use resolvo_provider::{DependencyProvider, RequirementMap};
 use resolvo_queue::DecideQueue;
 use std::marker::Model;
 

@@ -2,10 +2,10 @@
 use Rattle.std.specs.Prelude.{ℕ, nat_lt, length, List, [], ◌++◌, slice_get, unwrap_or, option_map, codes, decimal}
 use Rattle.std.specs.String.{string_bytes}
 use Rattle.resolvo_ids.specs.declared.version_set_id.VersionSetId.{VersionSetId}
-use Rattle.resolvo_pool.specs.declared.condition.Condition.TheVariants.{Requirement}
+use Rattle.resolvo_provider.specs.declared.condition.Condition.TheVariants.{Requirement}
 use Rattle.resolvo_pool.specs.declared.solvable.Solvable.{Solvable}
-use Rattle.resolvo_pool.specs.Provider.{Catalogue, Answers}
-use Rattle.resolvo_pool.specs.Texts.{Texts}
+use Rattle.resolvo_provider.specs.Provider.{Catalogue, Answers}
+use Rattle.resolvo_provider.specs.Texts.{Texts}
 use Rattle.script_packages.specs.declared.packages.Packages.{Packages}
 use Rattle.script_packages.specs.declared.packages.VersionRange.{VersionRange}
 use Rattle.script_packages.specs.Packages.{span_of, listed_numbers, is_within}

@@ -3,11 +3,11 @@ use Rattle.std.specs.Prelude.{◌≡◌, ℕ, ◌<◌, ◌∷◌, true, nat_lt, 
 use Rattle.std.proofs.Common.{arith, refl, zero, suc}
 use Rattle.std.proofs.lemmas.Bool.{lt-ltb, ltb-true}
 use Rattle.resolvo_ids.specs.declared.version_set_id.VersionSetId.{VersionSetId}
-use Rattle.resolvo_pool.specs.declared.condition.Condition.{Condition}
-use Rattle.resolvo_pool.specs.declared.condition.Condition.TheVariants.{Binary, Requirement}
+use Rattle.resolvo_provider.specs.declared.condition.Condition.{Condition}
+use Rattle.resolvo_provider.specs.declared.condition.Condition.TheVariants.{Binary, Requirement}
 use Rattle.resolvo_pool.specs.declared.solvable.Solvable.{Solvable}
 use Rattle.resolvo_pool.specs.Pool.{IsMadeBelow}
-use Rattle.resolvo_pool.specs.Provider.{AreSolvableNamesKnown, AreSetNamesKnown, AreUnionSetsKnown, AreOperandsKnown, IsMadeOfKnown}
+use Rattle.resolvo_provider.specs.Provider.{AreSolvableNamesKnown, AreSetNamesKnown, AreUnionSetsKnown, AreOperandsKnown, IsMadeOfKnown}
 use Rattle.script_packages.specs.declared.packages.Packages.{Packages}
 use Rattle.script_packages.specs.declared.packages.VersionRange.{VersionRange}
 use Rattle.script_packages.specs.PackageAnswers.{catalogue_of}

@@ -13,7 +13,7 @@ use crate::ids::id;
 use crate::packages::{Packages, Span, VersionRange};
 use crate::word::next_word;
 use resolvo_ids::{NameId, SolvableId, VersionSetId};
-use resolvo_pool::Condition;
+use resolvo_provider::Condition;
 
 impl Packages {
     ghost use Rattle.script_packages.specs.Listing.{listing_of, with_versions};

@@ -10,7 +10,7 @@ use crate::ids::id;
 use crate::statement::{Line, Statement, open_line};
 use crate::word::{next_word, text_of};
 use resolvo_ids::VersionSetId;
-use resolvo_pool::{Condition, LogicalOperator};
+use resolvo_provider::{Condition, LogicalOperator};
 
 /// What a line up to `begin` says.
 #[derive(Clone, Copy)]

@@ -5,7 +5,7 @@ ghost use Rattle.script_packages.specs.Ids.{requirement_of};
 
 use crate::number::number;
 use resolvo_ids::{DenseIndex, VersionSetId, VersionSetUnionId};
-use resolvo_pool::Requirement;
+use resolvo_provider::Requirement;
 
 /// The id that a word stands for: its number is an index in range.
 pub fn id<I: DenseIndex>(word: &[u8]) -> Option<I>

@@ -1,8 +1,8 @@
 //! The provider of a script's packages.
 ghost use Rattle.std.specs.Prelude.{◌≡◌, ◌+◌, ◌-◌, length, IfOk, OnOk, OnErr, IfErr};
 ghost use Rattle.resolvo_ids.specs.declared.error.StoreError.TheVariants.{OutOfMemory};
-ghost use Rattle.resolvo_pool.specs.Provider.{filtered};
-ghost use Rattle.resolvo_pool.specs.Texts.{IsAppended, IsSameText};
+ghost use Rattle.resolvo_provider.specs.Provider.{filtered};
+ghost use Rattle.resolvo_provider.specs.Texts.{IsAppended, IsSameText};
 ghost use Rattle.script_packages.specs.Packages.{numbers, is_within};
 ghost use Rattle.script_packages.specs.Order.{version_at, best_first};
 
@@ -12,7 +12,8 @@ use resolvo_ids::{
     ConditionId, DenseIndex, NameId, SolvableId, StoreError, StringId, VersionSetId,
     VersionSetUnionId,
 };
-use resolvo_pool::{Condition, DependencyProvider, Interner, Pool};
+use resolvo_pool::Pool;
+use resolvo_provider::{Condition, DependencyProvider, Interner};
 use std::alloc::Global;
 
 impl Interner for Packages {

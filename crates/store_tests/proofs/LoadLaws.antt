@@ -3,8 +3,8 @@ use Rattle.std.proofs.Common.{◌≡◌, ℕ, List, length, map, Option, None, S
 use Rattle.std.specs.Prelude.{MatchOption}
 use Rattle.std.proofs.lemmas.List.{length-map}
 use Rattle.resolvo_ids.specs.declared.error.StoreError.{StoreError}
-use Rattle.resolvo_pool.specs.Provider.{sets_of}
-use Rattle.resolvo_pool.specs.declared.requirement.Requirement.{Requirement}
+use Rattle.resolvo_provider.specs.Provider.{sets_of}
+use Rattle.resolvo_provider.specs.declared.requirement.Requirement.{Requirement}
 use Rattle.resolvo_clauses.specs.Variables.{interned_variable}
 use Rattle.resolvo_store.specs.Command.{Load, Reply, LoadedAs, Refused}
 use Rattle.resolvo_store.specs.Store.{Store, lists_of, candidates_of}

@@ -5,7 +5,7 @@ use Rattle.std.specs.Prelude.{◌-◌, ◌^◌, nat_lt, nat_le, flat_map, length
 use Rattle.std.specs.List.{list_any}
 use Rattle.resolvo_ids.specs.declared.error.StoreError.{StoreError}
 use Rattle.resolvo_ids.specs.declared.error.StoreError.TheVariants.{IdSpace}
-use Rattle.resolvo_pool.specs.Provider.{sets_of}
+use Rattle.resolvo_provider.specs.Provider.{sets_of}
 use Rattle.resolvo_queue.specs.declared.requires_clause.RequiresClause.{RequiresClause}
 use Rattle.resolvo_queue.specs.Pick.{Offer}
 use Rattle.resolvo_store.specs.Command.{Command, Variable, Load, Requires, Assign, UndoUntil, Decide, Reply, Already, Clash, Refused, IsRefused}

@@ -1,8 +1,8 @@
 -- Worked examples: what the abstract store replies to some lists of commands, computed.
 use Rattle.std.specs.Prelude.{◌≡◌, ℕ, Bool, true, false, ◌==◌, if◌then◌else◌, List, [], ◌∷◌, Some, None}
 use Rattle.resolvo_ids.specs.declared.error.StoreError.TheVariants.{UnknownId, LevelOutOfRange, NotLoaded}
-use Rattle.resolvo_pool.specs.declared.requirement.Requirement.{Requirement}
-use Rattle.resolvo_pool.specs.declared.requirement.Requirement.TheVariants.{Single, Union}
+use Rattle.resolvo_provider.specs.declared.requirement.Requirement.{Requirement}
+use Rattle.resolvo_provider.specs.declared.requirement.Requirement.TheVariants.{Single, Union}
 use Rattle.resolvo_clauses.specs.Literals.{Values}
 use Rattle.resolvo_queue.specs.Rows.{Row, frontier}
 use Rattle.resolvo_queue.specs.Pick.{Offer, pick}

@@ -5,8 +5,8 @@ use Rattle.std.proofs.lemmas.List.Elements.{All-from_recursion}
 use Rattle.std.proofs.Common.{arith, rules, cond, refl}
 use Rattle.resolvo_ids.specs.declared.version_set_id.VersionSetId.{VersionSetId}
 use Rattle.resolvo_ids.specs.declared.version_set_union_id.VersionSetUnionId.{VersionSetUnionId}
-use Rattle.resolvo_pool.specs.declared.condition.Condition.{Condition}
-use Rattle.resolvo_pool.specs.declared.condition.Condition.TheVariants.{Requirement}
+use Rattle.resolvo_provider.specs.declared.condition.Condition.{Condition}
+use Rattle.resolvo_provider.specs.declared.condition.Condition.TheVariants.{Requirement}
 use Rattle.store_tests.specs.declared.lists.Package.{Package}
 use Rattle.store_tests.specs.declared.lists.VersionRange.{VersionRange}
 

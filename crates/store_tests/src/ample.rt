@@ -11,7 +11,7 @@ use resolvo_clauses::{
 use resolvo_ids::{
     DenseIndex, IdMap, NameId, Slot, SolvableId, SolverId, StoreError, VariableId, VersionSetId,
 };
-use resolvo_pool::{Interner, Requirement, RequirementMap};
+use resolvo_provider::{Interner, Requirement, RequirementMap};
 use resolvo_queue::{Answer, DecideQueue};
 use std::alloc::{Allocator, Global};
 use std::test::Fail;

@@ -1,13 +1,13 @@
 //! Callers that know nothing of the provider but its trait, and nothing of the store but its contracts.
 ghost use Rattle.std.specs.Prelude.{◌≡◌, ◌≢◌, ℕ, true, List, length, Some, None, IfSome};
 ghost use Rattle.resolvo_ids.specs.declared.error.StoreError.TheVariants.{UnknownId};
-ghost use Rattle.resolvo_pool.specs.Provider.{sets_of};
+ghost use Rattle.resolvo_provider.specs.Provider.{sets_of};
 ghost use Rattle.resolvo_queue.specs.Pick.{DecidesUnbeaten};
 ghost use Rattle.resolvo_store.specs.Command.{reply_of, LoadedAs, Refused, IsRefused};
 ghost use Rattle.resolvo_store.specs.Outcome.{offers};
 ghost use Rattle.resolvo_store.specs.Store.{lists_of};
 
-use resolvo_pool::{DependencyProvider, Interner, Requirement};
+use resolvo_provider::{DependencyProvider, Interner, Requirement};
 use resolvo_queue::QueueDecision;
 use resolvo_store::{AbstractStore, ClauseStore, Command, Reply};
 

@@ -1,15 +1,15 @@
 //! A provider of plain lists.
 ghost use Rattle.std.specs.Prelude.{◌≡◌, ◌<◌, ◌≤◌, ◌^◌, ◌==◌, ◌&&◌, [], true, All, map, length, reverse, refl, IfOk, OnOk, OnErr, IfErr, nat_lt};
 ghost use Rattle.resolvo_ids.specs.declared.error.StoreError.TheVariants.{OutOfMemory};
-ghost use Rattle.resolvo_pool.specs.Provider.{filtered};
-ghost use Rattle.resolvo_pool.specs.Texts.{IsAppended, IsSameText};
+ghost use Rattle.resolvo_provider.specs.Provider.{filtered};
+ghost use Rattle.resolvo_provider.specs.Texts.{IsAppended, IsSameText};
 ghost use Rattle.store_tests.specs.Listed.{places_of, package_at, range_at, union_at, are_known, is_within, every_name, set_condition};
 
 use resolvo_ids::{
     ConditionId, DenseIndex, NameId, SolvableId, StoreError, StringId, VersionSetId,
     VersionSetUnionId,
 };
-use resolvo_pool::{Condition, DependencyProvider, Interner};
+use resolvo_provider::{Condition, DependencyProvider, Interner};
 use std::alloc::Allocator;
 
 /// A solvable: a version of a package. Its id is its place in the list.

@@ -1,7 +1,7 @@
 //! What the tests ask of a store. What they share is generic in it, since a proof over a type parameter is much shorter
 //! than one over the store's own type.
 use resolvo_ids::{ClauseId, StoreError, VariableId};
-use resolvo_pool::{DependencyProvider, Interner};
+use resolvo_provider::{DependencyProvider, Interner};
 use resolvo_store::{ClauseStore, Command, Reply};
 use std::alloc::Allocator;
 

@@ -5,7 +5,7 @@ use crate::stores::Way;
 use crate::wanted::{Wanted, is_wanted};
 use refusing::Refusing;
 use resolvo_ids::{SolvableId, StoreError};
-use resolvo_pool::{DependencyProvider, Interner};
+use resolvo_provider::{DependencyProvider, Interner};
 use resolvo_store::{ClauseStore, Command, Reply};
 use std::alloc::{Allocator, Global};
 use std::process::Abort;

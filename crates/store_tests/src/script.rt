@@ -5,7 +5,7 @@ use resolvo_ids::{
     ClauseId, DenseIndex, DisjunctionId, NameId, StoreError, VariableId, VersionSetId,
     VersionSetUnionId,
 };
-use resolvo_pool::Requirement;
+use resolvo_provider::Requirement;
 use resolvo_store::Command;
 use std::alloc::{AllocError, Allocator};
 

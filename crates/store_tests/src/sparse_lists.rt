@@ -7,7 +7,7 @@ use resolvo_ids::{
     ConditionId, NameId, NameTag, SolvableId, SolvableTag, SparseId, StoreError, StringId,
     VersionSetId, VersionSetUnionId,
 };
-use resolvo_pool::{Condition, DependencyProvider, Interner};
+use resolvo_provider::{Condition, DependencyProvider, Interner};
 use std::alloc::Allocator;
 
 /// The sparse id of a name.

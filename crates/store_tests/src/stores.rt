@@ -7,7 +7,7 @@ use crate::script::variable;
 use crate::sparse_lists::{SparseLists, SparseName, SparseSolvable};
 use crate::wanted::{Wanted, WantedPlay, is_wanted};
 use resolvo_ids::{NameId, SolvableId, StoreError};
-use resolvo_pool::{DependencyProvider, Interner};
+use resolvo_provider::{DependencyProvider, Interner};
 use resolvo_store::{ClauseStore, Command, Reply};
 use std::alloc::{Allocator, Global};
 use std::process::Abort;

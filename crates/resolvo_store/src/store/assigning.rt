@@ -6,7 +6,7 @@ use crate::reply::Reply;
 use crate::store::ClauseStore;
 use resolvo_clauses::{AddFault, Decision, DecisionTracker};
 use resolvo_ids::{ClauseId, DenseIndex, StoreError, VariableId};
-use resolvo_pool::DependencyProvider;
+use resolvo_provider::DependencyProvider;
 
 impl<D: DependencyProvider + Drop> ClauseStore<D> {
     ghost use Rattle.resolvo_store.specs.Command.{Assign, UndoUntil, reply_of};

@@ -8,7 +8,7 @@ use crate::abstract_store::AbstractStore;
 use crate::reply::Reply;
 use crate::store::ClauseStore;
 use resolvo_ids::ClauseId;
-use resolvo_pool::DependencyProvider;
+use resolvo_provider::DependencyProvider;
 use resolvo_queue::{Answer, QueueDecision};
 
 impl<D: DependencyProvider + Drop> ClauseStore<D> {

@@ -1,13 +1,13 @@
 //! The commands that bring solvables: `Variable` and `Load`.
 ghost use Rattle.std.specs.Prelude.{◌≡◌, None, true, map, option_map, IfOk, IfErr};
-ghost use Rattle.resolvo_pool.specs.Provider.{knows_requirement};
+ghost use Rattle.resolvo_provider.specs.Provider.{knows_requirement};
 
 use crate::abstract_store::AbstractStore;
 use crate::reply::Reply;
 use crate::store::ClauseStore;
 use resolvo_ids::StoreError;
 use resolvo_loading::{VariableLists, candidate_lists, copy_of_lists, intern_lists};
-use resolvo_pool::{DependencyProvider, Interner, Requirement};
+use resolvo_provider::{DependencyProvider, Interner, Requirement};
 
 impl<D: DependencyProvider + Drop> ClauseStore<D> {
     ghost use Rattle.resolvo_store.specs.Command.{Variable, Load, reply_of, LoadedAs, Refused};

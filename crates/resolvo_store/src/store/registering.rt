@@ -7,10 +7,10 @@ use crate::conflict::is_conflict;
 use crate::reply::Reply;
 use crate::store::ClauseStore;
 use resolvo_ids::{ClauseId, DenseIndex, DisjunctionId, StoreError, VariableId};
-use resolvo_pool::{DependencyProvider, Interner, Requirement};
+use resolvo_provider::{DependencyProvider, Interner, Requirement};
 
 impl<D: DependencyProvider + Drop> ClauseStore<D> {
-    ghost use Rattle.resolvo_pool.specs.Provider.{knows_requirement, sets_of};
+    ghost use Rattle.resolvo_provider.specs.Provider.{knows_requirement, sets_of};
     ghost use Rattle.resolvo_queue.specs.Rows.{rows};
     ghost use Rattle.resolvo_store.specs.Command.{Requires, reply_of};
     ghost use Rattle.resolvo_store.specs.Store.{lists_of, values};

@@ -1,7 +1,7 @@
 use Rattle.std.proofs.Common.{◌≡◌, ◌∙◌, Bool, true}
 use Rattle.std.specs.Prelude.{All}
 use Rattle.std.proofs.lemmas.Result.{IfOk-weaker}
-use Rattle.resolvo_pool.specs.Provider.{filtered}
+use Rattle.resolvo_provider.specs.Provider.{filtered}
 use Rattle.resolvo_loading.proofs.CandidateLemmas.{found_known}
 use Rattle.resolvo_loading.proofs.candidates.matching_candidates.Goals as goal
 

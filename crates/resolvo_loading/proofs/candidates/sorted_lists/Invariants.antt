@@ -1,6 +1,6 @@
 use Rattle.std.proofs.Common.{◌≡◌, ◌+◌, ◌<◌, ◌++◌, ◌^◌, map, drop, length}
 use Rattle.std.specs.Prelude.{flat_map}
-use Rattle.resolvo_pool.specs.Provider.{sorted}
+use Rattle.resolvo_provider.specs.Provider.{sorted}
 use Rattle.resolvo_loading.proofs.candidates.sorted_lists.Given as goal
 
 abbrev pub invariant-loop-set : goal.invariant-loop-set

@@ -1,6 +1,6 @@
 use Rattle.std.proofs.Common.{◌≡◌, ◌∷◌, [], true, sym, ap, ◌∙◌, subst}
 use Rattle.std.proofs.lemmas.List.Elements.{recursion_from_All, All-get_or}
-use Rattle.resolvo_pool.specs.Provider.{knows_requirement}
+use Rattle.resolvo_provider.specs.Provider.{knows_requirement}
 use Rattle.resolvo_clauses.specs.Decisions.{values_in}
 use Rattle.resolvo_clauses.specs.Literals.{known_true}
 use Rattle.resolvo_queue.specs.declared.requires_clause.RequiresClause.{RequiresClause}

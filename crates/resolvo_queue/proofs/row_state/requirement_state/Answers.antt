@@ -1,4 +1,4 @@
-use Rattle.resolvo_pool.specs.Provider.{sets_of}
+use Rattle.resolvo_provider.specs.Provider.{sets_of}
 use Rattle.resolvo_clauses.specs.Decisions.{values_in}
 use Rattle.resolvo_queue.proofs.RowLaws.{few_kept, none_kept}
 use Rattle.resolvo_queue.proofs.row_state.requirement_state.Goals as goal

@@ -1,5 +1,5 @@
 use Rattle.std.proofs.Common.{◌≡◌, ◌++◌, drop, ℕ, Bool, List}
-use Rattle.resolvo_pool.specs.Provider.{filtered}
+use Rattle.resolvo_provider.specs.Provider.{filtered}
 use Rattle.resolvo_pool.specs.declared.solvable.Solvable.{Solvable}
 use Rattle.script_packages.specs.declared.packages.VersionRange.{VersionRange}
 use Rattle.script_packages.specs.Order.{version_at}

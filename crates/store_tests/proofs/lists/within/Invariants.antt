@@ -1,5 +1,5 @@
 use Rattle.std.proofs.Common.{◌≡◌, ◌++◌, drop, ℕ, Bool, List}
-use Rattle.resolvo_pool.specs.Provider.{filtered}
+use Rattle.resolvo_provider.specs.Provider.{filtered}
 use Rattle.store_tests.specs.declared.lists.Package.{Package}
 use Rattle.store_tests.specs.declared.lists.VersionRange.{VersionRange}
 use Rattle.store_tests.specs.Listed.{package_at, is_within}

@@ -1,6 +1,6 @@
 use Rattle.std.proofs.Common.{string_bytes, map, ap, sym, subst, length, rules, ◌∙◌}
 use Rattle.resolvo_pool.proofs.ConditionLemmas.{has_condition, place_of_condition, interned_condition}
-use Rattle.resolvo_pool.specs.contracts.condition.ConditionPartialEq.TheImpl.{eq-value}
+use Rattle.resolvo_provider.specs.contracts.condition.ConditionPartialEq.TheImpl.{eq-value}
 use Rattle.resolvo_pool.specs.Pool.{IsMadeBelow}
 use Rattle.resolvo_pool.specs.PoolView.{lists_of}
 use Rattle.resolvo_pool.proofs.PoolLemmas.{placed_interned, own_with_conditions}

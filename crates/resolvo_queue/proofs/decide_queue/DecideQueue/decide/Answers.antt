@@ -1,7 +1,7 @@
 use Rattle.std.proofs.Common.{◌≡◌, true, eqb, sym, ap, ◌∙◌, subst}
 use Rattle.std.specs.Prelude.{All, flat_map}
 use Rattle.std.proofs.lemmas.List.Elements.{All-same, All-filter}
-use Rattle.resolvo_pool.specs.Provider.{knows_requirement}
+use Rattle.resolvo_provider.specs.Provider.{knows_requirement}
 use Rattle.resolvo_clauses.specs.Decisions.{values_in}
 use Rattle.resolvo_queue.specs.declared.requires_clause.RequiresClause.{RequiresClause}
 use Rattle.resolvo_queue.specs.Answer.{answer_of}

@@ -1,0 +1,5 @@
+pub mod Provider
+pub mod Requirement
+pub mod RequirementMap
+pub mod RequirementMapLends
+pub mod Texts

@@ -1,0 +1,23 @@
+//! What a resolver asks of an ecosystem of packages: requirements and conditions, the interner that tells what an id stands
+//! for and writes its text, and the provider that answers which packages there are.
+#![tactic(auto)]
+
+mod condition;
+mod conditional_requirement;
+mod interner;
+mod joined;
+mod provider;
+mod requirement;
+mod requirement_map;
+mod requirement_text;
+mod root_text;
+mod version_sets;
+
+pub use condition::{Condition, LogicalOperator};
+pub use conditional_requirement::ConditionalRequirement;
+pub use interner::Interner;
+pub use provider::DependencyProvider;
+pub use requirement::Requirement;
+pub use requirement_map::RequirementMap;
+pub use root_text::RootText;
+pub use version_sets::VersionSets;
