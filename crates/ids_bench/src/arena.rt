@@ -2,7 +2,8 @@
 use crate::fault::Fault;
 use crate::order::{ids, rounds};
 use crate::report::{Measured, line};
-use resolvo_ids::{Arena, DenseIndex, NameId, StoreError};
+use resolvo_ids::{DenseIndex, NameId, StoreError};
+use resolvo_storage::Arena;
 use std::alloc::AllocError;
 use std::rt::Clock;
 use std::time::Instant;

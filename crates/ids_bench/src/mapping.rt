@@ -2,7 +2,8 @@
 use crate::fault::Fault;
 use crate::order::{ids, rounds};
 use crate::report::{Measured, line};
-use resolvo_ids::{DenseIndex, Mapping, NameId, StoreError};
+use resolvo_ids::{DenseIndex, NameId, StoreError};
+use resolvo_storage::Mapping;
 use std::rt::Clock;
 use std::time::Instant;
 

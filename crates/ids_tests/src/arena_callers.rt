@@ -1,8 +1,9 @@
 //! Callers of arenas, generic in the ids: what they are told is enough.
 ghost use Rattle.std.specs.Prelude.{◌≡◌, ◌<◌, length, slice_set, sum, IfOk, IfSome};
-ghost use Rattle.resolvo_ids.specs.Arena.{pairs_from};
+ghost use Rattle.resolvo_storage.specs.Arena.{pairs_from};
 
-use resolvo_ids::{Arena, DenseIndex};
+use resolvo_ids::DenseIndex;
+use resolvo_storage::Arena;
 use std::alloc::{AllocError, Allocator};
 
 /// The pairs that going over an arena gives.

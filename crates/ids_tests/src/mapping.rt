@@ -2,7 +2,8 @@
 ghost use Rattle.std.specs.Prelude.{◌≡◌};
 
 use crate::mapping_callers::{clear, count_up, exchange, find_at_least};
-use resolvo_ids::{DenseId, Mapping, MappingIter, SolvableId, StoreError};
+use resolvo_ids::{DenseId, SolvableId, StoreError};
+use resolvo_storage::{Mapping, MappingIter};
 use std::alloc::Global;
 use std::test::Fail;
 

@@ -3,9 +3,10 @@ ghost use Rattle.std.specs.Prelude.{◌≢◌};
 
 use crate::any_set::{SetAnswers, set_answers};
 use resolvo_ids::{
-    DenseId, FrozenCopyMap, IndexedSet, NameId, NameTag, SolvableId, SolvableIdOrRoot, SolverId,
-    SparseId, StoreError, WithRootSet,
+    DenseId, IndexedSet, NameId, NameTag, SolvableId, SolvableIdOrRoot, SolverId, SparseId,
+    StoreError, WithRootSet,
 };
+use resolvo_storage::FrozenCopyMap;
 use std::alloc::Global;
 use std::test::Fail;
 

@@ -1,3 +1,2 @@
 pub mod TrackerLemmas
 pub mod TrailLemmas
-pub mod VariableLemmas

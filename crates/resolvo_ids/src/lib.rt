@@ -1,12 +1,10 @@
-//! Typed ids, the refusals, and storage that is kept by ids.
+//! Typed ids, the refusals, and the maps and sets that an id chooses.
 //!
 //! Everything above speaks by these ids. A dense id stands for an index, so that what is kept by it lies in vectors:
-//! lists of values ([`Arena`]), finite maps ([`Mapping`]), total maps ([`IdMap`]) and sets ([`IndexedSet`]). What is
+//! total maps ([`IdMap`]) and sets ([`IndexedSet`]) here, lists of values and finite maps in `resolvo_storage`. What is
 //! generic in an id asks only for [`SolverId`], which chooses its maps and its set itself.
 #![tactic(auto)]
 
-mod arena;
-mod arena_iter;
 mod candidates_id;
 mod clause_id;
 mod condition_id;
@@ -17,14 +15,11 @@ mod dense_map;
 mod dependencies_id;
 mod disjunction_id;
 mod error;
-mod frozen_copy_map;
 mod id_map;
 mod id_set;
 mod indexed_set;
 mod insert_error;
 mod learnt_clause_id;
-mod mapping;
-mod mapping_iter;
 mod solvable_id_or_root;
 mod solver_id;
 mod sparse_id;
@@ -35,8 +30,6 @@ mod version_set_id;
 mod version_set_union_id;
 mod with_root_set;
 
-pub use arena::Arena;
-pub use arena_iter::ArenaIter;
 pub use candidates_id::CandidatesId;
 pub use clause_id::ClauseId;
 pub use condition_id::ConditionId;
@@ -46,14 +39,11 @@ pub use dense_index::DenseIndex;
 pub use dependencies_id::DependenciesId;
 pub use disjunction_id::DisjunctionId;
 pub use error::StoreError;
-pub use frozen_copy_map::FrozenCopyMap;
 pub use id_map::IdMap;
 pub use id_set::IdSet;
 pub use indexed_set::IndexedSet;
 pub use insert_error::InsertError;
 pub use learnt_clause_id::LearntClauseId;
-pub use mapping::Mapping;
-pub use mapping_iter::MappingIter;
 pub use solvable_id_or_root::SolvableIdOrRoot;
 pub use solver_id::{SameId, SolverId};
 pub use sparse_id::SparseId;

@@ -10,10 +10,10 @@ use Rattle.std.proofs.lemmas.List.Sums.{fold-append}
 use Rattle.resolvo_ids.specs.Refusals.{IsGrowthRefusal}
 use Rattle.resolvo_ids.specs.declared.error.StoreError.{StoreError}
 use Rattle.resolvo_ids.specs.declared.error.StoreError.TheVariants.{OutOfMemory, IdSpace}
-use Rattle.resolvo_clauses.specs.declared.variable_origin.VariableOrigin.{VariableOrigin}
-use Rattle.resolvo_clauses.specs.declared.variable_origin.VariableOrigin.TheVariants.{Solvable}
-use Rattle.resolvo_clauses.specs.Variables.{is_solvable, variable_of_solvable, interned_variable, interned, all_interned, are_variables_out}
-use Rattle.resolvo_clauses.proofs.VariableLemmas.{or_else, position-append}
+use Rattle.resolvo_variables.specs.declared.variable_origin.VariableOrigin.{VariableOrigin}
+use Rattle.resolvo_variables.specs.declared.variable_origin.VariableOrigin.TheVariants.{Solvable}
+use Rattle.resolvo_variables.specs.Variables.{is_solvable, variable_of_solvable, interned_variable, interned, all_interned, are_variables_out}
+use Rattle.resolvo_variables.proofs.VariableLemmas.{or_else, position-append}
 
 -- a growth that may be refused may also be refused where ids are out in more cases
 pub refusal_wider : (a b : Bool) (e : StoreError) → (a ≡ true → b ≡ true) → IsGrowthRefusal a e → IsGrowthRefusal b e

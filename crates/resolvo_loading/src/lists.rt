@@ -3,10 +3,10 @@ ghost use Rattle.std.specs.Prelude.{◌≡◌, ◌<◌, ◌≤◌, ◌-◌, ◌^
 ghost use Rattle.std.specs.List.{list_any};
 ghost use Rattle.resolvo_ids.specs.Refusals.{IsGrowthRefusal};
 ghost use Rattle.resolvo_ids.specs.declared.error.StoreError.TheVariants.{OutOfMemory};
-ghost use Rattle.resolvo_clauses.specs.Variables.{interned_variable, all_interned};
+ghost use Rattle.resolvo_variables.specs.Variables.{interned_variable, all_interned};
 
-use resolvo_clauses::VariableMap;
 use resolvo_ids::{SolverId, StoreError, VariableId};
+use resolvo_variables::VariableMap;
 use std::alloc::Allocator;
 
 /// Lists of variables, one a version set.

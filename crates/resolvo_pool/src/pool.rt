@@ -2,7 +2,7 @@
 ghost use Rattle.std.specs.Prelude.{◌≡◌, ◌<◌, ◌^◌, ◌-◌, ◌∷◌, false, length, nat_lt, slice_get, bytes_eq, string_bytes};
 ghost use Rattle.std.specs.Prelude.{option_map, IsTrue, IsOk, IfOk, OnOk, IfErr, OnErr, IsErrAnd};
 ghost use Rattle.std.specs.List.{position};
-ghost use Rattle.resolvo_ids.specs.Arena.{pairs_from};
+ghost use Rattle.resolvo_storage.specs.Arena.{pairs_from};
 ghost use Rattle.resolvo_ids.specs.declared.error.StoreError.TheVariants.{IdSpace, OutOfMemory};
 ghost use Rattle.resolvo_ids.specs.Refusals.{IsGrowthRefusal, are_ids_out};
 ghost use Rattle.resolvo_pool.specs.Interned.{has_same, interned, interned_place};
@@ -14,10 +14,11 @@ use crate::solvable::Solvable;
 use crate::version_set::VersionSet;
 use indexmap::IndexSet;
 use resolvo_ids::{
-    Arena, ArenaIter, ConditionId, DenseIndex, InsertError, NameId, SolvableId, StoreError,
-    StringId, VersionSetId, VersionSetUnionId,
+    ConditionId, DenseIndex, InsertError, NameId, SolvableId, StoreError, StringId, VersionSetId,
+    VersionSetUnionId,
 };
 use resolvo_provider::Condition;
+use resolvo_storage::{Arena, ArenaIter};
 use std::alloc::{Allocator, Global};
 use std::hash::{BuildHasherDefault, FoldHasher, Hash};
 use std::marker::Model;

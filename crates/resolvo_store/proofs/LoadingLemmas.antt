@@ -11,8 +11,8 @@ use Rattle.resolvo_ids.specs.declared.error.StoreError.{StoreError}
 use Rattle.resolvo_ids.specs.declared.error.StoreError.TheVariants.{OutOfMemory, IdSpace}
 use Rattle.resolvo_provider.specs.declared.requirement.Requirement.{Requirement}
 use Rattle.resolvo_provider.specs.Provider.{sets_of}
-use Rattle.resolvo_clauses.specs.declared.variable_origin.VariableOrigin.{VariableOrigin}
-use Rattle.resolvo_clauses.specs.Variables.{interned_variable, all_interned}
+use Rattle.resolvo_variables.specs.declared.variable_origin.VariableOrigin.{VariableOrigin}
+use Rattle.resolvo_variables.specs.Variables.{interned_variable, all_interned}
 use Rattle.resolvo_store.specs.Command.{Load, LoadedAs}
 use Rattle.resolvo_store.specs.Store.{Store, lists_of, candidates_of}
 use Rattle.resolvo_store.specs.Outcome.{outcome, load, origins_loaded, variables_loaded}

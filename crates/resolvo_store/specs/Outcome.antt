@@ -4,9 +4,9 @@ use Rattle.std.specs.List.{list_all}
 use Rattle.std.specs.Bool.{beq}
 use Rattle.resolvo_provider.specs.declared.requirement.Requirement.{Requirement}
 use Rattle.resolvo_provider.specs.Provider.{sets_of}
-use Rattle.resolvo_clauses.specs.declared.variable_origin.VariableOrigin.{VariableOrigin}
+use Rattle.resolvo_variables.specs.declared.variable_origin.VariableOrigin.{VariableOrigin}
 use Rattle.resolvo_clauses.specs.Literals.{Values, known_false}
-use Rattle.resolvo_clauses.specs.Variables.{interned, interned_variable, all_interned}
+use Rattle.resolvo_variables.specs.Variables.{interned, interned_variable, all_interned}
 use Rattle.resolvo_clauses.specs.Trail.{Entry, kept_until}
 use Rattle.resolvo_queue.specs.declared.requires_clause.RequiresClause.{RequiresClause}
 use Rattle.resolvo_queue.specs.Rows.{Row}

@@ -3,7 +3,7 @@ use Rattle.std.specs.Prelude.{ℕ, ◌-◌, ◌^◌, Bool, not, ◌&&◌, ◌||�
 use Rattle.resolvo_ids.specs.declared.error.StoreError.{StoreError}
 use Rattle.resolvo_ids.specs.declared.error.StoreError.TheVariants.{IdSpace, UnknownId, LevelOutOfRange, NotLoaded, TooManyClauses}
 use Rattle.resolvo_provider.specs.Provider.{knows_requirement}
-use Rattle.resolvo_clauses.specs.Variables.{variable_of_solvable, are_variables_out}
+use Rattle.resolvo_variables.specs.Variables.{variable_of_solvable, are_variables_out}
 use Rattle.resolvo_store.specs.Command.{Command, Variable, Load, Requires, Assign, UndoUntil, Decide}
 use Rattle.resolvo_store.specs.Store.{Store, lists_of}
 

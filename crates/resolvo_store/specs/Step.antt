@@ -5,7 +5,7 @@ use Rattle.resolvo_ids.specs.declared.error.StoreError.{StoreError}
 use Rattle.resolvo_ids.specs.declared.error.StoreError.TheVariants.{OutOfMemory, IdSpace}
 use Rattle.resolvo_provider.specs.Provider.{sets_of}
 use Rattle.resolvo_clauses.specs.Literals.{undecided}
-use Rattle.resolvo_clauses.specs.Variables.{variable_of_solvable}
+use Rattle.resolvo_variables.specs.Variables.{variable_of_solvable}
 use Rattle.resolvo_store.specs.Command.{Command, Variable, Load, Assign, UndoUntil, Decide, Reply, Refused}
 use Rattle.resolvo_store.specs.Store.{Store, values, lists_of, candidates_of}
 use Rattle.resolvo_store.specs.Refusals.{first_refusal}

@@ -5,8 +5,8 @@ use Rattle.resolvo_ids.specs.declared.version_set_id.VersionSetId.{VersionSetId}
 use Rattle.resolvo_provider.specs.declared.requirement.Requirement.{Requirement}
 use Rattle.resolvo_provider.specs.Requirement.{same_requirement}
 use Rattle.resolvo_provider.specs.Provider.{Catalogue, Answers, sorted, sets_of}
-use Rattle.resolvo_clauses.specs.declared.variable_origin.VariableOrigin.{VariableOrigin}
-use Rattle.resolvo_clauses.specs.declared.variable_origin.VariableOrigin.TheVariants.{Root}
+use Rattle.resolvo_variables.specs.declared.variable_origin.VariableOrigin.{VariableOrigin}
+use Rattle.resolvo_variables.specs.declared.variable_origin.VariableOrigin.TheVariants.{Root}
 use Rattle.resolvo_clauses.specs.Literals.{Lit, Values}
 use Rattle.resolvo_clauses.specs.Trail.{Entry, val}
 use Rattle.resolvo_queue.specs.declared.requires_clause.RequiresClause.{RequiresClause}

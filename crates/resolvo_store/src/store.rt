@@ -11,10 +11,11 @@ mod registering;
 use crate::abstract_store::AbstractStore;
 use crate::command::Command;
 use crate::reply::Reply;
-use resolvo_clauses::{DecisionTracker, VariableMap};
+use resolvo_clauses::DecisionTracker;
 use resolvo_ids::{StoreError, VariableId};
 use resolvo_provider::{DependencyProvider, RequirementMap};
 use resolvo_queue::DecideQueue;
+use resolvo_variables::VariableMap;
 use std::marker::Model;
 
 /// A clause store over the packages of a provider.

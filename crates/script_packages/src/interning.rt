@@ -7,8 +7,9 @@ ghost use Rattle.script_packages.specs.Listing.{named, name_number, has_span, wi
 
 use crate::fault::LineFault;
 use crate::packages::{Packages, Span, VersionRange};
-use resolvo_ids::{FrozenCopyMap, NameId, SolvableId};
+use resolvo_ids::{NameId, SolvableId};
 use resolvo_pool::Pool;
+use resolvo_storage::FrozenCopyMap;
 use std::alloc::Global;
 
 impl Packages {

@@ -2,8 +2,9 @@
 ghost use Rattle.resolvo_pool.specs.Pool.{IsOfItself};
 ghost use Rattle.resolvo_pool.specs.PoolProps.{pool_props};
 
-use resolvo_ids::{FrozenCopyMap, NameId, SolvableId};
+use resolvo_ids::{NameId, SolvableId};
 use resolvo_pool::{Pool, VersionSet};
+use resolvo_storage::FrozenCopyMap;
 use std::alloc::Global;
 
 /// The solvables of a package: those from `first` to `last`.

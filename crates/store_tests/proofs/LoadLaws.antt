@@ -5,7 +5,7 @@ use Rattle.std.proofs.lemmas.List.{length-map}
 use Rattle.resolvo_ids.specs.declared.error.StoreError.{StoreError}
 use Rattle.resolvo_provider.specs.Provider.{sets_of}
 use Rattle.resolvo_provider.specs.declared.requirement.Requirement.{Requirement}
-use Rattle.resolvo_clauses.specs.Variables.{interned_variable}
+use Rattle.resolvo_variables.specs.Variables.{interned_variable}
 use Rattle.resolvo_store.specs.Command.{Load, Reply, LoadedAs, Refused}
 use Rattle.resolvo_store.specs.Store.{Store, lists_of, candidates_of}
 use Rattle.resolvo_store.specs.Refusals.{first_refusal}

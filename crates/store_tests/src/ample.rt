@@ -5,14 +5,13 @@ ghost use Rattle.std.specs.Prelude.{◌≡◌, []};
 use crate::script::{EACH_WANTED, clause, each_command, one_package, single, variable};
 use crate::sparse_lists::SparseSolvable;
 use crate::stores::{Way, dense_gives, sparse_gives};
-use resolvo_clauses::{
-    AddFault, Decision, DecisionMap, DecisionTracker, VariableMap, VariableOrigin,
-};
+use resolvo_clauses::{AddFault, Decision, DecisionMap, DecisionTracker};
 use resolvo_ids::{
     DenseIndex, IdMap, NameId, Slot, SolvableId, SolverId, StoreError, VariableId, VersionSetId,
 };
 use resolvo_provider::{Interner, Requirement, RequirementMap};
 use resolvo_queue::{Answer, DecideQueue};
+use resolvo_variables::{VariableMap, VariableOrigin};
 use std::alloc::{Allocator, Global};
 use std::test::Fail;
 

@@ -1,7 +1,7 @@
 use Rattle.std.proofs.Common.{◌≡◌, ◌∷◌, ◌+◌, ◌∙◌, sym, ap, drop, None, arith}
 use Rattle.std.specs.List.{list_any}
 use Rattle.std.proofs.lemmas.List.{drop_more, drop_all}
-use Rattle.resolvo_clauses.specs.Variables.{variable_of_solvable, interned, all_interned}
+use Rattle.resolvo_variables.specs.Variables.{variable_of_solvable, interned, all_interned}
 use Rattle.resolvo_loading.proofs.InterningLemmas.{in_turn-more, front-interned, longer-interned, in_turn-all, ids_out_for_all, refusal_wider, list_any-drop, unknown_if_refused}
 use Rattle.resolvo_loading.proofs.lists.intern_all.Goals as goal
 

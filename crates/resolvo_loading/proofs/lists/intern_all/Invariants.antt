@@ -1,5 +1,5 @@
 use Rattle.std.proofs.Common.{◌≡◌, ◌≤◌, ◌++◌, take, drop, length}
-use Rattle.resolvo_clauses.specs.Variables.{all_interned}
+use Rattle.resolvo_variables.specs.Variables.{all_interned}
 use Rattle.resolvo_loading.proofs.InterningLemmas.{variables_in_turn}
 use Rattle.resolvo_loading.proofs.lists.intern_all.Given as goal
 

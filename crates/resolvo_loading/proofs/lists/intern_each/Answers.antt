@@ -4,7 +4,7 @@ use Rattle.std.specs.List.{list_any}
 use Rattle.std.proofs.lemmas.List.{drop_more, drop_all}
 use Rattle.std.proofs.lemmas.Simd.{map-map}
 use Rattle.std.proofs.lemmas.List.Folds.{flat_map-map}
-use Rattle.resolvo_clauses.specs.Variables.{interned_variable, all_interned}
+use Rattle.resolvo_variables.specs.Variables.{interned_variable, all_interned}
 use Rattle.resolvo_loading.proofs.InterningLemmas.{lists-all, ids_out_for_lists, list_any-drop-pieces, refusal_wider}
 use Rattle.resolvo_loading.proofs.lists.intern_each.Goals as goal
 

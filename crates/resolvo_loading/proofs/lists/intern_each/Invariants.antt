@@ -1,6 +1,6 @@
 use Rattle.std.proofs.Common.{◌≡◌, ◌≤◌, ◌++◌, take, drop, length, map}
 use Rattle.std.specs.Prelude.{flat_map}
-use Rattle.resolvo_clauses.specs.Variables.{all_interned}
+use Rattle.resolvo_variables.specs.Variables.{all_interned}
 use Rattle.resolvo_loading.proofs.InterningLemmas.{lists_in_turn}
 use Rattle.resolvo_loading.proofs.lists.intern_each.Given as goal
 

@@ -5,7 +5,7 @@ use Rattle.std.proofs.lemmas.List.Folds.{flat_map-map}
 use Rattle.std.proofs.lemmas.Simd.{map-map}
 use Rattle.resolvo_provider.specs.Provider.{sorted, sets_of}
 use Rattle.resolvo_queue.specs.Rows.{AreFew}
-use Rattle.resolvo_clauses.specs.Variables.{interned_variable, all_interned}
+use Rattle.resolvo_variables.specs.Variables.{interned_variable, all_interned}
 use Rattle.resolvo_store.specs.Store.{store_of, provided, lists_of}
 use Rattle.resolvo_store.specs.Lists.{lists_kept}
 use Rattle.resolvo_store.proofs.ListLemmas.{insert-kept, items_of, few-more, length-mapped, same-joined}

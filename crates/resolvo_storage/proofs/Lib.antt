@@ -1,0 +1,2 @@
+pub mod ArenaLemmas
+pub mod MappingLemmas

@@ -1,0 +1,2 @@
+pub mod Forgetting
+pub mod Variables
