@@ -1,12 +1,9 @@
-//! What a load brings: the candidate lists of a requirement, best first, as the provider answers them, and the variables of
-//! the solvables in them.
+//! What a load brings: the candidate lists of a requirement, best first, as the provider answers them.
 //!
 //! A requirement has one list a version set, in the order of its version sets. Each call takes memory; after a refusal
 //! what it was given is as it was.
 #![tactic(auto)]
 
 mod candidates;
-mod lists;
 
 pub use candidates::{CandidateLists, candidate_lists};
-pub use lists::{VariableLists, copy_of_lists, intern_lists};

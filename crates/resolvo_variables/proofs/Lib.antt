@@ -1,1 +1,2 @@
+pub mod InterningLemmas
 pub mod VariableLemmas

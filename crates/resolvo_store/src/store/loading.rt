@@ -6,8 +6,9 @@ use crate::abstract_store::AbstractStore;
 use crate::reply::Reply;
 use crate::store::ClauseStore;
 use resolvo_ids::StoreError;
-use resolvo_loading::{VariableLists, candidate_lists, copy_of_lists, intern_lists};
+use resolvo_loading::candidate_lists;
 use resolvo_provider::{DependencyProvider, Interner, Requirement};
+use resolvo_variables::{VariableLists, copy_of_lists, intern_lists};
 
 impl<D: DependencyProvider + Drop> ClauseStore<D> {
     ghost use Rattle.resolvo_store.specs.Command.{Variable, Load, reply_of, LoadedAs, Refused};

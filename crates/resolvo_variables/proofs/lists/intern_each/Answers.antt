@@ -5,11 +5,11 @@ use Rattle.std.proofs.lemmas.List.{drop_more, drop_all}
 use Rattle.std.proofs.lemmas.Simd.{map-map}
 use Rattle.std.proofs.lemmas.List.Folds.{flat_map-map}
 use Rattle.resolvo_variables.specs.Variables.{interned_variable, all_interned}
-use Rattle.resolvo_loading.proofs.InterningLemmas.{lists-all, ids_out_for_lists, list_any-drop-pieces, refusal_wider}
-use Rattle.resolvo_loading.proofs.lists.intern_each.Goals as goal
+use Rattle.resolvo_variables.proofs.InterningLemmas.{lists-all, ids_out_for_lists, list_any-drop-pieces, refusal_wider, handed_on}
+use Rattle.resolvo_variables.proofs.lists.intern_each.Goals as goal
 
-pub returns-in-Err-clause-refused : goal.returns-in-Err-clause-refused
-returns-in-Err-clause-refused g c =
+pub returns-in_err-own-clause-refused : goal.returns-in_err-own-clause-refused
+returns-in_err-own-clause-refused g c =
     let same = g.S.PartialEq.eq in
     let large = g.S.Slots.IdMap.is_too_large in
     let vs = c.loop-list.variables in
@@ -20,11 +20,13 @@ returns-in-Err-clause-refused g c =
     let behind : drop i lists ≡ list ∷ rest = drop_more lists i list c.loop-list-test.true ∙ ap (λ y. y ∷ rest) (sym c.list-item.is) in
     let own : c.deref.result.now ++ flat_map (λ l. l.items) rest ≡ flat_map (λ l. l.items) (drop i lists) =
     ap (λ l. l ++ flat_map (λ l. l.items) rest) c.deref.ensures.value ∙ sym (ap (flat_map (λ l. l.items)) behind) in
-    refusal_wider _ _ c.in-Err.e
+    let e = c.in_err-own.field-0.0 in
+    handed_on _ c.from_residual.result e c.from_residual.ensures.1
+    (refusal_wider _ _ e
     (ids_out_for_lists same large vs c.args.variables.now c.deref.result.now (flat_map (λ l. l.items) rest) (flat_map (λ l. l.items) lists)
     (ap (all_interned same vs) own ∙ c.loop-list.invariant.all)
     (λ any. list_any-drop-pieces large (λ l. l.items) i lists (sym (ap (list_any large) own) ∙ any)))
-    c.in-Err.ensures.refused
+    c.in_err-own.ensures.refused)
 
 pub returns-clause-lists : goal.returns-clause-lists
 returns-clause-lists g c =

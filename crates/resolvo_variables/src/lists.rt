@@ -5,8 +5,8 @@ ghost use Rattle.resolvo_ids.specs.Refusals.{IsGrowthRefusal};
 ghost use Rattle.resolvo_ids.specs.declared.error.StoreError.TheVariants.{OutOfMemory};
 ghost use Rattle.resolvo_variables.specs.Variables.{interned_variable, all_interned};
 
+use crate::variable_map::VariableMap;
 use resolvo_ids::{SolverId, StoreError, VariableId};
-use resolvo_variables::VariableMap;
 use std::alloc::Allocator;
 
 /// Lists of variables, one a version set.
@@ -42,7 +42,7 @@ pub fn copy_of_lists<A: Allocator + Copy>(
     Ok(copies)
 }
 
-/// The variables of solvables, each of which gets one if it has none; all of them or, after a refusal, none.
+/// The variables of solvables, each of which gets one if it has none. A refusal leaves those that were there in front.
 fn intern_all<N: Copy, S: SolverId<A>, A: Allocator + Copy>(
     variables: &mut VariableMap<N, S, A>,
     alloc: A,
@@ -50,32 +50,22 @@ fn intern_all<N: Copy, S: SolverId<A>, A: Allocator + Copy>(
 ) -> Result<Vec<VariableId, A>, StoreError>
     ensures list { IfOk result (λ list. list.items ≡ map (interned_variable S.eq variables.new) solvables.now) }
     ensures ok { OnOk result (variables.new ≡ all_interned S.eq variables.old solvables.now) }
-    ensures front { OnOk result (take (length variables.old) variables.new ≡ variables.old) }
-    ensures longer { OnOk result (length variables.old ≤ length variables.new) }
-    ensures err { IfErr result (λ e. variables.new ≡ variables.old) }
+    ensures front { take (length variables.old) variables.new ≡ variables.old }
+    ensures longer { length variables.old ≤ length variables.new }
     ensures refused { IfErr result (IsGrowthRefusal (nat_lt (2 ^ 31 - 1) (length (all_interned S.eq variables.old solvables.now)) || list_any S.Slots.is_too_large solvables.now)) }
 {
-    let before = variables.count();
     let mut list = Vec::new(alloc);
     for solvable in solvables {
-        match variables.intern_solvable(*solvable) {
-            Ok(variable) => match list.push(variable) {
-                Ok(()) => {}
-                Err(_) => {
-                    variables.forget_from(before);
-                    return Err(StoreError::OutOfMemory);
-                }
-            },
-            Err(e) => {
-                variables.forget_from(before);
-                return Err(e);
-            }
+        let variable = variables.intern_solvable(*solvable)?;
+        match list.push(variable) {
+            Ok(()) => {}
+            Err(_) => return Err(StoreError::OutOfMemory),
         }
     }
     Ok(list)
 }
 
-/// The variables of lists of solvables, list by list; those of all lists or, after a refusal, none.
+/// The variables of lists of solvables, list by list. A refusal leaves those that were there in front.
 fn intern_each<N: Copy, S: SolverId<A>, A: Allocator + Copy>(
     variables: &mut VariableMap<N, S, A>,
     alloc: A,
@@ -83,32 +73,41 @@ fn intern_each<N: Copy, S: SolverId<A>, A: Allocator + Copy>(
 ) -> Result<VariableLists<A>, StoreError>
     ensures lists { IfOk result (λ made. map (λ l. l.items) made.items ≡ map (λ l. map (interned_variable S.eq variables.new) l.items) lists.now) }
     ensures ok { OnOk result (variables.new ≡ all_interned S.eq variables.old (flat_map (λ l. l.items) lists.now)) }
-    ensures front { OnOk result (take (length variables.old) variables.new ≡ variables.old) }
-    ensures longer { OnOk result (length variables.old ≤ length variables.new) }
-    ensures err { IfErr result (λ e. variables.new ≡ variables.old) }
+    ensures front { take (length variables.old) variables.new ≡ variables.old }
+    ensures longer { length variables.old ≤ length variables.new }
     ensures refused { IfErr result (IsGrowthRefusal (nat_lt (2 ^ 31 - 1) (length (all_interned S.eq variables.old (flat_map (λ l. l.items) lists.now))) || list_any S.Slots.is_too_large (flat_map (λ l. l.items) lists.now))) }
 {
-    let start = variables.count();
     let mut made = Vec::new(alloc);
     for list in lists {
-        match intern_all(variables, alloc, list) {
-            Ok(own) => match made.push(own) {
-                Ok(()) => {}
-                Err(_) => {
-                    variables.forget_from(start);
-                    return Err(StoreError::OutOfMemory);
-                }
-            },
-            Err(e) => {
-                variables.forget_from(start);
-                return Err(e);
-            }
+        let own = intern_all(variables, alloc, list)?;
+        match made.push(own) {
+            Ok(()) => {}
+            Err(_) => return Err(StoreError::OutOfMemory),
         }
     }
     Ok(made)
 }
 
-/// The lists of candidates, as variables, twice: to answer, and to keep. A refusal leaves the variables as they were.
+/// The variables of lists of solvables, twice. A refusal leaves those that were there in front.
+fn intern_twice<N: Copy, S: SolverId<A>, A: Allocator + Copy>(
+    variables: &mut VariableMap<N, S, A>,
+    alloc: A,
+    lists: &[Vec<S, A>],
+) -> Result<(VariableLists<A>, VariableLists<A>), StoreError>
+    ensures answer { IfOk result (λ both. map (λ l. l.items) both.0.items ≡ map (λ l. map (interned_variable S.eq variables.new) l.items) lists.now) }
+    ensures kept { IfOk result (λ both. map (λ l. l.items) both.1.items ≡ map (λ l. map (interned_variable S.eq variables.new) l.items) lists.now) }
+    ensures ok { OnOk result (variables.new ≡ all_interned S.eq variables.old (flat_map (λ l. l.items) lists.now)) }
+    ensures front { take (length variables.old) variables.new ≡ variables.old }
+    ensures longer { length variables.old ≤ length variables.new }
+    ensures refused { IfErr result (IsGrowthRefusal (nat_lt (2 ^ 31 - 1) (length (all_interned S.eq variables.old (flat_map (λ l. l.items) lists.now))) || list_any S.Slots.is_too_large (flat_map (λ l. l.items) lists.now))) }
+{
+    let made = intern_each(variables, alloc, lists)?;
+    let copy = copy_of_lists(alloc, &made)?;
+    Ok((made, copy))
+}
+
+/// The variables of lists of solvables, each of which gets one if it has none; list by list, twice: to answer, and to keep.
+/// A refusal leaves the variables as they were.
 pub fn intern_lists<N: Copy, S: SolverId<A>, A: Allocator + Copy>(
     variables: &mut VariableMap<N, S, A>,
     alloc: A,
@@ -123,9 +122,8 @@ pub fn intern_lists<N: Copy, S: SolverId<A>, A: Allocator + Copy>(
     ensures refused { IfErr result (IsGrowthRefusal (nat_lt (2 ^ 31 - 1) (length (all_interned S.eq variables.old (flat_map (λ l. l.items) lists.now))) || list_any S.Slots.is_too_large (flat_map (λ l. l.items) lists.now))) }
 {
     let before = variables.count();
-    let made = intern_each(variables, alloc, lists)?;
-    match copy_of_lists(alloc, &made) {
-        Ok(copy) => Ok((made, copy)),
+    match intern_twice(variables, alloc, lists) {
+        Ok(both) => Ok(both),
         Err(e) => {
             variables.forget_from(before);
             Err(e)

@@ -1,7 +1,7 @@
 use Rattle.std.proofs.Common.{◌≡◌, ◌≤◌, ◌++◌, take, drop, length}
 use Rattle.resolvo_variables.specs.Variables.{all_interned}
-use Rattle.resolvo_loading.proofs.InterningLemmas.{variables_in_turn}
-use Rattle.resolvo_loading.proofs.lists.intern_all.Given as goal
+use Rattle.resolvo_variables.proofs.InterningLemmas.{variables_in_turn}
+use Rattle.resolvo_variables.proofs.lists.intern_all.Given as goal
 
 abbrev pub invariant-loop-solvable : goal.invariant-loop-solvable
 invariant-loop-solvable g l =
@@ -9,6 +9,6 @@ invariant-loop-solvable g l =
     record {
       list : l.list.items ++ variables_in_turn same l.variables (drop l.solvable-index l.solvables) ≡ variables_in_turn same l.initial.variables l.solvables;
       all : all_interned same l.variables (drop l.solvable-index l.solvables) ≡ all_interned same l.initial.variables l.solvables;
-      front : take l.before l.variables ≡ l.initial.variables;
-      within : l.before ≤ length l.variables;
+      front : take (length l.initial.variables) l.variables ≡ l.initial.variables;
+      longer : length l.initial.variables ≤ length l.variables;
     }

@@ -1,6 +1,7 @@
 -- Solvables that get variables in turn.
-use Rattle.std.proofs.Common.{◌≡◌, ℕ, ◌+◌, ◌≤◌, ◌-◌, ◌^◌, Bool, true, false, cond, ◌||◌, List, [], ◌∷◌, ◌++◌, length, length-append, append_assoc, map, take, drop, Option, None, Some, refl, arith, sym, ◌∙◌, ap, subst, ltb, zero, suc}
-use Rattle.std.specs.Prelude.{is_some, unwrap_or, flat_map}
+use Rattle.std.proofs.Common.{◌≡◌, ℕ, ◌+◌, ◌≤◌, ◌-◌, ◌^◌, Bool, true, false, cond, ◌||◌, List, [], ◌∷◌, ◌++◌, length, length-append, append_assoc, map, take, drop, Option, None, Some, Result, Ok, Err, refl, arith, sym, ◌∙◌, ap, subst, ltb, zero, suc}
+use Rattle.std.specs.Prelude.{is_some, unwrap_or, flat_map, IfErr}
+use Rattle.std.specs.Result.{IsErrAnd}
 use Rattle.std.specs.List.{list_any}
 use Rattle.std.proofs.Math.Bool.{or-true}
 use Rattle.std.proofs.lemmas.Bool.Decides.{nat_tests}
@@ -14,6 +15,11 @@ use Rattle.resolvo_variables.specs.declared.variable_origin.VariableOrigin.{Vari
 use Rattle.resolvo_variables.specs.declared.variable_origin.VariableOrigin.TheVariants.{Solvable}
 use Rattle.resolvo_variables.specs.Variables.{is_solvable, variable_of_solvable, interned_variable, interned, all_interned, are_variables_out}
 use Rattle.resolvo_variables.proofs.VariableLemmas.{or_else, position-append}
+
+-- a refusal that was handed on
+pub handed_on : {T E : Type 0} (P : E → Type 0) (result : Result T E) (e : E) → IsErrAnd result (λ x. x ≡ e) → P e → IfErr result P
+handed_on P (Ok v) e h p = absurd h
+handed_on P (Err x) e h p = subst P (sym h) p
 
 -- a growth that may be refused may also be refused where ids are out in more cases
 pub refusal_wider : (a b : Bool) (e : StoreError) → (a ≡ true → b ≡ true) → IsGrowthRefusal a e → IsGrowthRefusal b e
