@@ -5,7 +5,7 @@ ghost use Rattle.resolvo_provider.specs.Provider.{Catalogue, AreSolvableNamesKno
 ghost use Rattle.resolvo_provider.specs.Texts.{Texts, IsAppended, IsContinued, IsSameText};
 
 use crate::condition::Condition;
-use crate::joined::append_merged;
+use crate::merged_text::MergedText;
 use resolvo_ids::{ConditionId, SolverId, StoreError, StringId, VersionSetId, VersionSetUnionId};
 use std::alloc::Allocator;
 
@@ -139,19 +139,12 @@ pub trait Interner {
         if solvables.is_empty() {
             return Ok(());
         }
-        let alloc = *out.allocator();
-        let mut name = String::new(alloc);
-        self.display_solvable_name(solvables[0], &mut name)?;
-        let mut texts = Vec::new(alloc);
+        let mut merged = MergedText::new(*out.allocator());
+        self.display_solvable_name(solvables[0], merged.name_mut())?;
         for solvable in solvables {
-            let mut text = String::new(alloc);
-            self.display_solvable(*solvable, &mut text)?;
-            match texts.push(text) {
-                Ok(()) => {}
-                Err(_) => return Err(StoreError::OutOfMemory),
-            }
+            self.display_solvable(*solvable, merged.next_text()?)?;
         }
-        append_merged(name, texts, out)
+        merged.append_to(out)
     }
 
     /// What is known is made of what is known.

@@ -2,7 +2,7 @@
 ghost use Rattle.std.specs.Prelude.{◌≡◌, codes, string_bytes, OnOk, OnErr, IfErr};
 ghost use Rattle.std.specs.List.{join_by};
 ghost use Rattle.resolvo_ids.specs.declared.error.StoreError.TheVariants.{OutOfMemory};
-ghost use Rattle.resolvo_provider.specs.Texts.{IsAppended, IsContinued, IsMerged, IsSameText};
+ghost use Rattle.resolvo_provider.specs.Texts.{IsAppended, IsSameText};
 
 use resolvo_ids::StoreError;
 use std::alloc::Allocator;
@@ -32,23 +32,4 @@ pub(crate) fn append_joined<A: Allocator + Copy>(
         Ok(text) => append(out, &text),
         Err(_) => Err(StoreError::OutOfMemory),
     }
-}
-
-/// Appends a name, a blank and the distinct texts in ascending order of their bytes, with ` | ` between them. After a
-/// refusal `out` is as it was.
-pub(crate) fn append_merged<A: Allocator + Copy>(
-    mut name: String<A>,
-    mut texts: Vec<String<A>, A>,
-    out: &mut String<A>,
-) -> Result<(), StoreError>
-    ensures ok { OnOk result (IsMerged (string_bytes name) texts.items (string_bytes out.old) (string_bytes out.new)) }
-    ensures continued { OnOk result (IsContinued out.old out.new) }
-    ensures err { OnErr result (IsSameText out.old out.new) }
-    ensures memory { IfErr result (λ e. e ≡ OutOfMemory) }
-{
-    texts.sort_unstable();
-    texts.dedup();
-    append(&mut name, " ")?;
-    append_joined(&texts, &mut name)?;
-    append(out, &name)
 }

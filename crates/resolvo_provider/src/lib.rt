@@ -6,6 +6,7 @@ mod condition;
 mod conditional_requirement;
 mod interner;
 mod joined;
+mod merged_text;
 mod provider;
 mod requirement;
 mod requirement_map;
