@@ -2,7 +2,8 @@
 use crate::fault::Fault;
 use crate::order::{ids, rounds};
 use crate::report::{Measured, line};
-use resolvo_ids::{DenseIndex, IndexedSet, NameId, StoreError};
+use resolvo_ids::{DenseIndex, NameId, StoreError};
+use resolvo_maps::IndexedSet;
 use std::alloc::{AllocError, Global};
 use std::rt::Clock;
 use std::time::Instant;

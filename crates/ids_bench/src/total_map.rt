@@ -2,7 +2,8 @@
 use crate::fault::Fault;
 use crate::order::rounds;
 use crate::report::{Measured, line};
-use resolvo_ids::{IdMap, NameId, StoreError};
+use resolvo_ids::{NameId, StoreError};
+use resolvo_maps::IdMap;
 use std::alloc::{AllocError, Global};
 use std::rt::Clock;
 use std::time::Instant;

@@ -2,7 +2,8 @@
 ghost use Rattle.std.specs.Prelude.{◌≡◌, ◌≢◌, true, false, IfOk, IfErr};
 ghost use Rattle.resolvo_ids.specs.Refusals.{IsGrowthRefusal};
 
-use resolvo_ids::{IdSet, StoreError};
+use resolvo_ids::StoreError;
+use resolvo_maps::IdSet;
 use std::alloc::Allocator;
 
 /// What a set says of two keys, of which one is put in twice.

@@ -1,7 +1,8 @@
 //! Total maps: the same calls over each kind, and where one ends.
 ghost use Rattle.std.specs.Prelude.{◌≡◌, ◌/◌};
 
-use resolvo_ids::{DenseId, IdMap, NameId, NameTag, SolverId, SparseId, StoreError};
+use resolvo_ids::{DenseId, NameId, NameTag, SparseId, StoreError};
+use resolvo_maps::{IdMap, SolverId};
 use std::alloc::{Allocator, Global};
 use std::test::Fail;
 

@@ -2,10 +2,8 @@
 ghost use Rattle.std.specs.Prelude.{◌≢◌};
 
 use crate::any_set::{SetAnswers, set_answers};
-use resolvo_ids::{
-    DenseId, IndexedSet, NameId, NameTag, SolvableId, SolvableIdOrRoot, SolverId, SparseId,
-    StoreError, WithRootSet,
-};
+use resolvo_ids::{DenseId, NameId, NameTag, SolvableId, SolvableIdOrRoot, SparseId, StoreError};
+use resolvo_maps::{IndexedSet, SolverId, WithRootSet};
 use resolvo_storage::FrozenCopyMap;
 use std::alloc::Global;
 use std::test::Fail;

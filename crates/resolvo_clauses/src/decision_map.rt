@@ -4,7 +4,8 @@ ghost use Rattle.resolvo_ids.specs.declared.error.StoreError.TheVariants.{OutOfM
 ghost use Rattle.resolvo_ids.specs.TotalMaps.{IsUpdate, SameValues};
 ghost use Rattle.resolvo_clauses.specs.Decisions.{decision_in, values_in, level_in};
 
-use resolvo_ids::{DefaultValue, IdMap, StoreError, VariableId};
+use resolvo_ids::{StoreError, VariableId};
+use resolvo_maps::{DefaultValue, IdMap};
 use std::alloc::Allocator;
 use std::marker::Model;
 

@@ -1,4 +1,3 @@
-pub mod IndexedSet
 pub mod Refusals
 pub mod TotalMaps
 pub mod WithRoot

@@ -2,7 +2,7 @@
 ghost use Rattle.std.specs.Prelude.{◌≡◌};
 
 use crate::dense_index::DenseIndex;
-use crate::solver_id::SameId;
+use crate::same_id::SameId;
 use std::fmt;
 use std::marker::{Model, PhantomData};
 

@@ -3,7 +3,7 @@ ghost use Rattle.std.specs.Prelude.{◌≡◌};
 ghost use Rattle.resolvo_ids.specs.declared.solvable_id_or_root.SolvableIdOrRoot.TheVariants.{Root};
 ghost use Rattle.resolvo_ids.specs.WithRoot.{solvable_of};
 
-use crate::solver_id::SameId;
+use crate::same_id::SameId;
 
 /// The root, or a solvable of the provider.
 #[derive(Clone, Copy, Debug, PartialEq, Eq, Hash)]

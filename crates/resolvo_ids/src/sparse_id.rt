@@ -1,7 +1,7 @@
 //! Ids with gaps between their numbers.
 ghost use Rattle.std.specs.Prelude.{◌≡◌};
 
-use crate::solver_id::SameId;
+use crate::same_id::SameId;
 use std::fmt;
 use std::hash::{BuildHasherDefault, DefaultHasher};
 use std::marker::{Model, PhantomData};

@@ -6,7 +6,8 @@ ghost use Rattle.resolvo_provider.specs.Texts.{Texts, IsAppended, IsContinued, I
 
 use crate::condition::Condition;
 use crate::merged_text::MergedText;
-use resolvo_ids::{ConditionId, SolverId, StoreError, StringId, VersionSetId, VersionSetUnionId};
+use resolvo_ids::{ConditionId, StoreError, StringId, VersionSetId, VersionSetUnionId};
+use resolvo_maps::SolverId;
 use std::alloc::Allocator;
 
 /// Tells which ids are known, what they stand for, and their texts. Its answers are fixed: they follow from its value

@@ -1,5 +1,5 @@
 //! How contracts name the abstract store.
-use resolvo_ids::{IdMap, Slot, SolverId};
+use resolvo_maps::{IdMap, Slot, SolverId};
 use resolvo_provider::{DependencyProvider, Interner};
 
 /// The abstract store of what a clause store keeps: contracts write it `⟦<D as AbstractStore>⟧.store self.now`.

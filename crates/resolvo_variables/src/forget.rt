@@ -6,7 +6,7 @@ ghost use Rattle.resolvo_variables.specs.Forgetting.{forgotten};
 ghost use Rattle.resolvo_variables.specs.Variables.{variable_of_solvable};
 
 use crate::variable_origin::VariableOrigin;
-use resolvo_ids::{IdMap, Slot, SolverId};
+use resolvo_maps::{IdMap, Slot, SolverId};
 use std::alloc::Allocator;
 
 /// Forgets that the solvable's variable is `last`, if it is.

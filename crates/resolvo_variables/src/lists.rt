@@ -6,7 +6,8 @@ ghost use Rattle.resolvo_ids.specs.declared.error.StoreError.TheVariants.{OutOfM
 ghost use Rattle.resolvo_variables.specs.Variables.{interned_variable, all_interned};
 
 use crate::variable_map::VariableMap;
-use resolvo_ids::{SolverId, StoreError, VariableId};
+use resolvo_ids::{StoreError, VariableId};
+use resolvo_maps::SolverId;
 use std::alloc::Allocator;
 
 /// Lists of variables, one a version set.

@@ -5,7 +5,8 @@ ghost use Rattle.resolvo_ids.specs.declared.error.StoreError.TheVariants.{OutOfM
 
 use crate::forget::forget_rest;
 use crate::variable_origin::VariableOrigin;
-use resolvo_ids::{DenseIndex, IdMap, Slot, SolverId, StoreError, VariableId};
+use resolvo_ids::{DenseIndex, StoreError, VariableId};
+use resolvo_maps::{IdMap, Slot, SolverId};
 use std::alloc::Allocator;
 use std::marker::Model;
 

@@ -6,9 +6,8 @@ use crate::script::{EACH_WANTED, clause, each_command, one_package, single, vari
 use crate::sparse_lists::SparseSolvable;
 use crate::stores::{Way, dense_gives, sparse_gives};
 use resolvo_clauses::{AddFault, Decision, DecisionMap, DecisionTracker};
-use resolvo_ids::{
-    DenseIndex, IdMap, NameId, Slot, SolvableId, SolverId, StoreError, VariableId, VersionSetId,
-};
+use resolvo_ids::{DenseIndex, NameId, SolvableId, StoreError, VariableId, VersionSetId};
+use resolvo_maps::{IdMap, Slot, SolverId};
 use resolvo_provider::{Interner, Requirement, RequirementMap};
 use resolvo_queue::{Answer, DecideQueue};
 use resolvo_variables::{VariableMap, VariableOrigin};

@@ -1,7 +1,7 @@
 use Rattle.std.proofs.Common.{◌≡◌}
 use Rattle.std.specs.Map.{values_of}
-use Rattle.resolvo_ids.proofs.Largest.{walk}
-use Rattle.resolvo_ids.proofs.sparse_map.IndexMapIdMap.largest.Given as goal
+use Rattle.resolvo_maps.proofs.Largest.{walk}
+use Rattle.resolvo_maps.proofs.sparse_map.IndexMapIdMap.largest.Given as goal
 
 -- what is left to go through leads to the same as all values do from the default
 abbrev pub invariant-loop-value : goal.invariant-loop-value

@@ -5,10 +5,9 @@ ghost use Rattle.indexmap.specs.IndexMap.{get};
 ghost use Rattle.resolvo_ids.specs.TotalMaps.{some_is_stored};
 
 use crate::default_value::DefaultValue;
-use crate::error::StoreError;
 use crate::id_map::IdMap;
-use crate::solver_id::SameId;
 use indexmap::IndexMap;
+use resolvo_ids::{SameId, StoreError};
 use std::alloc::Allocator;
 use std::hash::BuildHasher;
 

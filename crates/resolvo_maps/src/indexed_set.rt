@@ -1,13 +1,12 @@
 //! Sets of dense ids.
 ghost use Rattle.std.specs.Prelude.{◌≡◌, ℕ, ◌<◌, ◌≤◌, ◌+◌, ◌/◌, ◌^◌, max, length, vec_len, true, false, not, IsTrue, OnOk, OnErr, IfOk, IfErr};
 ghost use Rattle.resolvo_ids.specs.declared.error.StoreError.TheVariants.{IdSpace};
-ghost use Rattle.resolvo_ids.specs.IndexedSet.{has_bit};
+ghost use Rattle.resolvo_maps.specs.IndexedSet.{has_bit};
 ghost use Rattle.resolvo_ids.specs.Refusals.{IsGrowthRefusal, is_too_dense};
 ghost use Rattle.resolvo_ids.specs.TotalMaps.{IsUpdate};
 
-use crate::dense_index::DenseIndex;
-use crate::error::StoreError;
 use crate::id_set::IdSet;
+use resolvo_ids::{DenseIndex, StoreError};
 use std::alloc::{Allocator, Global};
 use std::marker::{Model, PhantomData};
 

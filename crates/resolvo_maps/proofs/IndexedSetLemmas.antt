@@ -5,7 +5,7 @@ use Rattle.std.proofs.lemmas.Nat.{one_shl, pow_pos}
 use Rattle.std.proofs.lemmas.Nat.Bits.{bit_at_set_same, bit_at_set_other, and_pow}
 use Rattle.std.specs.Prelude.{bit_and, bit_or}
 use Rattle.std.specs.Int.{bit_at}
-use Rattle.resolvo_ids.specs.IndexedSet.{has_bit}
+use Rattle.resolvo_maps.specs.IndexedSet.{has_bit}
 use Rattle.resolvo_ids.specs.TotalMaps.{IsUpdate}
 
 -- the word that has the bit at the index

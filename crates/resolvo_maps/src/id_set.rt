@@ -4,8 +4,7 @@ ghost use Rattle.resolvo_ids.specs.declared.error.StoreError.TheVariants.{IdSpac
 ghost use Rattle.resolvo_ids.specs.Refusals.{IsGrowthRefusal};
 ghost use Rattle.resolvo_ids.specs.TotalMaps.{IsUpdate, SameValues};
 
-use crate::error::StoreError;
-use crate::solver_id::SameId;
+use resolvo_ids::{SameId, StoreError};
 use std::alloc::Allocator;
 use std::collections::HashSet;
 use std::hash::BuildHasher;

@@ -1,7 +1,7 @@
 use Rattle.std.proofs.Common.{◌≡◌, [], rules, sym, ap}
 use Rattle.std.specs.Map.{values_of}
-use Rattle.resolvo_ids.proofs.Largest.{walk, sparse_largest}
-use Rattle.resolvo_ids.proofs.sparse_map.IndexMapIdMap.largest.Goals as goal
+use Rattle.resolvo_maps.proofs.Largest.{walk, sparse_largest}
+use Rattle.resolvo_maps.proofs.sparse_map.IndexMapIdMap.largest.Goals as goal
 
 pub returns : goal.returns
 returns g c =

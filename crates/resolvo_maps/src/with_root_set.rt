@@ -6,10 +6,9 @@ ghost use Rattle.resolvo_ids.specs.Refusals.{IsGrowthRefusal};
 ghost use Rattle.resolvo_ids.specs.TotalMaps.{IsUpdate, SameValues};
 ghost use Rattle.resolvo_ids.specs.WithRoot.{has_key, root_or};
 
-use crate::error::StoreError;
 use crate::id_set::IdSet;
-use crate::solvable_id_or_root::SolvableIdOrRoot;
 use crate::solver_id::SolverId;
+use resolvo_ids::{SolvableIdOrRoot, StoreError};
 use std::alloc::Allocator;
 use std::marker::Model;
 

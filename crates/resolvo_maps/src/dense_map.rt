@@ -4,9 +4,8 @@ ghost use Rattle.resolvo_ids.specs.Refusals.{is_too_dense};
 ghost use Rattle.resolvo_ids.specs.TotalMaps.{kept, kept_within};
 
 use crate::default_value::DefaultValue;
-use crate::dense_index::DenseIndex;
-use crate::error::StoreError;
 use crate::id_map::IdMap;
+use resolvo_ids::{DenseIndex, StoreError};
 use std::alloc::Allocator;
 
 /// Dense storage ends at this index, 2^40.

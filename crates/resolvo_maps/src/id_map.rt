@@ -5,7 +5,7 @@ ghost use Rattle.resolvo_ids.specs.Refusals.{IsGrowthRefusal};
 ghost use Rattle.resolvo_ids.specs.TotalMaps.{IsUpdate, SameValues, IsLargest};
 
 use crate::default_value::DefaultValue;
-use crate::error::StoreError;
+use resolvo_ids::StoreError;
 use std::alloc::Allocator;
 
 /// A total map: a key that was never written has the default value.

@@ -1,6 +1,6 @@
 use Rattle.std.proofs.Common.{◌≡◌, length}
-use Rattle.resolvo_ids.proofs.Changed.{Changed}
-use Rattle.resolvo_ids.proofs.sparse_map.IndexMapIdMap.update_all.Given as goal
+use Rattle.resolvo_maps.proofs.Changed.{Changed}
+use Rattle.resolvo_maps.proofs.sparse_map.IndexMapIdMap.update_all.Given as goal
 
 -- the values of the entries before the index are changed
 abbrev pub invariant-loop-index : goal.invariant-loop-index

@@ -1,8 +1,8 @@
 use Rattle.std.proofs.Common.{◌≤◌, ◌^◌, length, min, arith, ap, ◌∙◌}
 use Rattle.std.proofs.lemmas.List.{take_all, length-take}
 use Rattle.resolvo_ids.specs.TotalMaps.{kept}
-use Rattle.resolvo_ids.proofs.Largest.{walk, dense_largest}
-use Rattle.resolvo_ids.proofs.dense_map.VecIdMap.largest.Goals as goal
+use Rattle.resolvo_maps.proofs.Largest.{walk, dense_largest}
+use Rattle.resolvo_maps.proofs.dense_map.VecIdMap.largest.Goals as goal
 
 pub returns : goal.returns
 returns g c =

@@ -1,7 +1,7 @@
 use Rattle.std.proofs.Common.{◌≡◌, take}
 use Rattle.resolvo_ids.specs.TotalMaps.{kept}
-use Rattle.resolvo_ids.proofs.Largest.{walk}
-use Rattle.resolvo_ids.proofs.dense_map.VecIdMap.largest.Given as goal
+use Rattle.resolvo_maps.proofs.Largest.{walk}
+use Rattle.resolvo_maps.proofs.dense_map.VecIdMap.largest.Given as goal
 
 -- so far, what the places before the index lead to
 abbrev pub invariant-loop-index : goal.invariant-loop-index

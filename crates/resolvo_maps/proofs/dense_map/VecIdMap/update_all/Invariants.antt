@@ -1,5 +1,5 @@
 use Rattle.std.proofs.Common.{◌≡◌, ◌<◌, ◌≤◌, ℕ, get_or}
-use Rattle.resolvo_ids.proofs.dense_map.VecIdMap.update_all.Given as goal
+use Rattle.resolvo_maps.proofs.dense_map.VecIdMap.update_all.Given as goal
 
 -- what comes before the index is changed, and the rest is as it was
 abbrev pub invariant-loop-value : goal.invariant-loop-value

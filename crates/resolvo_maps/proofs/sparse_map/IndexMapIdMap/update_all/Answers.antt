@@ -3,9 +3,9 @@ use Rattle.std.specs.Prelude.{slice_get}
 use Rattle.std.specs.Option.{option_copied_mut}
 use Rattle.std.specs.Map.{values_of}
 use Rattle.indexmap.proofs.CallerLemmas.{index_map_len-with_value_at}
-use Rattle.resolvo_ids.proofs.Changed.{Changed, change_one, changed_value, changed_keys}
-use Rattle.resolvo_ids.proofs.sparse_map.IndexMapIdMap.update_all.Goals as goal
-use Rattle.resolvo_ids.proofs.sparse_map.IndexMapIdMap.update_all.Goals.{in-Some, in_default, After-drop-f}
+use Rattle.resolvo_maps.proofs.Changed.{Changed, change_one, changed_value, changed_keys}
+use Rattle.resolvo_maps.proofs.sparse_map.IndexMapIdMap.update_all.Goals as goal
+use Rattle.resolvo_maps.proofs.sparse_map.IndexMapIdMap.update_all.Goals.{in-Some, in_default, After-drop-f}
 
 pub loop-index-preserved : goal.loop-index-preserved
 loop-index-preserved g c =
