@@ -137,11 +137,11 @@ pub trait Interner {
         ensures err { OnErr result (IsSameText out.old out.new) }
         ensures memory { IfErr result (λ e. e ≡ OutOfMemory) }
     {
-        if solvables.is_empty() {
+        let Some(first) = solvables.first() else {
             return Ok(());
-        }
+        };
         let mut merged = MergedText::new(*out.allocator());
-        self.display_solvable_name(solvables[0], merged.name_mut())?;
+        self.display_solvable_name(*first, merged.name_mut())?;
         for solvable in solvables {
             self.display_solvable(*solvable, merged.next_text()?)?;
         }
