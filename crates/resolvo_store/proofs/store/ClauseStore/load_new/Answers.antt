@@ -1,21 +1,16 @@
-use Rattle.std.proofs.Common.{◌≡◌, ◌<◌, ◌^◌, ◌∙◌, Bool, sym, ap, subst, refl, length, take, None, map, leb, Result, Ok, Err}
-use Rattle.std.specs.Prelude.{flat_map, IfErr}
-use Rattle.std.specs.Result.{IsErrAnd}
+use Rattle.std.proofs.Common.{◌≡◌, ◌<◌, ◌^◌, ◌∙◌, Bool, sym, ap, subst, refl, length, take, None, map, leb}
+use Rattle.std.specs.Prelude.{flat_map}
 use Rattle.std.proofs.lemmas.List.Folds.{flat_map-map}
 use Rattle.std.proofs.lemmas.Simd.{map-map}
 use Rattle.resolvo_provider.specs.Provider.{sorted, sets_of}
 use Rattle.resolvo_queue.specs.Rows.{AreFew}
 use Rattle.resolvo_variables.specs.Variables.{interned_variable, all_interned}
+use Rattle.resolvo_variables.proofs.InterningLemmas.{handed_on}
 use Rattle.resolvo_store.specs.Store.{store_of, provided, lists_of}
 use Rattle.resolvo_store.specs.Lists.{lists_kept}
 use Rattle.resolvo_store.proofs.ListLemmas.{insert-kept, items_of, few-more, length-mapped, same-joined}
 use Rattle.resolvo_store.proofs.LoadingLemmas.{load-new, rows-few, refused-new, too_many_rows, ids_out, joined, candidate_lists, all_candidates}
 use Rattle.resolvo_store.proofs.store.ClauseStore.load_new.Goals as goal
-
--- a refusal that was handed on
-handed_on : {T E : Type 0} (P : E → Type 0) (result : Result T E) (e : E) → IsErrAnd result (λ x. x ≡ e) → P e → IfErr result P
-handed_on P (Ok v) e h p = absurd h
-handed_on P (Err x) e h p = subst P (sym h) p
 
 pub returns-in_err-candidates-clause-err : goal.returns-in_err-candidates-clause-err
 returns-in_err-candidates-clause-err g c =
