@@ -3,8 +3,8 @@
 ghost use Rattle.std.specs.Prelude.{◌≡◌, []};
 
 use crate::script::{EACH_WANTED, clause, each_command, one_package, single, variable};
-use crate::sparse_lists::SparseSolvable;
 use crate::stores::{Way, dense_gives, sparse_gives};
+use plain_providers::SparseSolvable;
 use resolvo_clauses::{
     AddFault, Decision, DecisionMap, DecisionTracker, VariableMap, VariableOrigin,
 };

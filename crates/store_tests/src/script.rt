@@ -1,6 +1,6 @@
 //! What the tests share: two catalogues, their commands, and the replies that are wanted.
-use crate::lists::{Lists, Package, VersionRange};
 use crate::wanted::{Wanted, WantedDecision, WantedPlay};
+use plain_providers::{Lists, Package, VersionRange};
 use resolvo_ids::{
     ClauseId, DenseIndex, DisjunctionId, NameId, StoreError, VariableId, VersionSetId,
     VersionSetUnionId,

@@ -1,11 +1,10 @@
 //! New stores, whose replies to a list of commands are compared with those that are wanted. What is shared is generic in
 //! the provider, and only two functions name a provider of lists: a proof spells out a provider's traits wherever a call
 //! names it.
-use crate::lists::Lists;
 use crate::obeys::Obeys;
 use crate::script::variable;
-use crate::sparse_lists::{SparseLists, SparseName, SparseSolvable};
 use crate::wanted::{Wanted, WantedPlay, is_wanted};
+use plain_providers::{Lists, SparseLists, SparseName, SparseSolvable};
 use resolvo_ids::{NameId, SolvableId, StoreError};
 use resolvo_provider::{DependencyProvider, Interner};
 use resolvo_store::{ClauseStore, Command, Reply};
