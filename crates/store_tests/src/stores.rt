@@ -1,9 +1,9 @@
-//! New stores, whose replies to a list of commands are compared with those that are wanted. What is shared is generic in
-//! the provider, and only two functions name a provider of lists: a proof spells out a provider's traits wherever a call
-//! names it.
-use crate::obeys::Obeys;
-use crate::script::variable;
-use crate::wanted::{Wanted, WantedPlay, is_wanted};
+//! New stores that are given commands, and what is seen of them. What is shared is generic in the provider, and only two
+//! functions name a provider of lists: a proof spells out a provider's traits wherever a call names it. What is seen is
+//! compared once, behind all that is owned.
+use crate::obeys::{End, Obeys};
+use crate::refused::Refusal;
+use crate::wanted::{WantedPlay, first_unwanted};
 use plain_providers::{Lists, SparseLists, SparseName, SparseSolvable};
 use resolvo_ids::{NameId, SolvableId, StoreError};
 use resolvo_provider::{DependencyProvider, Interner};
@@ -17,11 +17,22 @@ use std::test::Fail;
 pub(crate) enum Way {
     /// By steps.
     Steps,
+    /// By steps but for the command of this number, for which the reply of want of memory stands.
+    StepsBut(usize),
     /// In one run.
     Run,
 }
 
-/// A new store over the lists replies as wanted.
+/// What is seen of a new store that was given commands.
+#[derive(Drop)]
+pub(crate) struct Played<A: Allocator> {
+    /// How many candidates the provider lists of package 0.
+    pub(crate) count: Result<usize, StoreError>,
+    pub(crate) replies: Result<Vec<Reply<A>, A>, StoreError>,
+    pub(crate) end: End,
+}
+
+/// A new store over the lists, which list two candidates, replies as wanted.
 pub(crate) fn dense_gives(
     rt: &(impl Abort + AllocGlobal),
     lists: Lists<Global>,
@@ -29,17 +40,12 @@ pub(crate) fn dense_gives(
     wanted: WantedPlay,
     way: Way,
 ) -> Result<(), Fail> {
-    gives(
-        rt,
-        rt.alloc(),
-        (lists, NameId::from_raw(0)),
-        commands,
-        wanted,
-        way,
-    )
+    let (heap, room) = (rt.alloc(), rt.alloc());
+    let played = dense_play(heap, room, lists, commands, way, None);
+    is_as_wanted(rt, played, wanted)
 }
 
-/// A new store over the lists with sparse ids replies as wanted.
+/// A new store over the lists with sparse ids, which list two candidates, replies as wanted.
 pub(crate) fn sparse_gives(
     rt: &(impl Abort + AllocGlobal),
     lists: Lists<Global>,
@@ -47,104 +53,113 @@ pub(crate) fn sparse_gives(
     wanted: WantedPlay,
     way: Way,
 ) -> Result<(), Fail> {
-    let provider = SparseLists(lists);
-    gives(
-        rt,
-        rt.alloc(),
-        (provider, SparseName::from_raw(0)),
-        commands,
-        wanted,
-        way,
-    )
+    let (heap, room) = (rt.alloc(), rt.alloc());
+    let provider = (SparseLists(lists), SparseName::from_raw(0));
+    let played = play(heap, room, provider, commands, way, None);
+    is_as_wanted(rt, played, wanted)
 }
 
-/// A new store over the provider, which lists two candidates of the name, replies as wanted.
-fn gives<D: DependencyProvider + Drop>(
+/// What was seen is as wanted: two candidates, the replies, and at the end the root's value, no other and no falsified
+/// clause.
+fn is_as_wanted<A: Allocator>(
     rt: &impl Abort,
+    played: Result<Played<A>, StoreError>,
+    wanted: WantedPlay,
+) -> Result<(), Fail> {
+    let Played {
+        count,
+        replies,
+        end,
+    } = played?;
+    let replies = replies?;
+    let (given, unwanted) = (replies.len(), first_unwanted(&replies, wanted.replies));
+    drop(replies);
+    assert_eq!(rt; (given, unwanted), (wanted.replies.len(), None));
+    assert_eq!(rt; (count, end), (Ok(2), (wanted.root, None, None)));
+    Ok(())
+}
+
+/// What is seen of a new store over the lists. The replies to steps are kept in the room.
+pub(crate) fn dense_play<A: Allocator + Copy>(
+    heap: A,
+    room: A,
+    lists: Lists<A>,
+    commands: &[Command<SolvableId>],
+    way: Way,
+    refusal: Option<Refusal>,
+) -> Result<Played<A>, StoreError> {
+    let provider = (lists, NameId::from_raw(0));
+    play(heap, room, provider, commands, way, refusal)
+}
+
+/// What is seen of a new store over the provider.
+fn play<D: DependencyProvider + Drop>(
     heap: D::Alloc,
+    room: D::Alloc,
     (provider, name): (D, D::NameId),
     commands: &[Command<D::SolvableId>],
-    wanted: WantedPlay,
     way: Way,
-) -> Result<(), Fail> {
+    refusal: Option<Refusal>,
+) -> Result<Played<D::Alloc>, StoreError> {
     let mut store = ClauseStore::new(heap, provider)?;
-    lists_two(rt, heap, &store, name);
-    let ended = plays(rt, &mut store, commands, wanted, way);
+    let count = candidate_count(heap, store.provider(), name);
+    let (replies, end) = replies_and_end(&mut store, room, commands, way, refusal);
     drop(store);
-    ended
+    Ok(Played {
+        count,
+        replies,
+        end,
+    })
 }
 
-/// The provider lists two candidates of the name.
-fn lists_two<N, S: Copy, A: Allocator, T: Obeys<N, S, A>>(
-    rt: &impl Abort,
-    heap: A,
-    store: &T,
-    name: N,
-) {
-    assert_eq!(rt; candidate_count(heap, store, name), Ok(2));
-}
-
-fn candidate_count<N, S: Copy, A: Allocator, T: Obeys<N, S, A>>(
-    heap: A,
-    store: &T,
-    name: N,
+/// How many candidates the provider lists of the name.
+fn candidate_count<D: DependencyProvider>(
+    heap: D::Alloc,
+    provider: &D,
+    name: D::NameId,
 ) -> Result<usize, StoreError> {
-    match store.candidates(heap, name)? {
+    match provider.get_candidates(heap, name)? {
         Some(list) => Ok(list.len()),
         None => Ok(0),
     }
 }
 
-/// The store replies as wanted, and ends with the root's value, no other and no falsified clause.
-fn plays<N, S, A: Allocator, T: Obeys<N, S, A>>(
-    rt: &impl Abort,
+/// The store's replies, where the request is refused from now on, and its end.
+fn replies_and_end<S, A: Allocator + Copy, T: Obeys<S, A>>(
     store: &mut T,
+    room: A,
     commands: &[Command<S>],
-    wanted: WantedPlay,
     way: Way,
-) -> Result<(), Fail> {
-    match way {
-        Way::Steps => steps_give(rt, store, commands, wanted.replies),
-        Way::Run => a_run_gives(rt, store, commands, wanted.replies)?,
+    refusal: Option<Refusal>,
+) -> (Result<Vec<Reply<A>, A>, StoreError>, End) {
+    if let Some(refusal) = refusal {
+        refusal.arm();
     }
-    let values = (store.value_of(variable(0)), store.value_of(variable(2)));
-    assert_eq!(rt;
-        (values, store.falsified_clause()),
-        ((wanted.root, None), None)
-    );
-    Ok(())
+    let replies = match way {
+        Way::Steps => steps(store, room, commands, None),
+        Way::StepsBut(left_out) => steps(store, room, commands, Some(left_out)),
+        Way::Run => store.obey_all(commands),
+    };
+    (replies, store.end())
 }
 
-/// The store gives these replies to the commands in turn.
-fn steps_give<N, S, A: Allocator, T: Obeys<N, S, A>>(
-    rt: &impl Abort,
+/// The replies to the commands in turn, but for one that is left out.
+fn steps<S, A: Allocator + Copy, T: Obeys<S, A>>(
     store: &mut T,
+    room: A,
     commands: &[Command<S>],
-    wanted: &[Wanted],
-) {
-    assert_eq!(rt; commands.len(), wanted.len());
-    for (i, (command, wanted)) in commands.iter().zip(wanted).enumerate() {
-        let reply = store.obey(command);
-        assert!(rt; is_wanted(&reply, wanted), "command {i}: {reply:?}");
+    left_out: Option<usize>,
+) -> Result<Vec<Reply<A>, A>, StoreError> {
+    let mut replies = Vec::new(room);
+    for (i, command) in commands.iter().enumerate() {
+        let reply = match left_out == Some(i) {
+            true => Reply::Refused(StoreError::OutOfMemory),
+            false => store.obey(command),
+        };
+        match replies.push(reply) {
+            Ok(()) => {}
+            Err(_) => return Err(StoreError::OutOfMemory),
+        }
     }
-}
-
-fn a_run_gives<N, S, A: Allocator, T: Obeys<N, S, A>>(
-    rt: &impl Abort,
-    store: &mut T,
-    commands: &[Command<S>],
-    wanted: &[Wanted],
-) -> Result<(), Fail> {
-    let replies = store.obey_all(commands)?;
-    are_wanted(rt, &replies, wanted);
-    drop(replies);
-    Ok(())
-}
-
-/// The replies are those that are wanted.
-fn are_wanted<A: Allocator>(rt: &impl Abort, replies: &[Reply<A>], wanted: &[Wanted]) {
-    assert_eq!(rt; replies.len(), wanted.len());
-    for (i, (reply, wanted)) in replies.iter().zip(wanted).enumerate() {
-        assert!(rt; is_wanted(reply, wanted), "command {i}: {reply:?}");
-    }
+    Ok(replies)
 }
