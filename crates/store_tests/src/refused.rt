@@ -1,5 +1,6 @@
 //! Memory refused at each request in turn.
-use crate::script::{TWO_PACKAGES_WANTED, two_packages, two_packages_commands};
+use crate::same::is_same;
+use crate::script::{Example, TWO_PACKAGES_WANTED, two_packages_commands};
 use crate::stores::{Way, dense_play};
 use crate::wanted::first_unwanted;
 use refusing::Refusing;
@@ -7,7 +8,6 @@ use resolvo_ids::{SolvableId, StoreError};
 use resolvo_store::{Command, Reply};
 use std::alloc::{Allocator, Global};
 use std::process::Abort;
-use std::test::Fail;
 
 /// The request to refuse, by its number from when it is armed, and the memory that is asked.
 #[derive(Clone, Copy)]
@@ -23,35 +23,41 @@ impl Refusal<'_> {
     }
 }
 
-/// What is seen of replies beside a store in ample memory.
+/// What is seen of the replies of a store to which a request is refused.
 #[derive(Clone, Copy, Debug, PartialEq, Eq)]
 struct Agreement {
+    /// The number of the request.
+    number: u64,
     /// How many replies there are.
     count: usize,
     /// Whether one isn't as wanted. The first such reply is taken for the refusal.
     is_refused: bool,
-    /// Whether the first such reply is want of memory, and each other is that of the store to which its command isn't
+    /// Whether that reply is want of memory, and each other is that of a store in ample memory to which its command isn't
     /// given.
     agrees: bool,
 }
 
-/// What is seen of a new store over two packages, to which the request is refused. None if the run is refused whole.
+/// What is seen of a new store over two packages, to which the request is refused. None if a run is refused whole.
 fn seen_refused<A: Allocator + Copy>(
     way: Way,
     [heap, ample]: [A; 2],
     commands: &[Command<SolvableId>],
     refusal: Refusal,
-) -> Result<Option<Agreement>, Fail> {
-    let lists = two_packages(heap)?;
-    let played = dense_play(heap, ample, lists, commands, way, Some(refusal))?;
-    match played.replies {
-        Ok(replies) => {
-            let seen = seen_beside(ample, commands, &replies);
-            drop(replies);
-            Ok(Some(seen?))
-        }
+) -> Result<Option<Agreement>, StoreError> {
+    let played = dense_play(
+        heap,
+        ample,
+        Example::TwoPackages,
+        commands,
+        way,
+        Some(refusal),
+    )?;
+    let seen = match &played.replies {
+        Ok(replies) => seen_beside(ample, commands, replies, refusal.number),
         Err(_) => Ok(None),
-    }
+    };
+    drop(played);
+    seen
 }
 
 /// The replies beside those of a new store in ample memory.
@@ -59,21 +65,22 @@ fn seen_beside<A: Allocator + Copy>(
     ample: A,
     commands: &[Command<SolvableId>],
     replies: &[Reply<A>],
-) -> Result<Agreement, Fail> {
+    number: u64,
+) -> Result<Option<Agreement>, StoreError> {
     let refused = first_unwanted(replies, TWO_PACKAGES_WANTED.replies);
     let way = match refused {
         Some(left_out) => Way::StepsBut(left_out),
         None => Way::Steps,
     };
-    let lists = two_packages(ample)?;
-    let played = dense_play(ample, ample, lists, commands, way, None)?;
+    let played = dense_play(ample, ample, Example::TwoPackages, commands, way, None)?;
     let agrees = are_same(&played.replies, replies);
     drop(played);
-    Ok(Agreement {
+    Ok(Some(Agreement {
+        number,
         count: replies.len(),
         is_refused: refused.is_some(),
         agrees,
-    })
+    }))
 }
 
 fn are_same<A: Allocator>(
@@ -86,14 +93,13 @@ fn are_same<A: Allocator>(
     }
 }
 
-/// Whether there was a request of this number, which was refused. Steps go on after the command that is refused. A run
-/// is refused whole at its first request, the room for the replies, and goes on after any later one.
+/// Whether there was a request of this number, which was refused.
 fn is_met(
     rt: &(impl Abort + AllocGlobal),
     way: Way,
     commands: &[Command<SolvableId>],
     number: u64,
-) -> Result<bool, Fail> {
+) -> bool {
     let heap = Refusing::new(rt.alloc());
     let ample = Refusing::new(rt.alloc());
     let refusal = Refusal {
@@ -104,38 +110,47 @@ fn is_met(
     let is_refused = !heap.is_armed();
     drop(ample);
     drop(heap);
-    match seen? {
-        Some(agreement) => {
-            let wanted = Agreement {
-                count: commands.len(),
-                is_refused,
-                agrees: true,
-            };
-            assert_eq!(rt; agreement, wanted, "request {number}");
-        }
-        None => assert_eq!(rt; number, 1),
-    }
-    Ok(is_refused)
+    is_as_refused(rt, seen, number, is_refused);
+    is_refused
 }
 
-fn each_request_is_refused(rt: &(impl Abort + AllocGlobal), way: Way) -> Result<(), Fail> {
+/// Steps go on after the command that is refused. A run is refused whole at its first request, the room for the replies,
+/// and goes on after any later one.
+fn is_as_refused(
+    rt: &impl Abort,
+    seen: Result<Option<Agreement>, StoreError>,
+    number: u64,
+    is_refused: bool,
+) {
+    let wanted = Agreement {
+        number,
+        count: TWO_PACKAGES_WANTED.replies.len(),
+        is_refused,
+        agrees: true,
+    };
+    match seen {
+        Ok(None) => is_same(rt, number, 1),
+        _ => is_same(rt, seen, Ok(Some(wanted))),
+    }
+}
+
+fn each_request_is_refused(rt: &(impl Abort + AllocGlobal), way: Way) {
     let commands = two_packages_commands();
     for number in 1..1000u64 {
-        if !is_met(rt, way, &commands, number)? {
+        if !is_met(rt, way, &commands, number) {
             assert!(rt; number > 10, "there are requests to refuse");
-            return Ok(());
+            return;
         }
     }
     assert!(rt; false, "each run met a refusal");
-    Ok(())
 }
 
 #[test]
-fn one_step_is_refused(rt: HostRuntime) -> Result<(), Fail> {
-    each_request_is_refused(&rt, Way::Steps)
+fn one_step_is_refused(rt: HostRuntime) {
+    each_request_is_refused(&rt, Way::Steps);
 }
 
 #[test]
-fn runs_go_on_after_a_refusal(rt: HostRuntime) -> Result<(), Fail> {
-    each_request_is_refused(&rt, Way::Run)
+fn runs_go_on_after_a_refusal(rt: HostRuntime) {
+    each_request_is_refused(&rt, Way::Run);
 }

@@ -1,16 +1,20 @@
-//! New stores that are given commands, and what is seen of them. What is shared is generic in the provider, and only two
-//! functions name a provider of lists: a proof spells out a provider's traits wherever a call names it. What is seen is
-//! compared once, behind all that is owned.
+//! New stores that are given the commands of an example, and what is seen of them. What is shared is generic in the
+//! provider, and only two functions name a provider of lists: a proof spells out a provider's traits wherever a call names
+//! it. What is seen is compared once, behind all that is owned.
 use crate::obeys::{End, Obeys};
 use crate::refused::Refusal;
-use crate::wanted::{WantedPlay, first_unwanted};
-use plain_providers::{Lists, SparseLists, SparseName, SparseSolvable};
+use crate::same::is_same;
+use crate::script::{
+    Example, each_command, lists_of, one_package_commands, set_twice_commands,
+    two_packages_commands, wanted_of,
+};
+use crate::wanted::{Wanted, first_unwanted};
+use plain_providers::{SparseLists, SparseName, SparseSolvable};
 use resolvo_ids::{NameId, SolvableId, StoreError};
 use resolvo_provider::{DependencyProvider, Interner};
 use resolvo_store::{ClauseStore, Command, Reply};
-use std::alloc::{Allocator, Global};
+use std::alloc::Allocator;
 use std::process::Abort;
-use std::test::Fail;
 
 /// How a store is given commands.
 #[derive(Clone, Copy)]
@@ -32,31 +36,48 @@ pub(crate) struct Played<A: Allocator> {
     pub(crate) end: End,
 }
 
-/// A new store over the lists, which list two candidates, replies as wanted.
-pub(crate) fn dense_gives(
-    rt: &(impl Abort + AllocGlobal),
-    lists: Lists<Global>,
-    commands: &[Command<SolvableId>],
-    wanted: WantedPlay,
-    way: Way,
-) -> Result<(), Fail> {
-    let (heap, room) = (rt.alloc(), rt.alloc());
-    let played = dense_play(heap, room, lists, commands, way, None);
-    is_as_wanted(rt, played, wanted)
+/// A new store over the example's lists, which list two candidates, replies as wanted.
+pub(crate) fn dense_gives(rt: &(impl Abort + AllocGlobal), example: Example, way: Way) {
+    match example {
+        Example::TwoPackages => dense_case(rt, example, &two_packages_commands(), way),
+        Example::OnePackage => dense_case(rt, example, &one_package_commands(), way),
+        Example::SetTwice => dense_case(rt, example, &set_twice_commands(), way),
+        Example::EachCommand => {
+            dense_case(rt, example, &each_command(SolvableId::from_raw(0)), way)
+        }
+    }
 }
 
-/// A new store over the lists with sparse ids, which list two candidates, replies as wanted.
-pub(crate) fn sparse_gives(
+fn dense_case(
     rt: &(impl Abort + AllocGlobal),
-    lists: Lists<Global>,
-    commands: &[Command<SparseSolvable>],
-    wanted: WantedPlay,
+    example: Example,
+    commands: &[Command<SolvableId>],
     way: Way,
-) -> Result<(), Fail> {
-    let (heap, room) = (rt.alloc(), rt.alloc());
-    let provider = (SparseLists(lists), SparseName::from_raw(0));
-    let played = play(heap, room, provider, commands, way, None);
-    is_as_wanted(rt, played, wanted)
+) {
+    let played = dense_play(rt.alloc(), rt.alloc(), example, commands, way, None);
+    is_as_wanted(rt, played, example);
+}
+
+/// The same of a store whose ids are sparse.
+pub(crate) fn sparse_gives(rt: &(impl Abort + AllocGlobal), example: Example, way: Way) {
+    match example {
+        Example::TwoPackages => sparse_case(rt, example, &two_packages_commands(), way),
+        Example::OnePackage => sparse_case(rt, example, &one_package_commands(), way),
+        Example::SetTwice => sparse_case(rt, example, &set_twice_commands(), way),
+        Example::EachCommand => {
+            sparse_case(rt, example, &each_command(SparseSolvable::from_raw(0)), way)
+        }
+    }
+}
+
+fn sparse_case(
+    rt: &(impl Abort + AllocGlobal),
+    example: Example,
+    commands: &[Command<SparseSolvable>],
+    way: Way,
+) {
+    let played = sparse_play(rt.alloc(), rt.alloc(), example, commands, way);
+    is_as_wanted(rt, played, example);
 }
 
 /// What was seen is as wanted: two candidates, the replies, and at the end the root's value, no other and no falsified
@@ -64,32 +85,65 @@ pub(crate) fn sparse_gives(
 fn is_as_wanted<A: Allocator>(
     rt: &impl Abort,
     played: Result<Played<A>, StoreError>,
-    wanted: WantedPlay,
-) -> Result<(), Fail> {
-    let Played {
-        count,
-        replies,
-        end,
-    } = played?;
-    let replies = replies?;
-    let (given, unwanted) = (replies.len(), first_unwanted(&replies, wanted.replies));
-    drop(replies);
-    assert_eq!(rt; (given, unwanted), (wanted.replies.len(), None));
-    assert_eq!(rt; (count, end), (Ok(2), (wanted.root, None, None)));
-    Ok(())
+    example: Example,
+) {
+    let wanted = wanted_of(example);
+    let seen = match played {
+        Ok(played) => {
+            let seen = seen(&played, wanted.replies);
+            drop(played);
+            seen
+        }
+        Err(error) => Err(error),
+    };
+    let end = (wanted.root, None, None);
+    is_same(rt, seen, Ok((2, wanted.replies.len(), None, end)));
 }
 
-/// What is seen of a new store over the lists. The replies to steps are kept in the room.
+/// How many candidates and replies there are, the first reply that isn't as wanted, and the end.
+type Seen = (usize, usize, Option<usize>, End);
+
+fn seen<A: Allocator>(played: &Played<A>, wanted: &[Wanted]) -> Result<Seen, StoreError> {
+    let count = played.count?;
+    match &played.replies {
+        Ok(replies) => {
+            let unwanted = first_unwanted(replies, wanted);
+            Ok((count, replies.len(), unwanted, played.end))
+        }
+        Err(error) => Err(*error),
+    }
+}
+
+/// What is seen of a new store over the example's lists. The replies to steps are kept in the room.
 pub(crate) fn dense_play<A: Allocator + Copy>(
     heap: A,
     room: A,
-    lists: Lists<A>,
+    example: Example,
     commands: &[Command<SolvableId>],
     way: Way,
     refusal: Option<Refusal>,
 ) -> Result<Played<A>, StoreError> {
-    let provider = (lists, NameId::from_raw(0));
+    let provider = (lists_of(heap, example)?, NameId::from_raw(0));
     play(heap, room, provider, commands, way, refusal)
+}
+
+/// What is seen of a new store over the example's lists with sparse ids.
+fn sparse_play<A: Allocator + Copy>(
+    heap: A,
+    room: A,
+    example: Example,
+    commands: &[Command<SparseSolvable>],
+    way: Way,
+) -> Result<Played<A>, StoreError> {
+    let lists = SparseLists(lists_of(heap, example)?);
+    play(
+        heap,
+        room,
+        (lists, SparseName::from_raw(0)),
+        commands,
+        way,
+        None,
+    )
 }
 
 /// What is seen of a new store over the provider.
@@ -103,7 +157,10 @@ fn play<D: DependencyProvider + Drop>(
 ) -> Result<Played<D::Alloc>, StoreError> {
     let mut store = ClauseStore::new(heap, provider)?;
     let count = candidate_count(heap, store.provider(), name);
-    let (replies, end) = replies_and_end(&mut store, room, commands, way, refusal);
+    if let Some(refusal) = refusal {
+        refusal.arm();
+    }
+    let (replies, end) = replies_and_end(&mut store, room, commands, way);
     drop(store);
     Ok(Played {
         count,
@@ -124,17 +181,13 @@ fn candidate_count<D: DependencyProvider>(
     }
 }
 
-/// The store's replies, where the request is refused from now on, and its end.
+/// The store's replies to the commands, and its end.
 fn replies_and_end<S, A: Allocator + Copy, T: Obeys<S, A>>(
     store: &mut T,
     room: A,
     commands: &[Command<S>],
     way: Way,
-    refusal: Option<Refusal>,
 ) -> (Result<Vec<Reply<A>, A>, StoreError>, End) {
-    if let Some(refusal) = refusal {
-        refusal.arm();
-    }
     let replies = match way {
         Way::Steps => steps(store, room, commands, None),
         Way::StepsBut(left_out) => steps(store, room, commands, Some(left_out)),
