@@ -1,4 +1,3 @@
 pub mod ExampleProofs
-pub mod ListedLemmas
 pub mod LoadLaws
 pub mod PlayLaws

@@ -1,4 +1,3 @@
 pub mod Examples
-pub mod Listed
 pub mod Play
 pub mod Script

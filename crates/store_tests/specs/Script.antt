@@ -3,7 +3,7 @@ use Rattle.std.specs.Prelude.{ℕ, Bool, true, false, ◌==◌, ◌&&◌, ◌||�
 use Rattle.std.specs.List.{enumerate_from}
 use Rattle.resolvo_ids.specs.declared.version_set_id.VersionSetId.{VersionSetId}
 use Rattle.resolvo_store.specs.Store.{Provider}
-use Rattle.store_tests.specs.Listed.{set_condition}
+use Rattle.plain_providers.specs.Listed.{set_condition}
 
 pub record Solvable : Type 0 where
   pub name : ℕ

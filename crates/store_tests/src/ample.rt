@@ -1,13 +1,14 @@
 //! Each call that takes memory, once with ample memory: none of them is refused, and the answers are as wanted. (A body
-//! that always answers want of memory would meet any contract.)
+//! that always answers want of memory would meet any contract.) What owns memory is generic in the allocator, so that a
+//! test names it once.
 ghost use Rattle.std.specs.Prelude.{◌≡◌, []};
 
-use crate::script::{EACH_WANTED, clause, each_command, one_package, single, variable};
-use crate::sparse_lists::SparseSolvable;
+use crate::same::is_same;
+use crate::script::{Example, clause, one_package, single, variable};
 use crate::stores::{Way, dense_gives, sparse_gives};
 use resolvo_clauses::{AddFault, Decision, DecisionMap, DecisionTracker};
 use resolvo_ids::{DenseIndex, NameId, SolvableId, StoreError, VariableId, VersionSetId};
-use resolvo_maps::{IdMap, Slot, SolverId};
+use resolvo_maps::{DefaultValue, IdMap, Slot, SolverId};
 use resolvo_provider::{Interner, Requirement, RequirementMap};
 use resolvo_queue::{Answer, DecideQueue};
 use resolvo_variables::{VariableMap, VariableOrigin};
@@ -15,76 +16,86 @@ use std::alloc::{Allocator, Global};
 use std::test::Fail;
 
 #[test]
-fn total_maps_keep_numbers(rt: HostRuntime) -> Result<(), Fail> {
-    let mut map: Vec<u64> = IdMap::<NameId, u64, Global>::new(rt.alloc());
+fn total_maps_keep_numbers(rt: HostRuntime) {
     let names = [
         NameId::from_raw(5),
         NameId::from_raw(9),
         NameId::from_raw(70),
     ];
-    let kept = kept_numbers(&mut map, names);
-    drop(map);
-    assert_eq!(rt; kept?, [4, 0, 0]);
+    let kept = kept_by_new::<NameId, u64, Global, Vec<u64>>(rt.alloc(), names, 4);
+    is_same(&rt, kept, Ok([4, 0, 0]));
+}
+
+#[test]
+fn total_maps_keep_slots(rt: HostRuntime) -> Result<(), Fail> {
+    let solvables = [
+        SolvableId::from_raw(1),
+        SolvableId::from_raw(2),
+        SolvableId::from_raw(3),
+    ];
+    let seven = Slot::new(Some(7));
+    let kept = kept_by_new::<SolvableId, Slot, Global, Vec<Slot>>(rt.alloc(), solvables, seven);
+    let [slot, _, _] = kept?;
+    is_same(&rt, slot.number(), Some(7));
     Ok(())
 }
 
-/// The numbers that a map keeps at three keys, of which the first is written, and there is room at the second.
-fn kept_numbers<K: Copy, A: Allocator + Copy, M: IdMap<K, u64, A>>(
+/// The values that a new map keeps at three keys, of which the first is given this one, and there is room at the second.
+fn kept_by_new<K: Copy, V: DefaultValue, A: Allocator + Copy, M: IdMap<K, V, A>>(
+    heap: A,
+    keys: [K; 3],
+    value: V,
+) -> Result<[V; 3], StoreError> {
+    let mut map = M::new(heap);
+    let kept = kept_values(&mut map, keys, value);
+    drop(map);
+    kept
+}
+
+fn kept_values<K: Copy, V: DefaultValue, A: Allocator + Copy, M: IdMap<K, V, A>>(
     map: &mut M,
     keys: [K; 3],
-) -> Result<[u64; 3], StoreError> {
+    value: V,
+) -> Result<[V; 3], StoreError> {
     let [first, second, third] = keys;
-    map.set(first, 4)?;
+    map.set(first, value)?;
     map.make_room(second)?;
     Ok([map.get(first), map.get(second), map.get(third)])
 }
 
 #[test]
-fn total_maps_keep_slots(rt: HostRuntime) -> Result<(), Fail> {
-    let mut slots: Vec<Slot> = IdMap::<SolvableId, Slot, Global>::new(rt.alloc());
-    let kept = kept_slot(&mut slots, SolvableId::from_raw(1), Slot::new(Some(7)));
-    drop(slots);
-    assert_eq!(rt; kept?.number(), Some(7));
-    Ok(())
-}
-
-/// What a map keeps of a slot.
-fn kept_slot<K: Copy, A: Allocator + Copy, M: IdMap<K, Slot, A>>(
-    slots: &mut M,
-    key: K,
-    slot: Slot,
-) -> Result<Slot, StoreError> {
-    slots.set(key, slot)?;
-    Ok(slots.get(key))
-}
-
-#[test]
 fn requirement_maps_keep_the_later_value(rt: HostRuntime) -> Result<(), Fail> {
-    let mut map: RequirementMap<u32, Global> = RequirementMap::new(rt.alloc());
-    let earlier = earlier_values(&mut map);
-    let kept = [map.get(single(3)).copied(), map.get(single(9)).copied()];
-    drop(map);
-    assert_eq!(rt; earlier?, [None, None, Some(1)]);
-    assert_eq!(rt; kept, [Some(5), None]);
+    let seen = new_map_values(rt.alloc())?;
+    is_same(&rt, seen, [None, None, Some(1), Some(5), None]);
     Ok(())
 }
 
-/// What a new map answers to three values, of which the last has the first one's requirement.
-fn earlier_values<A: Allocator + Copy>(
+/// What a new map answers to three values, of which the last has the first one's requirement; and what it then keeps of
+/// that requirement and of another.
+fn new_map_values<A: Allocator + Copy>(heap: A) -> Result<[Option<u32>; 5], Fail> {
+    let mut map = RequirementMap::new(heap);
+    let values = map_values(&mut map);
+    drop(map);
+    values
+}
+
+fn map_values<A: Allocator + Copy>(
     map: &mut RequirementMap<u32, A>,
-) -> Result<[Option<u32>; 3], Fail> {
+) -> Result<[Option<u32>; 5], Fail> {
     let first = map.insert(single(3), 1)?;
     let other = map.insert(single(4), 2)?;
-    Ok([first, other, map.insert(single(3), 5)?])
+    let again = map.insert(single(3), 5)?;
+    let kept = map.get(single(3)).copied();
+    Ok([first, other, again, kept, map.get(single(9)).copied()])
 }
 
 #[test]
-fn variables_count_up(rt: HostRuntime) -> Result<(), Fail> {
+fn variables_count_up(rt: HostRuntime) {
     let (first, second) = (SolvableId::from_raw(8), SolvableId::from_raw(2));
-    let seen = new_variables_seen::<NameId, _, Global>(rt.alloc(), first, second)?;
-    assert_eq!(rt; seen.0, [variable(1), variable(2), variable(1)]);
-    assert_eq!(rt; seen.1, [(3, Some(variable(2))), (2, None)]);
-    Ok(())
+    let seen = new_variables_seen::<NameId, _, Global>(rt.alloc(), first, second);
+    let interned = [variable(1), variable(2), variable(1)];
+    let states = [(3, Some(variable(2))), (2, None)];
+    is_same(&rt, seen, Ok((interned, states)));
 }
 
 /// What is seen of variables: what two solvables are interned as, where the first comes again; and how many there
@@ -124,41 +135,49 @@ fn variables_seen<N: Copy, S: SolverId<A>, A: Allocator + Copy>(
 fn origins_name_their_solvable(rt: HostRuntime) {
     let first = SolvableId::from_raw(8);
     let origin: VariableOrigin<NameId, SolvableId> = VariableOrigin::Solvable(first);
-    assert_eq!(rt; origin.as_solvable(), Some(first));
+    is_same(&rt, origin.as_solvable(), Some(first));
 }
 
 #[test]
-fn maps_of_decisions_keep_values(rt: HostRuntime) -> Result<(), Fail> {
-    let mut map: DecisionMap<Global> = DecisionMap::new(rt.alloc());
-    map.set(variable(3), false, 2)?;
-    assert_eq!(rt; map.value(variable(3)), Some(false));
-    Ok(())
+fn maps_of_decisions_keep_values(rt: HostRuntime) {
+    is_same(&rt, kept_decision(rt.alloc()), Ok(Some(false)));
+}
+
+/// What a new map keeps of a variable that it is told is false.
+fn kept_decision<A: Allocator + Copy>(heap: A) -> Result<Option<bool>, StoreError> {
+    let mut map = DecisionMap::new(heap);
+    let told = map.set(variable(3), false, 2);
+    let kept = map.value(variable(3));
+    drop(map);
+    told?;
+    Ok(kept)
 }
 
 #[test]
 fn the_trail_takes_decisions(rt: HostRuntime) {
-    let mut trail: DecisionTracker<Global> = DecisionTracker::new(rt.alloc());
-    let taken = taken(&mut trail);
-    let kept = (trail.assigned_value(variable(4)), trail.level(variable(4)));
-    drop(trail);
-    assert_eq!(rt; taken, (Ok(true), Ok(false)));
-    assert_eq!(rt; kept, (Some(true), 7));
+    let (taken, kept) = trail_seen(rt.alloc());
+    is_same(&rt, taken, (Ok(true), Ok(false)));
+    is_same(&rt, kept, (Some(true), 7));
 }
 
-/// Whether the trail takes a decision as a new one, and the same of another clause at another level.
-fn taken<A: Allocator + Copy>(
-    trail: &mut DecisionTracker<A>,
-) -> (Result<bool, AddFault>, Result<bool, AddFault>) {
+/// Whether a new trail takes a decision as a new one, and the same of another clause at another level; and the value and
+/// the level that it then has of the variable.
+fn trail_seen<A: Allocator + Copy>(heap: A) -> (Taken, (Option<bool>, u32)) {
+    let mut trail = DecisionTracker::new(heap);
     let first = trail.try_add_decision(Decision::new(variable(4), true, clause(0)), 7);
     let again = trail.try_add_decision(Decision::new(variable(4), true, clause(1)), 9);
-    (first, again)
+    let kept = (trail.assigned_value(variable(4)), trail.level(variable(4)));
+    drop(trail);
+    ((first, again), kept)
 }
+
+type Taken = (Result<bool, AddFault>, Result<bool, AddFault>);
 
 #[test]
 fn the_queue_takes_clauses(rt: HostRuntime) -> Result<(), Fail> {
     let provider = one_package(rt.alloc())?;
-    let answer = new_queue_answer(rt.alloc(), provider)?;
-    assert_eq!(rt; answer, Some((1, Answer::Falsified(clause(0)))));
+    let answer = new_queue_answer(rt.alloc(), provider);
+    is_same(&rt, answer, Ok(Some((1, Answer::Falsified(clause(0))))));
     Ok(())
 }
 
@@ -198,15 +217,11 @@ fn queue_answer<I: Interner, A: Allocator + Copy>(
 }
 
 #[test]
-fn a_store_obeys_each_command(rt: HostRuntime) -> Result<(), Fail> {
-    let lists = one_package(rt.alloc())?;
-    let commands = each_command(SolvableId::from_raw(0));
-    dense_gives(&rt, lists, &commands, EACH_WANTED, Way::Steps)
+fn a_store_obeys_each_command(rt: HostRuntime) {
+    dense_gives(&rt, Example::EachCommand, Way::Steps);
 }
 
 #[test]
-fn a_store_of_sparse_ids_obeys_each_command(rt: HostRuntime) -> Result<(), Fail> {
-    let lists = one_package(rt.alloc())?;
-    let commands = each_command(SparseSolvable::from_raw(0));
-    sparse_gives(&rt, lists, &commands, EACH_WANTED, Way::Steps)
+fn a_store_of_sparse_ids_obeys_each_command(rt: HostRuntime) {
+    sparse_gives(&rt, Example::EachCommand, Way::Steps);
 }

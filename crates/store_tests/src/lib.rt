@@ -1,20 +1,19 @@
-//! Tests of the clause store across its crates: providers of plain lists with dense ids and with sparse ones, callers
-//! that are generic in the provider, worked examples computed from the definitions, and runs in which memory is
-//! refused.
+//! Tests of the clause store across its crates: callers that are generic in the provider, worked examples computed from
+//! the definitions and run by the code with dense ids and with sparse ones, and runs in which memory is refused.
 #![tactic(auto)]
 
 #[cfg(test)]
 mod ample;
 mod callers;
 mod computed;
-mod lists;
 #[cfg(test)]
 mod obeys;
 #[cfg(test)]
 mod refused;
 #[cfg(test)]
+mod same;
+#[cfg(test)]
 mod script;
-mod sparse_lists;
 #[cfg(test)]
 mod stores;
 #[cfg(test)]
@@ -24,5 +23,3 @@ mod worked;
 
 pub use callers::{ask, decides_unbeaten, load_first, obey, unknown};
 pub use computed::{examples, play_is_run};
-pub use lists::{Lists, Package, VersionRange};
-pub use sparse_lists::{SparseLists, SparseName, SparseSolvable};

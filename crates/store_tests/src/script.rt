@@ -1,6 +1,6 @@
-//! What the tests share: two catalogues, their commands, and the replies that are wanted.
-use crate::lists::{Lists, Package, VersionRange};
+//! The examples of the tests: the lists of a provider, commands, and the replies that are wanted.
 use crate::wanted::{Wanted, WantedDecision, WantedPlay};
+use plain_providers::{Lists, Package, VersionRange};
 use resolvo_ids::{
     ClauseId, DenseIndex, DisjunctionId, NameId, StoreError, VariableId, VersionSetId,
     VersionSetUnionId,
@@ -8,6 +8,42 @@ use resolvo_ids::{
 use resolvo_provider::Requirement;
 use resolvo_store::Command;
 use std::alloc::{AllocError, Allocator};
+
+/// An example: the lists of a provider, a list of commands, and the replies that are wanted.
+#[derive(Clone, Copy)]
+pub(crate) enum Example {
+    TwoPackages,
+    OnePackage,
+    SetTwice,
+    /// Each command over one package.
+    EachCommand,
+}
+
+/// The example's lists.
+pub(crate) fn lists_of<A: Allocator + Copy>(
+    alloc: A,
+    example: Example,
+) -> Result<Lists<A>, StoreError> {
+    let lists = match example {
+        Example::TwoPackages => two_packages(alloc),
+        Example::OnePackage | Example::EachCommand => one_package(alloc),
+        Example::SetTwice => set_twice(alloc),
+    };
+    match lists {
+        Ok(lists) => Ok(lists),
+        Err(_) => Err(StoreError::OutOfMemory),
+    }
+}
+
+/// What is wanted of a store that is given the example's commands.
+pub(crate) fn wanted_of(example: Example) -> WantedPlay {
+    match example {
+        Example::TwoPackages => TWO_PACKAGES_WANTED,
+        Example::OnePackage => ONE_PACKAGE_WANTED,
+        Example::SetTwice => SET_TWICE_WANTED,
+        Example::EachCommand => EACH_WANTED,
+    }
+}
 
 pub(crate) fn variable(index: u16) -> VariableId {
     VariableId::from_index(index as usize)
@@ -53,7 +89,7 @@ fn one_union<A: Allocator + Copy>(
 }
 
 /// Package 0 in versions 1 and 2, package 1 in version 1, a version set of all versions of each, and the union of both.
-pub(crate) fn two_packages<A: Allocator + Copy>(alloc: A) -> Result<Lists<A>, AllocError> {
+fn two_packages<A: Allocator + Copy>(alloc: A) -> Result<Lists<A>, AllocError> {
     let packages = vec![in alloc; package(0, 1), package(0, 2), package(1, 1)]?;
     let ranges = vec![in alloc; range(0, 1, 3), range(1, 1, 2)]?;
     let both = vec![in alloc; VersionSetId(0), VersionSetId(1)]?;
@@ -146,7 +182,7 @@ pub(crate) fn one_package_commands<S>() -> [Command<S>; 12] {
     ]
 }
 
-pub(crate) const ONE_PACKAGE_WANTED: WantedPlay = WantedPlay {
+const ONE_PACKAGE_WANTED: WantedPlay = WantedPlay {
     replies: &[
         Wanted::Refused(StoreError::NotLoaded),
         Wanted::Loaded(&[&[1, 2]]),
@@ -165,7 +201,7 @@ pub(crate) const ONE_PACKAGE_WANTED: WantedPlay = WantedPlay {
 };
 
 /// Package 0 in versions 1 and 2, a version set of all of them, and a union that names it twice.
-pub(crate) fn set_twice<A: Allocator + Copy>(alloc: A) -> Result<Lists<A>, AllocError> {
+fn set_twice<A: Allocator + Copy>(alloc: A) -> Result<Lists<A>, AllocError> {
     let packages = vec![in alloc; package(0, 1), package(0, 2)]?;
     let ranges = vec![in alloc; range(0, 1, 3)]?;
     let twice = vec![in alloc; VersionSetId(0), VersionSetId(0)]?;
@@ -189,7 +225,7 @@ pub(crate) fn set_twice_commands<S>() -> [Command<S>; 6] {
     ]
 }
 
-pub(crate) const SET_TWICE_WANTED: WantedPlay = WantedPlay {
+const SET_TWICE_WANTED: WantedPlay = WantedPlay {
     replies: &[
         Wanted::Loaded(&[&[1, 2], &[1, 2]]),
         Wanted::Clause(0),
@@ -212,9 +248,9 @@ pub(crate) const SET_TWICE_WANTED: WantedPlay = WantedPlay {
 };
 
 /// Each command that succeeds over one package, but for an undo; a requirement is loaded twice.
-pub(crate) fn each_command<S>(first: S) -> [Command<S>; 6] {
+pub(crate) fn each_command<S>(solvable: S) -> [Command<S>; 6] {
     [
-        Command::Variable(first),
+        Command::Variable(solvable),
         Command::Load(single(0)),
         Command::Load(single(0)),
         Command::Requires(variable(0), single(0), None),
@@ -223,7 +259,7 @@ pub(crate) fn each_command<S>(first: S) -> [Command<S>; 6] {
     ]
 }
 
-pub(crate) const EACH_WANTED: WantedPlay = WantedPlay {
+const EACH_WANTED: WantedPlay = WantedPlay {
     replies: &[
         Wanted::Variable(1),
         Wanted::Loaded(&[&[2, 1]]),

@@ -1,151 +1,218 @@
-//! New stores, whose replies to a list of commands are compared with those that are wanted. What is shared is generic in
-//! the provider, and only two functions name a provider of lists: a proof spells out a provider's traits wherever a call
-//! names it.
-use crate::lists::Lists;
-use crate::obeys::Obeys;
-use crate::script::variable;
-use crate::sparse_lists::{SparseLists, SparseName, SparseSolvable};
-use crate::wanted::{Wanted, WantedPlay, is_wanted};
+//! New stores that are given the commands of an example, and what is seen of them. What is shared is generic in the
+//! provider, and only two functions name a provider of lists: a proof spells out a provider's traits wherever a call names
+//! it. What is seen is compared once, behind all that is owned.
+use crate::obeys::{End, Obeys};
+use crate::refused::Refusal;
+use crate::same::is_same;
+use crate::script::{
+    Example, each_command, lists_of, one_package_commands, set_twice_commands,
+    two_packages_commands, wanted_of,
+};
+use crate::wanted::{Wanted, first_unwanted};
+use plain_providers::{SparseLists, SparseName, SparseSolvable};
 use resolvo_ids::{NameId, SolvableId, StoreError};
 use resolvo_provider::{DependencyProvider, Interner};
 use resolvo_store::{ClauseStore, Command, Reply};
-use std::alloc::{Allocator, Global};
+use std::alloc::Allocator;
 use std::process::Abort;
-use std::test::Fail;
 
 /// How a store is given commands.
 #[derive(Clone, Copy)]
 pub(crate) enum Way {
     /// By steps.
     Steps,
+    /// By steps but for the command of this number, for which the reply of want of memory stands.
+    StepsBut(usize),
     /// In one run.
     Run,
 }
 
-/// A new store over the lists replies as wanted.
-pub(crate) fn dense_gives(
+/// What is seen of a new store that was given commands.
+#[derive(Drop)]
+pub(crate) struct Played<A: Allocator> {
+    /// How many candidates the provider lists of package 0.
+    pub(crate) count: Result<usize, StoreError>,
+    pub(crate) replies: Result<Vec<Reply<A>, A>, StoreError>,
+    pub(crate) end: End,
+}
+
+/// A new store over the example's lists, which list two candidates, replies as wanted.
+pub(crate) fn dense_gives(rt: &(impl Abort + AllocGlobal), example: Example, way: Way) {
+    match example {
+        Example::TwoPackages => dense_case(rt, example, &two_packages_commands(), way),
+        Example::OnePackage => dense_case(rt, example, &one_package_commands(), way),
+        Example::SetTwice => dense_case(rt, example, &set_twice_commands(), way),
+        Example::EachCommand => {
+            dense_case(rt, example, &each_command(SolvableId::from_raw(0)), way)
+        }
+    }
+}
+
+fn dense_case(
     rt: &(impl Abort + AllocGlobal),
-    lists: Lists<Global>,
+    example: Example,
     commands: &[Command<SolvableId>],
-    wanted: WantedPlay,
     way: Way,
-) -> Result<(), Fail> {
-    gives(
-        rt,
-        rt.alloc(),
-        (lists, NameId::from_raw(0)),
-        commands,
-        wanted,
-        way,
-    )
+) {
+    let played = dense_play(rt.alloc(), rt.alloc(), example, commands, way, None);
+    is_as_wanted(rt, played, example);
 }
 
-/// A new store over the lists with sparse ids replies as wanted.
-pub(crate) fn sparse_gives(
+/// The same of a store whose ids are sparse.
+pub(crate) fn sparse_gives(rt: &(impl Abort + AllocGlobal), example: Example, way: Way) {
+    match example {
+        Example::TwoPackages => sparse_case(rt, example, &two_packages_commands(), way),
+        Example::OnePackage => sparse_case(rt, example, &one_package_commands(), way),
+        Example::SetTwice => sparse_case(rt, example, &set_twice_commands(), way),
+        Example::EachCommand => {
+            sparse_case(rt, example, &each_command(SparseSolvable::from_raw(0)), way)
+        }
+    }
+}
+
+fn sparse_case(
     rt: &(impl Abort + AllocGlobal),
-    lists: Lists<Global>,
+    example: Example,
     commands: &[Command<SparseSolvable>],
-    wanted: WantedPlay,
     way: Way,
-) -> Result<(), Fail> {
-    let provider = SparseLists(lists);
-    gives(
-        rt,
-        rt.alloc(),
-        (provider, SparseName::from_raw(0)),
+) {
+    let played = sparse_play(rt.alloc(), rt.alloc(), example, commands, way);
+    is_as_wanted(rt, played, example);
+}
+
+/// What was seen is as wanted: two candidates, the replies, and at the end the root's value, no other and no falsified
+/// clause.
+fn is_as_wanted<A: Allocator>(
+    rt: &impl Abort,
+    played: Result<Played<A>, StoreError>,
+    example: Example,
+) {
+    let wanted = wanted_of(example);
+    let seen = match played {
+        Ok(played) => {
+            let seen = seen(&played, wanted.replies);
+            drop(played);
+            seen
+        }
+        Err(error) => Err(error),
+    };
+    let end = (wanted.root, None, None);
+    is_same(rt, seen, Ok((2, wanted.replies.len(), None, end)));
+}
+
+/// How many candidates and replies there are, the first reply that isn't as wanted, and the end.
+type Seen = (usize, usize, Option<usize>, End);
+
+fn seen<A: Allocator>(played: &Played<A>, wanted: &[Wanted]) -> Result<Seen, StoreError> {
+    let count = played.count?;
+    match &played.replies {
+        Ok(replies) => {
+            let unwanted = first_unwanted(replies, wanted);
+            Ok((count, replies.len(), unwanted, played.end))
+        }
+        Err(error) => Err(*error),
+    }
+}
+
+/// What is seen of a new store over the example's lists. The replies to steps are kept in the room.
+pub(crate) fn dense_play<A: Allocator + Copy>(
+    heap: A,
+    room: A,
+    example: Example,
+    commands: &[Command<SolvableId>],
+    way: Way,
+    refusal: Option<Refusal>,
+) -> Result<Played<A>, StoreError> {
+    let provider = (lists_of(heap, example)?, NameId::from_raw(0));
+    play(heap, room, provider, commands, way, refusal)
+}
+
+/// What is seen of a new store over the example's lists with sparse ids.
+fn sparse_play<A: Allocator + Copy>(
+    heap: A,
+    room: A,
+    example: Example,
+    commands: &[Command<SparseSolvable>],
+    way: Way,
+) -> Result<Played<A>, StoreError> {
+    let lists = SparseLists(lists_of(heap, example)?);
+    play(
+        heap,
+        room,
+        (lists, SparseName::from_raw(0)),
         commands,
-        wanted,
         way,
+        None,
     )
 }
 
-/// A new store over the provider, which lists two candidates of the name, replies as wanted.
-fn gives<D: DependencyProvider + Drop>(
-    rt: &impl Abort,
+/// What is seen of a new store over the provider.
+fn play<D: DependencyProvider + Drop>(
     heap: D::Alloc,
+    room: D::Alloc,
     (provider, name): (D, D::NameId),
     commands: &[Command<D::SolvableId>],
-    wanted: WantedPlay,
     way: Way,
-) -> Result<(), Fail> {
+    refusal: Option<Refusal>,
+) -> Result<Played<D::Alloc>, StoreError> {
     let mut store = ClauseStore::new(heap, provider)?;
-    lists_two(rt, heap, &store, name);
-    let ended = plays(rt, &mut store, commands, wanted, way);
+    let count = candidate_count(heap, store.provider(), name);
+    if let Some(refusal) = refusal {
+        refusal.arm();
+    }
+    let (replies, end) = replies_and_end(&mut store, room, commands, way);
     drop(store);
-    ended
+    Ok(Played {
+        count,
+        replies,
+        end,
+    })
 }
 
-/// The provider lists two candidates of the name.
-fn lists_two<N, S: Copy, A: Allocator, T: Obeys<N, S, A>>(
-    rt: &impl Abort,
-    heap: A,
-    store: &T,
-    name: N,
-) {
-    assert_eq!(rt; candidate_count(heap, store, name), Ok(2));
-}
-
-fn candidate_count<N, S: Copy, A: Allocator, T: Obeys<N, S, A>>(
-    heap: A,
-    store: &T,
-    name: N,
+/// How many candidates the provider lists of the name.
+fn candidate_count<D: DependencyProvider>(
+    heap: D::Alloc,
+    provider: &D,
+    name: D::NameId,
 ) -> Result<usize, StoreError> {
-    match store.candidates(heap, name)? {
+    match provider.get_candidates(heap, name)? {
         Some(list) => Ok(list.len()),
         None => Ok(0),
     }
 }
 
-/// The store replies as wanted, and ends with the root's value, no other and no falsified clause.
-fn plays<N, S, A: Allocator, T: Obeys<N, S, A>>(
-    rt: &impl Abort,
+/// The store's replies to the commands, and its end.
+fn replies_and_end<S, A: Allocator + Copy, T: Obeys<S, A>>(
     store: &mut T,
+    room: A,
     commands: &[Command<S>],
-    wanted: WantedPlay,
     way: Way,
-) -> Result<(), Fail> {
-    match way {
-        Way::Steps => steps_give(rt, store, commands, wanted.replies),
-        Way::Run => a_run_gives(rt, store, commands, wanted.replies)?,
-    }
-    let values = (store.value_of(variable(0)), store.value_of(variable(2)));
-    assert_eq!(rt;
-        (values, store.falsified_clause()),
-        ((wanted.root, None), None)
-    );
-    Ok(())
+) -> (Result<Vec<Reply<A>, A>, StoreError>, End) {
+    let replies = match way {
+        Way::Steps => steps(store, room, commands, None),
+        Way::StepsBut(left_out) => steps(store, room, commands, Some(left_out)),
+        Way::Run => store.obey_all(commands),
+    };
+    (replies, store.end())
 }
 
-/// The store gives these replies to the commands in turn.
-fn steps_give<N, S, A: Allocator, T: Obeys<N, S, A>>(
-    rt: &impl Abort,
+/// The replies to the commands in turn, but for one that is left out.
+fn steps<S, A: Allocator + Copy, T: Obeys<S, A>>(
     store: &mut T,
+    room: A,
     commands: &[Command<S>],
-    wanted: &[Wanted],
-) {
-    assert_eq!(rt; commands.len(), wanted.len());
-    for (i, (command, wanted)) in commands.iter().zip(wanted).enumerate() {
-        let reply = store.obey(command);
-        assert!(rt; is_wanted(&reply, wanted), "command {i}: {reply:?}");
+    left_out: Option<usize>,
+) -> Result<Vec<Reply<A>, A>, StoreError> {
+    let mut replies = Vec::new(room);
+    for (i, command) in commands.iter().enumerate() {
+        let reply = match left_out == Some(i) {
+            true => Reply::Refused(StoreError::OutOfMemory),
+            false => store.obey(command),
+        };
+        match replies.push(reply) {
+            Ok(()) => {}
+            Err(_) => return Err(StoreError::OutOfMemory),
+        }
     }
-}
-
-fn a_run_gives<N, S, A: Allocator, T: Obeys<N, S, A>>(
-    rt: &impl Abort,
-    store: &mut T,
-    commands: &[Command<S>],
-    wanted: &[Wanted],
-) -> Result<(), Fail> {
-    let replies = store.obey_all(commands)?;
-    are_wanted(rt, &replies, wanted);
-    drop(replies);
-    Ok(())
-}
-
-/// The replies are those that are wanted.
-fn are_wanted<A: Allocator>(rt: &impl Abort, replies: &[Reply<A>], wanted: &[Wanted]) {
-    assert_eq!(rt; replies.len(), wanted.len());
-    for (i, (reply, wanted)) in replies.iter().zip(wanted).enumerate() {
-        assert!(rt; is_wanted(reply, wanted), "command {i}: {reply:?}");
-    }
+    Ok(replies)
 }

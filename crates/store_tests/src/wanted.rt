@@ -39,8 +39,21 @@ pub(crate) struct WantedDecision {
     pub(crate) count: usize,
 }
 
+/// The number of the first reply that isn't the wanted one.
+pub(crate) fn first_unwanted<A: Allocator>(
+    replies: &[Reply<A>],
+    wanted: &[Wanted],
+) -> Option<usize> {
+    for (i, (reply, wanted)) in replies.iter().zip(wanted).enumerate() {
+        if !is_wanted(reply, wanted) {
+            return Some(i);
+        }
+    }
+    None
+}
+
 /// Whether the reply is the wanted one.
-pub(crate) fn is_wanted<A: Allocator>(reply: &Reply<A>, wanted: &Wanted) -> bool {
+fn is_wanted<A: Allocator>(reply: &Reply<A>, wanted: &Wanted) -> bool {
     match (reply, wanted) {
         (Reply::Variable(given), Wanted::Variable(index)) => *given == variable(*index),
         (Reply::Loaded(given), Wanted::Loaded(lists)) => are_lists(given, lists),

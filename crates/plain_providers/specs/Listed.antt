@@ -7,8 +7,8 @@ use Rattle.resolvo_ids.specs.declared.version_set_id.VersionSetId.{VersionSetId}
 use Rattle.resolvo_ids.specs.declared.version_set_union_id.VersionSetUnionId.{VersionSetUnionId}
 use Rattle.resolvo_provider.specs.declared.condition.Condition.{Condition}
 use Rattle.resolvo_provider.specs.declared.condition.Condition.TheVariants.{Requirement}
-use Rattle.store_tests.specs.declared.lists.Package.{Package}
-use Rattle.store_tests.specs.declared.lists.VersionRange.{VersionRange}
+use Rattle.plain_providers.specs.declared.lists.Package.{Package}
+use Rattle.plain_providers.specs.declared.lists.VersionRange.{VersionRange}
 
 -- the places of the packages of a name, the first of the list being place n
 abbrev pub places_of : ℕ → ℕ → List Package → List ℕ

@@ -1,7 +1,7 @@
 use Rattle.std.proofs.Common.{rules, ◌≡◌, ◌==◌, true, false}
-use Rattle.store_tests.proofs.ListedLemmas.{named_one, named_other}
-use Rattle.store_tests.proofs.lists.named.Goals as goal
-use Rattle.store_tests.proofs.lists.named.Goals.{then-eq+in-Ok, else-eq}
+use Rattle.plain_providers.proofs.ListedLemmas.{named_one, named_other}
+use Rattle.plain_providers.proofs.lists.named.Goals as goal
+use Rattle.plain_providers.proofs.lists.named.Goals.{then-eq+in-Ok, else-eq}
 
 pub loop-i-preserved : goal.loop-i-preserved
 loop-i-preserved g c =

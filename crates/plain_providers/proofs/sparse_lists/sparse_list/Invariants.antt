@@ -1,5 +1,5 @@
 use Rattle.std.proofs.Common.{◌≡◌, ◌++◌, drop}
-use Rattle.store_tests.proofs.sparse_lists.sparse_list.Given as goal
+use Rattle.plain_providers.proofs.sparse_lists.sparse_list.Given as goal
 
 abbrev pub invariant-loop-solvable : goal.invariant-loop-solvable
 invariant-loop-solvable g l = l.list.items ++ drop l.solvable-index l.solvables ≡ l.solvables

@@ -2,7 +2,7 @@
 ghost use Rattle.std.specs.Prelude.{◌≡◌, map, length, refl, IfOk, IfErr};
 ghost use Rattle.resolvo_ids.specs.declared.error.StoreError.TheVariants.{OutOfMemory};
 
-use crate::lists::Lists;
+use crate::lists::{Lists, append_name};
 use resolvo_ids::{
     ConditionId, NameId, NameTag, SolvableId, SolvableTag, SparseId, StoreError, StringId,
     VersionSetId, VersionSetUnionId,
@@ -28,7 +28,7 @@ impl<A: Allocator + Copy> Interner for SparseLists<A> {
 
     type SolvableId = SparseSolvable;
 
-    ghost use Rattle.store_tests.specs.Listed.{union_at, unions_known};
+    ghost use Rattle.plain_providers.specs.Listed.{union_at, unions_known};
 
     ghost catalogue = { λ p. ⟦<Lists<A> as Interner>⟧.catalogue p.0 };
 
@@ -105,11 +105,27 @@ impl<A: Allocator + Copy> Interner for SparseLists<A> {
     fn display_string(&self, string: StringId, out: &mut String<A>) -> Result<(), StoreError> {
         self.0.display_string(string, out)
     }
+
+    fn display_solvable_name(
+        &self,
+        solvable: SparseSolvable,
+        out: &mut String<A>,
+    ) -> Result<(), StoreError> {
+        self.0.display_solvable_name(dense_solvable(solvable), out)
+    }
+
+    fn display_merged_solvables(
+        &self,
+        _solvables: &[SparseSolvable],
+        out: &mut String<A>,
+    ) -> Result<(), StoreError> {
+        append_name(out)
+    }
 }
 
 impl<A: Allocator + Copy> DependencyProvider for SparseLists<A> {
     ghost use Rattle.std.proofs.lemmas.List.Sorted.{IsPermutation-reverse};
-    ghost use Rattle.store_tests.specs.Listed.{places_known};
+    ghost use Rattle.plain_providers.specs.Listed.{places_known};
 
     ghost answers = { λ p. ⟦<Lists<A> as DependencyProvider>⟧.answers p.0 };
 

@@ -1,8 +1,8 @@
 -- One package more of those that are gone over.
 use Rattle.std.proofs.Common.{◌≡◌, ℕ, ◌+◌, ◌<◌, ◌==◌, true, false, cond, List, [], ◌∷◌, ◌++◌, length, drop, get_or, sym, ap, ◌∙◌}
 use Rattle.std.proofs.lemmas.List.{drop_more, append_assoc}
-use Rattle.store_tests.specs.declared.lists.Package.{Package}
-use Rattle.store_tests.specs.Listed.{places_of}
+use Rattle.plain_providers.specs.declared.lists.Package.{Package}
+use Rattle.plain_providers.specs.Listed.{places_of}
 
 -- the package at hand and those behind it
 rest-is : (ps : List Package) (i : ℕ) (p : Package) → i < length ps → p ≡ get_or ps i p → drop i ps ≡ p ∷ drop (i + 1) ps

@@ -3,7 +3,7 @@ ghost use Rattle.std.specs.Prelude.{◌≡◌, ◌<◌, ◌≤◌, ◌^◌, ◌=
 ghost use Rattle.resolvo_ids.specs.declared.error.StoreError.TheVariants.{OutOfMemory};
 ghost use Rattle.resolvo_provider.specs.Provider.{filtered};
 ghost use Rattle.resolvo_provider.specs.Texts.{IsAppended, IsSameText};
-ghost use Rattle.store_tests.specs.Listed.{places_of, package_at, range_at, union_at, are_known, is_within, every_name, set_condition};
+ghost use Rattle.plain_providers.specs.Listed.{places_of, package_at, range_at, union_at, are_known, is_within, every_name, set_condition};
 
 use resolvo_ids::{
     ConditionId, DenseIndex, NameId, SolvableId, StoreError, StringId, VersionSetId,
@@ -45,7 +45,7 @@ impl<A: Allocator + Copy> Interner for Lists<A> {
 
     type SolvableId = SolvableId;
 
-    ghost use Rattle.store_tests.specs.Listed.{unions_known};
+    ghost use Rattle.plain_providers.specs.Listed.{unions_known};
 
     ghost catalogue = { λ p. record {
       knows_string = λ s. s.0 == 0;
@@ -139,11 +139,27 @@ impl<A: Allocator + Copy> Interner for Lists<A> {
     fn display_string(&self, _string: StringId, _out: &mut String<A>) -> Result<(), StoreError> {
         Ok(())
     }
+
+    fn display_solvable_name(
+        &self,
+        _solvable: SolvableId,
+        out: &mut String<A>,
+    ) -> Result<(), StoreError> {
+        append_name(out)
+    }
+
+    fn display_merged_solvables(
+        &self,
+        _solvables: &[SolvableId],
+        out: &mut String<A>,
+    ) -> Result<(), StoreError> {
+        append_name(out)
+    }
 }
 
 impl<A: Allocator + Copy> DependencyProvider for Lists<A> {
     ghost use Rattle.std.proofs.lemmas.List.Sorted.{IsPermutation-reverse};
-    ghost use Rattle.store_tests.specs.Listed.{places_known};
+    ghost use Rattle.plain_providers.specs.Listed.{places_known};
 
     ghost answers = { λ p. record {
       candidates = λ n. places_of n 0 p.packages.items;
@@ -201,8 +217,8 @@ fn all_below(sets: &[VersionSetId], count: usize) -> bool
     sets.iter().all(|set| (set.0 as usize) < count)
 }
 
-/// Appends the text of each package.
-fn append_name<A: Allocator>(out: &mut String<A>) -> Result<(), StoreError>
+/// Appends the text of each package, which is that of several together too.
+pub(crate) fn append_name<A: Allocator>(out: &mut String<A>) -> Result<(), StoreError>
     ensures ok { OnOk result (IsAppended out.old out.new every_name) }
     ensures err { OnErr result (IsSameText out.old out.new) }
     ensures memory { IfErr result (λ e. e ≡ OutOfMemory) }

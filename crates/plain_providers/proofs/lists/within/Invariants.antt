@@ -1,9 +1,9 @@
 use Rattle.std.proofs.Common.{◌≡◌, ◌++◌, drop, ℕ, Bool, List}
 use Rattle.resolvo_provider.specs.Provider.{filtered}
-use Rattle.store_tests.specs.declared.lists.Package.{Package}
-use Rattle.store_tests.specs.declared.lists.VersionRange.{VersionRange}
-use Rattle.store_tests.specs.Listed.{package_at, is_within}
-use Rattle.store_tests.proofs.lists.within.Given as goal
+use Rattle.plain_providers.specs.declared.lists.Package.{Package}
+use Rattle.plain_providers.specs.declared.lists.VersionRange.{VersionRange}
+use Rattle.plain_providers.specs.Listed.{package_at, is_within}
+use Rattle.plain_providers.proofs.lists.within.Given as goal
 
 -- whether a solvable's version is in the range
 abbrev pub holds : VersionRange → List Package → ℕ → Bool
