@@ -214,34 +214,42 @@ fn exchanged(alloc: Global) -> Result<[Option<u32>; 3], StoreError> {
 
 #[test]
 fn a_default_is_asked_for_once(rt: HostRuntime) -> Result<(), Fail> {
-    sees(&rt, defaults(rt.alloc()), (Some(5), 5, false, (1, 256)))
+    sees(&rt, defaults(rt.alloc()), (Some(5), (5, false), (1, 256)))
 }
 
 /// What a map keeps of a default that is counted up; which value is lent then in place of another default, and whether
 /// that one is asked for; and the numbers of values and slots.
-type Defaults = (Option<u32>, u32, bool, (usize, usize));
+type Defaults = (Option<u32>, (u32, bool), (usize, usize));
 
 fn defaults<A: Allocator>(alloc: A) -> Result<Defaults, StoreError> {
     let mut mapping: Mapping<SolvableId, u32, A> = Mapping::new(alloc)?;
-    let defaults = defaults_at(&mut mapping, solvable(200));
+    let kept = default_counted_up(&mut mapping, solvable(200));
+    let lent = another_default(&mut mapping, solvable(200));
+    let numbers = (mapping.len(), mapping.slots());
     drop(mapping);
-    defaults
+    Ok((kept?, lent?, numbers))
 }
 
-fn defaults_at<A: Allocator>(
+fn default_counted_up<A: Allocator>(
     mapping: &mut Mapping<SolvableId, u32, A>,
     id: SolvableId,
-) -> Result<Defaults, StoreError> {
+) -> Result<Option<u32>, StoreError> {
     let value = mapping.get_or_insert_with(id, || 4)?;
     *value = value.saturating_add(1);
-    let kept = mapping.get(id).copied();
+    Ok(mapping.get(id).copied())
+}
+
+fn another_default<A: Allocator>(
+    mapping: &mut Mapping<SolvableId, u32, A>,
+    id: SolvableId,
+) -> Result<(u32, bool), StoreError> {
     let mut is_called = false;
     let lent = mapping.get_or_insert_with(id, || {
         is_called = true;
         9
     })?;
     let value = *lent;
-    Ok((kept, value, is_called, (mapping.len(), mapping.slots())))
+    Ok((value, is_called))
 }
 
 #[test]
