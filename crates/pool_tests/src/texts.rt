@@ -68,35 +68,32 @@ fn shows_key<I: Interner>(
     Ok(ended?)
 }
 
-/// The texts of a set, of one whose own text is empty, and of a union that has the first set twice.
-fn shows_requirements<I: Interner>(
-    rt: &impl Abort,
-    heap: I::Alloc,
-    interner: &I,
+/// What is to be shown: a set, one whose own text is empty, and a union that has the first set twice.
+#[derive(Clone, Copy)]
+struct Sets {
     set: Requirement,
     empty: Requirement,
     union: Requirement,
-) -> Result<(), Fail>
-    requires set { knows_requirement (I.catalogue interner.now) set ≡ true }
-    requires empty { knows_requirement (I.catalogue interner.now) empty ≡ true }
-    requires union { knows_requirement (I.catalogue interner.now) union ≡ true }
-{
-    shows_requirement(rt, heap, interner, set, "a >=1, <3")?;
-    shows_requirement(rt, heap, interner, empty, "a")?;
-    shows_requirement(rt, heap, interner, union, "a >=1, <3 | a >=1, <3")
 }
 
-/// The texts of solvables together, of none, and of the keys of the root and of the second solvable.
-fn shows_two_solvables<I: Interner>(
+/// The texts of requirements; of solvables together, of none, and of the keys of the root and of the second solvable.
+fn shows_each<I: Interner>(
     rt: &impl Abort,
     heap: I::Alloc,
     interner: &I,
+    sets: Sets,
     solvables: &[I::SolvableId],
     two: I::SolvableId,
 ) -> Result<(), Fail>
+    requires set { knows_requirement (I.catalogue interner.now) sets.set ≡ true }
+    requires empty { knows_requirement (I.catalogue interner.now) sets.empty ≡ true }
+    requires union { knows_requirement (I.catalogue interner.now) sets.union ≡ true }
     requires solvables { All (λ s. (I.catalogue interner.now).knows_solvable s ≡ true) solvables.now }
     requires two { (I.catalogue interner.now).knows_solvable two ≡ true }
 {
+    shows_requirement(rt, heap, interner, sets.set, "a >=1, <3")?;
+    shows_requirement(rt, heap, interner, sets.empty, "a")?;
+    shows_requirement(rt, heap, interner, sets.union, "a >=1, <3 | a >=1, <3")?;
     shows_solvables(rt, heap, interner, solvables, "a a 1 | a 2")?;
     shows_solvables(rt, heap, interner, &[], "")?;
     shows_key(rt, heap, interner, SolvableIdOrRoot::Root, "root")?;
@@ -123,11 +120,12 @@ fn few_words_have_texts<N: SolverId<A>, S: DenseIndex + SolverId<A>, A: Allocato
         ids: PhantomData,
         heap: PhantomData,
     };
-    let set = Requirement::Single(VersionSetId(0));
-    let empty = Requirement::Single(VersionSetId(1));
-    let union = Requirement::Union(VersionSetUnionId(0));
-    shows_requirements(rt, heap, &words, set, empty, union)?;
-    shows_two_solvables(rt, heap, &words, solvables, two)
+    let sets = Sets {
+        set: Requirement::Single(VersionSetId(0)),
+        empty: Requirement::Single(VersionSetId(1)),
+        union: Requirement::Union(VersionSetUnionId(0)),
+    };
+    shows_each(rt, heap, &words, sets, solvables, two)
 }
 
 #[test]
