@@ -32,19 +32,24 @@ pub(crate) fn measure_finding(
     pool: &mut Pool<Version>,
     map: &HashMap<String, u64>,
     ids: &[NameId],
-    rounds: u32,
+    (size, rounds): (u32, u32),
 ) -> Result<(), Fault> {
     let interned = asked(rt, Way::Interned, pool, map, ids, rounds)?;
     let got = asked(rt, Way::Got, pool, map, ids, rounds)?;
     let dropped = asked(rt, Way::GotAndDropped, pool, map, ids, rounds)?;
     let looked_up = asked(rt, Way::LookedUp, pool, map, ids, rounds)?;
-    let size = u32::try_from(ids.len()).unwrap_or(0);
-    let call = "Pool::intern_package_name, known";
-    line(rt, call, size, rounds, interned, got)?;
-    let call = "the same, beside a get that drops its key";
-    line(rt, call, size, rounds, interned, dropped)?;
-    let call = "Pool::lookup_package_name";
-    line(rt, call, size, rounds, looked_up, got)?;
+    let lines = [
+        ("Pool::intern_package_name, known", interned, got),
+        (
+            "the same, beside a get that drops its key",
+            interned,
+            dropped,
+        ),
+        ("Pool::lookup_package_name", looked_up, got),
+    ];
+    for (call, ours, plain) in lines {
+        line(rt, call, size, rounds, ours, plain)?;
+    }
     Ok(())
 }
 

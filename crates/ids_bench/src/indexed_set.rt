@@ -1,98 +1,106 @@
 //! `IndexedSet` beside a `Vec` of truth values.
 use crate::fault::Fault;
 use crate::order::{ids, rounds};
-use crate::report::{Measured, line};
+use crate::work::{Work, compare};
 use resolvo_ids::{DenseIndex, NameId, StoreError};
 use resolvo_maps::IndexedSet;
-use std::alloc::{AllocError, Global};
+use std::alloc::Global;
 use std::rt::Clock;
-use std::time::Instant;
 
-/// Measures `insert` into new sets, and `contains`.
+/// Measures `insert` into new sets, and `contains` of a set that has the ids with even indexes.
 pub(crate) fn measure(rt: &(impl Print + Clock + AllocGlobal), size: u32) -> Result<(), Fault> {
     let ids = ids(rt.alloc(), size)?;
-    measure_insert(rt, &ids, size)?;
-    let set = even_ids(rt.alloc(), &ids)?;
-    let flags = even_flags(rt.alloc(), &ids)?;
-    measure_contains(rt, &set, &flags, &ids, size)
+    let mut set: IndexedSet<NameId> = IndexedSet::new(rt.alloc());
+    let mut flags: Vec<bool> = Vec::new(rt.alloc());
+    let ended = measure_both(rt, &mut set, &mut flags, &ids, (size, rounds(size)));
+    drop(set);
+    drop(flags);
+    drop(ids);
+    ended
 }
 
-fn measure_insert(
+fn measure_both(
     rt: &(impl Print + Clock + AllocGlobal),
+    set: &mut IndexedSet<NameId>,
+    flags: &mut Vec<bool>,
     ids: &[NameId],
-    size: u32,
+    sizes: (u32, u32),
 ) -> Result<(), Fault> {
-    let rounds = rounds(size);
-    let ours = insert_measured(rt, ids, rounds)?;
-    let plain = set_measured(rt, ids, rounds)?;
-    line(rt, "IndexedSet::insert", size, rounds, ours, plain)?;
-    Ok(())
+    let alloc = rt.alloc();
+    let mut ours = Inserts { alloc, ids };
+    let mut plain = FlagInserts { alloc, ids };
+    compare(rt, "IndexedSet::insert", sizes, &mut ours, &mut plain)?;
+    put_even(set, flags, ids)?;
+    let mut ours = Tests { set, ids };
+    let mut plain = Reads { flags, ids };
+    compare(rt, "IndexedSet::contains", sizes, &mut ours, &mut plain)
 }
 
-fn insert_measured(
-    rt: &(impl Clock + AllocGlobal),
+/// Puts the ids with even indexes into both.
+fn put_even(
+    set: &mut IndexedSet<NameId>,
+    flags: &mut Vec<bool>,
     ids: &[NameId],
-    rounds: u32,
-) -> Result<Measured, Fault> {
-    let start = Instant::now(rt)?;
-    let sum = insert_often(rt.alloc(), ids, rounds)?;
-    Ok(Measured::since(rt, start, sum)?)
-}
-
-fn set_measured(
-    rt: &(impl Clock + AllocGlobal),
-    ids: &[NameId],
-    rounds: u32,
-) -> Result<Measured, Fault> {
-    let start = Instant::now(rt)?;
-    let sum = set_often(rt.alloc(), ids, rounds)?;
-    Ok(Measured::since(rt, start, sum)?)
-}
-
-fn measure_contains(
-    rt: &(impl Print + Clock + AllocGlobal),
-    set: &IndexedSet<NameId>,
-    flags: &[bool],
-    ids: &[NameId],
-    size: u32,
-) -> Result<(), Fault> {
-    let rounds = rounds(size);
-    let start = Instant::now(rt)?;
-    let sum = contains_often(set, ids, rounds);
-    let ours = Measured::since(rt, start, sum)?;
-    let start = Instant::now(rt)?;
-    let sum = read_often(flags, ids, rounds);
-    let plain = Measured::since(rt, start, sum)?;
-    line(rt, "IndexedSet::contains", size, rounds, ours, plain)?;
-    Ok(())
-}
-
-fn insert_often(alloc: Global, ids: &[NameId], rounds: u32) -> Result<u64, StoreError> {
-    let mut sum: u64 = 0;
-    for _ in 0..rounds {
-        let mut set: IndexedSet<NameId> = IndexedSet::new(alloc);
-        for id in ids {
-            sum = sum.wrapping_add(u64::from(set.insert(*id)?));
+) -> Result<(), StoreError> {
+    for id in ids {
+        if id.into_raw() % 2 == 0 {
+            set.insert(*id)?;
+            set_flag(flags, id.to_index())?;
         }
+    }
+    Ok(())
+}
+
+#[derive(Drop)]
+struct Inserts<'i> {
+    alloc: Global,
+    ids: &'i [NameId],
+}
+
+impl Work for Inserts<'_> {
+    fn go_round(&mut self, _round: u32) -> Result<u64, StoreError> {
+        let mut set: IndexedSet<NameId> = IndexedSet::new(self.alloc);
+        let sum = insert_each(&mut set, self.ids);
+        drop(set);
+        sum
+    }
+}
+
+fn insert_each(set: &mut IndexedSet<NameId>, ids: &[NameId]) -> Result<u64, StoreError> {
+    let mut sum: u64 = 0;
+    for id in ids {
+        sum = sum.wrapping_add(u64::from(set.insert(*id)?));
     }
     Ok(sum)
 }
 
-fn set_often(alloc: Global, ids: &[NameId], rounds: u32) -> Result<u64, AllocError> {
+#[derive(Drop)]
+struct FlagInserts<'i> {
+    alloc: Global,
+    ids: &'i [NameId],
+}
+
+impl Work for FlagInserts<'_> {
+    fn go_round(&mut self, _round: u32) -> Result<u64, StoreError> {
+        let mut flags: Vec<bool> = Vec::new(self.alloc);
+        let sum = set_each(&mut flags, self.ids);
+        drop(flags);
+        sum
+    }
+}
+
+fn set_each(flags: &mut Vec<bool>, ids: &[NameId]) -> Result<u64, StoreError> {
     let mut sum: u64 = 0;
-    for _ in 0..rounds {
-        let mut flags: Vec<bool> = Vec::new(alloc);
-        for id in ids {
-            sum = sum.wrapping_add(u64::from(set_flag(&mut flags, id.to_index())?));
-        }
+    for id in ids {
+        sum = sum.wrapping_add(u64::from(set_flag(flags, id.to_index())?));
     }
     Ok(sum)
 }
 
 /// Sets the flag at the index, and answers whether it wasn't set.
-fn set_flag(flags: &mut Vec<bool>, index: usize) -> Result<bool, AllocError> {
-    if index >= flags.len() {
-        flags.resize(index.saturating_add(1), false)?;
+fn set_flag(flags: &mut Vec<bool>, index: usize) -> Result<bool, StoreError> {
+    if index >= flags.len() && flags.resize(index.saturating_add(1), false).is_err() {
+        return Err(StoreError::OutOfMemory);
     }
     match flags.get_mut(index) {
         Some(flag) => {
@@ -104,45 +112,35 @@ fn set_flag(flags: &mut Vec<bool>, index: usize) -> Result<bool, AllocError> {
     }
 }
 
-/// The ids with even indexes.
-fn even_ids(alloc: Global, ids: &[NameId]) -> Result<IndexedSet<NameId>, StoreError> {
-    let mut set = IndexedSet::new(alloc);
-    for id in ids {
-        if id.into_raw() % 2 == 0 {
-            set.insert(*id)?;
-        }
-    }
-    Ok(set)
+#[derive(Drop)]
+struct Tests<'i> {
+    set: &'i IndexedSet<NameId>,
+    ids: &'i [NameId],
 }
 
-/// The flags of the ids with even indexes.
-fn even_flags(alloc: Global, ids: &[NameId]) -> Result<Vec<bool>, AllocError> {
-    let mut flags = Vec::new(alloc);
-    for id in ids {
-        if id.into_raw() % 2 == 0 {
-            set_flag(&mut flags, id.to_index())?;
+impl Work for Tests<'_> {
+    fn go_round(&mut self, _round: u32) -> Result<u64, StoreError> {
+        let mut sum: u64 = 0;
+        for id in self.ids {
+            sum = sum.wrapping_add(u64::from(self.set.contains(*id)));
         }
+        Ok(sum)
     }
-    Ok(flags)
 }
 
-fn contains_often(set: &IndexedSet<NameId>, ids: &[NameId], rounds: u32) -> u64 {
-    let mut sum: u64 = 0;
-    for _ in 0..rounds {
-        for id in ids {
-            sum = sum.wrapping_add(u64::from(set.contains(*id)));
-        }
-    }
-    sum
+#[derive(Drop)]
+struct Reads<'i> {
+    flags: &'i [bool],
+    ids: &'i [NameId],
 }
 
-fn read_often(flags: &[bool], ids: &[NameId], rounds: u32) -> u64 {
-    let mut sum: u64 = 0;
-    for _ in 0..rounds {
-        for id in ids {
-            let set = flags.get(id.to_index()).copied().unwrap_or(false);
+impl Work for Reads<'_> {
+    fn go_round(&mut self, _round: u32) -> Result<u64, StoreError> {
+        let mut sum: u64 = 0;
+        for id in self.ids {
+            let set = self.flags.get(id.to_index()).copied().unwrap_or(false);
             sum = sum.wrapping_add(u64::from(set));
         }
+        Ok(sum)
     }
-    sum
 }

@@ -14,6 +14,7 @@ mod order;
 mod pool;
 mod report;
 mod total_map;
+mod work;
 
 use fault::Fault;
 use std::env;

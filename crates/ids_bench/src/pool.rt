@@ -6,6 +6,7 @@ use crate::asking::measure_finding;
 use crate::fault::Fault;
 use crate::order::{ascending, ids, rounds};
 use crate::report::{Measured, line};
+use crate::work::{Work, compare};
 use resolvo_ids::{DenseIndex, NameId, StoreError};
 use resolvo_pool::{Pool, VersionSet};
 use std::alloc::{AllocError, Global};
@@ -25,58 +26,61 @@ impl VersionSet for Version {
 
 /// Measures `intern_package_name` of new names and of known ones, `lookup_package_name` and `resolve_package_name`.
 pub(crate) fn measure(rt: &(impl Print + Clock + AllocGlobal), size: u32) -> Result<(), Fault> {
-    let rounds = rounds(size) / 4;
-    let ours = intern_new(rt, size, rounds)?;
-    let plain = insert_new(rt, size, rounds)?;
-    line(
-        rt,
-        "Pool::intern_package_name, new",
-        size,
-        rounds,
-        ours,
-        plain,
-    )?;
-    let mut pool = Pool::new(rt.alloc());
-    let ended = measure_known(rt, &mut pool, size, rounds);
-    drop(pool);
+    let below = ascending(rt.alloc(), size)?;
+    let ids = ids(rt.alloc(), size)?;
+    let ended = measure_each(rt, &below, &ids, (size, rounds(size) / 4));
+    drop(below);
+    drop(ids);
     ended
 }
 
-/// Measures the calls that find names.
+fn measure_each(
+    rt: &(impl Print + Clock + AllocGlobal),
+    below: &[NameId],
+    ids: &[NameId],
+    (size, rounds): (u32, u32),
+) -> Result<(), Fault> {
+    let ours = filled::<Pool<Version>>(rt, below, rounds)?;
+    let plain = filled::<HashMap<String, u64>>(rt, below, rounds)?;
+    let call = "Pool::intern_package_name, new";
+    line(rt, call, size, rounds, ours, plain)?;
+    let mut pool = Pool::new(rt.alloc());
+    let mut map = HashMap::new(rt.alloc());
+    let ended = measure_known(rt, &mut pool, &mut map, below, ids, (size, rounds));
+    drop(pool);
+    drop(map);
+    ended
+}
+
+/// Measures the calls that find names. The pool and the map are empty.
 fn measure_known(
     rt: &(impl Print + Clock + AllocGlobal),
     pool: &mut Pool<Version>,
-    size: u32,
-    rounds: u32,
-) -> Result<(), Fault> {
-    let below = ascending(rt.alloc(), size)?;
-    let ids = ids(rt.alloc(), size)?;
-    intern_each(pool, names(rt.alloc(), &below)?)?;
-    let mut map = HashMap::new(rt.alloc());
-    insert_each(&mut map, names(rt.alloc(), &below)?)?;
-    measure_finding(rt, pool, &map, &ids, rounds)?;
-    measure_resolving(rt, pool, &below, &ids, size, rounds)
-}
-
-/// Measures the call that is given an id.
-fn measure_resolving(
-    rt: &(impl Print + Clock + AllocGlobal),
-    pool: &Pool<Version>,
+    map: &mut HashMap<String, u64>,
     below: &[NameId],
     ids: &[NameId],
-    size: u32,
-    rounds: u32,
+    sizes: (u32, u32),
 ) -> Result<(), Fault> {
-    let start = Instant::now(rt)?;
-    let sum = resolve_often(pool, ids, rounds);
-    let ours = Measured::since(rt, start, sum)?;
-    let plain = read_measured(rt, below, ids, rounds)?;
-    line(rt, "Pool::resolve_package_name", size, rounds, ours, plain)?;
-    Ok(())
+    pool.fill(names(rt.alloc(), below)?)?;
+    map.fill(names(rt.alloc(), below)?)?;
+    measure_finding(rt, pool, map, ids, sizes)?;
+    let values = names(rt.alloc(), below)?;
+    let mut ours = Resolves { pool, ids };
+    let mut plain = Reads {
+        values: &values,
+        ids,
+    };
+    compare(
+        rt,
+        "Pool::resolve_package_name",
+        sizes,
+        &mut ours,
+        &mut plain,
+    )
 }
 
 /// The names whose numbers these are.
-pub(crate) fn names(alloc: Global, ids: &[NameId]) -> Result<Vec<String>, Fault> {
+pub(crate) fn names(alloc: Global, ids: &[NameId]) -> Result<Vec<String>, AllocError> {
     let mut names = Vec::new(alloc);
     for id in ids {
         let name = format!(in alloc; "{:08}", id.into_raw())?;
@@ -85,28 +89,23 @@ pub(crate) fn names(alloc: Global, ids: &[NameId]) -> Result<Vec<String>, Fault>
     Ok(names)
 }
 
-/// Fills a new pool each round. Neither making the names nor dropping the pool is measured.
-fn intern_new(rt: &(impl Clock + AllocGlobal), size: u32, rounds: u32) -> Result<Measured, Fault> {
-    let below = ascending(rt.alloc(), size)?;
-    let mut total = Measured::default();
-    for _ in 0..rounds {
-        let names = names(rt.alloc(), &below)?;
-        let mut pool = Pool::new(rt.alloc());
-        let measured = intern_measured(rt, &mut pool, names);
-        drop(pool);
-        total = total.and(measured?);
-    }
-    Ok(total)
+/// What keeps names.
+trait Filling: Drop {
+    /// It has no name.
+    fn new(alloc: Global) -> Self;
+
+    /// Takes the names in: the sum of what it counts them as.
+    fn fill(&mut self, names: Vec<String>) -> Result<u64, StoreError>;
 }
 
-fn intern_measured(
-    rt: &impl Clock,
-    pool: &mut Pool<Version>,
-    names: Vec<String>,
-) -> Result<Measured, Fault> {
-    let start = Instant::now(rt)?;
-    let sum = intern_each(pool, names)?;
-    Ok(Measured::since(rt, start, sum)?)
+impl Filling for Pool<Version> {
+    fn new(alloc: Global) -> Self {
+        Pool::new(alloc)
+    }
+
+    fn fill(&mut self, names: Vec<String>) -> Result<u64, StoreError> {
+        intern_each(self, names)
+    }
 }
 
 pub(crate) fn intern_each(pool: &mut Pool<Version>, names: Vec<String>) -> Result<u64, StoreError> {
@@ -118,72 +117,85 @@ pub(crate) fn intern_each(pool: &mut Pool<Version>, names: Vec<String>) -> Resul
     Ok(sum)
 }
 
-/// Fills a new map each round. Neither making the names nor dropping the map is measured.
-fn insert_new(rt: &(impl Clock + AllocGlobal), size: u32, rounds: u32) -> Result<Measured, Fault> {
-    let below = ascending(rt.alloc(), size)?;
+impl Filling for HashMap<String, u64> {
+    fn new(alloc: Global) -> Self {
+        HashMap::new(alloc)
+    }
+
+    fn fill(&mut self, names: Vec<String>) -> Result<u64, StoreError> {
+        let mut sum: u64 = 0;
+        let mut next: u64 = 0;
+        for name in names {
+            if self.insert(name, next).is_err() {
+                return Err(StoreError::OutOfMemory);
+            }
+            sum = sum.wrapping_add(next);
+            next = next.wrapping_add(1);
+        }
+        Ok(sum)
+    }
+}
+
+/// Fills a new one each round. Neither making the names nor dropping what keeps them is measured.
+fn filled<N: Filling>(
+    rt: &(impl Clock + AllocGlobal),
+    below: &[NameId],
+    rounds: u32,
+) -> Result<Measured, Fault> {
     let mut total = Measured::default();
     for _ in 0..rounds {
-        let names = names(rt.alloc(), &below)?;
-        let mut map = HashMap::new(rt.alloc());
-        total = total.and(insert_measured(rt, &mut map, names)?);
+        let names = names(rt.alloc(), below)?;
+        let mut kept = N::new(rt.alloc());
+        let measured = fill_measured(rt, &mut kept, names);
+        drop(kept);
+        total = total.and(measured?);
     }
     Ok(total)
 }
 
-fn insert_measured(
+fn fill_measured<N: Filling>(
     rt: &impl Clock,
-    map: &mut HashMap<String, u64>,
+    kept: &mut N,
     names: Vec<String>,
 ) -> Result<Measured, Fault> {
     let start = Instant::now(rt)?;
-    let sum = insert_each(map, names)?;
+    let sum = kept.fill(names)?;
     Ok(Measured::since(rt, start, sum)?)
 }
 
-fn insert_each(map: &mut HashMap<String, u64>, names: Vec<String>) -> Result<u64, AllocError> {
-    let mut sum: u64 = 0;
-    let mut next: u64 = 0;
-    for name in names {
-        map.insert(name, next)?;
-        sum = sum.wrapping_add(next);
-        next = next.wrapping_add(1);
-    }
-    Ok(sum)
+#[derive(Drop)]
+struct Resolves<'p> {
+    pool: &'p Pool<Version>,
+    ids: &'p [NameId],
 }
 
-fn resolve_often(pool: &Pool<Version>, ids: &[NameId], rounds: u32) -> u64 {
-    let mut sum: u64 = 0;
-    for _ in 0..rounds {
-        for id in ids {
-            if pool.knows_name(*id) {
-                sum = sum.wrapping_add(pool.resolve_package_name(*id).len() as u64);
+impl Work for Resolves<'_> {
+    fn go_round(&mut self, _round: u32) -> Result<u64, StoreError> {
+        let mut sum: u64 = 0;
+        for id in self.ids {
+            if self.pool.knows_name(*id) {
+                sum = sum.wrapping_add(self.pool.resolve_package_name(*id).len() as u64);
             }
         }
+        Ok(sum)
     }
-    sum
 }
 
-/// Measures the index of a `Vec` of the names.
-fn read_measured(
-    rt: &(impl Clock + AllocGlobal),
-    below: &[NameId],
-    ids: &[NameId],
-    rounds: u32,
-) -> Result<Measured, Fault> {
-    let values = names(rt.alloc(), below)?;
-    let start = Instant::now(rt)?;
-    let sum = read_often(&values, ids, rounds);
-    Ok(Measured::since(rt, start, sum)?)
+/// Reads a `Vec` of the names by its index.
+#[derive(Drop)]
+struct Reads<'p> {
+    values: &'p [String],
+    ids: &'p [NameId],
 }
 
-fn read_often(values: &[String], ids: &[NameId], rounds: u32) -> u64 {
-    let mut sum: u64 = 0;
-    for _ in 0..rounds {
-        for id in ids {
-            if id.to_index() < values.len() {
-                sum = sum.wrapping_add(values[id.to_index()].len() as u64);
+impl Work for Reads<'_> {
+    fn go_round(&mut self, _round: u32) -> Result<u64, StoreError> {
+        let mut sum: u64 = 0;
+        for id in self.ids {
+            if id.to_index() < self.values.len() {
+                sum = sum.wrapping_add(self.values[id.to_index()].len() as u64);
             }
         }
+        Ok(sum)
     }
-    sum
 }

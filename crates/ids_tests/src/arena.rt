@@ -1,12 +1,13 @@
 //! Arenas by their calls: each with ample memory, and the ids of 16 bits to their end.
 use crate::arena_callers::{added, count, pairs, replace, total};
+use crate::seen::sees;
 use resolvo_ids::{DenseIndex, InsertError, SolvableId, StoreError};
 use resolvo_storage::Arena;
-use std::alloc::{Allocator, Global};
+use std::alloc::{AllocError, Allocator, Global};
 use std::test::Fail;
 
 /// An arena with these values.
-fn filled(alloc: Global, values: &[u16]) -> Result<Arena<u16, u16, Global>, StoreError> {
+fn filled<A: Allocator + Copy>(alloc: A, values: &[u16]) -> Result<Arena<u16, u16, A>, StoreError> {
     let mut arena = Arena::with_capacity(alloc, values.len())?;
     for value in values {
         arena.alloc(*value)?;
@@ -16,23 +17,29 @@ fn filled(alloc: Global, values: &[u16]) -> Result<Arena<u16, u16, Global>, Stor
 
 #[test]
 fn ids_end_after_the_last_of_16_bits(rt: HostRuntime) -> Result<(), Fail> {
-    let mut arena: Arena<u16, u64, Global> = Arena::new(rt.alloc());
-    let misplaced = first_misplaced(&mut arena);
-    let full = (arena.alloc(5), arena.len());
-    drop(arena);
-    assert_eq!(rt; misplaced?, None);
     let refusal = InsertError {
         error: StoreError::IdSpace,
         value: 5,
     };
-    assert_eq!(rt; full, (Err(refusal), 65536));
-    Ok(())
+    sees(&rt, all_ids(rt.alloc()), (None, Err(refusal), 65536))
+}
+
+/// Adds a value for each id of 16 bits, and one more: the first place whose value gets another id, what the last one is
+/// answered, and the number of values.
+fn all_ids<A: Allocator + Copy>(
+    alloc: A,
+) -> Result<(Option<u64>, Result<u16, InsertError<u64>>, usize), StoreError> {
+    let mut arena: Arena<u16, u64, A> = Arena::new(alloc);
+    let misplaced = first_misplaced(&mut arena);
+    let (full, len) = (arena.alloc(5), arena.len());
+    drop(arena);
+    Ok((misplaced?, full, len))
 }
 
 /// Adds a value for each id of 16 bits: the first place whose value gets another id.
 fn first_misplaced<A: Allocator + Copy>(
     arena: &mut Arena<u16, u64, A>,
-) -> Result<Option<u64>, Fail> {
+) -> Result<Option<u64>, StoreError> {
     for place in 0..65536 {
         let id = arena.alloc(place + 7)?;
         if u64::from(id) != place {
@@ -53,25 +60,61 @@ fn room_for_more_than_2_to_the_40_is_refused(rt: HostRuntime) {
 
 #[test]
 fn values_are_read_by_their_ids(rt: HostRuntime) -> Result<(), Fail> {
-    let mut arena: Arena<SolvableId, u16, Global> = Arena::with_capacity(rt.alloc(), 2)?;
-    assert_eq!(rt; arena.is_empty(), true);
-    let first = arena.alloc(30)?;
-    let second = arena.alloc(40)?;
-    assert_eq!(rt; (first.into_raw(), second.into_raw()), (0, 1));
-    assert_eq!(rt; (arena[first], arena[second]), (30, 40));
-    arena[first] = 31;
-    assert_eq!(rt; (arena[first], arena[second]), (31, 40));
-    Ok(())
+    let wanted = (true, [(0, Some(30)), (1, Some(40))], [Some(31), Some(40)]);
+    sees(&rt, two_values::<SolvableId, Global>(rt.alloc()), wanted)
+}
+
+/// Whether a new arena is empty; the indexes of two ids, and the values read by them; and these values once the first
+/// one is changed.
+type TwoValues = (bool, [(usize, Option<u16>); 2], [Option<u16>; 2]);
+
+fn two_values<TId: DenseIndex, A: Allocator + Copy>(alloc: A) -> Result<TwoValues, StoreError> {
+    let mut arena: Arena<TId, u16, A> = Arena::with_capacity(alloc, 2)?;
+    let values = values_by_ids(&mut arena);
+    drop(arena);
+    values
+}
+
+fn values_by_ids<TId: DenseIndex, A: Allocator + Copy>(
+    arena: &mut Arena<TId, u16, A>,
+) -> Result<TwoValues, StoreError> {
+    let is_empty = arena.is_empty();
+    let (first, second) = (arena.alloc(30)?, arena.alloc(40)?);
+    let read = [
+        (first.to_index(), value_of(arena, first)),
+        (second.to_index(), value_of(arena, second)),
+    ];
+    if first.to_index() < arena.len() {
+        arena[first] = 31;
+    }
+    Ok((
+        is_empty,
+        read,
+        [value_of(arena, first), value_of(arena, second)],
+    ))
+}
+
+/// The id's value, if it has one.
+fn value_of<TId: DenseIndex, A: Allocator>(arena: &Arena<TId, u16, A>, id: TId) -> Option<u16> {
+    if id.to_index() < arena.len() {
+        Some(arena[id])
+    } else {
+        None
+    }
 }
 
 #[test]
 fn pairs_come_in_the_order_of_ids(rt: HostRuntime) -> Result<(), Fail> {
-    let arena = filled(rt.alloc(), &[9, 8, 7])?;
+    let wanted = [Some((0, 9)), Some((1, 8)), Some((2, 7)), None, None];
+    sees(&rt, three_pairs(rt.alloc()), wanted)
+}
+
+/// What the iterator of an arena of three values answers to five calls.
+fn three_pairs<A: Allocator + Copy>(alloc: A) -> Result<[Option<(u16, u16)>; 5], StoreError> {
+    let arena = filled(alloc, &[9, 8, 7])?;
     let first_five = first_five(&arena);
     drop(arena);
-    let wanted = [Some((0, 9)), Some((1, 8)), Some((2, 7)), None, None];
-    assert_eq!(rt; first_five, wanted);
-    Ok(())
+    Ok(first_five)
 }
 
 /// What an arena's iterator answers to five calls.
@@ -96,29 +139,47 @@ fn pair_of(pair: Option<(u16, &u16)>) -> Option<(u16, u16)> {
 
 #[test]
 fn cleared_arenas_begin_again(rt: HostRuntime) -> Result<(), Fail> {
-    let mut arena = filled(rt.alloc(), &[9, 8])?;
+    sees(&rt, cleared(rt.alloc()), (0, true, Ok(0), 1))
+}
+
+/// How many values a cleared arena has, and whether it is empty; what the next value is answered, and how many there are
+/// then.
+fn cleared<A: Allocator + Copy>(
+    alloc: A,
+) -> Result<(usize, bool, Result<u16, InsertError<u16>>, usize), StoreError> {
+    let mut arena = filled(alloc, &[9, 8])?;
     arena.clear();
-    let cleared = (arena.len(), arena.is_empty());
-    let begun = (arena.alloc(6), arena.len());
+    let (len, is_empty) = (arena.len(), arena.is_empty());
+    let (begun, then) = (arena.alloc(6), arena.len());
     drop(arena);
-    assert_eq!(rt; cleared, (0, true));
-    assert_eq!(rt; begun, (Ok(0), 1));
-    Ok(())
+    Ok((len, is_empty, begun, then))
 }
 
 #[test]
 fn callers_are_told_enough(rt: HostRuntime) -> Result<(), Fail> {
-    let mut arena = filled(rt.alloc(), &[9, 8, 7])?;
-    let listed = is_listed(rt.alloc(), &arena);
-    let told = told(&mut arena);
+    let wanted = (true, (3, 24), (Some(5), 4), 25);
+    sees(&rt, told_of_three(rt.alloc()), wanted)
+}
+
+/// Whether the pairs of an arena of three values are those, and what is told of it.
+fn told_of_three<A: Allocator + Copy>(
+    alloc: A,
+) -> Result<(bool, (usize, u64), (Option<u16>, usize), u64), StoreError> {
+    let mut arena = filled(alloc, &[9, 8, 7])?;
+    let listed = is_listed(alloc, &arena);
+    let (before, next, after) = told(&mut arena);
     drop(arena);
-    assert!(rt; listed?, "the pairs of an arena");
-    assert_eq!(rt; told, ((3, 24), (Some(5), 4), 25));
-    Ok(())
+    match listed {
+        Ok(is_listed) => Ok((is_listed, before, next, after)),
+        Err(_) => Err(StoreError::OutOfMemory),
+    }
 }
 
 /// Whether the pairs are those of three values.
-fn is_listed(alloc: Global, arena: &Arena<u16, u16, Global>) -> Result<bool, Fail> {
+fn is_listed<A: Allocator + Copy>(
+    alloc: A,
+    arena: &Arena<u16, u16, A>,
+) -> Result<bool, AllocError> {
     let list = pairs(alloc, arena)?;
     Ok(list.as_slice() == [(0, 9), (1, 8), (2, 7)].as_slice())
 }

@@ -3,6 +3,7 @@ use resolvo_ids::{
     CandidatesId, ClauseId, ConditionId, DenseId, DenseIndex, DependenciesId, DisjunctionId,
     LearntClauseId, NameId, SolvableTag, StringId, VariableId, VersionSetId, VersionSetUnionId,
 };
+use std::alloc::AllocError;
 use std::fmt::Debug;
 use std::process::Abort;
 use std::test::Fail;
@@ -46,12 +47,21 @@ fn defaults_are_the_first(rt: HostRuntime) {
 }
 
 /// The value's `Debug` text is this one.
-fn shows(
+pub(crate) fn shows(
     rt: &(impl Abort + AllocGlobal),
     value: impl Debug + Drop,
     text: &str,
 ) -> Result<(), Fail> {
-    let shown = format!(in rt.alloc(); "{value:?}")?;
+    is_text(rt, format!(in rt.alloc(); "{value:?}"), text)
+}
+
+/// What was written is this text.
+pub(crate) fn is_text(
+    rt: &impl Abort,
+    shown: Result<String, AllocError>,
+    text: &str,
+) -> Result<(), Fail> {
+    let shown = shown?;
     assert_eq!(rt; shown.as_str(), text);
     Ok(())
 }

@@ -1,6 +1,8 @@
 //! Total maps: the same calls over each kind, and where one ends.
 ghost use Rattle.std.specs.Prelude.{◌≡◌, ◌/◌};
 
+use crate::ids::{is_text, shows};
+use crate::seen::sees;
 use resolvo_ids::{DenseId, NameId, NameTag, SparseId, StoreError};
 use resolvo_maps::{IdMap, SolverId};
 use std::alloc::{Allocator, Global};
@@ -8,6 +10,12 @@ use std::test::Fail;
 
 /// What [`lived`] reads at the keys 3, 4 and 5, and as the largest value, at each of its three times.
 const ANSWERS: [[u64; 4]; 3] = [[0, 0, 0, 0], [9, 0, 4, 9], [4, 0, 2, 4]];
+
+/// A name whose number may be any.
+type Name = SparseId<NameTag>;
+
+/// The map to scores that a name of that kind chooses for itself.
+type Table = <Name as SolverId<Global>>::Scores;
 
 /// The values at three keys, and the largest of the map.
 fn read<K: Copy, A: Allocator + Copy, M: IdMap<K, u64, A>>(map: &M, keys: [K; 3]) -> [u64; 4] {
@@ -20,19 +28,28 @@ pub fn lived<K: Copy, A: Allocator + Copy, M: IdMap<K, u64, A>>(
     alloc: A,
     keys: [K; 3],
 ) -> Result<[[u64; 4]; 3], StoreError> {
-    let [three, _, five] = keys;
     let mut map = M::new(alloc);
-    let made = read::<K, A, M>(&map, keys);
+    let answers = lived_in::<K, A, M>(&mut map, keys);
+    drop(map);
+    answers
+}
+
+fn lived_in<K: Copy, A: Allocator + Copy, M: IdMap<K, u64, A>>(
+    map: &mut M,
+    keys: [K; 3],
+) -> Result<[[u64; 4]; 3], StoreError> {
+    let [three, _, five] = keys;
+    let made = read::<K, A, M>(map, keys);
     map.set(five, 4)?;
     map.make_room(three)?;
     map.put(three, 9);
-    let written = read::<K, A, M>(&map, keys);
+    let written = read::<K, A, M>(map, keys);
     map.update_all(
         |value: u64| -> u64
             ensures { result ≡ value / 2 }
         { value / 2 },
     );
-    Ok([made, written, read::<K, A, M>(&map, keys)])
+    Ok([made, written, read::<K, A, M>(map, keys)])
 }
 
 #[test]
@@ -42,21 +59,15 @@ fn a_vector_is_a_total_map(rt: HostRuntime) -> Result<(), Fail> {
         NameId::from_raw(4),
         NameId::from_raw(5),
     ];
-    let answers = lived::<NameId, Global, <NameId as SolverId<Global>>::Scores>(rt.alloc(), keys)?;
-    assert_eq!(rt; answers, ANSWERS);
-    Ok(())
+    let answers = lived::<NameId, Global, <NameId as SolverId<Global>>::Scores>(rt.alloc(), keys);
+    sees(&rt, answers, ANSWERS)
 }
 
 #[test]
 fn a_table_is_a_total_map(rt: HostRuntime) -> Result<(), Fail> {
     let keys = [Name::from_raw(3), Name::from_raw(4), Name::from_raw(5)];
-    let answers = lived::<Name, Global, <Name as SolverId<Global>>::Scores>(rt.alloc(), keys)?;
-    assert_eq!(rt; answers, ANSWERS);
-    Ok(())
+    sees(&rt, lived::<Name, Global, Table>(rt.alloc(), keys), ANSWERS)
 }
-
-/// A name whose number may be any.
-type Name = SparseId<NameTag>;
 
 #[test]
 fn tables_are_kept_by_numbers_of_each_width(rt: HostRuntime) -> Result<(), Fail> {
@@ -69,8 +80,8 @@ fn tables_are_kept_by_numbers_of_each_width(rt: HostRuntime) -> Result<(), Fail>
         SparseId<NameTag, u16>,
         Global,
         <SparseId<NameTag, u16> as SolverId<Global>>::Scores,
-    >(rt.alloc(), keys)?;
-    assert_eq!(rt; answers, ANSWERS);
+    >(rt.alloc(), keys);
+    sees(&rt, answers, ANSWERS)?;
     let keys: [SparseId<NameTag, u64>; 3] = [
         SparseId::from_raw(u64::MAX),
         SparseId::from_raw(1 << 40),
@@ -80,60 +91,89 @@ fn tables_are_kept_by_numbers_of_each_width(rt: HostRuntime) -> Result<(), Fail>
         SparseId<NameTag, u64>,
         Global,
         <SparseId<NameTag, u64> as SolverId<Global>>::Scores,
-    >(rt.alloc(), keys)?;
-    assert_eq!(rt; answers, ANSWERS);
-    Ok(())
+    >(rt.alloc(), keys);
+    sees(&rt, answers, ANSWERS)
 }
 
 #[test]
-fn a_vector_ends_at_2_to_the_40(rt: HostRuntime) -> Result<(), Fail> {
-    let mut map: Vec<u64> = IdMap::<DenseId<NameTag, u64>, u64, Global>::new(rt.alloc());
+fn a_vector_ends_at_2_to_the_40(rt: HostRuntime) {
     let far: DenseId<NameTag, u64> = DenseId::from_raw(1 << 40);
-    assert_eq!(rt;
-        IdMap::<DenseId<NameTag, u64>, u64, Global>::set(&mut map, far, 7),
-        Err(StoreError::IdSpace)
-    );
-    assert_eq!(rt;
-        IdMap::<DenseId<NameTag, u64>, u64, Global>::get(&map, far),
-        0
-    );
-    Ok(())
+    let seen = far_written::<DenseId<NameTag, u64>, Global, Vec<u64>>(rt.alloc(), far);
+    assert_eq!(rt; seen, (Err(StoreError::IdSpace), 0));
+}
+
+/// What a new map answers to a value, and what it then keeps at its key.
+fn far_written<K: Copy, A: Allocator + Copy, M: IdMap<K, u64, A>>(
+    alloc: A,
+    far: K,
+) -> (Result<(), StoreError>, u64) {
+    let mut map = M::new(alloc);
+    let answer = (map.set(far, 7), map.get(far));
+    drop(map);
+    answer
 }
 
 #[test]
 fn a_value_of_no_key_is_not_the_largest(rt: HostRuntime) -> Result<(), Fail> {
     let mut map: Vec<u64> = IdMap::<NameId, u64, Global>::new(rt.alloc());
-    IdMap::<NameId, u64, Global>::set(&mut map, NameId::from_raw(65535), 5)?;
-    IdMap::<NameId, u64, Global>::set(&mut map, NameId::from_raw(65536), 8)?;
-    assert_eq!(rt; IdMap::<NameId, u64, Global>::largest(&map), 8);
-    assert_eq!(rt;
-        IdMap::<DenseId<NameTag, u16>, u64, Global>::largest(&map),
-        5
-    );
+    let all = largest_of_two(&mut map, NameId::from_raw(65535), NameId::from_raw(65536));
+    let narrow = IdMap::<DenseId<NameTag, u16>, u64, Global>::largest(&map);
+    drop(map);
+    sees(&rt, all, 8)?;
+    assert_eq!(rt; narrow, 5);
     Ok(())
+}
+
+/// The largest value once two are written.
+fn largest_of_two<K: Copy, A: Allocator + Copy, M: IdMap<K, u64, A>>(
+    map: &mut M,
+    five: K,
+    eight: K,
+) -> Result<u64, StoreError> {
+    map.set(five, 5)?;
+    map.set(eight, 8)?;
+    Ok(map.largest())
 }
 
 #[test]
 fn a_table_keeps_its_values_as_it_grows(rt: HostRuntime) -> Result<(), Fail> {
-    let mut map = <<Name as SolverId<Global>>::Scores as IdMap<Name, u64, Global>>::new(rt.alloc());
+    sees(&rt, grown::<Global, Table>(rt.alloc()), (None, 700))
+}
+
+/// The first number at whose key another value stands than was written, with that value; and the largest value.
+fn grown<A: Allocator + Copy, M: IdMap<Name, u64, A>>(
+    alloc: A,
+) -> Result<(Option<(u32, u64)>, u64), StoreError> {
+    let mut map = M::new(alloc);
+    let written = write_each::<A, M>(&mut map);
+    let (lost, largest) = (first_lost::<A, M>(&map), map.largest());
+    drop(map);
+    written?;
+    Ok((lost, largest))
+}
+
+/// Writes the values 1 to 700 at the multiples of 1000.
+fn write_each<A: Allocator + Copy, M: IdMap<Name, u64, A>>(map: &mut M) -> Result<(), StoreError> {
     for number in 0..700u32 {
         map.set(Name::from_raw(number * 1000), u64::from(number) + 1)?;
     }
-    for number in 0..700u32 {
-        let value = IdMap::<Name, u64, Global>::get(&map, Name::from_raw(number * 1000));
-        assert_eq!(rt; value, u64::from(number) + 1);
-    }
-    assert_eq!(rt; IdMap::<Name, u64, Global>::largest(&map), 700);
     Ok(())
+}
+
+fn first_lost<A: Allocator + Copy, M: IdMap<Name, u64, A>>(map: &M) -> Option<(u32, u64)> {
+    for number in 0..700u32 {
+        let value = map.get(Name::from_raw(number * 1000));
+        if value != u64::from(number) + 1 {
+            return Some((number, value));
+        }
+    }
+    None
 }
 
 #[test]
 fn ids_are_written_as_their_numbers(rt: HostRuntime) -> Result<(), Fail> {
-    let dense = format!(in rt.alloc(); "{:?}", NameId::from_raw(70))?;
-    assert_eq!(rt; dense.as_str(), "70");
-    let wide = format!(in rt.alloc(); "{:4?}", NameId::from_raw(70))?;
-    assert_eq!(rt; wide.as_str(), "  70");
-    let sparse = format!(in rt.alloc(); "{:?}", Name::from_raw(71))?;
-    assert_eq!(rt; sparse.as_str(), "71");
-    Ok(())
+    shows(&rt, NameId::from_raw(70), "70")?;
+    let wide = format!(in rt.alloc(); "{:4?}", NameId::from_raw(70));
+    is_text(&rt, wide, "  70")?;
+    shows(&rt, Name::from_raw(71), "71")
 }

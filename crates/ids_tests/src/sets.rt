@@ -2,10 +2,13 @@
 ghost use Rattle.std.specs.Prelude.{◌≢◌};
 
 use crate::any_set::{SetAnswers, set_answers};
-use resolvo_ids::{DenseId, NameId, NameTag, SolvableId, SolvableIdOrRoot, SparseId, StoreError};
+use crate::seen::sees;
+use resolvo_ids::{
+    DenseId, DenseIndex, NameId, NameTag, SolvableId, SolvableIdOrRoot, SparseId, StoreError,
+};
 use resolvo_maps::{IndexedSet, SolverId, WithRootSet};
 use resolvo_storage::FrozenCopyMap;
-use std::alloc::Global;
+use std::alloc::{Allocator, Global};
 use std::test::Fail;
 
 const WANTED: SetAnswers = SetAnswers {
@@ -18,93 +21,143 @@ const WANTED: SetAnswers = SetAnswers {
 
 #[test]
 fn dense_sets_keep_each_side_of_a_word(rt: HostRuntime) -> Result<(), Fail> {
-    let mut set: IndexedSet<NameId> = IndexedSet::new(rt.alloc());
-    assert_eq!(rt; set.insert(NameId::from_raw(63))?, true);
-    assert_eq!(rt; set.insert(NameId::from_raw(128))?, true);
-    assert_eq!(rt; set.insert(NameId::from_raw(63))?, false);
-    assert_eq!(rt; set.contains(NameId::from_raw(63)), true);
-    assert_eq!(rt; set.contains(NameId::from_raw(64)), false);
-    assert_eq!(rt; set.contains(NameId::from_raw(127)), false);
-    assert_eq!(rt; set.contains(NameId::from_raw(128)), true);
-    assert_eq!(rt; set.contains(NameId::from_raw(5000)), false);
-    Ok(())
+    let wanted = ([true, true, false], [true, true, false, false, false]);
+    let (low, high) = (NameId::from_raw(63), NameId::from_raw(128));
+    let others = [
+        NameId::from_raw(64),
+        NameId::from_raw(127),
+        NameId::from_raw(5000),
+    ];
+    sees(&rt, marks(rt.alloc(), low, high, others), wanted)
+}
+
+/// What a set answers to an id, a higher one, and the first once more; and whether it then has these two, and others.
+type Marks = ([bool; 3], [bool; 5]);
+
+fn marks<Id: DenseIndex, A: Allocator + Copy>(
+    alloc: A,
+    low: Id,
+    high: Id,
+    others: [Id; 3],
+) -> Result<Marks, StoreError> {
+    let mut set: IndexedSet<Id, A> = IndexedSet::new(alloc);
+    let inserted = [set.insert(low), set.insert(high), set.insert(low)];
+    let has = has_each(&set, low, high, others);
+    drop(set);
+    let [first, second, again] = inserted;
+    Ok(([first?, second?, again?], has))
+}
+
+fn has_each<Id: DenseIndex, A: Allocator + Copy>(
+    set: &IndexedSet<Id, A>,
+    low: Id,
+    high: Id,
+    others: [Id; 3],
+) -> [bool; 5] {
+    let [first, second, third] = others;
+    [
+        set.contains(low),
+        set.contains(high),
+        set.contains(first),
+        set.contains(second),
+        set.contains(third),
+    ]
 }
 
 #[test]
 fn dense_sets_end_before_two_to_the_fortieth(rt: HostRuntime) {
-    let mut set: IndexedSet<DenseId<NameTag, u64>> = IndexedSet::new(rt.alloc());
-    let id = DenseId::from_raw(1 << 40);
-    assert_eq!(rt; set.insert(id), Err(StoreError::IdSpace));
-    assert_eq!(rt; set.contains(id), false);
+    let far: DenseId<NameTag, u64> = DenseId::from_raw(1 << 40);
+    let seen = far_inserted(rt.alloc(), far);
+    assert_eq!(rt; seen, (Err(StoreError::IdSpace), false));
 }
 
-/// What the set says that an id chooses for itself.
-fn answers_of_its_set<S: SolverId<Global>>(
-    alloc: Global,
-    key: S,
-    other: S,
-) -> Result<SetAnswers, StoreError>
-    requires { other ≢ key }
-{
-    set_answers::<S, Global, S::Set>(alloc, key, other)
+/// What a new set answers to an id, and whether it then has it.
+fn far_inserted<Id: DenseIndex, A: Allocator + Copy>(
+    alloc: A,
+    far: Id,
+) -> (Result<bool, StoreError>, bool) {
+    let mut set: IndexedSet<Id, A> = IndexedSet::new(alloc);
+    let answer = (set.insert(far), set.contains(far));
+    drop(set);
+    answer
 }
+
+/// A name whose number may be any.
+type Name = SparseId<NameTag>;
 
 #[test]
 fn dense_and_sparse_ids_sets_answer_alike(rt: HostRuntime) -> Result<(), Fail> {
-    let alloc = rt.alloc();
-    let dense = answers_of_its_set(alloc, NameId::from_raw(64), NameId::from_raw(127))?;
-    assert_eq!(rt; dense, WANTED);
-    let key: SparseId<NameTag> = SparseId::from_raw(64);
-    let sparse = answers_of_its_set(alloc, key, SparseId::from_raw(127))?;
-    assert_eq!(rt; sparse, WANTED);
-    Ok(())
+    let (key, other) = (NameId::from_raw(64), NameId::from_raw(127));
+    let dense = set_answers::<NameId, Global, <NameId as SolverId<Global>>::Set>(
+        rt.alloc(),
+        key,
+        other,
+    );
+    sees(&rt, dense, WANTED)?;
+    let (key, other) = (Name::from_raw(64), Name::from_raw(127));
+    let sparse = set_answers::<Name, Global, <Name as SolverId<Global>>::Set>(
+        rt.alloc(),
+        key,
+        other,
+    );
+    sees(&rt, sparse, WANTED)
 }
 
 type Key = SolvableIdOrRoot<SolvableId>;
 
 type KeySet = WithRootSet<SolvableId, Global>;
 
+/// What a set that may have the root says of two keys.
+fn answers_of_key_set(alloc: Global, key: Key, other: Key) -> Result<SetAnswers, StoreError>
+    requires { other ≢ key }
+{
+    set_answers::<Key, Global, KeySet>(alloc, key, other)
+}
+
 #[test]
 fn the_root_is_no_solvable(rt: HostRuntime) -> Result<(), Fail> {
-    let root: Key = SolvableIdOrRoot::root();
-    let solvable: Key = SolvableIdOrRoot::from(SolvableId::from_raw(0));
-    let answers = set_answers::<Key, Global, KeySet>(rt.alloc(), root, solvable)?;
-    assert_eq!(rt; answers, WANTED);
-    Ok(())
+    let solvable = SolvableIdOrRoot::from(SolvableId::from_raw(0));
+    let answers = answers_of_key_set(rt.alloc(), SolvableIdOrRoot::root(), solvable);
+    sees(&rt, answers, WANTED)
 }
 
 #[test]
 fn a_solvable_is_not_the_root(rt: HostRuntime) -> Result<(), Fail> {
-    let root: Key = SolvableIdOrRoot::root();
-    let solvable: Key = SolvableIdOrRoot::from(SolvableId::from_raw(0));
-    let answers = set_answers::<Key, Global, KeySet>(rt.alloc(), solvable, root)?;
-    assert_eq!(rt; answers, WANTED);
-    Ok(())
+    let solvable = SolvableIdOrRoot::from(SolvableId::from_raw(0));
+    let answers = answers_of_key_set(rt.alloc(), solvable, SolvableIdOrRoot::root());
+    sees(&rt, answers, WANTED)
 }
 
 #[test]
 fn keys_give_their_solvable_back(rt: HostRuntime) {
     let solvable = SolvableId::from_raw(7);
-    let key = SolvableIdOrRoot::from(solvable);
-    assert_eq!(rt; key.solvable(), Some(solvable));
+    let key: Key = SolvableIdOrRoot::from(solvable);
     let root: Key = SolvableIdOrRoot::root();
-    assert_eq!(rt; root.solvable(), None);
-    assert_eq!(rt; key == root, false);
+    let given = (key.solvable(), root.solvable(), key == root);
+    assert_eq!(rt; given, (Some(solvable), None, false));
 }
 
 #[test]
 fn frozen_maps_answer_the_earlier_value(rt: HostRuntime) -> Result<(), Fail> {
-    let mut map: FrozenCopyMap<u32, u64> = FrozenCopyMap::new(rt.alloc());
+    let wanted = ([None, None, Some(10)], [Some(30), Some(20), None]);
+    sees(&rt, frozen(rt.alloc()), wanted)
+}
+
+/// What a new map answers to three values, of which the last has the first one's key; and the copies of three keys, of
+/// which the last has no value.
+fn frozen<A: Allocator + Copy>(
+    alloc: A,
+) -> Result<([Option<u64>; 3], [Option<u64>; 3]), StoreError> {
+    let mut map: FrozenCopyMap<u32, u64, A> = FrozenCopyMap::new(alloc);
     let earlier = earlier_values(&mut map);
     let kept = [map.get_copy(&3), map.get_copy(&4), map.get_copy(&5)];
     drop(map);
-    assert_eq!(rt; earlier?, [None, None, Some(10)]);
-    assert_eq!(rt; kept, [Some(30), Some(20), None]);
-    Ok(())
+    Ok((earlier?, kept))
 }
 
-/// What a new map answers to three values, of which the last has the first one's key.
-fn earlier_values(map: &mut FrozenCopyMap<u32, u64>) -> Result<[Option<u64>; 3], Fail> {
+fn earlier_values<A: Allocator + Copy>(
+    map: &mut FrozenCopyMap<u32, u64, A>,
+) -> Result<[Option<u64>; 3], StoreError> {
     let first = map.insert_copy(3, 10)?;
     let other = map.insert_copy(4, 20)?;
     Ok([first, other, map.insert_copy(3, 30)?])

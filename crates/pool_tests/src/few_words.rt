@@ -5,21 +5,21 @@ ghost use Rattle.resolvo_ids.specs.declared.error.StoreError.TheVariants.{OutOfM
 ghost use Rattle.resolvo_provider.specs.Texts.{IsAppended, IsSameText};
 ghost use Rattle.pool_tests.specs.Words.{text_at};
 
-use resolvo_ids::{
-    ConditionId, DenseIndex, NameId, SolvableId, StoreError, StringId, VersionSetId,
-    VersionSetUnionId,
-};
+use resolvo_ids::{ConditionId, DenseIndex, StoreError, StringId, VersionSetId, VersionSetUnionId};
+use resolvo_maps::SolverId;
 use resolvo_provider::{Condition, Interner};
 use std::alloc::Allocator;
 use std::marker::PhantomData;
 
-/// The package `a`. The text of a solvable or of a version set stands at the place of its id, and that of a set may be
-/// empty. There is one union, of these sets, one string, which is empty, and a condition for each set: that it is met.
+/// The package `a`, whatever its name's id. The text of a solvable or of a version set stands at the place of its id, and
+/// that of a set may be empty. There is one union, of these sets, one string, which is empty, and a condition for each set: that it is met.
 #[derive(Drop)]
-pub struct FewWords<'w, A: Allocator> {
+pub struct FewWords<'w, N: Copy, S: Copy, A: Allocator> {
+    pub name: N,
     pub solvables: &'w [&'w str],
     pub sets: &'w [&'w str],
     pub union: &'w [VersionSetId],
+    pub ids: PhantomData<S>,
     pub heap: PhantomData<A>,
     ghost known: { list_all (λ v. nat_lt v.0 (length sets.now)) union.now ≡ true },
 }
@@ -46,32 +46,33 @@ fn append<A: Allocator>(out: &mut String<A>, text: &str) -> Result<(), StoreErro
     }
 }
 
-impl<'w, A: Allocator + Copy> Interner for FewWords<'w, A> {
+impl<'w, N: SolverId<A>, S: DenseIndex + SolverId<A>, A: Allocator + Copy> Interner
+    for FewWords<'w, N, S, A> {
     ghost use Rattle.std.proofs.lemmas.List.Sums.{AllPass-from_list_all};
     ghost use Rattle.std.proofs.Common.{refl};
     ghost use Rattle.resolvo_provider.specs.declared.condition.Condition.TheVariants as Cond;
 
     type Alloc = A;
 
-    type NameId = NameId;
+    type NameId = N;
 
-    type SolvableId = SolvableId;
+    type SolvableId = S;
 
     ghost catalogue = { λ w. record {
       knows_string = λ t. t.0 == 0;
       knows_name = λ _. true;
-      knows_solvable = λ s. nat_lt s (length w.solvables.now);
+      knows_solvable = λ s. nat_lt (S.DenseIndex.index_of s) (length w.solvables.now);
       knows_set = λ v. nat_lt v.0 (length w.sets.now);
       knows_union = λ u. u.0 == 0;
       knows_condition = λ c. nat_lt c (length w.sets.now);
-      solvable_name = λ _. 0;
-      set_name = λ _. 0;
+      solvable_name = λ _. w.name;
+      set_name = λ _. w.name;
       union_sets = λ _. w.union.now;
       condition = λ c. Cond.Requirement (record { 0 = c });
     } };
 
     ghost texts = { λ w. record {
-      solvable = λ s. text_at w.solvables.now s;
+      solvable = λ s. text_at w.solvables.now (S.DenseIndex.index_of s);
       name = λ _. codes "a";
       version_set = λ v. text_at w.sets.now v.0;
       string = λ _. [];
@@ -90,11 +91,11 @@ impl<'w, A: Allocator + Copy> Interner for FewWords<'w, A> {
         string.0 == 0
     }
 
-    fn knows_name(&self, _name: NameId) -> bool {
+    fn knows_name(&self, _name: N) -> bool {
         true
     }
 
-    fn knows_solvable(&self, solvable: SolvableId) -> bool {
+    fn knows_solvable(&self, solvable: S) -> bool {
         solvable.to_index() < self.solvables.len()
     }
 
@@ -110,12 +111,12 @@ impl<'w, A: Allocator + Copy> Interner for FewWords<'w, A> {
         (condition.as_u32() as usize) < self.sets.len()
     }
 
-    fn version_set_name(&self, _set: VersionSetId) -> NameId {
-        NameId::from_raw(0)
+    fn version_set_name(&self, _set: VersionSetId) -> N {
+        self.name
     }
 
-    fn solvable_name(&self, _solvable: SolvableId) -> NameId {
-        NameId::from_raw(0)
+    fn solvable_name(&self, _solvable: S) -> N {
+        self.name
     }
 
     fn version_sets_in_union(&self, _union: VersionSetUnionId) -> &[VersionSetId] {
@@ -126,15 +127,11 @@ impl<'w, A: Allocator + Copy> Interner for FewWords<'w, A> {
         Condition::Requirement(VersionSetId(condition.as_u32()))
     }
 
-    fn display_solvable(
-        &self,
-        solvable: SolvableId,
-        out: &mut String<A>,
-    ) -> Result<(), StoreError> {
+    fn display_solvable(&self, solvable: S, out: &mut String<A>) -> Result<(), StoreError> {
         append(out, text_at(self.solvables, solvable.to_index()))
     }
 
-    fn display_name(&self, _name: NameId, out: &mut String<A>) -> Result<(), StoreError> {
+    fn display_name(&self, _name: N, out: &mut String<A>) -> Result<(), StoreError> {
         append(out, "a")
     }
 

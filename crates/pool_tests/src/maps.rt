@@ -1,23 +1,28 @@
 //! Maps of requirements, by the calls, in ample memory and where memory is refused.
 use crate::map_callers::{clear, count_up};
+use crate::seen::sees;
 use refusing::Refusing;
 use resolvo_ids::{InsertError, StoreError, VersionSetId, VersionSetUnionId};
 use resolvo_provider::{ConditionalRequirement, Requirement, RequirementMap};
-use std::alloc::{Allocator, Global};
+use std::alloc::Allocator;
 use std::cell::Cell;
 use std::test::Fail;
 
 #[test]
 fn a_map_keeps_values(rt: HostRuntime) -> Result<(), Fail> {
-    let mut map: RequirementMap<u32, Global> = RequirementMap::new(rt.alloc());
+    let wanted = ([None, Some(1), Some(7)], [Some(0), Some(1), None, Some(1)]);
+    sees(&rt, kept(rt.alloc()), wanted)
+}
+
+/// What a map answers as it is counted, and what it keeps once it is cleared.
+fn kept<A: Allocator + Copy>(alloc: A) -> Result<([Option<u32>; 3], [Option<u32>; 4]), StoreError> {
     let set = Requirement::from(VersionSetId(3));
     let union = Requirement::from(VersionSetUnionId(3));
+    let mut map: RequirementMap<u32, A> = RequirementMap::new(alloc);
     let counted = counted(&mut map, set, union);
     let kept = kept_once_cleared(&mut map, set, union);
     drop(map);
-    assert_eq!(rt; counted?, [None, Some(1), Some(7)]);
-    assert_eq!(rt; kept, [Some(0), Some(1), None, Some(1)]);
-    Ok(())
+    Ok((counted?, kept))
 }
 
 /// What a new map answers to two values of a set, and what it keeps of the set once it is counted, and so is the union.
@@ -25,7 +30,7 @@ fn counted<A: Allocator + Copy>(
     map: &mut RequirementMap<u32, A>,
     set: Requirement,
     union: Requirement,
-) -> Result<[Option<u32>; 3], Fail> {
+) -> Result<[Option<u32>; 3], StoreError> {
     let earlier = map.insert(set, 1)?;
     let later = map.insert(set, 6)?;
     count_up(map, set)?;
@@ -66,33 +71,58 @@ fn at_place<A: Allocator + Copy>(
 #[test]
 fn a_refused_map_hands_the_value_back(rt: HostRuntime) {
     let heap = Refusing::new(rt.alloc());
-    let mut map: RequirementMap<u32, &Refusing<Global>> = RequirementMap::new(&heap);
-    let set = Requirement::default();
-    heap.arm(1);
-    let refused = InsertError {
+    let (inserted, counted, kept) = refused(&heap, Requirement::default());
+    let refusal = InsertError {
         error: StoreError::OutOfMemory,
         value: 4,
     };
-    assert_eq!(rt; map.insert(set, 4), Err(refused));
+    assert_eq!(rt; inserted, Err(refusal));
+    assert_eq!(rt; (counted, kept), (Err(StoreError::OutOfMemory), None));
+}
+
+/// What a refused insertion and a refused count are answered, and what the map then keeps.
+fn refused<B: Allocator>(
+    heap: &Refusing<B>,
+    set: Requirement,
+) -> (
+    Result<Option<u32>, InsertError<u32>>,
+    Result<(), StoreError>,
+    Option<u32>,
+) {
+    let mut map: RequirementMap<u32, &Refusing<B>> = RequirementMap::new(heap);
     heap.arm(1);
-    assert_eq!(rt; count_up(&mut map, set), Err(StoreError::OutOfMemory));
-    assert_eq!(rt; map.get(set).copied(), None);
+    let inserted = map.insert(set, 4);
+    heap.arm(1);
+    let counted = count_up(&mut map, set);
+    let kept = map.get(set).copied();
+    drop(map);
+    (inserted, counted, kept)
 }
 
 #[test]
 fn a_refused_map_asks_for_no_value(rt: HostRuntime) {
     let heap = Refusing::new(rt.alloc());
-    let mut map: RequirementMap<u32, &Refusing<Global>> = RequirementMap::new(&heap);
-    for (number, is_asked) in [(1, false), (0, true)] {
-        let asked = Cell::new(false);
-        heap.arm(number);
-        let lent = map.get_or_insert_with(Requirement::default(), || {
-            asked.set(true);
-            9
-        });
-        assert_eq!(rt; lent.is_ok(), is_asked);
-        assert_eq!(rt; asked.get(), is_asked);
-    }
+    assert_eq!(rt; asked_twice(&heap), [(false, false), (true, true)]);
+}
+
+/// Whether a value is lent, and whether it was asked for: where the first request is refused, and where none is.
+fn asked_twice<B: Allocator>(heap: &Refusing<B>) -> [(bool, bool); 2] {
+    let mut map: RequirementMap<u32, &Refusing<B>> = RequirementMap::new(heap);
+    heap.arm(1);
+    let refused = asked(&mut map);
+    heap.arm(0);
+    let lent = asked(&mut map);
+    drop(map);
+    [refused, lent]
+}
+
+fn asked<A: Allocator + Copy>(map: &mut RequirementMap<u32, A>) -> (bool, bool) {
+    let asked = Cell::new(false);
+    let lent = map.get_or_insert_with(Requirement::default(), || {
+        asked.set(true);
+        9
+    });
+    (lent.is_ok(), asked.get())
 }
 
 #[test]

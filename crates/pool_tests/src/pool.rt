@@ -1,210 +1,414 @@
 //! The pool with ample memory: none of its calls is refused, and the answers are as wanted.
-ghost use Rattle.std.specs.Prelude.{◌<◌, length};
+ghost use Rattle.std.specs.Prelude.{◌≡◌, ◌<◌, length, string_bytes, IfOk};
 
 use crate::callers::interns_once;
 use crate::noted::{Noted, with_note};
-use resolvo_ids::{NameId, StringId, VersionSetId};
-use resolvo_pool::{NameText, Pool};
+use crate::seen::sees;
+use resolvo_ids::{
+    ConditionId, NameId, SolvableId, StoreError, StringId, VersionSetId, VersionSetUnionId,
+};
+use resolvo_pool::{NameText, Pool, VersionSet};
 use resolvo_provider::Condition;
-use std::alloc::Global;
-use std::process::Abort;
+use std::alloc::{Allocator, Global};
+use std::hash::Hash;
 use std::test::Fail;
 
-/// The ids of two strings, of which the first comes again.
-fn strings(alloc: Global, pool: &mut Pool<Noted>) -> Result<[StringId; 3], Fail> {
-    let a = pool.intern_string(String::from_str(alloc, "a")?)?;
-    let b = pool.intern_string(String::from_str(alloc, "b")?)?;
-    let again = pool.intern_string(String::from_str(alloc, "a")?)?;
-    Ok([a, b, again])
-}
-
-/// Whether the string is of the pool and has this text.
-fn is_string(pool: &Pool<Noted>, string: StringId, text: &str) -> bool {
-    pool.knows_string(string) && pool.resolve_string(string) == text
-}
-
-/// The ids of two names, of which the first comes again.
-fn names(alloc: Global, pool: &mut Pool<Noted>) -> Result<[NameId; 3], Fail> {
-    let a = pool.intern_package_name(String::from_str(alloc, "a")?)?;
-    let b = pool.intern_package_name(String::from_str(alloc, "b")?)?;
-    let again = pool.intern_package_name(String::from_str(alloc, "a")?)?;
-    Ok([a, b, again])
-}
-
-/// Whether the name is of the pool, is this text, and is written so behind what is there.
-fn is_name(alloc: Global, pool: &Pool<Noted>, name: NameId, text: &str) -> Result<bool, Fail> {
-    if !pool.knows_name(name) {
-        return Ok(false);
+/// The text, in memory of its own.
+fn owned<A: Allocator>(alloc: A, text: &str) -> Result<String<A>, StoreError>
+    ensures { IfOk result (λ copy. string_bytes copy ≡ text.now) }
+{
+    match String::from_str(alloc, text) {
+        Ok(copy) => Ok(copy),
+        Err(_) => Err(StoreError::OutOfMemory),
     }
-    let mut out = String::from_str(alloc, "name ")?;
-    name.display(pool, &mut out)?;
-    let is_written = out.strip_prefix("name ") == Some(text);
-    Ok(is_written && pool.resolve_package_name(name).as_str() == text)
 }
 
-/// The ids of a name that is there and of one that isn't.
-fn looked_up(alloc: Global, pool: &Pool<Noted>) -> Result<[Option<NameId>; 2], Fail> {
-    let b = String::from_str(alloc, "b")?;
-    let c = String::from_str(alloc, "c")?;
-    Ok([pool.lookup_package_name(&b), pool.lookup_package_name(&c)])
-}
+/// A pool whose names are texts.
+type Texts<VS, A> = Pool<VS, String<A>, A>;
+
+/// The numbers of `a`, `b` and `a` once more; whether the second is of the pool, with its text; and whether the pool
+/// knows a third.
+type Twice = ([u32; 3], bool, bool);
 
 #[test]
 fn strings_and_names_stand_once(rt: HostRuntime) -> Result<(), Fail> {
-    let mut pool = Pool::new(rt.alloc());
-    let ended = strings_and_names(&rt, &mut pool);
-    drop(pool);
-    ended
-}
-
-fn strings_and_names(rt: &(impl Abort + AllocGlobal), pool: &mut Pool<Noted>) -> Result<(), Fail> {
-    strings_stand_once(rt, pool)?;
-    names_stand_once(rt, pool)
-}
-
-fn strings_stand_once(rt: &(impl Abort + AllocGlobal), pool: &mut Pool<Noted>) -> Result<(), Fail> {
-    let [a, b, again] = strings(rt.alloc(), pool)?;
-    assert_eq!(rt; (a.0, b.0, again.0), (0, 1, 0));
-    assert!(rt; is_string(pool, b, "b") && !pool.knows_string(StringId(2)));
-    Ok(())
-}
-
-fn names_stand_once(rt: &(impl Abort + AllocGlobal), pool: &mut Pool<Noted>) -> Result<(), Fail> {
-    let [a, b, again] = names(rt.alloc(), pool)?;
-    assert_eq!(rt; (a.into_raw(), b.into_raw(), again.into_raw()), (0, 1, 0));
-    assert!(rt; is_name(rt.alloc(), pool, b, "b")? && !pool.knows_name(NameId::from_raw(2)));
-    assert_eq!(rt; looked_up(rt.alloc(), pool)?, [Some(b), None]);
-    Ok(())
-}
-
-fn solvables(rt: &impl Abort, pool: &mut Pool<Noted, u32>, name: NameId) -> Result<(), Fail> {
-    assert!(rt; pool.knows_name(name));
-    let first = pool.intern_solvable(name, 30)?;
-    let second = pool.intern_solvable(name, 30)?;
-    assert_eq!(rt; (first.into_raw(), second.into_raw()), (0, 1));
-    assert!(rt; pool.knows_solvable(second));
-    assert_eq!(rt; pool.resolve_solvable(second).payload, 30);
-    assert_eq!(rt; pool.iter_solvables().count(), 2);
-    Ok(())
-}
-
-fn unions(rt: &impl Abort, pool: &mut Pool<Noted, u32>, name: NameId) -> Result<(), Fail> {
-    assert!(rt; pool.knows_name(name));
-    let set = pool.intern_version_set(name, with_note(1, 1))?;
-    assert!(rt; pool.knows_version_set(set));
-    let first = pool.intern_version_set_union(set, &[])?;
-    assert!(rt; pool.knows_version_set(set));
-    let second = pool.intern_version_set_union(set, &[set, set])?;
-    assert_eq!(rt; (first.0, second.0), (0, 1));
-    assert!(rt; pool.knows_union(second));
-    assert_eq!(rt;
-        pool.resolve_version_set_union(second),
-        [set, set, set].as_slice()
+    let wanted = (
+        ([0, 1, 0], true, false),
+        ([0, 1, 0], true, false),
+        [Some(1), None],
     );
-    Ok(())
+    sees(&rt, strings_and_names::<Noted, Global>(rt.alloc()), wanted)
 }
 
-fn conditions(rt: &impl Abort, pool: &mut Pool<Noted, u32>, name: NameId) -> Result<(), Fail> {
-    assert!(rt; pool.knows_name(name));
-    let set = pool.intern_version_set(name, with_note(1, 1))?;
-    assert!(rt; pool.knows_version_set(set));
-    let first = pool.intern_condition(Condition::Requirement(set))?;
-    let again = pool.intern_condition(Condition::Requirement(set))?;
-    assert_eq!(rt; (first.as_u32(), again.as_u32()), (0, 0));
-    assert!(rt; pool.knows_condition(first));
-    assert_eq!(rt; *pool.resolve_condition(first), Condition::Requirement(set));
-    Ok(())
+/// What is seen of strings, and of names; and the numbers of a name that is there and of one that isn't.
+fn strings_and_names<VS: VersionSet + Drop, A: Allocator + Copy>(
+    alloc: A,
+) -> Result<(Twice, Twice, [Option<u32>; 2]), StoreError> {
+    let mut pool: Texts<VS, A> = Pool::new(alloc);
+    let strings = strings(alloc, &mut pool);
+    let names = names(alloc, &mut pool);
+    let found = [looked_up(alloc, &pool, "b"), looked_up(alloc, &pool, "c")];
+    drop(pool);
+    let [here, absent] = found;
+    Ok((strings?, names?, [here?, absent?]))
 }
 
-fn of_one_package(rt: &impl Abort, pool: &mut Pool<Noted, u32>) -> Result<(), Fail> {
-    let name = pool.intern_package_name(7)?;
-    solvables(rt, pool, name)?;
-    unions(rt, pool, name)?;
-    conditions(rt, pool, name)
+fn strings<VS: VersionSet + Drop, A: Allocator + Copy>(
+    alloc: A,
+    pool: &mut Texts<VS, A>,
+) -> Result<Twice, StoreError> {
+    let a = string_id(alloc, pool, "a")?;
+    let b = string_id(alloc, pool, "b")?;
+    let again = string_id(alloc, pool, "a")?;
+    let knows_third = pool.knows_string(StringId(2));
+    Ok(([a.0, b.0, again.0], is_string(pool, b, "b"), knows_third))
+}
+
+fn string_id<VS: VersionSet + Drop, A: Allocator + Copy>(
+    alloc: A,
+    pool: &mut Texts<VS, A>,
+    text: &str,
+) -> Result<StringId, StoreError> {
+    let text = owned(alloc, text)?;
+    Ok(pool.intern_string(text)?)
+}
+
+/// Whether the string is of the pool and has this text.
+fn is_string<VS: VersionSet, A: Allocator + Copy>(
+    pool: &Texts<VS, A>,
+    string: StringId,
+    text: &str,
+) -> bool {
+    pool.knows_string(string) && pool.resolve_string(string) == text
+}
+
+fn names<VS: VersionSet + Drop, A: Allocator + Copy>(
+    alloc: A,
+    pool: &mut Texts<VS, A>,
+) -> Result<Twice, StoreError> {
+    let a = name_id(alloc, pool, "a")?;
+    let b = name_id(alloc, pool, "b")?;
+    let again = name_id(alloc, pool, "a")?;
+    let numbers = [a.into_raw(), b.into_raw(), again.into_raw()];
+    let knows_third = pool.knows_name(NameId::from_raw(2));
+    Ok((numbers, is_name(alloc, pool, b, "b")?, knows_third))
+}
+
+fn name_id<VS: VersionSet + Drop, A: Allocator + Copy>(
+    alloc: A,
+    pool: &mut Texts<VS, A>,
+    text: &str,
+) -> Result<NameId, StoreError> {
+    let text = owned(alloc, text)?;
+    Ok(pool.intern_package_name(text)?)
+}
+
+/// Whether the name is of the pool, is this text, and is written so behind what is there.
+fn is_name<VS: VersionSet, A: Allocator + Copy>(
+    alloc: A,
+    pool: &Texts<VS, A>,
+    name: NameId,
+    text: &str,
+) -> Result<bool, StoreError> {
+    if !pool.knows_name(name) {
+        return Ok(false);
+    }
+    let is_text = pool.resolve_package_name(name).as_str() == text;
+    let mut out = owned(alloc, "name ")?;
+    let ended = name.display(pool, &mut out);
+    let is_written = out.strip_prefix("name ") == Some(text);
+    drop(out);
+    ended?;
+    Ok(is_text && is_written)
+}
+
+/// The number of a name that is looked for.
+fn looked_up<VS: VersionSet, A: Allocator + Copy>(
+    alloc: A,
+    pool: &Texts<VS, A>,
+    text: &str,
+) -> Result<Option<u32>, StoreError> {
+    let name = owned(alloc, text)?;
+    let found = pool.lookup_package_name(&name);
+    drop(name);
+    match found {
+        Some(id) => Ok(Some(id.into_raw())),
+        None => Ok(None),
+    }
 }
 
 #[test]
 fn solvables_and_unions_are_new_each_time(rt: HostRuntime) -> Result<(), Fail> {
-    let mut pool = Pool::new(rt.alloc());
-    let ended = of_one_package(&rt, &mut pool);
-    drop(pool);
-    ended
+    let wanted = (
+        ([Some(0), Some(1)], Some(30), 2),
+        ([Some(0), Some(1)], true),
+        ([Some(0), Some(0)], true),
+    );
+    let seen = of_one_package::<Noted, u32, Global>(rt.alloc(), 7, with_note(1, 1));
+    sees(&rt, seen, wanted)
 }
 
-fn first_names(rt: &impl Abort, pool: &mut Pool<Noted, Noted>) -> Result<(), Fail> {
+/// The numbers of two solvables, the second's payload, and how many there are.
+type Solvables = ([Option<u32>; 2], Option<u32>, usize);
+
+/// Two numbers, and whether the last has what it was given.
+type Numbers = ([Option<u32>; 2], bool);
+
+/// What is seen of the solvables, unions and conditions of one package that has one version set.
+fn of_one_package<VS: VersionSet<V = u32> + Drop, N: Eq + Hash + Drop, A: Allocator + Copy>(
+    alloc: A,
+    name: N,
+    set: VS,
+) -> Result<(Solvables, Numbers, Numbers), StoreError> {
+    let mut pool: Pool<VS, N, A> = Pool::new(alloc);
+    let seen = of_name(&mut pool, name, set);
+    drop(pool);
+    seen
+}
+
+fn of_name<VS: VersionSet<V = u32> + Drop, N: Eq + Hash + Drop, A: Allocator + Copy>(
+    pool: &mut Pool<VS, N, A>,
+    name: N,
+    set: VS,
+) -> Result<(Solvables, Numbers, Numbers), StoreError> {
+    let (name, set) = name_and_set(pool, name, set)?;
+    let solvables = solvables(pool, name)?;
+    let unions = unions(pool, set)?;
+    Ok((solvables, unions, conditions(pool, set)?))
+}
+
+/// The ids of a name and of its version set.
+fn name_and_set<VS: VersionSet + Drop, N: Eq + Hash + Drop, A: Allocator + Copy>(
+    pool: &mut Pool<VS, N, A>,
+    name: N,
+    set: VS,
+) -> Result<(NameId, VersionSetId), StoreError> {
+    match pool.intern_package_name(name) {
+        Ok(name) => Ok((name, pool.intern_version_set(name, set)?)),
+        Err(refused) => {
+            drop(set);
+            Err(refused.into())
+        }
+    }
+}
+
+fn solvables<VS: VersionSet<V = u32> + Drop, N: Eq + Hash + Drop, A: Allocator + Copy>(
+    pool: &mut Pool<VS, N, A>,
+    name: NameId,
+) -> Result<Solvables, StoreError> {
+    let numbers = [new_solvable(pool, name)?, new_solvable(pool, name)?];
+    let payload = payload(pool, SolvableId::from_raw(1));
+    Ok((numbers, payload, solvable_count(pool)))
+}
+
+/// The number of a new solvable with the payload 30, if the name is of the pool.
+fn new_solvable<VS: VersionSet<V = u32> + Drop, N: Eq + Hash + Drop, A: Allocator + Copy>(
+    pool: &mut Pool<VS, N, A>,
+    name: NameId,
+) -> Result<Option<u32>, StoreError> {
+    if !pool.knows_name(name) {
+        return Ok(None);
+    }
+    Ok(Some(pool.intern_solvable(name, 30)?.into_raw()))
+}
+
+/// The payload of a solvable of the pool.
+fn payload<VS: VersionSet<V = u32>, N: Eq + Hash, A: Allocator + Copy>(
+    pool: &Pool<VS, N, A>,
+    solvable: SolvableId,
+) -> Option<u32> {
+    if pool.knows_solvable(solvable) {
+        Some(pool.resolve_solvable(solvable).payload)
+    } else {
+        None
+    }
+}
+
+/// How many solvables going over them gives.
+fn solvable_count<VS: VersionSet, N: Eq + Hash, A: Allocator + Copy>(
+    pool: &Pool<VS, N, A>,
+) -> usize {
+    let mut count: usize = 0;
+    for _ in pool.iter_solvables() {
+        count = count.saturating_add(1);
+    }
+    count
+}
+
+fn unions<VS: VersionSet + Drop, N: Eq + Hash + Drop, A: Allocator + Copy>(
+    pool: &mut Pool<VS, N, A>,
+    set: VersionSetId,
+) -> Result<Numbers, StoreError> {
+    let numbers = [union_of_one(pool, set)?, union_of_three(pool, set)?];
+    let is_last = is_union(pool, VersionSetUnionId(1), &[set, set, set]);
+    Ok((numbers, is_last))
+}
+
+/// The number of a new union of a version set alone, if the set is of the pool.
+fn union_of_one<VS: VersionSet + Drop, N: Eq + Hash + Drop, A: Allocator + Copy>(
+    pool: &mut Pool<VS, N, A>,
+    set: VersionSetId,
+) -> Result<Option<u32>, StoreError> {
+    if !pool.knows_version_set(set) {
+        return Ok(None);
+    }
+    Ok(Some(pool.intern_version_set_union(set, &[])?.0))
+}
+
+/// The number of a new union of a version set three times, if the set is of the pool.
+fn union_of_three<VS: VersionSet + Drop, N: Eq + Hash + Drop, A: Allocator + Copy>(
+    pool: &mut Pool<VS, N, A>,
+    set: VersionSetId,
+) -> Result<Option<u32>, StoreError> {
+    if !pool.knows_version_set(set) {
+        return Ok(None);
+    }
+    Ok(Some(pool.intern_version_set_union(set, &[set, set])?.0))
+}
+
+/// Whether the union is of the pool and has these sets.
+fn is_union<VS: VersionSet, N: Eq + Hash, A: Allocator + Copy>(
+    pool: &Pool<VS, N, A>,
+    union: VersionSetUnionId,
+    sets: &[VersionSetId],
+) -> bool {
+    pool.knows_union(union) && pool.resolve_version_set_union(union) == sets
+}
+
+fn conditions<VS: VersionSet + Drop, N: Eq + Hash + Drop, A: Allocator + Copy>(
+    pool: &mut Pool<VS, N, A>,
+    set: VersionSetId,
+) -> Result<Numbers, StoreError> {
+    let numbers = [condition_of(pool, set)?, condition_of(pool, set)?];
+    let is_first = is_condition(pool, ConditionId::new(0), Condition::Requirement(set));
+    Ok((numbers, is_first))
+}
+
+/// The number of the condition of a version set, if the set is of the pool.
+fn condition_of<VS: VersionSet + Drop, N: Eq + Hash + Drop, A: Allocator + Copy>(
+    pool: &mut Pool<VS, N, A>,
+    set: VersionSetId,
+) -> Result<Option<u32>, StoreError> {
+    if !pool.knows_version_set(set) {
+        return Ok(None);
+    }
+    let id = pool.intern_condition(Condition::Requirement(set))?;
+    Ok(Some(id.as_u32()))
+}
+
+/// Whether the condition is of the pool and is this one.
+fn is_condition<VS: VersionSet, N: Eq + Hash, A: Allocator + Copy>(
+    pool: &Pool<VS, N, A>,
+    id: ConditionId,
+    condition: Condition,
+) -> bool {
+    pool.knows_condition(id) && *pool.resolve_condition(id) == condition
+}
+
+/// A pool whose names and version sets have notes, which `==` doesn't read.
+type Notes<A> = Pool<Noted, Noted, A>;
+
+#[test]
+fn the_first_of_equal_values_stands(rt: HostRuntime) -> Result<(), Fail> {
+    let wanted = (
+        ([0, 0, 1], Some(1)),
+        Some(([0, 1, 0], [Some((1, 0)), Some((2, 1))], false)),
+    );
+    sees(&rt, first_of_equals(rt.alloc()), wanted)
+}
+
+/// The numbers of three names, of which the second equals the first, and the first one's note.
+type FirstNames = ([u32; 3], Option<u32>);
+
+/// The numbers of a version set of two names, which comes again with the first; the notes and names of the first two;
+/// and whether the pool knows a third.
+type FirstSets = ([u32; 3], [Option<(u32, u32)>; 2], bool);
+
+/// What is seen of names, and of version sets if the names are of the pool.
+fn first_of_equals<A: Allocator + Copy>(
+    alloc: A,
+) -> Result<(FirstNames, Option<FirstSets>), StoreError> {
+    let mut pool: Notes<A> = Pool::new(alloc);
+    let names = first_names(&mut pool);
+    let sets = first_sets(&mut pool);
+    drop(pool);
+    Ok((names?, sets?))
+}
+
+fn first_names<A: Allocator + Copy>(pool: &mut Notes<A>) -> Result<FirstNames, StoreError> {
     let name = pool.intern_package_name(with_note(7, 1))?;
     let again = pool.intern_package_name(with_note(7, 2))?;
     let other = pool.intern_package_name(with_note(8, 3))?;
-    assert_eq!(rt;
-        (name.into_raw(), again.into_raw(), other.into_raw()),
-        (0, 0, 1)
-    );
-    assert!(rt; pool.knows_name(name));
-    assert_eq!(rt; pool.resolve_package_name(name).note, 1);
-    Ok(())
+    let numbers = [name.into_raw(), again.into_raw(), other.into_raw()];
+    Ok((numbers, name_note(pool, name)))
 }
 
-fn first_sets(rt: &impl Abort, pool: &mut Pool<Noted, Noted>) -> Result<(), Fail> {
+/// The note of a name of the pool.
+fn name_note<A: Allocator + Copy>(pool: &Notes<A>, name: NameId) -> Option<u32> {
+    if pool.knows_name(name) {
+        Some(pool.resolve_package_name(name).note)
+    } else {
+        None
+    }
+}
+
+fn first_sets<A: Allocator + Copy>(pool: &mut Notes<A>) -> Result<Option<FirstSets>, StoreError> {
     let (name, other) = (NameId::from_raw(0), NameId::from_raw(1));
-    assert!(rt; pool.knows_name(name) && pool.knows_name(other));
-    let [first, second, third] = sets(pool, name, other)?;
-    assert_eq!(rt; (first.0, second.0, third.0), (0, 1, 0));
-    assert_eq!(rt; note_of(pool, first), Some((1, name)));
-    assert_eq!(rt; note_of(pool, second), Some((2, other)));
-    assert!(rt; !pool.knows_version_set(VersionSetId(2)));
-    Ok(())
+    if !pool.knows_name(name) || !pool.knows_name(other) {
+        return Ok(None);
+    }
+    let numbers = sets(pool, name, other)?;
+    let notes = [
+        set_note(pool, VersionSetId(0)),
+        set_note(pool, VersionSetId(1)),
+    ];
+    let knows_third = pool.knows_version_set(VersionSetId(2));
+    Ok(Some((numbers, notes, knows_third)))
 }
 
-/// The ids of a set of two names, which comes again with the first.
-fn sets(
-    pool: &mut Pool<Noted, Noted>,
+/// The numbers of a set of two names, which comes again with the first.
+fn sets<A: Allocator + Copy>(
+    pool: &mut Notes<A>,
     name: NameId,
     other: NameId,
-) -> Result<[VersionSetId; 3], Fail>
+) -> Result<[u32; 3], StoreError>
     requires name { name < length pool.old.names }
     requires other { other < length pool.old.names }
 {
     let first = pool.intern_version_set(name, with_note(5, 1))?;
     let second = pool.intern_version_set(other, with_note(5, 2))?;
     let third = pool.intern_version_set(name, with_note(5, 3))?;
-    Ok([first, second, third])
+    Ok([first.0, second.0, third.0])
 }
 
-/// The note of a version set of the pool, and its package's name.
-fn note_of(pool: &Pool<Noted, Noted>, set: VersionSetId) -> Option<(u32, NameId)> {
+/// The note of a version set of the pool, and the number of its package's name.
+fn set_note<A: Allocator + Copy>(pool: &Notes<A>, set: VersionSetId) -> Option<(u32, u32)> {
     if pool.knows_version_set(set) {
         let name = pool.resolve_version_set_package_name(set);
-        Some((pool.resolve_version_set(set).note, name))
+        Some((pool.resolve_version_set(set).note, name.into_raw()))
     } else {
         None
     }
 }
 
-fn first_of_equals(rt: &impl Abort, pool: &mut Pool<Noted, Noted>) -> Result<(), Fail> {
-    first_names(rt, pool)?;
-    first_sets(rt, pool)
-}
-
-#[test]
-fn the_first_of_equal_values_stands(rt: HostRuntime) -> Result<(), Fail> {
-    let mut pool = Pool::new(rt.alloc());
-    let ended = first_of_equals(&rt, &mut pool);
-    drop(pool);
-    ended
-}
-
-fn twice(rt: &(impl Abort + AllocGlobal), pool: &mut Pool<Noted>) -> Result<(), Fail> {
-    let alloc = rt.alloc();
-    let first = String::from_str(alloc, "ab")?;
-    let second = String::from_str(alloc, "ab")?;
-    assert!(rt; interns_once(pool, "ab", first, second)?);
-    Ok(())
-}
-
 #[test]
 fn a_string_that_comes_twice_has_one_id(rt: HostRuntime) -> Result<(), Fail> {
-    let mut pool = Pool::new(rt.alloc());
-    let ended = twice(&rt, &mut pool);
+    sees(&rt, comes_twice::<Noted, Global>(rt.alloc()), true)
+}
+
+/// Whether `ab` that comes twice has one id.
+fn comes_twice<VS: VersionSet + Drop, A: Allocator + Copy>(alloc: A) -> Result<bool, StoreError> {
+    let mut pool: Texts<VS, A> = Pool::new(alloc);
+    let is_one = interned_twice(alloc, &mut pool);
     drop(pool);
-    ended
+    is_one
+}
+
+fn interned_twice<VS: VersionSet + Drop, A: Allocator + Copy>(
+    alloc: A,
+    pool: &mut Texts<VS, A>,
+) -> Result<bool, StoreError> {
+    let first = owned(alloc, "ab")?;
+    let second = owned(alloc, "ab")?;
+    interns_once(pool, "ab", first, second)
 }

@@ -1,13 +1,22 @@
 //! The texts of requirements, of root keys and of merged solvables.
-ghost use Rattle.std.specs.Prelude.{◌≡◌, true, All};
+ghost use Rattle.std.specs.Prelude.{◌≡◌, true, nat_lt, All};
 ghost use Rattle.resolvo_provider.specs.Provider.{knows_requirement, knows_key};
 
 use crate::few_words::FewWords;
-use resolvo_ids::{SolvableId, SolvableIdOrRoot, VersionSetId, VersionSetUnionId};
+use resolvo_ids::{
+    DenseIndex, NameId, SolvableId, SolvableIdOrRoot, VersionSetId, VersionSetUnionId,
+};
+use resolvo_maps::SolverId;
 use resolvo_provider::{Interner, Requirement, RootText};
+use std::alloc::Allocator;
 use std::marker::PhantomData;
 use std::process::Abort;
 use std::test::Fail;
+
+/// What is shown is this text.
+fn is_text(rt: &impl Abort, shown: Option<&str>, text: &str) {
+    assert_eq!(rt; shown, Some(text));
+}
 
 /// A requirement's text is this one, behind what is there.
 fn shows_requirement<I: Interner>(
@@ -20,9 +29,10 @@ fn shows_requirement<I: Interner>(
     requires { knows_requirement (I.catalogue interner.now) requirement ≡ true }
 {
     let mut out = String::from_str(heap, "needs ")?;
-    requirement.display(interner, &mut out)?;
-    assert_eq!(rt; out.strip_prefix("needs "), Some(text));
-    Ok(())
+    let ended = requirement.display(interner, &mut out);
+    is_text(rt, out.strip_prefix("needs "), text);
+    drop(out);
+    Ok(ended?)
 }
 
 /// The merged solvables' text is this one.
@@ -36,9 +46,10 @@ fn shows_solvables<I: Interner>(
     requires { All (λ s. (I.catalogue interner.now).knows_solvable s ≡ true) solvables.now }
 {
     let mut out = String::new(heap);
-    interner.display_merged_solvables(solvables, &mut out)?;
-    assert_eq!(rt; out.as_str(), text);
-    Ok(())
+    let ended = interner.display_merged_solvables(solvables, &mut out);
+    is_text(rt, Some(out.as_str()), text);
+    drop(out);
+    Ok(ended?)
 }
 
 /// A key's text is this one.
@@ -52,29 +63,74 @@ fn shows_key<I: Interner>(
     requires { knows_key (I.catalogue interner.now).knows_solvable key ≡ true }
 {
     let mut out = String::new(heap);
-    key.display(interner, &mut out)?;
-    assert_eq!(rt; out.as_str(), text);
-    Ok(())
+    let ended = key.display(interner, &mut out);
+    is_text(rt, Some(out.as_str()), text);
+    drop(out);
+    Ok(ended?)
+}
+
+/// What is to be shown: a set, one whose own text is empty, and a union that has the first set twice.
+#[derive(Clone, Copy)]
+struct Sets {
+    set: Requirement,
+    empty: Requirement,
+    union: Requirement,
+}
+
+/// The texts of requirements; of solvables together, of none, and of the keys of the root and of the second solvable.
+fn shows_each<I: Interner>(
+    rt: &impl Abort,
+    heap: I::Alloc,
+    interner: &I,
+    sets: Sets,
+    solvables: &[I::SolvableId],
+    two: I::SolvableId,
+) -> Result<(), Fail>
+    requires set { knows_requirement (I.catalogue interner.now) sets.set ≡ true }
+    requires empty { knows_requirement (I.catalogue interner.now) sets.empty ≡ true }
+    requires union { knows_requirement (I.catalogue interner.now) sets.union ≡ true }
+    requires solvables { All (λ s. (I.catalogue interner.now).knows_solvable s ≡ true) solvables.now }
+    requires two { (I.catalogue interner.now).knows_solvable two ≡ true }
+{
+    shows_requirement(rt, heap, interner, sets.set, "a >=1, <3")?;
+    shows_requirement(rt, heap, interner, sets.empty, "a")?;
+    shows_requirement(rt, heap, interner, sets.union, "a >=1, <3 | a >=1, <3")?;
+    shows_solvables(rt, heap, interner, solvables, "a a 1 | a 2")?;
+    shows_solvables(rt, heap, interner, &[], "")?;
+    shows_key(rt, heap, interner, SolvableIdOrRoot::Root, "root")?;
+    shows_key(rt, heap, interner, SolvableIdOrRoot::Solvable(two), "a 2")
+}
+
+/// The texts of a package of two solvables and two version sets, whatever its ids. The solvables come as the second, the
+/// first and the second.
+fn few_words_have_texts<N: SolverId<A>, S: DenseIndex + SolverId<A>, A: Allocator + Copy>(
+    rt: &impl Abort,
+    heap: A,
+    name: N,
+    solvables: &[S],
+    two: S,
+) -> Result<(), Fail>
+    requires solvables { All (λ s. nat_lt (S.DenseIndex.index_of s) 2 ≡ true) solvables.now }
+    requires two { nat_lt (S.DenseIndex.index_of two) 2 ≡ true }
+{
+    let words: FewWords<'_, N, S, A> = FewWords {
+        name,
+        solvables: &["a 1", "a 2"],
+        sets: &[">=1, <3", ""],
+        union: &[VersionSetId(0), VersionSetId(0)],
+        ids: PhantomData,
+        heap: PhantomData,
+    };
+    let sets = Sets {
+        set: Requirement::Single(VersionSetId(0)),
+        empty: Requirement::Single(VersionSetId(1)),
+        union: Requirement::Union(VersionSetUnionId(0)),
+    };
+    shows_each(rt, heap, &words, sets, solvables, two)
 }
 
 #[test]
 fn requirements_and_solvables_have_texts(rt: HostRuntime) -> Result<(), Fail> {
-    let words = FewWords {
-        solvables: &["a 1", "a 2"],
-        sets: &[">=1, <3", ""],
-        union: &[VersionSetId(0), VersionSetId(0)],
-        heap: PhantomData,
-    };
-    let heap = rt.alloc();
-    let set = Requirement::Single(VersionSetId(0));
-    shows_requirement(&rt, heap, &words, set, "a >=1, <3")?;
-    let empty = Requirement::Single(VersionSetId(1));
-    shows_requirement(&rt, heap, &words, empty, "a")?;
-    let union = Requirement::Union(VersionSetUnionId(0));
-    shows_requirement(&rt, heap, &words, union, "a >=1, <3 | a >=1, <3")?;
     let (one, two) = (SolvableId::from_raw(0), SolvableId::from_raw(1));
-    shows_solvables(&rt, heap, &words, &[two, one, two], "a a 1 | a 2")?;
-    shows_solvables(&rt, heap, &words, &[], "")?;
-    shows_key(&rt, heap, &words, SolvableIdOrRoot::Root, "root")?;
-    shows_key(&rt, heap, &words, SolvableIdOrRoot::Solvable(two), "a 2")
+    few_words_have_texts(&rt, rt.alloc(), NameId::from_raw(0), &[two, one, two], two)
 }
