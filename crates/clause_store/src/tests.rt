@@ -1,8 +1,8 @@
 //! Scripts and their answers, and devices that fail.
-use crate::script::script;
 use resolvo_ids::{VersionSetId, VersionSetUnionId};
 use resolvo_provider::{Interner, Requirement};
 use script_packages::{Packages, ScriptFault, read_catalogue, status};
+use scripts::script;
 use std::alloc::Global;
 use std::io;
 use std::io::{Error, ErrorKind, Read, Write};

@@ -10,8 +10,8 @@ use Rattle.script_packages.specs.declared.fault.ScriptFault.{ScriptFault}
 use Rattle.script_packages.specs.declared.fault.ScriptFault.TheVariants as OfScript
 use Rattle.script_packages.specs.declared.statement.Line.{Line}
 use Rattle.script_packages.specs.declared.statement.Line.TheVariants.{Skipped, Unreadable, Says}
-use Rattle.clause_store.specs.Commands.{command_line_of}
-use Rattle.clause_store.specs.Replies.{reply_text}
+use Rattle.scripts.specs.Commands.{command_line_of}
+use Rattle.scripts.specs.Replies.{reply_text}
 
 module _ {N : Type 0} where
   -- a line that says this is obeyed, and a text grows by the reply's line; or the line is unreadable. Nothing is said

@@ -1,6 +1,6 @@
 use Rattle.script_packages.specs.Lines.{lines as lines_of}
-use Rattle.clause_store.proofs.ScriptLemmas.{commands_answered, catalogue_faulty}
-use Rattle.clause_store.proofs.script.obey_text.Goals as goal
+use Rattle.scripts.proofs.ScriptLemmas.{commands_answered, catalogue_faulty}
+use Rattle.scripts.proofs.transcript.obey_text.Goals as goal
 
 pub returns-in-Err : goal.returns-in-Err
 returns-in-Err g c = catalogue_faulty (Unit {0}) c.in-Err.fault (lines_of c.args.text.now) _ _ c.in-Err.ensures.err

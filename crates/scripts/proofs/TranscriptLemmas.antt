@@ -8,9 +8,9 @@ use Rattle.script_packages.specs.declared.statement.Line.{Line}
 use Rattle.script_packages.specs.declared.statement.Line.TheVariants.{Skipped, Unreadable, Says}
 use Rattle.script_packages.specs.Output.{Writes}
 use Rattle.script_packages.specs.Status.{fault_at}
-use Rattle.clause_store.specs.Commands.{command_line_of}
-use Rattle.clause_store.specs.Replies.{reply_text}
-use Rattle.clause_store.specs.Transcript.{ObeysLine, LineAnswered, Answered, IfRead}
+use Rattle.scripts.specs.Commands.{command_line_of}
+use Rattle.scripts.specs.Replies.{reply_text}
+use Rattle.scripts.specs.Transcript.{ObeysLine, LineAnswered, Answered, IfRead}
 
 -- what was written and waits, and then more of it
 pub Writes-trans : (a b c : Option (List ℕ)) (wa wb wc s t : List ℕ) → Writes a wa b wb s → Writes b wb c wc t → Writes a wa c wc (s ++ t)

@@ -1,8 +1,8 @@
 use Rattle.std.proofs.Common.{arith}
 use Rattle.script_packages.specs.Lines.{lines as lines_of}
-use Rattle.clause_store.specs.ScriptStore.{script_store}
-use Rattle.clause_store.proofs.TranscriptLemmas.{so_far_more, ended_faulty}
-use Rattle.clause_store.proofs.script.obey_lines.Goals as goal
+use Rattle.scripts.specs.ScriptStore.{script_store}
+use Rattle.scripts.proofs.TranscriptLemmas.{so_far_more, ended_faulty}
+use Rattle.scripts.proofs.transcript.obey_lines.Goals as goal
 
 pub returns-in-Err : goal.returns-in-Err
 returns-in-Err g c =

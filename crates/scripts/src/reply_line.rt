@@ -1,7 +1,7 @@
 //! Reply lines.
 ghost use Rattle.std.specs.Prelude.{◌≡◌, ◌++◌, OnOk, codes, decimal, map};
 ghost use Rattle.resolvo_store.specs.Command.{reply_of};
-ghost use Rattle.clause_store.specs.Replies.{reply_text, list_text, others_text, lists_text, conflict_text, decision_text, undone_text, truth_text, unreadable_text};
+ghost use Rattle.scripts.specs.Replies.{reply_text, list_text, others_text, lists_text, conflict_text, decision_text, undone_text, truth_text, unreadable_text};
 
 use itoa::Buffer;
 use resolvo_clauses::Decision;

@@ -1,8 +1,8 @@
 use Rattle.std.proofs.Common.{◌+◌, ◌≤◌, length}
 use Rattle.script_packages.specs.Lines.{lines as lines_of}
-use Rattle.clause_store.specs.ScriptStore.{script_store}
-use Rattle.clause_store.proofs.TranscriptLemmas.{SoFar}
-use Rattle.clause_store.proofs.script.obey_lines.Given as goal
+use Rattle.scripts.specs.ScriptStore.{script_store}
+use Rattle.scripts.proofs.TranscriptLemmas.{SoFar}
+use Rattle.scripts.proofs.transcript.obey_lines.Given as goal
 
 abbrev pub invariant-loop-line : goal.invariant-loop-line
 invariant-loop-line g l = record {

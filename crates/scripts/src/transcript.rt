@@ -4,10 +4,10 @@ ghost use Rattle.resolvo_store.specs.Store.{new_store};
 ghost use Rattle.script_packages.specs.declared.fault.ScriptFault.TheVariants.{Device, Memory};
 ghost use Rattle.script_packages.specs.Lines.{lines as lines_of};
 ghost use Rattle.script_packages.specs.Output.{Writes};
-ghost use Rattle.clause_store.specs.Commands.{command_line_of};
-ghost use Rattle.clause_store.specs.ScriptStore.{script_store, provider_of};
-ghost use Rattle.clause_store.specs.Scripts.{ScriptAnswered, faulty_text};
-ghost use Rattle.clause_store.specs.Transcript.{ObeysLine, Answered, IfRead};
+ghost use Rattle.scripts.specs.Commands.{command_line_of};
+ghost use Rattle.scripts.specs.ScriptStore.{script_store, provider_of};
+ghost use Rattle.scripts.specs.Scripts.{ScriptAnswered, faulty_text};
+ghost use Rattle.scripts.specs.Transcript.{ObeysLine, Answered, IfRead};
 
 use crate::command_line::command_line;
 use crate::reply_line::{push_reply, push_unreadable};

@@ -1,5 +1,5 @@
-use Rattle.clause_store.proofs.ScriptLemmas.{script_answered}
-use Rattle.clause_store.proofs.script.script.Goals as goal
+use Rattle.scripts.proofs.ScriptLemmas.{script_answered}
+use Rattle.scripts.proofs.transcript.script.Goals as goal
 
 pub returns : goal.returns
 returns g c =

@@ -2,7 +2,7 @@
 ghost use Rattle.std.specs.Prelude.{◌≡◌, ◌∷◌, [], option_map};
 ghost use Rattle.script_packages.specs.Words.{words};
 ghost use Rattle.script_packages.specs.Ids.{truth_of};
-ghost use Rattle.clause_store.specs.Commands.{command_of, variable_command, load_command, requires_command, assign_command, undo_command, decide_command, only_word, command_line_of};
+ghost use Rattle.scripts.specs.Commands.{command_of, variable_command, load_command, requires_command, assign_command, undo_command, decide_command, only_word, command_line_of};
 
 use resolvo_ids::SolvableId;
 use resolvo_store::Command;

@@ -4,9 +4,9 @@ use Rattle.resolvo_store.specs.Store.{new_store}
 use Rattle.script_packages.specs.declared.packages.Packages.{Packages}
 use Rattle.script_packages.specs.Listing.{nothing_listed}
 use Rattle.script_packages.specs.CatalogueEnds.{NeverBegins, CommandsBegin, FaultyAt}
-use Rattle.clause_store.specs.Replies.{unreadable_text}
-use Rattle.clause_store.specs.ScriptStore.{provider_of}
-use Rattle.clause_store.specs.Transcript.{Answered}
+use Rattle.scripts.specs.Replies.{unreadable_text}
+use Rattle.scripts.specs.ScriptStore.{provider_of}
+use Rattle.scripts.specs.Transcript.{Answered}
 
 -- the line that names the first unreadable line, if there is one
 abbrev pub faulty_text : Option ℕ → List ℕ

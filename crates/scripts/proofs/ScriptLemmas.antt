@@ -8,10 +8,10 @@ use Rattle.script_packages.specs.Listing.{nothing_listed}
 use Rattle.script_packages.specs.CatalogueEnds.{CommandsBegin, CatalogueFault}
 use Rattle.script_packages.specs.Lines.{lines as lines_of}
 use Rattle.script_packages.specs.Output.{Writes}
-use Rattle.clause_store.specs.ScriptStore.{provider_of}
-use Rattle.clause_store.specs.Scripts.{ScriptAnswered, faulty_text}
-use Rattle.clause_store.specs.Transcript.{Answered, IfRead}
-use Rattle.clause_store.proofs.TranscriptLemmas.{Writes-trans, Writes-wait, Writes-on}
+use Rattle.scripts.specs.ScriptStore.{provider_of}
+use Rattle.scripts.specs.Scripts.{ScriptAnswered, faulty_text}
+use Rattle.scripts.specs.Transcript.{Answered, IfRead}
+use Rattle.scripts.proofs.TranscriptLemmas.{Writes-trans, Writes-wait, Writes-on}
 
 -- the commands are answered, and so the script is
 pub commands_answered : {T : Type 0} (r : Result T ScriptFault) (lines : List (List ℕ)) (packages : Packages) (before : ℕ) (left : List (List ℕ))
