@@ -31,13 +31,8 @@ impl Packages {
             }
             CatalogueLine::Set { name, low, high } => {
                 let name = self.name(name)?;
-                self.add_set(
-                    name,
-                    VersionRange {
-                        low: *low,
-                        high: *high,
-                    },
-                )
+                let (low, high) = (*low, *high);
+                self.add_set(name, VersionRange { low, high })
             }
             CatalogueLine::Union { sets } => self.add_union(sets),
             CatalogueLine::Condition(condition) => self.add_condition(*condition),

@@ -8,7 +8,7 @@ ghost use Rattle.script_packages.specs.CatalogueLines.{set_condition, operator_o
 
 use crate::ids::id;
 use crate::statement::{Line, Statement, open_line};
-use crate::word::{next_word, text_of};
+use crate::word::{is_word, next_word, text_of};
 use resolvo_ids::VersionSetId;
 use resolvo_provider::{Condition, LogicalOperator};
 
@@ -46,17 +46,17 @@ fn entry(said: Statement<'_>) -> Option<CatalogueLine<'_>>
     requires { IsPrinted said.rest.now }
     ensures { plain result ≡ said_of said.entry.keyword.now (words said.entry.rest.now) }
 {
-    if said.keyword == b"package".as_slice() {
+    if is_word(said.keyword, b"package") {
         package(said.rest)
-    } else if said.keyword == b"set".as_slice() {
+    } else if is_word(said.keyword, b"set") {
         set(said.rest)
-    } else if said.keyword == b"union".as_slice() {
+    } else if is_word(said.keyword, b"union") {
         union_line(said.rest)
-    } else if said.keyword == b"condition".as_slice() {
+    } else if is_word(said.keyword, b"condition") {
         condition(said.rest)
-    } else if said.keyword == b"string".as_slice() {
+    } else if is_word(said.keyword, b"string") {
         string(said.rest)
-    } else if said.keyword == b"begin".as_slice() {
+    } else if is_word(said.keyword, b"begin") {
         begin(said.rest)
     } else {
         None
@@ -138,7 +138,7 @@ fn condition(text: &[u8]) -> Option<CatalogueLine<'_>>
 fn set_condition(kind: &[u8], set: &[u8]) -> Option<Condition>
     ensures { result ≡ set_condition kind.now set.now }
 {
-    if kind != b"set".as_slice() {
+    if !is_word(kind, b"set") {
         return None;
     }
     match id(set) {
@@ -160,9 +160,9 @@ fn joined_condition(kind: &[u8], left: &[u8], right: &[u8]) -> Option<Condition>
 fn operator(kind: &[u8]) -> Option<LogicalOperator>
     ensures { result ≡ operator_of kind.now }
 {
-    if kind == b"and".as_slice() {
+    if is_word(kind, b"and") {
         Some(LogicalOperator::And)
-    } else if kind == b"or".as_slice() {
+    } else if is_word(kind, b"or") {
         Some(LogicalOperator::Or)
     } else {
         None

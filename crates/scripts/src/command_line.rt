@@ -6,7 +6,7 @@ ghost use Rattle.scripts.specs.Commands.{command_of, variable_command, load_comm
 
 use resolvo_ids::SolvableId;
 use resolvo_store::Command;
-use script_packages::{Line, Statement, id, next_word, open_line, requirement};
+use script_packages::{Line, Statement, id, is_word, next_word, open_line, requirement};
 
 /// What a line behind `begin` says.
 pub fn command_line(line: &[u8]) -> Line<Command<SolvableId>>
@@ -26,17 +26,17 @@ pub fn command_line(line: &[u8]) -> Line<Command<SolvableId>>
 fn command(said: Statement<'_>) -> Option<Command<SolvableId>>
     ensures { result ≡ command_of said.entry.keyword.now (words said.entry.rest.now) }
 {
-    if said.keyword == b"assign".as_slice() {
+    if is_word(said.keyword, b"assign") {
         assign(said.rest)
-    } else if said.keyword == b"requires".as_slice() {
+    } else if is_word(said.keyword, b"requires") {
         requires_clause(said.rest)
-    } else if said.keyword == b"load".as_slice() {
+    } else if is_word(said.keyword, b"load") {
         load(said.rest)
-    } else if said.keyword == b"variable".as_slice() {
+    } else if is_word(said.keyword, b"variable") {
         variable(said.rest)
-    } else if said.keyword == b"undo-until".as_slice() {
+    } else if is_word(said.keyword, b"undo-until") {
         undo_until(said.rest)
-    } else if said.keyword == b"decide".as_slice() {
+    } else if is_word(said.keyword, b"decide") {
         decide(said.rest)
     } else {
         None
@@ -47,10 +47,9 @@ fn command(said: Statement<'_>) -> Option<Command<SolvableId>>
 fn only_word(text: &[u8]) -> Option<&[u8]>
     ensures { option_map (λ w. w.now) result ≡ only_word (words text.now) }
 {
-    let (word, rest) = next_word(text)?;
-    match next_word(rest) {
-        Some(_) => None,
-        None => Some(word),
+    match next_word(text) {
+        Some((word, rest)) if next_word(rest).is_none() => Some(word),
+        _ => None,
     }
 }
 
@@ -58,33 +57,42 @@ fn only_word(text: &[u8]) -> Option<&[u8]>
 fn variable(text: &[u8]) -> Option<Command<SolvableId>>
     ensures { result ≡ variable_command (words text.now) }
 {
-    let solvable = id(only_word(text)?)?;
-    Some(Command::Variable(solvable))
+    match id(only_word(text)?) {
+        Some(solvable) => Some(Command::Variable(solvable)),
+        None => None,
+    }
 }
 
 /// `load R`
 fn load(text: &[u8]) -> Option<Command<SolvableId>>
     ensures { result ≡ load_command (words text.now) }
 {
-    let loaded = requirement(only_word(text)?)?;
-    Some(Command::Load(loaded))
+    match requirement(only_word(text)?) {
+        Some(loaded) => Some(Command::Load(loaded)),
+        None => None,
+    }
 }
 
 /// `requires PARENT R` or `requires PARENT R DISJUNCTION`
 fn requires_clause(text: &[u8]) -> Option<Command<SolvableId>>
     ensures { result ≡ requires_command (words text.now) }
 {
-    let (parent, text) = next_word(text)?;
-    let (required, text) = next_word(text)?;
+    let Some((parent, text)) = next_word(text) else {
+        return None;
+    };
+    let Some((required, text)) = next_word(text) else {
+        return None;
+    };
+    let (Some(parent), Some(required)) = (id(parent), requirement(required)) else {
+        return None;
+    };
     match next_word(text) {
-        None => Some(Command::Requires(id(parent)?, requirement(required)?, None)),
-        Some((disjunction, text)) => match next_word(text) {
-            Some(_) => None,
-            None => {
-                let (parent, required) = (id(parent)?, requirement(required)?);
-                Some(Command::Requires(parent, required, Some(id(disjunction)?)))
-            }
+        None => Some(Command::Requires(parent, required, None)),
+        Some((disjunction, rest)) if next_word(rest).is_none() => match id(disjunction) {
+            Some(disjunction) => Some(Command::Requires(parent, required, Some(disjunction))),
+            None => None,
         },
+        Some(_) => None,
     }
 }
 
@@ -92,16 +100,26 @@ fn requires_clause(text: &[u8]) -> Option<Command<SolvableId>>
 fn assign(text: &[u8]) -> Option<Command<SolvableId>>
     ensures { result ≡ assign_command (words text.now) }
 {
-    let (variable, text) = next_word(text)?;
-    let (value, text) = next_word(text)?;
-    let (clause, text) = next_word(text)?;
-    let (level, text) = next_word(text)?;
-    match next_word(text) {
-        Some(_) => None,
-        None => {
-            let (variable, value) = (id(variable)?, truth(value)?);
-            Some(Command::Assign(variable, value, id(clause)?, id(level)?))
+    let Some((variable, text)) = next_word(text) else {
+        return None;
+    };
+    let Some((value, text)) = next_word(text) else {
+        return None;
+    };
+    let Some((clause, text)) = next_word(text) else {
+        return None;
+    };
+    let Some((level, text)) = next_word(text) else {
+        return None;
+    };
+    if next_word(text).is_some() {
+        return None;
+    }
+    match (id(variable), truth(value), id(clause), id(level)) {
+        (Some(variable), Some(value), Some(clause), Some(level)) => {
+            Some(Command::Assign(variable, value, clause, level))
         }
+        _ => None,
     }
 }
 
@@ -109,8 +127,10 @@ fn assign(text: &[u8]) -> Option<Command<SolvableId>>
 fn undo_until(text: &[u8]) -> Option<Command<SolvableId>>
     ensures { result ≡ undo_command (words text.now) }
 {
-    let level = id(only_word(text)?)?;
-    Some(Command::UndoUntil(level))
+    match id(only_word(text)?) {
+        Some(level) => Some(Command::UndoUntil(level)),
+        None => None,
+    }
 }
 
 /// `decide`
@@ -127,9 +147,9 @@ fn decide(text: &[u8]) -> Option<Command<SolvableId>>
 fn truth(word: &[u8]) -> Option<bool>
     ensures { result ≡ truth_of word.now }
 {
-    if word == b"true".as_slice() {
+    if is_word(word, b"true") {
         Some(true)
-    } else if word == b"false".as_slice() {
+    } else if is_word(word, b"false") {
         Some(false)
     } else {
         None

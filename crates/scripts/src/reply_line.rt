@@ -1,11 +1,11 @@
 //! Reply lines.
 ghost use Rattle.std.specs.Prelude.{◌≡◌, ◌++◌, OnOk, codes, decimal, map};
 ghost use Rattle.resolvo_store.specs.Command.{reply_of};
-ghost use Rattle.scripts.specs.Replies.{reply_text, list_text, others_text, lists_text, conflict_text, decision_text, undone_text, truth_text, unreadable_text};
+ghost use Rattle.scripts.specs.Replies.{field, reply_words, reply_text, list_text, others_text, lists_text, conflict_text, decision_text, undone_text, truth_text, unreadable_text};
 
 use itoa::Buffer;
 use resolvo_clauses::Decision;
-use resolvo_ids::{DenseIndex, VariableId};
+use resolvo_ids::{ClauseId, DenseIndex, VariableId};
 use resolvo_queue::QueueDecision;
 use resolvo_store::Reply;
 use std::alloc::{AllocError, Allocator};
@@ -14,23 +14,26 @@ use std::alloc::{AllocError, Allocator};
 pub fn push_reply<A: Allocator>(text: &mut Vec<u8>, reply: &Reply<A>) -> Result<(), AllocError>
     ensures { OnOk result (text.new.items ≡ text.old.items ++ reply_text (reply_of reply.now)) }
 {
-    match reply {
-        Reply::Variable(variable) => push_field(text, b"variable ", variable.to_index())?,
-        Reply::Loaded(lists) => push_lists(text, lists)?,
-        Reply::Clause(clause, conflict) => {
-            push_field(text, b"clause ", clause.to_index())?;
-            push_conflict(text, *conflict)?;
-        }
-        Reply::Assigned => text.extend_from_slice(b"assigned")?,
-        Reply::Already => text.extend_from_slice(b"already")?,
-        Reply::Clash => text.extend_from_slice(b"clash")?,
-        Reply::Undone(last) => push_undone(text, *last)?,
-        Reply::Decided(decision) => push_decision(text, decision)?,
-        Reply::NoDecision => text.extend_from_slice(b"no decision")?,
-        Reply::Falsified(clause) => push_field(text, b"falsified ", clause.to_index())?,
-        Reply::Refused(e) => push_field(text, b"refused ", e.code() as usize)?,
-    }
+    push_words(text, reply)?;
     text.extend_from_slice(b"\n")
+}
+
+fn push_words<A: Allocator>(text: &mut Vec<u8>, reply: &Reply<A>) -> Result<(), AllocError>
+    ensures { OnOk result (text.new.items ≡ text.old.items ++ reply_words (reply_of reply.now)) }
+{
+    match reply {
+        Reply::Variable(variable) => push_field(text, b"variable ", variable.to_index()),
+        Reply::Loaded(lists) => push_lists(text, lists),
+        Reply::Clause(clause, conflict) => push_clause(text, *clause, *conflict),
+        Reply::Assigned => text.extend_from_slice(b"assigned"),
+        Reply::Already => text.extend_from_slice(b"already"),
+        Reply::Clash => text.extend_from_slice(b"clash"),
+        Reply::Undone(last) => push_undone(text, *last),
+        Reply::Decided(decision) => push_decision(text, decision),
+        Reply::NoDecision => text.extend_from_slice(b"no decision"),
+        Reply::Falsified(clause) => push_field(text, b"falsified ", clause.to_index()),
+        Reply::Refused(e) => push_field(text, b"refused ", e.code() as usize),
+    }
 }
 
 /// Puts the line that names an unreadable line behind the text.
@@ -57,9 +60,10 @@ fn push_field(text: &mut Vec<u8>, name: &[u8], number: usize) -> Result<(), Allo
     push_number(text, number as u64)
 }
 
-fn push_conflict(text: &mut Vec<u8>, conflict: bool) -> Result<(), AllocError>
-    ensures { OnOk result (text.new.items ≡ text.old.items ++ conflict_text conflict) }
+fn push_clause(text: &mut Vec<u8>, clause: ClauseId, conflict: bool) -> Result<(), AllocError>
+    ensures { OnOk result (text.new.items ≡ text.old.items ++ (field (codes "clause ") clause ++ conflict_text conflict)) }
 {
+    push_field(text, b"clause ", clause.to_index())?;
     if conflict {
         text.extend_from_slice(b" conflict")?;
     }
@@ -108,10 +112,17 @@ fn push_lists<A: Allocator>(
 {
     text.extend_from_slice(b"loaded")?;
     for list in lists {
-        text.extend_from_slice(b" ")?;
-        push_list(text, list)?;
+        push_word(text, list)?;
     }
     Ok(())
+}
+
+/// A blank, and the word of a list.
+fn push_word(text: &mut Vec<u8>, list: &[VariableId]) -> Result<(), AllocError>
+    ensures { OnOk result (text.new.items ≡ text.old.items ++ (codes " " ++ list_text list.now)) }
+{
+    text.extend_from_slice(b" ")?;
+    push_list(text, list)
 }
 
 /// The variables of a list, joined by commas, or `-` for none.
