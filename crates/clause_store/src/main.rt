@@ -4,17 +4,15 @@
 //! a read or a write failed, and 3 where memory ran out.
 #![tactic(auto)]
 
-mod command_line;
-mod reply_line;
-mod script;
 #[cfg(test)]
 mod tests;
 
 use script_packages::status;
+use scripts::script;
 use std::io;
 use std::process::ExitCode;
 
 fn main(rt: HostRuntime) -> ExitCode {
-    let ended = script::script(rt.alloc(), &mut rt.reader(), &mut io::writer(&rt));
+    let ended = script(rt.alloc(), &mut rt.reader(), &mut io::writer(&rt));
     ExitCode::from(status(&ended))
 }

@@ -1,8 +1,8 @@
 //! Scripts and their answers, and devices that fail.
-use crate::script::script;
-use resolvo_ids::{VersionSetId, VersionSetUnionId};
+use resolvo_ids::{StoreError, VersionSetId, VersionSetUnionId};
 use resolvo_provider::{Interner, Requirement};
 use script_packages::{Packages, ScriptFault, read_catalogue, status};
+use scripts::script;
 use std::alloc::Global;
 use std::io;
 use std::io::{Error, ErrorKind, Read, Write};
@@ -167,15 +167,29 @@ fn unions_are_loaded(rt: HostRuntime) -> Result<(), Fail> {
     Ok(())
 }
 
+/// Appends the texts of the first version set and of the first union, where both are known; answers whether they are.
+fn texts<I: Interner>(
+    interner: &I,
+    set: &mut String<I::Alloc>,
+    union: &mut String<I::Alloc>,
+) -> Result<bool, StoreError> {
+    let (first, united) = (VersionSetId(0), VersionSetUnionId(0));
+    if !interner.knows_version_set(first) || !interner.knows_union(united) {
+        return Ok(false);
+    }
+    Requirement::Single(first).display(interner, set)?;
+    Requirement::Union(united).display(interner, union)?;
+    Ok(true)
+}
+
 fn have_texts(rt: &(impl Abort + AllocGlobal), packages: &Packages) -> Result<(), Fail> {
-    assert!(rt; packages.knows_version_set(VersionSetId(0)));
-    assert!(rt; packages.knows_union(VersionSetUnionId(0)));
-    let mut out = String::new(rt.alloc());
-    Requirement::Single(VersionSetId(0)).display(packages, &mut out)?;
-    assert_eq!(rt; out.as_str(), "a >=1, <3");
-    out.clear();
-    Requirement::Union(VersionSetUnionId(0)).display(packages, &mut out)?;
-    assert_eq!(rt; out.as_str(), "a >=1, <3 | a >=1, <3");
+    let mut set = String::new(rt.alloc());
+    let mut union = String::new(rt.alloc());
+    let are_known = texts(packages, &mut set, &mut union);
+    let are_right = set.as_str() == "a >=1, <3" && union.as_str() == "a >=1, <3 | a >=1, <3";
+    drop(set);
+    drop(union);
+    assert_eq!(rt; (are_known?, are_right), (true, true));
     Ok(())
 }
 
@@ -246,8 +260,10 @@ fn long_scripts_are_answered(rt: HostRuntime) -> Result<(), Fail> {
         text.extend_from_slice(b"\ndecide")?;
     }
     let (answer, ended) = answered(rt.alloc(), &text);
-    assert_eq!(&rt; answer.len(), 120000);
-    assert!(&rt; ended == Ok(()));
+    let count = answer.len();
+    drop(answer);
+    drop(text);
+    assert_eq!(&rt; (count, ended), (120000, Ok(())));
     Ok(())
 }
 
@@ -284,8 +300,9 @@ fn a_reader_fails(rt: HostRuntime) -> Result<(), Fail> {
     };
     let mut answer = Vec::new(rt.alloc());
     let ended = script(rt.alloc(), &mut reader, &mut answer);
-    assert_eq!(&rt; answer.len(), 0);
-    assert_eq!(&rt; status(&ended), 2);
+    let count = answer.len();
+    drop(answer);
+    assert_eq!(&rt; (count, status(&ended)), (0, 2));
     Ok(())
 }
 
@@ -312,19 +329,23 @@ impl Write for Full {
     }
 }
 
+/// The exit status over a writer with so much room, how many bytes it took, and whether the answer begins with them.
+fn written(alloc: Global, room: usize) -> (u8, usize, bool) {
+    let mut reader = REFUSALS;
+    let mut writer = Full {
+        taken: Vec::new(alloc),
+        room,
+    };
+    let ended = script(alloc, &mut reader, &mut writer);
+    let is_beginning = REFUSALS_ANSWER.starts_with(writer.taken.as_slice());
+    (status(&ended), writer.taken.len(), is_beginning)
+}
+
 /// What a writer took before it failed is a beginning of the answer.
 #[test]
 fn a_writer_fails(rt: HostRuntime) -> Result<(), Fail> {
     for room in [0, 1, 10, 99] {
-        let mut reader = REFUSALS;
-        let mut writer = Full {
-            taken: Vec::new(rt.alloc()),
-            room,
-        };
-        let ended = script(rt.alloc(), &mut reader, &mut writer);
-        assert_eq!(&rt; status(&ended), 2);
-        assert_eq!(&rt; writer.taken.len(), room);
-        assert!(&rt; REFUSALS_ANSWER.starts_with(writer.taken.as_slice()));
+        assert_eq!(&rt; written(rt.alloc(), room), (2, room, true));
     }
     Ok(())
 }

@@ -3,7 +3,7 @@ ghost use Rattle.std.specs.Prelude.{◌≡◌, ◌-◌, ◌<◌, [], All, length
 ghost use Rattle.script_packages.specs.declared.fault.LineFault.TheVariants.{Memory, Unreadable};
 ghost use Rattle.script_packages.specs.Words.{words};
 ghost use Rattle.script_packages.specs.CatalogueLines.{plain_said};
-ghost use Rattle.script_packages.specs.Listing.{listed_versions, listed_sets, with_some_union, with_listed_condition};
+ghost use Rattle.script_packages.specs.Listing.{listed_versions, listed_sets, with_some_union, is_made_of_listed, with_listed_condition};
 ghost use Rattle.script_packages.specs.Numbers.{below};
 ghost use Rattle.script_packages.specs.Ids.{number_32};
 
@@ -31,13 +31,8 @@ impl Packages {
             }
             CatalogueLine::Set { name, low, high } => {
                 let name = self.name(name)?;
-                self.add_set(
-                    name,
-                    VersionRange {
-                        low: *low,
-                        high: *high,
-                    },
-                )
+                let (low, high) = (*low, *high);
+                self.add_set(name, VersionRange { low, high })
             }
             CatalogueLine::Union { sets } => self.add_union(sets),
             CatalogueLine::Condition(condition) => self.add_condition(*condition),
@@ -98,7 +93,21 @@ impl Packages {
         ensures unreadable { IfErr result (λ e. e ≡ Unreadable →
             with_some_union (listing_of self.old) (listed_sets (length self.old.pool.version_sets) [] (words text.now)) ≡ None) }
     {
-        let sets = self.sets(text)?;
+        let mut sets = Vec::new(self.alloc);
+        let added = self.unite(&mut sets, text);
+        drop(sets);
+        added
+    }
+
+    /// Adds a union of the version sets in the text, which the empty list takes up.
+    fn unite(&mut self, sets: &mut Vec<VersionSetId>, text: &[u8]) -> Result<(), LineFault>
+        requires { sets.old.items ≡ [] }
+        ensures ok { OnOk result (with_some_union (listing_of self.old) (listed_sets (length self.old.pool.version_sets) [] (words text.now))
+            ≡ Some (listing_of self.new)) }
+        ensures unreadable { IfErr result (λ e. e ≡ Unreadable →
+            with_some_union (listing_of self.old) (listed_sets (length self.old.pool.version_sets) [] (words text.now)) ≡ None) }
+    {
+        self.list_sets(sets, text)?;
         let Some((first, others)) = sets.split_first() else {
             return Err(LineFault::Unreadable);
         };
@@ -111,13 +120,13 @@ impl Packages {
         }
     }
 
-    /// The version sets in a text, each of which is there.
-    fn sets(&self, text: &[u8]) -> Result<Vec<VersionSetId>, LineFault>
-        ensures ok { IfOk result (λ sets. listed_sets (length self.now.pool.version_sets) [] (words text.now) ≡ Some sets.items) }
-        ensures known { IfOk result (λ sets. All (λ v. v.0 < length self.now.pool.version_sets) sets.items) }
-        ensures unreadable { IfErr result (λ e. e ≡ Unreadable → listed_sets (length self.now.pool.version_sets) [] (words text.now) ≡ None) }
+    /// Puts the version sets in a text, each of which is there, behind those of a list.
+    fn list_sets(&self, sets: &mut Vec<VersionSetId>, text: &[u8]) -> Result<(), LineFault>
+        requires { All (λ v. v.0 < length self.now.pool.version_sets) sets.old.items }
+        ensures ok { OnOk result (listed_sets (length self.now.pool.version_sets) sets.old.items (words text.now) ≡ Some sets.new.items) }
+        ensures known { OnOk result (All (λ v. v.0 < length self.now.pool.version_sets) sets.new.items) }
+        ensures unreadable { IfErr result (λ e. e ≡ Unreadable → listed_sets (length self.now.pool.version_sets) sets.old.items (words text.now) ≡ None) }
     {
-        let mut sets = Vec::new(self.alloc);
         let mut rest = text;
         while let Some((word, others)) = next_word(rest) {
             let set = self.set(word)?;
@@ -127,7 +136,7 @@ impl Packages {
             }
             rest = others;
         }
-        Ok(sets)
+        Ok(())
     }
 
     /// The version set that a word stands for.
@@ -143,18 +152,24 @@ impl Packages {
         }
     }
 
+    /// Whether what a condition is made of is there.
+    fn is_made_of_listed(&self, condition: &Condition) -> bool
+        ensures { result ≡ is_made_of_listed (listing_of self.now) condition.now }
+    {
+        match condition {
+            Condition::Binary(_, left, right) => {
+                self.pool.knows_condition(*left) && self.pool.knows_condition(*right)
+            }
+            Condition::Requirement(set) => self.pool.knows_version_set(*set),
+        }
+    }
+
     /// Adds a condition, if it isn't there.
     fn add_condition(&mut self, condition: Condition) -> Result<(), LineFault>
         ensures ok { OnOk result (with_listed_condition (listing_of self.old) condition ≡ Some (listing_of self.new)) }
         ensures unreadable { IfErr result (λ e. e ≡ Unreadable → with_listed_condition (listing_of self.old) condition ≡ None) }
     {
-        let is_made_of_known = match condition {
-            Condition::Binary(_, left, right) => {
-                self.pool.knows_condition(left) && self.pool.knows_condition(right)
-            }
-            Condition::Requirement(set) => self.pool.knows_version_set(set),
-        };
-        if !is_made_of_known {
+        if !self.is_made_of_listed(&condition) {
             return Err(LineFault::Unreadable);
         }
         let pool = &mut self.pool;

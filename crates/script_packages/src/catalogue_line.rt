@@ -8,7 +8,7 @@ ghost use Rattle.script_packages.specs.CatalogueLines.{set_condition, operator_o
 
 use crate::ids::id;
 use crate::statement::{Line, Statement, open_line};
-use crate::word::{next_word, text_of};
+use crate::word::{is_word, next_word, text_of};
 use resolvo_ids::VersionSetId;
 use resolvo_provider::{Condition, LogicalOperator};
 
@@ -46,17 +46,17 @@ fn entry(said: Statement<'_>) -> Option<CatalogueLine<'_>>
     requires { IsPrinted said.rest.now }
     ensures { plain result ≡ said_of said.entry.keyword.now (words said.entry.rest.now) }
 {
-    if said.keyword == b"package".as_slice() {
+    if is_word(said.keyword, b"package") {
         package(said.rest)
-    } else if said.keyword == b"set".as_slice() {
+    } else if is_word(said.keyword, b"set") {
         set(said.rest)
-    } else if said.keyword == b"union".as_slice() {
+    } else if is_word(said.keyword, b"union") {
         union_line(said.rest)
-    } else if said.keyword == b"condition".as_slice() {
+    } else if is_word(said.keyword, b"condition") {
         condition(said.rest)
-    } else if said.keyword == b"string".as_slice() {
+    } else if is_word(said.keyword, b"string") {
         string(said.rest)
-    } else if said.keyword == b"begin".as_slice() {
+    } else if is_word(said.keyword, b"begin") {
         begin(said.rest)
     } else {
         None
@@ -68,7 +68,9 @@ fn package(text: &[u8]) -> Option<CatalogueLine<'_>>
     requires { IsPrinted text.now }
     ensures { plain result ≡ package_of (words text.now) }
 {
-    let (name, versions) = next_word(text)?;
+    let Some((name, versions)) = next_word(text) else {
+        return None;
+    };
     match next_word(versions) {
         Some(_) => {
             let name = text_of(name);
@@ -83,16 +85,21 @@ fn set(text: &[u8]) -> Option<CatalogueLine<'_>>
     requires { IsPrinted text.now }
     ensures { plain result ≡ set_of (words text.now) }
 {
-    let (name, text) = next_word(text)?;
-    let (low, text) = next_word(text)?;
-    let (high, text) = next_word(text)?;
-    match next_word(text) {
-        Some(_) => None,
-        None => {
+    let Some((name, text)) = next_word(text) else {
+        return None;
+    };
+    let Some((low, text)) = next_word(text) else {
+        return None;
+    };
+    let Some((high, text)) = next_word(text) else {
+        return None;
+    };
+    match (next_word(text), id(low), id(high)) {
+        (None, Some(low), Some(high)) => {
             let name = text_of(name);
-            let (low, high) = (id(low)?, id(high)?);
             Some(CatalogueLine::Set { name, low, high })
         }
+        _ => None,
     }
 }
 
@@ -110,14 +117,20 @@ fn union_line(text: &[u8]) -> Option<CatalogueLine<'_>>
 fn condition(text: &[u8]) -> Option<CatalogueLine<'_>>
     ensures { plain result ≡ condition_of (words text.now) }
 {
-    let (kind, text) = next_word(text)?;
-    let (first, text) = next_word(text)?;
-    match next_word(text) {
-        None => Some(CatalogueLine::Condition(set_condition(kind, first)?)),
-        Some((second, rest)) => match next_word(rest) {
-            None => Some(CatalogueLine::Condition(joined_condition(kind, first, second)?)),
-            Some(_) => None,
-        },
+    let Some((kind, text)) = next_word(text) else {
+        return None;
+    };
+    let Some((first, text)) = next_word(text) else {
+        return None;
+    };
+    let condition = match next_word(text) {
+        None => set_condition(kind, first),
+        Some((second, rest)) if next_word(rest).is_none() => joined_condition(kind, first, second),
+        Some(_) => None,
+    };
+    match condition {
+        Some(condition) => Some(CatalogueLine::Condition(condition)),
+        None => None,
     }
 }
 
@@ -125,11 +138,12 @@ fn condition(text: &[u8]) -> Option<CatalogueLine<'_>>
 fn set_condition(kind: &[u8], set: &[u8]) -> Option<Condition>
     ensures { result ≡ set_condition kind.now set.now }
 {
-    if kind == b"set".as_slice() {
-        let index = id(set)?;
-        Some(Condition::Requirement(VersionSetId(index)))
-    } else {
-        None
+    if !is_word(kind, b"set") {
+        return None;
+    }
+    match id(set) {
+        Some(index) => Some(Condition::Requirement(VersionSetId(index))),
+        None => None,
     }
 }
 
@@ -137,17 +151,18 @@ fn set_condition(kind: &[u8], set: &[u8]) -> Option<Condition>
 fn joined_condition(kind: &[u8], left: &[u8], right: &[u8]) -> Option<Condition>
     ensures { result ≡ joined_condition (operator_of kind.now) left.now right.now }
 {
-    let operator = operator(kind)?;
-    let (left, right) = (id(left)?, id(right)?);
-    Some(Condition::Binary(operator, left, right))
+    match (operator(kind), id(left), id(right)) {
+        (Some(operator), Some(left), Some(right)) => Some(Condition::Binary(operator, left, right)),
+        _ => None,
+    }
 }
 
 fn operator(kind: &[u8]) -> Option<LogicalOperator>
     ensures { result ≡ operator_of kind.now }
 {
-    if kind == b"and".as_slice() {
+    if is_word(kind, b"and") {
         Some(LogicalOperator::And)
-    } else if kind == b"or".as_slice() {
+    } else if is_word(kind, b"or") {
         Some(LogicalOperator::Or)
     } else {
         None
@@ -159,10 +174,11 @@ fn string(text: &[u8]) -> Option<CatalogueLine<'_>>
     requires { IsPrinted text.now }
     ensures { plain result ≡ string_of (words text.now) }
 {
-    let (word, text) = next_word(text)?;
     match next_word(text) {
-        Some(_) => None,
-        None => Some(CatalogueLine::String(text_of(word))),
+        Some((word, rest)) if next_word(rest).is_none() => {
+            Some(CatalogueLine::String(text_of(word)))
+        }
+        _ => None,
     }
 }
 

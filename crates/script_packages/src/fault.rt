@@ -19,7 +19,7 @@ pub enum ScriptFault {
 }
 
 /// Why a line was left before its end.
-#[derive(Clone, Copy, Debug, PartialEq, Eq)]
+#[derive(Clone, Copy)]
 pub enum LineFault {
     /// It isn't in the format.
     Unreadable,

@@ -30,4 +30,4 @@ pub use line::next_line;
 pub use output::{write_much, write_rest};
 pub use packages::{Packages, Span, VersionRange};
 pub use statement::{Line, Statement, open_line};
-pub use word::next_word;
+pub use word::{is_word, next_word};

@@ -33,5 +33,8 @@ fn with_digit(value: u64, digit: u8) -> Option<u64>
     if !digit.is_ascii_digit() {
         return None;
     }
-    value.checked_mul(10)?.checked_add(u64::from(digit - b'0'))
+    match value.checked_mul(10) {
+        Some(tens) => tens.checked_add(u64::from(digit - b'0')),
+        None => None,
+    }
 }

@@ -88,6 +88,16 @@ impl Interner for Packages {
         }
     }
 
+    /// The name of its package.
+    fn display_solvable_name(
+        &self,
+        solvable: SolvableId,
+        out: &mut String,
+    ) -> Result<(), StoreError> {
+        let name = self.pool.resolve_solvable(solvable).name;
+        append(out, self.pool.resolve_package_name(name))
+    }
+
     fn display_name(&self, name: NameId, out: &mut String) -> Result<(), StoreError> {
         append(out, self.pool.resolve_package_name(name))
     }

@@ -1,6 +1,7 @@
 //! Words of a line.
 ghost use Rattle.std.specs.Prelude.{◌≡◌, ◌<◌, ◌≤◌, [], ◌∷◌, ◌++◌, length, MatchOption, Some, ◌≢◌};
 ghost use Rattle.std.specs.Prelude.{slice_get, IfSome};
+ghost use Rattle.std.specs.Str.{bytes_eq};
 ghost use Rattle.script_packages.specs.Lines.{IsPrinted};
 ghost use Rattle.script_packages.specs.Words.{words, words_from, begun_word, ArePrinted};
 
@@ -17,6 +18,13 @@ pub fn next_word(line: &[u8]) -> Option<(&[u8], &[u8])>
         return None;
     }
     Some(split_word(text))
+}
+
+/// Whether a word reads so.
+pub fn is_word(word: &[u8], text: &[u8]) -> bool
+    ensures { result ≡ bytes_eq word.now text.now }
+{
+    word == text
 }
 
 /// A line from its first word on.

@@ -1,0 +1,86 @@
+-- One line more of a transcript.
+use Rattle.std.proofs.Common.{◌≡◌, ℕ, ◌+◌, List, [], ◌∷◌, ◌++◌, Option, None, Some, Ok, Err, refl, sym, ap, subst, ◌∙◌, append_assoc, append-nil}
+use Rattle.resolvo_store.specs.declared.command.Command.{Command as ProgramCommand}
+use Rattle.resolvo_store.specs.Store.{Store}
+use Rattle.script_packages.specs.declared.fault.LineFault.{LineFault}
+use Rattle.script_packages.specs.declared.fault.LineFault.TheVariants as OfLine
+use Rattle.script_packages.specs.declared.statement.Line.{Line}
+use Rattle.script_packages.specs.declared.statement.Line.TheVariants.{Skipped, Unreadable, Says}
+use Rattle.script_packages.specs.Output.{Writes}
+use Rattle.script_packages.specs.Status.{fault_at}
+use Rattle.scripts.specs.Commands.{command_line_of}
+use Rattle.scripts.specs.Replies.{reply_text}
+use Rattle.scripts.specs.Transcript.{ObeysLine, LineAnswered, Answered, IfRead}
+
+-- what was written and waits, and then more of it
+pub Writes-trans : (a b c : Option (List ℕ)) (wa wb wc s t : List ℕ) → Writes a wa b wb s → Writes b wb c wc t → Writes a wa c wc (s ++ t)
+Writes-trans None b c wa wb wc s t h k = tt
+Writes-trans (Some xs) None c wa wb wc s t h k = absurd h
+Writes-trans (Some xs) (Some ys) None wa wb wc s t h k = absurd k
+Writes-trans (Some xs) (Some ys) (Some zs) wa wb wc s t h k = k ∙ ap (λ l. l ++ t) h ∙ append_assoc (xs ++ wa) s t
+
+-- a text that is put behind what waits
+pub Writes-wait : (a : Option (List ℕ)) (waiting waiting' t : List ℕ) → waiting' ≡ waiting ++ t → Writes a waiting a waiting' t
+Writes-wait None waiting waiting' t e = tt
+Writes-wait (Some xs) waiting waiting' t e = ap (λ l. xs ++ l) e ∙ sym (append_assoc xs waiting t)
+
+-- what waits goes on to be written
+pub Writes-on : (a b c : Option (List ℕ)) (wa wb wc s : List ℕ) → Writes a wa b wb s → Writes b wb c wc [] → Writes a wa c wc s
+Writes-on None b c wa wb wc s h k = tt
+Writes-on (Some xs) None c wa wb wc s h k = absurd h
+Writes-on (Some xs) (Some ys) None wa wb wc s h k = absurd k
+Writes-on (Some xs) (Some ys) (Some zs) wa wb wc s h k = k ∙ append-nil (ys ++ wb) ∙ h
+
+module _ {N : Type 0} where
+  -- lines were obeyed so far, with this text: how what is left goes on, so all of them do behind it
+  abbrev pub SoFar : Store N ℕ → ℕ → List (List ℕ) → Option (List ℕ) → List ℕ → Store N ℕ → ℕ → List (List ℕ) → Option (List ℕ) → List ℕ → Type 0
+  SoFar first before lines held waiting now number left held' waiting' =
+      (own : List ℕ) × Writes held waiting held' waiting' own
+      × ((text : List ℕ) (faulty : Option ℕ) → Answered now number left text faulty → Answered first before lines (own ++ text) faulty)
+
+  -- the text of an obeyed line, and how what is behind it goes on
+  line_obeyed : {T : Type 0} (old new : Store N ℕ) (number : ℕ) (said : Line (ProgramCommand ℕ)) (lines : List (List ℕ)) (waiting waiting' : List ℕ) (t : T)
+      → ObeysLine old said waiting (Ok t) waiting' new
+      → (own : List ℕ) × (waiting' ≡ waiting ++ own)
+      × ((rest : List ℕ) (faulty : Option ℕ) → Answered new number lines rest faulty → LineAnswered old number said (λ mid r. Answered mid number lines r faulty) (own ++ rest) faulty)
+  line_obeyed old new number Skipped lines waiting waiting' t h =
+      ([], h.0 ∙ sym (append-nil waiting), λ rest faulty g. subst (λ st. Answered st number lines rest faulty) h.1 g)
+  line_obeyed old new number Unreadable lines waiting waiting' t h = absurd h
+  line_obeyed old new number (Says c) lines waiting waiting' t h =
+      (reply_text h.0, h.2, λ rest faulty g. (h.0, new, rest, h.1, refl, g))
+
+  -- an obeyed line more
+  pub so_far_more : {T : Type 0} (first now new : Store N ℕ) (before number : ℕ) (all left lines : List (List ℕ)) (line : List ℕ)
+      (held held' held'' : Option (List ℕ)) (w w' w'' v : List ℕ) (t : T)
+      → left ≡ line ∷ lines → ObeysLine now (command_line_of line) w' (Ok t) w'' new → Writes held' w'' held'' v []
+      → SoFar first before all held w now number left held' w' → SoFar first before all held w new (number + 1) lines held'' v
+  so_far_more first now new before number all left lines line held held' held'' w w' w'' v t behind obeyed written so_far =
+      let more = line_obeyed now new (number + 1) (command_line_of line) lines w' w'' t obeyed in (
+        so_far.0 ++ more.0,
+        Writes-on held held' held'' w w'' v (so_far.0 ++ more.0)
+            (Writes-trans held held' held' w w' w'' so_far.0 more.0 so_far.1 (Writes-wait held' w' w'' more.0 more.1)) written,
+        λ text faulty goes_on. subst (λ l. Answered first before all l faulty) (sym (append_assoc so_far.0 more.0 text))
+            (so_far.2 (more.0 ++ text) faulty
+            (subst (λ ls. Answered now number ls (more.0 ++ text) faulty) (sym behind) (more.2 text faulty goes_on))),
+      )
+
+  -- the first unreadable line
+  unreadable_here : (now : Store N ℕ) (number : ℕ) (said : Line (ProgramCommand ℕ)) (goes_on : Store N ℕ → List ℕ → Type 0) → said ≡ Unreadable
+      → LineAnswered now number said goes_on [] (Some number)
+  unreadable_here now number said goes_on e =
+      subst (λ l. LineAnswered now number l goes_on [] (Some number)) (sym e) (refl, refl)
+
+  -- the script's end at a faulty line
+  pub ended_faulty : (T U : Type 0) (first now new : Store N ℕ) (before number : ℕ) (all left lines : List (List ℕ)) (line : List ℕ)
+      (held held' : Option (List ℕ)) (w w' w'' : List ℕ) (fault : LineFault)
+      → left ≡ line ∷ lines → ObeysLine {T = T} now (command_line_of line) w' (Err fault) w'' new
+      → SoFar first before all held w now number left held' w'
+      → IfRead {T = U} (Err (fault_at (number + 1) fault)) (λ faulty. (text : List ℕ) × Answered first before all text faulty × Writes held w held' w'' text)
+  ended_faulty T U first now new before number all left lines line held held' w w' w'' OfLine.Memory behind obeyed so_far = tt
+  ended_faulty T U first now new before number all left lines line held held' w w' w'' OfLine.Unreadable behind obeyed so_far = (
+    so_far.0 ++ [],
+    so_far.2 [] (Some (number + 1))
+        (subst (λ ls. Answered now number ls [] (Some (number + 1))) (sym behind)
+        (unreadable_here now (number + 1) (command_line_of line) (λ mid r. Answered mid (number + 1) lines r (Some (number + 1))) obeyed.0)),
+    Writes-trans held held' held' w w' w'' so_far.0 [] so_far.1 (Writes-wait held' w' w'' [] (obeyed.1 ∙ sym (append-nil w'))),
+  )

@@ -1,0 +1,49 @@
+-- What the commands of a script are answered.
+use Rattle.std.specs.Prelude.{◌≡◌, ℕ, ◌+◌, List, [], ◌∷◌, ◌++◌, Option, None, Some, Result, Ok, Err, ⊤}
+use Rattle.resolvo_store.specs.declared.command.Command.{Command as ProgramCommand}
+use Rattle.resolvo_store.specs.Command.{Reply, command_of}
+use Rattle.resolvo_store.specs.Store.{Store}
+use Rattle.resolvo_store.specs.Step.{Step}
+use Rattle.script_packages.specs.declared.fault.LineFault.{LineFault}
+use Rattle.script_packages.specs.declared.fault.LineFault.TheVariants as OfLine
+use Rattle.script_packages.specs.declared.fault.ScriptFault.{ScriptFault}
+use Rattle.script_packages.specs.declared.fault.ScriptFault.TheVariants as OfScript
+use Rattle.script_packages.specs.declared.statement.Line.{Line}
+use Rattle.script_packages.specs.declared.statement.Line.TheVariants.{Skipped, Unreadable, Says}
+use Rattle.scripts.specs.Commands.{command_line_of}
+use Rattle.scripts.specs.Replies.{reply_text}
+
+module _ {N : Type 0} where
+  -- a line that says this is obeyed, and a text grows by the reply's line; or the line is unreadable. Nothing is said
+  -- where memory was refused
+  abbrev pub ObeysLine : {T : Type 0} → Store N ℕ → Line (ProgramCommand ℕ) → List ℕ → Result T LineFault → List ℕ → Store N ℕ
+      → Type 0
+  ObeysLine old said text (Err OfLine.Memory) text' new = ⊤
+  ObeysLine old said text (Err OfLine.Unreadable) text' new = (said ≡ Unreadable) × (text' ≡ text)
+  ObeysLine old Skipped text (Ok _) text' new = (text' ≡ text) × (new ≡ old)
+  ObeysLine old Unreadable text (Ok _) text' new = ⊥
+  ObeysLine old (Says c) text (Ok _) text' new = (reply : Reply) × Step old (command_of c) reply new × (text' ≡ text ++ reply_text reply)
+
+  -- a line of this number says this, and what is behind it goes on so from the store that it leaves, with the text that is
+  -- left. `faulty` is the number of the first unreadable line, if there is one
+  abbrev pub LineAnswered : Store N ℕ → ℕ → Line (ProgramCommand ℕ) → (Store N ℕ → List ℕ → Type 0) → List ℕ → Option ℕ
+      → Type 0
+  LineAnswered st number Skipped goes_on text faulty = goes_on st text
+  LineAnswered st number Unreadable goes_on text faulty = (text ≡ []) × (faulty ≡ Some number)
+  LineAnswered st number (Says c) goes_on text faulty =
+      (reply : Reply) × (mid : Store N ℕ) × (rest : List ℕ) × Step st (command_of c) reply mid
+      × (text ≡ reply_text reply ++ rest) × goes_on mid rest
+
+  -- the lines, before which so many stand, are answered by this text: a line for each command that was obeyed, in turn, up
+  -- to the first unreadable line or the end
+  abbrev pub Answered : Store N ℕ → ℕ → List (List ℕ) → List ℕ → Option ℕ → Type 0
+  Answered st before [] text faulty = (text ≡ []) × (faulty ≡ None)
+  Answered st before (line ∷ lines) text faulty =
+      LineAnswered st (before + 1) (command_line_of line) (λ mid rest. Answered mid (before + 1) lines rest faulty) text faulty
+
+-- a fact of a script that neither lacked memory nor met a fault of a device, by the number of its unreadable line
+abbrev pub IfRead : {T : Type 0} → Result T ScriptFault → (Option ℕ → Type 0) → Type 0
+IfRead (Ok _) P = P None
+IfRead (Err (OfScript.Unreadable number)) P = P (Some number)
+IfRead (Err OfScript.Device) P = ⊤
+IfRead (Err OfScript.Memory) P = ⊤

@@ -1,0 +1,157 @@
+//! Command lines.
+ghost use Rattle.std.specs.Prelude.{◌≡◌, ◌∷◌, [], option_map};
+ghost use Rattle.script_packages.specs.Words.{words};
+ghost use Rattle.script_packages.specs.Ids.{truth_of};
+ghost use Rattle.scripts.specs.Commands.{command_of, variable_command, load_command, requires_command, assign_command, undo_command, decide_command, only_word, command_line_of};
+
+use resolvo_ids::SolvableId;
+use resolvo_store::Command;
+use script_packages::{Line, Statement, id, is_word, next_word, open_line, requirement};
+
+/// What a line behind `begin` says.
+pub fn command_line(line: &[u8]) -> Line<Command<SolvableId>>
+    ensures { result ≡ command_line_of line.now }
+{
+    match open_line(line) {
+        Line::Skipped => Line::Skipped,
+        Line::Unreadable => Line::Unreadable,
+        Line::Says(said) => match command(said) {
+            Some(command) => Line::Says(command),
+            None => Line::Unreadable,
+        },
+    }
+}
+
+/// The command that a statement gives.
+fn command(said: Statement<'_>) -> Option<Command<SolvableId>>
+    ensures { result ≡ command_of said.entry.keyword.now (words said.entry.rest.now) }
+{
+    if is_word(said.keyword, b"assign") {
+        assign(said.rest)
+    } else if is_word(said.keyword, b"requires") {
+        requires_clause(said.rest)
+    } else if is_word(said.keyword, b"load") {
+        load(said.rest)
+    } else if is_word(said.keyword, b"variable") {
+        variable(said.rest)
+    } else if is_word(said.keyword, b"undo-until") {
+        undo_until(said.rest)
+    } else if is_word(said.keyword, b"decide") {
+        decide(said.rest)
+    } else {
+        None
+    }
+}
+
+/// The one word of a text.
+fn only_word(text: &[u8]) -> Option<&[u8]>
+    ensures { option_map (λ w. w.now) result ≡ only_word (words text.now) }
+{
+    match next_word(text) {
+        Some((word, rest)) if next_word(rest).is_none() => Some(word),
+        _ => None,
+    }
+}
+
+/// `variable SOLVABLE`
+fn variable(text: &[u8]) -> Option<Command<SolvableId>>
+    ensures { result ≡ variable_command (words text.now) }
+{
+    match id(only_word(text)?) {
+        Some(solvable) => Some(Command::Variable(solvable)),
+        None => None,
+    }
+}
+
+/// `load R`
+fn load(text: &[u8]) -> Option<Command<SolvableId>>
+    ensures { result ≡ load_command (words text.now) }
+{
+    match requirement(only_word(text)?) {
+        Some(loaded) => Some(Command::Load(loaded)),
+        None => None,
+    }
+}
+
+/// `requires PARENT R` or `requires PARENT R DISJUNCTION`
+fn requires_clause(text: &[u8]) -> Option<Command<SolvableId>>
+    ensures { result ≡ requires_command (words text.now) }
+{
+    let Some((parent, text)) = next_word(text) else {
+        return None;
+    };
+    let Some((required, text)) = next_word(text) else {
+        return None;
+    };
+    let (Some(parent), Some(required)) = (id(parent), requirement(required)) else {
+        return None;
+    };
+    match next_word(text) {
+        None => Some(Command::Requires(parent, required, None)),
+        Some((disjunction, rest)) if next_word(rest).is_none() => match id(disjunction) {
+            Some(disjunction) => Some(Command::Requires(parent, required, Some(disjunction))),
+            None => None,
+        },
+        Some(_) => None,
+    }
+}
+
+/// `assign V BOOL CLAUSE LEVEL`
+fn assign(text: &[u8]) -> Option<Command<SolvableId>>
+    ensures { result ≡ assign_command (words text.now) }
+{
+    let Some((variable, text)) = next_word(text) else {
+        return None;
+    };
+    let Some((value, text)) = next_word(text) else {
+        return None;
+    };
+    let Some((clause, text)) = next_word(text) else {
+        return None;
+    };
+    let Some((level, text)) = next_word(text) else {
+        return None;
+    };
+    if next_word(text).is_some() {
+        return None;
+    }
+    match (id(variable), truth(value), id(clause), id(level)) {
+        (Some(variable), Some(value), Some(clause), Some(level)) => {
+            Some(Command::Assign(variable, value, clause, level))
+        }
+        _ => None,
+    }
+}
+
+/// `undo-until LEVEL`
+fn undo_until(text: &[u8]) -> Option<Command<SolvableId>>
+    ensures { result ≡ undo_command (words text.now) }
+{
+    match id(only_word(text)?) {
+        Some(level) => Some(Command::UndoUntil(level)),
+        None => None,
+    }
+}
+
+/// `decide`
+fn decide(text: &[u8]) -> Option<Command<SolvableId>>
+    ensures { result ≡ decide_command (words text.now) }
+{
+    match next_word(text) {
+        Some(_) => None,
+        None => Some(Command::Decide),
+    }
+}
+
+/// `true` or `false`
+fn truth(word: &[u8]) -> Option<bool>
+    ensures { result ≡ truth_of word.now }
+{
+    if is_word(word, b"true") {
+        Some(true)
+    } else if is_word(word, b"false") {
+        Some(false)
+    } else {
+        None
+    }
+}

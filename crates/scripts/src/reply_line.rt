@@ -1,0 +1,149 @@
+//! Reply lines.
+ghost use Rattle.std.specs.Prelude.{◌≡◌, ◌++◌, OnOk, codes, decimal, map};
+ghost use Rattle.resolvo_store.specs.Command.{reply_of};
+ghost use Rattle.scripts.specs.Replies.{field, reply_words, reply_text, list_text, others_text, lists_text, conflict_text, decision_text, undone_text, truth_text, unreadable_text};
+
+use itoa::Buffer;
+use resolvo_clauses::Decision;
+use resolvo_ids::{ClauseId, DenseIndex, VariableId};
+use resolvo_queue::QueueDecision;
+use resolvo_store::Reply;
+use std::alloc::{AllocError, Allocator};
+
+/// Puts the line of a reply behind the text.
+pub fn push_reply<A: Allocator>(text: &mut Vec<u8>, reply: &Reply<A>) -> Result<(), AllocError>
+    ensures { OnOk result (text.new.items ≡ text.old.items ++ reply_text (reply_of reply.now)) }
+{
+    push_words(text, reply)?;
+    text.extend_from_slice(b"\n")
+}
+
+fn push_words<A: Allocator>(text: &mut Vec<u8>, reply: &Reply<A>) -> Result<(), AllocError>
+    ensures { OnOk result (text.new.items ≡ text.old.items ++ reply_words (reply_of reply.now)) }
+{
+    match reply {
+        Reply::Variable(variable) => push_field(text, b"variable ", variable.to_index()),
+        Reply::Loaded(lists) => push_lists(text, lists),
+        Reply::Clause(clause, conflict) => push_clause(text, *clause, *conflict),
+        Reply::Assigned => text.extend_from_slice(b"assigned"),
+        Reply::Already => text.extend_from_slice(b"already"),
+        Reply::Clash => text.extend_from_slice(b"clash"),
+        Reply::Undone(last) => push_undone(text, *last),
+        Reply::Decided(decision) => push_decision(text, decision),
+        Reply::NoDecision => text.extend_from_slice(b"no decision"),
+        Reply::Falsified(clause) => push_field(text, b"falsified ", clause.to_index()),
+        Reply::Refused(e) => push_field(text, b"refused ", e.code() as usize),
+    }
+}
+
+/// Puts the line that names an unreadable line behind the text.
+pub fn push_unreadable(text: &mut Vec<u8>, number: u64) -> Result<(), AllocError>
+    ensures { OnOk result (text.new.items ≡ text.old.items ++ unreadable_text number) }
+{
+    text.extend_from_slice(b"line ")?;
+    push_number(text, number)?;
+    text.extend_from_slice(b" unreadable\n")
+}
+
+fn push_number(text: &mut Vec<u8>, number: u64) -> Result<(), AllocError>
+    ensures { OnOk result (text.new.items ≡ text.old.items ++ decimal number) }
+{
+    let mut buffer = Buffer::new();
+    text.extend_from_slice(buffer.format(number).as_bytes())
+}
+
+/// A text, and a number directly behind it.
+fn push_field(text: &mut Vec<u8>, name: &[u8], number: usize) -> Result<(), AllocError>
+    ensures { OnOk result (text.new.items ≡ text.old.items ++ (name.now ++ decimal number)) }
+{
+    text.extend_from_slice(name)?;
+    push_number(text, number as u64)
+}
+
+fn push_clause(text: &mut Vec<u8>, clause: ClauseId, conflict: bool) -> Result<(), AllocError>
+    ensures { OnOk result (text.new.items ≡ text.old.items ++ (field (codes "clause ") clause ++ conflict_text conflict)) }
+{
+    push_field(text, b"clause ", clause.to_index())?;
+    if conflict {
+        text.extend_from_slice(b" conflict")?;
+    }
+    Ok(())
+}
+
+fn push_truth(text: &mut Vec<u8>, value: bool) -> Result<(), AllocError>
+    ensures { OnOk result (text.new.items ≡ text.old.items ++ truth_text value) }
+{
+    if value {
+        text.extend_from_slice(b" true")
+    } else {
+        text.extend_from_slice(b" false")
+    }
+}
+
+fn push_undone(text: &mut Vec<u8>, last: Option<(Decision, u32)>) -> Result<(), AllocError>
+    ensures { OnOk result (text.new.items ≡ text.old.items ++ undone_text last) }
+{
+    text.extend_from_slice(b"undone")?;
+    if let Some((decision, level)) = last {
+        push_field(text, b" ", decision.variable.to_index())?;
+        push_truth(text, decision.value)?;
+        push_field(text, b" ", decision.derived_from.to_index())?;
+        push_field(text, b" ", level as usize)?;
+    }
+    Ok(())
+}
+
+fn push_decision(text: &mut Vec<u8>, decision: &QueueDecision) -> Result<(), AllocError>
+    ensures { OnOk result (text.new.items ≡ text.old.items ++ decision_text decision.now) }
+{
+    push_field(text, b"decided ", decision.candidate.to_index())?;
+    push_field(text, b" by ", decision.required_by.to_index())?;
+    push_field(text, b" clause ", decision.clause_id.to_index())?;
+    push_field(text, b" score ", decision.package_activity as usize)?;
+    push_field(text, b" count ", decision.candidate_count)
+}
+
+/// `loaded`, and a word for each list.
+fn push_lists<A: Allocator>(
+    text: &mut Vec<u8>,
+    lists: &[Vec<VariableId, A>],
+) -> Result<(), AllocError>
+    ensures { OnOk result (text.new.items ≡ text.old.items ++ (codes "loaded" ++ lists_text (map (λ l. l.items) lists.now))) }
+{
+    text.extend_from_slice(b"loaded")?;
+    for list in lists {
+        push_word(text, list)?;
+    }
+    Ok(())
+}
+
+/// A blank, and the word of a list.
+fn push_word(text: &mut Vec<u8>, list: &[VariableId]) -> Result<(), AllocError>
+    ensures { OnOk result (text.new.items ≡ text.old.items ++ (codes " " ++ list_text list.now)) }
+{
+    text.extend_from_slice(b" ")?;
+    push_list(text, list)
+}
+
+/// The variables of a list, joined by commas, or `-` for none.
+fn push_list(text: &mut Vec<u8>, list: &[VariableId]) -> Result<(), AllocError>
+    ensures { OnOk result (text.new.items ≡ text.old.items ++ list_text list.now) }
+{
+    match list {
+        [] => text.extend_from_slice(b"-"),
+        [first, others @ ..] => {
+            push_number(text, first.to_index() as u64)?;
+            push_others(text, others)
+        }
+    }
+}
+
+/// Each variable behind a comma.
+fn push_others(text: &mut Vec<u8>, others: &[VariableId]) -> Result<(), AllocError>
+    ensures { OnOk result (text.new.items ≡ text.old.items ++ others_text others.now) }
+{
+    for variable in others {
+        push_field(text, b",", variable.to_index())?;
+    }
+    Ok(())
+}

@@ -1,0 +1,143 @@
+//! Scripts: a catalogue, and then commands, each of which is answered by a line.
+ghost use Rattle.std.specs.Prelude.{◌≡◌, ℕ, List, [], ◌++◌, ◌+◌, ◌^◌, ◌<◌, length, IfSome};
+ghost use Rattle.resolvo_store.specs.Store.{new_store};
+ghost use Rattle.script_packages.specs.declared.fault.ScriptFault.TheVariants.{Device, Memory};
+ghost use Rattle.script_packages.specs.Lines.{lines as lines_of};
+ghost use Rattle.script_packages.specs.Output.{Writes};
+ghost use Rattle.scripts.specs.Commands.{command_line_of};
+ghost use Rattle.scripts.specs.ScriptStore.{script_store, provider_of};
+ghost use Rattle.scripts.specs.Scripts.{ScriptAnswered, faulty_text};
+ghost use Rattle.scripts.specs.Transcript.{ObeysLine, Answered, IfRead};
+
+use crate::command_line::command_line;
+use crate::reply_line::{push_reply, push_unreadable};
+use resolvo_store::ClauseStore;
+use script_packages::{
+    Commands, Line, LineFault, Packages, ScriptFault, next_line, read_catalogue, read_whole,
+    write_much, write_rest,
+};
+use std::alloc::Global;
+use std::io::{Read, Write};
+
+/// Reads a whole script, obeys its commands in turn, and writes a line for each reply. At the first unreadable line the
+/// line that names it is written, and nothing more is read. All that was to be written is written and flushed at every
+/// end but that of a writer that fails.
+pub fn script<R: Read, W: Write>(
+    alloc: Global,
+    reader: &mut R,
+    writer: &mut W,
+) -> Result<(), ScriptFault>
+    ensures { IfSome (R.remaining reader.old) (λ input. IfRead result (λ faulty. (text : List ℕ) × ScriptAnswered (lines_of input) text faulty
+        × Writes (W.contents writer.old) [] (W.contents writer.new) [] (text ++ faulty_text faulty))) }
+{
+    let input = read_whole(alloc, reader)?;
+    let mut waiting = Vec::new(alloc);
+    let ended = obey_text(alloc, &input, &mut waiting, writer);
+    let named = name_unreadable(&mut waiting, ended);
+    write_rest(&mut waiting, writer)?;
+    named
+}
+
+/// How a script ended, once its unreadable line is named.
+fn name_unreadable(waiting: &mut Vec<u8>, ended: Result<(), ScriptFault>) -> Result<(), ScriptFault>
+    ensures read { IfRead result (λ faulty. IfRead ended (λ was. (faulty ≡ was) × (waiting.new.items ≡ waiting.old.items ++ faulty_text was))) }
+    ensures device { ended ≡ Err Device → result ≡ Err Device }
+    ensures memory { ended ≡ Err Memory → result ≡ Err Memory }
+{
+    if let Err(ScriptFault::Unreadable(number)) = ended {
+        match push_unreadable(waiting, number) {
+            Ok(()) => {}
+            Err(_) => return Err(ScriptFault::Memory),
+        }
+    }
+    ended
+}
+
+/// Obeys a script's text.
+fn obey_text<W: Write>(
+    alloc: Global,
+    text: &[u8],
+    waiting: &mut Vec<u8>,
+    writer: &mut W,
+) -> Result<(), ScriptFault>
+    ensures { IfRead result (λ faulty. (answer : List ℕ) × ScriptAnswered (lines_of text.now) answer faulty
+        × Writes (W.contents writer.old) waiting.old.items (W.contents writer.new) waiting.new.items answer) }
+{
+    match read_catalogue(alloc, text) {
+        Ok(None) => Ok(()),
+        Ok(Some(commands)) => obey_commands(alloc, commands, waiting, writer),
+        Err(fault) => Err(fault),
+    }
+}
+
+/// Obeys the commands in turn.
+fn obey_commands<W: Write>(
+    alloc: Global,
+    commands: Commands<'_>,
+    waiting: &mut Vec<u8>,
+    writer: &mut W,
+) -> Result<(), ScriptFault>
+    ensures { IfRead result (λ faulty. (text : List ℕ)
+        × Answered (new_store (provider_of commands.entry.packages)) commands.entry.before (lines_of commands.entry.lines.now) text faulty
+        × Writes (W.contents writer.old) waiting.old.items (W.contents writer.new) waiting.new.items text) }
+{
+    let Commands {
+        packages,
+        lines,
+        before,
+    } = commands;
+    let mut store = match ClauseStore::new(alloc, packages) {
+        Ok(store) => store,
+        Err(_) => return Err(ScriptFault::Memory),
+    };
+    let ended = obey_lines(&mut store, lines, before, waiting, writer);
+    drop(store);
+    ended
+}
+
+/// Obeys the lines in turn, before which so many stand.
+fn obey_lines<W: Write>(
+    store: &mut ClauseStore<Packages>,
+    lines: &[u8],
+    before: u64,
+    waiting: &mut Vec<u8>,
+    writer: &mut W,
+) -> Result<(), ScriptFault>
+    requires { before + length lines.now < 2 ^ 64 }
+    ensures { IfRead result (λ faulty. (text : List ℕ) × Answered (script_store store.old) before (lines_of lines.now) text faulty
+        × Writes (W.contents writer.old) waiting.old.items (W.contents writer.new) waiting.new.items text) }
+{
+    let mut number = before;
+    let mut rest = lines;
+    while let Some((line, others)) = next_line(rest) {
+        number += 1;
+        rest = others;
+        match obey_line(store, line, waiting) {
+            Ok(()) => {}
+            Err(fault) => return Err(fault.at(number)),
+        }
+        write_much(waiting, writer)?;
+    }
+    Ok(())
+}
+
+/// Obeys a line, and puts the line of the reply behind what waits.
+fn obey_line(
+    store: &mut ClauseStore<Packages>,
+    line: &[u8],
+    waiting: &mut Vec<u8>,
+) -> Result<(), LineFault>
+    ensures { ObeysLine (script_store store.old) (command_line_of line.now) waiting.old.items result waiting.new.items (script_store store.new) }
+{
+    match command_line(line) {
+        Line::Skipped => Ok(()),
+        Line::Unreadable => Err(LineFault::Unreadable),
+        Line::Says(command) => {
+            let reply = store.step(&command);
+            match push_reply(waiting, &reply) {
+                Ok(()) => Ok(()),
+                Err(_) => Err(LineFault::Memory),
+            }
+        }
+    }
+}
