@@ -7,7 +7,7 @@
 #[cfg(test)]
 mod tests;
 
-use script_packages::status;
+use script_text::status;
 use scripts::script;
 use std::io;
 use std::process::ExitCode;

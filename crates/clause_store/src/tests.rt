@@ -1,7 +1,8 @@
 //! Scripts and their answers, and devices that fail.
 use resolvo_ids::{StoreError, VersionSetId, VersionSetUnionId};
 use resolvo_provider::{Interner, Requirement};
-use script_packages::{Packages, ScriptFault, read_catalogue, status};
+use script_packages::{Packages, read_catalogue};
+use script_text::{ScriptFault, status};
 use scripts::script;
 use std::alloc::Global;
 use std::io;

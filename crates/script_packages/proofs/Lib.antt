@@ -1,4 +1,3 @@
 pub mod Numbering
-pub mod Printing
 pub mod Sorting
 pub mod Spans

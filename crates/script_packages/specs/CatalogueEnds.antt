@@ -1,10 +1,10 @@
 -- Where the catalogue of a script ends, and what it lists by then.
 use Rattle.std.specs.Prelude.{◌≡◌, ℕ, ◌+◌, List, [], ◌∷◌, Option, None, Some, ⊤}
-use Rattle.script_packages.specs.declared.fault.ScriptFault.{ScriptFault}
-use Rattle.script_packages.specs.declared.fault.ScriptFault.TheVariants as OfScript
+use Rattle.script_text.specs.declared.fault.ScriptFault.{ScriptFault}
+use Rattle.script_text.specs.declared.fault.ScriptFault.TheVariants as OfScript
 use Rattle.script_packages.specs.declared.packages.Packages.{Packages}
-use Rattle.script_packages.specs.declared.statement.Line.{Line}
-use Rattle.script_packages.specs.declared.statement.Line.TheVariants.{Skipped, Unreadable, Says}
+use Rattle.script_text.specs.declared.statement.Line.{Line}
+use Rattle.script_text.specs.declared.statement.Line.TheVariants.{Skipped, Unreadable, Says}
 use Rattle.script_packages.specs.CatalogueLines.{Said, Lists, Bounds, Unites, Conditions, Strings, Begins, catalogue_line_of}
 use Rattle.script_packages.specs.Catalogues.{listed, AreListed}
 use Rattle.script_packages.specs.Listing.{Listing, nothing_listed}

@@ -6,12 +6,12 @@ use Rattle.resolvo_provider.specs.declared.condition.Condition.{Condition}
 use Rattle.resolvo_provider.specs.declared.condition.Condition.TheVariants.{Binary, Requirement}
 use Rattle.resolvo_provider.specs.declared.condition.LogicalOperator.{LogicalOperator}
 use Rattle.resolvo_provider.specs.declared.condition.LogicalOperator.TheVariants.{And, Or}
-use Rattle.script_packages.specs.Lines.{is_printed}
-use Rattle.script_packages.specs.Words.{words}
+use Rattle.script_text.specs.Lines.{is_printed}
+use Rattle.script_text.specs.Words.{words}
 use Rattle.script_packages.specs.Ids.{number_32, clause_of}
-use Rattle.script_packages.specs.Statements.{is_comment}
-use Rattle.script_packages.specs.declared.statement.Line.{Line}
-use Rattle.script_packages.specs.declared.statement.Line.TheVariants.{Skipped, Unreadable, Says}
+use Rattle.script_text.specs.Statements.{is_comment}
+use Rattle.script_text.specs.declared.statement.Line.{Line}
+use Rattle.script_text.specs.declared.statement.Line.TheVariants.{Skipped, Unreadable, Says}
 use Rattle.script_packages.specs.declared.catalogue_line.CatalogueLine.{CatalogueLine}
 use Rattle.script_packages.specs.declared.catalogue_line.CatalogueLine.TheVariants.{Package, Set, Union, Condition as OfCondition, String as OfString, Begin}
 

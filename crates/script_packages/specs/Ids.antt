@@ -3,7 +3,7 @@ use Rattle.std.specs.Prelude.{ℕ, ◌-◌, ◌^◌, ◌==◌, Bool, true, false
 use Rattle.std.specs.Str.{bytes_eq}
 use Rattle.resolvo_provider.specs.declared.requirement.Requirement.{Requirement}
 use Rattle.resolvo_provider.specs.declared.requirement.Requirement.TheVariants.{Single, Union}
-use Rattle.script_packages.specs.Numbers.{number_of, below}
+use Rattle.script_text.specs.Numbers.{number_of, below}
 
 -- a number of 32 bits: a version, a bound, a level, and the id of a solvable, a version set or a union
 abbrev pub number_32 : List ℕ → Option ℕ

@@ -2,15 +2,9 @@ pub mod CatalogueEnds
 pub mod CatalogueLines
 pub mod Catalogues
 pub mod Ids
-pub mod Lines
 pub mod Listing
-pub mod Numbers
 pub mod Order
 pub mod OrderLaws
-pub mod Output
 pub mod PackageAnswers
 pub mod PackageLaws
 pub mod Packages
-pub mod Statements
-pub mod Status
-pub mod Words

@@ -11,7 +11,7 @@ use Rattle.resolvo_pool.specs.Pool.{Lists, nothing, with_name, with_solvable, wi
 use Rattle.script_packages.specs.declared.packages.Packages.{Packages}
 use Rattle.script_packages.specs.declared.packages.Span.{Span}
 use Rattle.script_packages.specs.declared.packages.VersionRange.{VersionRange}
-use Rattle.script_packages.specs.Numbers.{below}
+use Rattle.script_text.specs.Numbers.{below}
 use Rattle.script_packages.specs.Ids.{number_32}
 use Rattle.script_packages.specs.Packages.{same_id}
 

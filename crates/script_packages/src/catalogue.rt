@@ -1,19 +1,18 @@
 //! What the lines of a catalogue list.
 ghost use Rattle.std.specs.Prelude.{◌≡◌, ◌-◌, ◌<◌, [], All, length, Some, None, IfOk, OnOk, IfErr};
-ghost use Rattle.script_packages.specs.declared.fault.LineFault.TheVariants.{Memory, Unreadable};
-ghost use Rattle.script_packages.specs.Words.{words};
+ghost use Rattle.script_text.specs.declared.fault.LineFault.TheVariants.{Memory, Unreadable};
+ghost use Rattle.script_text.specs.Words.{words};
 ghost use Rattle.script_packages.specs.CatalogueLines.{plain_said};
 ghost use Rattle.script_packages.specs.Listing.{listed_versions, listed_sets, with_some_union, is_made_of_listed, with_listed_condition};
-ghost use Rattle.script_packages.specs.Numbers.{below};
+ghost use Rattle.script_text.specs.Numbers.{below};
 ghost use Rattle.script_packages.specs.Ids.{number_32};
 
 use crate::catalogue_line::CatalogueLine;
-use crate::fault::LineFault;
 use crate::ids::id;
 use crate::packages::{Packages, Span, VersionRange};
-use crate::word::next_word;
 use resolvo_ids::{NameId, SolvableId, VersionSetId};
 use resolvo_provider::Condition;
+use script_text::{LineFault, next_word};
 
 impl Packages {
     ghost use Rattle.script_packages.specs.Listing.{listing_of, with_versions};

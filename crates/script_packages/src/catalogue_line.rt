@@ -1,16 +1,15 @@
 //! Catalogue lines.
 ghost use Rattle.std.specs.Prelude.{◌≡◌};
-ghost use Rattle.script_packages.specs.Lines.{IsPrinted};
-ghost use Rattle.script_packages.specs.Words.{words};
+ghost use Rattle.script_text.specs.Lines.{IsPrinted};
+ghost use Rattle.script_text.specs.Words.{words};
 ghost use Rattle.script_packages.specs.CatalogueLines.{plain_line, plain, catalogue_line_of};
 ghost use Rattle.script_packages.specs.CatalogueLines.{said_of, package_of, set_of, union_of, condition_of, string_of};
 ghost use Rattle.script_packages.specs.CatalogueLines.{set_condition, operator_of, joined_condition, begin_of};
 
 use crate::ids::id;
-use crate::statement::{Line, Statement, open_line};
-use crate::word::{is_word, next_word, text_of};
 use resolvo_ids::VersionSetId;
 use resolvo_provider::{Condition, LogicalOperator};
+use script_text::{Line, Statement, is_word, next_word, open_line, text_of};
 
 /// What a line up to `begin` says.
 #[derive(Clone, Copy)]

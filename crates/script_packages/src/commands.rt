@@ -2,13 +2,11 @@
 ghost use Rattle.std.specs.Prelude.{◌≡◌, ◌+◌, ◌^◌, ◌<◌, ⊤, length, IfOk, IfErr, MatchOption};
 ghost use Rattle.script_packages.specs.Listing.{listing_of, nothing_listed};
 ghost use Rattle.script_packages.specs.CatalogueEnds.{NeverBegins, CommandsBegin, CatalogueFault};
-ghost use Rattle.script_packages.specs.Lines.{lines as lines_of};
+ghost use Rattle.script_text.specs.Lines.{lines as lines_of};
 
 use crate::catalogue_line::{CatalogueLine, catalogue_line};
-use crate::fault::ScriptFault;
-use crate::line::next_line;
 use crate::packages::Packages;
-use crate::statement::Line;
+use script_text::{Line, ScriptFault, next_line};
 use std::alloc::Global;
 
 /// The commands of a script: the lines behind its catalogue, and the packages that it lists.

@@ -1,11 +1,11 @@
 //! Numbers that stand for ids.
 ghost use Rattle.std.specs.Prelude.{◌≡◌, option_map, Some, None};
-ghost use Rattle.script_packages.specs.Numbers.{number_of, below};
+ghost use Rattle.script_text.specs.Numbers.{number_of, below};
 ghost use Rattle.script_packages.specs.Ids.{requirement_of};
 
-use crate::number::number;
 use resolvo_ids::{DenseIndex, VersionSetId, VersionSetUnionId};
 use resolvo_provider::Requirement;
+use script_text::number;
 
 /// The id that a word stands for: its number is an index in range.
 pub fn id<I: DenseIndex>(word: &[u8]) -> Option<I>

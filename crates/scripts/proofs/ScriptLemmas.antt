@@ -1,13 +1,13 @@
 -- From the parts of a script to the whole.
 use Rattle.std.proofs.Common.{◌≡◌, ℕ, List, [], ◌++◌, Option, None, Some, Result, Ok, Err, IfSome, refl, sym, subst, inl, inr, ◌∙◌, append-nil}
 use Rattle.resolvo_store.specs.Store.{new_store}
-use Rattle.script_packages.specs.declared.fault.ScriptFault.{ScriptFault}
-use Rattle.script_packages.specs.declared.fault.ScriptFault.TheVariants.{Unreadable, Device, Memory}
+use Rattle.script_text.specs.declared.fault.ScriptFault.{ScriptFault}
+use Rattle.script_text.specs.declared.fault.ScriptFault.TheVariants.{Unreadable, Device, Memory}
 use Rattle.script_packages.specs.declared.packages.Packages.{Packages}
 use Rattle.script_packages.specs.Listing.{nothing_listed}
 use Rattle.script_packages.specs.CatalogueEnds.{CommandsBegin, CatalogueFault}
-use Rattle.script_packages.specs.Lines.{lines as lines_of}
-use Rattle.script_packages.specs.Output.{Writes}
+use Rattle.script_text.specs.Lines.{lines as lines_of}
+use Rattle.script_text.specs.Output.{Writes}
 use Rattle.scripts.specs.ScriptStore.{provider_of}
 use Rattle.scripts.specs.Scripts.{ScriptAnswered, faulty_text}
 use Rattle.scripts.specs.Transcript.{Answered, IfRead}

@@ -2,12 +2,12 @@
 use Rattle.std.proofs.Common.{◌≡◌, ℕ, ◌+◌, List, [], ◌∷◌, ◌++◌, Option, None, Some, Ok, Err, refl, sym, ap, subst, ◌∙◌, append_assoc, append-nil}
 use Rattle.resolvo_store.specs.declared.command.Command.{Command as ProgramCommand}
 use Rattle.resolvo_store.specs.Store.{Store}
-use Rattle.script_packages.specs.declared.fault.LineFault.{LineFault}
-use Rattle.script_packages.specs.declared.fault.LineFault.TheVariants as OfLine
-use Rattle.script_packages.specs.declared.statement.Line.{Line}
-use Rattle.script_packages.specs.declared.statement.Line.TheVariants.{Skipped, Unreadable, Says}
-use Rattle.script_packages.specs.Output.{Writes}
-use Rattle.script_packages.specs.Status.{fault_at}
+use Rattle.script_text.specs.declared.fault.LineFault.{LineFault}
+use Rattle.script_text.specs.declared.fault.LineFault.TheVariants as OfLine
+use Rattle.script_text.specs.declared.statement.Line.{Line}
+use Rattle.script_text.specs.declared.statement.Line.TheVariants.{Skipped, Unreadable, Says}
+use Rattle.script_text.specs.Output.{Writes}
+use Rattle.script_text.specs.Status.{fault_at}
 use Rattle.scripts.specs.Commands.{command_line_of}
 use Rattle.scripts.specs.Replies.{reply_text}
 use Rattle.scripts.specs.Transcript.{ObeysLine, LineAnswered, Answered, IfRead}

@@ -4,12 +4,12 @@ use Rattle.std.specs.List.{list_all}
 use Rattle.std.specs.Str.{bytes_eq}
 use Rattle.resolvo_store.specs.declared.command.Command.{Command}
 use Rattle.resolvo_store.specs.declared.command.Command.TheVariants.{Variable, Load, Requires, Assign, UndoUntil, Decide}
-use Rattle.script_packages.specs.Lines.{is_printed}
-use Rattle.script_packages.specs.Words.{words}
+use Rattle.script_text.specs.Lines.{is_printed}
+use Rattle.script_text.specs.Words.{words}
 use Rattle.script_packages.specs.Ids.{number_32, variable_of, clause_of, requirement_of, truth_of}
-use Rattle.script_packages.specs.Statements.{is_comment}
-use Rattle.script_packages.specs.declared.statement.Line.{Line}
-use Rattle.script_packages.specs.declared.statement.Line.TheVariants.{Skipped, Unreadable, Says}
+use Rattle.script_text.specs.Statements.{is_comment}
+use Rattle.script_text.specs.declared.statement.Line.{Line}
+use Rattle.script_text.specs.declared.statement.Line.TheVariants.{Skipped, Unreadable, Says}
 
 -- the word that stands alone
 abbrev pub only_word : List (List ℕ) → Option (List ℕ)

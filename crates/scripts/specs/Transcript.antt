@@ -4,12 +4,12 @@ use Rattle.resolvo_store.specs.declared.command.Command.{Command as ProgramComma
 use Rattle.resolvo_store.specs.Command.{Reply, command_of}
 use Rattle.resolvo_store.specs.Store.{Store}
 use Rattle.resolvo_store.specs.Step.{Step}
-use Rattle.script_packages.specs.declared.fault.LineFault.{LineFault}
-use Rattle.script_packages.specs.declared.fault.LineFault.TheVariants as OfLine
-use Rattle.script_packages.specs.declared.fault.ScriptFault.{ScriptFault}
-use Rattle.script_packages.specs.declared.fault.ScriptFault.TheVariants as OfScript
-use Rattle.script_packages.specs.declared.statement.Line.{Line}
-use Rattle.script_packages.specs.declared.statement.Line.TheVariants.{Skipped, Unreadable, Says}
+use Rattle.script_text.specs.declared.fault.LineFault.{LineFault}
+use Rattle.script_text.specs.declared.fault.LineFault.TheVariants as OfLine
+use Rattle.script_text.specs.declared.fault.ScriptFault.{ScriptFault}
+use Rattle.script_text.specs.declared.fault.ScriptFault.TheVariants as OfScript
+use Rattle.script_text.specs.declared.statement.Line.{Line}
+use Rattle.script_text.specs.declared.statement.Line.TheVariants.{Skipped, Unreadable, Says}
 use Rattle.scripts.specs.Commands.{command_line_of}
 use Rattle.scripts.specs.Replies.{reply_text}
 

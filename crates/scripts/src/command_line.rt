@@ -1,12 +1,13 @@
 //! Command lines.
 ghost use Rattle.std.specs.Prelude.{◌≡◌, ◌∷◌, [], option_map};
-ghost use Rattle.script_packages.specs.Words.{words};
+ghost use Rattle.script_text.specs.Words.{words};
 ghost use Rattle.script_packages.specs.Ids.{truth_of};
 ghost use Rattle.scripts.specs.Commands.{command_of, variable_command, load_command, requires_command, assign_command, undo_command, decide_command, only_word, command_line_of};
 
 use resolvo_ids::SolvableId;
 use resolvo_store::Command;
-use script_packages::{Line, Statement, id, is_word, next_word, open_line, requirement};
+use script_packages::{id, requirement};
+use script_text::{Line, Statement, is_word, next_word, open_line};
 
 /// What a line behind `begin` says.
 pub fn command_line(line: &[u8]) -> Line<Command<SolvableId>>

@@ -1,9 +1,9 @@
 //! Scripts: a catalogue, and then commands, each of which is answered by a line.
 ghost use Rattle.std.specs.Prelude.{◌≡◌, ℕ, List, [], ◌++◌, ◌+◌, ◌^◌, ◌<◌, length, IfSome};
 ghost use Rattle.resolvo_store.specs.Store.{new_store};
-ghost use Rattle.script_packages.specs.declared.fault.ScriptFault.TheVariants.{Device, Memory};
-ghost use Rattle.script_packages.specs.Lines.{lines as lines_of};
-ghost use Rattle.script_packages.specs.Output.{Writes};
+ghost use Rattle.script_text.specs.declared.fault.ScriptFault.TheVariants.{Device, Memory};
+ghost use Rattle.script_text.specs.Lines.{lines as lines_of};
+ghost use Rattle.script_text.specs.Output.{Writes};
 ghost use Rattle.scripts.specs.Commands.{command_line_of};
 ghost use Rattle.scripts.specs.ScriptStore.{script_store, provider_of};
 ghost use Rattle.scripts.specs.Scripts.{ScriptAnswered, faulty_text};
@@ -12,10 +12,8 @@ ghost use Rattle.scripts.specs.Transcript.{ObeysLine, Answered, IfRead};
 use crate::command_line::command_line;
 use crate::reply_line::{push_reply, push_unreadable};
 use resolvo_store::ClauseStore;
-use script_packages::{
-    Commands, Line, LineFault, Packages, ScriptFault, next_line, read_catalogue, read_whole,
-    write_much, write_rest,
-};
+use script_packages::{Commands, Packages, read_catalogue};
+use script_text::{Line, LineFault, ScriptFault, next_line, read_whole, write_much, write_rest};
 use std::alloc::Global;
 use std::io::{Read, Write};
 

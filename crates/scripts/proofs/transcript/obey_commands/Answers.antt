@@ -1,7 +1,7 @@
 use Rattle.std.proofs.Common.{ℕ, List, ap, subst, ◌∙◌}
 use Rattle.resolvo_store.specs.Store.{Store, new_store}
-use Rattle.script_packages.specs.Lines.{lines as lines_of}
-use Rattle.script_packages.specs.Output.{Writes}
+use Rattle.script_text.specs.Lines.{lines as lines_of}
+use Rattle.script_text.specs.Output.{Writes}
 use Rattle.scripts.specs.ScriptStore.{provider_of}
 use Rattle.scripts.specs.Transcript.{Answered, IfRead}
 use Rattle.scripts.proofs.transcript.obey_commands.Goals as goal

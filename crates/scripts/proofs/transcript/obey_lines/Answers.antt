@@ -1,5 +1,5 @@
 use Rattle.std.proofs.Common.{arith}
-use Rattle.script_packages.specs.Lines.{lines as lines_of}
+use Rattle.script_text.specs.Lines.{lines as lines_of}
 use Rattle.scripts.specs.ScriptStore.{script_store}
 use Rattle.scripts.proofs.TranscriptLemmas.{so_far_more, ended_faulty}
 use Rattle.scripts.proofs.transcript.obey_lines.Goals as goal

@@ -1,5 +1,5 @@
 use Rattle.std.proofs.Common.{◌+◌, ◌≤◌, length}
-use Rattle.script_packages.specs.Lines.{lines as lines_of}
+use Rattle.script_text.specs.Lines.{lines as lines_of}
 use Rattle.scripts.specs.ScriptStore.{script_store}
 use Rattle.scripts.proofs.TranscriptLemmas.{SoFar}
 use Rattle.scripts.proofs.transcript.obey_lines.Given as goal

@@ -1,4 +1,4 @@
-use Rattle.script_packages.specs.Lines.{lines as lines_of}
+use Rattle.script_text.specs.Lines.{lines as lines_of}
 use Rattle.scripts.proofs.ScriptLemmas.{commands_answered, catalogue_faulty}
 use Rattle.scripts.proofs.transcript.obey_text.Goals as goal
 

@@ -1,6 +1,6 @@
 //! The input, read whole.
 ghost use Rattle.std.specs.Prelude.{◌≡◌, ◌⊎◌, IfOk, IfErr, IfSome};
-ghost use Rattle.script_packages.specs.declared.fault.ScriptFault.TheVariants.{Device, Memory};
+ghost use Rattle.script_text.specs.declared.fault.ScriptFault.TheVariants.{Device, Memory};
 
 use crate::fault::ScriptFault;
 use std::alloc::Global;

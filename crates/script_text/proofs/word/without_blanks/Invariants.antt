@@ -1,7 +1,7 @@
 use Rattle.std.proofs.Common.{◌≡◌, ◌≤◌, length}
-use Rattle.script_packages.specs.Lines.{IsPrinted}
-use Rattle.script_packages.specs.Words.{words}
-use Rattle.script_packages.proofs.word.without_blanks.Given as goal
+use Rattle.script_text.specs.Lines.{IsPrinted}
+use Rattle.script_text.specs.Words.{words}
+use Rattle.script_text.proofs.word.without_blanks.Given as goal
 
 abbrev pub invariant-loop-text : goal.invariant-loop-text
 invariant-loop-text l = record {

@@ -1,6 +1,6 @@
 //! Lines that say something.
 ghost use Rattle.std.specs.Prelude.{◌≡◌};
-ghost use Rattle.script_packages.specs.Statements.{MeansWords, IsRestPrinted};
+ghost use Rattle.script_text.specs.Statements.{MeansWords, IsRestPrinted};
 
 use crate::line::is_printed;
 use crate::word::next_word;

@@ -1,7 +1,7 @@
 //! Lines of a text.
 ghost use Rattle.std.specs.Prelude.{◌≡◌, ◌<◌, ◌≤◌, [], ◌∷◌, length, MatchOption};
 ghost use Rattle.std.specs.List.{list_all};
-ghost use Rattle.script_packages.specs.Lines.{lines, lines_from, without_return, is_printed};
+ghost use Rattle.script_text.specs.Lines.{lines, lines_from, without_return, is_printed};
 
 /// The first line of a text, and what stands behind it; none where no line is left.
 pub fn next_line(text: &[u8]) -> Option<(&[u8], &[u8])>

@@ -2,8 +2,8 @@
 ghost use Rattle.std.specs.Prelude.{◌≡◌, ◌<◌, ◌≤◌, [], ◌∷◌, ◌++◌, length, MatchOption, Some, ◌≢◌};
 ghost use Rattle.std.specs.Prelude.{slice_get, IfSome};
 ghost use Rattle.std.specs.Str.{bytes_eq};
-ghost use Rattle.script_packages.specs.Lines.{IsPrinted};
-ghost use Rattle.script_packages.specs.Words.{words, words_from, begun_word, ArePrinted};
+ghost use Rattle.script_text.specs.Lines.{IsPrinted};
+ghost use Rattle.script_text.specs.Words.{words, words_from, begun_word, ArePrinted};
 
 use std::str;
 
@@ -60,7 +60,7 @@ fn split_word(text: &[u8]) -> (&[u8], &[u8])
 
 /// A printed word as text.
 #[tactic(auto, using(crate::proofs::Printing::printed_utf8))]
-pub(crate) fn text_of(word: &[u8]) -> &str
+pub fn text_of(word: &[u8]) -> &str
     requires { IsPrinted word.now }
     ensures { result.now ≡ word.now }
 {

@@ -1,9 +1,9 @@
 -- The exit status of a script.
 use Rattle.std.specs.Prelude.{ℕ, Result, Ok, Err}
-use Rattle.script_packages.specs.declared.fault.LineFault.{LineFault}
-use Rattle.script_packages.specs.declared.fault.LineFault.TheVariants as In
-use Rattle.script_packages.specs.declared.fault.ScriptFault.{ScriptFault}
-use Rattle.script_packages.specs.declared.fault.ScriptFault.TheVariants.{Unreadable, Device, Memory}
+use Rattle.script_text.specs.declared.fault.LineFault.{LineFault}
+use Rattle.script_text.specs.declared.fault.LineFault.TheVariants as In
+use Rattle.script_text.specs.declared.fault.ScriptFault.{ScriptFault}
+use Rattle.script_text.specs.declared.fault.ScriptFault.TheVariants.{Unreadable, Device, Memory}
 
 abbrev pub status_of : {T : Type 0} → Result T ScriptFault → ℕ
 status_of (Ok _) = 0

@@ -1,7 +1,7 @@
 //! Output, which is written in large pieces.
 ghost use Rattle.std.specs.Prelude.{◌≡◌, [], OnOk, IfErr};
-ghost use Rattle.script_packages.specs.declared.fault.ScriptFault.TheVariants.{Device};
-ghost use Rattle.script_packages.specs.Output.{Writes};
+ghost use Rattle.script_text.specs.declared.fault.ScriptFault.TheVariants.{Device};
+ghost use Rattle.script_text.specs.Output.{Writes};
 
 use crate::fault::ScriptFault;
 use std::io::Write;

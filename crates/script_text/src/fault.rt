@@ -1,6 +1,6 @@
 //! How a script can end.
 ghost use Rattle.std.specs.Prelude.{◌≡◌};
-ghost use Rattle.script_packages.specs.Status.{status_of};
+ghost use Rattle.script_text.specs.Status.{status_of};
 
 use thiserror::Error;
 
@@ -28,7 +28,7 @@ pub enum LineFault {
 }
 
 impl LineFault {
-    ghost use Rattle.script_packages.specs.Status.{fault_at};
+    ghost use Rattle.script_text.specs.Status.{fault_at};
 
     /// The fault of the script whose line of this number is faulty.
     pub fn at(self, number: u64) -> ScriptFault

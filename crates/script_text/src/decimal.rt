@@ -1,12 +1,12 @@
 //! Numbers of a script.
 ghost use Rattle.std.specs.Prelude.{◌≡◌};
-ghost use Rattle.script_packages.specs.Numbers.{number_of, value_from, with_digit};
+ghost use Rattle.script_text.specs.Numbers.{number_of, value_from, with_digit};
 
 /// How many digits a number has at most.
 const MOST_DIGITS: usize = 20;
 
 /// The number that a word writes: one to twenty decimal digits, and a value below 2^64.
-pub(crate) fn number(word: &[u8]) -> Option<u64>
+pub fn number(word: &[u8]) -> Option<u64>
     ensures { result ≡ number_of word.now }
 {
     if word.is_empty() || word.len() > MOST_DIGITS {

@@ -6,8 +6,8 @@ use Rattle.std.specs.Str.{IsUtf8, IsAscii}
 use Rattle.std.proofs.lemmas.List.{take-append-drop}
 use Rattle.std.proofs.lemmas.List.Folds.{list_all-append}
 use Rattle.std.proofs.lemmas.Str.{IsUtf8-from_ascii}
-use Rattle.script_packages.specs.Lines.{is_printed, IsPrinted}
-use Rattle.script_packages.specs.Words.{ArePrinted}
+use Rattle.script_text.specs.Lines.{is_printed, IsPrinted}
+use Rattle.script_text.specs.Words.{ArePrinted}
 
 both : (a b : Bool) → (a && b) ≡ true → (a ≡ true) × (b ≡ true)
 both true true h = (h, h)

@@ -1,6 +1,6 @@
 -- The words of a line.
 use Rattle.std.specs.Prelude.{ℕ, ◌==◌, List, [], ◌∷◌, ◌++◌, if◌then◌else◌}
-use Rattle.script_packages.specs.Lines.{IsPrinted}
+use Rattle.script_text.specs.Lines.{IsPrinted}
 
 -- the word that a blank or the end leaves: none where there is no byte of it
 abbrev pub begun_word : List ℕ → List (List ℕ)

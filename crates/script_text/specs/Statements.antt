@@ -1,11 +1,11 @@
 -- Lines that are skipped, and those that say something.
 use Rattle.std.specs.Prelude.{◌≡◌, ℕ, ◌==◌, Bool, false, true, List, [], ◌∷◌, ⊤}
 use Rattle.std.specs.List.{list_all}
-use Rattle.script_packages.specs.Lines.{is_printed, IsPrinted}
-use Rattle.script_packages.specs.Words.{words}
-use Rattle.script_packages.specs.declared.statement.Line.{Line}
-use Rattle.script_packages.specs.declared.statement.Line.TheVariants.{Skipped, Unreadable, Says}
-use Rattle.script_packages.specs.declared.statement.Statement.{Statement}
+use Rattle.script_text.specs.Lines.{is_printed, IsPrinted}
+use Rattle.script_text.specs.Words.{words}
+use Rattle.script_text.specs.declared.statement.Line.{Line}
+use Rattle.script_text.specs.declared.statement.Line.TheVariants.{Skipped, Unreadable, Says}
+use Rattle.script_text.specs.declared.statement.Statement.{Statement}
 
 -- a word that begins a comment
 abbrev pub is_comment : List ℕ → Bool

@@ -1,0 +1,6 @@
+pub mod Lines
+pub mod Numbers
+pub mod Output
+pub mod Statements
+pub mod Status
+pub mod Words

@@ -1,0 +1,21 @@
+//! What a script's text is made of: lines, statements, words and numbers; how it is read, and its answer written.
+//!
+//! A script is read whole by [`read_whole`], and cut into lines, statements and words. An answer waits in a vector, and is
+//! written in large pieces by [`write_much`] and [`write_rest`]. Nothing is known here of packages and commands.
+#![tactic(auto)]
+
+mod decimal;
+mod fault;
+mod input;
+mod line;
+mod output;
+mod statement;
+mod word;
+
+pub use decimal::number;
+pub use fault::{LineFault, ScriptFault, status};
+pub use input::read_whole;
+pub use line::next_line;
+pub use output::{write_much, write_rest};
+pub use statement::{Line, Statement, open_line};
+pub use word::{is_word, next_word, text_of};
