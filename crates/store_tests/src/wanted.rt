@@ -44,9 +44,10 @@ pub(crate) fn first_unwanted<A: Allocator>(
     replies: &[Reply<A>],
     wanted: &[Wanted],
 ) -> Option<usize> {
-    for (i, (reply, wanted)) in replies.iter().zip(wanted).enumerate() {
-        if !is_wanted(reply, wanted) {
-            return Some(i);
+    for (i, reply) in replies.iter().enumerate() {
+        match wanted.get(i) {
+            Some(wanted) if is_wanted(reply, wanted) => {}
+            _ => return Some(i),
         }
     }
     None
