@@ -168,9 +168,10 @@ fn candidate_count<D: DependencyProvider>(
     provider: &D,
     name: D::NameId,
 ) -> Result<usize, StoreError> {
-    match provider.get_candidates(heap, name)? {
-        Some(list) => Ok(list.len()),
-        None => Ok(0),
+    match provider.get_candidates(heap, name) {
+        Ok(Some(list)) => Ok(list.len()),
+        Ok(None) => Ok(0),
+        Err(error) => Err(error),
     }
 }
 
