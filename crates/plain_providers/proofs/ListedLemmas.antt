@@ -1,11 +1,11 @@
--- One package more of those that are gone over.
+-- One item more of those that are gone over.
 use Rattle.std.proofs.Common.{◌≡◌, ℕ, ◌+◌, ◌<◌, ◌==◌, true, false, cond, List, [], ◌∷◌, ◌++◌, length, drop, get_or, sym, ap, ◌∙◌}
 use Rattle.std.proofs.lemmas.List.{drop_more, append_assoc}
 use Rattle.plain_providers.specs.declared.lists.Package.{Package}
 use Rattle.plain_providers.specs.Listed.{places_of}
 
--- the package at hand and those behind it
-rest-is : (ps : List Package) (i : ℕ) (p : Package) → i < length ps → p ≡ get_or ps i p → drop i ps ≡ p ∷ drop (i + 1) ps
+-- the item at hand and those behind it
+rest-is : {A : Type 0} (ps : List A) (i : ℕ) (p : A) → i < length ps → p ≡ get_or ps i p → drop i ps ≡ p ∷ drop (i + 1) ps
 rest-is ps i p lt is = drop_more ps i p lt ∙ ap (λ q. q ∷ drop (i + 1) ps) (sym is)
 
 pub named_one : (found : List ℕ) (name i : ℕ) (ps : List Package) (p : Package) → i < length ps → p ≡ get_or ps i p → (p.name == name) ≡ true
@@ -20,3 +20,7 @@ pub named_other : (found : List ℕ) (name i : ℕ) (ps : List Package) (p : Pac
 named_other found name i ps p lt is e h =
     sym (ap (λ b. found ++ cond b (i ∷ places_of name (i + 1) (drop (i + 1) ps)) (places_of name (i + 1) (drop (i + 1) ps))) e)
     ∙ sym (ap (λ l. found ++ places_of name i l) (rest-is ps i p lt is)) ∙ h
+
+-- one item more is copied
+pub copied_one : {A : Type 0} (list ps : List A) (i : ℕ) (p : A) → i < length ps → p ≡ get_or ps i p → list ++ drop i ps ≡ ps → (list ++ p ∷ []) ++ drop (i + 1) ps ≡ ps
+copied_one list ps i p lt is h = append_assoc list (p ∷ []) (drop (i + 1) ps) ∙ sym (ap (λ l. list ++ l) (rest-is ps i p lt is)) ∙ h

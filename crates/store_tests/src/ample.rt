@@ -4,7 +4,7 @@
 ghost use Rattle.std.specs.Prelude.{◌≡◌, []};
 
 use crate::same::is_same;
-use crate::script::{Example, clause, one_package, single, variable};
+use crate::script::{Example, clause, lists_of, single, variable};
 use crate::stores::{Way, dense_gives, sparse_gives};
 use resolvo_clauses::{AddFault, Decision, DecisionMap, DecisionTracker};
 use resolvo_ids::{DenseIndex, NameId, SolvableId, StoreError, VariableId, VersionSetId};
@@ -175,7 +175,7 @@ type Taken = (Result<bool, AddFault>, Result<bool, AddFault>);
 
 #[test]
 fn the_queue_takes_clauses(rt: HostRuntime) -> Result<(), Fail> {
-    let provider = one_package(rt.alloc())?;
+    let provider = lists_of(rt.alloc(), Example::OnePackage)?;
     let answer = new_queue_answer(rt.alloc(), provider);
     is_same(&rt, answer, Ok(Some((1, Answer::Falsified(clause(0))))));
     Ok(())

@@ -24,14 +24,17 @@ pub(crate) fn lists_of<A: Allocator + Copy>(
     alloc: A,
     example: Example,
 ) -> Result<Lists<A>, StoreError> {
-    let lists = match example {
-        Example::TwoPackages => two_packages(alloc),
-        Example::OnePackage | Example::EachCommand => one_package(alloc),
-        Example::SetTwice => set_twice(alloc),
-    };
-    match lists {
+    match try_lists_of(alloc, example) {
         Ok(lists) => Ok(lists),
         Err(_) => Err(StoreError::OutOfMemory),
+    }
+}
+
+fn try_lists_of<A: Allocator + Copy>(alloc: A, example: Example) -> Result<Lists<A>, AllocError> {
+    match example {
+        Example::TwoPackages => with_union(alloc, two_packages(alloc)?, 0, 1),
+        Example::OnePackage | Example::EachCommand => one_package(alloc),
+        Example::SetTwice => with_union(alloc, one_package(alloc)?, 0, 0),
     }
 }
 
@@ -76,28 +79,28 @@ fn range(name: u32, low: u32, high: u32) -> VersionRange {
     }
 }
 
-/// The unions of a catalogue that has this one alone.
-fn one_union<A: Allocator + Copy>(
+/// The lists, and the union of these two version sets.
+fn with_union<A: Allocator + Copy>(
     alloc: A,
-    sets: Vec<VersionSetId, A>,
-) -> Result<Vec<Vec<VersionSetId, A>, A>, AllocError> {
-    let mut unions = Vec::new(alloc);
-    match unions.push(sets) {
-        Ok(()) => Ok(unions),
+    mut lists: Lists<A>,
+    first: u32,
+    second: u32,
+) -> Result<Lists<A>, AllocError> {
+    let sets = vec![in alloc; VersionSetId(first), VersionSetId(second)]?;
+    match lists.unions.push(sets) {
+        Ok(()) => Ok(lists),
         Err(_) => Err(AllocError),
     }
 }
 
-/// Package 0 in versions 1 and 2, package 1 in version 1, a version set of all versions of each, and the union of both.
+/// Package 0 in versions 1 and 2, package 1 in version 1, and a version set of all versions of each.
 fn two_packages<A: Allocator + Copy>(alloc: A) -> Result<Lists<A>, AllocError> {
     let packages = vec![in alloc; package(0, 1), package(0, 2), package(1, 1)]?;
     let ranges = vec![in alloc; range(0, 1, 3), range(1, 1, 2)]?;
-    let both = vec![in alloc; VersionSetId(0), VersionSetId(1)]?;
-    let unions = one_union(alloc, both)?;
     Ok(Lists {
         packages,
         ranges,
-        unions,
+        unions: Vec::new(alloc),
     })
 }
 
@@ -153,7 +156,7 @@ pub(crate) const TWO_PACKAGES_WANTED: WantedPlay = WantedPlay {
 };
 
 /// Package 0 in versions 1 and 2, and a version set of all of them.
-pub(crate) fn one_package<A: Allocator + Copy>(alloc: A) -> Result<Lists<A>, AllocError> {
+fn one_package<A: Allocator + Copy>(alloc: A) -> Result<Lists<A>, AllocError> {
     let packages = vec![in alloc; package(0, 1), package(0, 2)]?;
     let ranges = vec![in alloc; range(0, 1, 3)]?;
     Ok(Lists {
@@ -199,19 +202,6 @@ const ONE_PACKAGE_WANTED: WantedPlay = WantedPlay {
     ],
     root: None,
 };
-
-/// Package 0 in versions 1 and 2, a version set of all of them, and a union that names it twice.
-fn set_twice<A: Allocator + Copy>(alloc: A) -> Result<Lists<A>, AllocError> {
-    let packages = vec![in alloc; package(0, 1), package(0, 2)]?;
-    let ranges = vec![in alloc; range(0, 1, 3)]?;
-    let twice = vec![in alloc; VersionSetId(0), VersionSetId(0)]?;
-    let unions = one_union(alloc, twice)?;
-    Ok(Lists {
-        packages,
-        ranges,
-        unions,
-    })
-}
 
 /// The union's decision, also once a candidate is false.
 pub(crate) fn set_twice_commands<S>() -> [Command<S>; 6] {

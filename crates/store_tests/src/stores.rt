@@ -157,16 +157,9 @@ fn play<D: DependencyProvider + Drop>(
 ) -> Result<Played<D::Alloc>, StoreError> {
     let mut store = ClauseStore::new(heap, provider)?;
     let count = candidate_count(heap, store.provider(), name);
-    if let Some(refusal) = refusal {
-        refusal.arm();
-    }
-    let (replies, end) = replies_and_end(&mut store, room, commands, way);
+    let played = obeyed(&mut store, count, room, commands, way, refusal);
     drop(store);
-    Ok(Played {
-        count,
-        replies,
-        end,
-    })
+    Ok(played)
 }
 
 /// How many candidates the provider lists of the name.
@@ -175,25 +168,36 @@ fn candidate_count<D: DependencyProvider>(
     provider: &D,
     name: D::NameId,
 ) -> Result<usize, StoreError> {
-    match provider.get_candidates(heap, name)? {
-        Some(list) => Ok(list.len()),
-        None => Ok(0),
+    match provider.get_candidates(heap, name) {
+        Ok(Some(list)) => Ok(list.len()),
+        Ok(None) => Ok(0),
+        Err(error) => Err(error),
     }
 }
 
-/// The store's replies to the commands, and its end.
-fn replies_and_end<S, A: Allocator + Copy, T: Obeys<S, A>>(
+/// What is seen of a store that is given commands, where the request is refused from now on.
+fn obeyed<S, A: Allocator + Copy, T: Obeys<S, A>>(
     store: &mut T,
+    count: Result<usize, StoreError>,
     room: A,
     commands: &[Command<S>],
     way: Way,
-) -> (Result<Vec<Reply<A>, A>, StoreError>, End) {
+    refusal: Option<Refusal>,
+) -> Played<A> {
+    if let Some(refusal) = refusal {
+        refusal.arm();
+    }
     let replies = match way {
         Way::Steps => steps(store, room, commands, None),
         Way::StepsBut(left_out) => steps(store, room, commands, Some(left_out)),
         Way::Run => store.obey_all(commands),
     };
-    (replies, store.end())
+    let end = store.end();
+    Played {
+        count,
+        replies,
+        end,
+    }
 }
 
 /// The replies to the commands in turn, but for one that is left out.

@@ -44,9 +44,10 @@ pub(crate) fn first_unwanted<A: Allocator>(
     replies: &[Reply<A>],
     wanted: &[Wanted],
 ) -> Option<usize> {
-    for (i, (reply, wanted)) in replies.iter().zip(wanted).enumerate() {
-        if !is_wanted(reply, wanted) {
-            return Some(i);
+    for (i, reply) in replies.iter().enumerate() {
+        match wanted.get(i) {
+            Some(wanted) if is_wanted(reply, wanted) => {}
+            _ => return Some(i),
         }
     }
     None
@@ -81,18 +82,22 @@ fn is_decision(given: QueueDecision, wanted: WantedDecision) -> bool {
 
 /// Whether the lists have the wanted variables.
 fn are_lists<A: Allocator>(given: &[Vec<VariableId, A>], wanted: &[&[u16]]) -> bool {
+    for (i, list) in given.iter().enumerate() {
+        match wanted.get(i) {
+            Some(indices) if is_list(list, indices) => {}
+            _ => return false,
+        }
+    }
     given.len() == wanted.len()
-        && given
-            .iter()
-            .zip(wanted)
-            .all(|(list, indices)| is_list(list, indices))
 }
 
 /// Whether the list has the wanted variables.
 fn is_list(given: &[VariableId], wanted: &[u16]) -> bool {
+    for (i, given) in given.iter().enumerate() {
+        match wanted.get(i) {
+            Some(index) if *given == variable(*index) => {}
+            _ => return false,
+        }
+    }
     given.len() == wanted.len()
-        && given
-            .iter()
-            .zip(wanted)
-            .all(|(given, index)| *given == variable(*index))
 }
