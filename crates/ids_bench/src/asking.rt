@@ -34,10 +34,7 @@ pub(crate) fn measure_finding(
     ids: &[NameId],
     (size, rounds): (u32, u32),
 ) -> Result<(), Fault> {
-    let interned = asked(rt, Way::Interned, pool, map, ids, rounds)?;
-    let got = asked(rt, Way::Got, pool, map, ids, rounds)?;
-    let dropped = asked(rt, Way::GotAndDropped, pool, map, ids, rounds)?;
-    let looked_up = asked(rt, Way::LookedUp, pool, map, ids, rounds)?;
+    let [interned, got, dropped, looked_up] = asked_each_way(rt, pool, map, ids, rounds)?;
     let lines = [
         ("Pool::intern_package_name, known", interned, got),
         (
@@ -51,6 +48,22 @@ pub(crate) fn measure_finding(
         line(rt, call, size, rounds, ours, plain)?;
     }
     Ok(())
+}
+
+/// Measures each way to look for names.
+fn asked_each_way(
+    rt: &(impl Clock + AllocGlobal),
+    pool: &mut Pool<Version>,
+    map: &HashMap<String, u64>,
+    ids: &[NameId],
+    rounds: u32,
+) -> Result<[Measured; 4], Fault> {
+    Ok([
+        asked(rt, Way::Interned, pool, map, ids, rounds)?,
+        asked(rt, Way::Got, pool, map, ids, rounds)?,
+        asked(rt, Way::GotAndDropped, pool, map, ids, rounds)?,
+        asked(rt, Way::LookedUp, pool, map, ids, rounds)?,
+    ])
 }
 
 /// Looks for all names in each round.

@@ -2,14 +2,28 @@
 use resolvo_ids::StoreError;
 use std::alloc::AllocError;
 use std::io;
-use thiserror::Error;
 
-#[derive(Debug, Drop, Error)]
+#[derive(Clone, Copy, Debug)]
 pub enum Fault {
-    #[error(transparent)]
-    Device(#[from] io::Error),
-    #[error(transparent)]
-    Refused(#[from] StoreError),
-    #[error(transparent)]
-    Memory(#[from(alloc)] AllocError),
+    /// The clock or the output failed.
+    Device(io::ErrorKind),
+    Refused(StoreError),
+}
+
+impl From<io::Error> for Fault {
+    fn from(error: io::Error) -> Fault {
+        Fault::Device(error.kind())
+    }
+}
+
+impl From<StoreError> for Fault {
+    fn from(error: StoreError) -> Fault {
+        Fault::Refused(error)
+    }
+}
+
+impl From<AllocError> for Fault {
+    fn from(_error: AllocError) -> Fault {
+        Fault::Refused(StoreError::OutOfMemory)
+    }
 }

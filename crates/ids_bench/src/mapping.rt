@@ -11,7 +11,6 @@ pub(crate) fn measure(rt: &(impl Print + Clock + AllocGlobal), size: u32) -> Res
     let ids = ids(rt.alloc(), size)?;
     let mut mapping: Mapping<NameId, u64> = Mapping::with_capacity(rt.alloc(), ids.len())?;
     let mut values: Vec<Option<u64>> = Vec::new(rt.alloc());
-    values.resize(ids.len(), None)?;
     let ended = measure_both(rt, &mut mapping, &mut values, &ids, (size, rounds(size)));
     drop(mapping);
     drop(values);
@@ -19,13 +18,15 @@ pub(crate) fn measure(rt: &(impl Print + Clock + AllocGlobal), size: u32) -> Res
     ended
 }
 
+/// Measures the mapping beside the values, which are empty.
 fn measure_both(
     rt: &(impl Print + Clock + AllocGlobal),
     mapping: &mut Mapping<NameId, u64>,
-    values: &mut [Option<u64>],
+    values: &mut Vec<Option<u64>>,
     ids: &[NameId],
     sizes: (u32, u32),
 ) -> Result<(), Fault> {
+    values.resize(ids.len(), None)?;
     let mut ours = Inserts { mapping, ids };
     let mut plain = Replaces { values, ids };
     compare(rt, "Mapping::insert", sizes, &mut ours, &mut plain)?;

@@ -38,18 +38,27 @@ fn measure_each(
     rt: &(impl Print + Clock + AllocGlobal),
     below: &[NameId],
     ids: &[NameId],
+    sizes: (u32, u32),
+) -> Result<(), Fault> {
+    measure_new(rt, below, sizes)?;
+    let mut pool = Pool::new(rt.alloc());
+    let mut map = HashMap::new(rt.alloc());
+    let ended = measure_known(rt, &mut pool, &mut map, below, ids, sizes);
+    drop(pool);
+    drop(map);
+    ended
+}
+
+/// Measures the call that takes new names.
+fn measure_new(
+    rt: &(impl Print + Clock + AllocGlobal),
+    below: &[NameId],
     (size, rounds): (u32, u32),
 ) -> Result<(), Fault> {
     let ours = filled::<Pool<Version>>(rt, below, rounds)?;
     let plain = filled::<HashMap<String, u64>>(rt, below, rounds)?;
     let call = "Pool::intern_package_name, new";
-    line(rt, call, size, rounds, ours, plain)?;
-    let mut pool = Pool::new(rt.alloc());
-    let mut map = HashMap::new(rt.alloc());
-    let ended = measure_known(rt, &mut pool, &mut map, below, ids, (size, rounds));
-    drop(pool);
-    drop(map);
-    ended
+    Ok(line(rt, call, size, rounds, ours, plain)?)
 }
 
 /// Measures the calls that find names. The pool and the map are empty.
@@ -61,22 +70,40 @@ fn measure_known(
     ids: &[NameId],
     sizes: (u32, u32),
 ) -> Result<(), Fault> {
-    pool.fill(names(rt.alloc(), below)?)?;
-    map.fill(names(rt.alloc(), below)?)?;
+    fill_both(rt.alloc(), pool, map, below)?;
     measure_finding(rt, pool, map, ids, sizes)?;
+    measure_resolving(rt, pool, below, ids, sizes)
+}
+
+fn fill_both(
+    alloc: Global,
+    pool: &mut Pool<Version>,
+    map: &mut HashMap<String, u64>,
+    below: &[NameId],
+) -> Result<(), Fault> {
+    pool.fill(names(alloc, below)?)?;
+    map.fill(names(alloc, below)?)?;
+    Ok(())
+}
+
+/// Measures the call that is given an id.
+fn measure_resolving(
+    rt: &(impl Print + Clock + AllocGlobal),
+    pool: &Pool<Version>,
+    below: &[NameId],
+    ids: &[NameId],
+    sizes: (u32, u32),
+) -> Result<(), Fault> {
     let values = names(rt.alloc(), below)?;
     let mut ours = Resolves { pool, ids };
     let mut plain = Reads {
         values: &values,
         ids,
     };
-    compare(
-        rt,
-        "Pool::resolve_package_name",
-        sizes,
-        &mut ours,
-        &mut plain,
-    )
+    let call = "Pool::resolve_package_name";
+    let ended = compare(rt, call, sizes, &mut ours, &mut plain);
+    drop(values);
+    ended
 }
 
 /// The names whose numbers these are.

@@ -61,28 +61,28 @@ fn room_for_more_than_2_to_the_40_is_refused(rt: HostRuntime) {
 #[test]
 fn values_are_read_by_their_ids(rt: HostRuntime) -> Result<(), Fail> {
     let wanted = (true, [(0, Some(30)), (1, Some(40))], [Some(31), Some(40)]);
-    sees(&rt, two_values::<SolvableId, Global>(rt.alloc()), wanted)
+    sees(&rt, two_values(rt.alloc()), wanted)
 }
 
-/// Whether a new arena is empty; the indexes of two ids, and the values read by them; and these values once the first
+/// Whether a new arena is empty; the numbers of two ids, and the values read by them; and these values once the first
 /// one is changed.
-type TwoValues = (bool, [(usize, Option<u16>); 2], [Option<u16>; 2]);
+type TwoValues = (bool, [(u32, Option<u16>); 2], [Option<u16>; 2]);
 
-fn two_values<TId: DenseIndex, A: Allocator + Copy>(alloc: A) -> Result<TwoValues, StoreError> {
-    let mut arena: Arena<TId, u16, A> = Arena::with_capacity(alloc, 2)?;
+fn two_values<A: Allocator + Copy>(alloc: A) -> Result<TwoValues, StoreError> {
+    let mut arena = Arena::with_capacity(alloc, 2)?;
     let values = values_by_ids(&mut arena);
     drop(arena);
     values
 }
 
-fn values_by_ids<TId: DenseIndex, A: Allocator + Copy>(
-    arena: &mut Arena<TId, u16, A>,
+fn values_by_ids<A: Allocator + Copy>(
+    arena: &mut Arena<SolvableId, u16, A>,
 ) -> Result<TwoValues, StoreError> {
     let is_empty = arena.is_empty();
     let (first, second) = (arena.alloc(30)?, arena.alloc(40)?);
     let read = [
-        (first.to_index(), value_of(arena, first)),
-        (second.to_index(), value_of(arena, second)),
+        (first.into_raw(), value_of(arena, first)),
+        (second.into_raw(), value_of(arena, second)),
     ];
     if first.to_index() < arena.len() {
         arena[first] = 31;
@@ -95,7 +95,7 @@ fn values_by_ids<TId: DenseIndex, A: Allocator + Copy>(
 }
 
 /// The id's value, if it has one.
-fn value_of<TId: DenseIndex, A: Allocator>(arena: &Arena<TId, u16, A>, id: TId) -> Option<u16> {
+fn value_of<A: Allocator>(arena: &Arena<SolvableId, u16, A>, id: SolvableId) -> Option<u16> {
     if id.to_index() < arena.len() {
         Some(arena[id])
     } else {

@@ -3,9 +3,7 @@ ghost use Rattle.std.specs.Prelude.{◌≢◌};
 
 use crate::any_set::{SetAnswers, set_answers};
 use crate::seen::sees;
-use resolvo_ids::{
-    DenseId, DenseIndex, NameId, NameTag, SolvableId, SolvableIdOrRoot, SparseId, StoreError,
-};
+use resolvo_ids::{DenseId, NameId, NameTag, SolvableId, SolvableIdOrRoot, SparseId, StoreError};
 use resolvo_maps::{IndexedSet, SolverId, WithRootSet};
 use resolvo_storage::FrozenCopyMap;
 use std::alloc::{Allocator, Global};
@@ -21,62 +19,45 @@ const WANTED: SetAnswers = SetAnswers {
 
 #[test]
 fn dense_sets_keep_each_side_of_a_word(rt: HostRuntime) -> Result<(), Fail> {
-    let wanted = ([true, true, false], [true, true, false, false, false]);
-    let (low, high) = (NameId::from_raw(63), NameId::from_raw(128));
-    let others = [
-        NameId::from_raw(64),
-        NameId::from_raw(127),
-        NameId::from_raw(5000),
-    ];
-    sees(&rt, marks(rt.alloc(), low, high, others), wanted)
+    let wanted = ([true, true, false], [true, false, false, true, false]);
+    sees(&rt, marks(rt.alloc()), wanted)
 }
 
-/// What a set answers to an id, a higher one, and the first once more; and whether it then has these two, and others.
+/// What a set answers to 63, 128, and 63 once more; and whether it then has 63, 64, 127, 128 and 5000.
 type Marks = ([bool; 3], [bool; 5]);
 
-fn marks<Id: DenseIndex, A: Allocator + Copy>(
-    alloc: A,
-    low: Id,
-    high: Id,
-    others: [Id; 3],
-) -> Result<Marks, StoreError> {
-    let mut set: IndexedSet<Id, A> = IndexedSet::new(alloc);
-    let inserted = [set.insert(low), set.insert(high), set.insert(low)];
-    let has = has_each(&set, low, high, others);
+fn marks<A: Allocator + Copy>(alloc: A) -> Result<Marks, StoreError> {
+    let mut set: IndexedSet<NameId, A> = IndexedSet::new(alloc);
+    let marks = marks_in(&mut set);
     drop(set);
-    let [first, second, again] = inserted;
-    Ok(([first?, second?, again?], has))
+    marks
 }
 
-fn has_each<Id: DenseIndex, A: Allocator + Copy>(
-    set: &IndexedSet<Id, A>,
-    low: Id,
-    high: Id,
-    others: [Id; 3],
-) -> [bool; 5] {
-    let [first, second, third] = others;
-    [
+fn marks_in<A: Allocator + Copy>(set: &mut IndexedSet<NameId, A>) -> Result<Marks, StoreError> {
+    let (low, high) = (NameId::from_raw(63), NameId::from_raw(128));
+    let inserted = [set.insert(low)?, set.insert(high)?, set.insert(low)?];
+    let has = [
         set.contains(low),
+        set.contains(NameId::from_raw(64)),
+        set.contains(NameId::from_raw(127)),
         set.contains(high),
-        set.contains(first),
-        set.contains(second),
-        set.contains(third),
-    ]
+        set.contains(NameId::from_raw(5000)),
+    ];
+    Ok((inserted, has))
 }
 
 #[test]
 fn dense_sets_end_before_two_to_the_fortieth(rt: HostRuntime) {
-    let far: DenseId<NameTag, u64> = DenseId::from_raw(1 << 40);
-    let seen = far_inserted(rt.alloc(), far);
-    assert_eq!(rt; seen, (Err(StoreError::IdSpace), false));
+    let far = far_inserted(rt.alloc(), DenseId::from_raw(1 << 40));
+    assert_eq!(rt; far, (Err(StoreError::IdSpace), false));
 }
 
 /// What a new set answers to an id, and whether it then has it.
-fn far_inserted<Id: DenseIndex, A: Allocator + Copy>(
+fn far_inserted<A: Allocator + Copy>(
     alloc: A,
-    far: Id,
+    far: DenseId<NameTag, u64>,
 ) -> (Result<bool, StoreError>, bool) {
-    let mut set: IndexedSet<Id, A> = IndexedSet::new(alloc);
+    let mut set: IndexedSet<DenseId<NameTag, u64>, A> = IndexedSet::new(alloc);
     let answer = (set.insert(far), set.contains(far));
     drop(set);
     answer

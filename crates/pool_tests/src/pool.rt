@@ -7,14 +7,13 @@ use crate::seen::sees;
 use resolvo_ids::{
     ConditionId, NameId, SolvableId, StoreError, StringId, VersionSetId, VersionSetUnionId,
 };
-use resolvo_pool::{NameText, Pool, VersionSet};
+use resolvo_pool::{NameText, Pool};
 use resolvo_provider::Condition;
-use std::alloc::{Allocator, Global};
-use std::hash::Hash;
+use std::alloc::Global;
 use std::test::Fail;
 
 /// The text, in memory of its own.
-fn owned<A: Allocator>(alloc: A, text: &str) -> Result<String<A>, StoreError>
+fn owned(alloc: Global, text: &str) -> Result<String, StoreError>
     ensures { IfOk result (λ copy. string_bytes copy ≡ text.now) }
 {
     match String::from_str(alloc, text) {
@@ -22,9 +21,6 @@ fn owned<A: Allocator>(alloc: A, text: &str) -> Result<String<A>, StoreError>
         Err(_) => Err(StoreError::OutOfMemory),
     }
 }
-
-/// A pool whose names are texts.
-type Texts<VS, A> = Pool<VS, String<A>, A>;
 
 /// The numbers of `a`, `b` and `a` once more; whether the second is of the pool, with its text; and whether the pool
 /// knows a third.
@@ -37,14 +33,12 @@ fn strings_and_names_stand_once(rt: HostRuntime) -> Result<(), Fail> {
         ([0, 1, 0], true, false),
         [Some(1), None],
     );
-    sees(&rt, strings_and_names::<Noted, Global>(rt.alloc()), wanted)
+    sees(&rt, strings_and_names(rt.alloc()), wanted)
 }
 
 /// What is seen of strings, and of names; and the numbers of a name that is there and of one that isn't.
-fn strings_and_names<VS: VersionSet + Drop, A: Allocator + Copy>(
-    alloc: A,
-) -> Result<(Twice, Twice, [Option<u32>; 2]), StoreError> {
-    let mut pool: Texts<VS, A> = Pool::new(alloc);
+fn strings_and_names(alloc: Global) -> Result<(Twice, Twice, [Option<u32>; 2]), StoreError> {
+    let mut pool: Pool<Noted> = Pool::new(alloc);
     let strings = strings(alloc, &mut pool);
     let names = names(alloc, &mut pool);
     let found = [looked_up(alloc, &pool, "b"), looked_up(alloc, &pool, "c")];
@@ -53,10 +47,7 @@ fn strings_and_names<VS: VersionSet + Drop, A: Allocator + Copy>(
     Ok((strings?, names?, [here?, absent?]))
 }
 
-fn strings<VS: VersionSet + Drop, A: Allocator + Copy>(
-    alloc: A,
-    pool: &mut Texts<VS, A>,
-) -> Result<Twice, StoreError> {
+fn strings(alloc: Global, pool: &mut Pool<Noted>) -> Result<Twice, StoreError> {
     let a = string_id(alloc, pool, "a")?;
     let b = string_id(alloc, pool, "b")?;
     let again = string_id(alloc, pool, "a")?;
@@ -64,28 +55,17 @@ fn strings<VS: VersionSet + Drop, A: Allocator + Copy>(
     Ok(([a.0, b.0, again.0], is_string(pool, b, "b"), knows_third))
 }
 
-fn string_id<VS: VersionSet + Drop, A: Allocator + Copy>(
-    alloc: A,
-    pool: &mut Texts<VS, A>,
-    text: &str,
-) -> Result<StringId, StoreError> {
+fn string_id(alloc: Global, pool: &mut Pool<Noted>, text: &str) -> Result<StringId, StoreError> {
     let text = owned(alloc, text)?;
     Ok(pool.intern_string(text)?)
 }
 
 /// Whether the string is of the pool and has this text.
-fn is_string<VS: VersionSet, A: Allocator + Copy>(
-    pool: &Texts<VS, A>,
-    string: StringId,
-    text: &str,
-) -> bool {
+fn is_string(pool: &Pool<Noted>, string: StringId, text: &str) -> bool {
     pool.knows_string(string) && pool.resolve_string(string) == text
 }
 
-fn names<VS: VersionSet + Drop, A: Allocator + Copy>(
-    alloc: A,
-    pool: &mut Texts<VS, A>,
-) -> Result<Twice, StoreError> {
+fn names(alloc: Global, pool: &mut Pool<Noted>) -> Result<Twice, StoreError> {
     let a = name_id(alloc, pool, "a")?;
     let b = name_id(alloc, pool, "b")?;
     let again = name_id(alloc, pool, "a")?;
@@ -94,19 +74,15 @@ fn names<VS: VersionSet + Drop, A: Allocator + Copy>(
     Ok((numbers, is_name(alloc, pool, b, "b")?, knows_third))
 }
 
-fn name_id<VS: VersionSet + Drop, A: Allocator + Copy>(
-    alloc: A,
-    pool: &mut Texts<VS, A>,
-    text: &str,
-) -> Result<NameId, StoreError> {
+fn name_id(alloc: Global, pool: &mut Pool<Noted>, text: &str) -> Result<NameId, StoreError> {
     let text = owned(alloc, text)?;
     Ok(pool.intern_package_name(text)?)
 }
 
 /// Whether the name is of the pool, is this text, and is written so behind what is there.
-fn is_name<VS: VersionSet, A: Allocator + Copy>(
-    alloc: A,
-    pool: &Texts<VS, A>,
+fn is_name(
+    alloc: Global,
+    pool: &Pool<Noted>,
     name: NameId,
     text: &str,
 ) -> Result<bool, StoreError> {
@@ -123,11 +99,7 @@ fn is_name<VS: VersionSet, A: Allocator + Copy>(
 }
 
 /// The number of a name that is looked for.
-fn looked_up<VS: VersionSet, A: Allocator + Copy>(
-    alloc: A,
-    pool: &Texts<VS, A>,
-    text: &str,
-) -> Result<Option<u32>, StoreError> {
+fn looked_up(alloc: Global, pool: &Pool<Noted>, text: &str) -> Result<Option<u32>, StoreError> {
     let name = owned(alloc, text)?;
     let found = pool.lookup_package_name(&name);
     drop(name);
@@ -144,7 +116,7 @@ fn solvables_and_unions_are_new_each_time(rt: HostRuntime) -> Result<(), Fail> {
         ([Some(0), Some(1)], true),
         ([Some(0), Some(0)], true),
     );
-    let seen = of_one_package::<Noted, u32, Global>(rt.alloc(), 7, with_note(1, 1));
+    let seen = of_one_package(rt.alloc(), 7, with_note(1, 1));
     sees(&rt, seen, wanted)
 }
 
@@ -155,21 +127,21 @@ type Solvables = ([Option<u32>; 2], Option<u32>, usize);
 type Numbers = ([Option<u32>; 2], bool);
 
 /// What is seen of the solvables, unions and conditions of one package that has one version set.
-fn of_one_package<VS: VersionSet<V = u32> + Drop, N: Eq + Hash + Drop, A: Allocator + Copy>(
-    alloc: A,
-    name: N,
-    set: VS,
+fn of_one_package(
+    alloc: Global,
+    name: u32,
+    set: Noted,
 ) -> Result<(Solvables, Numbers, Numbers), StoreError> {
-    let mut pool: Pool<VS, N, A> = Pool::new(alloc);
+    let mut pool: Pool<Noted, u32> = Pool::new(alloc);
     let seen = of_name(&mut pool, name, set);
     drop(pool);
     seen
 }
 
-fn of_name<VS: VersionSet<V = u32> + Drop, N: Eq + Hash + Drop, A: Allocator + Copy>(
-    pool: &mut Pool<VS, N, A>,
-    name: N,
-    set: VS,
+fn of_name(
+    pool: &mut Pool<Noted, u32>,
+    name: u32,
+    set: Noted,
 ) -> Result<(Solvables, Numbers, Numbers), StoreError> {
     let (name, set) = name_and_set(pool, name, set)?;
     let solvables = solvables(pool, name)?;
@@ -178,10 +150,10 @@ fn of_name<VS: VersionSet<V = u32> + Drop, N: Eq + Hash + Drop, A: Allocator + C
 }
 
 /// The ids of a name and of its version set.
-fn name_and_set<VS: VersionSet + Drop, N: Eq + Hash + Drop, A: Allocator + Copy>(
-    pool: &mut Pool<VS, N, A>,
-    name: N,
-    set: VS,
+fn name_and_set(
+    pool: &mut Pool<Noted, u32>,
+    name: u32,
+    set: Noted,
 ) -> Result<(NameId, VersionSetId), StoreError> {
     match pool.intern_package_name(name) {
         Ok(name) => Ok((name, pool.intern_version_set(name, set)?)),
@@ -192,20 +164,14 @@ fn name_and_set<VS: VersionSet + Drop, N: Eq + Hash + Drop, A: Allocator + Copy>
     }
 }
 
-fn solvables<VS: VersionSet<V = u32> + Drop, N: Eq + Hash + Drop, A: Allocator + Copy>(
-    pool: &mut Pool<VS, N, A>,
-    name: NameId,
-) -> Result<Solvables, StoreError> {
+fn solvables(pool: &mut Pool<Noted, u32>, name: NameId) -> Result<Solvables, StoreError> {
     let numbers = [new_solvable(pool, name)?, new_solvable(pool, name)?];
     let payload = payload(pool, SolvableId::from_raw(1));
     Ok((numbers, payload, solvable_count(pool)))
 }
 
 /// The number of a new solvable with the payload 30, if the name is of the pool.
-fn new_solvable<VS: VersionSet<V = u32> + Drop, N: Eq + Hash + Drop, A: Allocator + Copy>(
-    pool: &mut Pool<VS, N, A>,
-    name: NameId,
-) -> Result<Option<u32>, StoreError> {
+fn new_solvable(pool: &mut Pool<Noted, u32>, name: NameId) -> Result<Option<u32>, StoreError> {
     if !pool.knows_name(name) {
         return Ok(None);
     }
@@ -213,10 +179,7 @@ fn new_solvable<VS: VersionSet<V = u32> + Drop, N: Eq + Hash + Drop, A: Allocato
 }
 
 /// The payload of a solvable of the pool.
-fn payload<VS: VersionSet<V = u32>, N: Eq + Hash, A: Allocator + Copy>(
-    pool: &Pool<VS, N, A>,
-    solvable: SolvableId,
-) -> Option<u32> {
+fn payload(pool: &Pool<Noted, u32>, solvable: SolvableId) -> Option<u32> {
     if pool.knows_solvable(solvable) {
         Some(pool.resolve_solvable(solvable).payload)
     } else {
@@ -225,9 +188,7 @@ fn payload<VS: VersionSet<V = u32>, N: Eq + Hash, A: Allocator + Copy>(
 }
 
 /// How many solvables going over them gives.
-fn solvable_count<VS: VersionSet, N: Eq + Hash, A: Allocator + Copy>(
-    pool: &Pool<VS, N, A>,
-) -> usize {
+fn solvable_count(pool: &Pool<Noted, u32>) -> usize {
     let mut count: usize = 0;
     for _ in pool.iter_solvables() {
         count = count.saturating_add(1);
@@ -235,20 +196,14 @@ fn solvable_count<VS: VersionSet, N: Eq + Hash, A: Allocator + Copy>(
     count
 }
 
-fn unions<VS: VersionSet + Drop, N: Eq + Hash + Drop, A: Allocator + Copy>(
-    pool: &mut Pool<VS, N, A>,
-    set: VersionSetId,
-) -> Result<Numbers, StoreError> {
+fn unions(pool: &mut Pool<Noted, u32>, set: VersionSetId) -> Result<Numbers, StoreError> {
     let numbers = [union_of_one(pool, set)?, union_of_three(pool, set)?];
     let is_last = is_union(pool, VersionSetUnionId(1), &[set, set, set]);
     Ok((numbers, is_last))
 }
 
 /// The number of a new union of a version set alone, if the set is of the pool.
-fn union_of_one<VS: VersionSet + Drop, N: Eq + Hash + Drop, A: Allocator + Copy>(
-    pool: &mut Pool<VS, N, A>,
-    set: VersionSetId,
-) -> Result<Option<u32>, StoreError> {
+fn union_of_one(pool: &mut Pool<Noted, u32>, set: VersionSetId) -> Result<Option<u32>, StoreError> {
     if !pool.knows_version_set(set) {
         return Ok(None);
     }
@@ -256,8 +211,8 @@ fn union_of_one<VS: VersionSet + Drop, N: Eq + Hash + Drop, A: Allocator + Copy>
 }
 
 /// The number of a new union of a version set three times, if the set is of the pool.
-fn union_of_three<VS: VersionSet + Drop, N: Eq + Hash + Drop, A: Allocator + Copy>(
-    pool: &mut Pool<VS, N, A>,
+fn union_of_three(
+    pool: &mut Pool<Noted, u32>,
     set: VersionSetId,
 ) -> Result<Option<u32>, StoreError> {
     if !pool.knows_version_set(set) {
@@ -267,28 +222,18 @@ fn union_of_three<VS: VersionSet + Drop, N: Eq + Hash + Drop, A: Allocator + Cop
 }
 
 /// Whether the union is of the pool and has these sets.
-fn is_union<VS: VersionSet, N: Eq + Hash, A: Allocator + Copy>(
-    pool: &Pool<VS, N, A>,
-    union: VersionSetUnionId,
-    sets: &[VersionSetId],
-) -> bool {
+fn is_union(pool: &Pool<Noted, u32>, union: VersionSetUnionId, sets: &[VersionSetId]) -> bool {
     pool.knows_union(union) && pool.resolve_version_set_union(union) == sets
 }
 
-fn conditions<VS: VersionSet + Drop, N: Eq + Hash + Drop, A: Allocator + Copy>(
-    pool: &mut Pool<VS, N, A>,
-    set: VersionSetId,
-) -> Result<Numbers, StoreError> {
+fn conditions(pool: &mut Pool<Noted, u32>, set: VersionSetId) -> Result<Numbers, StoreError> {
     let numbers = [condition_of(pool, set)?, condition_of(pool, set)?];
     let is_first = is_condition(pool, ConditionId::new(0), Condition::Requirement(set));
     Ok((numbers, is_first))
 }
 
 /// The number of the condition of a version set, if the set is of the pool.
-fn condition_of<VS: VersionSet + Drop, N: Eq + Hash + Drop, A: Allocator + Copy>(
-    pool: &mut Pool<VS, N, A>,
-    set: VersionSetId,
-) -> Result<Option<u32>, StoreError> {
+fn condition_of(pool: &mut Pool<Noted, u32>, set: VersionSetId) -> Result<Option<u32>, StoreError> {
     if !pool.knows_version_set(set) {
         return Ok(None);
     }
@@ -297,16 +242,9 @@ fn condition_of<VS: VersionSet + Drop, N: Eq + Hash + Drop, A: Allocator + Copy>
 }
 
 /// Whether the condition is of the pool and is this one.
-fn is_condition<VS: VersionSet, N: Eq + Hash, A: Allocator + Copy>(
-    pool: &Pool<VS, N, A>,
-    id: ConditionId,
-    condition: Condition,
-) -> bool {
+fn is_condition(pool: &Pool<Noted, u32>, id: ConditionId, condition: Condition) -> bool {
     pool.knows_condition(id) && *pool.resolve_condition(id) == condition
 }
-
-/// A pool whose names and version sets have notes, which `==` doesn't read.
-type Notes<A> = Pool<Noted, Noted, A>;
 
 #[test]
 fn the_first_of_equal_values_stands(rt: HostRuntime) -> Result<(), Fail> {
@@ -325,17 +263,15 @@ type FirstNames = ([u32; 3], Option<u32>);
 type FirstSets = ([u32; 3], [Option<(u32, u32)>; 2], bool);
 
 /// What is seen of names, and of version sets if the names are of the pool.
-fn first_of_equals<A: Allocator + Copy>(
-    alloc: A,
-) -> Result<(FirstNames, Option<FirstSets>), StoreError> {
-    let mut pool: Notes<A> = Pool::new(alloc);
+fn first_of_equals(alloc: Global) -> Result<(FirstNames, Option<FirstSets>), StoreError> {
+    let mut pool: Pool<Noted, Noted> = Pool::new(alloc);
     let names = first_names(&mut pool);
     let sets = first_sets(&mut pool);
     drop(pool);
     Ok((names?, sets?))
 }
 
-fn first_names<A: Allocator + Copy>(pool: &mut Notes<A>) -> Result<FirstNames, StoreError> {
+fn first_names(pool: &mut Pool<Noted, Noted>) -> Result<FirstNames, StoreError> {
     let name = pool.intern_package_name(with_note(7, 1))?;
     let again = pool.intern_package_name(with_note(7, 2))?;
     let other = pool.intern_package_name(with_note(8, 3))?;
@@ -344,7 +280,7 @@ fn first_names<A: Allocator + Copy>(pool: &mut Notes<A>) -> Result<FirstNames, S
 }
 
 /// The note of a name of the pool.
-fn name_note<A: Allocator + Copy>(pool: &Notes<A>, name: NameId) -> Option<u32> {
+fn name_note(pool: &Pool<Noted, Noted>, name: NameId) -> Option<u32> {
     if pool.knows_name(name) {
         Some(pool.resolve_package_name(name).note)
     } else {
@@ -352,7 +288,7 @@ fn name_note<A: Allocator + Copy>(pool: &Notes<A>, name: NameId) -> Option<u32> 
     }
 }
 
-fn first_sets<A: Allocator + Copy>(pool: &mut Notes<A>) -> Result<Option<FirstSets>, StoreError> {
+fn first_sets(pool: &mut Pool<Noted, Noted>) -> Result<Option<FirstSets>, StoreError> {
     let (name, other) = (NameId::from_raw(0), NameId::from_raw(1));
     if !pool.knows_name(name) || !pool.knows_name(other) {
         return Ok(None);
@@ -367,11 +303,7 @@ fn first_sets<A: Allocator + Copy>(pool: &mut Notes<A>) -> Result<Option<FirstSe
 }
 
 /// The numbers of a set of two names, which comes again with the first.
-fn sets<A: Allocator + Copy>(
-    pool: &mut Notes<A>,
-    name: NameId,
-    other: NameId,
-) -> Result<[u32; 3], StoreError>
+fn sets(pool: &mut Pool<Noted, Noted>, name: NameId, other: NameId) -> Result<[u32; 3], StoreError>
     requires name { name < length pool.old.names }
     requires other { other < length pool.old.names }
 {
@@ -382,7 +314,7 @@ fn sets<A: Allocator + Copy>(
 }
 
 /// The note of a version set of the pool, and the number of its package's name.
-fn set_note<A: Allocator + Copy>(pool: &Notes<A>, set: VersionSetId) -> Option<(u32, u32)> {
+fn set_note(pool: &Pool<Noted, Noted>, set: VersionSetId) -> Option<(u32, u32)> {
     if pool.knows_version_set(set) {
         let name = pool.resolve_version_set_package_name(set);
         Some((pool.resolve_version_set(set).note, name.into_raw()))
@@ -393,21 +325,18 @@ fn set_note<A: Allocator + Copy>(pool: &Notes<A>, set: VersionSetId) -> Option<(
 
 #[test]
 fn a_string_that_comes_twice_has_one_id(rt: HostRuntime) -> Result<(), Fail> {
-    sees(&rt, comes_twice::<Noted, Global>(rt.alloc()), true)
+    sees(&rt, comes_twice(rt.alloc()), true)
 }
 
 /// Whether `ab` that comes twice has one id.
-fn comes_twice<VS: VersionSet + Drop, A: Allocator + Copy>(alloc: A) -> Result<bool, StoreError> {
-    let mut pool: Texts<VS, A> = Pool::new(alloc);
+fn comes_twice(alloc: Global) -> Result<bool, StoreError> {
+    let mut pool: Pool<Noted> = Pool::new(alloc);
     let is_one = interned_twice(alloc, &mut pool);
     drop(pool);
     is_one
 }
 
-fn interned_twice<VS: VersionSet + Drop, A: Allocator + Copy>(
-    alloc: A,
-    pool: &mut Texts<VS, A>,
-) -> Result<bool, StoreError> {
+fn interned_twice(alloc: Global, pool: &mut Pool<Noted>) -> Result<bool, StoreError> {
     let first = owned(alloc, "ab")?;
     let second = owned(alloc, "ab")?;
     interns_once(pool, "ab", first, second)

@@ -1,14 +1,11 @@
 //! The texts of requirements, of root keys and of merged solvables.
-ghost use Rattle.std.specs.Prelude.{◌≡◌, true, nat_lt, All};
+ghost use Rattle.std.specs.Prelude.{◌≡◌, true, All};
 ghost use Rattle.resolvo_provider.specs.Provider.{knows_requirement, knows_key};
 
 use crate::few_words::FewWords;
-use resolvo_ids::{
-    DenseIndex, NameId, SolvableId, SolvableIdOrRoot, VersionSetId, VersionSetUnionId,
-};
-use resolvo_maps::SolverId;
+use resolvo_ids::{NameId, SolvableId, SolvableIdOrRoot, VersionSetId, VersionSetUnionId};
 use resolvo_provider::{Interner, Requirement, RootText};
-use std::alloc::Allocator;
+use std::alloc::Global;
 use std::marker::PhantomData;
 use std::process::Abort;
 use std::test::Fail;
@@ -101,20 +98,10 @@ fn shows_each<I: Interner>(
     shows_key(rt, heap, interner, SolvableIdOrRoot::Solvable(two), "a 2")
 }
 
-/// The texts of a package of two solvables and two version sets, whatever its ids. The solvables come as the second, the
-/// first and the second.
-fn few_words_have_texts<N: SolverId<A>, S: DenseIndex + SolverId<A>, A: Allocator + Copy>(
-    rt: &impl Abort,
-    heap: A,
-    name: N,
-    solvables: &[S],
-    two: S,
-) -> Result<(), Fail>
-    requires solvables { All (λ s. nat_lt (S.DenseIndex.index_of s) 2 ≡ true) solvables.now }
-    requires two { nat_lt (S.DenseIndex.index_of two) 2 ≡ true }
-{
-    let words: FewWords<'_, N, S, A> = FewWords {
-        name,
+#[test]
+fn requirements_and_solvables_have_texts(rt: HostRuntime) -> Result<(), Fail> {
+    let words: FewWords<'_, NameId, SolvableId, Global> = FewWords {
+        name: NameId::from_raw(0),
         solvables: &["a 1", "a 2"],
         sets: &[">=1, <3", ""],
         union: &[VersionSetId(0), VersionSetId(0)],
@@ -126,11 +113,6 @@ fn few_words_have_texts<N: SolverId<A>, S: DenseIndex + SolverId<A>, A: Allocato
         empty: Requirement::Single(VersionSetId(1)),
         union: Requirement::Union(VersionSetUnionId(0)),
     };
-    shows_each(rt, heap, &words, sets, solvables, two)
-}
-
-#[test]
-fn requirements_and_solvables_have_texts(rt: HostRuntime) -> Result<(), Fail> {
     let (one, two) = (SolvableId::from_raw(0), SolvableId::from_raw(1));
-    few_words_have_texts(&rt, rt.alloc(), NameId::from_raw(0), &[two, one, two], two)
+    shows_each(&rt, rt.alloc(), &words, sets, &[two, one, two], two)
 }
