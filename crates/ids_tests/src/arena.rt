@@ -1,8 +1,8 @@
 //! Arenas by their calls: each with ample memory, and the ids of 16 bits to their end.
 use crate::arena_callers::{added, count, pairs, replace, total};
-use crate::seen::sees;
 use resolvo_ids::{DenseIndex, InsertError, SolvableId, StoreError};
 use resolvo_storage::Arena;
+use seen::sees;
 use std::alloc::{AllocError, Allocator, Global};
 use std::test::Fail;
 

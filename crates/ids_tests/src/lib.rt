@@ -13,8 +13,6 @@ mod mapping_callers;
 #[cfg(test)]
 mod maps;
 #[cfg(test)]
-mod seen;
-#[cfg(test)]
 mod sets;
 
 pub use any_set::{SetAnswers, set_answers};

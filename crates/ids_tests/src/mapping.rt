@@ -2,9 +2,9 @@
 ghost use Rattle.std.specs.Prelude.{◌≡◌};
 
 use crate::mapping_callers::{clear, count_up, exchange, find_at_least};
-use crate::seen::sees;
 use resolvo_ids::{DenseId, InsertError, SolvableId, StoreError};
 use resolvo_storage::{Mapping, MappingIter};
+use seen::sees;
 use std::alloc::{Allocator, Global};
 use std::test::Fail;
 

@@ -2,9 +2,9 @@
 ghost use Rattle.std.specs.Prelude.{◌≡◌, ◌/◌};
 
 use crate::ids::{is_text, shows};
-use crate::seen::sees;
 use resolvo_ids::{DenseId, NameId, NameTag, SparseId, StoreError};
 use resolvo_maps::{IdMap, SolverId};
+use seen::sees;
 use std::alloc::{Allocator, Global};
 use std::test::Fail;
 

@@ -2,10 +2,10 @@
 ghost use Rattle.std.specs.Prelude.{◌≢◌};
 
 use crate::any_set::{SetAnswers, set_answers};
-use crate::seen::sees;
 use resolvo_ids::{DenseId, NameId, NameTag, SolvableId, SolvableIdOrRoot, SparseId, StoreError};
 use resolvo_maps::{IndexedSet, SolverId, WithRootSet};
 use resolvo_storage::FrozenCopyMap;
+use seen::sees;
 use std::alloc::{Allocator, Global};
 use std::test::Fail;
 

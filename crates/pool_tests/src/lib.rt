@@ -11,8 +11,6 @@ mod noted;
 #[cfg(test)]
 mod pool;
 #[cfg(test)]
-mod seen;
-#[cfg(test)]
 mod texts;
 
 pub use callers::interns_once;

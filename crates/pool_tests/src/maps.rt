@@ -1,9 +1,9 @@
 //! Maps of requirements, by the calls, in ample memory and where memory is refused.
 use crate::map_callers::{clear, count_up};
-use crate::seen::sees;
 use refusing::Refusing;
 use resolvo_ids::{InsertError, StoreError, VersionSetId, VersionSetUnionId};
 use resolvo_provider::{ConditionalRequirement, Requirement, RequirementMap};
+use seen::sees;
 use std::alloc::Allocator;
 use std::cell::Cell;
 use std::test::Fail;

@@ -3,12 +3,12 @@ ghost use Rattle.std.specs.Prelude.{◌≡◌, ◌<◌, length, string_bytes, If
 
 use crate::callers::interns_once;
 use crate::noted::{Noted, with_note};
-use crate::seen::sees;
 use resolvo_ids::{
     ConditionId, NameId, SolvableId, StoreError, StringId, VersionSetId, VersionSetUnionId,
 };
 use resolvo_pool::{NameText, Pool};
 use resolvo_provider::Condition;
+use seen::sees;
 use std::alloc::Global;
 use std::test::Fail;
 

@@ -3,7 +3,6 @@
 //! test names it once.
 ghost use Rattle.std.specs.Prelude.{◌≡◌, []};
 
-use crate::same::is_same;
 use crate::script::{Example, clause, lists_of, single, variable};
 use crate::stores::{Way, dense_gives, sparse_gives};
 use resolvo_clauses::{AddFault, Decision, DecisionMap, DecisionTracker};
@@ -12,6 +11,7 @@ use resolvo_maps::{DefaultValue, IdMap, Slot, SolverId};
 use resolvo_provider::{Interner, Requirement, RequirementMap};
 use resolvo_queue::{Answer, DecideQueue};
 use resolvo_variables::{VariableMap, VariableOrigin};
+use seen::is_same;
 use std::alloc::{Allocator, Global};
 use std::test::Fail;
 

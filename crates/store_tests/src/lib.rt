@@ -11,8 +11,6 @@ mod obeys;
 #[cfg(test)]
 mod refused;
 #[cfg(test)]
-mod same;
-#[cfg(test)]
 mod script;
 #[cfg(test)]
 mod stores;

@@ -1,11 +1,11 @@
 //! Memory refused at each request in turn.
-use crate::same::is_same;
 use crate::script::{Example, TWO_PACKAGES_WANTED, two_packages_commands};
 use crate::stores::{Way, dense_play};
 use crate::wanted::first_unwanted;
 use refusing::Refusing;
 use resolvo_ids::{SolvableId, StoreError};
 use resolvo_store::{Command, Reply};
+use seen::is_same;
 use std::alloc::{Allocator, Global};
 use std::process::Abort;
 

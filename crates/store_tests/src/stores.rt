@@ -3,7 +3,6 @@
 //! it. What is seen is compared once, behind all that is owned.
 use crate::obeys::{End, Obeys};
 use crate::refused::Refusal;
-use crate::same::is_same;
 use crate::script::{
     Example, each_command, lists_of, one_package_commands, set_twice_commands,
     two_packages_commands, wanted_of,
@@ -13,6 +12,7 @@ use plain_providers::{SparseLists, SparseName, SparseSolvable};
 use resolvo_ids::{NameId, SolvableId, StoreError};
 use resolvo_provider::{DependencyProvider, Interner};
 use resolvo_store::{ClauseStore, Command, Reply};
+use seen::is_same;
 use std::alloc::Allocator;
 use std::process::Abort;
 
