@@ -25,8 +25,8 @@ enum Way {
     GotAndDropped,
 }
 
-/// Measures `intern_package_name` and `lookup_package_name` of the names that have these ids. All of them are in the pool
-/// and in the map.
+/// Measures `intern_package_name` and `lookup_package_name` of the names that have these ids. All of them are in the
+/// pool and in the map.
 pub(crate) fn measure_finding(
     rt: &(impl Print + Clock + AllocGlobal),
     pool: &mut Pool<Version>,

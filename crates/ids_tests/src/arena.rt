@@ -142,8 +142,8 @@ fn cleared_arenas_begin_again(rt: HostRuntime) -> Result<(), Fail> {
     sees(&rt, cleared(rt.alloc()), (0, true, Ok(0), 1))
 }
 
-/// How many values a cleared arena has, and whether it is empty; what the next value is answered, and how many there are
-/// then.
+/// How many values a cleared arena has, and whether it is empty; what the next value is answered, and how many there
+/// are then.
 fn cleared<A: Allocator + Copy>(
     alloc: A,
 ) -> Result<(usize, bool, Result<u16, InsertError<u16>>, usize), StoreError> {
@@ -184,8 +184,8 @@ fn is_listed<A: Allocator + Copy>(
     Ok(list.as_slice() == [(0, 9), (1, 8), (2, 7)].as_slice())
 }
 
-/// How many values there are, and their sum; the next one that is added, and how many there are then; and the sum once the
-/// second is replaced.
+/// How many values there are, and their sum; the next one that is added, and how many there are then; and the sum once
+/// the second is replaced.
 fn told<A: Allocator + Copy>(
     arena: &mut Arena<u16, u16, A>,
 ) -> ((usize, u64), (Option<u16>, usize), u64) {

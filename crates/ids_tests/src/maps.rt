@@ -23,7 +23,8 @@ fn read<K: Copy, A: Allocator + Copy, M: IdMap<K, u64, A>>(map: &M, keys: [K; 3]
     [map.get(three), map.get(four), map.get(five), map.largest()]
 }
 
-/// Reads a map as it is made, once it is written at the first and the last of three keys, and once its values are halved.
+/// Reads a map as it is made, once it is written at the first and the last of three keys, and once its values are
+/// halved.
 pub fn lived<K: Copy, A: Allocator + Copy, M: IdMap<K, u64, A>>(
     alloc: A,
     keys: [K; 3],

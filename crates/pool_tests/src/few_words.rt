@@ -11,8 +11,9 @@ use resolvo_provider::{Condition, Interner};
 use std::alloc::Allocator;
 use std::marker::PhantomData;
 
-/// The package `a`, whatever its name's id. The text of a solvable or of a version set stands at the place of its id, and
-/// that of a set may be empty. There is one union, of these sets, one string, which is empty, and a condition for each set: that it is met.
+/// The package `a`, whatever its name's id. The text of a solvable or of a version set stands at the place of its id,
+/// and that of a set may be empty. There is one union, of these sets, one string, which is empty, and a condition for
+/// each set: that it is met.
 #[derive(Drop)]
 pub struct FewWords<'w, N: Copy, S: Copy, A: Allocator> {
     pub name: N,

@@ -38,8 +38,8 @@ fn counted<A: Allocator + Copy>(
     Ok([earlier, later, map.get(set).copied()])
 }
 
-/// What a map keeps of a set, a union and a requirement that it doesn't have, once the first and the last are cleared, and
-/// at the union's place.
+/// What a map keeps of a set, a union and a requirement that it doesn't have, once the first and the last are cleared,
+/// and at the union's place.
 fn kept_once_cleared<A: Allocator + Copy>(
     map: &mut RequirementMap<u32, A>,
     set: Requirement,
