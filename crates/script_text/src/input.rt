@@ -6,8 +6,8 @@ use crate::fault::ScriptFault;
 use std::alloc::Global;
 use std::io::{ErrorKind, Read};
 
-/// All bytes of the reader, to its end. A read that was interrupted is tried again. After 2^64 reads a reader that hasn't
-/// ended counts as one that fails.
+/// All bytes of the reader, to its end. A read that was interrupted is tried again. After 2^64 reads a reader that
+/// hasn't ended counts as one that fails.
 pub fn read_whole<R: Read>(alloc: Global, reader: &mut R) -> Result<Vec<u8>, ScriptFault>
     ensures ok { IfOk result (λ input. IfSome (R.remaining reader.old) (λ bytes. input.items ≡ bytes)) }
     ensures err { IfErr result (λ e. (e ≡ Device) ⊎ (e ≡ Memory)) }
