@@ -40,7 +40,8 @@ fn total_maps_keep_slots(rt: HostRuntime) -> Result<(), Fail> {
     Ok(())
 }
 
-/// The values that a new map keeps at three keys, of which the first is given this one, and there is room at the second.
+/// The values that a new map keeps at three keys, of which the first is given this one, and there is room at the
+/// second.
 fn kept_by_new<K: Copy, V: DefaultValue, A: Allocator + Copy, M: IdMap<K, V, A>>(
     heap: A,
     keys: [K; 3],
@@ -160,8 +161,8 @@ fn the_trail_takes_decisions(rt: HostRuntime) {
     is_same(&rt, kept, (Some(true), 7));
 }
 
-/// Whether a new trail takes a decision as a new one, and the same of another clause at another level; and the value and
-/// the level that it then has of the variable.
+/// Whether a new trail takes a decision as a new one, and the same of another clause at another level; and the value
+/// and the level that it then has of the variable.
 fn trail_seen<A: Allocator + Copy>(heap: A) -> (Taken, (Option<bool>, u32)) {
     let mut trail = DecisionTracker::new(heap);
     let first = trail.try_add_decision(Decision::new(variable(4), true, clause(0)), 7);

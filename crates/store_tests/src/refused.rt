@@ -32,8 +32,8 @@ struct Agreement {
     count: usize,
     /// Whether one isn't as wanted. The first such reply is taken for the refusal.
     is_refused: bool,
-    /// Whether that reply is want of memory, and each other is that of a store in ample memory to which its command isn't
-    /// given.
+    /// Whether that reply is want of memory, and each other is that of a store in ample memory to which its command
+    /// isn't given.
     agrees: bool,
 }
 
@@ -114,8 +114,8 @@ fn is_met(
     is_refused
 }
 
-/// Steps go on after the command that is refused. A run is refused whole at its first request, the room for the replies,
-/// and goes on after any later one.
+/// Steps go on after the command that is refused. A run is refused whole at its first request, the room for the
+/// replies, and goes on after any later one.
 fn is_as_refused(
     rt: &impl Abort,
     seen: Result<Option<Agreement>, StoreError>,

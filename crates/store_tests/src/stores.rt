@@ -1,6 +1,6 @@
 //! New stores that are given the commands of an example, and what is seen of them. What is shared is generic in the
-//! provider, and only two functions name a provider of lists: a proof spells out a provider's traits wherever a call names
-//! it. What is seen is compared once, behind all that is owned.
+//! provider, and only two functions name a provider of lists: a proof spells out a provider's traits wherever a call
+//! names it. What is seen is compared once, behind all that is owned.
 use crate::obeys::{End, Obeys};
 use crate::refused::Refusal;
 use crate::script::{
@@ -31,9 +31,9 @@ pub(crate) enum Way {
 #[derive(Drop)]
 pub(crate) struct Played<A: Allocator> {
     /// How many candidates the provider lists of package 0.
-    pub(crate) count: Result<usize, StoreError>,
+    count: Result<usize, StoreError>,
     pub(crate) replies: Result<Vec<Reply<A>, A>, StoreError>,
-    pub(crate) end: End,
+    end: End,
 }
 
 /// A new store over the example's lists, which list two candidates, replies as wanted.
@@ -209,9 +209,10 @@ fn steps<S, A: Allocator + Copy, T: Obeys<S, A>>(
 ) -> Result<Vec<Reply<A>, A>, StoreError> {
     let mut replies = Vec::new(room);
     for (i, command) in commands.iter().enumerate() {
-        let reply = match left_out == Some(i) {
-            true => Reply::Refused(StoreError::OutOfMemory),
-            false => store.obey(command),
+        let reply = if left_out == Some(i) {
+            Reply::Refused(StoreError::OutOfMemory)
+        } else {
+            store.obey(command)
         };
         match replies.push(reply) {
             Ok(()) => {}
