@@ -8,7 +8,7 @@ use resolvo_storage::FrozenCopyMap;
 use std::alloc::Global;
 
 /// The solvables of a package: those from `first` to `last`.
-#[derive(Clone, Copy)]
+#[derive(Clone, Copy, Debug, PartialEq, Eq)]
 pub struct Span {
     pub first: SolvableId,
     pub last: SolvableId,

@@ -19,7 +19,7 @@ pub enum ScriptFault {
 }
 
 /// Why a line was left before its end.
-#[derive(Clone, Copy)]
+#[derive(Clone, Copy, Debug, PartialEq, Eq)]
 pub enum LineFault {
     /// It isn't in the format.
     Unreadable,

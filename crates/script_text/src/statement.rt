@@ -6,7 +6,7 @@ use crate::line::is_printed;
 use crate::word::next_word;
 
 /// What a line says.
-#[derive(Clone, Copy)]
+#[derive(Clone, Copy, PartialEq, Eq)]
 pub enum Line<T> {
     /// Nothing: it has no word, or is a comment.
     Skipped,
