@@ -21,7 +21,7 @@ fn ids_end_after_the_last_of_16_bits(rt: HostRuntime) -> Result<(), Fail> {
         error: StoreError::IdSpace,
         value: 5,
     };
-    sees(&rt, all_ids(rt.alloc()), (None, Err(refusal), 65536))
+    sees(all_ids(rt.alloc()), (None, Err(refusal), 65536))
 }
 
 /// Adds a value for each id of 16 bits, and one more: the first place whose value gets another id, what the last one is
@@ -61,7 +61,7 @@ fn room_for_more_than_2_to_the_40_is_refused(rt: HostRuntime) {
 #[test]
 fn values_are_read_by_their_ids(rt: HostRuntime) -> Result<(), Fail> {
     let wanted = (true, [(0, Some(30)), (1, Some(40))], [Some(31), Some(40)]);
-    sees(&rt, two_values(rt.alloc()), wanted)
+    sees(two_values(rt.alloc()), wanted)
 }
 
 /// Whether a new arena is empty; the numbers of two ids, and the values read by them; and these values once the first
@@ -106,7 +106,7 @@ fn value_of<A: Allocator>(arena: &Arena<SolvableId, u16, A>, id: SolvableId) -> 
 #[test]
 fn pairs_come_in_the_order_of_ids(rt: HostRuntime) -> Result<(), Fail> {
     let wanted = [Some((0, 9)), Some((1, 8)), Some((2, 7)), None, None];
-    sees(&rt, three_pairs(rt.alloc()), wanted)
+    sees(three_pairs(rt.alloc()), wanted)
 }
 
 /// What the iterator of an arena of three values answers to five calls.
@@ -139,7 +139,7 @@ fn pair_of(pair: Option<(u16, &u16)>) -> Option<(u16, u16)> {
 
 #[test]
 fn cleared_arenas_begin_again(rt: HostRuntime) -> Result<(), Fail> {
-    sees(&rt, cleared(rt.alloc()), (0, true, Ok(0), 1))
+    sees(cleared(rt.alloc()), (0, true, Ok(0), 1))
 }
 
 /// How many values a cleared arena has, and whether it is empty; what the next value is answered, and how many there
@@ -158,7 +158,7 @@ fn cleared<A: Allocator + Copy>(
 #[test]
 fn callers_are_told_enough(rt: HostRuntime) -> Result<(), Fail> {
     let wanted = (true, (3, 24), (Some(5), 4), 25);
-    sees(&rt, told_of_three(rt.alloc()), wanted)
+    sees(told_of_three(rt.alloc()), wanted)
 }
 
 /// Whether the pairs of an arena of three values are those, and what is told of it.

@@ -35,7 +35,7 @@ fn a_map_grows_by_chunks(rt: HostRuntime) -> Result<(), Fail> {
         (None, Some(20)),
         (2, 256),
     );
-    sees(&rt, growth(rt.alloc()), wanted)
+    sees(growth(rt.alloc()), wanted)
 }
 
 /// What is seen of a new map: its numbers of values and slots, and whether it is empty; what its first value is
@@ -87,7 +87,7 @@ type Walk = [Option<(SolvableId, u32)>; 3];
 #[test]
 fn a_walk_passes_over_empty_slots(rt: HostRuntime) -> Result<(), Fail> {
     let wanted = [Some((solvable(0), 10)), Some((solvable(128), 20)), None];
-    sees(&rt, walk_of_two(rt.alloc()), wanted)
+    sees(walk_of_two(rt.alloc()), wanted)
 }
 
 fn walk_of_two<A: Allocator>(alloc: A) -> Result<Walk, StoreError> {
@@ -113,7 +113,7 @@ fn next(pairs: &mut MappingIter<'_, SolvableId, u32>) -> Option<(SolvableId, u32
 #[test]
 fn a_walk_goes_on_past_the_number_of_values(rt: HostRuntime) -> Result<(), Fail> {
     let wanted = (Some(10), 1, [Some((solvable(128), 20)), None, None]);
-    sees(&rt, walk_past_one(rt.alloc()), wanted)
+    sees(walk_past_one(rt.alloc()), wanted)
 }
 
 /// What taking the first of two values out answers, how many are left, and the walk over them.
@@ -150,7 +150,7 @@ fn an_index_too_large_is_refused(rt: HostRuntime) -> Result<(), Fail> {
         error: StoreError::IdSpace,
         value: 7,
     };
-    sees(&rt, too_large(rt.alloc()), (Err(refusal), 128, true, false))
+    sees(too_large(rt.alloc()), (Err(refusal), 128, true, false))
 }
 
 /// What an index past the slots is answered, and how many slots there are then; whether a default at it is refused, and
@@ -173,7 +173,7 @@ fn too_large<A: Allocator>(
 
 #[test]
 fn room_lasts(rt: HostRuntime) -> Result<(), Fail> {
-    sees(&rt, room(rt.alloc()), ((0, 384), None, Some(1), None))
+    sees(room(rt.alloc()), ((0, 384), None, Some(1), None))
 }
 
 /// A map's numbers of values and slots once it has room for an id; and what putting a value there, taking it out and
@@ -200,7 +200,7 @@ fn room_of<A: Allocator>(
 
 #[test]
 fn a_value_is_exchanged_in_its_slot(rt: HostRuntime) -> Result<(), Fail> {
-    sees(&rt, exchanged(rt.alloc()), [None, Some(3), Some(4)])
+    sees(exchanged(rt.alloc()), [None, Some(3), Some(4)])
 }
 
 /// What two values that are put at an id are answered, and what then is read.
@@ -215,7 +215,7 @@ fn exchanged(alloc: Global) -> Result<[Option<u32>; 3], StoreError> {
 
 #[test]
 fn a_default_is_asked_for_once(rt: HostRuntime) -> Result<(), Fail> {
-    sees(&rt, defaults(rt.alloc()), (Some(5), (5, false), (1, 256)))
+    sees(defaults(rt.alloc()), (Some(5), (5, false), (1, 256)))
 }
 
 /// What a map keeps of a default that is counted up; which value is lent then in place of another default, and whether
@@ -262,7 +262,7 @@ fn values_are_changed_in_place(rt: HostRuntime) -> Result<(), Fail> {
         true,
         (2, 44),
     );
-    sees(&rt, changes(rt.alloc()), wanted)
+    sees(changes(rt.alloc()), wanted)
 }
 
 /// The id of a value above 10, of two values 10 and 20, and that once the first is counted up; what the second reads as

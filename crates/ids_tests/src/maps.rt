@@ -61,13 +61,13 @@ fn a_vector_is_a_total_map(rt: HostRuntime) -> Result<(), Fail> {
         NameId::from_raw(5),
     ];
     let answers = lived::<NameId, Global, <NameId as SolverId<Global>>::Scores>(rt.alloc(), keys);
-    sees(&rt, answers, ANSWERS)
+    sees(answers, ANSWERS)
 }
 
 #[test]
 fn a_table_is_a_total_map(rt: HostRuntime) -> Result<(), Fail> {
     let keys = [Name::from_raw(3), Name::from_raw(4), Name::from_raw(5)];
-    sees(&rt, lived::<Name, Global, Table>(rt.alloc(), keys), ANSWERS)
+    sees(lived::<Name, Global, Table>(rt.alloc(), keys), ANSWERS)
 }
 
 #[test]
@@ -82,7 +82,7 @@ fn tables_are_kept_by_numbers_of_each_width(rt: HostRuntime) -> Result<(), Fail>
         Global,
         <SparseId<NameTag, u16> as SolverId<Global>>::Scores,
     >(rt.alloc(), keys);
-    sees(&rt, answers, ANSWERS)?;
+    sees(answers, ANSWERS)?;
     let keys: [SparseId<NameTag, u64>; 3] = [
         SparseId::from_raw(u64::MAX),
         SparseId::from_raw(1 << 40),
@@ -93,7 +93,7 @@ fn tables_are_kept_by_numbers_of_each_width(rt: HostRuntime) -> Result<(), Fail>
         Global,
         <SparseId<NameTag, u64> as SolverId<Global>>::Scores,
     >(rt.alloc(), keys);
-    sees(&rt, answers, ANSWERS)
+    sees(answers, ANSWERS)
 }
 
 #[test]
@@ -120,7 +120,7 @@ fn a_value_of_no_key_is_not_the_largest(rt: HostRuntime) -> Result<(), Fail> {
     let all = largest_of_two(&mut map, NameId::from_raw(65535), NameId::from_raw(65536));
     let narrow = IdMap::<DenseId<NameTag, u16>, u64, Global>::largest(&map);
     drop(map);
-    sees(&rt, all, 8)?;
+    sees(all, 8)?;
     assert_eq!(rt; narrow, 5);
     Ok(())
 }
@@ -138,7 +138,7 @@ fn largest_of_two<K: Copy, A: Allocator + Copy, M: IdMap<K, u64, A>>(
 
 #[test]
 fn a_table_keeps_its_values_as_it_grows(rt: HostRuntime) -> Result<(), Fail> {
-    sees(&rt, grown::<Global, Table>(rt.alloc()), (None, 700))
+    sees(grown::<Global, Table>(rt.alloc()), (None, 700))
 }
 
 /// The first number at whose key another value stands than was written, with that value; and the largest value.

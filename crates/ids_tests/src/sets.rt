@@ -20,7 +20,7 @@ const WANTED: SetAnswers = SetAnswers {
 #[test]
 fn dense_sets_keep_each_side_of_a_word(rt: HostRuntime) -> Result<(), Fail> {
     let wanted = ([true, true, false], [true, false, false, true, false]);
-    sees(&rt, marks(rt.alloc()), wanted)
+    sees(marks(rt.alloc()), wanted)
 }
 
 /// What a set answers to 63, 128, and 63 once more; and whether it then has 63, 64, 127, 128 and 5000.
@@ -74,14 +74,14 @@ fn dense_and_sparse_ids_sets_answer_alike(rt: HostRuntime) -> Result<(), Fail> {
         key,
         other,
     );
-    sees(&rt, dense, WANTED)?;
+    sees(dense, WANTED)?;
     let (key, other) = (Name::from_raw(64), Name::from_raw(127));
     let sparse = set_answers::<Name, Global, <Name as SolverId<Global>>::Set>(
         rt.alloc(),
         key,
         other,
     );
-    sees(&rt, sparse, WANTED)
+    sees(sparse, WANTED)
 }
 
 type Key = SolvableIdOrRoot<SolvableId>;
@@ -99,14 +99,14 @@ fn answers_of_key_set(alloc: Global, key: Key, other: Key) -> Result<SetAnswers,
 fn the_root_is_no_solvable(rt: HostRuntime) -> Result<(), Fail> {
     let solvable = SolvableIdOrRoot::from(SolvableId::from_raw(0));
     let answers = answers_of_key_set(rt.alloc(), SolvableIdOrRoot::root(), solvable);
-    sees(&rt, answers, WANTED)
+    sees(answers, WANTED)
 }
 
 #[test]
 fn a_solvable_is_not_the_root(rt: HostRuntime) -> Result<(), Fail> {
     let solvable = SolvableIdOrRoot::from(SolvableId::from_raw(0));
     let answers = answers_of_key_set(rt.alloc(), solvable, SolvableIdOrRoot::root());
-    sees(&rt, answers, WANTED)
+    sees(answers, WANTED)
 }
 
 #[test]
@@ -121,7 +121,7 @@ fn keys_give_their_solvable_back(rt: HostRuntime) {
 #[test]
 fn frozen_maps_answer_the_earlier_value(rt: HostRuntime) -> Result<(), Fail> {
     let wanted = ([None, None, Some(10)], [Some(30), Some(20), None]);
-    sees(&rt, frozen(rt.alloc()), wanted)
+    sees(frozen(rt.alloc()), wanted)
 }
 
 /// What a new map answers to three values, of which the last has the first one's key; and the copies of three keys, of

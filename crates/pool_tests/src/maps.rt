@@ -11,7 +11,7 @@ use std::test::Fail;
 #[test]
 fn a_map_keeps_values(rt: HostRuntime) -> Result<(), Fail> {
     let wanted = ([None, Some(1), Some(7)], [Some(0), Some(1), None, Some(1)]);
-    sees(&rt, kept(rt.alloc()), wanted)
+    sees(kept(rt.alloc()), wanted)
 }
 
 /// What a map answers as it is counted, and what it keeps once it is cleared.

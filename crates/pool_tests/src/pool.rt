@@ -33,7 +33,7 @@ fn strings_and_names_stand_once(rt: HostRuntime) -> Result<(), Fail> {
         ([0, 1, 0], true, false),
         [Some(1), None],
     );
-    sees(&rt, strings_and_names(rt.alloc()), wanted)
+    sees(strings_and_names(rt.alloc()), wanted)
 }
 
 /// What is seen of strings, and of names; and the numbers of a name that is there and of one that isn't.
@@ -117,7 +117,7 @@ fn solvables_and_unions_are_new_each_time(rt: HostRuntime) -> Result<(), Fail> {
         ([Some(0), Some(0)], true),
     );
     let seen = of_one_package(rt.alloc(), 7, with_note(1, 1));
-    sees(&rt, seen, wanted)
+    sees(seen, wanted)
 }
 
 /// The numbers of two solvables, the second's payload, and how many there are.
@@ -252,7 +252,7 @@ fn the_first_of_equal_values_stands(rt: HostRuntime) -> Result<(), Fail> {
         ([0, 0, 1], Some(1)),
         Some(([0, 1, 0], [Some((1, 0)), Some((2, 1))], false)),
     );
-    sees(&rt, first_of_equals(rt.alloc()), wanted)
+    sees(first_of_equals(rt.alloc()), wanted)
 }
 
 /// The numbers of three names, of which the second equals the first, and the first one's note.
@@ -325,7 +325,7 @@ fn set_note(pool: &Pool<Noted, Noted>, set: VersionSetId) -> Option<(u32, u32)> 
 
 #[test]
 fn a_string_that_comes_twice_has_one_id(rt: HostRuntime) -> Result<(), Fail> {
-    sees(&rt, comes_twice(rt.alloc()), true)
+    sees(comes_twice(rt.alloc()), true)
 }
 
 /// Whether `ab` that comes twice has one id.

@@ -1,22 +1,27 @@
 //! How tests compare what they have seen with what they want.
 #![tactic(auto)]
 
+ghost use Rattle.std.specs.Prelude.{◌≡◌, ◌↔◌, true, IsOk, IsErr, IfOk, IfErr};
+
 use resolvo_ids::StoreError;
 use std::fmt::Debug;
-use std::process::Abort;
 use std::test::Fail;
 
-/// What was seen is what was wanted. The comparison is proved here once for all types, and each test calls it.
-pub fn is_same<T: Copy + PartialEq + Debug>(rt: &impl Abort, seen: T, wanted: T) {
-    assert_eq!(rt; seen, wanted);
+/// What was seen is what was wanted; else the failure shows both.
+pub fn is_same<T: Copy + PartialEq + Debug>(seen: T, wanted: T) -> Result<(), Fail>
+    ensures { IsOk result ↔ (T.eq seen wanted ≡ true) }
+{
+    if seen == wanted {
+        Ok(())
+    } else {
+        Err(Fail::new(format_args!("saw {seen:?}, and wanted {wanted:?}")))
+    }
 }
 
 /// Nothing was refused, and what was seen is what was wanted.
-pub fn sees<T: Copy + PartialEq + Debug>(
-    rt: &impl Abort,
-    seen: Result<T, StoreError>,
-    wanted: T,
-) -> Result<(), Fail> {
-    is_same(rt, seen?, wanted);
-    Ok(())
+pub fn sees<T: Copy + PartialEq + Debug>(seen: Result<T, StoreError>, wanted: T) -> Result<(), Fail>
+    ensures ok { IfOk seen (λ value. IsOk result ↔ (T.eq value wanted ≡ true)) }
+    ensures err { IfErr seen (λ e. IsErr result) }
+{
+    is_same(seen?, wanted)
 }

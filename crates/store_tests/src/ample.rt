@@ -16,14 +16,14 @@ use std::alloc::{Allocator, Global};
 use std::test::Fail;
 
 #[test]
-fn total_maps_keep_numbers(rt: HostRuntime) {
+fn total_maps_keep_numbers(rt: HostRuntime) -> Result<(), Fail> {
     let names = [
         NameId::from_raw(5),
         NameId::from_raw(9),
         NameId::from_raw(70),
     ];
     let kept = kept_by_new::<NameId, u64, Global, Vec<u64>>(rt.alloc(), names, 4);
-    is_same(&rt, kept, Ok([4, 0, 0]));
+    is_same(kept, Ok([4, 0, 0]))
 }
 
 #[test]
@@ -36,8 +36,7 @@ fn total_maps_keep_slots(rt: HostRuntime) -> Result<(), Fail> {
     let seven = Slot::new(Some(7));
     let kept = kept_by_new::<SolvableId, Slot, Global, Vec<Slot>>(rt.alloc(), solvables, seven);
     let [slot, _, _] = kept?;
-    is_same(&rt, slot.number(), Some(7));
-    Ok(())
+    is_same(slot.number(), Some(7))
 }
 
 /// The values that a new map keeps at three keys, of which the first is given this one, and there is room at the
@@ -67,8 +66,7 @@ fn kept_values<K: Copy, V: DefaultValue, A: Allocator + Copy, M: IdMap<K, V, A>>
 #[test]
 fn requirement_maps_keep_the_later_value(rt: HostRuntime) -> Result<(), Fail> {
     let seen = new_map_values(rt.alloc())?;
-    is_same(&rt, seen, [None, None, Some(1), Some(5), None]);
-    Ok(())
+    is_same(seen, [None, None, Some(1), Some(5), None])
 }
 
 /// What a new map answers to three values, of which the last has the first one's requirement; and what it then keeps of
@@ -91,12 +89,12 @@ fn map_values<A: Allocator + Copy>(
 }
 
 #[test]
-fn variables_count_up(rt: HostRuntime) {
+fn variables_count_up(rt: HostRuntime) -> Result<(), Fail> {
     let (first, second) = (SolvableId::from_raw(8), SolvableId::from_raw(2));
     let seen = new_variables_seen::<NameId, _, Global>(rt.alloc(), first, second);
     let interned = [variable(1), variable(2), variable(1)];
     let states = [(3, Some(variable(2))), (2, None)];
-    is_same(&rt, seen, Ok((interned, states)));
+    is_same(seen, Ok((interned, states)))
 }
 
 /// What is seen of variables: what two solvables are interned as, where the first comes again; and how many there
@@ -133,15 +131,15 @@ fn variables_seen<N: Copy, S: SolverId<A>, A: Allocator + Copy>(
 }
 
 #[test]
-fn origins_name_their_solvable(rt: HostRuntime) {
+fn origins_name_their_solvable(rt: HostRuntime) -> Result<(), Fail> {
     let first = SolvableId::from_raw(8);
     let origin: VariableOrigin<NameId, SolvableId> = VariableOrigin::Solvable(first);
-    is_same(&rt, origin.as_solvable(), Some(first));
+    is_same(origin.as_solvable(), Some(first))
 }
 
 #[test]
-fn maps_of_decisions_keep_values(rt: HostRuntime) {
-    is_same(&rt, kept_decision(rt.alloc()), Ok(Some(false)));
+fn maps_of_decisions_keep_values(rt: HostRuntime) -> Result<(), Fail> {
+    is_same(kept_decision(rt.alloc()), Ok(Some(false)))
 }
 
 /// What a new map keeps of a variable that it is told is false.
@@ -155,10 +153,10 @@ fn kept_decision<A: Allocator + Copy>(heap: A) -> Result<Option<bool>, StoreErro
 }
 
 #[test]
-fn the_trail_takes_decisions(rt: HostRuntime) {
+fn the_trail_takes_decisions(rt: HostRuntime) -> Result<(), Fail> {
     let (taken, kept) = trail_seen(rt.alloc());
-    is_same(&rt, taken, (Ok(true), Ok(false)));
-    is_same(&rt, kept, (Some(true), 7));
+    is_same(taken, (Ok(true), Ok(false)))?;
+    is_same(kept, (Some(true), 7))
 }
 
 /// Whether a new trail takes a decision as a new one, and the same of another clause at another level; and the value
@@ -178,8 +176,7 @@ type Taken = (Result<bool, AddFault>, Result<bool, AddFault>);
 fn the_queue_takes_clauses(rt: HostRuntime) -> Result<(), Fail> {
     let provider = lists_of(rt.alloc(), Example::OnePackage)?;
     let answer = new_queue_answer(rt.alloc(), provider);
-    is_same(&rt, answer, Ok(Some((1, Answer::Falsified(clause(0))))));
-    Ok(())
+    is_same(answer, Ok(Some((1, Answer::Falsified(clause(0))))))
 }
 
 /// How many clauses a new queue has, and what it answers, once it has one whose parent is true. None if the interner
@@ -218,11 +215,11 @@ fn queue_answer<I: Interner, A: Allocator + Copy>(
 }
 
 #[test]
-fn a_store_obeys_each_command(rt: HostRuntime) {
-    dense_gives(&rt, Example::EachCommand, Way::Steps);
+fn a_store_obeys_each_command(rt: HostRuntime) -> Result<(), Fail> {
+    dense_gives(&rt, Example::EachCommand, Way::Steps)
 }
 
 #[test]
-fn a_store_of_sparse_ids_obeys_each_command(rt: HostRuntime) {
-    sparse_gives(&rt, Example::EachCommand, Way::Steps);
+fn a_store_of_sparse_ids_obeys_each_command(rt: HostRuntime) -> Result<(), Fail> {
+    sparse_gives(&rt, Example::EachCommand, Way::Steps)
 }

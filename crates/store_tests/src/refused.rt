@@ -7,7 +7,7 @@ use resolvo_ids::{SolvableId, StoreError};
 use resolvo_store::{Command, Reply};
 use seen::is_same;
 use std::alloc::{Allocator, Global};
-use std::process::Abort;
+use std::test::Fail;
 
 /// The request to refuse, by its number from when it is armed, and the memory that is asked.
 #[derive(Clone, Copy)]
@@ -95,11 +95,11 @@ fn are_same<A: Allocator>(
 
 /// Whether there was a request of this number, which was refused.
 fn is_met(
-    rt: &(impl Abort + AllocGlobal),
+    rt: &impl AllocGlobal,
     way: Way,
     commands: &[Command<SolvableId>],
     number: u64,
-) -> bool {
+) -> Result<bool, Fail> {
     let heap = Refusing::new(rt.alloc());
     let ample = Refusing::new(rt.alloc());
     let refusal = Refusal {
@@ -110,18 +110,17 @@ fn is_met(
     let is_refused = !heap.is_armed();
     drop(ample);
     drop(heap);
-    is_as_refused(rt, seen, number, is_refused);
-    is_refused
+    is_as_refused(seen, number, is_refused)?;
+    Ok(is_refused)
 }
 
 /// Steps go on after the command that is refused. A run is refused whole at its first request, the room for the
 /// replies, and goes on after any later one.
 fn is_as_refused(
-    rt: &impl Abort,
     seen: Result<Option<Agreement>, StoreError>,
     number: u64,
     is_refused: bool,
-) {
+) -> Result<(), Fail> {
     let wanted = Agreement {
         number,
         count: TWO_PACKAGES_WANTED.replies.len(),
@@ -129,28 +128,28 @@ fn is_as_refused(
         agrees: true,
     };
     match seen {
-        Ok(None) => is_same(rt, number, 1),
-        _ => is_same(rt, seen, Ok(Some(wanted))),
+        Ok(None) => is_same(number, 1),
+        _ => is_same(seen, Ok(Some(wanted))),
     }
 }
 
-fn each_request_is_refused(rt: &(impl Abort + AllocGlobal), way: Way) {
+/// There are more than ten requests to refuse, and fewer than a thousand.
+fn each_request_is_refused(rt: &impl AllocGlobal, way: Way) -> Result<(), Fail> {
     let commands = two_packages_commands();
     for number in 1..1000u64 {
-        if !is_met(rt, way, &commands, number) {
-            assert!(rt; number > 10, "there are requests to refuse");
-            return;
+        if !is_met(rt, way, &commands, number)? {
+            return is_same(number > 10, true);
         }
     }
-    assert!(rt; false, "each run met a refusal");
+    Err(Fail::new("each run met a refusal"))
 }
 
 #[test]
-fn one_step_is_refused(rt: HostRuntime) {
-    each_request_is_refused(&rt, Way::Steps);
+fn one_step_is_refused(rt: HostRuntime) -> Result<(), Fail> {
+    each_request_is_refused(&rt, Way::Steps)
 }
 
 #[test]
-fn runs_go_on_after_a_refusal(rt: HostRuntime) {
-    each_request_is_refused(&rt, Way::Run);
+fn runs_go_on_after_a_refusal(rt: HostRuntime) -> Result<(), Fail> {
+    each_request_is_refused(&rt, Way::Run)
 }

@@ -14,7 +14,7 @@ use resolvo_provider::{DependencyProvider, Interner};
 use resolvo_store::{ClauseStore, Command, Reply};
 use seen::is_same;
 use std::alloc::Allocator;
-use std::process::Abort;
+use std::test::Fail;
 
 /// How a store is given commands.
 #[derive(Clone, Copy)]
@@ -37,7 +37,7 @@ pub(crate) struct Played<A: Allocator> {
 }
 
 /// A new store over the example's lists, which list two candidates, replies as wanted.
-pub(crate) fn dense_gives(rt: &(impl Abort + AllocGlobal), example: Example, way: Way) {
+pub(crate) fn dense_gives(rt: &impl AllocGlobal, example: Example, way: Way) -> Result<(), Fail> {
     match example {
         Example::TwoPackages => dense_case(rt, example, &two_packages_commands(), way),
         Example::OnePackage => dense_case(rt, example, &one_package_commands(), way),
@@ -49,17 +49,17 @@ pub(crate) fn dense_gives(rt: &(impl Abort + AllocGlobal), example: Example, way
 }
 
 fn dense_case(
-    rt: &(impl Abort + AllocGlobal),
+    rt: &impl AllocGlobal,
     example: Example,
     commands: &[Command<SolvableId>],
     way: Way,
-) {
+) -> Result<(), Fail> {
     let played = dense_play(rt.alloc(), rt.alloc(), example, commands, way, None);
-    is_as_wanted(rt, played, example);
+    is_as_wanted(played, example)
 }
 
 /// The same of a store whose ids are sparse.
-pub(crate) fn sparse_gives(rt: &(impl Abort + AllocGlobal), example: Example, way: Way) {
+pub(crate) fn sparse_gives(rt: &impl AllocGlobal, example: Example, way: Way) -> Result<(), Fail> {
     match example {
         Example::TwoPackages => sparse_case(rt, example, &two_packages_commands(), way),
         Example::OnePackage => sparse_case(rt, example, &one_package_commands(), way),
@@ -71,22 +71,21 @@ pub(crate) fn sparse_gives(rt: &(impl Abort + AllocGlobal), example: Example, wa
 }
 
 fn sparse_case(
-    rt: &(impl Abort + AllocGlobal),
+    rt: &impl AllocGlobal,
     example: Example,
     commands: &[Command<SparseSolvable>],
     way: Way,
-) {
+) -> Result<(), Fail> {
     let played = sparse_play(rt.alloc(), rt.alloc(), example, commands, way);
-    is_as_wanted(rt, played, example);
+    is_as_wanted(played, example)
 }
 
 /// What was seen is as wanted: two candidates, the replies, and at the end the root's value, no other and no falsified
 /// clause.
 fn is_as_wanted<A: Allocator>(
-    rt: &impl Abort,
     played: Result<Played<A>, StoreError>,
     example: Example,
-) {
+) -> Result<(), Fail> {
     let wanted = wanted_of(example);
     let seen = match played {
         Ok(played) => {
@@ -97,7 +96,7 @@ fn is_as_wanted<A: Allocator>(
         Err(error) => Err(error),
     };
     let end = (wanted.root, None, None);
-    is_same(rt, seen, Ok((2, wanted.replies.len(), None, end)));
+    is_same(seen, Ok((2, wanted.replies.len(), None, end)))
 }
 
 /// How many candidates and replies there are, the first reply that isn't as wanted, and the end.

@@ -2,53 +2,54 @@
 //! ones.
 use crate::script::Example;
 use crate::stores::{Way, dense_gives, sparse_gives};
+use std::test::Fail;
 
 #[test]
-fn two_packages_are_decided_by_steps(rt: HostRuntime) {
-    dense_gives(&rt, Example::TwoPackages, Way::Steps);
+fn two_packages_are_decided_by_steps(rt: HostRuntime) -> Result<(), Fail> {
+    dense_gives(&rt, Example::TwoPackages, Way::Steps)
 }
 
 #[test]
-fn two_packages_are_decided_by_a_run(rt: HostRuntime) {
-    dense_gives(&rt, Example::TwoPackages, Way::Run);
+fn two_packages_are_decided_by_a_run(rt: HostRuntime) -> Result<(), Fail> {
+    dense_gives(&rt, Example::TwoPackages, Way::Run)
 }
 
 #[test]
-fn one_package_is_falsified_by_steps(rt: HostRuntime) {
-    dense_gives(&rt, Example::OnePackage, Way::Steps);
+fn one_package_is_falsified_by_steps(rt: HostRuntime) -> Result<(), Fail> {
+    dense_gives(&rt, Example::OnePackage, Way::Steps)
 }
 
 #[test]
-fn one_package_is_falsified_by_a_run(rt: HostRuntime) {
-    dense_gives(&rt, Example::OnePackage, Way::Run);
+fn one_package_is_falsified_by_a_run(rt: HostRuntime) -> Result<(), Fail> {
+    dense_gives(&rt, Example::OnePackage, Way::Run)
 }
 
 #[test]
-fn two_packages_of_sparse_ids_are_decided_by_steps(rt: HostRuntime) {
-    sparse_gives(&rt, Example::TwoPackages, Way::Steps);
+fn two_packages_of_sparse_ids_are_decided_by_steps(rt: HostRuntime) -> Result<(), Fail> {
+    sparse_gives(&rt, Example::TwoPackages, Way::Steps)
 }
 
 #[test]
-fn two_packages_of_sparse_ids_are_decided_by_a_run(rt: HostRuntime) {
-    sparse_gives(&rt, Example::TwoPackages, Way::Run);
+fn two_packages_of_sparse_ids_are_decided_by_a_run(rt: HostRuntime) -> Result<(), Fail> {
+    sparse_gives(&rt, Example::TwoPackages, Way::Run)
 }
 
 #[test]
-fn one_package_of_sparse_ids_is_falsified_by_steps(rt: HostRuntime) {
-    sparse_gives(&rt, Example::OnePackage, Way::Steps);
+fn one_package_of_sparse_ids_is_falsified_by_steps(rt: HostRuntime) -> Result<(), Fail> {
+    sparse_gives(&rt, Example::OnePackage, Way::Steps)
 }
 
 #[test]
-fn one_package_of_sparse_ids_is_falsified_by_a_run(rt: HostRuntime) {
-    sparse_gives(&rt, Example::OnePackage, Way::Run);
+fn one_package_of_sparse_ids_is_falsified_by_a_run(rt: HostRuntime) -> Result<(), Fail> {
+    sparse_gives(&rt, Example::OnePackage, Way::Run)
 }
 
 #[test]
-fn a_union_of_one_set_twice_is_decided_by_steps(rt: HostRuntime) {
-    dense_gives(&rt, Example::SetTwice, Way::Steps);
+fn a_union_of_one_set_twice_is_decided_by_steps(rt: HostRuntime) -> Result<(), Fail> {
+    dense_gives(&rt, Example::SetTwice, Way::Steps)
 }
 
 #[test]
-fn a_union_over_sparse_ids_is_decided_by_a_run(rt: HostRuntime) {
-    sparse_gives(&rt, Example::SetTwice, Way::Run);
+fn a_union_over_sparse_ids_is_decided_by_a_run(rt: HostRuntime) -> Result<(), Fail> {
+    sparse_gives(&rt, Example::SetTwice, Way::Run)
 }
