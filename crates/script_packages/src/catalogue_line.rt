@@ -67,9 +67,7 @@ fn package(text: &[u8]) -> Option<CatalogueLine<'_>>
     requires { IsPrinted text.now }
     ensures { plain result ≡ package_of (words text.now) }
 {
-    let Some((name, versions)) = next_word(text) else {
-        return None;
-    };
+    let (name, versions) = next_word(text)?;
     match next_word(versions) {
         Some(_) => {
             let name = text_of(name);
@@ -84,21 +82,16 @@ fn set(text: &[u8]) -> Option<CatalogueLine<'_>>
     requires { IsPrinted text.now }
     ensures { plain result ≡ set_of (words text.now) }
 {
-    let Some((name, text)) = next_word(text) else {
-        return None;
-    };
-    let Some((low, text)) = next_word(text) else {
-        return None;
-    };
-    let Some((high, text)) = next_word(text) else {
-        return None;
-    };
-    match (next_word(text), id(low), id(high)) {
-        (None, Some(low), Some(high)) => {
+    let (name, text) = next_word(text)?;
+    let (low, text) = next_word(text)?;
+    let (high, text) = next_word(text)?;
+    match next_word(text) {
+        Some(_) => None,
+        None => {
             let name = text_of(name);
+            let (low, high) = (id(low)?, id(high)?);
             Some(CatalogueLine::Set { name, low, high })
         }
-        _ => None,
     }
 }
 
@@ -116,20 +109,14 @@ fn union_line(text: &[u8]) -> Option<CatalogueLine<'_>>
 fn condition(text: &[u8]) -> Option<CatalogueLine<'_>>
     ensures { plain result ≡ condition_of (words text.now) }
 {
-    let Some((kind, text)) = next_word(text) else {
-        return None;
-    };
-    let Some((first, text)) = next_word(text) else {
-        return None;
-    };
-    let condition = match next_word(text) {
-        None => set_condition(kind, first),
-        Some((second, rest)) if next_word(rest).is_none() => joined_condition(kind, first, second),
-        Some(_) => None,
-    };
-    match condition {
-        Some(condition) => Some(CatalogueLine::Condition(condition)),
-        None => None,
+    let (kind, text) = next_word(text)?;
+    let (first, text) = next_word(text)?;
+    match next_word(text) {
+        None => Some(CatalogueLine::Condition(set_condition(kind, first)?)),
+        Some((second, rest)) => match next_word(rest) {
+            None => Some(CatalogueLine::Condition(joined_condition(kind, first, second)?)),
+            Some(_) => None,
+        },
     }
 }
 
@@ -137,12 +124,11 @@ fn condition(text: &[u8]) -> Option<CatalogueLine<'_>>
 fn set_condition(kind: &[u8], set: &[u8]) -> Option<Condition>
     ensures { result ≡ set_condition kind.now set.now }
 {
-    if !is_word(kind, b"set") {
-        return None;
-    }
-    match id(set) {
-        Some(index) => Some(Condition::Requirement(VersionSetId(index))),
-        None => None,
+    if is_word(kind, b"set") {
+        let index = id(set)?;
+        Some(Condition::Requirement(VersionSetId(index)))
+    } else {
+        None
     }
 }
 
@@ -150,10 +136,9 @@ fn set_condition(kind: &[u8], set: &[u8]) -> Option<Condition>
 fn joined_condition(kind: &[u8], left: &[u8], right: &[u8]) -> Option<Condition>
     ensures { result ≡ joined_condition (operator_of kind.now) left.now right.now }
 {
-    match (operator(kind), id(left), id(right)) {
-        (Some(operator), Some(left), Some(right)) => Some(Condition::Binary(operator, left, right)),
-        _ => None,
-    }
+    let operator = operator(kind)?;
+    let (left, right) = (id(left)?, id(right)?);
+    Some(Condition::Binary(operator, left, right))
 }
 
 fn operator(kind: &[u8]) -> Option<LogicalOperator>
@@ -173,11 +158,10 @@ fn string(text: &[u8]) -> Option<CatalogueLine<'_>>
     requires { IsPrinted text.now }
     ensures { plain result ≡ string_of (words text.now) }
 {
+    let (word, text) = next_word(text)?;
     match next_word(text) {
-        Some((word, rest)) if next_word(rest).is_none() => {
-            Some(CatalogueLine::String(text_of(word)))
-        }
-        _ => None,
+        Some(_) => None,
+        None => Some(CatalogueLine::String(text_of(word))),
     }
 }
 

@@ -11,9 +11,11 @@ use script_text::number;
 pub fn id<I: DenseIndex>(word: &[u8]) -> Option<I>
     ensures { result ≡ option_map I.id_at (below I.limit (number_of word.now)) }
 {
-    match number(word) {
-        Some(number) if I::in_range(number as usize) => Some(I::from_index(number as usize)),
-        _ => None,
+    let index = number(word)? as usize;
+    if I::in_range(index) {
+        Some(I::from_index(index))
+    } else {
+        None
     }
 }
 

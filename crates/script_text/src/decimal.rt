@@ -33,8 +33,5 @@ fn with_digit(value: u64, digit: u8) -> Option<u64>
     if !digit.is_ascii_digit() {
         return None;
     }
-    match value.checked_mul(10) {
-        Some(tens) => tens.checked_add(u64::from(digit - b'0')),
-        None => None,
-    }
+    value.checked_mul(10)?.checked_add(u64::from(digit - b'0'))
 }

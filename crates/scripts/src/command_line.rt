@@ -48,9 +48,10 @@ fn command(said: Statement<'_>) -> Option<Command<SolvableId>>
 fn only_word(text: &[u8]) -> Option<&[u8]>
     ensures { option_map (λ w. w.now) result ≡ only_word (words text.now) }
 {
-    match next_word(text) {
-        Some((word, rest)) if next_word(rest).is_none() => Some(word),
-        _ => None,
+    let (word, rest) = next_word(text)?;
+    match next_word(rest) {
+        Some(_) => None,
+        None => Some(word),
     }
 }
 
@@ -58,42 +59,33 @@ fn only_word(text: &[u8]) -> Option<&[u8]>
 fn variable(text: &[u8]) -> Option<Command<SolvableId>>
     ensures { result ≡ variable_command (words text.now) }
 {
-    match id(only_word(text)?) {
-        Some(solvable) => Some(Command::Variable(solvable)),
-        None => None,
-    }
+    let solvable = id(only_word(text)?)?;
+    Some(Command::Variable(solvable))
 }
 
 /// `load R`
 fn load(text: &[u8]) -> Option<Command<SolvableId>>
     ensures { result ≡ load_command (words text.now) }
 {
-    match requirement(only_word(text)?) {
-        Some(loaded) => Some(Command::Load(loaded)),
-        None => None,
-    }
+    let loaded = requirement(only_word(text)?)?;
+    Some(Command::Load(loaded))
 }
 
 /// `requires PARENT R` or `requires PARENT R DISJUNCTION`
 fn requires_clause(text: &[u8]) -> Option<Command<SolvableId>>
     ensures { result ≡ requires_command (words text.now) }
 {
-    let Some((parent, text)) = next_word(text) else {
-        return None;
-    };
-    let Some((required, text)) = next_word(text) else {
-        return None;
-    };
-    let (Some(parent), Some(required)) = (id(parent), requirement(required)) else {
-        return None;
-    };
+    let (parent, text) = next_word(text)?;
+    let (required, text) = next_word(text)?;
     match next_word(text) {
-        None => Some(Command::Requires(parent, required, None)),
-        Some((disjunction, rest)) if next_word(rest).is_none() => match id(disjunction) {
-            Some(disjunction) => Some(Command::Requires(parent, required, Some(disjunction))),
-            None => None,
+        None => Some(Command::Requires(id(parent)?, requirement(required)?, None)),
+        Some((disjunction, text)) => match next_word(text) {
+            Some(_) => None,
+            None => {
+                let (parent, required) = (id(parent)?, requirement(required)?);
+                Some(Command::Requires(parent, required, Some(id(disjunction)?)))
+            }
         },
-        Some(_) => None,
     }
 }
 
@@ -101,26 +93,16 @@ fn requires_clause(text: &[u8]) -> Option<Command<SolvableId>>
 fn assign(text: &[u8]) -> Option<Command<SolvableId>>
     ensures { result ≡ assign_command (words text.now) }
 {
-    let Some((variable, text)) = next_word(text) else {
-        return None;
-    };
-    let Some((value, text)) = next_word(text) else {
-        return None;
-    };
-    let Some((clause, text)) = next_word(text) else {
-        return None;
-    };
-    let Some((level, text)) = next_word(text) else {
-        return None;
-    };
-    if next_word(text).is_some() {
-        return None;
-    }
-    match (id(variable), truth(value), id(clause), id(level)) {
-        (Some(variable), Some(value), Some(clause), Some(level)) => {
-            Some(Command::Assign(variable, value, clause, level))
+    let (variable, text) = next_word(text)?;
+    let (value, text) = next_word(text)?;
+    let (clause, text) = next_word(text)?;
+    let (level, text) = next_word(text)?;
+    match next_word(text) {
+        Some(_) => None,
+        None => {
+            let (variable, value) = (id(variable)?, truth(value)?);
+            Some(Command::Assign(variable, value, id(clause)?, id(level)?))
         }
-        _ => None,
     }
 }
 
@@ -128,10 +110,8 @@ fn assign(text: &[u8]) -> Option<Command<SolvableId>>
 fn undo_until(text: &[u8]) -> Option<Command<SolvableId>>
     ensures { result ≡ undo_command (words text.now) }
 {
-    match id(only_word(text)?) {
-        Some(level) => Some(Command::UndoUntil(level)),
-        None => None,
-    }
+    let level = id(only_word(text)?)?;
+    Some(Command::UndoUntil(level))
 }
 
 /// `decide`
