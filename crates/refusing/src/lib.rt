@@ -1,8 +1,8 @@
 //! An allocator that refuses one request, for tests of what a refusal leaves behind.
 //!
-//! What is proved is that it keeps the contract of `Allocator`: a block that it answers is whole and nobody else's, and is
-//! freed only by the right that came with it, at its own size. Which request it refuses is only tested, since no contract can
-//! say what a `Cell` holds.
+//! What is proved is that it keeps the contract of `Allocator`: a block that it answers is whole and nobody else's, and
+//! is freed only by the right that came with it, at its own size. Which request it refuses is only tested, since no
+//! contract can say what a `Cell` holds.
 #![tactic(auto)]
 
 use std::alloc::{AllocError, Allocator};

@@ -1,7 +1,7 @@
 //! Typed ids, and the refusals.
 //!
-//! Everything above speaks by these ids. A dense id stands for an index ([`DenseIndex`]), so that what is kept by it lies
-//! in vectors: total maps and sets in `resolvo_maps`, lists of values and finite maps in `resolvo_storage`.
+//! Everything above speaks by these ids. A dense id stands for an index ([`DenseIndex`]), so that what is kept by it
+//! lies in vectors: total maps and sets in `resolvo_maps`, lists of values and finite maps in `resolvo_storage`.
 #![tactic(auto)]
 
 mod candidates_id;

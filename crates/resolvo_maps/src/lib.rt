@@ -1,7 +1,7 @@
 //! Total maps and sets that are kept by ids.
 //!
-//! What is generic in an id asks only for [`SolverId`], which chooses its maps ([`IdMap`]) and its set ([`IdSet`]) itself:
-//! vectors and words of bits for dense ids, tables for sparse ones.
+//! What is generic in an id asks only for [`SolverId`], which chooses its maps ([`IdMap`]) and its set ([`IdSet`])
+//! itself: vectors and words of bits for dense ids, tables for sparse ones.
 #![tactic(auto)]
 
 mod default_value;

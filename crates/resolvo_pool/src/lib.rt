@@ -1,5 +1,5 @@
-//! The pool, where an ecosystem keeps its strings, names, solvables, version sets, unions and conditions, each by its id.
-//! A provider over a pool answers what `resolvo_provider` asks.
+//! The pool, where an ecosystem keeps its strings, names, solvables, version sets, unions and conditions, each by its
+//! id. A provider over a pool answers what `resolvo_provider` asks.
 #![tactic(auto)]
 
 mod interned;

@@ -1,5 +1,5 @@
-//! What a resolver asks of an ecosystem of packages: requirements and conditions, the interner that tells what an id stands
-//! for and writes its text, and the provider that answers which packages there are.
+//! What a resolver asks of an ecosystem of packages: requirements and conditions, the interner that tells what an id
+//! stands for and writes its text, and the provider that answers which packages there are.
 #![tactic(auto)]
 
 mod condition;

@@ -43,8 +43,8 @@ impl<A: Allocator + Copy> MergedText<A> {
         }
     }
 
-    /// Appends the name, a blank and the distinct texts in ascending order of their bytes, with ` | ` between them. After
-    /// a refusal `out` is as it was.
+    /// Appends the name, a blank and the distinct texts in ascending order of their bytes, with ` | ` between them.
+    /// After a refusal `out` is as it was.
     pub(crate) fn append_to(mut self, out: &mut String<A>) -> Result<(), StoreError>
         ensures ok { OnOk result (IsMerged (string_bytes self.name) self.texts.items (string_bytes out.old) (string_bytes out.new)) }
         ensures continued { OnOk result (IsContinued out.old out.new) }

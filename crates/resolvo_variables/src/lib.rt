@@ -1,4 +1,5 @@
-//! The variables of a clause store: what each stands for, the variable of each solvable, and those of lists of solvables.
+//! The variables of a clause store: what each stands for, the variable of each solvable, and those of lists of
+//! solvables.
 #![tactic(auto)]
 
 mod forget;

@@ -107,8 +107,8 @@ fn intern_twice<N: Copy, S: SolverId<A>, A: Allocator + Copy>(
     Ok((made, copy))
 }
 
-/// The variables of lists of solvables, each of which gets one if it has none; list by list, twice: to answer, and to keep.
-/// A refusal leaves the variables as they were.
+/// The variables of lists of solvables, each of which gets one if it has none; list by list, twice: to answer, and to
+/// keep. A refusal leaves the variables as they were.
 pub fn intern_lists<N: Copy, S: SolverId<A>, A: Allocator + Copy>(
     variables: &mut VariableMap<N, S, A>,
     alloc: A,

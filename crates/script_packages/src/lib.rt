@@ -1,8 +1,8 @@
 //! The packages that a script's catalogue lists.
 //!
-//! [`read_catalogue`] makes [`Packages`] of the lines up to `begin`, and hands back the lines behind it: the commands, of
-//! which nothing is known here but that words of theirs stand for ids too. The packages answer what a store asks of its
-//! provider.
+//! [`read_catalogue`] makes [`Packages`] of the lines up to `begin`, and hands back the lines behind it: the commands,
+//! of which nothing is known here but that words of theirs stand for ids too. The packages answer what a store asks of
+//! its provider.
 #![tactic(auto)]
 
 mod catalogue;

@@ -1,7 +1,7 @@
 //! What a script's text is made of: lines, statements, words and numbers; how it is read, and its answer written.
 //!
-//! A script is read whole by [`read_whole`], and cut into lines, statements and words. An answer waits in a vector, and is
-//! written in large pieces by [`write_much`] and [`write_rest`]. Nothing is known here of packages and commands.
+//! A script is read whole by [`read_whole`], and cut into lines, statements and words. An answer waits in a vector, and
+//! is written in large pieces by [`write_much`] and [`write_rest`]. Nothing is known here of packages and commands.
 #![tactic(auto)]
 
 mod decimal;

@@ -2,7 +2,8 @@
 //!
 //! [`script`] reads a whole script, gives its commands in turn to a clause store over the packages that its catalogue
 //! lists, and writes a line for each reply. Its contract says that these lines are the texts of an abstract store's
-//! replies: `specs/Scripts.antt` defines what a whole script is answered, `specs/Transcript.antt` what its commands are.
+//! replies: `specs/Scripts.antt` defines what a whole script is answered, `specs/Transcript.antt` what its commands
+//! are.
 #![tactic(auto)]
 
 mod command_line;

@@ -1,5 +1,5 @@
-//! The replies that are wanted, in plain numbers, and what compares a reply with one in place. They own nothing, so that
-//! a list of them is a constant.
+//! The replies that are wanted, in plain numbers, and what compares a reply with one in place. They own nothing, so
+//! that a list of them is a constant.
 use crate::script::{clause, variable};
 use resolvo_ids::{StoreError, VariableId};
 use resolvo_queue::QueueDecision;
