@@ -197,24 +197,13 @@ fn solvable_count(pool: &Pool<Noted, u32>) -> usize {
 }
 
 fn unions(pool: &mut Pool<Noted, u32>, set: VersionSetId) -> Result<Numbers, StoreError> {
-    let numbers = [union_of_one(pool, set)?, union_of_three(pool, set)?];
+    let numbers = [new_union(pool, set)?, new_union(pool, set)?];
     let is_last = is_union(pool, VersionSetUnionId(1), &[set, set, set]);
     Ok((numbers, is_last))
 }
 
-/// The number of a new union of a version set alone, if the set is of the pool.
-fn union_of_one(pool: &mut Pool<Noted, u32>, set: VersionSetId) -> Result<Option<u32>, StoreError> {
-    if !pool.knows_version_set(set) {
-        return Ok(None);
-    }
-    Ok(Some(pool.intern_version_set_union(set, &[])?.0))
-}
-
 /// The number of a new union of a version set three times, if the set is of the pool.
-fn union_of_three(
-    pool: &mut Pool<Noted, u32>,
-    set: VersionSetId,
-) -> Result<Option<u32>, StoreError> {
+fn new_union(pool: &mut Pool<Noted, u32>, set: VersionSetId) -> Result<Option<u32>, StoreError> {
     if !pool.knows_version_set(set) {
         return Ok(None);
     }
