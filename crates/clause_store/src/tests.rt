@@ -1,6 +1,5 @@
 //! Scripts and their answers, and devices that fail.
-use resolvo_ids::{StoreError, VersionSetId, VersionSetUnionId};
-use resolvo_provider::{Interner, Requirement};
+use providers::{Interner, Requirement};
 use script_packages::{Packages, read_catalogue};
 use script_text::{ScriptFault, status};
 use scripts::script;
@@ -9,6 +8,7 @@ use std::io;
 use std::io::{Error, ErrorKind, Read, Write};
 use std::process::Abort;
 use std::test::Fail;
+use typed_ids::{StoreError, VersionSetId, VersionSetUnionId};
 
 /// A script, what it is answered, and the exit status.
 #[derive(Clone, Copy)]

@@ -5,12 +5,12 @@
 use crate::fault::Fault;
 use crate::pool::{Version, intern_each, names};
 use crate::report::{Measured, line};
-use resolvo_ids::{DenseIndex, NameId};
-use resolvo_pool::Pool;
+use package_pool::Pool;
 use std::alloc::Global;
 use std::collections::HashMap;
 use std::rt::Clock;
 use std::time::Instant;
+use typed_ids::{DenseIndex, NameId};
 
 /// A way to look for names.
 #[derive(Clone, Copy)]

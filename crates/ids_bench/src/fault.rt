@@ -1,7 +1,7 @@
 //! What ends a measurement early.
-use resolvo_ids::StoreError;
 use std::alloc::AllocError;
 use std::io;
+use typed_ids::StoreError;
 
 #[derive(Clone, Copy, Debug)]
 pub enum Fault {

@@ -2,10 +2,10 @@
 use crate::fault::Fault;
 use crate::order::{ids, rounds};
 use crate::work::{Work, compare};
-use resolvo_ids::{DenseIndex, NameId, StoreError};
-use resolvo_maps::IndexedSet;
+use id_maps::IndexedSet;
 use std::alloc::Global;
 use std::rt::Clock;
+use typed_ids::{DenseIndex, NameId, StoreError};
 
 /// Measures `insert` into new sets, and `contains` of a set that has the ids with even indexes.
 pub(crate) fn measure(rt: &(impl Print + Clock + AllocGlobal), size: u32) -> Result<(), Fault> {

@@ -2,9 +2,9 @@
 use crate::fault::Fault;
 use crate::order::{ids, rounds};
 use crate::work::{Work, compare};
-use resolvo_ids::{DenseIndex, NameId, StoreError};
-use resolvo_storage::Mapping;
+use id_storage::Mapping;
 use std::rt::Clock;
+use typed_ids::{DenseIndex, NameId, StoreError};
 
 /// Measures `insert` over filled slots, and `get`.
 pub(crate) fn measure(rt: &(impl Print + Clock + AllocGlobal), size: u32) -> Result<(), Fault> {

@@ -1,6 +1,6 @@
 //! The ids that the loops go through.
-use resolvo_ids::NameId;
 use std::alloc::{AllocError, Global};
+use typed_ids::NameId;
 
 /// How many calls a measured loop makes, about.
 const CALLS: u32 = 20_000_000;

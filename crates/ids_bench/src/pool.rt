@@ -7,12 +7,12 @@ use crate::fault::Fault;
 use crate::order::{ascending, ids, rounds};
 use crate::report::{Measured, line};
 use crate::work::{Work, compare};
-use resolvo_ids::{DenseIndex, NameId, StoreError};
-use resolvo_pool::{Pool, VersionSet};
+use package_pool::{Pool, VersionSet};
 use std::alloc::{AllocError, Global};
 use std::collections::HashMap;
 use std::rt::Clock;
 use std::time::Instant;
+use typed_ids::{DenseIndex, NameId, StoreError};
 
 /// No version sets come into the pool: this is what they would be.
 #[derive(PartialEq, Eq, Hash, Drop)]

@@ -2,10 +2,10 @@
 use crate::fault::Fault;
 use crate::order::rounds;
 use crate::work::{Work, compare};
-use resolvo_ids::{NameId, StoreError};
-use resolvo_maps::IdMap;
+use id_maps::IdMap;
 use std::alloc::Global;
 use std::rt::Clock;
+use typed_ids::{NameId, StoreError};
 
 /// Measures `set` at ascending ids, from an empty map on.
 pub(crate) fn measure(rt: &(impl Print + Clock + AllocGlobal), size: u32) -> Result<(), Fault> {

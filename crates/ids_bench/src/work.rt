@@ -1,9 +1,9 @@
 //! Loops that are measured beside one another.
 use crate::fault::Fault;
 use crate::report::{Measured, line};
-use resolvo_ids::StoreError;
 use std::rt::Clock;
 use std::time::Instant;
+use typed_ids::StoreError;
 
 /// A loop over all values, which is run once in each round.
 pub(crate) trait Work {

@@ -1,10 +1,10 @@
 //! A caller that is generic in the set.
 ghost use Rattle.std.specs.Prelude.{◌≡◌, ◌≢◌, true, false, IfOk, IfErr};
-ghost use Rattle.resolvo_ids.specs.Refusals.{IsGrowthRefusal};
+ghost use Rattle.typed_ids.specs.Refusals.{IsGrowthRefusal};
 
-use resolvo_ids::StoreError;
-use resolvo_maps::IdSet;
+use id_maps::IdSet;
 use std::alloc::Allocator;
+use typed_ids::StoreError;
 
 /// What a set says of two keys, of which one is put in twice.
 #[derive(Clone, Copy, Debug, PartialEq, Eq)]

@@ -1,10 +1,10 @@
 //! Arenas by their calls: each with ample memory, and the ids of 16 bits to their end.
 use crate::arena_callers::{added, count, pairs, replace, total};
-use resolvo_ids::{DenseIndex, InsertError, SolvableId, StoreError};
-use resolvo_storage::Arena;
-use seen::sees;
+use id_storage::Arena;
 use std::alloc::{AllocError, Allocator, Global};
 use std::test::Fail;
+use test_checks::sees;
+use typed_ids::{DenseIndex, InsertError, SolvableId, StoreError};
 
 /// An arena with these values.
 fn filled<A: Allocator + Copy>(alloc: A, values: &[u16]) -> Result<Arena<u16, u16, A>, StoreError> {

@@ -1,10 +1,10 @@
 //! Callers of arenas, generic in the ids: what they are told is enough.
 ghost use Rattle.std.specs.Prelude.{◌≡◌, ◌<◌, length, slice_set, sum, IfOk, IfSome};
-ghost use Rattle.resolvo_storage.specs.Arena.{pairs_from};
+ghost use Rattle.id_storage.specs.Arena.{pairs_from};
 
-use resolvo_ids::DenseIndex;
-use resolvo_storage::Arena;
+use id_storage::Arena;
 use std::alloc::{AllocError, Allocator};
+use typed_ids::DenseIndex;
 
 /// The pairs that going over an arena gives.
 pub fn pairs<TId: DenseIndex, V: Copy, A: Allocator>(

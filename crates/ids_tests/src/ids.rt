@@ -1,12 +1,12 @@
 //! Ids: their ranges and raw numbers, debug texts, defaults and orders.
-use resolvo_ids::{
-    CandidatesId, ClauseId, ConditionId, DenseId, DenseIndex, DependenciesId, DisjunctionId,
-    LearntClauseId, NameId, SolvableTag, StringId, VariableId, VersionSetId, VersionSetUnionId,
-};
 use std::alloc::AllocError;
 use std::fmt::Debug;
 use std::process::Abort;
 use std::test::Fail;
+use typed_ids::{
+    CandidatesId, ClauseId, ConditionId, DenseId, DenseIndex, DependenciesId, DisjunctionId,
+    LearntClauseId, NameId, SolvableTag, StringId, VariableId, VersionSetId, VersionSetUnionId,
+};
 
 #[test]
 fn variables_begin_at_the_root(rt: HostRuntime) {

@@ -2,11 +2,11 @@
 ghost use Rattle.std.specs.Prelude.{◌≡◌};
 
 use crate::mapping_callers::{clear, count_up, exchange, find_at_least};
-use resolvo_ids::{DenseId, InsertError, SolvableId, StoreError};
-use resolvo_storage::{Mapping, MappingIter};
-use seen::sees;
+use id_storage::{Mapping, MappingIter};
 use std::alloc::{Allocator, Global};
 use std::test::Fail;
+use test_checks::sees;
+use typed_ids::{DenseId, InsertError, SolvableId, StoreError};
 
 /// A domain of ids that are wider than any map.
 struct Wide;

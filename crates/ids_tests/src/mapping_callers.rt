@@ -1,11 +1,11 @@
 //! Callers of maps that know nothing of the ids but that they are dense, and nothing of the maps but their contracts.
 ghost use Rattle.std.specs.Prelude.{◌≡◌, ◌≢◌, ◌+◌, ◌<◌, ◌≤◌, ◌^◌, ◌-◌, ℕ, length, min, is_some, option_map, unwrap_or, Some, IfSome, IfNone, OnOk, OnErr, IsSomeAnd};
 ghost use Rattle.std.specs.Option.{ForSome};
-ghost use Rattle.resolvo_storage.specs.Mapping.{value_at};
-ghost use Rattle.resolvo_ids.specs.TotalMaps.{IsUpdate};
+ghost use Rattle.id_storage.specs.Mapping.{value_at};
+ghost use Rattle.typed_ids.specs.TotalMaps.{IsUpdate};
 
-use resolvo_ids::{DenseIndex, StoreError};
-use resolvo_storage::Mapping;
+use id_storage::Mapping;
+use typed_ids::{DenseIndex, StoreError};
 
 /// An id with a value of at least so much, if there is one.
 pub fn find_at_least<TId: DenseIndex>(mapping: &Mapping<TId, u32>, least: u32) -> Option<TId>

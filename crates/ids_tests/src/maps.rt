@@ -2,11 +2,11 @@
 ghost use Rattle.std.specs.Prelude.{◌≡◌, ◌/◌};
 
 use crate::ids::{is_text, shows};
-use resolvo_ids::{DenseId, NameId, NameTag, SparseId, StoreError};
-use resolvo_maps::{IdMap, SolverId};
-use seen::sees;
+use id_maps::{IdMap, SolverId};
 use std::alloc::{Allocator, Global};
 use std::test::Fail;
+use test_checks::sees;
+use typed_ids::{DenseId, NameId, NameTag, SparseId, StoreError};
 
 /// What [`lived`] reads at the keys 3, 4 and 5, and as the largest value, at each of its three times.
 const ANSWERS: [[u64; 4]; 3] = [[0, 0, 0, 0], [9, 0, 4, 9], [4, 0, 2, 4]];

@@ -2,12 +2,12 @@
 ghost use Rattle.std.specs.Prelude.{◌≢◌};
 
 use crate::any_set::{SetAnswers, set_answers};
-use resolvo_ids::{DenseId, NameId, NameTag, SolvableId, SolvableIdOrRoot, SparseId, StoreError};
-use resolvo_maps::{IndexedSet, SolverId, WithRootSet};
-use resolvo_storage::FrozenCopyMap;
-use seen::sees;
+use id_maps::{IndexedSet, SolverId, WithRootSet};
+use id_storage::FrozenCopyMap;
 use std::alloc::{Allocator, Global};
 use std::test::Fail;
+use test_checks::sees;
+use typed_ids::{DenseId, NameId, NameTag, SolvableId, SolvableIdOrRoot, SparseId, StoreError};
 
 const WANTED: SetAnswers = SetAnswers {
     has_before: false,

@@ -3,10 +3,10 @@ use Rattle.std.specs.Prelude.{◌≡◌, ℕ, ◌<◌, ◌≤◌, ◌+◌, Bool,
 use Rattle.std.specs.List.{AllByRecursion, list_all}
 use Rattle.std.proofs.lemmas.List.Elements.{All-from_recursion}
 use Rattle.std.proofs.Common.{arith, rules, cond, refl}
-use Rattle.resolvo_ids.specs.declared.version_set_id.VersionSetId.{VersionSetId}
-use Rattle.resolvo_ids.specs.declared.version_set_union_id.VersionSetUnionId.{VersionSetUnionId}
-use Rattle.resolvo_provider.specs.declared.condition.Condition.{Condition}
-use Rattle.resolvo_provider.specs.declared.condition.Condition.TheVariants.{Requirement}
+use Rattle.typed_ids.specs.declared.version_set_id.VersionSetId.{VersionSetId}
+use Rattle.typed_ids.specs.declared.version_set_union_id.VersionSetUnionId.{VersionSetUnionId}
+use Rattle.providers.specs.declared.condition.Condition.{Condition}
+use Rattle.providers.specs.declared.condition.Condition.TheVariants.{Requirement}
 use Rattle.plain_providers.specs.declared.lists.Package.{Package}
 use Rattle.plain_providers.specs.declared.lists.VersionRange.{VersionRange}
 

@@ -1,16 +1,16 @@
 //! A provider of plain lists.
 ghost use Rattle.std.specs.Prelude.{◌≡◌, ◌<◌, ◌≤◌, ◌^◌, ◌==◌, ◌&&◌, [], true, All, map, length, reverse, refl, IfOk, OnOk, OnErr, IfErr, nat_lt};
-ghost use Rattle.resolvo_ids.specs.declared.error.StoreError.TheVariants.{OutOfMemory};
-ghost use Rattle.resolvo_provider.specs.Provider.{filtered};
-ghost use Rattle.resolvo_provider.specs.Texts.{IsAppended, IsSameText};
+ghost use Rattle.typed_ids.specs.declared.error.StoreError.TheVariants.{OutOfMemory};
+ghost use Rattle.providers.specs.Provider.{filtered};
+ghost use Rattle.providers.specs.Texts.{IsAppended, IsSameText};
 ghost use Rattle.plain_providers.specs.Listed.{places_of, package_at, range_at, union_at, are_known, is_within, every_name, set_condition};
 
-use resolvo_ids::{
+use providers::{Condition, DependencyProvider, Interner};
+use std::alloc::Allocator;
+use typed_ids::{
     ConditionId, DenseIndex, NameId, SolvableId, StoreError, StringId, VersionSetId,
     VersionSetUnionId,
 };
-use resolvo_provider::{Condition, DependencyProvider, Interner};
-use std::alloc::Allocator;
 
 /// A solvable: a version of a package. Its id is its place in the list.
 #[derive(Clone, Copy, Debug, PartialEq, Eq)]
@@ -47,7 +47,7 @@ impl<A: Allocator + Copy> Interner for Lists<A> {
 
     ghost use Rattle.plain_providers.specs.Listed.{unions_known};
 
-    ghost catalogue = { λ p. record {
+    ghost universe = { λ p. record {
       knows_string = λ s. s.0 == 0;
       knows_name = λ n. true;
       knows_solvable = λ s. nat_lt s (length p.packages.items);

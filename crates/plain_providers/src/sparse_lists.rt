@@ -1,14 +1,14 @@
 //! A provider of plain lists whose ids are sparse.
 ghost use Rattle.std.specs.Prelude.{◌≡◌, map, length, refl, IfOk, IfErr};
-ghost use Rattle.resolvo_ids.specs.declared.error.StoreError.TheVariants.{OutOfMemory};
+ghost use Rattle.typed_ids.specs.declared.error.StoreError.TheVariants.{OutOfMemory};
 
 use crate::lists::{Lists, append_name};
-use resolvo_ids::{
+use providers::{Condition, DependencyProvider, Interner};
+use std::alloc::Allocator;
+use typed_ids::{
     ConditionId, NameId, NameTag, SolvableId, SolvableTag, SparseId, StoreError, StringId,
     VersionSetId, VersionSetUnionId,
 };
-use resolvo_provider::{Condition, DependencyProvider, Interner};
-use std::alloc::Allocator;
 
 /// The sparse id of a name.
 pub type SparseName = SparseId<NameTag>;
@@ -30,7 +30,7 @@ impl<A: Allocator + Copy> Interner for SparseLists<A> {
 
     ghost use Rattle.plain_providers.specs.Listed.{union_at, unions_known};
 
-    ghost catalogue = { λ p. ⟦<Lists<A> as Interner>⟧.catalogue p.0 };
+    ghost universe = { λ p. ⟦<Lists<A> as Interner>⟧.universe p.0 };
 
     ghost texts = { λ p. ⟦<Lists<A> as Interner>⟧.texts p.0 };
 

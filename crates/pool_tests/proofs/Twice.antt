@@ -3,8 +3,8 @@ use Rattle.std.proofs.Common.{◌≡◌, ◌<◌, ℕ, true, List, length, Some,
 use Rattle.std.specs.Prelude.{bytes_eq, slice_get}
 use Rattle.std.proofs.lemmas.Slice.Eq.{bytes_eq-Decides}
 use Rattle.std.proofs.lemmas.Option.{slice_get_within}
-use Rattle.resolvo_pool.specs.Interned.{interned, interned_place}
-use Rattle.resolvo_pool.proofs.InternedLemmas.{place_again, stands, kept}
+use Rattle.package_pool.specs.Interned.{interned, interned_place}
+use Rattle.package_pool.proofs.InternedLemmas.{place_again, stands, kept}
 
 module _ (texts : List (List ℕ)) (text : List ℕ) where
   itself : bytes_eq text text ≡ true

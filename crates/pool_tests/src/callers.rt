@@ -1,10 +1,10 @@
 //! Callers that are generic in what a pool keeps.
 ghost use Rattle.std.specs.Prelude.{◌≡◌, true, string_bytes, IfOk};
 
-use resolvo_ids::StoreError;
-use resolvo_pool::{Pool, VersionSet};
+use package_pool::{Pool, VersionSet};
 use std::alloc::Allocator;
 use std::hash::Hash;
+use typed_ids::StoreError;
 
 /// Whether a string that comes twice gets one id, which stands for it.
 pub fn interns_once<VS: VersionSet + Drop, N: Eq + Hash + Drop, A: Allocator + Copy>(

@@ -1,15 +1,15 @@
 //! An interner of one package, whose texts stand in lists.
 ghost use Rattle.std.specs.Prelude.{◌≡◌, ◌==◌, true, [], length, nat_lt, codes, OnOk, OnErr, IfErr};
 ghost use Rattle.std.specs.List.{list_all};
-ghost use Rattle.resolvo_ids.specs.declared.error.StoreError.TheVariants.{OutOfMemory};
-ghost use Rattle.resolvo_provider.specs.Texts.{IsAppended, IsSameText};
+ghost use Rattle.typed_ids.specs.declared.error.StoreError.TheVariants.{OutOfMemory};
+ghost use Rattle.providers.specs.Texts.{IsAppended, IsSameText};
 ghost use Rattle.pool_tests.specs.Words.{text_at};
 
-use resolvo_ids::{ConditionId, DenseIndex, StoreError, StringId, VersionSetId, VersionSetUnionId};
-use resolvo_maps::SolverId;
-use resolvo_provider::{Condition, Interner};
+use id_maps::SolverId;
+use providers::{Condition, Interner};
 use std::alloc::Allocator;
 use std::marker::PhantomData;
+use typed_ids::{ConditionId, DenseIndex, StoreError, StringId, VersionSetId, VersionSetUnionId};
 
 /// The package `a`, whatever its name's id. The text of a solvable or of a version set stands at the place of its id,
 /// and that of a set may be empty. There is one union, of these sets, one string, which is empty, and a condition for
@@ -51,7 +51,7 @@ impl<'w, N: SolverId<A>, S: DenseIndex + SolverId<A>, A: Allocator + Copy> Inter
     for FewWords<'w, N, S, A> {
     ghost use Rattle.std.proofs.lemmas.List.Sums.{AllPass-from_list_all};
     ghost use Rattle.std.proofs.Common.{refl};
-    ghost use Rattle.resolvo_provider.specs.declared.condition.Condition.TheVariants as Cond;
+    ghost use Rattle.providers.specs.declared.condition.Condition.TheVariants as Cond;
 
     type Alloc = A;
 
@@ -59,7 +59,7 @@ impl<'w, N: SolverId<A>, S: DenseIndex + SolverId<A>, A: Allocator + Copy> Inter
 
     type SolvableId = S;
 
-    ghost catalogue = { λ w. record {
+    ghost universe = { λ w. record {
       knows_string = λ t. t.0 == 0;
       knows_name = λ _. true;
       knows_solvable = λ s. nat_lt (S.DenseIndex.index_of s) (length w.solvables.now);

@@ -1,12 +1,12 @@
 //! Callers of maps of requirements that know nothing of them but their contracts.
 ghost use Rattle.std.specs.Prelude.{◌≡◌, ◌+◌, ◌-◌, ◌^◌, min, unwrap_or, None, IsSome, OnOk, OnErr};
 ghost use Rattle.std.specs.Map.{lookup, set_value};
-ghost use Rattle.resolvo_provider.specs.Requirement.{same_requirement};
-ghost use Rattle.resolvo_provider.specs.RequirementMap.{with_entry};
+ghost use Rattle.providers.specs.Requirement.{same_requirement};
+ghost use Rattle.providers.specs.RequirementMap.{with_entry};
 
-use resolvo_ids::StoreError;
-use resolvo_provider::{Requirement, RequirementMap};
+use providers::{Requirement, RequirementMap};
 use std::alloc::Allocator;
+use typed_ids::StoreError;
 
 /// Puts zero in the place of a requirement's value, if it has one.
 pub fn clear<A: Allocator + Copy>(map: &mut RequirementMap<u32, A>, requirement: Requirement)

@@ -1,12 +1,12 @@
 //! Maps of requirements, by the calls, in ample memory and where memory is refused.
 use crate::map_callers::{clear, count_up};
+use providers::{ConditionalRequirement, Requirement, RequirementMap};
 use refusing::Refusing;
-use resolvo_ids::{InsertError, StoreError, VersionSetId, VersionSetUnionId};
-use resolvo_provider::{ConditionalRequirement, Requirement, RequirementMap};
-use seen::sees;
 use std::alloc::Allocator;
 use std::cell::Cell;
 use std::test::Fail;
+use test_checks::sees;
+use typed_ids::{InsertError, StoreError, VersionSetId, VersionSetUnionId};
 
 #[test]
 fn a_map_keeps_values(rt: HostRuntime) -> Result<(), Fail> {

@@ -1,5 +1,5 @@
 //! A name, and a version set, of which `==` reads a part.
-use resolvo_pool::VersionSet;
+use package_pool::VersionSet;
 
 /// A key with a note, which `==` doesn't read.
 #[derive(Drop)]

@@ -3,14 +3,14 @@ ghost use Rattle.std.specs.Prelude.{◌≡◌, ◌<◌, length, string_bytes, If
 
 use crate::callers::interns_once;
 use crate::noted::{Noted, with_note};
-use resolvo_ids::{
-    ConditionId, NameId, SolvableId, StoreError, StringId, VersionSetId, VersionSetUnionId,
-};
-use resolvo_pool::{NameText, Pool};
-use resolvo_provider::Condition;
-use seen::sees;
+use package_pool::{NameText, Pool};
+use providers::Condition;
 use std::alloc::Global;
 use std::test::Fail;
+use test_checks::sees;
+use typed_ids::{
+    ConditionId, NameId, SolvableId, StoreError, StringId, VersionSetId, VersionSetUnionId,
+};
 
 /// The text, in memory of its own.
 fn owned(alloc: Global, text: &str) -> Result<String, StoreError>

@@ -1,14 +1,14 @@
 //! The texts of requirements, of root keys and of merged solvables.
 ghost use Rattle.std.specs.Prelude.{◌≡◌, true, All};
-ghost use Rattle.resolvo_provider.specs.Provider.{knows_requirement, knows_key};
+ghost use Rattle.providers.specs.Provider.{knows_requirement, knows_key};
 
 use crate::few_words::FewWords;
-use resolvo_ids::{NameId, SolvableId, SolvableIdOrRoot, VersionSetId, VersionSetUnionId};
-use resolvo_provider::{Interner, Requirement, RootText};
+use providers::{Interner, Requirement, RootText};
 use std::alloc::Global;
 use std::marker::PhantomData;
 use std::process::Abort;
 use std::test::Fail;
+use typed_ids::{NameId, SolvableId, SolvableIdOrRoot, VersionSetId, VersionSetUnionId};
 
 /// What is shown is this text.
 fn is_text(rt: &impl Abort, shown: Option<&str>, text: &str) {
@@ -23,7 +23,7 @@ fn shows_requirement<I: Interner>(
     requirement: Requirement,
     text: &str,
 ) -> Result<(), Fail>
-    requires { knows_requirement (I.catalogue interner.now) requirement ≡ true }
+    requires { knows_requirement (I.universe interner.now) requirement ≡ true }
 {
     let mut out = String::from_str(heap, "needs ")?;
     let ended = requirement.display(interner, &mut out);
@@ -40,7 +40,7 @@ fn shows_solvables<I: Interner>(
     solvables: &[I::SolvableId],
     text: &str,
 ) -> Result<(), Fail>
-    requires { All (λ s. (I.catalogue interner.now).knows_solvable s ≡ true) solvables.now }
+    requires { All (λ s. (I.universe interner.now).knows_solvable s ≡ true) solvables.now }
 {
     let mut out = String::new(heap);
     let ended = interner.display_merged_solvables(solvables, &mut out);
@@ -57,7 +57,7 @@ fn shows_key<I: Interner>(
     key: SolvableIdOrRoot<I::SolvableId>,
     text: &str,
 ) -> Result<(), Fail>
-    requires { knows_key (I.catalogue interner.now).knows_solvable key ≡ true }
+    requires { knows_key (I.universe interner.now).knows_solvable key ≡ true }
 {
     let mut out = String::new(heap);
     let ended = key.display(interner, &mut out);
@@ -83,11 +83,11 @@ fn shows_each<I: Interner>(
     solvables: &[I::SolvableId],
     two: I::SolvableId,
 ) -> Result<(), Fail>
-    requires set { knows_requirement (I.catalogue interner.now) sets.set ≡ true }
-    requires empty { knows_requirement (I.catalogue interner.now) sets.empty ≡ true }
-    requires union { knows_requirement (I.catalogue interner.now) sets.union ≡ true }
-    requires solvables { All (λ s. (I.catalogue interner.now).knows_solvable s ≡ true) solvables.now }
-    requires two { (I.catalogue interner.now).knows_solvable two ≡ true }
+    requires set { knows_requirement (I.universe interner.now) sets.set ≡ true }
+    requires empty { knows_requirement (I.universe interner.now) sets.empty ≡ true }
+    requires union { knows_requirement (I.universe interner.now) sets.union ≡ true }
+    requires solvables { All (λ s. (I.universe interner.now).knows_solvable s ≡ true) solvables.now }
+    requires two { (I.universe interner.now).knows_solvable two ≡ true }
 {
     shows_requirement(rt, heap, interner, sets.set, "a >=1, <3")?;
     shows_requirement(rt, heap, interner, sets.empty, "a")?;

@@ -1,5 +1,9 @@
-pub mod Decisions
-pub mod LiteralIndex
-pub mod Literals
-pub mod Tracker
-pub mod Trail
+-- The definitions of the rooms, by topic.
+pub mod Types
+pub use Rattle.decisions.specs.Decisions
+pub use Rattle.decisions.specs.LiteralIndex
+pub use Rattle.decisions.specs.Literals
+pub use Rattle.decisions.specs.Tracker
+pub use Rattle.decisions.specs.Trail
+pub use Rattle.variables.specs.Forgetting
+pub use Rattle.variables.specs.Variables

@@ -1,12 +1,13 @@
-//! Literals, decisions, and the trail of decisions.
+//! Variables, literals and the trail of decisions: the door to two rooms.
+//!
+//! | room | what it holds |
+//! |---|---|
+//! | `decisions` | literals, decisions, and the trail of decisions |
+//! | `variables` | what each variable stands for, and the variables of solvables |
+//!
+//! A clause names a definition of a room as `Rattle.resolvo_clauses.specs.TOPIC`, and a type with its variants as
+//! `Rattle.resolvo_clauses.specs.Types.NAME`.
 #![tactic(auto)]
 
-mod decision;
-mod decision_map;
-mod decision_tracker;
-mod literal;
-
-pub use decision::Decision;
-pub use decision_map::DecisionMap;
-pub use decision_tracker::{AddFault, DecisionTracker};
-pub use literal::Literal;
+pub use decisions::{AddFault, Decision, DecisionMap, DecisionTracker, Literal};
+pub use variables::{VariableLists, VariableMap, VariableOrigin, copy_of_lists, intern_lists};

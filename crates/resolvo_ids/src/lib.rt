@@ -1,41 +1,20 @@
-//! Typed ids, and the refusals.
+//! Typed ids, and what is kept by them: the door to three rooms.
 //!
-//! Everything above speaks by these ids. A dense id stands for an index ([`DenseIndex`]), so that what is kept by it
-//! lies in vectors: total maps and sets in `resolvo_maps`, lists of values and finite maps in `resolvo_storage`.
+//! | room | what it holds |
+//! |---|---|
+//! | `typed_ids` | the ids, their traits, and the refusals |
+//! | `id_maps` | total maps and sets that an id chooses |
+//! | `id_storage` | lists of values, finite maps, and maps of whose values only copies are handed out |
+//!
+//! A clause names a definition of a room as `Rattle.resolvo_ids.specs.TOPIC`, and a type with its variants as
+//! `Rattle.resolvo_ids.specs.Types.NAME`.
 #![tactic(auto)]
 
-mod candidates_id;
-mod clause_id;
-mod condition_id;
-mod dense_id;
-mod dense_index;
-mod dependencies_id;
-mod disjunction_id;
-mod error;
-mod insert_error;
-mod learnt_clause_id;
-mod same_id;
-mod solvable_id_or_root;
-mod sparse_id;
-mod string_id;
-mod variable_id;
-mod version_set_id;
-mod version_set_union_id;
-
-pub use candidates_id::CandidatesId;
-pub use clause_id::ClauseId;
-pub use condition_id::ConditionId;
-pub use dense_id::{DenseId, NameId, NameTag, SolvableId, SolvableTag};
-pub use dense_index::DenseIndex;
-pub use dependencies_id::DependenciesId;
-pub use disjunction_id::DisjunctionId;
-pub use error::StoreError;
-pub use insert_error::InsertError;
-pub use learnt_clause_id::LearntClauseId;
-pub use same_id::SameId;
-pub use solvable_id_or_root::SolvableIdOrRoot;
-pub use sparse_id::SparseId;
-pub use string_id::StringId;
-pub use variable_id::VariableId;
-pub use version_set_id::VersionSetId;
-pub use version_set_union_id::VersionSetUnionId;
+pub use id_maps::{DefaultValue, IdMap, IdSet, IndexedSet, Slot, SolverId, WithRootSet};
+pub use id_storage::{Arena, ArenaIter, FrozenCopyMap, Mapping, MappingIter};
+pub use typed_ids::{
+    CandidatesId, ClauseId, ConditionId, DENSE_LIMIT, DenseId, DenseIndex, DependenciesId,
+    DisjunctionId, InsertError, LearntClauseId, NameId, NameTag, SameId, SolvableId,
+    SolvableIdOrRoot, SolvableTag, SparseId, StoreError, StringId, VariableId, VersionSetId,
+    VersionSetUnionId,
+};

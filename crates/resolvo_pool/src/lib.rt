@@ -1,14 +1,16 @@
-//! The pool, where an ecosystem keeps its strings, names, solvables, version sets, unions and conditions, each by its
-//! id. A provider over a pool answers what `resolvo_provider` asks.
+//! Packages, as a resolver asks for them: the door to two rooms.
+//!
+//! | room | what it holds |
+//! |---|---|
+//! | `providers` | requirements and conditions, the traits of interner and provider, and the texts of ids |
+//! | `package_pool` | the pool, where an ecosystem keeps what its ids stand for |
+//!
+//! A clause names a definition of a room as `Rattle.resolvo_pool.specs.TOPIC`, and a type with its variants as
+//! `Rattle.resolvo_pool.specs.Types.NAME`.
 #![tactic(auto)]
 
-mod interned;
-mod name_text;
-mod pool;
-mod solvable;
-mod version_set;
-
-pub use name_text::NameText;
-pub use pool::Pool;
-pub use solvable::Solvable;
-pub use version_set::VersionSet;
+pub use package_pool::{NameText, Pool, Solvable, VersionSet};
+pub use providers::{
+    Condition, ConditionalRequirement, DependencyProvider, Interner, LogicalOperator, Requirement,
+    RequirementMap, RootText, VersionSets,
+};

@@ -7,8 +7,8 @@ use Rattle.std.proofs.lemmas.Bool.Decides.{nat_tests}
 use Rattle.std.proofs.lemmas.List.{drop_all, drop_more}
 use Rattle.std.proofs.lemmas.List.Elements.{filter_map-append}
 use Rattle.std.proofs.lemmas.List.Folds.{find-append}
-use Rattle.resolvo_provider.specs.declared.requirement.Requirement.{Requirement}
-use Rattle.resolvo_clauses.specs.Literals.{Values, known_true}
+use Rattle.providers.specs.declared.requirement.Requirement.{Requirement}
+use Rattle.decisions.specs.Literals.{Values, known_true}
 use Rattle.resolvo_queue.specs.declared.answer.Answer.{Answer}
 use Rattle.resolvo_queue.specs.declared.answer.Answer.TheVariants.{Falsified, Decided, NoDecision}
 use Rattle.resolvo_queue.specs.declared.frontier.Frontier.{Frontier}

@@ -7,7 +7,7 @@ use Rattle.std.proofs.lemmas.List.{append-nil, get_or-map, length-append, length
 use Rattle.std.proofs.lemmas.List.Elements.{All-from_recursion, filter-append}
 use Rattle.std.proofs.lemmas.List.Folds.{list_any-append}
 use Rattle.std.proofs.lemmas.List.Sums.{fold-append}
-use Rattle.resolvo_ids.specs.TotalMaps.{IsUpdate, SameValues}
+use Rattle.typed_ids.specs.TotalMaps.{IsUpdate, SameValues}
 use Rattle.resolvo_queue.specs.declared.requires_clause.RequiresClause.{RequiresClause}
 use Rattle.resolvo_queue.specs.Index.{list_at, IsIndexed}
 use Rattle.resolvo_queue.specs.Scan.{add_parent, parents, clauses_of}

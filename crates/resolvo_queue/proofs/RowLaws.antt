@@ -6,10 +6,10 @@ use Rattle.std.specs.declared.vec.Vec.{Vec}
 use Rattle.std.proofs.lemmas.List.{length-map}
 use Rattle.std.proofs.lemmas.List.Folds.{flat_map-map}
 use Rattle.std.proofs.lemmas.List.Sums.{fold-append}
-use Rattle.resolvo_ids.specs.declared.version_set_id.VersionSetId.{VersionSetId}
-use Rattle.resolvo_provider.specs.Requirement.{same_requirement}
-use Rattle.resolvo_provider.specs.declared.requirement.Requirement.{Requirement}
-use Rattle.resolvo_clauses.specs.Literals.{Values, known_true, undecided}
+use Rattle.typed_ids.specs.declared.version_set_id.VersionSetId.{VersionSetId}
+use Rattle.providers.specs.Requirement.{same_requirement}
+use Rattle.providers.specs.declared.requirement.Requirement.{Requirement}
+use Rattle.decisions.specs.Literals.{Values, known_true, undecided}
 use Rattle.resolvo_queue.specs.declared.frontier.Frontier.{Frontier}
 use Rattle.resolvo_queue.specs.declared.row_state.RowState.{RowState}
 use Rattle.resolvo_queue.specs.declared.row_state.RowState.TheVariants.{Met, Undecided, AllFalse}

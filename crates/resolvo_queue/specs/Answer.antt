@@ -1,7 +1,7 @@
 -- What the queue answers: a falsified clause if there is one, else the decision picked.
 use Rattle.std.specs.Prelude.{List, find, filter_map, Option, None, Some}
-use Rattle.resolvo_provider.specs.declared.requirement.Requirement.{Requirement}
-use Rattle.resolvo_clauses.specs.Literals.{Values}
+use Rattle.providers.specs.declared.requirement.Requirement.{Requirement}
+use Rattle.decisions.specs.Literals.{Values}
 use Rattle.resolvo_queue.specs.declared.answer.Answer.{Answer}
 use Rattle.resolvo_queue.specs.declared.answer.Answer.TheVariants.{Falsified, Decided, NoDecision}
 use Rattle.resolvo_queue.specs.declared.requires_clause.RequiresClause.{RequiresClause}

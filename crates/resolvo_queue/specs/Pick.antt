@@ -1,8 +1,8 @@
 -- What eligible clauses offer, and which offer is picked.
 use Rattle.std.specs.Prelude.{◌≡◌, ℕ, Bool, false, not, ◌==◌, ◌&&◌, ◌||◌, nat_lt, if◌then◌else◌, List, [], ◌∷◌, ◌++◌, filter_map, fold, Option, None, Some, option_map, All, Contains, IfSome, MatchOption, ◌↔◌}
-use Rattle.resolvo_ids.specs.declared.version_set_id.VersionSetId.{VersionSetId}
-use Rattle.resolvo_provider.specs.declared.requirement.Requirement.{Requirement}
-use Rattle.resolvo_clauses.specs.Literals.{Values}
+use Rattle.typed_ids.specs.declared.version_set_id.VersionSetId.{VersionSetId}
+use Rattle.providers.specs.declared.requirement.Requirement.{Requirement}
+use Rattle.decisions.specs.Literals.{Values}
 use Rattle.resolvo_queue.specs.declared.frontier.Frontier.{Frontier}
 use Rattle.resolvo_queue.specs.declared.requires_clause.RequiresClause.{RequiresClause}
 use Rattle.resolvo_queue.specs.declared.queue_decision.QueueDecision.{QueueDecision}

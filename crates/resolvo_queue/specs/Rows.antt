@@ -3,11 +3,11 @@ use Rattle.std.specs.Prelude.{ℕ, ◌<◌, ◌^◌, Bool, ◌==◌, ◌&&◌, i
 use Rattle.std.specs.List.{list_any}
 use Rattle.std.specs.Map.{lookup}
 use Rattle.std.specs.declared.vec.Vec.{Vec}
-use Rattle.resolvo_ids.specs.declared.version_set_id.VersionSetId.{VersionSetId}
-use Rattle.resolvo_provider.specs.Provider.{Catalogue, sets_of}
-use Rattle.resolvo_provider.specs.Requirement.{same_requirement}
-use Rattle.resolvo_provider.specs.declared.requirement.Requirement.{Requirement}
-use Rattle.resolvo_clauses.specs.Literals.{Values, known_true, undecided}
+use Rattle.typed_ids.specs.declared.version_set_id.VersionSetId.{VersionSetId}
+use Rattle.providers.specs.Provider.{Universe, sets_of}
+use Rattle.providers.specs.Requirement.{same_requirement}
+use Rattle.providers.specs.declared.requirement.Requirement.{Requirement}
+use Rattle.decisions.specs.Literals.{Values, known_true, undecided}
 use Rattle.resolvo_queue.specs.declared.frontier.Frontier.{Frontier}
 
 -- a row: the variable of a candidate, and the version set in whose list it stands
@@ -37,8 +37,8 @@ abbrev pub AreFew : {A : Type 0} → List (Requirement × Vec (Vec ℕ A) A) →
 AreFew loaded = (requirement : Requirement) → length (flat_map (λ list. list) (lists_loaded loaded requirement)) < 2 ^ 40
 
 -- the rows of a requirement
-abbrev pub loaded_rows : {N S A : Type 0} → Catalogue N S → List (Requirement × Vec (Vec ℕ A) A) → Requirement → List Row
-loaded_rows catalogue loaded requirement = rows (sets_of catalogue requirement) (lists_loaded loaded requirement)
+abbrev pub loaded_rows : {N S A : Type 0} → Universe N S → List (Requirement × Vec (Vec ℕ A) A) → Requirement → List Row
+loaded_rows universe loaded requirement = rows (sets_of universe requirement) (lists_loaded loaded requirement)
 
 module _ (val : Values) where
   -- a row is true: the requirement is met

@@ -2,7 +2,7 @@
 ghost use Rattle.std.specs.Prelude.{◌≡◌};
 
 use crate::queue_decision::QueueDecision;
-use resolvo_ids::ClauseId;
+use typed_ids::ClauseId;
 
 /// What the clauses of a queue come to.
 #[derive(Clone, Copy, Debug, PartialEq, Eq)]

@@ -1,13 +1,13 @@
 //! Requires clauses by their parents.
 ghost use Rattle.std.specs.Prelude.{◌≡◌, ◌<◌, [], ◌∷◌, ◌++◌, map, OnOk, OnErr, IfErr, vec_len};
-ghost use Rattle.resolvo_ids.specs.declared.error.StoreError.TheVariants.{OutOfMemory};
-ghost use Rattle.resolvo_ids.specs.TotalMaps.{IsUpdate, SameValues};
+ghost use Rattle.typed_ids.specs.declared.error.StoreError.TheVariants.{OutOfMemory};
+ghost use Rattle.typed_ids.specs.TotalMaps.{IsUpdate, SameValues};
 ghost use Rattle.resolvo_queue.specs.Index.{list_at};
 
 use crate::requires_clause::RequiresClause;
-use resolvo_ids::{DenseIndex, StoreError, VariableId};
 use std::alloc::Allocator;
 use std::marker::Model;
+use typed_ids::{DenseIndex, StoreError, VariableId};
 
 /// A total map from parents to their clauses, in the order in which these came. It grows to the index of the largest
 /// parent.

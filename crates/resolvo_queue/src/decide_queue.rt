@@ -1,10 +1,10 @@
 //! The queue, and the one pass over it that answers.
 ghost use Rattle.std.specs.Prelude.{◌≡◌, ℕ, ◌-◌, ◌+◌, ◌<◌, ◌≤◌, ◌^◌, ◌↔◌, ◌≢◌, [], ◌∷◌, ◌++◌, length, All, IsTrue, true, false, option_map, OnOk, OnErr, IfErr, vec_len, vec_capacity};
-ghost use Rattle.resolvo_ids.specs.declared.error.StoreError.TheVariants.{OutOfMemory, TooManyClauses};
-ghost use Rattle.resolvo_clauses.specs.Decisions.{values_in};
+ghost use Rattle.typed_ids.specs.declared.error.StoreError.TheVariants.{OutOfMemory, TooManyClauses};
+ghost use Rattle.decisions.specs.Decisions.{values_in};
 ghost use Rattle.resolvo_queue.specs.Answer.{answer, answer_of};
 ghost use Rattle.resolvo_queue.specs.Pick.{eligible, pick, decided, no_score, PickLaw, NoneExactly, DecidesUnbeaten};
-ghost use Rattle.resolvo_provider.specs.Provider.{knows_requirement};
+ghost use Rattle.providers.specs.Provider.{knows_requirement};
 ghost use Rattle.resolvo_queue.specs.Rows.{loaded_rows, AreFew};
 ghost use Rattle.resolvo_queue.specs.Scan.{first_falsified, is_eligible, scan};
 
@@ -14,11 +14,11 @@ use crate::frontier::Frontier;
 use crate::queue_decision::QueueDecision;
 use crate::requires_clause::RequiresClause;
 use crate::row_state::{RowState, requirement_state};
-use resolvo_clauses::DecisionMap;
-use resolvo_ids::{ClauseId, StoreError, VariableId};
-use resolvo_provider::{Interner, Requirement, RequirementMap};
+use decisions::DecisionMap;
+use providers::{Interner, Requirement, RequirementMap};
 use std::alloc::Allocator;
 use std::marker::Model;
+use typed_ids::{ClauseId, StoreError, VariableId};
 
 /// How many clauses there may be: one for each clause id.
 const MAX_CLAUSES: usize = u32::MAX as usize;
@@ -122,9 +122,9 @@ impl<A: Allocator + Copy> DecideQueue<A> {
         lists: &RequirementMap<Vec<Vec<VariableId, A>, A>, A>,
         interner: &I,
     ) -> Answer
-        requires known { All (λ c. knows_requirement (I.catalogue interner.now) c.requirement ≡ true) self.now }
+        requires known { All (λ c. knows_requirement (I.universe interner.now) c.requirement ≡ true) self.now }
         requires few { AreFew lists.now }
-        ensures { let val = values_in map.now in let rows_of = loaded_rows (I.catalogue interner.now) lists.now in result ≡ answer (first_falsified val rows_of self.now) (pick (eligible val rows_of no_score self.now)) }
+        ensures { let val = values_in map.now in let rows_of = loaded_rows (I.universe interner.now) lists.now in result ≡ answer (first_falsified val rows_of self.now) (pick (eligible val rows_of no_score self.now)) }
     {
         let mut answer = Answer::NoDecision;
         for parent in &self.parents {
@@ -144,9 +144,9 @@ impl<A: Allocator + Copy> DecideQueue<A> {
         lists: &RequirementMap<Vec<Vec<VariableId, A>, A>, A>,
         interner: &I,
     ) -> Option<ClauseId>
-        requires known { All (λ c. knows_requirement (I.catalogue interner.now) c.requirement ≡ true) self.now }
+        requires known { All (λ c. knows_requirement (I.universe interner.now) c.requirement ≡ true) self.now }
         requires few { AreFew lists.now }
-        ensures { result ≡ option_map (λ c. c.clause_id) (first_falsified (values_in map.now) (loaded_rows (I.catalogue interner.now) lists.now) self.now) }
+        ensures { result ≡ option_map (λ c. c.clause_id) (first_falsified (values_in map.now) (loaded_rows (I.universe interner.now) lists.now) self.now) }
     {
         match self.decide(map, lists, interner) {
             Answer::Falsified(clause_id) => Some(clause_id),
@@ -162,15 +162,15 @@ impl<A: Allocator + Copy> DecideQueue<A> {
         lists: &RequirementMap<Vec<Vec<VariableId, A>, A>, A>,
         interner: &I,
     ) -> Option<QueueDecision>
-        requires known { All (λ c. knows_requirement (I.catalogue interner.now) c.requirement ≡ true) self.now }
+        requires known { All (λ c. knows_requirement (I.universe interner.now) c.requirement ≡ true) self.now }
         requires few { AreFew lists.now }
-        requires none_falsified { first_falsified (values_in map.now) (loaded_rows (I.catalogue interner.now) lists.now) self.now ≡ None }
-        ensures picked { let val = values_in map.now in let rows_of = loaded_rows (I.catalogue interner.now) lists.now in result ≡ option_map decided (pick (eligible val rows_of no_score self.now)) }
-        ensures none { let val = values_in map.now in let rows_of = loaded_rows (I.catalogue interner.now) lists.now in (result ≡ None) ↔ All (λ c. is_eligible val rows_of c ≡ false) (scan self.now) }
-        ensures unbeaten { let val = values_in map.now in let rows_of = loaded_rows (I.catalogue interner.now) lists.now in DecidesUnbeaten (eligible val rows_of no_score self.now) result }
+        requires none_falsified { first_falsified (values_in map.now) (loaded_rows (I.universe interner.now) lists.now) self.now ≡ None }
+        ensures picked { let val = values_in map.now in let rows_of = loaded_rows (I.universe interner.now) lists.now in result ≡ option_map decided (pick (eligible val rows_of no_score self.now)) }
+        ensures none { let val = values_in map.now in let rows_of = loaded_rows (I.universe interner.now) lists.now in (result ≡ None) ↔ All (λ c. is_eligible val rows_of c ≡ false) (scan self.now) }
+        ensures unbeaten { let val = values_in map.now in let rows_of = loaded_rows (I.universe interner.now) lists.now in DecidesUnbeaten (eligible val rows_of no_score self.now) result }
 
         // The same whatever the scores and the offers.
-        ensures none_exactly { NoneExactly (values_in map.now) (loaded_rows (I.catalogue interner.now) lists.now) self.now }
+        ensures none_exactly { NoneExactly (values_in map.now) (loaded_rows (I.universe interner.now) lists.now) self.now }
         ensures pick_law { PickLaw }
     {
         match self.decide(map, lists, interner) {
@@ -213,9 +213,9 @@ fn parent_answer<I: Interner, A: Allocator + Copy>(
     interner: &I,
 ) -> Answer
     requires own { All (λ c. c.parent ≡ parent) clauses.now }
-    requires known { All (λ c. knows_requirement (I.catalogue interner.now) c.requirement ≡ true) clauses.now }
+    requires known { All (λ c. knows_requirement (I.universe interner.now) c.requirement ≡ true) clauses.now }
     requires few { AreFew lists.now }
-    ensures { result ≡ answer_of (values_in map.now) (loaded_rows (I.catalogue interner.now) lists.now) clauses.now }
+    ensures { result ≡ answer_of (values_in map.now) (loaded_rows (I.universe interner.now) lists.now) clauses.now }
 {
     if map.value(parent) != Some(true) {
         return Answer::NoDecision;
@@ -237,10 +237,10 @@ fn open_answer<I: Interner, A: Allocator + Copy>(
     clause: &RequiresClause,
     interner: &I,
 ) -> Answer
-    requires known { knows_requirement (I.catalogue interner.now) clause.now.requirement ≡ true }
+    requires known { knows_requirement (I.universe interner.now) clause.now.requirement ≡ true }
     requires few { AreFew lists.now }
     requires parent { values_in map.now clause.now.parent ≡ Some true }
-    ensures { result ≡ answer_of (values_in map.now) (loaded_rows (I.catalogue interner.now) lists.now) (clause.now ∷ []) }
+    ensures { result ≡ answer_of (values_in map.now) (loaded_rows (I.universe interner.now) lists.now) (clause.now ∷ []) }
 {
     match requirement_state(map, lists, clause.requirement, interner) {
         RowState::Met => Answer::NoDecision,

@@ -1,5 +1,5 @@
 //! Where a requirement that isn't met can still be met.
-use resolvo_ids::{VariableId, VersionSetId};
+use typed_ids::{VariableId, VersionSetId};
 
 /// The first undecided candidate of a requirement, its version set, and how many candidates of that version set are
 /// undecided.

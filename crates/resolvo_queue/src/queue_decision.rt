@@ -1,5 +1,5 @@
 //! What to decide next.
-use resolvo_ids::{ClauseId, VariableId};
+use typed_ids::{ClauseId, VariableId};
 
 /// A candidate to try, and the clause that asks for it.
 #[derive(Clone, Copy, Debug, PartialEq, Eq)]

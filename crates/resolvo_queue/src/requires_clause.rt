@@ -1,6 +1,6 @@
 //! Requires clauses, as a queue keeps them.
-use resolvo_ids::{ClauseId, VariableId};
-use resolvo_provider::Requirement;
+use providers::Requirement;
+use typed_ids::{ClauseId, VariableId};
 
 /// The clause that a parent, if it is true, has its requirement met.
 #[derive(Clone, Copy, Debug, PartialEq, Eq)]

@@ -2,16 +2,16 @@
 //!
 //! A row is a candidate of a requirement: a variable, in the list of one of the requirement's version sets.
 ghost use Rattle.std.specs.Prelude.{◌≡◌, ◌+◌, ◌<◌, ◌≤◌, ◌^◌, true, map, flat_map, length};
-ghost use Rattle.resolvo_clauses.specs.Decisions.{values_in};
-ghost use Rattle.resolvo_provider.specs.Provider.{knows_requirement};
+ghost use Rattle.decisions.specs.Decisions.{values_in};
+ghost use Rattle.providers.specs.Provider.{knows_requirement};
 ghost use Rattle.resolvo_queue.specs.Rows.{list_rows, rows, loaded_rows, AreFew};
 ghost use Rattle.resolvo_queue.specs.RowState.{state_of, counted, with_row, with_rows};
 
 use crate::frontier::Frontier;
-use resolvo_clauses::DecisionMap;
-use resolvo_ids::{VariableId, VersionSetId};
-use resolvo_provider::{Interner, Requirement, RequirementMap};
+use decisions::DecisionMap;
+use providers::{Interner, Requirement, RequirementMap};
 use std::alloc::Allocator;
+use typed_ids::{VariableId, VersionSetId};
 
 /// A row is true, or else there is an undecided one, or else all are false.
 #[derive(Clone, Copy, Debug, PartialEq, Eq)]
@@ -99,9 +99,9 @@ pub(crate) fn requirement_state<I: Interner, A: Allocator + Copy>(
     requirement: Requirement,
     interner: &I,
 ) -> RowState
-    requires known { knows_requirement (I.catalogue interner.now) requirement ≡ true }
+    requires known { knows_requirement (I.universe interner.now) requirement ≡ true }
     requires few { AreFew lists.now }
-    ensures { result ≡ state_of (values_in decisions.now) (loaded_rows (I.catalogue interner.now) lists.now requirement) }
+    ensures { result ≡ state_of (values_in decisions.now) (loaded_rows (I.universe interner.now) lists.now requirement) }
 {
     let sets = requirement.version_sets(interner);
     match lists.get(requirement) {

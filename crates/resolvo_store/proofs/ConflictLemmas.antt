@@ -2,8 +2,8 @@
 use Rattle.std.proofs.Common.{◌≡◌, ℕ, Bool, true, false, not, ◌&&◌, ◌||◌, ◌==◌, List, [], ◌∷◌, ◌++◌, length, ◌∙◌, ap, refl, sym, arith, suc, Option, Some, None}
 use Rattle.std.specs.List.{list_all}
 use Rattle.std.proofs.lemmas.Bool.Decides.{nat_tests}
-use Rattle.resolvo_ids.specs.declared.version_set_id.VersionSetId.{VersionSetId}
-use Rattle.resolvo_clauses.specs.Literals.{Values, known_false}
+use Rattle.typed_ids.specs.declared.version_set_id.VersionSetId.{VersionSetId}
+use Rattle.decisions.specs.Literals.{Values, known_false}
 use Rattle.resolvo_queue.specs.Rows.{Row, rows, list_rows}
 use Rattle.resolvo_store.specs.Outcome.{is_conflict}
 

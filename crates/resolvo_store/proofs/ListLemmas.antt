@@ -9,10 +9,10 @@ use Rattle.std.proofs.Math.Path.{fun_ext}
 use Rattle.std.proofs.lemmas.List.{length-map}
 use Rattle.std.proofs.lemmas.List.Folds.{flat_map-map}
 use Rattle.std.proofs.lemmas.Map.Made.{lookup-map_values}
-use Rattle.resolvo_provider.specs.RequirementMap.{with_entry}
-use Rattle.resolvo_provider.specs.declared.requirement.Requirement.{Requirement}
-use Rattle.resolvo_provider.specs.Requirement.{same_requirement}
-use Rattle.resolvo_provider.specs.Provider.{Catalogue, sets_of}
+use Rattle.providers.specs.RequirementMap.{with_entry}
+use Rattle.providers.specs.declared.requirement.Requirement.{Requirement}
+use Rattle.providers.specs.Requirement.{same_requirement}
+use Rattle.providers.specs.Provider.{Universe, sets_of}
 use Rattle.resolvo_queue.specs.Rows.{Row, rows, lists_or_none, loaded_rows, AreFew}
 use Rattle.resolvo_store.specs.Lists.{lists_kept}
 
@@ -35,10 +35,10 @@ module _ {A : Type 0} where
   none_or_items (Some lists) = refl
 
   -- the rows of each requirement are those of the abstract store
-  pub rows-kept : {N S : Type 0} (catalogue : Catalogue N S) (loaded : List (Requirement × Vec (Vec ℕ A) A))
-      → ◌≡◌ {A = Requirement → List Row} (loaded_rows catalogue loaded)
-      (λ r. rows (sets_of catalogue r) (unwrap_or (lookup (same_requirement r) (lists_kept loaded)) []))
-  rows-kept catalogue loaded = fun_ext (λ r. ap (rows (sets_of catalogue r)) (none_or_items (lookup (same_requirement r) loaded) ∙ ap (λ o. unwrap_or o []) (sym (lookup-kept loaded r))))
+  pub rows-kept : {N S : Type 0} (universe : Universe N S) (loaded : List (Requirement × Vec (Vec ℕ A) A))
+      → ◌≡◌ {A = Requirement → List Row} (loaded_rows universe loaded)
+      (λ r. rows (sets_of universe r) (unwrap_or (lookup (same_requirement r) (lists_kept loaded)) []))
+  rows-kept universe loaded = fun_ext (λ r. ap (rows (sets_of universe r)) (none_or_items (lookup (same_requirement r) loaded) ∙ ap (λ o. unwrap_or o []) (sym (lookup-kept loaded r))))
 
   -- what was found of the lists
   pub items-copied : (o : Option (Bor (Vec (Vec ℕ A) A))) → option_map (λ l. items_of l.now) o ≡ option_map items_of (option_copied o)

@@ -6,13 +6,13 @@ use Rattle.std.proofs.Math.Bool.{or-true, and-false}
 use Rattle.std.proofs.lemmas.Bool.Decides.{nat_tests}
 use Rattle.std.proofs.lemmas.List.Folds.{flat_map-map}
 use Rattle.std.proofs.lemmas.Simd.{map-map}
-use Rattle.resolvo_ids.specs.Refusals.{IsGrowthRefusal}
-use Rattle.resolvo_ids.specs.declared.error.StoreError.{StoreError}
-use Rattle.resolvo_ids.specs.declared.error.StoreError.TheVariants.{OutOfMemory, IdSpace}
-use Rattle.resolvo_provider.specs.declared.requirement.Requirement.{Requirement}
-use Rattle.resolvo_provider.specs.Provider.{sets_of}
-use Rattle.resolvo_variables.specs.declared.variable_origin.VariableOrigin.{VariableOrigin}
-use Rattle.resolvo_variables.specs.Variables.{interned_variable, all_interned}
+use Rattle.typed_ids.specs.Refusals.{IsGrowthRefusal}
+use Rattle.typed_ids.specs.declared.error.StoreError.{StoreError}
+use Rattle.typed_ids.specs.declared.error.StoreError.TheVariants.{OutOfMemory, IdSpace}
+use Rattle.providers.specs.declared.requirement.Requirement.{Requirement}
+use Rattle.providers.specs.Provider.{sets_of}
+use Rattle.variables.specs.declared.variable_origin.VariableOrigin.{VariableOrigin}
+use Rattle.variables.specs.Variables.{interned_variable, with_variables}
 use Rattle.resolvo_store.specs.Command.{Load, LoadedAs}
 use Rattle.resolvo_store.specs.Store.{Store, lists_of, candidates_of}
 use Rattle.resolvo_store.specs.Outcome.{outcome, load, origins_loaded, variables_loaded}
@@ -24,10 +24,10 @@ module _ {N S : Type 0} (st : Store N S) (r : Requirement) where
 
   -- the requirement's candidates, and all of them in one list
   abbrev pub candidate_lists : List (List S)
-  candidate_lists = map (candidates_of st) (sets_of st.provider.catalogue r)
+  candidate_lists = map (candidates_of st) (sets_of st.provider.universe r)
 
   abbrev pub all_candidates : List S
-  all_candidates = flat_map (candidates_of st) (sets_of st.provider.catalogue r)
+  all_candidates = flat_map (candidates_of st) (sets_of st.provider.universe r)
 
   -- a requirement that isn't loaded lacks ids where its candidates do
   pub lacks_ids-new : lists_of st r ≡ None → lacks_ids st (Load r) ≡
@@ -44,21 +44,21 @@ module _ {N S : Type 0} (st : Store N S) (r : Requirement) where
 
   -- candidate lists one after another are all candidates
   pub joined : (lists : List (List S)) → lists ≡ candidate_lists → flat_map (λ l. l) lists ≡ all_candidates
-  joined lists e = ap (flat_map (λ l. l)) e ∙ flat_map-map (λ l. l) (candidates_of st) (sets_of st.provider.catalogue r)
+  joined lists e = ap (flat_map (λ l. l)) e ∙ flat_map-map (λ l. l) (candidates_of st) (sets_of st.provider.universe r)
 
   -- a Load that gave the candidates variables, answered these and kept them, did what it should
   pub load-new : (lists : List (List S)) (os : List (VariableOrigin N S)) (answer kept : List (List ℕ)) (loaded : List (Requirement × List (List ℕ)))
-      → lists_of st r ≡ None → lists ≡ candidate_lists → os ≡ all_interned same st.origins (flat_map (λ l. l) lists)
+      → lists_of st r ≡ None → lists ≡ candidate_lists → os ≡ with_variables same st.origins (flat_map (λ l. l) lists)
       → answer ≡ map (map (interned_variable same os)) lists → kept ≡ map (map (interned_variable same os)) lists
       → loaded ≡ st.loaded ++ (r, kept) ∷ []
       → (LoadedAs answer ≡ (outcome st (Load r)).reply) × (record st { origins = os; loaded = loaded } ≡ (outcome st (Load r)).store)
   load-new lists os answer kept loaded new cs after answered keeps more =
       let done : outcome st (Load r) ≡ load st r None = ap (load st r) new in
-      let origins : os ≡ origins_loaded st r = after ∙ ap (all_interned same st.origins) (joined lists cs) in
+      let origins : os ≡ origins_loaded st r = after ∙ ap (with_variables same st.origins) (joined lists cs) in
       let variables : map (map (interned_variable same os)) lists ≡ variables_loaded st r =
       ap (λ vs. map (map (interned_variable same vs)) lists) origins
       ∙ ap (map (map (interned_variable same (origins_loaded st r)))) cs
-      ∙ map-map (map (interned_variable same (origins_loaded st r))) (candidates_of st) (sets_of st.provider.catalogue r) in (
+      ∙ map-map (map (interned_variable same (origins_loaded st r))) (candidates_of st) (sets_of st.provider.universe r) in (
         ap LoadedAs (answered ∙ variables) ∙ sym (ap (λ o. o.reply) done),
         ap (λ vs. record st { origins = vs; loaded = loaded }) origins
             ∙ ap (λ l. record st { origins = origins_loaded st r; loaded = l }) (more ∙ ap (λ l. st.loaded ++ (r, l) ∷ []) (keeps ∙ variables))
@@ -83,11 +83,11 @@ module _ {N S : Type 0} (st : Store N S) (r : Requirement) where
       ∙ or-true (ltb (2 ^ 31 - 1) (length (origins_loaded st r)))
 
   pub ids_out : (all : List S) → all ≡ all_candidates
-      → (ltb (2 ^ 31 - 1) (length (all_interned same st.origins all)) || list_any st.provider.is_large_solvable all) ≡ true
+      → (ltb (2 ^ 31 - 1) (length (with_variables same st.origins all)) || list_any st.provider.is_large_solvable all) ≡ true
       → (ltb (2 ^ 31 - 1) (length (origins_loaded st r)) || (leb (2 ^ 40) (length all_candidates) || list_any st.provider.is_large_solvable all_candidates)) ≡ true
   ids_out all e h =
       wider (ltb (2 ^ 31 - 1) (length (origins_loaded st r))) (leb (2 ^ 40) (length all_candidates)) (list_any st.provider.is_large_solvable all_candidates)
-      (sym (ap (λ l. ltb (2 ^ 31 - 1) (length (all_interned same st.origins l)) || list_any st.provider.is_large_solvable l) e) ∙ h)
+      (sym (ap (λ l. ltb (2 ^ 31 - 1) (length (with_variables same st.origins l)) || list_any st.provider.is_large_solvable l) e) ∙ h)
     where
       wider : (a b d : Bool) → (a || d) ≡ true → (a || (b || d)) ≡ true
       wider true b d k = refl

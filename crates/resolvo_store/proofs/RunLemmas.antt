@@ -1,7 +1,7 @@
 -- Runs of the abstract store.
 use Rattle.std.proofs.Common.{◌≡◌, List, [], ◌∷◌, ◌++◌, Option, None, Some, refl, subst}
 use Rattle.std.specs.Prelude.{MatchOption}
-use Rattle.resolvo_ids.specs.declared.error.StoreError.{StoreError}
+use Rattle.typed_ids.specs.declared.error.StoreError.{StoreError}
 use Rattle.resolvo_store.specs.Command.{Command, Reply, Refused, IsRefused}
 use Rattle.resolvo_store.specs.Refusals.{first_refusal}
 use Rattle.resolvo_store.specs.Store.{Store}

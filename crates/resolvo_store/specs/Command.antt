@@ -1,8 +1,8 @@
 -- Commands and replies, with lists where the program has vectors. S are the solvables.
 use Rattle.std.specs.Prelude.{ℕ, Bool, List, map, Option, ⊤}
-use Rattle.resolvo_ids.specs.declared.error.StoreError.{StoreError}
-use Rattle.resolvo_provider.specs.declared.requirement.Requirement.{Requirement}
-use Rattle.resolvo_clauses.specs.declared.decision.Decision.{Decision}
+use Rattle.typed_ids.specs.declared.error.StoreError.{StoreError}
+use Rattle.providers.specs.declared.requirement.Requirement.{Requirement}
+use Rattle.decisions.specs.declared.decision.Decision.{Decision}
 use Rattle.resolvo_queue.specs.declared.queue_decision.QueueDecision.{QueueDecision}
 use Rattle.resolvo_store.specs.declared.command.Command.{Command as ProgramCommand}
 use Rattle.resolvo_store.specs.declared.command.Command.TheVariants as In

@@ -1,8 +1,8 @@
 -- Lists of variables as they are kept, and what is true of what a store keeps.
 use Rattle.std.specs.Prelude.{◌≡◌, ℕ, true, List, map, All}
 use Rattle.std.specs.declared.vec.Vec.{Vec}
-use Rattle.resolvo_provider.specs.declared.requirement.Requirement.{Requirement}
-use Rattle.resolvo_provider.specs.Provider.{Catalogue, knows_requirement}
+use Rattle.providers.specs.declared.requirement.Requirement.{Requirement}
+use Rattle.providers.specs.Provider.{Universe, knows_requirement}
 use Rattle.resolvo_queue.specs.declared.requires_clause.RequiresClause.{RequiresClause}
 use Rattle.resolvo_queue.specs.Rows.{AreFew}
 
@@ -11,11 +11,11 @@ abbrev pub lists_kept : {A : Type 0} → List (Requirement × Vec (Vec ℕ A) A)
 lists_kept loaded = map (λ e. (e.0, map (λ l. l.items) e.1.items)) loaded
 
 -- the requirements of clauses are known
-abbrev pub AreKnown : {N S : Type 0} → Catalogue N S → List RequiresClause → Type 0
-AreKnown catalogue requires = All (λ c. knows_requirement catalogue c.requirement ≡ true) requires
+abbrev pub AreKnown : {N S : Type 0} → Universe N S → List RequiresClause → Type 0
+AreKnown universe requires = All (λ c. knows_requirement universe c.requirement ≡ true) requires
 
 -- what is kept can be asked for decisions: few rows for each requirement, and clauses of known requirements alone
-pub record IsDecidable {N S A : Type 0} (catalogue : Catalogue N S) (loaded : List (Requirement × Vec (Vec ℕ A) A))
+pub record IsDecidable {N S A : Type 0} (universe : Universe N S) (loaded : List (Requirement × Vec (Vec ℕ A) A))
     (requires : List RequiresClause) : Type 0 where
   pub few : AreFew loaded
-  pub known : AreKnown catalogue requires
+  pub known : AreKnown universe requires

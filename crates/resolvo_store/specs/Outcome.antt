@@ -2,12 +2,12 @@
 use Rattle.std.specs.Prelude.{ℕ, Bool, not, ◌&&◌, List, [], ◌∷◌, ◌++◌, map, length, flat_map, Option, Some, None, if◌then◌else◌}
 use Rattle.std.specs.List.{list_all}
 use Rattle.std.specs.Bool.{beq}
-use Rattle.resolvo_provider.specs.declared.requirement.Requirement.{Requirement}
-use Rattle.resolvo_provider.specs.Provider.{sets_of}
-use Rattle.resolvo_variables.specs.declared.variable_origin.VariableOrigin.{VariableOrigin}
-use Rattle.resolvo_clauses.specs.Literals.{Values, known_false}
-use Rattle.resolvo_variables.specs.Variables.{interned, interned_variable, all_interned}
-use Rattle.resolvo_clauses.specs.Trail.{Entry, kept_until}
+use Rattle.providers.specs.declared.requirement.Requirement.{Requirement}
+use Rattle.providers.specs.Provider.{sets_of}
+use Rattle.variables.specs.declared.variable_origin.VariableOrigin.{VariableOrigin}
+use Rattle.decisions.specs.Literals.{Values, known_false}
+use Rattle.variables.specs.Variables.{with_variable, interned_variable, with_variables}
+use Rattle.decisions.specs.Trail.{Entry, kept_until}
 use Rattle.resolvo_queue.specs.declared.requires_clause.RequiresClause.{RequiresClause}
 use Rattle.resolvo_queue.specs.Rows.{Row}
 use Rattle.resolvo_queue.specs.Scan.{first_falsified, is_eligible}
@@ -46,13 +46,13 @@ decision None None = NoDecision
 module _ {N S : Type 0} where
   -- the origins once a requirement's candidates have variables
   abbrev pub origins_loaded : Store N S → Requirement → List (VariableOrigin N S)
-  origins_loaded st r = all_interned st.provider.same_solvable st.origins (flat_map (candidates_of st) (sets_of st.provider.catalogue r))
+  origins_loaded st r = with_variables st.provider.same_solvable st.origins (flat_map (candidates_of st) (sets_of st.provider.universe r))
 
   -- the candidates' variables, one list a version set
   abbrev pub variables_loaded : Store N S → Requirement → List (List ℕ)
   variables_loaded st r =
       map (λ v. map (interned_variable st.provider.same_solvable (origins_loaded st r)) (candidates_of st v))
-      (sets_of st.provider.catalogue r)
+      (sets_of st.provider.universe r)
 
   -- a Load, by the lists that the requirement has already
   abbrev pub load : Store N S → Requirement → Option (List (List ℕ)) → Outcome N S
@@ -82,7 +82,7 @@ module _ {N S : Type 0} where
   abbrev pub outcome : Store N S → Command S → Outcome N S
   outcome st (Variable s) = record {
     reply = VariableIs (interned_variable st.provider.same_solvable st.origins s);
-    store = record st { origins = interned st.provider.same_solvable st.origins s };
+    store = record st { origins = with_variable st.provider.same_solvable st.origins s };
   }
   outcome st (Load r) = load st r (lists_of st r)
   outcome st (Requires parent r disjunction) = record {

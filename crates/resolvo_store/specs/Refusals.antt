@@ -1,9 +1,9 @@
 -- The refusals that a caller can foresee: for each command the tests, in order, with what each answers.
 use Rattle.std.specs.Prelude.{ℕ, ◌-◌, ◌^◌, Bool, not, ◌&&◌, ◌||◌, nat_lt, nat_le, List, [], ◌∷◌, length, find, Option, is_none, option_map}
-use Rattle.resolvo_ids.specs.declared.error.StoreError.{StoreError}
-use Rattle.resolvo_ids.specs.declared.error.StoreError.TheVariants.{IdSpace, UnknownId, LevelOutOfRange, NotLoaded, TooManyClauses}
-use Rattle.resolvo_provider.specs.Provider.{knows_requirement}
-use Rattle.resolvo_variables.specs.Variables.{variable_of_solvable, are_variables_out}
+use Rattle.typed_ids.specs.declared.error.StoreError.{StoreError}
+use Rattle.typed_ids.specs.declared.error.StoreError.TheVariants.{IdSpace, UnknownId, LevelOutOfRange, NotLoaded, TooManyClauses}
+use Rattle.providers.specs.Provider.{knows_requirement}
+use Rattle.variables.specs.Variables.{variable_of_solvable, are_variables_out}
 use Rattle.resolvo_store.specs.Command.{Command, Variable, Load, Requires, Assign, UndoUntil, Decide}
 use Rattle.resolvo_store.specs.Store.{Store, lists_of}
 
@@ -26,11 +26,11 @@ module _ {N S : Type 0} where
   -- the refusals of a command, each with whether it applies
   abbrev pub refusals : Store N S → Command S → List (Bool × StoreError)
   refusals st (Variable s) =
-      (not (st.provider.catalogue.knows_solvable s), UnknownId) ∷
+      (not (st.provider.universe.knows_solvable s), UnknownId) ∷
       (lacks_variable st s, IdSpace) ∷ []
-  refusals st (Load r) = (not (knows_requirement st.provider.catalogue r), UnknownId) ∷ []
+  refusals st (Load r) = (not (knows_requirement st.provider.universe r), UnknownId) ∷ []
   refusals st (Requires parent r disjunction) =
-      (not (knows_variable st parent && (knows_requirement st.provider.catalogue r && is_none disjunction)), UnknownId) ∷
+      (not (knows_variable st parent && (knows_requirement st.provider.universe r && is_none disjunction)), UnknownId) ∷
       (is_none (lists_of st r), NotLoaded) ∷
       (nat_le (2 ^ 32 - 1) (length st.requires), TooManyClauses) ∷ []
   refusals st (Assign v value clause level) =

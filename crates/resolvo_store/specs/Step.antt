@@ -1,11 +1,11 @@
 -- One step of the abstract store, and a run.
 use Rattle.std.specs.Prelude.{◌≡◌, ◌-◌, ◌^◌, Bool, true, false, not, ◌&&◌, ◌||◌, nat_lt, nat_le, List, [], ◌∷◌, flat_map, length, is_none, is_some, MatchOption, IsTrue}
 use Rattle.std.specs.List.{list_any}
-use Rattle.resolvo_ids.specs.declared.error.StoreError.{StoreError}
-use Rattle.resolvo_ids.specs.declared.error.StoreError.TheVariants.{OutOfMemory, IdSpace}
-use Rattle.resolvo_provider.specs.Provider.{sets_of}
-use Rattle.resolvo_clauses.specs.Literals.{undecided}
-use Rattle.resolvo_variables.specs.Variables.{variable_of_solvable}
+use Rattle.typed_ids.specs.declared.error.StoreError.{StoreError}
+use Rattle.typed_ids.specs.declared.error.StoreError.TheVariants.{OutOfMemory, IdSpace}
+use Rattle.providers.specs.Provider.{sets_of}
+use Rattle.decisions.specs.Literals.{undecided}
+use Rattle.variables.specs.Variables.{variable_of_solvable}
 use Rattle.resolvo_store.specs.Command.{Command, Variable, Load, Assign, UndoUntil, Decide, Reply, Refused}
 use Rattle.resolvo_store.specs.Store.{Store, values, lists_of, candidates_of}
 use Rattle.resolvo_store.specs.Refusals.{first_refusal}
@@ -15,7 +15,7 @@ module _ {N S : Type 0} where
   -- a Load would give its requirement 2^40 rows or more
   abbrev pub has_too_many_rows : Store N S → Command S → Bool
   has_too_many_rows st (Load r) =
-      is_none (lists_of st r) && nat_le (2 ^ 40) (length (flat_map (candidates_of st) (sets_of st.provider.catalogue r)))
+      is_none (lists_of st r) && nat_le (2 ^ 40) (length (flat_map (candidates_of st) (sets_of st.provider.universe r)))
   has_too_many_rows st _ = false
 
   -- a Load needs more ids than there are: variables beyond the last, a solvable that can't be kept, or 2^40 rows or more
@@ -23,8 +23,8 @@ module _ {N S : Type 0} where
   lacks_ids st (Load r) =
       is_none (lists_of st r) &&
       (nat_lt (2 ^ 31 - 1) (length (origins_loaded st r)) ||
-      (nat_le (2 ^ 40) (length (flat_map (candidates_of st) (sets_of st.provider.catalogue r))) ||
-      list_any st.provider.is_large_solvable (flat_map (candidates_of st) (sets_of st.provider.catalogue r))))
+      (nat_le (2 ^ 40) (length (flat_map (candidates_of st) (sets_of st.provider.universe r))) ||
+      list_any st.provider.is_large_solvable (flat_map (candidates_of st) (sets_of st.provider.universe r))))
   lacks_ids st _ = false
 
   -- the command is answered without taking memory

@@ -1,14 +1,14 @@
 -- The abstract store, and what a clause store keeps of it. N are the names, S the solvables.
 use Rattle.std.specs.Prelude.{ℕ, Bool, List, [], ◌∷◌, Option, unwrap_or}
 use Rattle.std.specs.Map.{lookup}
-use Rattle.resolvo_ids.specs.declared.version_set_id.VersionSetId.{VersionSetId}
-use Rattle.resolvo_provider.specs.declared.requirement.Requirement.{Requirement}
-use Rattle.resolvo_provider.specs.Requirement.{same_requirement}
-use Rattle.resolvo_provider.specs.Provider.{Catalogue, Answers, sorted, sets_of}
-use Rattle.resolvo_variables.specs.declared.variable_origin.VariableOrigin.{VariableOrigin}
-use Rattle.resolvo_variables.specs.declared.variable_origin.VariableOrigin.TheVariants.{Root}
-use Rattle.resolvo_clauses.specs.Literals.{Lit, Values}
-use Rattle.resolvo_clauses.specs.Trail.{Entry, val}
+use Rattle.typed_ids.specs.declared.version_set_id.VersionSetId.{VersionSetId}
+use Rattle.providers.specs.declared.requirement.Requirement.{Requirement}
+use Rattle.providers.specs.Requirement.{same_requirement}
+use Rattle.providers.specs.Provider.{Universe, Answers, sorted, sets_of}
+use Rattle.variables.specs.declared.variable_origin.VariableOrigin.{VariableOrigin}
+use Rattle.variables.specs.declared.variable_origin.VariableOrigin.TheVariants.{Root}
+use Rattle.decisions.specs.Literals.{Lit, Values}
+use Rattle.decisions.specs.Trail.{Entry, val}
 use Rattle.resolvo_queue.specs.declared.requires_clause.RequiresClause.{RequiresClause}
 use Rattle.resolvo_queue.specs.Rows.{Row, rows}
 
@@ -19,18 +19,18 @@ pub record Provider (N S : Type 0) : Type 0 where
   -- nothing can be kept by this id; for a dense one: its index is 2^40 or more
   pub is_large_name : N → Bool
   pub is_large_solvable : S → Bool
-  pub catalogue : Catalogue N S
+  pub universe : Universe N S
   pub answers : Answers N S
 
 -- the same, gathered
 abbrev pub provided : {D N S : Type 0} → (N → N → Bool) → (S → S → Bool) → (N → Bool) → (S → Bool) →
-    (D → Catalogue N S) → (D → Answers N S) → D → Provider N S
-provided same_name same_solvable is_large_name is_large_solvable catalogue answers p = record {
+    (D → Universe N S) → (D → Answers N S) → D → Provider N S
+provided same_name same_solvable is_large_name is_large_solvable universe answers p = record {
   same_name = same_name;
   same_solvable = same_solvable;
   is_large_name = is_large_name;
   is_large_solvable = is_large_solvable;
-  catalogue = catalogue p;
+  universe = universe p;
   answers = answers p;
 }
 
@@ -100,12 +100,12 @@ module _ {N S : Type 0} (st : Store N S) where
 
   -- the rows of a requirement, none if it wasn't loaded
   abbrev pub rows_of : Requirement → List Row
-  rows_of r = rows (sets_of st.provider.catalogue r) (unwrap_or (lists_of r) [])
+  rows_of r = rows (sets_of st.provider.universe r) (unwrap_or (lists_of r) [])
 
   -- the score of a version set: its package's
   abbrev pub score_of : VersionSetId → ℕ
-  score_of v = st.scores (st.provider.catalogue.set_name v)
+  score_of v = st.scores (st.provider.universe.set_name v)
 
   -- the candidates of a version set
   abbrev pub candidates_of : VersionSetId → List S
-  candidates_of v = sorted st.provider.catalogue st.provider.answers v
+  candidates_of v = sorted st.provider.universe st.provider.answers v

@@ -1,6 +1,6 @@
 //! How contracts name the abstract store.
-use resolvo_maps::{IdMap, Slot, SolverId};
-use resolvo_provider::{DependencyProvider, Interner};
+use id_maps::{IdMap, Slot, SolverId};
+use providers::{DependencyProvider, Interner};
 
 /// The abstract store of what a clause store keeps: contracts write it `⟦<D as AbstractStore>⟧.store self.now`.
 ///
@@ -15,5 +15,5 @@ pub trait AbstractStore: DependencyProvider {
 impl<D: DependencyProvider> AbstractStore for D {
     ghost use Rattle.resolvo_store.specs.Store.{store_of, provided};
 
-    ghost store = { store_of (provided D.NameId.eq D.SolvableId.eq D.NameId.Scores.is_too_large D.SolvableId.Slots.is_too_large D.catalogue D.answers) };
+    ghost store = { store_of (provided D.NameId.eq D.SolvableId.eq D.NameId.Scores.is_too_large D.SolvableId.Slots.is_too_large D.universe D.answers) };
 }

@@ -1,6 +1,6 @@
 //! What a store is asked.
-use resolvo_ids::{ClauseId, DisjunctionId, VariableId};
-use resolvo_provider::Requirement;
+use providers::Requirement;
+use typed_ids::{ClauseId, DisjunctionId, VariableId};
 
 /// A command. `S` are the provider's solvables.
 ///

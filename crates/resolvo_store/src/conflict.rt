@@ -1,14 +1,14 @@
 //! Whether a new clause is a conflict.
 ghost use Rattle.std.specs.Prelude.{◌≡◌, map};
 ghost use Rattle.std.specs.List.{list_all};
-ghost use Rattle.resolvo_clauses.specs.Decisions.{values_in};
-ghost use Rattle.resolvo_clauses.specs.Literals.{known_false};
+ghost use Rattle.decisions.specs.Decisions.{values_in};
+ghost use Rattle.decisions.specs.Literals.{known_false};
 ghost use Rattle.resolvo_queue.specs.Rows.{rows};
 ghost use Rattle.resolvo_store.specs.Outcome.{is_conflict};
 
-use resolvo_clauses::DecisionMap;
-use resolvo_ids::{VariableId, VersionSetId};
+use decisions::DecisionMap;
 use std::alloc::Allocator;
+use typed_ids::{VariableId, VersionSetId};
 
 /// Whether a requires clause can't be met any more but by its parent: it has candidates, all of them are false, and the
 /// parent isn't. `sets` are its requirement's version sets, and `lists` their candidates. Reads the lists up to the first

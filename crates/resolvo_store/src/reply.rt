@@ -1,8 +1,8 @@
 //! What a store answers.
-use resolvo_clauses::Decision;
-use resolvo_ids::{ClauseId, StoreError, VariableId};
+use decisions::Decision;
 use resolvo_queue::QueueDecision;
 use std::alloc::Allocator;
+use typed_ids::{ClauseId, StoreError, VariableId};
 
 /// The reply to a command. It may hold lists, which are of the store's allocator.
 #[derive(Drop)]

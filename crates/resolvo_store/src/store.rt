@@ -1,7 +1,7 @@
 //! The clause store.
 ghost use Rattle.std.specs.Prelude.{◌≡◌, map, length, vec_len, IfOk, IfErr};
-ghost use Rattle.resolvo_ids.specs.declared.error.StoreError.TheVariants.{OutOfMemory};
-ghost use Rattle.resolvo_clauses.specs.Trail.{val};
+ghost use Rattle.typed_ids.specs.declared.error.StoreError.TheVariants.{OutOfMemory};
+ghost use Rattle.decisions.specs.Trail.{val};
 
 mod assigning;
 mod deciding;
@@ -11,12 +11,12 @@ mod registering;
 use crate::abstract_store::AbstractStore;
 use crate::command::Command;
 use crate::reply::Reply;
-use resolvo_clauses::DecisionTracker;
-use resolvo_ids::{StoreError, VariableId};
-use resolvo_provider::{DependencyProvider, RequirementMap};
+use decisions::DecisionTracker;
+use providers::{DependencyProvider, RequirementMap};
 use resolvo_queue::DecideQueue;
-use resolvo_variables::VariableMap;
 use std::marker::Model;
+use typed_ids::{StoreError, VariableId};
+use variables::VariableMap;
 
 /// A clause store over the packages of a provider.
 ///
@@ -47,7 +47,7 @@ impl<D: DependencyProvider> Model for ClauseStore<D> {
       trail = a.trail;
     } };
 
-    ghost invariant = { λ a. IsDecidable (D.catalogue a.provider) a.loaded a.queue };
+    ghost invariant = { λ a. IsDecidable (D.universe a.provider) a.loaded a.queue };
 }
 
 impl<D: DependencyProvider + Drop> ClauseStore<D> {

@@ -1,7 +1,7 @@
 -- What the order of preference keeps.
 use Rattle.std.proofs.Common.{◌≡◌, ℕ, List, length}
 use Rattle.std.proofs.lemmas.List.Sorted.{length_permutation}
-use Rattle.resolvo_pool.specs.declared.solvable.Solvable.{Solvable}
+use Rattle.package_pool.specs.declared.solvable.Solvable.{Solvable}
 use Rattle.script_packages.specs.Order.{best_first}
 use Rattle.script_packages.specs.OrderLaws.{best_first_permutes}
 

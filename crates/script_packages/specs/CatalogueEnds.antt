@@ -10,42 +10,42 @@ use Rattle.script_packages.specs.Catalogues.{listed, AreListed}
 use Rattle.script_packages.specs.Listing.{Listing, nothing_listed}
 
 -- what a line does: the catalogue goes on with this listing, its end is here, or the line is unreadable
-pub data Entry : Type 0 where
-  GoesOn : (l : Listing) → Entry
-  Ends : Entry
-  Faulty : Entry
+pub data LineEffect : Type 0 where
+  GoesOn : (l : Listing) → LineEffect
+  Ends : LineEffect
+  Faulty : LineEffect
 
-abbrev pub goes_on : Option Listing → Entry
+abbrev pub goes_on : Option Listing → LineEffect
 goes_on None = Faulty
 goes_on (Some l) = GoesOn l
 
-abbrev pub entry_of : Listing → Line Said → Entry
-entry_of l Skipped = GoesOn l
-entry_of l Unreadable = Faulty
-entry_of l (Says Begins) = Ends
-entry_of l (Says (Lists name versions)) = goes_on (listed l (Lists name versions))
-entry_of l (Says (Bounds name low high)) = goes_on (listed l (Bounds name low high))
-entry_of l (Says (Unites sets)) = goes_on (listed l (Unites sets))
-entry_of l (Says (Conditions c)) = goes_on (listed l (Conditions c))
-entry_of l (Says (Strings text)) = goes_on (listed l (Strings text))
+abbrev pub effect_of : Listing → Line Said → LineEffect
+effect_of l Skipped = GoesOn l
+effect_of l Unreadable = Faulty
+effect_of l (Says Begins) = Ends
+effect_of l (Says (Lists name versions)) = goes_on (listed l (Lists name versions))
+effect_of l (Says (Bounds name low high)) = goes_on (listed l (Bounds name low high))
+effect_of l (Says (Unites sets)) = goes_on (listed l (Unites sets))
+effect_of l (Says (Conditions c)) = goes_on (listed l (Conditions c))
+effect_of l (Says (Strings text)) = goes_on (listed l (Strings text))
 
 -- a fact for what a line does
-abbrev pub OnEntry : Entry → (Listing → Type 0) → Type 0 → Type 0 → Type 0
-OnEntry (GoesOn l) P ends faulty = P l
-OnEntry Ends P ends faulty = ends
-OnEntry Faulty P ends faulty = faulty
+abbrev pub OnEffect : LineEffect → (Listing → Type 0) → Type 0 → Type 0 → Type 0
+OnEffect (GoesOn l) P ends faulty = P l
+OnEffect Ends P ends faulty = ends
+OnEffect Faulty P ends faulty = faulty
 
 -- behind this listing no line begins the commands, and none is unreadable
 abbrev pub NeverBegins : Listing → List (List ℕ) → Type 0
 NeverBegins l [] = ⊤
-NeverBegins l (line ∷ lines) = OnEntry (entry_of l (catalogue_line_of line)) (λ more. NeverBegins more lines) ⊥ ⊥
+NeverBegins l (line ∷ lines) = OnEffect (effect_of l (catalogue_line_of line)) (λ more. NeverBegins more lines) ⊥ ⊥
 
 -- of lines behind this listing, before which so many stand, the first `begin` is the line of the number `before`; the
 -- packages are those that are listed by then, and the commands are in `left`
 abbrev pub CommandsBegin : Listing → ℕ → List (List ℕ) → ℕ → List (List ℕ) → Packages → Type 0
 CommandsBegin l n [] before left packages = ⊥
 CommandsBegin l n (line ∷ lines) before left packages =
-    OnEntry (entry_of l (catalogue_line_of line)) (λ more. CommandsBegin more (n + 1) lines before left packages)
+    OnEffect (effect_of l (catalogue_line_of line)) (λ more. CommandsBegin more (n + 1) lines before left packages)
     ((before ≡ n + 1) × (left ≡ lines) × AreListed packages l) ⊥
 
 -- of lines behind this listing, before which so many stand, that of this number is the first unreadable one, and no line
@@ -53,7 +53,7 @@ CommandsBegin l n (line ∷ lines) before left packages =
 abbrev pub FaultyAt : Listing → ℕ → List (List ℕ) → ℕ → Type 0
 FaultyAt l n [] number = ⊥
 FaultyAt l n (line ∷ lines) number =
-    OnEntry (entry_of l (catalogue_line_of line)) (λ more. FaultyAt more (n + 1) lines number) ⊥ (number ≡ n + 1)
+    OnEffect (effect_of l (catalogue_line_of line)) (λ more. FaultyAt more (n + 1) lines number) ⊥ (number ≡ n + 1)
 
 -- the fault of a catalogue
 abbrev pub CatalogueFault : List (List ℕ) → ScriptFault → Type 0

@@ -2,10 +2,10 @@
 use Rattle.std.specs.Prelude.{ℕ, List, [], ◌∷◌, Option, None, Some, option_map, option_and_then, if◌then◌else◌, codes}
 use Rattle.std.specs.List.{list_all}
 use Rattle.std.specs.Str.{bytes_eq}
-use Rattle.resolvo_provider.specs.declared.condition.Condition.{Condition}
-use Rattle.resolvo_provider.specs.declared.condition.Condition.TheVariants.{Binary, Requirement}
-use Rattle.resolvo_provider.specs.declared.condition.LogicalOperator.{LogicalOperator}
-use Rattle.resolvo_provider.specs.declared.condition.LogicalOperator.TheVariants.{And, Or}
+use Rattle.providers.specs.declared.condition.Condition.{Condition}
+use Rattle.providers.specs.declared.condition.Condition.TheVariants.{Binary, Requirement}
+use Rattle.providers.specs.declared.condition.LogicalOperator.{LogicalOperator}
+use Rattle.providers.specs.declared.condition.LogicalOperator.TheVariants.{And, Or}
 use Rattle.script_text.specs.Lines.{is_printed}
 use Rattle.script_text.specs.Words.{words}
 use Rattle.script_packages.specs.Ids.{number_32, clause_of}

@@ -2,7 +2,7 @@
 use Rattle.std.specs.Prelude.{◌≡◌, [], Option, Some, length}
 use Rattle.script_packages.specs.declared.packages.Packages.{Packages}
 use Rattle.script_packages.specs.CatalogueLines.{Said, Lists, Bounds, Unites, Conditions, Strings, Begins}
-use Rattle.resolvo_pool.specs.Pool.{with_string}
+use Rattle.package_pool.specs.Pool.{with_string}
 use Rattle.script_packages.specs.Listing.{Listing, listing_of, with_pool, named, name_number, with_versions, with_set, listed_sets, with_some_union, with_listed_condition}
 
 -- the packages are those that are listed

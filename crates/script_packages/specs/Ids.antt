@@ -1,8 +1,8 @@
 -- What the words of commands stand for.
 use Rattle.std.specs.Prelude.{ℕ, ◌-◌, ◌^◌, ◌==◌, Bool, true, false, List, [], ◌∷◌, Option, None, Some, option_map, if◌then◌else◌, codes}
 use Rattle.std.specs.Str.{bytes_eq}
-use Rattle.resolvo_provider.specs.declared.requirement.Requirement.{Requirement}
-use Rattle.resolvo_provider.specs.declared.requirement.Requirement.TheVariants.{Single, Union}
+use Rattle.providers.specs.declared.requirement.Requirement.{Requirement}
+use Rattle.providers.specs.declared.requirement.Requirement.TheVariants.{Single, Union}
 use Rattle.script_text.specs.Numbers.{number_of, below}
 
 -- a number of 32 bits: a version, a bound, a level, and the id of a solvable, a version set or a union

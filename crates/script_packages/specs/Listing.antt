@@ -3,11 +3,11 @@ use Rattle.std.specs.Prelude.{ℕ, Bool, ◌==◌, ◌&&◌, ◌-◌, nat_lt, le
 use Rattle.std.specs.Map.{lookup}
 use Rattle.std.specs.Str.{bytes_eq}
 use Rattle.std.specs.String.{string_bytes}
-use Rattle.resolvo_ids.specs.declared.version_set_id.VersionSetId.{VersionSetId}
-use Rattle.resolvo_provider.specs.declared.condition.Condition.{Condition}
-use Rattle.resolvo_provider.specs.declared.condition.Condition.TheVariants.{Binary, Requirement}
-use Rattle.resolvo_pool.specs.Interned.{interned_place}
-use Rattle.resolvo_pool.specs.Pool.{Lists, nothing, with_name, with_solvable, with_version_set, with_union, with_condition}
+use Rattle.typed_ids.specs.declared.version_set_id.VersionSetId.{VersionSetId}
+use Rattle.providers.specs.declared.condition.Condition.{Condition}
+use Rattle.providers.specs.declared.condition.Condition.TheVariants.{Binary, Requirement}
+use Rattle.package_pool.specs.Interned.{interned_place}
+use Rattle.package_pool.specs.Pool.{Lists, nothing, with_name, with_solvable, with_version_set, with_union, with_condition}
 use Rattle.script_packages.specs.declared.packages.Packages.{Packages}
 use Rattle.script_packages.specs.declared.packages.Span.{Span}
 use Rattle.script_packages.specs.declared.packages.VersionRange.{VersionRange}

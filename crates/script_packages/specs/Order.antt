@@ -1,6 +1,6 @@
 -- The order of preference.
 use Rattle.std.specs.Prelude.{ℕ, ◌+◌, ◌==◌, Bool, ◌&&◌, ◌||◌, nat_lt, List, [], ◌∷◌, fold, insert, slice_get, Option, None, Some, if◌then◌else◌}
-use Rattle.resolvo_pool.specs.declared.solvable.Solvable.{Solvable}
+use Rattle.package_pool.specs.declared.solvable.Solvable.{Solvable}
 
 -- the version of a solvable, 0 where there is none
 abbrev pub version_or_zero : Option (Solvable ℕ) → ℕ

@@ -3,7 +3,7 @@ use Rattle.std.specs.Prelude.{ℕ, List, [], ◌∷◌, ◌++◌, fold}
 use Rattle.std.specs.List.Sorted.{IsPermutation}
 use Rattle.std.proofs.lemmas.List.Sorted.{IsPermutation-refl, IsPermutation-trans, IsPermutation-middle, IsPermutation-insert, IsPermutation-append_left}
 use Rattle.std.proofs.Common.{append-nil, subst, sym}
-use Rattle.resolvo_pool.specs.declared.solvable.Solvable.{Solvable}
+use Rattle.package_pool.specs.declared.solvable.Solvable.{Solvable}
 use Rattle.script_packages.specs.Order.{inserted, place_of, best_first}
 
 -- inserting the members of a list one by one only moves them

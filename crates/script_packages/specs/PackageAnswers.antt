@@ -1,11 +1,11 @@
 -- What a script's packages know and answer.
 use Rattle.std.specs.Prelude.{ℕ, nat_lt, length, List, [], ◌++◌, slice_get, unwrap_or, option_map, codes, decimal}
 use Rattle.std.specs.String.{string_bytes}
-use Rattle.resolvo_ids.specs.declared.version_set_id.VersionSetId.{VersionSetId}
-use Rattle.resolvo_provider.specs.declared.condition.Condition.TheVariants.{Requirement}
-use Rattle.resolvo_pool.specs.declared.solvable.Solvable.{Solvable}
-use Rattle.resolvo_provider.specs.Provider.{Catalogue, Answers}
-use Rattle.resolvo_provider.specs.Texts.{Texts}
+use Rattle.typed_ids.specs.declared.version_set_id.VersionSetId.{VersionSetId}
+use Rattle.providers.specs.declared.condition.Condition.TheVariants.{Requirement}
+use Rattle.package_pool.specs.declared.solvable.Solvable.{Solvable}
+use Rattle.providers.specs.Provider.{Universe, Answers}
+use Rattle.providers.specs.Texts.{Texts}
 use Rattle.script_packages.specs.declared.packages.Packages.{Packages}
 use Rattle.script_packages.specs.declared.packages.VersionRange.{VersionRange}
 use Rattle.script_packages.specs.Packages.{span_of, listed_numbers, is_within}
@@ -24,8 +24,8 @@ range_at sets v =
     unwrap_or (option_map (λ (x : ℕ × VersionRange). x.1) (slice_get sets v.0)) (record { low = 0; high = 0 })
 
 -- the ids that the packages know, and how they belong together
-abbrev pub catalogue_of : Packages → Catalogue ℕ ℕ
-catalogue_of p = record {
+abbrev pub universe_of : Packages → Universe ℕ ℕ
+universe_of p = record {
   knows_string = λ t. nat_lt t.0 (length p.pool.strings);
   knows_name = λ n. nat_lt n (length p.pool.names);
   knows_solvable = λ s. nat_lt s (length p.pool.solvables);

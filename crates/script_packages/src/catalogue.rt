@@ -10,9 +10,9 @@ ghost use Rattle.script_packages.specs.Ids.{number_32};
 use crate::catalogue_line::CatalogueLine;
 use crate::ids::id;
 use crate::packages::{Packages, Span, VersionRange};
-use resolvo_ids::{NameId, SolvableId, VersionSetId};
-use resolvo_provider::Condition;
+use providers::Condition;
 use script_text::{LineFault, next_word};
+use typed_ids::{NameId, SolvableId, VersionSetId};
 
 impl Packages {
     ghost use Rattle.script_packages.specs.Listing.{listing_of, with_versions};

@@ -7,9 +7,9 @@ ghost use Rattle.script_packages.specs.CatalogueLines.{said_of, package_of, set_
 ghost use Rattle.script_packages.specs.CatalogueLines.{set_condition, operator_of, joined_condition, begin_of};
 
 use crate::ids::id;
-use resolvo_ids::VersionSetId;
-use resolvo_provider::{Condition, LogicalOperator};
+use providers::{Condition, LogicalOperator};
 use script_text::{Line, Statement, is_word, next_word, open_line, text_of};
+use typed_ids::VersionSetId;
 
 /// What a line up to `begin` says.
 #[derive(Clone, Copy)]

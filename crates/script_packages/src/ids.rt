@@ -3,9 +3,9 @@ ghost use Rattle.std.specs.Prelude.{◌≡◌, option_map, Some, None};
 ghost use Rattle.script_text.specs.Numbers.{number_of, below};
 ghost use Rattle.script_packages.specs.Ids.{requirement_of};
 
-use resolvo_ids::{DenseIndex, VersionSetId, VersionSetUnionId};
-use resolvo_provider::Requirement;
+use providers::Requirement;
 use script_text::number;
+use typed_ids::{DenseIndex, VersionSetId, VersionSetUnionId};
 
 /// The id that a word stands for: its number is an index in range.
 pub fn id<I: DenseIndex>(word: &[u8]) -> Option<I>

@@ -1,16 +1,16 @@
 //! What comes into a script's packages: names, strings, solvables and version sets.
 ghost use Rattle.std.specs.Prelude.{◌≡◌, ◌<◌, ◌-◌, false, length, string_bytes, IfOk, OnOk, IfErr};
-ghost use Rattle.resolvo_pool.specs.Pool.{with_string};
+ghost use Rattle.package_pool.specs.Pool.{with_string};
 ghost use Rattle.script_text.specs.declared.fault.LineFault.TheVariants.{Memory};
 ghost use Rattle.script_packages.specs.Packages.{span_of};
 ghost use Rattle.script_packages.specs.Listing.{named, name_number, has_span, with_pool, with_version, with_span_from, with_set};
 
 use crate::packages::{Packages, Span, VersionRange};
-use resolvo_ids::{NameId, SolvableId};
-use resolvo_pool::Pool;
-use resolvo_storage::FrozenCopyMap;
+use id_storage::FrozenCopyMap;
+use package_pool::Pool;
 use script_text::LineFault;
 use std::alloc::Global;
+use typed_ids::{NameId, SolvableId};
 
 impl Packages {
     ghost use Rattle.script_packages.specs.Listing.{listing_of, nothing_listed};

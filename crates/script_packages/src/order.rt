@@ -1,12 +1,12 @@
 //! The order of preference: a higher version comes first, and of one version the solvable with the lower number.
 ghost use Rattle.std.specs.Prelude.{◌≡◌, ◌≤◌, length, IfOk, IfErr};
-ghost use Rattle.resolvo_ids.specs.declared.error.StoreError.TheVariants.{OutOfMemory};
+ghost use Rattle.typed_ids.specs.declared.error.StoreError.TheVariants.{OutOfMemory};
 ghost use Rattle.script_packages.specs.Order.{version_at, is_before, place_of, best_first};
 
 use crate::packages::VersionRange;
-use resolvo_ids::{DenseIndex, SolvableId, StoreError};
-use resolvo_pool::Pool;
+use package_pool::Pool;
 use std::alloc::Global;
+use typed_ids::{DenseIndex, SolvableId, StoreError};
 
 /// The version of a solvable; 0 where there is no such solvable.
 pub(crate) fn version_at(pool: &Pool<VersionRange>, solvable: SolvableId) -> u32

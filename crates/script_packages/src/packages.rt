@@ -1,11 +1,11 @@
 //! The packages of a script, which stand in a pool.
-ghost use Rattle.resolvo_pool.specs.Pool.{IsOfItself};
-ghost use Rattle.resolvo_pool.specs.PoolProps.{pool_props};
+ghost use Rattle.package_pool.specs.Pool.{IsOfItself};
+ghost use Rattle.package_pool.specs.PoolProps.{pool_props};
 
-use resolvo_ids::{NameId, SolvableId};
-use resolvo_pool::{Pool, VersionSet};
-use resolvo_storage::FrozenCopyMap;
+use id_storage::FrozenCopyMap;
+use package_pool::{Pool, VersionSet};
 use std::alloc::Global;
+use typed_ids::{NameId, SolvableId};
 
 /// The solvables of a package: those from `first` to `last`.
 #[derive(Clone, Copy, Debug, PartialEq, Eq)]

@@ -1,23 +1,23 @@
 //! The provider of a script's packages.
 ghost use Rattle.std.specs.Prelude.{◌≡◌, ◌+◌, ◌-◌, length, IfOk, OnOk, OnErr, IfErr};
-ghost use Rattle.resolvo_ids.specs.declared.error.StoreError.TheVariants.{OutOfMemory};
-ghost use Rattle.resolvo_provider.specs.Provider.{filtered};
-ghost use Rattle.resolvo_provider.specs.Texts.{IsAppended, IsSameText};
+ghost use Rattle.typed_ids.specs.declared.error.StoreError.TheVariants.{OutOfMemory};
+ghost use Rattle.providers.specs.Provider.{filtered};
+ghost use Rattle.providers.specs.Texts.{IsAppended, IsSameText};
 ghost use Rattle.script_packages.specs.Packages.{numbers, is_within};
 ghost use Rattle.script_packages.specs.Order.{version_at, best_first};
 
 use crate::order::{best_first, version_at};
 use crate::packages::{Packages, Span, VersionRange};
-use resolvo_ids::{
+use package_pool::Pool;
+use providers::{Condition, DependencyProvider, Interner};
+use std::alloc::Global;
+use typed_ids::{
     ConditionId, DenseIndex, NameId, SolvableId, StoreError, StringId, VersionSetId,
     VersionSetUnionId,
 };
-use resolvo_pool::Pool;
-use resolvo_provider::{Condition, DependencyProvider, Interner};
-use std::alloc::Global;
 
 impl Interner for Packages {
-    ghost use Rattle.script_packages.specs.PackageAnswers.{catalogue_of, texts_of};
+    ghost use Rattle.script_packages.specs.PackageAnswers.{universe_of, texts_of};
     ghost use Rattle.script_packages.specs.PackageLaws.{solvable_names_known, set_names_known, union_sets_known, operands_known};
 
     type Alloc = Global;
@@ -26,7 +26,7 @@ impl Interner for Packages {
 
     type SolvableId = SolvableId;
 
-    ghost catalogue = { catalogue_of };
+    ghost universe = { universe_of };
 
     ghost texts = { texts_of };
 

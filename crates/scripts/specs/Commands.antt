@@ -48,8 +48,8 @@ decide_command [] = Some Decide
 decide_command _ = None
 
 -- the command of a line's words
-abbrev pub command_of : List ℕ → List (List ℕ) → Option (Command ℕ)
-command_of keyword ws =
+abbrev pub command_said : List ℕ → List (List ℕ) → Option (Command ℕ)
+command_said keyword ws =
     if bytes_eq keyword (codes "assign") then assign_command ws
     else if bytes_eq keyword (codes "requires") then requires_command ws
     else if bytes_eq keyword (codes "load") then load_command ws
@@ -66,7 +66,7 @@ says (Some c) = Says c
 -- what the words of a line say: none, or a comment's, are skipped
 abbrev pub words_say : List (List ℕ) → Line (Command ℕ)
 words_say [] = Skipped
-words_say (keyword ∷ ws) = if is_comment keyword then Skipped else says (command_of keyword ws)
+words_say (keyword ∷ ws) = if is_comment keyword then Skipped else says (command_said keyword ws)
 
 -- what a line behind `begin` says
 abbrev pub command_line_of : List ℕ → Line (Command ℕ)

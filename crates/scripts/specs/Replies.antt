@@ -1,7 +1,7 @@
 -- The text of reply lines.
 use Rattle.std.specs.Prelude.{ℕ, Bool, List, [], ◌∷◌, ◌++◌, Option, None, Some, if◌then◌else◌, codes, decimal}
-use Rattle.resolvo_ids.specs.Refusals.{code_of}
-use Rattle.resolvo_clauses.specs.declared.decision.Decision.{Decision}
+use Rattle.typed_ids.specs.Refusals.{code_of}
+use Rattle.decisions.specs.declared.decision.Decision.{Decision}
 use Rattle.resolvo_queue.specs.declared.queue_decision.QueueDecision.{QueueDecision}
 use Rattle.resolvo_store.specs.Command.{Reply, VariableIs, LoadedAs, ClauseIs, Assigned, Already, Clash, Undone, Decided, NoDecision, Falsified, Refused}
 

@@ -2,12 +2,12 @@
 ghost use Rattle.std.specs.Prelude.{◌≡◌, ◌∷◌, [], option_map};
 ghost use Rattle.script_text.specs.Words.{words};
 ghost use Rattle.script_packages.specs.Ids.{truth_of};
-ghost use Rattle.scripts.specs.Commands.{command_of, variable_command, load_command, requires_command, assign_command, undo_command, decide_command, only_word, command_line_of};
+ghost use Rattle.scripts.specs.Commands.{command_said, variable_command, load_command, requires_command, assign_command, undo_command, decide_command, only_word, command_line_of};
 
-use resolvo_ids::SolvableId;
 use resolvo_store::Command;
 use script_packages::{id, requirement};
 use script_text::{Line, Statement, is_word, next_word, open_line};
+use typed_ids::SolvableId;
 
 /// What a line behind `begin` says.
 pub fn command_line(line: &[u8]) -> Line<Command<SolvableId>>
@@ -25,7 +25,7 @@ pub fn command_line(line: &[u8]) -> Line<Command<SolvableId>>
 
 /// The command that a statement gives.
 fn command(said: Statement<'_>) -> Option<Command<SolvableId>>
-    ensures { result ≡ command_of said.entry.keyword.now (words said.entry.rest.now) }
+    ensures { result ≡ command_said said.entry.keyword.now (words said.entry.rest.now) }
 {
     if is_word(said.keyword, b"assign") {
         assign(said.rest)

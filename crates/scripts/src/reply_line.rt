@@ -3,12 +3,12 @@ ghost use Rattle.std.specs.Prelude.{◌≡◌, ◌++◌, OnOk, codes, decimal, m
 ghost use Rattle.resolvo_store.specs.Command.{reply_of};
 ghost use Rattle.scripts.specs.Replies.{field, reply_words, reply_text, list_text, others_text, lists_text, conflict_text, decision_text, undone_text, truth_text, unreadable_text};
 
+use decisions::Decision;
 use itoa::Buffer;
-use resolvo_clauses::Decision;
-use resolvo_ids::{ClauseId, DenseIndex, VariableId};
 use resolvo_queue::QueueDecision;
 use resolvo_store::Reply;
 use std::alloc::{AllocError, Allocator};
+use typed_ids::{ClauseId, DenseIndex, VariableId};
 
 /// Puts the line of a reply behind the text.
 pub fn push_reply<A: Allocator>(text: &mut Vec<u8>, reply: &Reply<A>) -> Result<(), AllocError>

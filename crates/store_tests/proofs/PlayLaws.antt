@@ -3,9 +3,9 @@ use Rattle.std.proofs.Common.{◌≡◌, ℕ, Bool, true, false, cond, ◌&&◌,
 use Rattle.std.specs.Bool.{beq}
 use Rattle.std.specs.Prelude.{◌-◌, ◌^◌, nat_lt, nat_le, flat_map, length, is_none, MatchOption}
 use Rattle.std.specs.List.{list_any}
-use Rattle.resolvo_ids.specs.declared.error.StoreError.{StoreError}
-use Rattle.resolvo_ids.specs.declared.error.StoreError.TheVariants.{IdSpace}
-use Rattle.resolvo_provider.specs.Provider.{sets_of}
+use Rattle.typed_ids.specs.declared.error.StoreError.{StoreError}
+use Rattle.typed_ids.specs.declared.error.StoreError.TheVariants.{IdSpace}
+use Rattle.providers.specs.Provider.{sets_of}
 use Rattle.resolvo_queue.specs.declared.requires_clause.RequiresClause.{RequiresClause}
 use Rattle.resolvo_queue.specs.Pick.{Offer}
 use Rattle.resolvo_store.specs.Command.{Command, Variable, Load, Requires, Assign, UndoUntil, Decide, Reply, Already, Clash, Refused, IsRefused}
@@ -53,8 +53,8 @@ module _ {N S : Type 0} where
   -- where there are, it may lack ids
   rows_lack : (st : Store N S) (c : Command S) → has_too_many_rows st c ≡ true → lacks_ids st c ≡ true
   rows_lack st (Load r) many =
-      rows_among (is_none (lists_of st r)) (nat_lt (2 ^ 31 - 1) (length (origins_loaded st r))) (nat_le (2 ^ 40) (length (flat_map (candidates_of st) (sets_of st.provider.catalogue r))))
-      (list_any st.provider.is_large_solvable (flat_map (candidates_of st) (sets_of st.provider.catalogue r))) many
+      rows_among (is_none (lists_of st r)) (nat_lt (2 ^ 31 - 1) (length (origins_loaded st r))) (nat_le (2 ^ 40) (length (flat_map (candidates_of st) (sets_of st.provider.universe r))))
+      (list_any st.provider.is_large_solvable (flat_map (candidates_of st) (sets_of st.provider.universe r))) many
     where
       rows_among : (a b d e : Bool) → (a && d) ≡ true → (a && (b || (d || e))) ≡ true
       rows_among a b d e h = grind (arith, h)

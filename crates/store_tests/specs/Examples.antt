@@ -1,18 +1,18 @@
 -- Worked examples: what the abstract store replies to some lists of commands, computed.
 use Rattle.std.specs.Prelude.{◌≡◌, ℕ, Bool, true, false, ◌==◌, if◌then◌else◌, List, [], ◌∷◌, Some, None}
-use Rattle.resolvo_ids.specs.declared.error.StoreError.TheVariants.{UnknownId, LevelOutOfRange, NotLoaded}
-use Rattle.resolvo_provider.specs.declared.requirement.Requirement.{Requirement}
-use Rattle.resolvo_provider.specs.declared.requirement.Requirement.TheVariants.{Single, Union}
-use Rattle.resolvo_clauses.specs.Literals.{Values}
+use Rattle.typed_ids.specs.declared.error.StoreError.TheVariants.{UnknownId, LevelOutOfRange, NotLoaded}
+use Rattle.providers.specs.declared.requirement.Requirement.{Requirement}
+use Rattle.providers.specs.declared.requirement.Requirement.TheVariants.{Single, Union}
+use Rattle.decisions.specs.Literals.{Values}
 use Rattle.resolvo_queue.specs.Rows.{Row, frontier}
 use Rattle.resolvo_queue.specs.Pick.{Offer, pick}
 use Rattle.resolvo_store.specs.Command.{Command, Variable, Load, Requires, Assign, UndoUntil, Decide, Reply, VariableIs, LoadedAs, ClauseIs, Assigned, Already, Clash, Undone, Decided, NoDecision, Falsified, Refused}
 use Rattle.resolvo_store.specs.Store.{new_store}
 use Rattle.store_tests.specs.Play.{play}
-use Rattle.store_tests.specs.Script.{Catalogue, Solvable, Range, provider_of}
+use Rattle.store_tests.specs.Script.{Universe, Solvable, Range, provider_of}
 
 -- over this catalogue a new store gives these replies to these commands
-abbrev pub Gives : Catalogue → List (Command ℕ) → List Reply → Type 0
+abbrev pub Gives : Universe → List (Command ℕ) → List Reply → Type 0
 Gives c commands replies = play (new_store (provider_of c)) commands ≡ replies
 
 -- a solvable of a name, in a version

@@ -1,7 +1,7 @@
 -- A catalogue of packages, and the provider of it: names and solvables are their numbers, a higher version is preferred.
 use Rattle.std.specs.Prelude.{ℕ, Bool, true, false, ◌==◌, ◌&&◌, ◌||◌, if◌then◌else◌, nat_lt, nat_le, List, [], ◌∷◌, map, length, filter, fold, Option, Some, None, unwrap_or, option_map, slice_get}
 use Rattle.std.specs.List.{enumerate_from}
-use Rattle.resolvo_ids.specs.declared.version_set_id.VersionSetId.{VersionSetId}
+use Rattle.typed_ids.specs.declared.version_set_id.VersionSetId.{VersionSetId}
 use Rattle.resolvo_store.specs.Store.{Provider}
 use Rattle.plain_providers.specs.Listed.{set_condition}
 
@@ -15,13 +15,13 @@ pub record Range : Type 0 where
   pub low : ℕ
   pub high : ℕ
 
-pub record Catalogue : Type 0 where
+pub record Universe : Type 0 where
   pub solvables : List Solvable
   pub sets : List Range
   -- the version sets of each union, by number
   pub unions : List (List ℕ)
 
-module _ (c : Catalogue) where
+module _ (c : Universe) where
   -- the solvables of a name, by number
   abbrev pub named : ℕ → List ℕ
   named n = map (λ (s : ℕ × Solvable). s.0) (filter (λ (s : ℕ × Solvable). s.1.name == n) (enumerate_from 0 c.solvables))
@@ -51,7 +51,7 @@ module _ (c : Catalogue) where
     same_solvable = λ s t. s == t;
     is_large_name = λ n. false;
     is_large_solvable = λ s. false;
-    catalogue = record {
+    universe = record {
       knows_string = λ s. false;
       knows_name = λ n. true;
       knows_solvable = λ s. nat_lt s (length c.solvables);

@@ -5,15 +5,15 @@ ghost use Rattle.std.specs.Prelude.{◌≡◌, []};
 
 use crate::script::{Example, clause, lists_of, single, variable};
 use crate::stores::{Way, dense_gives, sparse_gives};
-use resolvo_clauses::{AddFault, Decision, DecisionMap, DecisionTracker};
-use resolvo_ids::{DenseIndex, NameId, SolvableId, StoreError, VariableId, VersionSetId};
-use resolvo_maps::{DefaultValue, IdMap, Slot, SolverId};
-use resolvo_provider::{Interner, Requirement, RequirementMap};
+use decisions::{AddFault, Decision, DecisionMap, DecisionTracker};
+use id_maps::{DefaultValue, IdMap, Slot, SolverId};
+use providers::{Interner, Requirement, RequirementMap};
 use resolvo_queue::{Answer, DecideQueue};
-use resolvo_variables::{VariableMap, VariableOrigin};
-use seen::is_same;
 use std::alloc::{Allocator, Global};
 use std::test::Fail;
+use test_checks::is_same;
+use typed_ids::{DenseIndex, NameId, SolvableId, StoreError, VariableId, VersionSetId};
+use variables::{VariableMap, VariableOrigin};
 
 #[test]
 fn total_maps_keep_numbers(rt: HostRuntime) -> Result<(), Fail> {

@@ -1,13 +1,13 @@
 //! Callers that know nothing of the provider but its trait, and nothing of the store but its contracts.
 ghost use Rattle.std.specs.Prelude.{◌≡◌, ◌≢◌, ℕ, true, List, length, Some, None, IfSome};
-ghost use Rattle.resolvo_ids.specs.declared.error.StoreError.TheVariants.{UnknownId};
-ghost use Rattle.resolvo_provider.specs.Provider.{sets_of};
+ghost use Rattle.typed_ids.specs.declared.error.StoreError.TheVariants.{UnknownId};
+ghost use Rattle.providers.specs.Provider.{sets_of};
 ghost use Rattle.resolvo_queue.specs.Pick.{DecidesUnbeaten};
 ghost use Rattle.resolvo_store.specs.Command.{reply_of, LoadedAs, Refused, IsRefused};
 ghost use Rattle.resolvo_store.specs.Outcome.{offers};
 ghost use Rattle.resolvo_store.specs.Store.{lists_of};
 
-use resolvo_provider::{DependencyProvider, Interner, Requirement};
+use providers::{DependencyProvider, Interner, Requirement};
 use resolvo_queue::QueueDecision;
 use resolvo_store::{AbstractStore, ClauseStore, Command, Reply};
 
@@ -26,7 +26,7 @@ pub fn unknown<D: DependencyProvider + Drop>(
     store: &mut ClauseStore<D>,
     solvable: D::SolvableId,
 ) -> Reply<D::Alloc>
-    requires { (D.catalogue store.old.provider).knows_solvable solvable ≢ true }
+    requires { (D.universe store.old.provider).knows_solvable solvable ≢ true }
     ensures reply { reply_of result ≡ Refused UnknownId }
     ensures same { ⟦<D as AbstractStore>⟧.store store.new ≡ ⟦<D as AbstractStore>⟧.store store.old }
 {
@@ -39,7 +39,7 @@ pub fn load_first<D: DependencyProvider + Drop>(
     requirement: Requirement,
 ) -> Reply<D::Alloc>
     requires { lists_of (⟦<D as AbstractStore>⟧.store store.old) requirement ≡ None }
-    ensures { (lists : List (List ℕ)) → reply_of result ≡ LoadedAs lists → length lists ≡ length (sets_of (D.catalogue store.old.provider) requirement) }
+    ensures { (lists : List (List ℕ)) → reply_of result ≡ LoadedAs lists → length lists ≡ length (sets_of (D.universe store.old.provider) requirement) }
 {
     store.step(&Command::Load(requirement))
 }

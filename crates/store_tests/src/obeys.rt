@@ -1,10 +1,10 @@
 //! What the tests ask of a store. What they share is generic in it, since a proof over a type parameter is much shorter
 //! than one over the store's own type.
 use crate::script::variable;
-use resolvo_ids::{ClauseId, StoreError};
-use resolvo_provider::{DependencyProvider, Interner};
+use providers::{DependencyProvider, Interner};
 use resolvo_store::{ClauseStore, Command, Reply};
 use std::alloc::Allocator;
+use typed_ids::{ClauseId, StoreError};
 
 /// What a store ends with: the values of the root and of variable 2, and the falsified clause.
 pub(crate) type End = (Option<bool>, Option<bool>, Option<ClauseId>);

@@ -3,11 +3,11 @@ use crate::script::{Example, TWO_PACKAGES_WANTED, two_packages_commands};
 use crate::stores::{Way, dense_play};
 use crate::wanted::first_unwanted;
 use refusing::Refusing;
-use resolvo_ids::{SolvableId, StoreError};
 use resolvo_store::{Command, Reply};
-use seen::is_same;
 use std::alloc::{Allocator, Global};
 use std::test::Fail;
+use test_checks::is_same;
+use typed_ids::{SolvableId, StoreError};
 
 /// The request to refuse, by its number from when it is armed, and the memory that is asked.
 #[derive(Clone, Copy)]

@@ -1,13 +1,13 @@
 //! The examples of the tests: the lists of a provider, commands, and the replies that are wanted.
 use crate::wanted::{Wanted, WantedDecision, WantedPlay};
 use plain_providers::{Lists, Package, VersionRange};
-use resolvo_ids::{
+use providers::Requirement;
+use resolvo_store::Command;
+use std::alloc::{AllocError, Allocator};
+use typed_ids::{
     ClauseId, DenseIndex, DisjunctionId, NameId, StoreError, VariableId, VersionSetId,
     VersionSetUnionId,
 };
-use resolvo_provider::Requirement;
-use resolvo_store::Command;
-use std::alloc::{AllocError, Allocator};
 
 /// An example: the lists of a provider, a list of commands, and the replies that are wanted.
 #[derive(Clone, Copy)]

@@ -9,12 +9,12 @@ use crate::script::{
 };
 use crate::wanted::{Wanted, first_unwanted};
 use plain_providers::{SparseLists, SparseName, SparseSolvable};
-use resolvo_ids::{NameId, SolvableId, StoreError};
-use resolvo_provider::{DependencyProvider, Interner};
+use providers::{DependencyProvider, Interner};
 use resolvo_store::{ClauseStore, Command, Reply};
-use seen::is_same;
 use std::alloc::Allocator;
 use std::test::Fail;
+use test_checks::is_same;
+use typed_ids::{NameId, SolvableId, StoreError};
 
 /// How a store is given commands.
 #[derive(Clone, Copy)]

@@ -1,10 +1,10 @@
 //! The replies that are wanted, in plain numbers, and what compares a reply with one in place. They own nothing, so
 //! that a list of them is a constant.
 use crate::script::{clause, variable};
-use resolvo_ids::{StoreError, VariableId};
 use resolvo_queue::QueueDecision;
 use resolvo_store::Reply;
 use std::alloc::Allocator;
+use typed_ids::{StoreError, VariableId};
 
 /// A reply that is wanted.
 #[derive(Clone, Copy)]

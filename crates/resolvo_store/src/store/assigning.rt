@@ -4,9 +4,9 @@ ghost use Rattle.std.specs.Prelude.{◌≡◌};
 use crate::abstract_store::AbstractStore;
 use crate::reply::Reply;
 use crate::store::ClauseStore;
-use resolvo_clauses::{AddFault, Decision, DecisionTracker};
-use resolvo_ids::{ClauseId, DenseIndex, StoreError, VariableId};
-use resolvo_provider::DependencyProvider;
+use decisions::{AddFault, Decision, DecisionTracker};
+use providers::DependencyProvider;
+use typed_ids::{ClauseId, DenseIndex, StoreError, VariableId};
 
 impl<D: DependencyProvider + Drop> ClauseStore<D> {
     ghost use Rattle.resolvo_store.specs.Command.{Assign, UndoUntil, reply_of};

@@ -7,9 +7,9 @@ ghost use Rattle.resolvo_queue.specs.Scan.{scan};
 use crate::abstract_store::AbstractStore;
 use crate::reply::Reply;
 use crate::store::ClauseStore;
-use resolvo_ids::ClauseId;
-use resolvo_provider::DependencyProvider;
+use providers::DependencyProvider;
 use resolvo_queue::{Answer, QueueDecision};
+use typed_ids::ClauseId;
 
 impl<D: DependencyProvider + Drop> ClauseStore<D> {
     ghost use Rattle.resolvo_store.specs.Command.{Decide, reply_of};

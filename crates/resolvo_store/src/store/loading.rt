@@ -1,14 +1,14 @@
 //! The commands that bring solvables: `Variable` and `Load`.
 ghost use Rattle.std.specs.Prelude.{◌≡◌, None, true, map, option_map, IfOk, IfErr};
-ghost use Rattle.resolvo_provider.specs.Provider.{knows_requirement};
+ghost use Rattle.providers.specs.Provider.{knows_requirement};
 
 use crate::abstract_store::AbstractStore;
 use crate::reply::Reply;
 use crate::store::ClauseStore;
-use resolvo_ids::StoreError;
-use resolvo_loading::candidate_lists;
-use resolvo_provider::{DependencyProvider, Interner, Requirement};
-use resolvo_variables::{VariableLists, copy_of_lists, intern_lists};
+use candidates::candidate_lists;
+use providers::{DependencyProvider, Interner, Requirement};
+use typed_ids::StoreError;
+use variables::{VariableLists, copy_of_lists, intern_lists};
 
 impl<D: DependencyProvider + Drop> ClauseStore<D> {
     ghost use Rattle.resolvo_store.specs.Command.{Variable, Load, reply_of, LoadedAs, Refused};
@@ -50,7 +50,7 @@ impl<D: DependencyProvider + Drop> ClauseStore<D> {
         &mut self,
         requirement: Requirement,
     ) -> Result<VariableLists<D::Alloc>, StoreError>
-        requires { knows_requirement (D.catalogue self.old.provider) requirement ≡ true }
+        requires { knows_requirement (D.universe self.old.provider) requirement ≡ true }
         ensures ok { IfOk result (λ lists. IsAnswered (⟦<D as AbstractStore>⟧.store self.old) (Load requirement) (LoadedAs (map (λ l. l.items) lists.items))
             (⟦<D as AbstractStore>⟧.store self.new)) }
         ensures err { IfErr result (λ e. IsAnswered (⟦<D as AbstractStore>⟧.store self.old) (Load requirement) (Refused e)
@@ -65,7 +65,7 @@ impl<D: DependencyProvider + Drop> ClauseStore<D> {
 
     /// Loads a requirement. What is refused half way gives the variables back that it made.
     fn load_new(&mut self, requirement: Requirement) -> Result<VariableLists<D::Alloc>, StoreError>
-        requires known { knows_requirement (D.catalogue self.old.provider) requirement ≡ true }
+        requires known { knows_requirement (D.universe self.old.provider) requirement ≡ true }
         requires new { lists_of (⟦<D as AbstractStore>⟧.store self.old) requirement ≡ None }
         ensures ok { IfOk result (λ lists. IsAnswered (⟦<D as AbstractStore>⟧.store self.old) (Load requirement) (LoadedAs (map (λ l. l.items) lists.items))
             (⟦<D as AbstractStore>⟧.store self.new)) }

@@ -1,16 +1,16 @@
 //! The command that adds requires clauses.
 ghost use Rattle.std.specs.Prelude.{◌≡◌, ◌-◌, ◌^◌, [], ◌∷◌, ◌++◌, length, true, false, nat_le, if◌then◌else◌, option_map, IfOk, OnOk, OnErr, IfErr};
-ghost use Rattle.resolvo_ids.specs.declared.error.StoreError.TheVariants.{OutOfMemory, TooManyClauses};
+ghost use Rattle.typed_ids.specs.declared.error.StoreError.TheVariants.{OutOfMemory, TooManyClauses};
 
 use crate::abstract_store::AbstractStore;
 use crate::conflict::is_conflict;
 use crate::reply::Reply;
 use crate::store::ClauseStore;
-use resolvo_ids::{ClauseId, DenseIndex, DisjunctionId, StoreError, VariableId};
-use resolvo_provider::{DependencyProvider, Interner, Requirement};
+use providers::{DependencyProvider, Interner, Requirement};
+use typed_ids::{ClauseId, DenseIndex, DisjunctionId, StoreError, VariableId};
 
 impl<D: DependencyProvider + Drop> ClauseStore<D> {
-    ghost use Rattle.resolvo_provider.specs.Provider.{knows_requirement, sets_of};
+    ghost use Rattle.providers.specs.Provider.{knows_requirement, sets_of};
     ghost use Rattle.resolvo_queue.specs.Rows.{rows};
     ghost use Rattle.resolvo_store.specs.Command.{Requires, reply_of};
     ghost use Rattle.resolvo_store.specs.Store.{lists_of, values};
@@ -45,7 +45,7 @@ impl<D: DependencyProvider + Drop> ClauseStore<D> {
 
     /// Whether the provider knows the requirement's version set, or its union.
     pub(super) fn knows_requirement(&self, requirement: Requirement) -> bool
-        ensures { result ≡ knows_requirement (D.catalogue self.now.provider) requirement }
+        ensures { result ≡ knows_requirement (D.universe self.now.provider) requirement }
     {
         match requirement {
             Requirement::Single(set) => self.provider.knows_version_set(set),
@@ -55,9 +55,9 @@ impl<D: DependencyProvider + Drop> ClauseStore<D> {
 
     /// Whether a clause of this parent and requirement would be a conflict; none where the requirement isn't loaded.
     fn conflict(&self, parent: VariableId, requirement: Requirement) -> Option<bool>
-        requires { knows_requirement (D.catalogue self.now.provider) requirement ≡ true }
+        requires { knows_requirement (D.universe self.now.provider) requirement ≡ true }
         ensures { result ≡ option_map (λ lists. is_conflict (values (⟦<D as AbstractStore>⟧.store self.now)) parent
-            (rows (sets_of (D.catalogue self.now.provider) requirement) lists)) (lists_of (⟦<D as AbstractStore>⟧.store self.now) requirement) }
+            (rows (sets_of (D.universe self.now.provider) requirement) lists)) (lists_of (⟦<D as AbstractStore>⟧.store self.now) requirement) }
     {
         let lists = self.lists(requirement)?;
         let sets = requirement.version_sets(&self.provider);
@@ -70,7 +70,7 @@ impl<D: DependencyProvider + Drop> ClauseStore<D> {
         parent: VariableId,
         requirement: Requirement,
     ) -> Result<ClauseId, StoreError>
-        requires { knows_requirement (D.catalogue self.old.provider) requirement ≡ true }
+        requires { knows_requirement (D.universe self.old.provider) requirement ≡ true }
         ensures clause { IfOk result (λ clause. clause ≡ length self.old.requires) }
         ensures ok { OnOk result (self.new ≡ record self.old {
           requires = self.old.requires ++

@@ -1,5 +1,5 @@
 use Rattle.std.proofs.Common.{◌≡◌, ◌++◌}
-use Rattle.resolvo_storage.specs.Arena.{pairs_from}
+use Rattle.id_storage.specs.Arena.{pairs_from}
 use Rattle.ids_tests.proofs.arena_callers.pairs.Given as goal
 
 -- what was taken, and then what is left, are all pairs

@@ -1,6 +1,6 @@
 use Rattle.std.proofs.Common.{arith}
 use Rattle.std.proofs.lemmas.Grind.{common_steps}
-use Rattle.resolvo_storage.proofs.ArenaLemmas.{values_of_pairs}
+use Rattle.id_storage.proofs.ArenaLemmas.{values_of_pairs}
 use Rattle.ids_tests.proofs.arena_callers.total.Goals as goal
 
 -- the values of the pairs are the arena's

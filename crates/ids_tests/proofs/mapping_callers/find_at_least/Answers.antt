@@ -1,7 +1,7 @@
 use Rattle.std.proofs.Common.{◌≡◌, ◌<◌, ℕ, Some, sym, ◌∙◌, arith}
 use Rattle.std.proofs.lemmas.List.Elements.{All-same, All-rest, All-cons}
-use Rattle.resolvo_storage.specs.Mapping.{value_at}
-use Rattle.resolvo_storage.proofs.MappingLemmas.{each_value}
+use Rattle.id_storage.specs.Mapping.{value_at}
+use Rattle.id_storage.proofs.MappingLemmas.{each_value}
 use Rattle.ids_tests.proofs.mapping_callers.find_at_least.Goals as goal
 
 pub loop-id-init : goal.loop-id-init

@@ -1,6 +1,6 @@
 use Rattle.std.proofs.Common.{◌≡◌, ◌<◌, ℕ, All, Some}
 use Rattle.std.specs.Option.{ForSome}
-use Rattle.resolvo_storage.specs.Mapping.{value_at}
+use Rattle.id_storage.specs.Mapping.{value_at}
 use Rattle.ids_tests.proofs.mapping_callers.find_at_least.Given as goal
 
 -- the pairs that are left are the map's, and if they are all too small, so is each value

@@ -1,5 +1,5 @@
 use Rattle.std.proofs.Common.{◌≡◌, ◌++◌, drop, ℕ, Bool, List}
-use Rattle.resolvo_provider.specs.Provider.{filtered}
+use Rattle.providers.specs.Provider.{filtered}
 use Rattle.plain_providers.specs.declared.lists.Package.{Package}
 use Rattle.plain_providers.specs.declared.lists.VersionRange.{VersionRange}
 use Rattle.plain_providers.specs.Listed.{package_at, is_within}

@@ -1,5 +1,5 @@
 use Rattle.std.proofs.Common.{◌+◌, ◌-◌, map, vec_len}
-use Rattle.resolvo_ids.specs.TotalMaps.{SameValues}
+use Rattle.typed_ids.specs.TotalMaps.{SameValues}
 use Rattle.resolvo_queue.specs.Index.{list_at}
 use Rattle.resolvo_queue.proofs.clauses_by_parent.reach.Given as goal
 

@@ -1,5 +1,5 @@
-use Rattle.resolvo_provider.specs.Provider.{sets_of}
-use Rattle.resolvo_clauses.specs.Decisions.{values_in}
+use Rattle.providers.specs.Provider.{sets_of}
+use Rattle.decisions.specs.Decisions.{values_in}
 use Rattle.resolvo_queue.proofs.RowLaws.{few_kept, none_kept}
 use Rattle.resolvo_queue.proofs.row_state.requirement_state.Goals as goal
 
@@ -10,5 +10,5 @@ rows_state-requires g c =
 
 pub returns-in-None : goal.returns-in-None
 returns-in-None g c =
-    none_kept (values_in c.args.decisions.now) (sets_of (g.I.Interner.catalogue c.args.interner.now) c.args.requirement)
+    none_kept (values_in c.args.decisions.now) (sets_of (g.I.Interner.universe c.args.interner.now) c.args.requirement)
     c.args.lists.now c.args.requirement c.in-None.ensures

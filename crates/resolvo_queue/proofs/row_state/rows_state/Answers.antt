@@ -1,7 +1,7 @@
 use Rattle.std.proofs.Common.{◌≡◌, ◌∷◌, ◌+◌, sym, ap, ◌∙◌, drop, map}
 use Rattle.std.specs.Prelude.{flat_map}
 use Rattle.std.proofs.lemmas.List.{drop_more, drop_all}
-use Rattle.resolvo_clauses.specs.Decisions.{values_in}
+use Rattle.decisions.specs.Decisions.{values_in}
 use Rattle.resolvo_queue.specs.Rows.{rows, list_rows}
 use Rattle.resolvo_queue.specs.RowState.{with_rows}
 use Rattle.resolvo_queue.proofs.RowLaws.{state-rows, next-list, few-left, no_set, no_list, met-whole}

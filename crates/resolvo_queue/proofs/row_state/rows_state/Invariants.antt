@@ -1,6 +1,6 @@
 use Rattle.std.proofs.Common.{◌≡◌, ◌+◌, ◌<◌, ◌^◌, drop, length, map}
 use Rattle.std.specs.Prelude.{flat_map}
-use Rattle.resolvo_clauses.specs.Decisions.{values_in}
+use Rattle.decisions.specs.Decisions.{values_in}
 use Rattle.resolvo_queue.specs.declared.row_state.RowState.TheVariants.{AllFalse}
 use Rattle.resolvo_queue.specs.Rows.{rows}
 use Rattle.resolvo_queue.specs.RowState.{counted, with_rows}

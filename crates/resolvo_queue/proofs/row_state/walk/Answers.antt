@@ -1,6 +1,6 @@
 use Rattle.std.proofs.Common.{◌≡◌, ◌∷◌, ◌+◌, sym, ap, ◌∙◌, drop}
 use Rattle.std.proofs.lemmas.List.{drop_more}
-use Rattle.resolvo_clauses.specs.Decisions.{values_in}
+use Rattle.decisions.specs.Decisions.{values_in}
 use Rattle.resolvo_queue.specs.Rows.{list_rows}
 use Rattle.resolvo_queue.specs.RowState.{with_row, with_rows}
 use Rattle.resolvo_queue.proofs.RowLaws.{met-whole}

@@ -1,5 +1,5 @@
 use Rattle.std.proofs.Common.{◌≡◌, ◌+◌, ◌≤◌, drop, length}
-use Rattle.resolvo_clauses.specs.Decisions.{values_in}
+use Rattle.decisions.specs.Decisions.{values_in}
 use Rattle.resolvo_queue.specs.Rows.{list_rows}
 use Rattle.resolvo_queue.specs.RowState.{counted, with_rows}
 use Rattle.resolvo_queue.proofs.row_state.walk.Given as goal

@@ -2,7 +2,7 @@ use Rattle.std.proofs.Common.{◌≡◌, ◌∷◌, ◌+◌, ◌||◌, ◌==◌,
 use Rattle.std.specs.Bool.{beq}
 use Rattle.std.specs.Option.{option_eq}
 use Rattle.std.proofs.lemmas.List.{drop_more, drop_all}
-use Rattle.resolvo_clauses.specs.Decisions.{values_in}
+use Rattle.decisions.specs.Decisions.{values_in}
 use Rattle.resolvo_queue.specs.Rows.{rows}
 use Rattle.resolvo_store.proofs.ConflictLemmas.{conflict-rows, next-list, other-list, no_set, no_list, false_list, all_false_of_some}
 use Rattle.resolvo_store.proofs.conflict.is_conflict.Goals as goal

@@ -1,5 +1,5 @@
 use Rattle.std.proofs.Common.{◌≡◌, drop, map, false}
-use Rattle.resolvo_clauses.specs.Decisions.{values_in}
+use Rattle.decisions.specs.Decisions.{values_in}
 use Rattle.resolvo_queue.specs.Rows.{rows}
 use Rattle.resolvo_store.proofs.ConflictLemmas.{all_false_of_some}
 use Rattle.resolvo_store.proofs.conflict.is_conflict.Given as goal

@@ -1,6 +1,6 @@
 use Rattle.std.proofs.Common.{◌≡◌, ◌++◌, drop, ℕ, Bool, List}
-use Rattle.resolvo_provider.specs.Provider.{filtered}
-use Rattle.resolvo_pool.specs.declared.solvable.Solvable.{Solvable}
+use Rattle.providers.specs.Provider.{filtered}
+use Rattle.package_pool.specs.declared.solvable.Solvable.{Solvable}
 use Rattle.script_packages.specs.declared.packages.VersionRange.{VersionRange}
 use Rattle.script_packages.specs.Order.{version_at}
 use Rattle.script_packages.specs.Packages.{is_within}

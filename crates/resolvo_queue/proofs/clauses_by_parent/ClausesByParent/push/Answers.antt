@@ -1,5 +1,5 @@
 use Rattle.std.proofs.Common.{◌<◌, map, length, ap, ◌∙◌, arith}
-use Rattle.resolvo_ids.specs.TotalMaps.{SameValues}
+use Rattle.typed_ids.specs.TotalMaps.{SameValues}
 use Rattle.resolvo_queue.specs.Index.{list_at}
 use Rattle.resolvo_queue.proofs.IndexLaws.{put_after, put_nothing}
 use Rattle.resolvo_queue.proofs.clauses_by_parent.ClausesByParent.push.Goals as goal

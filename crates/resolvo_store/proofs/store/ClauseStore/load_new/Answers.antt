@@ -2,10 +2,10 @@ use Rattle.std.proofs.Common.{◌≡◌, ◌<◌, ◌^◌, ◌∙◌, Bool, sym,
 use Rattle.std.specs.Prelude.{flat_map}
 use Rattle.std.proofs.lemmas.List.Folds.{flat_map-map}
 use Rattle.std.proofs.lemmas.Simd.{map-map}
-use Rattle.resolvo_provider.specs.Provider.{sorted, sets_of}
+use Rattle.providers.specs.Provider.{sorted, sets_of}
 use Rattle.resolvo_queue.specs.Rows.{AreFew}
-use Rattle.resolvo_variables.specs.Variables.{interned_variable, all_interned}
-use Rattle.resolvo_variables.proofs.InterningLemmas.{handed_on}
+use Rattle.variables.specs.Variables.{interned_variable, with_variables}
+use Rattle.variables.proofs.InterningLemmas.{handed_on}
 use Rattle.resolvo_store.specs.Store.{store_of, provided, lists_of}
 use Rattle.resolvo_store.specs.Lists.{lists_kept}
 use Rattle.resolvo_store.proofs.ListLemmas.{insert-kept, items_of, few-more, length-mapped, same-joined}
@@ -14,7 +14,7 @@ use Rattle.resolvo_store.proofs.store.ClauseStore.load_new.Goals as goal
 
 pub returns-in_err-candidates-clause-err : goal.returns-in_err-candidates-clause-err
 returns-in_err-candidates-clause-err g c =
-    let store = store_of (provided g.D.NameId.PartialEq.eq g.D.SolvableId.PartialEq.eq g.D.NameId.Scores.IdMap.is_too_large g.D.SolvableId.Slots.IdMap.is_too_large g.D.Interner.catalogue g.D.DependencyProvider.answers) in
+    let store = store_of (provided g.D.NameId.PartialEq.eq g.D.SolvableId.PartialEq.eq g.D.NameId.Scores.IdMap.is_too_large g.D.SolvableId.Slots.IdMap.is_too_large g.D.Interner.universe g.D.DependencyProvider.answers) in
     let inside = c.self.inside in
     let r = c.args.requirement in
     let st = store (record { provider = inside.provider; origins = inside.variables; loaded = lists_kept inside.loaded; requires = inside.queue; trail = inside.trail }) in
@@ -27,7 +27,7 @@ returns-in_err-candidates-clause-err g c =
 
 pub returns-in_err-answer-clause-err : goal.returns-in_err-answer-clause-err
 returns-in_err-answer-clause-err g c =
-    let store = store_of (provided g.D.NameId.PartialEq.eq g.D.SolvableId.PartialEq.eq g.D.NameId.Scores.IdMap.is_too_large g.D.SolvableId.Slots.IdMap.is_too_large g.D.Interner.catalogue g.D.DependencyProvider.answers) in
+    let store = store_of (provided g.D.NameId.PartialEq.eq g.D.SolvableId.PartialEq.eq g.D.NameId.Scores.IdMap.is_too_large g.D.SolvableId.Slots.IdMap.is_too_large g.D.Interner.universe g.D.DependencyProvider.answers) in
     let inside = c.self.inside in
     let r = c.args.requirement in
     let st = store (record { provider = inside.provider; origins = inside.variables; loaded = lists_kept inside.loaded; requires = inside.queue; trail = inside.trail }) in
@@ -52,10 +52,10 @@ invariant_of-self-in-Ok g c =
     ap (λ ls. length (flat_map (λ l. l) ls)) c.in_ok-answer.ensures.kept
     ∙ ap length (flat_map-map (λ l. l) (λ l. made l.items) lists)
     ∙ length-mapped (λ l. l.items) (interned_variable g.D.SolvableId.PartialEq.eq c.intern_lists.new.variables) lists in
-    let catalogue = g.D.Interner.catalogue c.self.inside.provider in
-    let candidates = sorted catalogue (g.D.DependencyProvider.answers c.self.inside.provider) in
-    let all : flat_map (λ l. l.items) lists ≡ flat_map candidates (sets_of catalogue c.args.requirement) =
-    same-joined (λ l. l.items) candidates lists (sets_of catalogue c.args.requirement)
+    let universe = g.D.Interner.universe c.self.inside.provider in
+    let candidates = sorted universe (g.D.DependencyProvider.answers c.self.inside.provider) in
+    let all : flat_map (λ l. l.items) lists ≡ flat_map candidates (sets_of universe c.args.requirement) =
+    same-joined (λ l. l.items) candidates lists (sets_of universe c.args.requirement)
     (ap (map (λ l. l.items)) c.deref.ensures.value ∙ c.in_ok-candidates.ensures.ok) in
     let few : length (flat_map (λ l. l.items) lists) < 2 ^ 40 = subst (λ ss. length ss < 2 ^ 40) (sym all) c.in_ok-candidates.ensures.few in
     record {
@@ -65,7 +65,7 @@ invariant_of-self-in-Ok g c =
 
 pub returns-in-Ok-clause-ok : goal.returns-in-Ok-clause-ok
 returns-in-Ok-clause-ok g c =
-    let store = store_of (provided g.D.NameId.PartialEq.eq g.D.SolvableId.PartialEq.eq g.D.NameId.Scores.IdMap.is_too_large g.D.SolvableId.Slots.IdMap.is_too_large g.D.Interner.catalogue g.D.DependencyProvider.answers) in
+    let store = store_of (provided g.D.NameId.PartialEq.eq g.D.SolvableId.PartialEq.eq g.D.NameId.Scores.IdMap.is_too_large g.D.SolvableId.Slots.IdMap.is_too_large g.D.Interner.universe g.D.DependencyProvider.answers) in
     let inside = c.self.inside in
     let r = c.args.requirement in
     let st = store (record { provider = inside.provider; origins = inside.variables; loaded = lists_kept inside.loaded; requires = inside.queue; trail = inside.trail }) in
@@ -77,14 +77,14 @@ returns-in-Ok-clause-ok g c =
     let split = map-map made (λ l. l.items) lists in
     let candidates : items ≡ candidate_lists st r = ap (map (λ l. l.items)) c.deref.ensures.value ∙ c.in_ok-candidates.ensures.ok in
     let loaded = load-new st r items os (items_of c.in_ok-answer.answer) (items_of c.in_ok-answer.kept) (lists_kept c.insert.new.self)
-    new candidates (c.in_ok-answer.ensures.ok ∙ ap (all_interned g.D.SolvableId.PartialEq.eq inside.variables) (sym (flat_map-map (λ l. l) (λ l. l.items) lists)))
+    new candidates (c.in_ok-answer.ensures.ok ∙ ap (with_variables g.D.SolvableId.PartialEq.eq inside.variables) (sym (flat_map-map (λ l. l) (λ l. l.items) lists)))
     (c.in_ok-answer.ensures.answer ∙ sym split) (c.in_ok-answer.ensures.kept ∙ sym split)
     (ap lists_kept c.in-Ok.ensures.ok ∙ insert-kept inside.loaded r c.in_ok-answer.kept new) in
     rw (← c.self.view_is) (rows-few st r c.in_ok-candidates.ensures.few, loaded.0, loaded.1)
 
 pub returns-clause-err : goal.returns-clause-err
 returns-clause-err g c =
-    let store = store_of (provided g.D.NameId.PartialEq.eq g.D.SolvableId.PartialEq.eq g.D.NameId.Scores.IdMap.is_too_large g.D.SolvableId.Slots.IdMap.is_too_large g.D.Interner.catalogue g.D.DependencyProvider.answers) in
+    let store = store_of (provided g.D.NameId.PartialEq.eq g.D.SolvableId.PartialEq.eq g.D.NameId.Scores.IdMap.is_too_large g.D.SolvableId.Slots.IdMap.is_too_large g.D.Interner.universe g.D.DependencyProvider.answers) in
     let inside = c.self.inside in
     let origins : c.forget_from.new.self ≡ inside.variables =
     c.forget_from.ensures ∙ ap (λ n. take n c.intern_lists.new.variables) c.count-before.ensures.value ∙ c.in_ok-answer.ensures.front in

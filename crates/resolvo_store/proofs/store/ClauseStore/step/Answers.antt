@@ -6,7 +6,7 @@ use Rattle.resolvo_store.proofs.store.ClauseStore.step.Goals as goal
 
 -- the abstract store
 abbrev store : (g : Over) → Kept g.row.D.Denot g.row.D-NameId.Denot g.row.D-SolvableId.Denot → Store g.row.D-NameId.Denot g.row.D-SolvableId.Denot
-store g = store_of (provided g.D.NameId.PartialEq.eq g.D.SolvableId.PartialEq.eq g.D.NameId.Scores.IdMap.is_too_large g.D.SolvableId.Slots.IdMap.is_too_large g.D.Interner.catalogue g.D.DependencyProvider.answers)
+store g = store_of (provided g.D.NameId.PartialEq.eq g.D.SolvableId.PartialEq.eq g.D.NameId.Scores.IdMap.is_too_large g.D.SolvableId.Slots.IdMap.is_too_large g.D.Interner.universe g.D.DependencyProvider.answers)
 
 pub returns-in-Variable-clause-refused : goal.returns-in-Variable-clause-refused
 returns-in-Variable-clause-refused g c = refused_same (store g c.args.self.now) (store g c.variable.new.self) (Variable c.in-Variable.solvable) (reply_of c.variable.result) c.variable.ensures.step

@@ -1,9 +1,9 @@
 use Rattle.std.proofs.Common.{ℕ, List, refl, ◌∙◌, ap, map}
 use Rattle.std.specs.Str.{bytes_eq}
 use Rattle.std.specs.String.{string_bytes, string_eq}
-use Rattle.resolvo_pool.specs.Interned.{interned}
-use Rattle.resolvo_pool.specs.Pool.{Lists}
-use Rattle.resolvo_pool.proofs.InternedLemmas.{place_by_view, interned_by_view}
+use Rattle.package_pool.specs.Interned.{interned}
+use Rattle.package_pool.specs.Pool.{Lists}
+use Rattle.package_pool.proofs.InternedLemmas.{place_by_view, interned_by_view}
 use Rattle.script_packages.specs.declared.packages.VersionRange.{VersionRange}
 use Rattle.script_packages.specs.Listing.{Listing, listing_of, name_number}
 use Rattle.script_packages.proofs.packages.Packages.name.Goals as goal

@@ -1,0 +1,127 @@
+-- What a tracker's fields show after a decision is added or taken back.
+use Rattle.std.specs.Prelude.{◌≡◌, ◌≢◌, ℕ, ◌-◌, ◌==◌, if◌then◌else◌, Bool, true, false, refl}
+use Rattle.std.specs.Prelude.{List, [], ◌∷◌, ◌++◌, map, length, take, Option, Some, None, option_map}
+use Rattle.std.specs.Option.{option_map_or}
+use Rattle.std.proofs.Common.{ap, ◌∙◌, sym}
+use Rattle.std.proofs.lemmas.Bool.{eqb-true, eqb-false}
+use Rattle.std.proofs.lemmas.List.{map-append}
+use Rattle.typed_ids.specs.TotalMaps.{IsUpdate}
+use Rattle.decisions.specs.Decisions.{decision_in, values_in, level_in}
+use Rattle.decisions.specs.Tracker.{trail_of, IsTracked}
+use Rattle.decisions.specs.Trail.{Entry, val, level_of, HasLevel, IsTrail}
+use Rattle.decisions.specs.declared.decision.Decision.{Decision}
+use Rattle.decisions.proofs.TrailLemmas.{none_by_variable, val-push, take-push}
+use Rattle.decisions.proofs.TrailLemmas.{IsOnce-pop, IsTrail-push, IsTrail-pop}
+
+-- what a decision map holds
+abbrev MapItems : Type 0
+MapItems = List (Option (Bool × ℕ))
+
+-- the entry of a decision
+abbrev entry : MapItems → Decision → Entry
+entry decisions d = record { decision = d; level = level_in decisions d.variable }
+
+-- the decisions of the trail
+pub map-trail_of : (decisions : MapItems) (ds : List Decision)
+    → map (λ (e : Entry). e.decision) (trail_of decisions ds) ≡ ds
+map-trail_of decisions [] = refl
+map-trail_of decisions (d ∷ ds) = ap (λ (xs : List Decision). d ∷ xs) (map-trail_of decisions ds)
+
+-- a variable without a value has level 0
+level_without : (decision : Option (Bool × ℕ)) → option_map (λ d. d.0) decision ≡ None
+    → 0 ≡ option_map_or (λ d. d.1) decision 0
+level_without None none = refl
+level_without (Some d) none = cc
+
+-- an entry's level, or else that of the map
+level_by_test : (decisions : MapItems) (v x : ℕ) (b : Bool) (rest : ℕ) → (v == x) ≡ b
+    → (b ≡ false → rest ≡ level_in decisions x) → (if b then level_in decisions v else rest) ≡ level_in decisions x
+level_by_test decisions v x true rest e outside = ap (level_in decisions) (eqb-true v x e)
+level_by_test decisions v x false rest e outside = outside refl
+
+-- the level that a trail gives is that of the map, if that is so where the trail has no entry
+level_of-entries : (decisions : MapItems) (ds : List Decision) (x : ℕ)
+    → (val (trail_of decisions ds) x ≡ None → 0 ≡ level_in decisions x)
+    → level_of (trail_of decisions ds) x ≡ level_in decisions x
+level_of-entries decisions [] x outside = outside refl
+level_of-entries decisions (d ∷ ds) x outside =
+    let rest = λ (e : (d.variable == x) ≡ false). level_of-entries decisions ds x (λ none. outside (rw e none)) in
+    level_by_test decisions d.variable x (d.variable == x) _ refl rest
+
+-- the level of a variable
+pub level_of-trail_of : (decisions : MapItems) (ds : List Decision) (x : ℕ) → IsTracked decisions ds
+    → level_of (trail_of decisions ds) x ≡ level_in decisions x
+level_of-trail_of decisions ds x tracked =
+    level_of-entries decisions ds x (λ none. level_without (decision_in decisions x) (tracked.values x ∙ none))
+
+-- a change of the map at a variable without an entry leaves the entries
+trail_of-update : (old new : MapItems) (v : ℕ) (ds : List Decision)
+    → ((x : ℕ) → x ≢ v → decision_in new x ≡ decision_in old x) → val (trail_of old ds) v ≡ None
+    → trail_of new ds ≡ trail_of old ds
+trail_of-update old new v [] same none = refl
+trail_of-update old new v (d ∷ ds) same none =
+    let apart = none_by_variable d.variable v d.value (val (trail_of old ds) v) none in
+    rw (same d.variable apart.0, trail_of-update old new v ds same apart.1) refl
+
+-- ---- a decision is added
+
+module _ (old new : MapItems) (ds : List Decision) (d : Decision) (level : ℕ)
+    (tracked : IsTracked old ds) (undecided : val (trail_of old ds) d.variable ≡ None)
+    (set : IsUpdate (decision_in old) d.variable (Some (d.value, level)) (decision_in new)) where
+  -- the trail has its entry at the end
+  pub trail_of-push : trail_of new (ds ++ d ∷ []) ≡ trail_of old ds ++ record { decision = d; level = level } ∷ []
+  trail_of-push =
+      let unchanged = trail_of-update old new d.variable ds set.1 undecided in
+      rw (map-append (entry new) ds (d ∷ []), unchanged, set.0) refl
+
+  -- the values with it
+  values-push : (x : ℕ) (b : Bool) → (d.variable == x) ≡ b
+      → values_in new x ≡ (if b then Some d.value else val (trail_of old ds) x)
+  values-push x true e = rw (sym (eqb-true _ _ e), set.0) refl
+  values-push x false e = ap (option_map (λ p. p.0)) (set.1 x (λ same. eqb-false _ _ e (sym same))) ∙ tracked.values x
+
+  -- the tracker is in order
+  pub IsTracked-push : HasLevel (record { decision = d; level = level }) → IsTracked new (ds ++ d ∷ [])
+  IsTracked-push in_range = record {
+    values = λ x. values-push x (d.variable == x) refl ∙ sym (rw trail_of-push (val-push _ _ x undecided));
+    trail = rw trail_of-push (IsTrail-push _ _ tracked.trail undecided in_range);
+  }
+
+-- ---- the newest decision is taken back
+
+module _ (old new : MapItems) (ds : List Decision) (d : Decision)
+    (tracked : IsTracked old (ds ++ d ∷ []))
+    (reset : IsUpdate (decision_in old) d.variable None (decision_in new)) where
+  -- the trail had its entry at the end
+  split : trail_of old (ds ++ d ∷ []) ≡ trail_of old ds ++ entry old d ∷ []
+  split = map-append (entry old) ds (d ∷ [])
+
+  -- and was in order
+  was_trail : IsTrail (trail_of old ds ++ entry old d ∷ [])
+  was_trail = rw split at tracked.trail
+
+  -- no other entry is of its variable
+  undecided : val (trail_of old ds) d.variable ≡ None
+  undecided = (IsOnce-pop (trail_of old ds) (entry old d) was_trail.once).1
+
+  -- the other entries stay
+  unchanged : trail_of new ds ≡ trail_of old ds
+  unchanged = trail_of-update old new d.variable ds reset.1 undecided
+
+  -- the trail is what it was, without the newest entry
+  pub trail_of-pop : trail_of new ds ≡ take (length (trail_of old (ds ++ d ∷ [])) - 1) (trail_of old (ds ++ d ∷ []))
+  trail_of-pop = rw (split, take-push (trail_of old ds) (entry old d)) unchanged
+
+  -- the values without it
+  values-pop : (x : ℕ) (b : Bool) → (d.variable == x) ≡ b → values_in new x ≡ val (trail_of old ds) x
+  values-pop x true e = rw (sym (eqb-true _ _ e), reset.0) (sym undecided)
+  values-pop x false e =
+      let before = rw (split, val-push (trail_of old ds) (entry old d) x undecided, e) at (tracked.values x) in
+      ap (option_map (λ p. p.0)) (reset.1 x (λ same. eqb-false _ _ e (sym same))) ∙ before
+
+  -- the tracker is in order
+  pub IsTracked-pop : IsTracked new ds
+  IsTracked-pop = record {
+    values = λ x. values-pop x (d.variable == x) refl ∙ ap (λ es. val es x) (sym unchanged);
+    trail = rw unchanged (IsTrail-pop (trail_of old ds) (entry old d) was_trail);
+  }

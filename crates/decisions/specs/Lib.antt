@@ -1,0 +1,5 @@
+pub mod Decisions
+pub mod LiteralIndex
+pub mod Literals
+pub mod Tracker
+pub mod Trail

@@ -1,0 +1,26 @@
+//! Decisions: what a variable is, and why.
+ghost use Rattle.std.specs.Prelude.{◌≡◌};
+
+use typed_ids::{ClauseId, VariableId};
+
+/// A value given to a variable, and the clause that gave it.
+#[derive(Clone, Copy, Debug, PartialEq, Eq)]
+pub struct Decision {
+    pub variable: VariableId,
+    pub value: bool,
+    pub derived_from: ClauseId,
+}
+
+impl Decision {
+    /// The decision with these parts.
+    pub fn new(variable: VariableId, value: bool, derived_from: ClauseId) -> Self
+        ensures { result ≡
+            record { variable = variable; value = value; derived_from = derived_from } }
+    {
+        Decision {
+            variable,
+            value,
+            derived_from,
+        }
+    }
+}

@@ -1,0 +1,82 @@
+//! The total maps of dense ids: vectors.
+ghost use Rattle.std.specs.Prelude.{◌≡◌, ◌<◌, ◌^◌, ◌↔◌, ℕ, IsTrue, min, vec_len, slice_index_or};
+ghost use Rattle.typed_ids.specs.Refusals.{is_too_dense};
+ghost use Rattle.typed_ids.specs.TotalMaps.{kept, kept_within};
+
+use crate::default_value::DefaultValue;
+use crate::id_map::IdMap;
+use std::alloc::Allocator;
+use typed_ids::{DENSE_LIMIT, DenseIndex, StoreError};
+
+/// The map of dense ids: the value at index i stands at place i. Indexes from 2^40 on are refused. It grows to twice its
+/// size at least, so that writing at ascending indexes takes a time linear in their number.
+impl<K: DenseIndex, V: DefaultValue, A: Allocator + Copy> IdMap<K, V, A> for Vec<V, A> {
+    ghost value_at = { λ v k. slice_index_or (kept K.limit v.items) (K.index_of k) V.default_value };
+
+    ghost has_room = { λ v k. (K.index_of k < vec_len v) × (K.index_of k < 2 ^ 40) };
+
+    ghost is_too_large = { λ k. is_too_dense (K.index_of k) };
+
+    ghost written = { λ m k h. kept_within K.limit m.items V.default_value (K.index_of k) (vec_len m) m.ok.0 h };
+
+    fn new(alloc: A) -> Self {
+        Vec::new(alloc)
+    }
+
+    fn get(&self, key: K) -> V {
+        let index = key.to_index();
+        if index < self.len() && index < DENSE_LIMIT {
+            self[index]
+        } else {
+            V::default()
+        }
+    }
+
+    fn set(&mut self, key: K, value: V) -> Result<(), StoreError> {
+        <Self as IdMap<K, V, A>>::make_room(self, key)?;
+        <Self as IdMap<K, V, A>>::put(self, key, value);
+        Ok(())
+    }
+
+    fn make_room(&mut self, key: K) -> Result<(), StoreError> {
+        let index = key.to_index();
+        if index >= DENSE_LIMIT {
+            return Err(StoreError::IdSpace);
+        }
+        if index >= self.len() {
+            self.resize(index + 1, V::default())?;
+        }
+        Ok(())
+    }
+
+    fn put(&mut self, key: K, value: V) {
+        let index = key.to_index();
+        self[index] = value;
+    }
+
+    fn update_all<F: Fn(V) -> V>(&mut self, f: F) {
+        for value in self.iter_mut() {
+            *value = f(*value);
+        }
+    }
+
+    fn largest(&self) -> V
+    where
+        V: Ord,
+    {
+        let mut largest = V::default();
+        for (index, value) in self.iter().enumerate() {
+            if has_place::<K>(index) {
+                largest = largest.max(*value);
+            }
+        }
+        largest
+    }
+}
+
+/// Whether a key has this index, and dense storage this place.
+fn has_place<K: DenseIndex>(index: usize) -> bool
+    ensures { IsTrue result ↔ (index < min K.limit (2 ^ 40)) }
+{
+    index < DENSE_LIMIT && K::in_range(index)
+}

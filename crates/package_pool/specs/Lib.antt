@@ -1,0 +1,4 @@
+pub mod Interned
+pub mod Pool
+pub mod PoolProps
+pub mod PoolView

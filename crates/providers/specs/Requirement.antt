@@ -1,0 +1,10 @@
+-- Requirements, and when two are the same.
+use Rattle.std.specs.Prelude.{Bool, false, ◌==◌}
+use Rattle.providers.specs.declared.requirement.Requirement.{Requirement}
+use Rattle.providers.specs.declared.requirement.Requirement.TheVariants.{Single, Union}
+
+abbrev pub same_requirement : Requirement → Requirement → Bool
+same_requirement (Single v) (Single w) = v.0 == w.0
+same_requirement (Union u) (Union w) = u.0 == w.0
+same_requirement (Single v) (Union w) = false
+same_requirement (Union u) (Single w) = false

@@ -1,0 +1,18 @@
+//! Conditions: when a requirement is asked for at all.
+use typed_ids::{ConditionId, VersionSetId};
+
+/// A condition is met by what is picked: by a candidate of a version set, or as two other conditions are.
+#[derive(Clone, Copy, Debug, PartialEq, Eq, PartialOrd, Ord, Hash)]
+pub enum Condition {
+    Binary(LogicalOperator, ConditionId, ConditionId),
+    Requirement(VersionSetId),
+}
+
+/// How two conditions make one.
+#[derive(Clone, Copy, Debug, PartialEq, Eq, PartialOrd, Ord, Hash)]
+pub enum LogicalOperator {
+    /// Both are met.
+    And,
+    /// One of them is met, or both are.
+    Or,
+}

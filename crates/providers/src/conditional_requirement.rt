@@ -1,0 +1,46 @@
+//! Requirements that are asked for on a condition.
+ghost use Rattle.std.specs.Prelude.{◌≡◌, None};
+
+use crate::requirement::Requirement;
+use typed_ids::{ConditionId, VersionSetId, VersionSetUnionId};
+
+/// A requirement, and the condition under which alone it is asked for; without one it always is.
+#[derive(Clone, Copy, Debug, PartialEq, Eq, PartialOrd, Ord, Hash)]
+pub struct ConditionalRequirement {
+    pub condition: Option<ConditionId>,
+    pub requirement: Requirement,
+}
+
+/// The requirement, always.
+impl From<Requirement> for ConditionalRequirement {
+    ghost from_gives = { λ requirement made. (made.condition ≡ None) × (made.requirement ≡ requirement) };
+
+    fn from(requirement: Requirement) -> Self {
+        ConditionalRequirement {
+            condition: None,
+            requirement,
+        }
+    }
+}
+
+/// A candidate of the version set, always.
+impl From<VersionSetId> for ConditionalRequirement {
+    ghost use Rattle.providers.specs.declared.requirement.Requirement.TheVariants.{Single};
+
+    ghost from_gives = { λ set made. (made.condition ≡ None) × (made.requirement ≡ Single set) };
+
+    fn from(set: VersionSetId) -> Self {
+        ConditionalRequirement::from(Requirement::Single(set))
+    }
+}
+
+/// A candidate of a set of the union, always.
+impl From<VersionSetUnionId> for ConditionalRequirement {
+    ghost use Rattle.providers.specs.declared.requirement.Requirement.TheVariants.{Union};
+
+    ghost from_gives = { λ union made. (made.condition ≡ None) × (made.requirement ≡ Union union) };
+
+    fn from(union: VersionSetUnionId) -> Self {
+        ConditionalRequirement::from(Requirement::Union(union))
+    }
+}

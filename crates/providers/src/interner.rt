@@ -1,0 +1,160 @@
+//! The ids of an ecosystem: which are in use, how they belong together, and what texts stand for them.
+ghost use Rattle.std.specs.Prelude.{◌≡◌, true, All, OnOk, OnErr, IfErr};
+ghost use Rattle.typed_ids.specs.declared.error.StoreError.TheVariants.{OutOfMemory};
+ghost use Rattle.providers.specs.Provider.{Universe, AreSolvableNamesKnown, AreSetNamesKnown, AreUnionSetsKnown, AreOperandsKnown};
+ghost use Rattle.providers.specs.Texts.{Texts, IsAppended, IsContinued, IsSameText};
+
+use crate::condition::Condition;
+use crate::merged_text::MergedText;
+use id_maps::SolverId;
+use std::alloc::Allocator;
+use typed_ids::{ConditionId, StoreError, StringId, VersionSetId, VersionSetUnionId};
+
+/// Tells which ids are known, what they stand for, and their texts. Its answers are fixed: they follow from its value
+/// alone. Every id that is handed in is known.
+///
+/// A text is appended to a `String`, which is as it was after a refusal; that is want of memory.
+pub trait Interner {
+    /// The allocator of whatever stands on this interner.
+    type Alloc: Allocator + Copy;
+
+    type NameId: SolverId<Self::Alloc>;
+
+    type SolvableId: SolverId<Self::Alloc>;
+
+    /// The known ids, and how they belong together.
+    ghost universe: { Self → Universe Self.NameId Self.SolvableId };
+
+    /// The texts of known ids.
+    ghost texts: { Self → Texts Self.NameId Self.SolvableId };
+
+    fn knows_string(&self, string: StringId) -> bool
+        ensures { result ≡ (universe self.now).knows_string string };
+
+    fn knows_name(&self, name: Self::NameId) -> bool
+        ensures { result ≡ (universe self.now).knows_name name };
+
+    fn knows_solvable(&self, solvable: Self::SolvableId) -> bool
+        ensures { result ≡ (universe self.now).knows_solvable solvable };
+
+    fn knows_version_set(&self, set: VersionSetId) -> bool
+        ensures { result ≡ (universe self.now).knows_set set };
+
+    fn knows_union(&self, union: VersionSetUnionId) -> bool
+        ensures { result ≡ (universe self.now).knows_union union };
+
+    fn knows_condition(&self, condition: ConditionId) -> bool
+        ensures { result ≡ (universe self.now).knows_condition condition };
+
+    /// The package whose versions the set holds.
+    fn version_set_name(&self, set: VersionSetId) -> Self::NameId
+        requires { (universe self.now).knows_set set ≡ true }
+        ensures { result ≡ (universe self.now).set_name set };
+
+    /// The package of which the solvable is a version.
+    fn solvable_name(&self, solvable: Self::SolvableId) -> Self::NameId
+        requires { (universe self.now).knows_solvable solvable ≡ true }
+        ensures { result ≡ (universe self.now).solvable_name solvable };
+
+    /// The version sets of a union, in order.
+    fn version_sets_in_union(&self, union: VersionSetUnionId) -> &[VersionSetId]
+        requires { (universe self.now).knows_union union ≡ true }
+        ensures { result.now ≡ (universe self.now).union_sets union };
+
+    /// What the condition is made of.
+    fn resolve_condition(&self, condition: ConditionId) -> Condition
+        requires { (universe self.now).knows_condition condition ≡ true }
+        ensures { result ≡ (universe self.now).condition condition };
+
+    /// Appends a solvable's text: its package's name, and what else tells it from others.
+    fn display_solvable(
+        &self,
+        solvable: Self::SolvableId,
+        out: &mut String<Self::Alloc>,
+    ) -> Result<(), StoreError>
+        requires { (universe self.now).knows_solvable solvable ≡ true }
+        ensures ok { OnOk result (IsAppended out.old out.new ((texts self.now).solvable solvable)) }
+        ensures err { OnErr result (IsSameText out.old out.new) }
+        ensures memory { IfErr result (λ e. e ≡ OutOfMemory) };
+
+    /// Appends a package's name.
+    fn display_name(
+        &self,
+        name: Self::NameId,
+        out: &mut String<Self::Alloc>,
+    ) -> Result<(), StoreError>
+        requires { (universe self.now).knows_name name ≡ true }
+        ensures ok { OnOk result (IsAppended out.old out.new ((texts self.now).name name)) }
+        ensures err { OnErr result (IsSameText out.old out.new) }
+        ensures memory { IfErr result (λ e. e ≡ OutOfMemory) };
+
+    /// Appends a version set's text, which hasn't the package's name in it. It may be empty.
+    fn display_version_set(
+        &self,
+        set: VersionSetId,
+        out: &mut String<Self::Alloc>,
+    ) -> Result<(), StoreError>
+        requires { (universe self.now).knows_set set ≡ true }
+        ensures ok { OnOk result (IsAppended out.old out.new ((texts self.now).version_set set)) }
+        ensures err { OnErr result (IsSameText out.old out.new) }
+        ensures memory { IfErr result (λ e. e ≡ OutOfMemory) };
+
+    /// Appends a string.
+    fn display_string(
+        &self,
+        string: StringId,
+        out: &mut String<Self::Alloc>,
+    ) -> Result<(), StoreError>
+        requires { (universe self.now).knows_string string ≡ true }
+        ensures ok { OnOk result (IsAppended out.old out.new ((texts self.now).string string)) }
+        ensures err { OnErr result (IsSameText out.old out.new) }
+        ensures memory { IfErr result (λ e. e ≡ OutOfMemory) };
+
+    /// Appends the name of a solvable's package; by default as [`Interner::display_name`] does.
+    fn display_solvable_name(
+        &self,
+        solvable: Self::SolvableId,
+        out: &mut String<Self::Alloc>,
+    ) -> Result<(), StoreError>
+        requires { (universe self.now).knows_solvable solvable ≡ true }
+        ensures ok { OnOk result (IsContinued out.old out.new) }
+        ensures err { OnErr result (IsSameText out.old out.new) }
+        ensures memory { IfErr result (λ e. e ≡ OutOfMemory) }
+    {
+        self.display_name(self.solvable_name(solvable), out)
+    }
+
+    /// Appends a text for solvables of one package together. By default that is nothing for none, and else the text of
+    /// [`Interner::display_solvable_name`] for the first, a blank, and the solvables' distinct texts in ascending order
+    /// of their bytes, with ` | ` between them.
+    fn display_merged_solvables(
+        &self,
+        solvables: &[Self::SolvableId],
+        out: &mut String<Self::Alloc>,
+    ) -> Result<(), StoreError>
+        requires { All (λ s. (universe self.now).knows_solvable s ≡ true) solvables.now }
+        ensures ok { OnOk result (IsContinued out.old out.new) }
+        ensures err { OnErr result (IsSameText out.old out.new) }
+        ensures memory { IfErr result (λ e. e ≡ OutOfMemory) }
+    {
+        let Some(first) = solvables.first() else {
+            return Ok(());
+        };
+        let mut merged = MergedText::new(*out.allocator());
+        self.display_solvable_name(*first, merged.name_mut())?;
+        for solvable in solvables {
+            self.display_solvable(*solvable, merged.next_text()?)?;
+        }
+        merged.append_to(out)
+    }
+
+    /// What is known is made of what is known.
+    ghost solvable_names_known: { (p : Self) → AreSolvableNamesKnown (universe p) };
+
+    ghost set_names_known: { (p : Self) → AreSetNamesKnown (universe p) };
+
+    ghost union_sets_known: { (p : Self) → AreUnionSetsKnown (universe p) };
+
+    /// The conditions that another joins have smaller indexes.
+    ghost operands_known: { (p : Self) → AreOperandsKnown (universe p) };
+}

@@ -1,0 +1,8 @@
+-- The types of the rooms, each with its fields or variants.
+pub use Rattle.decisions.specs.declared.decision.Decision
+pub use Rattle.decisions.specs.declared.decision_map.DecisionMap
+pub use Rattle.decisions.specs.declared.decision_tracker.AddFault
+pub use Rattle.decisions.specs.declared.decision_tracker.DecisionTracker
+pub use Rattle.decisions.specs.declared.literal.Literal
+pub use Rattle.variables.specs.declared.variable_map.VariableMap
+pub use Rattle.variables.specs.declared.variable_origin.VariableOrigin

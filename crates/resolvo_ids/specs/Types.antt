@@ -1,0 +1,26 @@
+-- The types of the rooms, each with its fields or variants.
+pub use Rattle.typed_ids.specs.declared.candidates_id.CandidatesId
+pub use Rattle.typed_ids.specs.declared.clause_id.ClauseId
+pub use Rattle.typed_ids.specs.declared.condition_id.ConditionId
+pub use Rattle.typed_ids.specs.declared.dense_id.DenseId
+pub use Rattle.typed_ids.specs.declared.dense_id.NameTag
+pub use Rattle.typed_ids.specs.declared.dense_id.SolvableTag
+pub use Rattle.typed_ids.specs.declared.dependencies_id.DependenciesId
+pub use Rattle.typed_ids.specs.declared.disjunction_id.DisjunctionId
+pub use Rattle.typed_ids.specs.declared.error.StoreError
+pub use Rattle.typed_ids.specs.declared.insert_error.InsertError
+pub use Rattle.typed_ids.specs.declared.learnt_clause_id.LearntClauseId
+pub use Rattle.typed_ids.specs.declared.solvable_id_or_root.SolvableIdOrRoot
+pub use Rattle.typed_ids.specs.declared.sparse_id.SparseId
+pub use Rattle.typed_ids.specs.declared.string_id.StringId
+pub use Rattle.typed_ids.specs.declared.variable_id.VariableId
+pub use Rattle.typed_ids.specs.declared.version_set_id.VersionSetId
+pub use Rattle.typed_ids.specs.declared.version_set_union_id.VersionSetUnionId
+pub use Rattle.id_maps.specs.declared.default_value.Slot
+pub use Rattle.id_maps.specs.declared.indexed_set.IndexedSet
+pub use Rattle.id_maps.specs.declared.with_root_set.WithRootSet
+pub use Rattle.id_storage.specs.declared.arena.Arena
+pub use Rattle.id_storage.specs.declared.arena_iter.ArenaIter
+pub use Rattle.id_storage.specs.declared.frozen_copy_map.FrozenCopyMap
+pub use Rattle.id_storage.specs.declared.mapping.Mapping
+pub use Rattle.id_storage.specs.declared.mapping_iter.MappingIter

@@ -1,0 +1,3 @@
+pub mod Refusals
+pub mod TotalMaps
+pub mod WithRoot

@@ -1,0 +1,41 @@
+//! Typed ids, and the refusals.
+//!
+//! Everything above speaks by these ids. A dense id stands for an index ([`DenseIndex`]), so that what is kept by it
+//! lies in vectors: total maps and sets in `id_maps`, lists of values and finite maps in `id_storage`.
+#![tactic(auto)]
+
+mod candidates_id;
+mod clause_id;
+mod condition_id;
+mod dense_id;
+mod dense_index;
+mod dependencies_id;
+mod disjunction_id;
+mod error;
+mod insert_error;
+mod learnt_clause_id;
+mod same_id;
+mod solvable_id_or_root;
+mod sparse_id;
+mod string_id;
+mod variable_id;
+mod version_set_id;
+mod version_set_union_id;
+
+pub use candidates_id::CandidatesId;
+pub use clause_id::ClauseId;
+pub use condition_id::ConditionId;
+pub use dense_id::{DenseId, NameId, NameTag, SolvableId, SolvableTag};
+pub use dense_index::{DENSE_LIMIT, DenseIndex};
+pub use dependencies_id::DependenciesId;
+pub use disjunction_id::DisjunctionId;
+pub use error::StoreError;
+pub use insert_error::InsertError;
+pub use learnt_clause_id::LearntClauseId;
+pub use same_id::SameId;
+pub use solvable_id_or_root::SolvableIdOrRoot;
+pub use sparse_id::SparseId;
+pub use string_id::StringId;
+pub use variable_id::VariableId;
+pub use version_set_id::VersionSetId;
+pub use version_set_union_id::VersionSetUnionId;

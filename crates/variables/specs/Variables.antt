@@ -1,0 +1,46 @@
+-- The variables: a list of origins, one for each variable. N are the names, S the solvables.
+use Rattle.std.specs.Prelude.{◌≡◌, ℕ, ◌≤◌, ◌^◌, ◌-◌, Bool, false, nat_le, if◌then◌else◌, List, [], ◌∷◌, ◌++◌, length, fold, Option, None, Some, is_some, unwrap_or, slice_get}
+use Rattle.std.specs.List.{position_from}
+use Rattle.variables.specs.declared.variable_origin.VariableOrigin.{VariableOrigin}
+use Rattle.variables.specs.declared.variable_origin.VariableOrigin.TheVariants.{Root, Solvable}
+
+-- the solvable that a variable stands for, if it stands for one
+abbrev pub solvable_of : {N S : Type 0} → VariableOrigin N S → Option S
+solvable_of (Solvable s) = Some s
+solvable_of _ = None
+
+-- the first variable is the root's
+abbrev pub IsRootFirst : {N S : Type 0} → List (VariableOrigin N S) → Type 0
+IsRootFirst origins = slice_get origins 0 ≡ Some Root
+
+-- no variable id is left where there are this many variables
+abbrev pub are_variables_out : ℕ → Bool
+are_variables_out count = nat_le (2 ^ 31 - 1) count
+
+module _ {N S : Type 0} (same : S → S → Bool) where
+  -- whether the origin is the solvable
+  abbrev pub is_solvable : S → VariableOrigin N S → Bool
+  is_solvable s (Solvable t) = same t s
+  is_solvable s _ = false
+
+  -- the variable of the solvable, if it has one
+  abbrev pub variable_of_solvable : List (VariableOrigin N S) → S → Option ℕ
+  variable_of_solvable origins s = position_from (is_solvable s) 0 origins
+
+  -- the variable that the solvable has, or else gets
+  abbrev pub interned_variable : List (VariableOrigin N S) → S → ℕ
+  interned_variable origins s = unwrap_or (variable_of_solvable origins s) (length origins)
+
+  -- the origins once the solvable has a variable: a new one stands at the end
+  abbrev pub with_variable : List (VariableOrigin N S) → S → List (VariableOrigin N S)
+  with_variable origins s = if is_some (variable_of_solvable origins s) then origins else origins ++ Solvable s ∷ []
+
+  -- the origins once each solvable has a variable, interned in the list's order
+  abbrev pub with_variables : List (VariableOrigin N S) → List S → List (VariableOrigin N S)
+  with_variables origins ss = fold with_variable origins ss
+
+  -- a map from solvables to their variables that belongs to a list of variables
+  pub record IsVariableMap (slots : S → Option ℕ) (origins : List (VariableOrigin N S)) : Type 0 where
+    pub agrees : (s : S) → slots s ≡ variable_of_solvable origins s
+    pub few : length origins ≤ 2 ^ 31 - 1
+    pub root_first : IsRootFirst origins

@@ -1,0 +1,40 @@
+//! What a variable stands for.
+ghost use Rattle.std.specs.Prelude.{◌≡◌};
+
+use providers::Requirement;
+use typed_ids::VersionSetId;
+
+/// What a variable stands for.
+#[derive(Clone, Copy, Debug)]
+pub enum VariableOrigin<N, S> {
+    /// The root of the decisions.
+    Root,
+    /// A solvable is part of the solution.
+    Solvable(S),
+    /// Helps to say that at most one of a package's solvables is part of the solution.
+    ForbidMultiple(N),
+    /// Some solvable of the package is part of the solution.
+    AtLeastOne(N),
+    /// A solvable outside the version set is part of the solution.
+    ConstrainsViolation(VersionSetId),
+    /// Stands for a requirement's candidates, wherever they are required.
+    RequiresGate(Requirement),
+}
+
+impl<N: Copy, S: Copy> VariableOrigin<N, S> {
+    ghost use Rattle.variables.specs.Variables.{solvable_of};
+
+    /// The solvable, if it stands for one.
+    pub fn as_solvable(&self) -> Option<S>
+        ensures { result ≡ solvable_of self.now }
+    {
+        match self {
+            VariableOrigin::Solvable(solvable) => Some(*solvable),
+            VariableOrigin::Root => None,
+            VariableOrigin::ForbidMultiple(_) => None,
+            VariableOrigin::AtLeastOne(_) => None,
+            VariableOrigin::ConstrainsViolation(_) => None,
+            VariableOrigin::RequiresGate(_) => None,
+        }
+    }
+}
