@@ -9,10 +9,10 @@ use Rattle.resolvo_queue.specs.Pick.{Offer, pick}
 use Rattle.resolvo_store.specs.Command.{Command, Variable, Load, Requires, Assign, UndoUntil, Decide, Reply, VariableIs, LoadedAs, ClauseIs, Assigned, Already, Clash, Undone, Decided, NoDecision, Falsified, Refused}
 use Rattle.resolvo_store.specs.Store.{new_store}
 use Rattle.store_tests.specs.Play.{play}
-use Rattle.store_tests.specs.Script.{Universe, Solvable, Range, provider_of}
+use Rattle.store_tests.specs.Script.{Packages, Solvable, Range, provider_of}
 
--- over this catalogue a new store gives these replies to these commands
-abbrev pub Gives : Universe → List (Command ℕ) → List Reply → Type 0
+-- over these packages a new store gives these replies to these commands
+abbrev pub Gives : Packages → List (Command ℕ) → List Reply → Type 0
 Gives c commands replies = play (new_store (provider_of c)) commands ≡ replies
 
 -- a solvable of a name, in a version

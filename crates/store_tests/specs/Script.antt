@@ -1,4 +1,4 @@
--- A catalogue of packages, and the provider of it: names and solvables are their numbers, a higher version is preferred.
+-- A few packages, and the provider of them: names and solvables are their numbers, a higher version is preferred.
 use Rattle.std.specs.Prelude.{ℕ, Bool, true, false, ◌==◌, ◌&&◌, ◌||◌, if◌then◌else◌, nat_lt, nat_le, List, [], ◌∷◌, map, length, filter, fold, Option, Some, None, unwrap_or, option_map, slice_get}
 use Rattle.std.specs.List.{enumerate_from}
 use Rattle.typed_ids.specs.declared.version_set_id.VersionSetId.{VersionSetId}
@@ -15,13 +15,13 @@ pub record Range : Type 0 where
   pub low : ℕ
   pub high : ℕ
 
-pub record Universe : Type 0 where
+pub record Packages : Type 0 where
   pub solvables : List Solvable
   pub sets : List Range
   -- the version sets of each union, by number
   pub unions : List (List ℕ)
 
-module _ (c : Universe) where
+module _ (c : Packages) where
   -- the solvables of a name, by number
   abbrev pub named : ℕ → List ℕ
   named n = map (λ (s : ℕ × Solvable). s.0) (filter (λ (s : ℕ × Solvable). s.1.name == n) (enumerate_from 0 c.solvables))
