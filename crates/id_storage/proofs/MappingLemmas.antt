@@ -17,7 +17,7 @@ module _ {V : Type 0} where
   length_of_pairs id_at index (None ∷ rest) = omega (arith, length_of_pairs id_at (index + 1) rest, sum_by-cons (λ slot. cond (is_some slot) 1 0) None rest)
   length_of_pairs id_at index (Some value ∷ rest) = omega (arith, length_of_pairs id_at (index + 1) rest, sum_by-cons (λ slot. cond (is_some slot) 1 0) (Some value) rest)
 
-  -- what is left behind the first slot
+  -- what is left after the first slot
   pub tail_of_tail : (limit index : ℕ) (slots rest : List (Option V)) (slot : Option V) → slots ≡ slot ∷ rest → IsTail limit index slots → IsTail limit (index + 1) rest
   tail_of_tail limit index slots rest slot split tail =
       let longer = ap length split in
@@ -34,7 +34,7 @@ module _ {V : Type 0} where
   pub pairs_past_empty : {K : Type 0} (id_at : ℕ → K) (index : ℕ) (slots rest : List (Option V)) (slot : Option V) → slots ≡ slot ∷ rest → slot ≡ None → pairs_from id_at (index + 1) rest ≡ pairs_from id_at index slots
   pairs_past_empty id_at index slots rest slot split empty = rw (split, empty) refl
 
-  -- what holds of a value behind a slot, said from the slot after it
+  -- what holds of a value after a slot, said from the slot that comes next
   later : (K : Type 0) (P : K × V → Type 0) (id_at : ℕ → K) (first : ℕ) (slot : Option V) (rest : List (Option V)) → ((place : ℕ) (value : V) → value_at (slot ∷ rest) place ≡ Some value → P (id_at (first + place), value)) → (place : ℕ) (value : V) → value_at rest place ≡ Some value → P (id_at (first + 1 + place), value)
   later K P id_at first slot rest holds place value found =
       let shift : first + 1 + place ≡ first + suc place = omega arith in

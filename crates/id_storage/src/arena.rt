@@ -9,7 +9,7 @@ use crate::arena_iter::ArenaIter;
 use std::alloc::{Allocator, Global};
 use std::marker::{Model, PhantomData};
 use std::ops::{Index, IndexMut};
-use typed_ids::{DenseIndex, InsertError, StoreError};
+use typed_ids::{DENSE_LIMIT, DenseIndex, InsertError, StoreError};
 
 /// A list of values, each named by the id that stands for its place.
 ///
@@ -50,16 +50,13 @@ impl<TId: DenseIndex, V, A: Allocator> Arena<TId, V, A> {
         ensures refused { IfErr result (IsGrowthRefusal (nat_lt (2 ^ 40) capacity)) }
         ensures too_large { 2 ^ 40 < capacity → result ≡ Err IdSpace }
     {
-        if capacity > 1 << 40 {
+        if capacity > DENSE_LIMIT {
             return Err(StoreError::IdSpace);
         }
-        match Vec::with_capacity(alloc, capacity) {
-            Ok(values) => Ok(Arena {
-                values,
-                ids: PhantomData,
-            }),
-            Err(_) => Err(StoreError::OutOfMemory),
-        }
+        Ok(Arena {
+            values: Vec::with_capacity(alloc, capacity)?,
+            ids: PhantomData,
+        })
     }
 
     /// Takes all values out, and keeps the room. Takes no memory, and time with the number of values.
@@ -98,22 +95,19 @@ impl<TId: DenseIndex, V, A: Allocator> Arena<TId, V, A> {
             IsErrAnd result (λ refusal. refusal.error ≡ IdSpace) }
     {
         let index = self.values.len();
-        if index >= 1 << 40 || !TId::in_range(index) {
+        if index >= DENSE_LIMIT || !TId::in_range(index) {
             return Err(InsertError {
                 error: StoreError::IdSpace,
                 value,
             });
         }
         match self.values.push(value) {
-            Ok(()) => {}
-            Err(failed) => {
-                return Err(InsertError {
-                    error: StoreError::OutOfMemory,
-                    value: failed.value,
-                });
-            }
+            Ok(()) => Ok(TId::from_index(index)),
+            Err(failed) => Err(InsertError {
+                error: StoreError::OutOfMemory,
+                value: failed.value,
+            }),
         }
-        Ok(TId::from_index(index))
     }
 
     /// The ids with their values, in the order of the ids. Takes no memory.

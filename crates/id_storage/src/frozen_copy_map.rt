@@ -44,13 +44,7 @@ impl<K: Eq + Hash + Drop, V: Copy, A: Allocator + Copy> FrozenCopyMap<K, V, A> {
         ensures memory { IfErr result (λ e. e ≡ OutOfMemory) }
         ensures known { IsSome (lookup (K.eq key) self.old) → IsOk result }
     {
-        match self.entries.insert(key, value) {
-            Ok(earlier) => Ok(earlier),
-            Err(failed) => {
-                drop(failed);
-                Err(StoreError::OutOfMemory)
-            }
-        }
+        Ok(self.entries.insert(key, value)?)
     }
 
     /// A copy of the key's value.

@@ -1,5 +1,10 @@
 //! Storage that is kept by ids: lists of values ([`Arena`]), finite maps ([`Mapping`]), and maps of whose values only
 //! copies are handed out ([`FrozenCopyMap`]).
+//!
+//! `arena` and `mapping` are for dense ids, and lie in vectors; the walks through them, [`ArenaIter`] and
+//! [`MappingIter`], are in files of their own. `frozen_copy_map` is for keys of any type, and is a hashed table. The words
+//! of their contracts are in `specs/Arena` and `specs/Mapping`; `specs/MappingLends` says what a map ends as where a
+//! `&mut` to a value of it was handed out.
 #![tactic(auto)]
 
 mod arena;

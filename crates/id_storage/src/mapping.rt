@@ -1,4 +1,21 @@
 //! Maps from ids to values, in chunks of slots.
+//!
+//! An id stands for an index ([`DenseIndex`]), and the value of index i is in slot i. So a value is found by one access
+//! to a vector, with no hash and no search. In return the map has a slot, filled or empty, for each index up to the
+//! largest that was written: it suits ids that are handed out one after another.
+//!
+//! Slots come in chunks of 128: index i is in chunk i / 128, at place i % 128 there ([`Mapping::chunk_and_offset`]). The
+//! chunks lie one after another in one vector. A map has one chunk from the start, grows by whole chunks, and gives none
+//! back. So room lasts: where an id once had a slot it has one from then on, also after its value was taken out. A change
+//! that must not be refused half way takes its room first, by [`Mapping::make_room`]; the [`Mapping::insert`] that
+//! follows then succeeds.
+//!
+//! A contract sees the list of slots, and speaks of it by few words of `specs/Mapping`: `value_at` is what an index has,
+//! `value_count` the number of values, `slots_for` the number of slots up to the end of an index's chunk, and `pairs` the
+//! ids with their values. `IsMapping` is what every map keeps to.
+//!
+//! A call for one id takes constant time where it makes no slots. To make slots, the vector grows to twice its room or
+//! more, so that n insertions in ascending order cost O(n) in all. A walk takes time with the slots, filled or not.
 ghost use Rattle.std.specs.Prelude.{◌≡◌, ℕ, ◌+◌, ◌-◌, ◌*◌, ◌/◌, ◌%◌, ◌<◌, ◌≤◌, ◌==◌, ◌++◌, if◌then◌else◌, length, max, replicate, Some, None, is_some, IsSome, IsTrue, All, IsOk, OnOk, OnErr, IfOk, IfErr, Err, option_copied, vec_len, vec_capacity};
 ghost use Rattle.typed_ids.specs.declared.error.StoreError.TheVariants.{OutOfMemory, IdSpace};
 ghost use Rattle.id_storage.specs.Mapping.{slots_for, with_slots, value_at, value_count, pairs, AreEmpty, AreBelow};
@@ -8,7 +25,7 @@ ghost use Rattle.typed_ids.specs.TotalMaps.{IsUpdate, SameValues};
 use crate::mapping_iter::MappingIter;
 use std::alloc::{Allocator, Global};
 use std::marker::{Model, PhantomData};
-use typed_ids::{DenseIndex, InsertError, StoreError};
+use typed_ids::{DENSE_LIMIT, DenseIndex, InsertError, StoreError};
 
 /// How many slots a chunk has.
 const SLOTS_PER_CHUNK: usize = 128;
@@ -73,22 +90,18 @@ impl<TId: DenseIndex, V, A: Allocator> Mapping<TId, V, A> {
         ensures too_many { IsTrue (is_too_dense (n - 1)) → result ≡ Err IdSpace }
     {
         let last = n.saturating_sub(1);
-        if last >= 1 << 40 {
+        if last >= DENSE_LIMIT {
             return Err(StoreError::IdSpace);
         }
         let (chunk, _) = Self::chunk_and_offset(last);
         let count = (chunk + 1) * SLOTS_PER_CHUNK;
-        match Vec::with_capacity(alloc, count) {
-            Ok(mut slots) => {
-                add_empty(&mut slots, count);
-                Ok(Mapping {
-                    slots,
-                    len: 0,
-                    ids: PhantomData,
-                })
-            }
-            Err(_) => Err(StoreError::OutOfMemory),
-        }
+        let mut slots = Vec::with_capacity(alloc, count)?;
+        add_empty(&mut slots, count);
+        Ok(Mapping {
+            slots,
+            len: 0,
+            ids: PhantomData,
+        })
     }
 
     /// The number of slots. Values at indexes below it take no memory.
@@ -153,15 +166,12 @@ impl<TId: DenseIndex, V, A: Allocator> Mapping<TId, V, A> {
         if index < self.slots.len() {
             return Ok(());
         }
-        if index >= 1 << 40 {
+        if index >= DENSE_LIMIT {
             return Err(StoreError::IdSpace);
         }
         let (chunk, _) = Self::chunk_and_offset(index);
         let missing = (chunk + 1) * SLOTS_PER_CHUNK - self.slots.len();
-        match self.slots.reserve(missing) {
-            Ok(()) => {}
-            Err(_) => return Err(StoreError::OutOfMemory),
-        }
+        self.slots.reserve(missing)?;
         add_empty(&mut self.slots, missing);
         Ok(())
     }
@@ -177,9 +187,8 @@ impl<TId: DenseIndex, V, A: Allocator> Mapping<TId, V, A> {
         ensures refused { IfErr result (λ refused. IsGrowthRefusal (is_too_dense (TId.index_of id)) refused.error) }
         ensures too_dense { IsTrue (is_too_dense (TId.index_of id)) → result ≡ Err (record { error = IdSpace; value = value }) }
     {
-        match self.make_room(id) {
-            Ok(()) => {}
-            Err(error) => return Err(InsertError { error, value }),
+        if let Err(error) = self.make_room(id) {
+            return Err(InsertError { error, value });
         }
         let earlier = self.slots[id.to_index()].replace(value);
         if earlier.is_none() {
@@ -244,10 +253,7 @@ impl<TId: DenseIndex, V, A: Allocator> Mapping<TId, V, A> {
         ensures refused { IfErr result (IsGrowthRefusal (is_too_dense (TId.index_of id))) }
         ensures too_dense { IsTrue (is_too_dense (TId.index_of id)) → IsErrAnd result (λ e. e ≡ IdSpace) }
     {
-        match self.make_room(id) {
-            Ok(()) => {}
-            Err(error) => return Err(error),
-        }
+        self.make_room(id)?;
         let index = id.to_index();
         if self.slots[index].is_none() {
             self.len += 1;
