@@ -1,4 +1,13 @@
 //! The trail: the decisions made so far, in order, each at a level.
+//!
+//! A search tries a value for a variable at the next level, and adds what follows from it at the same level. At a
+//! conflict it takes back the newest decisions, down to some level. So decisions lie on a stack, and a [`DecisionMap`]
+//! beside it answers for one variable in constant time.
+//!
+//! The stack holds the decisions, the map has their levels. A contract sees the two as one list of entries, each a
+//! decision with its level, and speaks of it by the words of `specs/Trail`: `val` and `level_of` read it, `AddsEntry` is
+//! what adding answers and leaves, and `kept_until` what undoing leaves. `IsTrail` is what every trail keeps to: each
+//! variable at most once, and levels from 1 to below 2^31.
 ghost use Rattle.std.specs.Prelude.{◌≡◌, ◌<◌, ◌≤◌, ◌-◌, ◌^◌, ◌↔◌, ◌++◌, ◌∷◌, [], None, length, take, map};
 ghost use Rattle.std.specs.Prelude.{IsTrue, OnOk, OnErr, IfErr};
 ghost use Rattle.typed_ids.specs.declared.error.StoreError.TheVariants.{OutOfMemory};
@@ -100,7 +109,7 @@ impl<A: Allocator + Copy> DecisionTracker<A> {
             Some(_) => Err(AddFault::Clash),
             None => match self.push(decision, level) {
                 Ok(()) => Ok(true),
-                Err(e) => Err(AddFault::Store(e)),
+                Err(error) => Err(AddFault::Store(error)),
             },
         }
     }
@@ -146,14 +155,9 @@ impl<A: Allocator + Copy> DecisionTracker<A> {
         ensures err { OnErr result (self.new ≡ self.old) }
         ensures memory { IfErr result (λ e. e ≡ OutOfMemory) }
     {
-        match self.stack.reserve(1) {
-            Ok(()) => {}
-            Err(_) => return Err(StoreError::OutOfMemory),
-        }
+        self.stack.reserve(1)?;
         self.map.set(decision.variable, decision.value, level)?;
-        match self.stack.push(decision) {
-            Ok(()) => Ok(()),
-            Err(_) => unreachable!(),
-        }
+        self.stack.push_reserved(decision);
+        Ok(())
     }
 }

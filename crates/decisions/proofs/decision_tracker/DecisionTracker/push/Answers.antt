@@ -8,7 +8,7 @@ invariant_of-self-2 g c =
     let after = c.set.new.self in
     let set = c.in_ok-set.ensures.ok in
     let tracked = IsTracked-push fields.map after fields.stack.items c.args.decision c.args.level c.self.invariant in
-    rw (c.in-Ok-push.ensures.items, c.reserve.ensures.items) (tracked undecided set c.requires.level)
+    rw (c.push_reserved.ensures.items, c.reserve.ensures.items) (tracked undecided set c.requires.level)
 
 pub returns-clause-ok : goal.returns-clause-ok
 returns-clause-ok g c =
@@ -17,4 +17,4 @@ returns-clause-ok g c =
     let after = c.set.new.self in
     let set = c.in_ok-set.ensures.ok in
     let trail = trail_of-push fields.map after fields.stack.items c.args.decision c.args.level c.self.invariant in
-    rw (c.in-Ok-push.ensures.items, c.reserve.ensures.items, ← c.self.view_is) (trail undecided set)
+    rw (c.push_reserved.ensures.items, c.reserve.ensures.items, ← c.self.view_is) (trail undecided set)
