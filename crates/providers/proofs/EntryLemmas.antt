@@ -47,7 +47,7 @@ module _ {V : Type 0} (r : Requirement) (test : Requirement → Bool) (same : (q
 pub if_some_at : {X : Type 0} (P : X → Type 0) (o : Option X) (x : X) → IfSome o P → o ≡ Some x → P x
 if_some_at P o x h e = subst (λ p. IfSome p P) e h
 
--- what is behind a reference that there is
+-- what a reference refers to, where there is one
 pub is_some-copied : {V : Type 0} (o : Option (Bor V)) → is_some (option_copied o) ≡ is_some o
 is_some-copied None = refl
 is_some-copied (Some x) = refl

@@ -20,7 +20,7 @@ pub record Texts (N S : Type 0) : Type 0 where
   pub version_set : VersionSetId → List ℕ
   pub string : StringId → List ℕ
 
--- the text stands behind what was there
+-- the text comes after what was there
 abbrev pub IsAppended : {A : Type 0} → String A → String A → List ℕ → Type 0
 IsAppended old new text = string_bytes new ≡ string_bytes old ++ text
 

@@ -13,10 +13,7 @@ pub(crate) fn append<A: Allocator>(out: &mut String<A>, text: &str) -> Result<()
     ensures err { OnErr result (IsSameText out.old out.new) }
     ensures memory { IfErr result (λ e. e ≡ OutOfMemory) }
 {
-    match out.push_str(text) {
-        Ok(()) => Ok(()),
-        Err(_) => Err(StoreError::OutOfMemory),
-    }
+    Ok(out.push_str(text)?)
 }
 
 /// Appends the pieces, with ` | ` between them. After a refusal `out` is as it was.
@@ -28,8 +25,6 @@ pub(crate) fn append_joined<A: Allocator + Copy>(
     ensures err { OnErr result (IsSameText out.old out.new) }
     ensures memory { IfErr result (λ e. e ≡ OutOfMemory) }
 {
-    match pieces.join(*out.allocator(), " | ") {
-        Ok(text) => append(out, &text),
-        Err(_) => Err(StoreError::OutOfMemory),
-    }
+    let text = pieces.join(*out.allocator(), " | ")?;
+    append(out, &text)
 }

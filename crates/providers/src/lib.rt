@@ -1,5 +1,10 @@
 //! What a resolver asks of an ecosystem of packages: requirements and conditions, the interner that tells what an id
 //! stands for and writes its text, and the provider that answers which packages there are.
+//!
+//! The two traits are in `interner` and `provider`; the words of their contracts are in `specs/Provider` and
+//! `specs/Texts`. `requirement`, `conditional_requirement` and `condition` are what packages ask of one another, and
+//! `requirement_map` is a map that is kept by requirements. The texts of requirements, of keys and of several solvables
+//! together are made in `requirement_text`, `root_text` and `merged_text`.
 #![tactic(auto)]
 
 mod condition;

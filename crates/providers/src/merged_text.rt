@@ -33,14 +33,8 @@ impl<A: Allocator + Copy> MergedText<A> {
         ensures { IfErr result (λ e. e ≡ OutOfMemory) }
     {
         let text = String::new(*self.texts.allocator());
-        match self.texts.push(text) {
-            Ok(()) => {}
-            Err(_) => return Err(StoreError::OutOfMemory),
-        }
-        match self.texts.last_mut() {
-            Some(text) => Ok(text),
-            None => unreachable!(),
-        }
+        self.texts.push(text)?;
+        Ok(self.texts.last_mut().unwrap())
     }
 
     /// Appends the name, a blank and the distinct texts in ascending order of their bytes, with ` | ` between them.

@@ -95,17 +95,9 @@ impl<V: Drop, A: Allocator + Copy> RequirementMap<V, A> {
         ensures err { OnErr result (self.new ≡ self.old) }
         ensures memory { IfErr result (λ e. e ≡ OutOfMemory) }
     {
-        match self.entries.reserve(1) {
-            Ok(()) => {}
-            Err(_) => return Err(StoreError::OutOfMemory),
-        }
-        match self.entries.insert(requirement, default()) {
-            Ok(_) => Ok(()),
-            Err(failed) => {
-                drop(failed);
-                Err(StoreError::OutOfMemory)
-            }
-        }
+        self.entries.reserve(1)?;
+        self.entries.insert(requirement, default())?;
+        Ok(())
     }
 
     /// The value of a requirement that has one, to be changed.
@@ -133,10 +125,7 @@ impl<V: Drop, A: Allocator + Copy> RequirementMap<V, A> {
         ensures known { IsSome (lookup (same_requirement requirement) self.old) → IsOk result }
     {
         if self.get(requirement).is_none() {
-            match self.add_with(requirement, default) {
-                Ok(()) => {}
-                Err(error) => return Err(error),
-            }
+            self.add_with(requirement, default)?;
         }
         Ok(self.value_mut(requirement))
     }

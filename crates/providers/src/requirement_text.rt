@@ -22,10 +22,7 @@ fn text_of_set<I: Interner>(
     interner.display_name(interner.version_set_name(set), &mut whole)?;
     append(&mut whole, " ")?;
     interner.display_version_set(set, &mut whole)?;
-    match String::from_str(alloc, whole.trim_end()) {
-        Ok(text) => Ok(text),
-        Err(_) => Err(StoreError::OutOfMemory),
-    }
+    Ok(String::from_str(alloc, whole.trim_end())?)
 }
 
 /// The texts of sets, in order.
@@ -42,10 +39,7 @@ pub(crate) fn texts_of_sets<I: Interner>(
     let mut texts = Vec::new(alloc);
     for set in sets {
         let text = text_of_set(interner, alloc, *set)?;
-        match texts.push(text) {
-            Ok(()) => {}
-            Err(_) => return Err(StoreError::OutOfMemory),
-        }
+        texts.push(text)?;
     }
     Ok(texts)
 }

@@ -3,10 +3,10 @@ use Rattle.providers.specs.RequirementMap.{with_entry}
 use Rattle.providers.proofs.EntryLemmas.{insert_entry-is}
 use Rattle.providers.proofs.requirement_map.RequirementMap.add_with.Goals as goal
 
-pub returns-in-Ok-insert-clause-ok : goal.returns-in-Ok-insert-clause-ok
-returns-in-Ok-insert-clause-ok g c = (
+pub returns-clause-ok : goal.returns-clause-ok
+returns-clause-ok g c = (
   c.default.result,
   c.default.ensures,
-  c.in-Ok-insert.ensures.entries ∙ insert_entry-is _ (λ r q. search rules) c.reserve.new.self.entries c.args.requirement c.default.result
-      ∙ ap (λ es. with_entry es c.args.requirement c.default.result) (c.in-Ok.ensures.entries ∙ c.self.view_is),
+  c.in_ok-insert.ensures.entries ∙ insert_entry-is _ (λ r q. search rules) c.reserve.new.self.entries c.args.requirement c.default.result
+      ∙ ap (λ es. with_entry es c.args.requirement c.default.result) (c.in_ok-reserve.ensures.entries ∙ c.self.view_is),
 )
