@@ -4,7 +4,7 @@ use Rattle.std.proofs.lemmas.List.{drop_more, append_assoc}
 use Rattle.plain_providers.specs.declared.lists.Package.{Package}
 use Rattle.plain_providers.specs.Listed.{places_of}
 
--- the item at hand and those behind it
+-- the item at hand and those after it
 rest-is : {A : Type 0} (ps : List A) (i : ℕ) (p : A) → i < length ps → p ≡ get_or ps i p → drop i ps ≡ p ∷ drop (i + 1) ps
 rest-is ps i p lt is = drop_more ps i p lt ∙ ap (λ q. q ∷ drop (i + 1) ps) (sym is)
 

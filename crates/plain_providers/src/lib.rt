@@ -1,5 +1,6 @@
-//! Providers for tests, whose packages, version sets and unions stand in plain lists: one with dense ids and one with
-//! sparse ones.
+//! Providers for tests, whose packages, version sets and unions are in plain lists: one with dense ids ([`Lists`], in
+//! `lists`) and one with sparse ones ([`SparseLists`], in `sparse_lists`), which answers what the first one answers. What
+//! they answer is said in `specs/Listed`.
 #![tactic(auto)]
 
 mod lists;

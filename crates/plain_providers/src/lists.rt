@@ -223,10 +223,7 @@ pub(crate) fn append_name<A: Allocator>(out: &mut String<A>) -> Result<(), Store
     ensures err { OnErr result (IsSameText out.old out.new) }
     ensures memory { IfErr result (λ e. e ≡ OutOfMemory) }
 {
-    match out.push_str("package") {
-        Ok(()) => Ok(()),
-        Err(_) => Err(StoreError::OutOfMemory),
-    }
+    Ok(out.push_str("package")?)
 }
 
 /// The solvables of a name.
@@ -242,10 +239,7 @@ fn named<A: Allocator>(
     let mut found = Vec::new(alloc);
     for (i, package) in packages.iter().enumerate() {
         if package.name == name {
-            match found.push(SolvableId::from_index(i)) {
-                Ok(()) => {}
-                Err(_) => return Err(StoreError::OutOfMemory),
-            }
+            found.push(SolvableId::from_index(i))?;
         }
     }
     Ok(found)
@@ -267,10 +261,7 @@ fn within<A: Allocator>(
     for solvable in candidates {
         let version = packages[solvable.to_index()].version;
         if (range.low <= version && version < range.high) != inverse {
-            match found.push(*solvable) {
-                Ok(()) => {}
-                Err(_) => return Err(StoreError::OutOfMemory),
-            }
+            found.push(*solvable)?;
         }
     }
     Ok(found)

@@ -200,10 +200,7 @@ fn dense_list<A: Allocator>(
 {
     let mut list = Vec::new(alloc);
     for solvable in solvables {
-        match list.push(dense_solvable(*solvable)) {
-            Ok(()) => {}
-            Err(_) => return Err(StoreError::OutOfMemory),
-        }
+        list.push(dense_solvable(*solvable))?;
     }
     Ok(list)
 }
@@ -218,10 +215,7 @@ fn sparse_list<A: Allocator>(
 {
     let mut list = Vec::new(alloc);
     for solvable in solvables {
-        match list.push(sparse_solvable(*solvable)) {
-            Ok(()) => {}
-            Err(_) => return Err(StoreError::OutOfMemory),
-        }
+        list.push(sparse_solvable(*solvable))?;
     }
     Ok(list)
 }

@@ -1,15 +1,15 @@
 use Rattle.std.proofs.Common.{rules, ◌≡◌, ◌==◌, true, false}
 use Rattle.plain_providers.proofs.ListedLemmas.{named_one, named_other}
 use Rattle.plain_providers.proofs.lists.named.Goals as goal
-use Rattle.plain_providers.proofs.lists.named.Goals.{then-eq+in-Ok, else-eq}
+use Rattle.plain_providers.proofs.lists.named.Goals.{then-eq+in_ok-push, else-eq}
 
 pub loop-i-preserved : goal.loop-i-preserved
 loop-i-preserved g c =
     let p = c.index-packages-i.result in
     elim c.if-eq.branch [
-      | then-eq+in-Ok w ↦ (
+      | then-eq+in_ok-push w ↦ (
           let same : (p.name == c.args.name) ≡ true = search rules in
-          rw (w.found-is, w.in-Ok.ensures.items, w.from_index.ensures)
+          rw (w.found-is, w.in_ok-push.ensures.items, w.from_index.ensures)
           (named_one c.loop-i.found.items c.args.name c.loop-i.i c.args.packages.now p c.loop-i-test.true c.index-packages-i.is same c.loop-i.invariant))
       | else-eq w ↦ (
           let other : (p.name == c.args.name) ≡ false = search rules in
