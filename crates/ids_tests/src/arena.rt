@@ -169,10 +169,7 @@ fn told_of_three<A: Allocator + Copy>(
     let listed = is_listed(alloc, &arena);
     let (before, next, after) = told(&mut arena);
     drop(arena);
-    match listed {
-        Ok(is_listed) => Ok((is_listed, before, next, after)),
-        Err(_) => Err(StoreError::OutOfMemory),
-    }
+    Ok((listed?, before, next, after))
 }
 
 /// Whether the pairs are those of three values.
