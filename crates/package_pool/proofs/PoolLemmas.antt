@@ -4,6 +4,7 @@ use Rattle.std.proofs.lemmas.Option.{slice_get_read}
 use Rattle.std.proofs.lemmas.List.Elements.{All-weaker}
 use Rattle.std.specs.Prelude.{slice_get}
 use Rattle.std.specs.Option.{unwrap_or, option_map}
+use Rattle.std.specs.Prelude.{Result, Ok, Err, OnOk, OnErr}
 use Rattle.typed_ids.specs.declared.version_set_id.VersionSetId.{VersionSetId}
 use Rattle.providers.specs.declared.condition.Condition.{Condition}
 use Rattle.providers.specs.declared.condition.Condition.TheVariants.{Binary, Requirement}
@@ -42,6 +43,12 @@ module _ {X : Type 0} (eq : X → X → Bool) (xs : List X) (x : X) where
 
   pub placed_interned : (P : ℕ → X → Type 0) (new : List X) → new ≡ interned eq xs x → Placed P xs → P (length xs) x → Placed P new
   placed_interned P new h old fresh = rw h (placed_either P (has_same eq xs x) old fresh)
+
+  -- the list once an interning ended, with an id or refused
+  pub grown_and_placed : {T E : Type 0} (P : ℕ → X → Type 0) (new : List X) (r : Result T E) → OnOk r (new ≡ interned eq xs x) → OnErr r (new ≡ xs)
+      → Placed P xs → P (length xs) x → (length xs ≤ length new) × Placed P new
+  grown_and_placed P new (Ok id) ok err old fresh = (interned_grows new ok, placed_interned P new ok old fresh)
+  grown_and_placed P new (Err refusal) ok err old fresh = rw err ((let e : length xs ≤ length xs = omega arith in e), old)
 
 module _ {N VS V : Type 0} (p : Lists N VS V) (own : IsOfItself p) where
   made_more : (sets : List (ℕ × VS)) → length p.version_sets ≤ length sets → (i : ℕ) (c : Condition) → IsMadeBelow p i c → IsMadeBelow (record p { version_sets = sets }) i c

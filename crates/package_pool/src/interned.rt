@@ -9,7 +9,7 @@ ghost use Rattle.package_pool.specs.Interned.{has_same, interned, interned_place
 use indexmap::IndexSet;
 use std::alloc::Allocator;
 use std::hash::{BuildHasherDefault, FoldHasher, Hash};
-use typed_ids::{DenseIndex, InsertError, StoreError};
+use typed_ids::{DENSE_LIMIT, DenseIndex, InsertError, StoreError};
 
 /// Adds a value, unless an equal one is there, and answers the id of the one that is. Takes memory where there is no
 /// room left for a new value. Hashes the value once.
@@ -31,7 +31,7 @@ pub(crate) fn intern<Id: DenseIndex, T: Eq + Hash + Drop, A: Allocator + Copy>(
         has_same T.eq table.old.keys value ≡ false → IsErrAnd result (λ refusal. refusal.error ≡ IdSpace) }
 {
     let count = table.len();
-    if count >= 1 << 40 || !Id::in_range(count) {
+    if count >= DENSE_LIMIT || !Id::in_range(count) {
         return known_or_out(table, value);
     }
     match table.insert_full(value) {

@@ -39,14 +39,8 @@ impl NameText for NameId {
         out: &mut String<A>,
     ) -> Result<(), StoreError> {
         let name = pool.resolve_package_name(self);
-        let text = match name.to_string(*out.allocator()) {
-            Ok(text) => text,
-            Err(_) => return Err(StoreError::OutOfMemory),
-        };
-        match out.push_str(text.as_str()) {
-            Ok(()) => {}
-            Err(_) => return Err(StoreError::OutOfMemory),
-        }
+        let text = name.to_string(*out.allocator())?;
+        out.push_str(text.as_str())?;
         Ok(())
     }
 }

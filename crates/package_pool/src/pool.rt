@@ -1,4 +1,22 @@
 //! Where an ecosystem keeps what its ids stand for.
+//!
+//! A pool is six lists: strings, the names of packages, solvables, version sets, unions and conditions. An id is a place
+//! in its list, counted from 0: a `resolve_` call reads one entry, and a `knows_` call compares with the list's length.
+//!
+//! Strings, names, version sets of one package and conditions are kept once. An equal one that comes later gets the id of
+//! the first, which alone is kept; so two of these ids are equal exactly if what they stand for is. Solvables and unions
+//! get a new id each time.
+//!
+//! Entries are added at the end, and none is changed or taken out: an id stands for the same as long as the pool lives.
+//! A call that adds one asks that its parts be there already, as the name of a version set or the operands of a
+//! condition. So the whole pool is made of what is in it, which each such call promises (`IsSound`).
+//!
+//! A refused call leaves the pool as it was, and hands back the string, name, payload or version set that it was given.
+//! It tells whether the list is full, at 2^32 entries (2^32 - 1 conditions), or memory was wanted. An equal value that is
+//! there is answered in any case, and takes no memory.
+//!
+//! What is kept once is found by its hash, which is made without a seed. A call hashes its value once, and compares it
+//! with those of the same hash. Room is taken as the lists grow, and given back when the pool is dropped.
 ghost use Rattle.std.specs.Prelude.{◌≡◌, ◌<◌, ◌^◌, ◌-◌, ◌∷◌, false, length, nat_lt, slice_get, bytes_eq, string_bytes};
 ghost use Rattle.std.specs.Prelude.{option_map, IsTrue, IsOk, IfOk, OnOk, IfErr, OnErr, IsErrAnd};
 ghost use Rattle.std.specs.List.{position};
@@ -52,7 +70,8 @@ impl<VS: VersionSet, N: Eq + Hash, A: Allocator> Model for Pool<VS, N, A> {
 impl<VS: VersionSet, N: Eq + Hash, A: Allocator + Copy> Pool<VS, N, A> {
     /// The pool without anything in it. Takes no memory.
     pub fn new(alloc: A) -> Self
-        ensures { result ≡ nothing }
+        ensures empty { result ≡ nothing }
+        ensures sound { IsSound result }
     {
         Pool {
             strings: IndexSet::new(alloc),
@@ -62,13 +81,6 @@ impl<VS: VersionSet, N: Eq + Hash, A: Allocator + Copy> Pool<VS, N, A> {
             unions: Arena::new(alloc),
             conditions: IndexSet::new(alloc),
         }
-    }
-
-    /// What every pool keeps: its ids are of it, and of their types. Does nothing.
-    pub fn soundness(&self)
-        ensures { IsSound self.now }
-    {
-        let _ = &self.conditions;
     }
 
     /// Whether the string is of this pool.
@@ -200,6 +212,7 @@ impl<VS: VersionSet + Drop, N: Eq + Hash + Drop, A: Allocator + Copy> Pool<VS, N
         ensures ok { OnOk result (self.new ≡ with_string self.old (string_bytes text)) }
         ensures here { IfOk result (λ id. id.0 < length self.new.strings) }
         ensures err { OnErr result (self.new ≡ self.old) }
+        ensures sound { IsSound self.new }
         ensures value_returned { IfErr result (λ refusal. refusal.value ≡ text) }
         ensures refused { IfErr result (λ refusal.
             IsGrowthRefusal (are_ids_out (2 ^ 32) (length self.old.strings)) refusal.error) }
@@ -217,6 +230,7 @@ impl<VS: VersionSet + Drop, N: Eq + Hash + Drop, A: Allocator + Copy> Pool<VS, N
         ensures ok { OnOk result (self.new ≡ with_name self.old N.eq name) }
         ensures here { IfOk result (λ id. id < length self.new.names) }
         ensures err { OnErr result (self.new ≡ self.old) }
+        ensures sound { IsSound self.new }
         ensures value_returned { IfErr result (λ refusal. refusal.value ≡ name) }
         ensures refused { IfErr result (λ refusal.
             IsGrowthRefusal (are_ids_out (2 ^ 32) (length self.old.names)) refusal.error) }
@@ -239,19 +253,19 @@ impl<VS: VersionSet + Drop, N: Eq + Hash + Drop, A: Allocator + Copy> Pool<VS, N
         ensures ok { OnOk result (self.new ≡ with_solvable self.old (record { name = name; payload = payload })) }
         ensures here { IfOk result (λ id. id < length self.new.solvables) }
         ensures err { OnErr result (self.new ≡ self.old) }
+        ensures sound { IsSound self.new }
         ensures value_returned { IfErr result (λ refusal. refusal.value ≡ payload) }
         ensures refused { IfErr result (λ refusal.
             IsGrowthRefusal (are_ids_out (2 ^ 32) (length self.old.solvables)) refusal.error) }
         ensures ids_out { IsTrue (are_ids_out (2 ^ 32) (length self.old.solvables)) →
             IsErrAnd result (λ refusal. refusal.error ≡ IdSpace) }
     {
-        match self.solvables.alloc(Solvable { name, payload }) {
-            Ok(id) => Ok(id),
-            Err(refusal) => Err(InsertError {
+        self.solvables
+            .alloc(Solvable { name, payload })
+            .map_err(|refusal| InsertError {
                 error: refusal.error,
                 value: refusal.value.payload,
-            }),
-        }
+            })
     }
 
     /// The id of a version set of a package, which comes into the pool if no equal one of this package is there.
@@ -265,6 +279,7 @@ impl<VS: VersionSet + Drop, N: Eq + Hash + Drop, A: Allocator + Copy> Pool<VS, N
         ensures ok { OnOk result (self.new ≡ with_version_set self.old VS.eq name set) }
         ensures here { IfOk result (λ id. id.0 < length self.new.version_sets) }
         ensures err { OnErr result (self.new ≡ self.old) }
+        ensures sound { IsSound self.new }
         ensures value_returned { IfErr result (λ refusal. refusal.value ≡ set) }
         ensures refused { IfErr result (λ refusal.
             IsGrowthRefusal (are_ids_out (2 ^ 32) (length self.old.version_sets)) refusal.error) }
@@ -273,16 +288,10 @@ impl<VS: VersionSet + Drop, N: Eq + Hash + Drop, A: Allocator + Copy> Pool<VS, N
             has_same (same_set VS.eq) self.old.version_sets (name, set) ≡ false →
             IsErrAnd result (λ refusal. refusal.error ≡ IdSpace) }
     {
-        let id = match intern(&mut self.version_sets, (name, set)) {
-            Ok(id) => id,
-            Err(refusal) => {
-                return Err(InsertError {
-                    error: refusal.error,
-                    value: refusal.value.1,
-                });
-            }
-        };
-        Ok(id)
+        intern(&mut self.version_sets, (name, set)).map_err(|refusal| InsertError {
+            error: refusal.error,
+            value: refusal.value.1,
+        })
     }
 
     /// Adds a union of version sets, which gets a new id each time.
@@ -296,6 +305,7 @@ impl<VS: VersionSet + Drop, N: Eq + Hash + Drop, A: Allocator + Copy> Pool<VS, N
         ensures ok { OnOk result (self.new ≡ with_union self.old (first ∷ others.now)) }
         ensures here { IfOk result (λ id. id.0 < length self.new.unions) }
         ensures err { OnErr result (self.new ≡ self.old) }
+        ensures sound { IsSound self.new }
         ensures refused { IfErr result (IsGrowthRefusal (are_ids_out (2 ^ 32) (length self.old.unions))) }
         ensures ids_out { IsTrue (are_ids_out (2 ^ 32) (length self.old.unions)) → result ≡ Err IdSpace }
     {
@@ -303,11 +313,7 @@ impl<VS: VersionSet + Drop, N: Eq + Hash + Drop, A: Allocator + Copy> Pool<VS, N
             return Err(StoreError::IdSpace);
         }
         let sets = union_of(*self.conditions.allocator(), first, others)?;
-        let id = match self.unions.alloc(sets) {
-            Ok(id) => id,
-            Err(refusal) => return Err(refusal.error),
-        };
-        Ok(id)
+        Ok(self.unions.alloc(sets)?)
     }
 
     /// The id of a condition, which comes into the pool if it isn't there.
@@ -317,16 +323,13 @@ impl<VS: VersionSet + Drop, N: Eq + Hash + Drop, A: Allocator + Copy> Pool<VS, N
         ensures ok { OnOk result (self.new ≡ with_condition self.old condition) }
         ensures here { IfOk result (λ id. id < length self.new.conditions) }
         ensures err { OnErr result (self.new ≡ self.old) }
+        ensures sound { IsSound self.new }
         ensures refused { IfErr result (IsGrowthRefusal (are_ids_out (2 ^ 32 - 1) (length self.old.conditions))) }
         ensures known { IsTrue (has_same same_condition self.old.conditions condition) → IsOk result }
         ensures ids_out { IsTrue (are_ids_out (2 ^ 32 - 1) (length self.old.conditions)) →
             has_same same_condition self.old.conditions condition ≡ false → result ≡ Err IdSpace }
     {
-        let id = match intern(&mut self.conditions, condition) {
-            Ok(id) => id,
-            Err(refusal) => return Err(refusal.error),
-        };
-        Ok(id)
+        Ok(intern(&mut self.conditions, condition)?)
     }
 }
 
@@ -339,16 +342,8 @@ fn union_of<A: Allocator + Copy>(
     ensures ok { IfOk result (λ sets. sets.items ≡ first ∷ others.now) }
     ensures memory { IfErr result (λ e. e ≡ OutOfMemory) }
 {
-    let mut sets = match Vec::with_capacity(alloc, others.len() + 1) {
-        Ok(sets) => sets,
-        Err(_) => return Err(StoreError::OutOfMemory),
-    };
-    match sets.push(first) {
-        Ok(()) => {}
-        Err(_) => return Err(StoreError::OutOfMemory),
-    }
-    match sets.extend_from_slice(others) {
-        Ok(()) => Ok(sets),
-        Err(_) => Err(StoreError::OutOfMemory),
-    }
+    let mut sets = Vec::with_capacity(alloc, others.len() + 1)?;
+    sets.push(first)?;
+    sets.extend_from_slice(others)?;
+    Ok(sets)
 }

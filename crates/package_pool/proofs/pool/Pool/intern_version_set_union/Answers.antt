@@ -1,12 +1,12 @@
 use Rattle.std.proofs.Common.{◌<◌, ◌^◌, rules, arith, sym, subst, ap, ◌∙◌, map, string_bytes, length, length-append, [], ◌∷◌, ◌++◌}
 use Rattle.std.proofs.lemmas.List.{map-append, length-map}
-use Rattle.package_pool.specs.Pool.{AreSetsHere}
+use Rattle.package_pool.specs.Pool.{IsSound, AreSetsHere}
 use Rattle.package_pool.specs.PoolView.{lists_in}
 use Rattle.package_pool.proofs.PoolLemmas.{own_with_union}
 use Rattle.package_pool.proofs.pool.Pool.intern_version_set_union.Goals as goal
 
-pub invariant_of-self-2 : goal.invariant_of-self-2
-invariant_of-self-2 g c =
+sound : (g : _) (c : goal.In_ok-alloc g) → IsSound (record (lists_in c.self.inside) { unions = map (λ u. u.items) c.alloc.new.self })
+sound g c =
     let sets = c.in_ok-sets.sets in
     let unions = c.self.inside.unions in
     let here : AreSetsHere (lists_in c.self.inside) sets.items = rw c.in_ok-sets.ensures.ok (subst (λ p. AreSetsHere p (c.args.first ∷ c.args.others.now)) (sym c.self.view_is) c.requires) in
@@ -17,15 +17,18 @@ invariant_of-self-2 g c =
         names = c.self.invariant.fits.names;
         solvables = c.self.invariant.fits.solvables;
         version_sets = c.self.invariant.fits.version_sets;
-        unions = rw (c.in-Ok.ensures.ok, length-map) (omega (arith, room, length-append unions (sets ∷ [])));
+        unions = rw (c.in_ok-alloc.ensures.ok, length-map) (omega (arith, room, length-append unions (sets ∷ [])));
         conditions = c.self.invariant.fits.conditions;
       };
-      own = rw (c.in-Ok.ensures.ok, map-append (λ u. u.items) unions (sets ∷ []))
+      own = rw (c.in_ok-alloc.ensures.ok, map-append (λ u. u.items) unions (sets ∷ []))
           (own_with_union (lists_in c.self.inside) c.self.invariant.own sets.items here);
     }
 
+pub invariant_of-self-2 : goal.invariant_of-self-2
+invariant_of-self-2 g c = sound g c
+
 pub invariant_of-self : goal.invariant_of-self
-invariant_of-self g c = rw c.in-Err.ensures.err c.self.invariant
+invariant_of-self g c = rw c.in_err-alloc.ensures.err c.self.invariant
 
 pub returns-clause-ok : goal.returns-clause-ok
 returns-clause-ok g c =
@@ -38,5 +41,8 @@ returns-clause-ok g c =
       version_sets = c.self.inside.version_sets.keys;
       unions = all;
       conditions = c.self.inside.conditions.keys;
-    }) (ap (map (λ u. u.items)) c.in-Ok.ensures.ok ∙ (map-append (λ u. u.items) unions (c.in_ok-sets.sets ∷ [])
+    }) (ap (map (λ u. u.items)) c.in_ok-alloc.ensures.ok ∙ (map-append (λ u. u.items) unions (c.in_ok-sets.sets ∷ [])
     ∙ ap (λ union. map (λ u. u.items) unions ++ union ∷ []) c.in_ok-sets.ensures.ok)))
+
+pub returns-clause-sound : goal.returns-clause-sound
+returns-clause-sound g c = sound g c
