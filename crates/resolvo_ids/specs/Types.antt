@@ -1,4 +1,4 @@
--- The types of the rooms, each with its fields or variants.
+-- The types of the rooms, each with its fields or variants, and then their traits.
 pub use Rattle.typed_ids.specs.declared.candidates_id.CandidatesId
 pub use Rattle.typed_ids.specs.declared.clause_id.ClauseId
 pub use Rattle.typed_ids.specs.declared.condition_id.ConditionId
@@ -24,3 +24,10 @@ pub use Rattle.id_storage.specs.declared.arena_iter.ArenaIter
 pub use Rattle.id_storage.specs.declared.frozen_copy_map.FrozenCopyMap
 pub use Rattle.id_storage.specs.declared.mapping.Mapping
 pub use Rattle.id_storage.specs.declared.mapping_iter.MappingIter
+-- the traits, each with its ghost members
+pub use Rattle.typed_ids.specs.declared.dense_index.DenseIndex
+pub use Rattle.typed_ids.specs.declared.same_id.SameId
+pub use Rattle.id_maps.specs.declared.default_value.DefaultValue
+pub use Rattle.id_maps.specs.declared.id_map.IdMap
+pub use Rattle.id_maps.specs.declared.id_set.IdSet
+pub use Rattle.id_maps.specs.declared.solver_id.SolverId

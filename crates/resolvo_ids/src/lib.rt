@@ -6,8 +6,8 @@
 //! | `id_maps` | total maps and sets that an id chooses |
 //! | `id_storage` | lists of values, finite maps, and maps of whose values only copies are handed out |
 //!
-//! A clause names a definition of a room as `Rattle.resolvo_ids.specs.TOPIC`, and a type with its variants as
-//! `Rattle.resolvo_ids.specs.Types.NAME`.
+//! A clause names a definition of a room as `Rattle.resolvo_ids.specs.TOPIC`, and a type with its variants, or a trait
+//! with its ghost members, as `Rattle.resolvo_ids.specs.Types.NAME`.
 #![tactic(auto)]
 
 pub use id_maps::{DefaultValue, IdMap, IdSet, IndexedSet, Slot, SolverId, WithRootSet};

@@ -1,4 +1,4 @@
--- The types of the rooms, each with its fields or variants.
+-- The types of the rooms, each with its fields or variants, and then their traits.
 pub use Rattle.providers.specs.declared.condition.Condition
 pub use Rattle.providers.specs.declared.condition.LogicalOperator
 pub use Rattle.providers.specs.declared.conditional_requirement.ConditionalRequirement
@@ -7,3 +7,9 @@ pub use Rattle.providers.specs.declared.requirement_map.RequirementMap
 pub use Rattle.providers.specs.declared.version_sets.VersionSets
 pub use Rattle.package_pool.specs.declared.pool.Pool
 pub use Rattle.package_pool.specs.declared.solvable.Solvable
+-- the traits, each with its ghost members
+pub use Rattle.providers.specs.declared.interner.Interner
+pub use Rattle.providers.specs.declared.provider.DependencyProvider
+pub use Rattle.providers.specs.declared.root_text.RootText
+pub use Rattle.package_pool.specs.declared.name_text.NameText
+pub use Rattle.package_pool.specs.declared.version_set.VersionSet

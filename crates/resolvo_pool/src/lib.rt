@@ -5,8 +5,8 @@
 //! | `providers` | requirements and conditions, the traits of interner and provider, and the texts of ids |
 //! | `package_pool` | the pool, where an ecosystem keeps what its ids stand for |
 //!
-//! A clause names a definition of a room as `Rattle.resolvo_pool.specs.TOPIC`, and a type with its variants as
-//! `Rattle.resolvo_pool.specs.Types.NAME`.
+//! A clause names a definition of a room as `Rattle.resolvo_pool.specs.TOPIC`, and a type with its variants, or a trait
+//! with its ghost members, as `Rattle.resolvo_pool.specs.Types.NAME`.
 #![tactic(auto)]
 
 pub use package_pool::{NameText, Pool, Solvable, VersionSet};
