@@ -1,4 +1,4 @@
--- The index of a literal: twice that of its variable, plus 1 if it is negated. So the two literals of a variable stand
+-- The index of a literal: twice that of its variable, plus 1 if it is negated. So the two literals of a variable are
 -- side by side.
 use Rattle.std.specs.Prelude.{◌≡◌, ℕ, ◌+◌, ◌-◌, ◌≤◌, ◌*◌, ◌/◌, ◌%◌, Bool, true, false, ◌==◌, if◌then◌else◌, refl}
 use Rattle.std.proofs.Common.{arith, ap}

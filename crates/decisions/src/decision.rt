@@ -6,8 +6,11 @@ use typed_ids::{ClauseId, VariableId};
 /// A value given to a variable, and the clause that gave it.
 #[derive(Clone, Copy, Debug, PartialEq, Eq)]
 pub struct Decision {
+    /// The variable that gets a value.
     pub variable: VariableId,
+    /// The value.
     pub value: bool,
+    /// The clause that gave it.
     pub derived_from: ClauseId,
 }
 

@@ -114,7 +114,7 @@ impl<A: Allocator + Copy> DecisionTracker<A> {
         }
     }
 
-    /// Takes back the newest decisions until one stands at this level or below; level 0 clears the trail. Takes no
+    /// Takes back the newest decisions until one is at this level or below; level 0 clears the trail. Takes no
     /// memory, and time only for what it takes back.
     pub fn undo_until(&mut self, level: u32)
         ensures kept { self.new ≡ kept_until level self.old }

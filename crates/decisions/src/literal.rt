@@ -8,6 +8,9 @@ use std::alloc::Allocator;
 use std::marker::Model;
 use typed_ids::{DenseIndex, VariableId};
 
+/// How many literals there are: two for each of the 2^31 - 1 variables.
+const COUNT: usize = 4294967294;
+
 /// A variable or its negation, kept as its index plus one: the two literals of a variable have neighboring indexes, the
 /// positive one first.
 #[derive(Clone, Copy, Debug, PartialEq, Eq)]
@@ -91,7 +94,7 @@ impl DenseIndex for Literal {
     ghost distinct = { λ a b h. literal_index-injective a b h };
 
     fn in_range(index: usize) -> bool {
-        index < 4294967294
+        index < COUNT
     }
 
     fn from_index(index: usize) -> Literal {

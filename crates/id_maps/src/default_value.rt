@@ -1,4 +1,4 @@
-//! Values of total maps: what stands where nothing was written.
+//! Values of total maps: what is read where nothing was written.
 ghost use Rattle.std.specs.Prelude.{◌≡◌};
 
 use std::marker::Model;

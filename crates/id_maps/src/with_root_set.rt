@@ -12,7 +12,7 @@ use std::alloc::Allocator;
 use std::marker::Model;
 use typed_ids::{SolvableIdOrRoot, StoreError};
 
-/// A set that may have the root beside solvables, which stand in a set of their own. The root takes no memory.
+/// A set that may have the root beside solvables, which are in a set of their own. The root takes no memory.
 #[derive(Drop)]
 pub struct WithRootSet<S: SolverId<A>, A: Allocator + Copy> {
     root: bool,

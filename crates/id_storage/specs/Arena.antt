@@ -6,7 +6,7 @@ use Rattle.std.specs.declared.alloc.Allocator.{Ghosts}
 use Rattle.typed_ids.specs.declared.dense_index.DenseIndex.{Ghosts as Indexed}
 use Rattle.id_storage.specs.contracts.arena.Arena.{the_row}
 
--- each value with its id, where the first value stands at this place
+-- each value with its id, where the first value is at this place
 abbrev pub pairs_from : {Id V : Type 0} → (ℕ → Id) → ℕ → List V → List (Id × V)
 pairs_from id_at first values = map (λ placed. (id_at placed.0, placed.1)) (enumerate_from first values)
 

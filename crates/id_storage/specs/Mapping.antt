@@ -1,4 +1,4 @@
--- Maps from indexes to values, as their slots: what stands at index i is in slot i. Slots come in chunks of 128.
+-- Maps from indexes to values, as their slots: what index i has is in slot i. Slots come in chunks of 128.
 use Rattle.std.specs.Prelude.{◌≡◌, ℕ, ◌+◌, ◌-◌, ◌*◌, ◌/◌, ◌%◌, ◌<◌, ◌≤◌, ◌^◌, List, [], ◌∷◌, ◌++◌, length, replicate, Option, Some, None, is_some, IsSome, count_by, slice_index_or, slice_set}
 
 -- the number of slots in the chunks from the first to that of an index
@@ -6,7 +6,7 @@ abbrev pub slots_for : ℕ → ℕ
 slots_for index = 128 * (index / 128 + 1)
 
 module _ {V : Type 0} where
-  -- what stands at an index: nothing past the slots
+  -- what an index has: nothing past the slots
   abbrev pub value_at : List (Option V) → ℕ → Option V
   value_at slots index = slice_index_or slots index None
 
@@ -18,7 +18,7 @@ module _ {V : Type 0} where
   abbrev pub AreEmpty : List (Option V) → Type 0
   AreEmpty slots = (index : ℕ) → value_at slots index ≡ None
 
-  -- each value stands at an index below the limit
+  -- each value has an index below the limit
   abbrev pub AreBelow : ℕ → List (Option V) → Type 0
   AreBelow limit slots = (index : ℕ) → IsSome (value_at slots index) → index < limit
 
@@ -26,7 +26,7 @@ module _ {V : Type 0} where
   abbrev pub with_slots : List (Option V) → ℕ → List (Option V)
   with_slots slots count = slots ++ replicate (count - length slots) None
 
-  -- the slots with a value at an index, in the place of what stood there
+  -- the slots with a value at an index, in the place of what it had
   abbrev pub with_value : List (Option V) → ℕ → V → List (Option V)
   with_value slots index value = slice_set slots index (Some value)
 

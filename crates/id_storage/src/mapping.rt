@@ -30,7 +30,7 @@ use typed_ids::{DENSE_LIMIT, DenseIndex, InsertError, StoreError};
 /// How many slots a chunk has.
 const SLOTS_PER_CHUNK: usize = 128;
 
-/// A map from ids to values, for ids that have few gaps between them: the value of index i stands in slot i.
+/// A map from ids to values, for ids that have few gaps between them: the value of index i is in slot i.
 ///
 /// Slots come in whole chunks of 128. There is one chunk from the start, and none is ever given back. A contract sees
 /// the slots. Indexes from 2^40 on are refused.

@@ -50,7 +50,7 @@ pub fn replace<TId: DenseIndex, V: Drop, A: Allocator>(
     arena[id] = value;
 }
 
-/// The value that was added last stands under the id that the addition answered.
+/// Adds a value, and reads it by the id that the addition answered.
 pub fn added<TId: DenseIndex, V: Copy + Drop, A: Allocator>(
     arena: &mut Arena<TId, V, A>,
     value: V,

@@ -141,7 +141,7 @@ fn a_table_keeps_its_values_as_it_grows(rt: HostRuntime) -> Result<(), Fail> {
     sees(grown::<Global, Table>(rt.alloc()), (None, 700))
 }
 
-/// The first number at whose key another value stands than was written, with that value; and the largest value.
+/// The first number whose key has another value than was written, with that value; and the largest value.
 fn grown<A: Allocator + Copy, M: IdMap<Name, u64, A>>(
     alloc: A,
 ) -> Result<(Option<(u32, u64)>, u64), StoreError> {

@@ -1,4 +1,4 @@
--- What a provider of plain lists answers. A package stands in its list at the place that is its number.
+-- What a provider of plain lists answers. A package's number is its place in the list.
 use Rattle.std.specs.Prelude.{◌≡◌, ℕ, ◌<◌, ◌≤◌, ◌+◌, Bool, true, false, ◌&&◌, ◌==◌, if◌then◌else◌, nat_le, nat_lt, List, [], ◌∷◌, codes, length, slice_index_or, All}
 use Rattle.std.specs.List.{AllByRecursion, list_all}
 use Rattle.std.proofs.lemmas.List.Elements.{All-from_recursion}

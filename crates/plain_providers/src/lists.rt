@@ -15,23 +15,30 @@ use typed_ids::{
 /// A solvable: a version of a package. Its id is its place in the list.
 #[derive(Clone, Copy, Debug, PartialEq, Eq)]
 pub struct Package {
+    /// The package.
     pub name: NameId,
+    /// The version, a plain number.
     pub version: u32,
 }
 
 /// The versions of a package from `low` to below `high`. A version set's id is its place in the list.
 #[derive(Clone, Copy, Debug, PartialEq, Eq)]
 pub struct VersionRange {
+    /// The package.
     pub name: NameId,
+    /// The first version in the range.
     pub low: u32,
+    /// The first version past the range.
     pub high: u32,
 }
 
-/// Packages, version sets and unions in lists. The later a package stands, the better. There is one string, which is
+/// Packages, version sets and unions in lists. The later a package comes, the better. There is one string, which is
 /// empty, a condition for each version set, that it is met, and the same text for each package.
 #[derive(Drop)]
 pub struct Lists<A: Allocator> {
+    /// The solvables, whose ids are their places in the list.
     pub packages: Vec<Package, A>,
+    /// The version sets, whose ids are their places in the list.
     pub ranges: Vec<VersionRange, A>,
     /// The version sets of each union, whose id is its place in the list. It is known if all of them are.
     pub unions: Vec<Vec<VersionSetId, A>, A>,

@@ -3,7 +3,7 @@ use Rattle.std.specs.Prelude.{if◌then◌else◌, List, [], ◌∷◌}
 use Rattle.providers.specs.Requirement.{same_requirement}
 use Rattle.providers.specs.declared.requirement.Requirement.{Requirement}
 
--- the entries once the requirement has the value: its entry takes it, or else a new entry stands at the end
+-- the entries once the requirement has the value: its entry takes it, or else a new entry comes at the end
 abbrev pub with_entry : {V : Type 0} → List (Requirement × V) → Requirement → V → List (Requirement × V)
 with_entry [] requirement value = (requirement, value) ∷ []
 with_entry (e ∷ es) requirement value =

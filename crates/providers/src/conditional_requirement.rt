@@ -7,7 +7,9 @@ use typed_ids::{ConditionId, VersionSetId, VersionSetUnionId};
 /// A requirement, and the condition under which alone it is asked for; without one it always is.
 #[derive(Clone, Copy, Debug, PartialEq, Eq, PartialOrd, Ord, Hash)]
 pub struct ConditionalRequirement {
+    /// When it is asked for; always, if there is none.
     pub condition: Option<ConditionId>,
+    /// What is asked for.
     pub requirement: Requirement,
 }
 

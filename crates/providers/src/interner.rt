@@ -15,11 +15,13 @@ use typed_ids::{ConditionId, StoreError, StringId, VersionSetId, VersionSetUnion
 ///
 /// A text is appended to a `String`, which is as it was after a refusal; that is want of memory.
 pub trait Interner {
-    /// The allocator of whatever stands on this interner.
+    /// The allocator of whatever is built on this interner.
     type Alloc: Allocator + Copy;
 
+    /// The ids of packages' names.
     type NameId: SolverId<Self::Alloc>;
 
+    /// The ids of solvables.
     type SolvableId: SolverId<Self::Alloc>;
 
     /// The known ids, and how they belong together.
@@ -28,21 +30,27 @@ pub trait Interner {
     /// The texts of known ids.
     ghost texts: { Self → Texts Self.NameId Self.SolvableId };
 
+    /// Whether the string is known.
     fn knows_string(&self, string: StringId) -> bool
         ensures { result ≡ (universe self.now).knows_string string };
 
+    /// Whether the name is known.
     fn knows_name(&self, name: Self::NameId) -> bool
         ensures { result ≡ (universe self.now).knows_name name };
 
+    /// Whether the solvable is known; so is the name of its package then.
     fn knows_solvable(&self, solvable: Self::SolvableId) -> bool
         ensures { result ≡ (universe self.now).knows_solvable solvable };
 
+    /// Whether the version set is known; so is the name of its package then.
     fn knows_version_set(&self, set: VersionSetId) -> bool
         ensures { result ≡ (universe self.now).knows_set set };
 
+    /// Whether the union is known; so are its version sets then.
     fn knows_union(&self, union: VersionSetUnionId) -> bool
         ensures { result ≡ (universe self.now).knows_union union };
 
+    /// Whether the condition is known; so is what it is made of then.
     fn knows_condition(&self, condition: ConditionId) -> bool
         ensures { result ≡ (universe self.now).knows_condition condition };
 

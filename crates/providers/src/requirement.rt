@@ -15,7 +15,9 @@ use typed_ids::{ConditionId, StoreError, VersionSetId, VersionSetUnionId};
 /// One of the candidates of a version set, or of any set of a union.
 #[derive(Clone, Copy, Debug, PartialEq, Eq, PartialOrd, Ord, Hash)]
 pub enum Requirement {
+    /// One of the candidates of this version set.
     Single(VersionSetId),
+    /// One of the candidates of any version set of this union.
     Union(VersionSetUnionId),
 }
 
@@ -43,7 +45,7 @@ impl Requirement {
     }
 
     /// Appends the requirement's text: of each version set the name of its package, a blank and its own text, without
-    /// the white space at the end ([`char::is_whitespace`]); ` | ` stands between the texts of a union's sets. After a
+    /// the white space at the end ([`char::is_whitespace`]); ` | ` is between the texts of a union's sets. After a
     /// refusal `out` is as it was.
     pub fn display<I: Interner>(
         &self,

@@ -1,4 +1,4 @@
-//! An allocator that refuses one request, for tests of what a refusal leaves behind.
+//! An allocator that refuses one request, for tests of what a refusal leaves.
 //!
 //! What is proved is that it keeps the contract of `Allocator`: a block that it answers is whole and nobody else's, and
 //! is freed only by the right that came with it, at its own size. Which request it refuses is only tested, since no

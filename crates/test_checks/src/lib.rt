@@ -19,10 +19,7 @@ pub fn is_same<T: Copy + PartialEq + Debug>(seen: T, wanted: T) -> Result<(), Fa
 }
 
 /// Nothing was refused, and what was seen is what was wanted.
-pub fn sees<T: Copy + PartialEq + Debug>(
-    seen: Result<T, StoreError>,
-    wanted: T,
-) -> Result<(), Fail>
+pub fn sees<T: Copy + PartialEq + Debug>(seen: Result<T, StoreError>, wanted: T) -> Result<(), Fail>
     ensures ok { IfOk seen (λ value. IsOk result ↔ (T.eq value wanted ≡ true)) }
     ensures err { IfErr seen (λ e. IsErr result) }
 {

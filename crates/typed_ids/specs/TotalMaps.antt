@@ -24,7 +24,7 @@ pub record IsLargest {K V : Type 0} (compare : V → V → Ordering) (default : 
 abbrev pub kept : {V : Type 0} → ℕ → List V → List V
 kept limit items = take (min limit (2 ^ 40)) items
 
--- what isn't the default stands within the list, and below 2^40
+-- what isn't the default is within the list, and below 2^40
 pub kept_within : {V : Type 0} (limit : ℕ) (items : List V) (default : V) (index len : ℕ) → len ≡ length items →
     slice_index_or (kept limit items) index default ≢ default → (index < len) × (index < 2 ^ 40)
 kept_within limit items default index len e h =

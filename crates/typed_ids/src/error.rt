@@ -32,7 +32,7 @@ pub enum StoreError {
     /// A learnt clause without literals, or with a last literal that equals its first.
     #[error("not a learnt clause")]
     BadLearnt,
-    /// Nothing stands on the trail.
+    /// There is no decision on the trail.
     #[error("the trail is empty")]
     EmptyTrail,
     /// A fraction above one, or without a denominator.

@@ -2,7 +2,7 @@
 use crate::error::StoreError;
 use thiserror::Error;
 
-/// A refused insertion: why, and the value that was to be kept, which stands nowhere.
+/// A refused insertion: why, and the value that was to be kept, which is kept nowhere.
 #[derive(Clone, Copy, Debug, Drop, PartialEq, Eq, Error)]
 #[error("{error}")]
 pub struct InsertError<V> {

@@ -89,7 +89,7 @@ module _ (Z : Al) {M : Type 1} {𝓤 : Ura M} (𝓛 : Logic 𝓤) (𝓜 : Model 
         -- `&self` gives a `&` to each field; nothing is owned of the two numbers
         split ! $ split ! $ move ! (2 ∷ []) $ fsplit ! $ use1 𝓛 (‵ (seen Z κ p handle) ⊛ ‵ (counts κ c)) (self_shares Z 𝓛 κ r) $ split ! $
         keep ! (1 ∷ 3 ∷ 0 ∷ 4 ∷ []) $
-        -- [the counter; the token of κ; the inner handle; the token of κ'], and behind them the locals
+        -- [the counter; the token of κ; the inner handle; the token of κ'], and after them the locals
         enter ! 𝓣.C 𝓣.Λ (here Z) vs (Walk.post y) $ alloc_all ! (λ l. pass_all ! refl ((tt, tt), ((tt, record { fits = n_fits }), ((tt, record { fits = k_fits }), tt))) $
         -- refuses(&self.left)
         sets ! (addr ! (through ! refl (fld ! refl (stop !)))) refl (tt, tt) $

@@ -76,7 +76,7 @@ module _ (Z : Al) {M : Type 1} {𝓤 : Ura M} (𝓛 : Logic 𝓤) (𝓜 : Model 
         -- `&self` gives a `&` to each field; nothing is owned of the pointer and the two numbers
         split ! $ split ! $ move ! (2 ∷ []) $ fsplit ! $ use1 𝓛 (‵ (seen Z κ p handle) ⊛ ‵ (counts κ (left_at Z r.ref_ptr))) (self_shares Z 𝓛 κ r) $ split ! $
         keep ! (5 ∷ 6 ∷ 0 ∷ 3 ∷ 4 ∷ []) $
-        -- [the block's room; the right to free it; the inner handle; the token of κ; the token of κ'], and behind them the locals
+        -- [the block's room; the right to free it; the inner handle; the token of κ; the token of κ'], and after them the locals
         enter ! 𝓣.C 𝓣.Λ (here Z) (vs x) (Walk.post (y x)) $ alloc_all ! (λ l. pass_all ! refl ((tt, tt), ((tt, tt), ((tt, record { fits = n_fits }), ((tt, record { fits = k_fits }), tt)))) $
         -- self.inner.deallocate(ptr, size, align)
         sets ! (addr ! (through ! refl (fld ! refl (stop !)))) refl (tt, tt) $
