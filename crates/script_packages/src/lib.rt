@@ -7,13 +7,11 @@
 
 mod catalogue;
 mod catalogue_line;
-mod commands;
 mod ids;
-mod interning;
 mod order;
 mod packages;
 mod provider;
 
-pub use commands::{Commands, read_catalogue};
+pub use catalogue::{Commands, read_catalogue};
 pub use ids::{id, requirement};
 pub use packages::{Packages, Span, VersionRange};

@@ -1,7 +1,9 @@
 //! How a script can end.
 ghost use Rattle.std.specs.Prelude.{◌≡◌};
+ghost use Rattle.script_text.specs.declared.fault.LineFault.TheVariants.{Memory};
 ghost use Rattle.script_text.specs.Status.{status_of};
 
+use std::alloc::{AllocError, AllocFailed};
 use thiserror::Error;
 
 /// Why a script was left before its end.
@@ -38,6 +40,24 @@ impl LineFault {
             LineFault::Unreadable => ScriptFault::Unreadable(number),
             LineFault::Memory => ScriptFault::Memory,
         }
+    }
+}
+
+/// Want of memory.
+impl From<AllocError> for LineFault {
+    ghost from_gives = { λ _ e. e ≡ Memory };
+
+    fn from(_refused: AllocError) -> LineFault {
+        LineFault::Memory
+    }
+}
+
+/// Want of memory.
+impl<T: Drop> From<AllocFailed<T>> for LineFault {
+    ghost from_gives = { λ _ e. e ≡ Memory };
+
+    fn from(_refused: AllocFailed<T>) -> LineFault {
+        LineFault::Memory
     }
 }
 

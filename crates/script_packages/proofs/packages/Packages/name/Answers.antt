@@ -1,22 +1,26 @@
-use Rattle.std.proofs.Common.{ℕ, List, refl, ◌∙◌, ap, map}
+use Rattle.std.proofs.Common.{ℕ, List, refl, ◌∙◌, ap, map, rules}
+use Rattle.std.proofs.lemmas.Result.{IfOk-weaker, on_ok_weaker}
+use Rattle.std.specs.Prelude.{◌≡◌, IfOk, OnOk}
 use Rattle.std.specs.Str.{bytes_eq}
 use Rattle.std.specs.String.{string_bytes, string_eq}
 use Rattle.package_pool.specs.Interned.{interned}
 use Rattle.package_pool.specs.Pool.{Lists}
 use Rattle.package_pool.proofs.InternedLemmas.{place_by_view, interned_by_view}
 use Rattle.script_packages.specs.declared.packages.VersionRange.{VersionRange}
-use Rattle.script_packages.specs.Listing.{Listing, listing_of, name_number}
+use Rattle.script_packages.specs.Listing.{Listing, listing_of, named, name_number}
 use Rattle.script_packages.proofs.packages.Packages.name.Goals as goal
 
-pub returns-in-Ok-clause-number : goal.returns-in-Ok-clause-number
-returns-in-Ok-clause-number c =
+pub returns-clause-number : goal.returns-clause-number
+returns-clause-number c =
     let l = listing_of c.args.self.now in
-    c.in-Ok.ensures.id
-    ∙ place_by_view string_bytes string_eq bytes_eq (λ x y. refl) c.args.self.now.pool.names c.in_ok-text.text
-    ∙ ap (name_number l) c.in_ok-text.ensures.ok
+    let number : IfOk c.intern_package_name.result (λ n. n ≡ name_number l c.args.name.now) =
+    IfOk-weaker c.intern_package_name.result _ _ (λ n h. h
+    ∙ (place_by_view string_bytes string_eq bytes_eq (λ x y. refl) c.args.self.now.pool.names c.in_ok-text.text
+    ∙ ap (name_number l) c.in_ok-text.ensures.ok)) c.intern_package_name.ensures.id in
+    search rules
 
-pub returns-in-Ok-clause-ok : goal.returns-in-Ok-clause-ok
-returns-in-Ok-clause-ok c =
+pub returns-clause-ok : goal.returns-clause-ok
+returns-clause-ok c =
     let p = c.args.self.now in
     let seen : Lists _ VersionRange ℕ → Listing = λ pool. record {
       pool = record {
@@ -29,17 +33,9 @@ returns-in-Ok-clause-ok c =
       };
       spans = p.spans;
     } in
-    let with_names : List (List ℕ) → Listing = λ names. record {
-      pool = record {
-        strings = p.pool.strings;
-        names = names;
-        solvables = p.pool.solvables;
-        version_sets = p.pool.version_sets;
-        unions = p.pool.unions;
-        conditions = p.pool.conditions;
-      };
-      spans = p.spans;
-    } in
-    ap (λ (pool : Lists _ VersionRange ℕ). seen pool) c.in-Ok.ensures.ok
+    let with_names : List (List ℕ) → Listing = λ names. record (listing_of p) { pool = record (listing_of p).pool { names = names } } in
+    let listed : OnOk c.intern_package_name.result (seen c.intern_package_name.new.self ≡ named (listing_of p) c.args.name.now) =
+    on_ok_weaker c.intern_package_name.result (λ h. ap (λ (pool : Lists _ VersionRange ℕ). seen pool) h
     ∙ ap with_names (interned_by_view string_bytes string_eq bytes_eq (λ x y. refl) p.pool.names c.in_ok-text.text
-    ∙ ap (interned bytes_eq (map string_bytes p.pool.names)) c.in_ok-text.ensures.ok)
+    ∙ ap (interned bytes_eq (map string_bytes p.pool.names)) c.in_ok-text.ensures.ok)) c.intern_package_name.ensures.ok in
+    search rules

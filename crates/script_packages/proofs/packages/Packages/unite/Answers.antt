@@ -3,7 +3,7 @@ use Rattle.std.specs.Prelude.{All}
 use Rattle.typed_ids.specs.declared.version_set_id.VersionSetId.{VersionSetId}
 use Rattle.script_packages.proofs.packages.Packages.unite.Goals as goal
 
-pub intern_version_set_union-interned-requires : goal.intern_version_set_union-interned-requires
-intern_version_set_union-interned-requires c =
+pub intern_version_set_union-requires : goal.intern_version_set_union-requires
+intern_version_set_union-requires c =
     subst (λ sets. All (λ (v : VersionSetId). v.0 < length c.args.self.now.pool.version_sets) sets)
     (sym c.deref.ensures.value ∙ c.in-Some.ensures.cases.0) c.in_ok-list_sets.ensures.known

@@ -3,7 +3,7 @@ use Rattle.script_packages.specs.declared.packages.Packages.{Packages}
 use Rattle.script_packages.specs.CatalogueEnds.{NeverBegins, CommandsBegin, FaultyAt}
 use Rattle.script_packages.specs.Listing.{listing_of, nothing_listed}
 use Rattle.script_text.specs.Lines.{lines as lines_of}
-use Rattle.script_packages.proofs.commands.list_packages.Given as goal
+use Rattle.script_packages.proofs.catalogue.list_packages.Given as goal
 
 -- how what is left of the lines ends behind what is listed, so all of them do
 abbrev pub invariant-loop-line : goal.invariant-loop-line
