@@ -7,14 +7,14 @@ use Rattle.script_text.specs.Numbers.{number_of, below}
 
 -- a number of 32 bits: a version, a bound, a level, and the id of a solvable, a version set or a union
 abbrev pub number_32 : List ℕ → Option ℕ
-number_32 word = option_map (λ n. n) (below (2 ^ 32) (number_of word))
+number_32 word = below (2 ^ 32) (number_of word)
 
 abbrev pub variable_of : List ℕ → Option ℕ
-variable_of word = option_map (λ n. n) (below (2 ^ 31 - 1) (number_of word))
+variable_of word = below (2 ^ 31 - 1) (number_of word)
 
 -- clauses; disjunctions and conditions too
 abbrev pub clause_of : List ℕ → Option ℕ
-clause_of word = option_map (λ n. n) (below (2 ^ 32 - 1) (number_of word))
+clause_of word = below (2 ^ 32 - 1) (number_of word)
 
 abbrev pub requirement_of : List ℕ → Option Requirement
 requirement_of [] = None
