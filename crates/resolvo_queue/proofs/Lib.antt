@@ -1,4 +1,4 @@
-pub mod AnswerLaws
 pub mod IndexLaws
 pub mod PickLaws
 pub mod RowLaws
+pub mod SearchLaws

@@ -4,7 +4,6 @@ use Rattle.std.specs.Prelude.{filter_map, fold, All, Contains, IfSome, is_some, 
 use Rattle.std.specs.List.{AllByRecursion, best_of, cons_option}
 use Rattle.std.proofs.lemmas.Bool.Decides.{nat_tests}
 use Rattle.std.proofs.lemmas.List.Elements.{All-from_recursion, recursion_from_All}
-use Rattle.std.proofs.lemmas.List.Sums.{fold-append}
 use Rattle.providers.specs.declared.requirement.Requirement.{Requirement}
 use Rattle.typed_ids.specs.declared.version_set_id.VersionSetId.{VersionSetId}
 use Rattle.decisions.specs.Literals.{Values}
@@ -13,7 +12,7 @@ use Rattle.resolvo_queue.specs.declared.queue_decision.QueueDecision.{QueueDecis
 use Rattle.resolvo_queue.specs.declared.requires_clause.RequiresClause.{RequiresClause}
 use Rattle.resolvo_queue.specs.Rows.{Row, frontier}
 use Rattle.resolvo_queue.specs.Scan.{scan, is_open, is_eligible}
-use Rattle.resolvo_queue.specs.Pick.{Offer, offer, eligible, is_of_root, beats, better, pick, decided, IsUnbeaten, PickLaw, NoneExactly, DecidesUnbeaten}
+use Rattle.resolvo_queue.specs.Pick.{Offer, offer, eligible, is_of_root, beats, better, pick, decided, IsUnbeaten, DecidesUnbeaten}
 
 -- ---- `beats` is an order: one way, and in chains
 
@@ -103,15 +102,6 @@ pick_member [] = tt
 pick_member (b ∷ xs) =
     subst (λ o. IfSome o (Contains (b ∷ xs))) (sym (pick-cons b xs)) (to_contains (best_is_member b xs))
 
-pub pick_law : PickLaw
-pick_law = record {
-  of_none = refl;
-  of_more = λ offers e. fold-append better None offers (e ∷ []);
-  none_exactly = pick_none;
-  one_of_them = pick_member;
-  unbeaten = pick_unbeaten;
-}
-
 pub decides_unbeaten : (offers : List Offer) (d : Option QueueDecision) →
     d ≡ option_map decided (pick offers) → DecidesUnbeaten offers d
 decides_unbeaten offers d e =
@@ -187,7 +177,3 @@ module _ (val : Values) (rows_of : Requirement → List Row) (score : VersionSet
       go : (o : Option Offer) → ((o ≡ None) ↔ NoneEligible) → (option_map decided o ≡ None) ↔ NoneEligible
       go None h = (λ n. h.0 refl, λ a. refl)
       go (Some x) h = (λ n. cc, λ a. let bad : Some x ≡ None = h.1 a in cc)
-
-pub none_exactly : (val : Values) (rows_of : Requirement → List Row) (cs : List RequiresClause) →
-    NoneExactly val rows_of cs
-none_exactly val rows_of cs = λ score. none_picked val rows_of score cs

@@ -1,19 +1,20 @@
 -- The state of rows, found in one walk over them.
-use Rattle.std.proofs.Common.{◌≡◌, ℕ, ◌+◌, ◌<◌, ◌≤◌, Bool, true, false, ◌&&◌, ◌||◌, cond, eqb, List, [], ◌∷◌, ◌++◌, map, length, fold, Option, Some, None, sym, ap, refl, ◌∙◌, eq-eqb, add-zero, arith, length-append, subst}
-use Rattle.std.specs.Prelude.{find, option_map, flat_map, ◌^◌}
+use Rattle.std.proofs.Common.{◌≡◌, ℕ, ◌+◌, ◌<◌, ◌≤◌, Bool, true, false, not, ◌&&◌, ◌||◌, cond, eqb, List, [], ◌∷◌, ◌++◌, map, length, take, fold, Option, Some, None, sym, ap, refl, ◌∙◌, eq-eqb, add-zero, arith, length-append, subst}
+use Rattle.std.specs.Prelude.{find, option_map, flat_map, is_none, ◌^◌}
+use Rattle.std.specs.List.{list_all}
 use Rattle.std.specs.Map.{lookup}
 use Rattle.std.specs.declared.vec.Vec.{Vec}
 use Rattle.std.proofs.lemmas.List.{length-map}
-use Rattle.std.proofs.lemmas.List.Folds.{flat_map-map}
+use Rattle.std.proofs.lemmas.List.Folds.{flat_map-map, list_all-append, list_all-map}
 use Rattle.std.proofs.lemmas.List.Sums.{fold-append}
 use Rattle.typed_ids.specs.declared.version_set_id.VersionSetId.{VersionSetId}
 use Rattle.providers.specs.Requirement.{same_requirement}
 use Rattle.providers.specs.declared.requirement.Requirement.{Requirement}
-use Rattle.decisions.specs.Literals.{Values, known_true, undecided}
+use Rattle.decisions.specs.Literals.{Values, known_true, known_false, undecided}
 use Rattle.resolvo_queue.specs.declared.frontier.Frontier.{Frontier}
 use Rattle.resolvo_queue.specs.declared.row_state.RowState.{RowState}
 use Rattle.resolvo_queue.specs.declared.row_state.RowState.TheVariants.{Met, Undecided, AllFalse}
-use Rattle.resolvo_queue.specs.Rows.{Row, list_rows, rows, lists_or_none, lists_loaded, has_true_row, is_undecided_row, frontier_at}
+use Rattle.resolvo_queue.specs.Rows.{Row, list_rows, rows, lists_or_none, lists_loaded, has_true_row, all_false, is_undecided_row, frontier, frontier_at}
 use Rattle.resolvo_queue.specs.RowState.{state_of, unmet_state, counted, with_row, with_rows}
 
 -- without lists there are no rows
@@ -178,6 +179,46 @@ module _ (val : Values) where
       let now : counted next ≤ counted state + length (list_rows set list) = rw n (counted-rows state (list_rows set list)) in
       omega (arith, joined, size, now, h)
 
+  -- ---- rows that are all false
+
+  -- a requirement is falsified, no row true and none undecided, where all its rows are false
+  pub falsified-rows : (rs : List Row) → (not (has_true_row val rs) && is_none (frontier val rs)) ≡ all_false val rs
+  falsified-rows rs =
+      hidden (has_true_row val rs) (find (is_undecided_row val) rs) ∙ each rs
+    where
+      hidden : (b : Bool) (o : Option Row) →
+          (not b && is_none (cond b None (option_map (frontier_at val rs) o))) ≡ (not b && is_none o)
+      hidden true o = refl
+      hidden false None = refl
+      hidden false (Some row) = refl
+
+      each : (rs : List Row) → (not (has_true_row val rs) && is_none (find (is_undecided_row val) rs)) ≡ all_false val rs
+      each [] = refl
+      each (r ∷ rs) = go (val r.variable) (each rs)
+        where
+          go : (w : Option Bool) → (not (has_true_row val rs) && is_none (find (is_undecided_row val) rs)) ≡ all_false val rs →
+              (not (known_true w || has_true_row val rs) && is_none (cond (undecided w) (Some r) (find (is_undecided_row val) rs)))
+              ≡ (known_false w && all_false val rs)
+          go None e = and-false (not (has_true_row val rs))
+          go (Some true) e = refl
+          go (Some false) e = e
+
+  -- the variables of a list are all false
+  abbrev pub false_list : List ℕ → Bool
+  false_list list = list_all (λ v. known_false (val v)) list
+
+  -- of lists as many as there are version sets
+  pub false-rows : {L : Type 0} (items : L → List ℕ) (sets : List VersionSetId) (lists : List L) →
+      list_all (λ l. false_list (items l)) (take (length sets) lists) ≡ all_false val (rows sets (map items lists))
+  false-rows items [] lists = refl
+  false-rows items (s ∷ ss) [] = refl
+  false-rows items (s ∷ ss) (l ∷ ls) =
+      rw (
+        list_all-append (λ row. known_false (val row.variable)) (list_rows s (items l)) (rows ss (map items ls)),
+        list_all-map (λ (row : Row). known_false (val row.variable)) (λ x. record { set = s; variable = x }) (items l),
+        ← false-rows items ss ls,
+      ) refl
+
 -- what was looked up has few rows, as all that is loaded has
 pub few_kept : {A : Type 0} (lists : List (Vec ℕ A)) (found : Vec (Vec ℕ A) A) (loaded : List (Requirement × Vec (Vec ℕ A) A)) (r : Requirement) →
     lists ≡ found.items → Some found ≡ lookup (same_requirement r) loaded →
@@ -194,3 +235,8 @@ pub none_kept : {A : Type 0} (val : Values) (sets : List VersionSetId) (loaded :
     None ≡ lookup (same_requirement r) loaded → AllFalse ≡ state_of val (rows sets (lists_loaded loaded r))
 none_kept val sets loaded r e =
     ap (state_of val) (sym (no_rows sets)) ∙ ap (λ o. state_of val (rows sets (lists_or_none o))) e
+
+pub none_false : {A : Type 0} (val : Values) (sets : List VersionSetId) (loaded : List (Requirement × Vec (Vec ℕ A) A)) (r : Requirement) →
+    None ≡ lookup (same_requirement r) loaded → true ≡ all_false val (rows sets (lists_loaded loaded r))
+none_false val sets loaded r e =
+    ap (all_false val) (sym (no_rows sets)) ∙ ap (λ o. all_false val (rows sets (lists_or_none o))) e

@@ -1,4 +1,3 @@
-pub mod Answer
 pub mod Index
 pub mod Pick
 pub mod RowState

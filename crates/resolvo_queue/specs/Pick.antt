@@ -1,5 +1,5 @@
 -- What eligible clauses offer, and which offer is picked.
-use Rattle.std.specs.Prelude.{◌≡◌, ℕ, Bool, false, not, ◌==◌, ◌&&◌, ◌||◌, nat_lt, if◌then◌else◌, List, [], ◌∷◌, ◌++◌, filter_map, fold, Option, None, Some, option_map, All, Contains, IfSome, MatchOption, ◌↔◌}
+use Rattle.std.specs.Prelude.{◌≡◌, ℕ, Bool, false, not, ◌==◌, ◌&&◌, ◌||◌, nat_lt, if◌then◌else◌, List, [], filter_map, fold, Option, None, Some, option_map, All, Contains, MatchOption}
 use Rattle.typed_ids.specs.declared.version_set_id.VersionSetId.{VersionSetId}
 use Rattle.providers.specs.declared.requirement.Requirement.{Requirement}
 use Rattle.decisions.specs.Literals.{Values}
@@ -7,7 +7,7 @@ use Rattle.resolvo_queue.specs.declared.frontier.Frontier.{Frontier}
 use Rattle.resolvo_queue.specs.declared.requires_clause.RequiresClause.{RequiresClause}
 use Rattle.resolvo_queue.specs.declared.queue_decision.QueueDecision.{QueueDecision}
 use Rattle.resolvo_queue.specs.Rows.{Row, frontier}
-use Rattle.resolvo_queue.specs.Scan.{scan, is_open, is_eligible}
+use Rattle.resolvo_queue.specs.Scan.{scan, is_open}
 
 -- an eligible clause, with its frontier and its score
 pub record Offer : Type 0 where
@@ -63,20 +63,6 @@ decided o = record {
 -- no offer beats this one
 abbrev pub IsUnbeaten : List Offer → Offer → Type 0
 IsUnbeaten offers best = All (λ e. beats e best ≡ false) offers
-
--- of any offers: by two equations, none only of none, one of them, and unbeaten
-pub record PickLaw : Type 0 where
-  pub of_none : pick [] ≡ None
-  pub of_more : (offers : List Offer) (e : Offer) → pick (offers ++ e ∷ []) ≡ better (pick offers) e
-  pub none_exactly : (offers : List Offer) → (pick offers ≡ None) ↔ (offers ≡ [])
-  pub one_of_them : (offers : List Offer) → IfSome (pick offers) (Contains offers)
-  pub unbeaten : (offers : List Offer) → IfSome (pick offers) (IsUnbeaten offers)
-
--- there is no pick exactly when no clause of the scan is eligible, whatever the scores
-abbrev pub NoneExactly : Values → (Requirement → List Row) → List RequiresClause → Type 0
-NoneExactly val rows_of cs =
-    (score : VersionSetId → ℕ) →
-    (pick (eligible val rows_of score cs) ≡ None) ↔ All (λ c. is_eligible val rows_of c ≡ false) (scan cs)
 
 -- the decision is that of an offer that no offer beats; no decision stands for no offers
 abbrev pub DecidesUnbeaten : List Offer → Option QueueDecision → Type 0

@@ -1,13 +1,13 @@
 -- The rows of a requirement, and its frontier under the values of the variables.
 use Rattle.std.specs.Prelude.{ℕ, ◌<◌, ◌^◌, Bool, ◌==◌, ◌&&◌, if◌then◌else◌, List, [], map, find, count_by, flat_map, length, zip, Option, None, Some, option_map}
-use Rattle.std.specs.List.{list_any}
+use Rattle.std.specs.List.{list_all, list_any}
 use Rattle.std.specs.Map.{lookup}
 use Rattle.std.specs.declared.vec.Vec.{Vec}
 use Rattle.typed_ids.specs.declared.version_set_id.VersionSetId.{VersionSetId}
 use Rattle.providers.specs.Provider.{Universe, sets_of}
 use Rattle.providers.specs.Requirement.{same_requirement}
 use Rattle.providers.specs.declared.requirement.Requirement.{Requirement}
-use Rattle.decisions.specs.Literals.{Values, known_true, undecided}
+use Rattle.decisions.specs.Literals.{Values, known_true, known_false, undecided}
 use Rattle.resolvo_queue.specs.declared.frontier.Frontier.{Frontier}
 
 -- a row: the variable of a candidate, and the version set in whose list it stands
@@ -44,6 +44,10 @@ module _ (val : Values) where
   -- a row is true: the requirement is met
   abbrev pub has_true_row : List Row → Bool
   has_true_row rs = list_any (λ row. known_true (val row.variable)) rs
+
+  -- all rows are false: the requirement can't be met any more
+  abbrev pub all_false : List Row → Bool
+  all_false rs = list_all (λ row. known_false (val row.variable)) rs
 
   -- its variable is undecided
   abbrev pub is_undecided_row : Row → Bool

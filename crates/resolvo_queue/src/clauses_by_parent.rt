@@ -53,10 +53,8 @@ impl<A: Allocator + Copy> ClausesByParent<A> {
     {
         let index = clause.parent.to_index();
         reach(&mut self.lists, index)?;
-        match self.lists[index].push(*clause) {
-            Ok(()) => Ok(()),
-            Err(_) => Err(StoreError::OutOfMemory),
-        }
+        self.lists[index].push(*clause)?;
+        Ok(())
     }
 }
 
@@ -71,10 +69,7 @@ fn reach<A: Allocator + Copy>(
 {
     let alloc = *lists.allocator();
     while lists.len() <= index {
-        match lists.push(Vec::new(alloc)) {
-            Ok(()) => {}
-            Err(_) => return Err(StoreError::OutOfMemory),
-        }
+        lists.push(Vec::new(alloc))?;
     }
     Ok(())
 }

@@ -1,19 +1,33 @@
-//! The queue, and the one pass over it that answers.
-ghost use Rattle.std.specs.Prelude.{◌≡◌, ℕ, ◌-◌, ◌+◌, ◌<◌, ◌≤◌, ◌^◌, ◌↔◌, ◌≢◌, [], ◌∷◌, ◌++◌, length, All, IsTrue, true, false, option_map, OnOk, OnErr, IfErr, vec_len, vec_capacity};
+//! The queue of requires clauses: what is falsified, and what to decide next.
+//!
+//! A requires clause says that where its parent is true, one of the candidates of its requirement is true as well. A search
+//! asks after each step whether some clause can't be met any more, and if none is, which candidate to try next. Both
+//! questions go through the clauses in one order, the scan's: parent by parent as the parents were first registered, and
+//! each parent's clauses as these were.
+//!
+//! A clause is open while its parent is true and none of its candidates is. The candidates of a requirement are its rows:
+//! those of its version sets, list after list. An open clause has a frontier, the first row that is undecided, and then it
+//! is eligible; or all its rows are false, and then it is falsified. So a clause whose parent is false or undecided is
+//! neither, whatever its rows are.
+//!
+//! Beside the list of clauses the queue keeps what that order wants: the parents, each once, and each parent's own clauses.
+//! So a question reads one value for each parent, and no clause of a parent that isn't true. Of an open clause
+//! [`DecideQueue::falsified`] reads the rows up to the first that isn't false, and [`DecideQueue::next_decision`] reads
+//! those of one eligible clause, the first. Neither takes memory.
+ghost use Rattle.std.specs.Prelude.{◌≡◌, ℕ, ◌-◌, ◌<◌, ◌≤◌, ◌^◌, ◌↔◌, ◌≢◌, [], ◌∷◌, ◌++◌, length, find, filter_map, if◌then◌else◌, All, IsTrue, true, false, option_map, OnOk, OnErr, IfErr};
 ghost use Rattle.typed_ids.specs.declared.error.StoreError.TheVariants.{OutOfMemory, TooManyClauses};
 ghost use Rattle.decisions.specs.Decisions.{values_in};
-ghost use Rattle.resolvo_queue.specs.Answer.{answer, answer_of};
-ghost use Rattle.resolvo_queue.specs.Pick.{eligible, pick, decided, no_score, PickLaw, NoneExactly, DecidesUnbeaten};
+ghost use Rattle.decisions.specs.Literals.{known_true};
+ghost use Rattle.resolvo_queue.specs.Pick.{offer, eligible, pick, decided, no_score, DecidesUnbeaten};
 ghost use Rattle.providers.specs.Provider.{knows_requirement};
 ghost use Rattle.resolvo_queue.specs.Rows.{loaded_rows, AreFew};
-ghost use Rattle.resolvo_queue.specs.Scan.{first_falsified, is_eligible, scan};
+ghost use Rattle.resolvo_queue.specs.Scan.{clauses_of, first_falsified, is_eligible, is_falsified, scan};
 
-use crate::answer::Answer;
 use crate::clauses_by_parent::ClausesByParent;
 use crate::frontier::Frontier;
 use crate::queue_decision::QueueDecision;
 use crate::requires_clause::RequiresClause;
-use crate::row_state::{RowState, requirement_state};
+use crate::row_state::{RowState, are_all_false, requirement_state};
 use decisions::DecisionMap;
 use providers::{Interner, Requirement, RequirementMap};
 use std::alloc::Allocator;
@@ -24,12 +38,10 @@ use typed_ids::{ClauseId, StoreError, VariableId};
 const MAX_CLAUSES: usize = u32::MAX as usize;
 
 /// The requires clauses of a store. A contract sees them in the order of registration.
-///
-/// Beside that list the queue keeps the parents in the order of their first registrations, and each parent's clauses.
-/// So an answer reads one number for each parent that isn't true, and the rows of the clauses of the true ones.
 #[derive(Drop)]
 pub struct DecideQueue<A: Allocator + Copy> {
     clauses: Vec<RequiresClause, A>,
+    /// The clauses' parents, each once, in the order of their first registrations.
     parents: Vec<VariableId, A>,
     by_parent: ClausesByParent<A>,
 }
@@ -104,40 +116,18 @@ impl<A: Allocator + Copy> DecideQueue<A> {
             clause_id,
         };
         let is_new = self.by_parent.at(parent).is_empty();
-        reserve_one(&mut self.clauses)?;
-        reserve_one(&mut self.parents)?;
+        self.clauses.reserve(1)?;
+        self.parents.reserve(1)?;
         self.by_parent.push(&clause)?;
         if is_new {
-            push_reserved(&mut self.parents, parent);
+            self.parents.push_reserved(parent);
         }
-        push_reserved(&mut self.clauses, clause);
+        self.clauses.push_reserved(clause);
         Ok(())
     }
 
-    /// The first falsified clause if there is one, else the decision to take, else neither. One pass, which ends at
-    /// the first falsified clause and takes no memory.
-    pub fn decide<I: Interner>(
-        &self,
-        map: &DecisionMap<A>,
-        lists: &RequirementMap<Vec<Vec<VariableId, A>, A>, A>,
-        interner: &I,
-    ) -> Answer
-        requires known { All (λ c. knows_requirement (I.universe interner.now) c.requirement ≡ true) self.now }
-        requires few { AreFew lists.now }
-        ensures { let val = values_in map.now in let rows_of = loaded_rows (I.universe interner.now) lists.now in result ≡ answer (first_falsified val rows_of self.now) (pick (eligible val rows_of no_score self.now)) }
-    {
-        let mut answer = Answer::NoDecision;
-        for parent in &self.parents {
-            let own = parent_answer(map, lists, *parent, self.by_parent.at(*parent), interner);
-            answer = answer.or_later(own);
-            if let Answer::Falsified(_) = answer {
-                return answer;
-            }
-        }
-        answer
-    }
-
-    /// The first falsified clause of the scan. The cost is that of [`DecideQueue::decide`].
+    /// The first falsified clause of the scan, if there is one. Takes no memory; linear in the parents, and in the rows of
+    /// the clauses of true parents up to the first row of each that isn't false.
     pub fn falsified<I: Interner>(
         &self,
         map: &DecisionMap<A>,
@@ -145,17 +135,23 @@ impl<A: Allocator + Copy> DecideQueue<A> {
         interner: &I,
     ) -> Option<ClauseId>
         requires known { All (λ c. knows_requirement (I.universe interner.now) c.requirement ≡ true) self.now }
-        requires few { AreFew lists.now }
         ensures { result ≡ option_map (λ c. c.clause_id) (first_falsified (values_in map.now) (loaded_rows (I.universe interner.now) lists.now) self.now) }
     {
-        match self.decide(map, lists, interner) {
-            Answer::Falsified(clause_id) => Some(clause_id),
-            Answer::Decided(_) => None,
-            Answer::NoDecision => None,
+        for parent in &self.parents {
+            let clauses = self.clauses_if_true(map, *parent);
+            if let Some(clause) = falsified_of(map, lists, clauses, interner) {
+                return Some(clause);
+            }
         }
+        None
     }
 
-    /// The decision to take where no clause is falsified, which [`DecideQueue::falsified`] tells.
+    /// The decision to take where no clause is falsified, which [`DecideQueue::falsified`] tells: that of an eligible
+    /// clause which no other one beats. Takes no memory; linear in the parents, and in the rows of the clauses of true
+    /// parents up to the first eligible one.
+    ///
+    /// An offer beats another by a higher score, and no package has a score yet. So nothing beats the first eligible clause,
+    /// and the pass ends there.
     pub fn next_decision<I: Interner>(
         &self,
         map: &DecisionMap<A>,
@@ -168,85 +164,65 @@ impl<A: Allocator + Copy> DecideQueue<A> {
         ensures picked { let val = values_in map.now in let rows_of = loaded_rows (I.universe interner.now) lists.now in result ≡ option_map decided (pick (eligible val rows_of no_score self.now)) }
         ensures none { let val = values_in map.now in let rows_of = loaded_rows (I.universe interner.now) lists.now in (result ≡ None) ↔ All (λ c. is_eligible val rows_of c ≡ false) (scan self.now) }
         ensures unbeaten { let val = values_in map.now in let rows_of = loaded_rows (I.universe interner.now) lists.now in DecidesUnbeaten (eligible val rows_of no_score self.now) result }
-
-        // The same whatever the scores and the offers.
-        ensures none_exactly { NoneExactly (values_in map.now) (loaded_rows (I.universe interner.now) lists.now) self.now }
-        ensures pick_law { PickLaw }
     {
-        match self.decide(map, lists, interner) {
-            Answer::Falsified(_) => unreachable!(),
-            Answer::Decided(decision) => Some(decision),
-            Answer::NoDecision => None,
+        for parent in &self.parents {
+            let clauses = self.clauses_if_true(map, *parent);
+            if let Some(decision) = decision_of(map, lists, clauses, interner) {
+                return Some(decision);
+            }
+        }
+        None
+    }
+
+    /// The clauses of a parent if it is true; otherwise none of them is open.
+    fn clauses_if_true(&self, map: &DecisionMap<A>, parent: VariableId) -> &[RequiresClause]
+        ensures { result.now ≡ (if known_true (values_in map.now parent) then clauses_of self.now parent else []) }
+    {
+        match map.value(parent) {
+            Some(true) => self.by_parent.at(parent),
+            _ => &[],
         }
     }
 }
 
-/// Takes room for one more item.
-fn reserve_one<T, A: Allocator>(items: &mut Vec<T, A>) -> Result<(), StoreError>
-    ensures same { items.new.items ≡ items.old.items }
-    ensures room { OnOk result (vec_len items.new + 1 ≤ vec_capacity items.new) }
-    ensures memory { IfErr result (λ e. e ≡ OutOfMemory) }
-{
-    match items.reserve(1) {
-        Ok(()) => Ok(()),
-        Err(_) => Err(StoreError::OutOfMemory),
-    }
-}
-
-/// Puts an item for which there is room at the end.
-fn push_reserved<T: Drop, A: Allocator>(items: &mut Vec<T, A>, item: T)
-    requires { vec_len items.old + 1 ≤ vec_capacity items.old }
-    ensures { items.new.items ≡ items.old.items ++ item ∷ [] }
-{
-    match items.push(item) {
-        Ok(()) => {}
-        Err(_) => unreachable!(),
-    }
-}
-
-/// What a parent's clauses answer, in their order. Those of a parent that isn't true are not looked at.
-fn parent_answer<I: Interner, A: Allocator + Copy>(
+/// The first falsified one of clauses whose parents are true.
+fn falsified_of<I: Interner, A: Allocator + Copy>(
     map: &DecisionMap<A>,
     lists: &RequirementMap<Vec<Vec<VariableId, A>, A>, A>,
-    parent: VariableId,
     clauses: &[RequiresClause],
     interner: &I,
-) -> Answer
-    requires own { All (λ c. c.parent ≡ parent) clauses.now }
+) -> Option<ClauseId>
     requires known { All (λ c. knows_requirement (I.universe interner.now) c.requirement ≡ true) clauses.now }
-    requires few { AreFew lists.now }
-    ensures { result ≡ answer_of (values_in map.now) (loaded_rows (I.universe interner.now) lists.now) clauses.now }
+    requires parents { All (λ c. known_true (values_in map.now c.parent) ≡ true) clauses.now }
+    ensures { result ≡ option_map (λ c. c.clause_id) (find (is_falsified (values_in map.now) (loaded_rows (I.universe interner.now) lists.now)) clauses.now) }
 {
-    if map.value(parent) != Some(true) {
-        return Answer::NoDecision;
-    }
-    let mut own = Answer::NoDecision;
     for clause in clauses {
-        own = own.or_later(open_answer(map, lists, clause, interner));
-        if let Answer::Falsified(_) = own {
-            return own;
+        if are_all_false(map, lists, clause.requirement, interner) {
+            return Some(clause.clause_id);
         }
     }
-    own
+    None
 }
 
-/// What a clause whose parent is true answers.
-fn open_answer<I: Interner, A: Allocator + Copy>(
+/// The decision of the first eligible one of clauses whose parents are true.
+fn decision_of<I: Interner, A: Allocator + Copy>(
     map: &DecisionMap<A>,
     lists: &RequirementMap<Vec<Vec<VariableId, A>, A>, A>,
-    clause: &RequiresClause,
+    clauses: &[RequiresClause],
     interner: &I,
-) -> Answer
-    requires known { knows_requirement (I.universe interner.now) clause.now.requirement ≡ true }
+) -> Option<QueueDecision>
+    requires known { All (λ c. knows_requirement (I.universe interner.now) c.requirement ≡ true) clauses.now }
     requires few { AreFew lists.now }
-    requires parent { values_in map.now clause.now.parent ≡ Some true }
-    ensures { result ≡ answer_of (values_in map.now) (loaded_rows (I.universe interner.now) lists.now) (clause.now ∷ []) }
+    requires parents { All (λ c. known_true (values_in map.now c.parent) ≡ true) clauses.now }
+    ensures { result ≡ option_map decided (pick (filter_map (offer (values_in map.now) (loaded_rows (I.universe interner.now) lists.now) no_score) clauses.now)) }
 {
-    match requirement_state(map, lists, clause.requirement, interner) {
-        RowState::Met => Answer::NoDecision,
-        RowState::AllFalse => Answer::Falsified(clause.clause_id),
-        RowState::Undecided(frontier) => Answer::Decided(decision(clause, frontier)),
+    for clause in clauses {
+        let state = requirement_state(map, lists, clause.requirement, interner);
+        if let RowState::Undecided(frontier) = state {
+            return Some(decision(clause, frontier));
+        }
     }
+    None
 }
 
 /// The decision at a clause's frontier. No package has a score yet.

@@ -5,7 +5,6 @@
 //! either a clause that nothing can meet any more, or the candidate to try next.
 #![tactic(auto)]
 
-mod answer;
 mod clauses_by_parent;
 mod decide_queue;
 mod frontier;
@@ -13,7 +12,6 @@ mod queue_decision;
 mod requires_clause;
 mod row_state;
 
-pub use answer::Answer;
 pub use decide_queue::DecideQueue;
 pub use frontier::Frontier;
 pub use queue_decision::QueueDecision;

@@ -2,9 +2,11 @@
 //!
 //! A row is a candidate of a requirement: a variable, in the list of one of the requirement's version sets.
 ghost use Rattle.std.specs.Prelude.{◌≡◌, ◌+◌, ◌<◌, ◌≤◌, ◌^◌, true, map, flat_map, length};
+ghost use Rattle.std.specs.List.{list_all};
 ghost use Rattle.decisions.specs.Decisions.{values_in};
+ghost use Rattle.decisions.specs.Literals.{known_false};
 ghost use Rattle.providers.specs.Provider.{knows_requirement};
-ghost use Rattle.resolvo_queue.specs.Rows.{list_rows, rows, loaded_rows, AreFew};
+ghost use Rattle.resolvo_queue.specs.Rows.{list_rows, rows, loaded_rows, all_false, AreFew};
 ghost use Rattle.resolvo_queue.specs.RowState.{state_of, counted, with_row, with_rows};
 
 use crate::frontier::Frontier;
@@ -108,4 +110,43 @@ pub(crate) fn requirement_state<I: Interner, A: Allocator + Copy>(
         Some(lists) => rows_state(decisions, sets.as_slice(), lists),
         None => RowState::AllFalse,
     }
+}
+
+/// Whether all rows of a requirement are false, by the lists that are loaded. Reads the rows up to the first that isn't.
+pub(crate) fn are_all_false<I: Interner, A: Allocator + Copy>(
+    decisions: &DecisionMap<A>,
+    lists: &RequirementMap<Vec<Vec<VariableId, A>, A>, A>,
+    requirement: Requirement,
+    interner: &I,
+) -> bool
+    requires { knows_requirement (I.universe interner.now) requirement ≡ true }
+    ensures { result ≡ all_false (values_in decisions.now) (loaded_rows (I.universe interner.now) lists.now requirement) }
+{
+    let sets = requirement.version_sets(interner);
+    match lists.get(requirement) {
+        Some(lists) => are_rows_false(decisions, sets.as_slice(), lists),
+        None => true,
+    }
+}
+
+/// Whether the rows of version sets with their lists are all false.
+fn are_rows_false<A: Allocator + Copy>(
+    decisions: &DecisionMap<A>,
+    sets: &[VersionSetId],
+    lists: &[Vec<VariableId, A>],
+) -> bool
+    ensures { result ≡ all_false (values_in decisions.now) (rows sets.now (map (λ l. l.items) lists.now)) }
+{
+    lists
+        .iter()
+        .take(sets.len())
+        .all(|list| is_list_false(decisions, list))
+}
+
+/// Whether all variables of a list are false.
+fn is_list_false<A: Allocator + Copy>(decisions: &DecisionMap<A>, list: &[VariableId]) -> bool
+    ensures { result ≡ list_all (λ v. known_false (values_in decisions.now v)) list.now }
+{
+    list.iter()
+        .all(|variable| decisions.value(*variable) == Some(false))
 }

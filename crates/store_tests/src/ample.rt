@@ -8,11 +8,11 @@ use crate::stores::{Way, dense_gives, sparse_gives};
 use decisions::{AddFault, Decision, DecisionMap, DecisionTracker};
 use id_maps::{DefaultValue, IdMap, Slot, SolverId};
 use providers::{Interner, Requirement, RequirementMap};
-use resolvo_queue::{Answer, DecideQueue};
+use resolvo_queue::DecideQueue;
 use std::alloc::{Allocator, Global};
 use std::test::Fail;
 use test_checks::is_same;
-use typed_ids::{DenseIndex, NameId, SolvableId, StoreError, VariableId, VersionSetId};
+use typed_ids::{ClauseId, DenseIndex, NameId, SolvableId, StoreError, VariableId, VersionSetId};
 use variables::{VariableMap, VariableOrigin};
 
 #[test]
@@ -175,31 +175,31 @@ type Taken = (Result<bool, AddFault>, Result<bool, AddFault>);
 #[test]
 fn the_queue_takes_clauses(rt: HostRuntime) -> Result<(), Fail> {
     let provider = lists_of(rt.alloc(), Example::OnePackage)?;
-    let answer = new_queue_answer(rt.alloc(), provider);
-    is_same(answer, Ok(Some((1, Answer::Falsified(clause(0))))))
+    let seen = new_queue_seen(rt.alloc(), provider);
+    is_same(seen, Ok(Some((1, Some(clause(0))))))
 }
 
-/// How many clauses a new queue has, and what it answers, once it has one whose parent is true. None if the interner
-/// knows no version set.
-fn new_queue_answer<I: Interner + Drop, A: Allocator + Copy>(
+/// How many clauses a new queue has, and which one is falsified, once it has one whose parent is true and whose requirement
+/// isn't loaded. None if the interner knows no version set.
+fn new_queue_seen<I: Interner + Drop, A: Allocator + Copy>(
     heap: A,
     interner: I,
-) -> Result<Option<(usize, Answer)>, StoreError> {
+) -> Result<Option<(usize, Option<ClauseId>)>, StoreError> {
     let mut queue: DecideQueue<A> = DecideQueue::new(heap);
     let mut values: DecisionMap<A> = DecisionMap::new(heap);
-    let answer = queue_answer(heap, &mut queue, &mut values, &interner);
+    let seen = queue_seen(heap, &mut queue, &mut values, &interner);
     drop(queue);
     drop(values);
     drop(interner);
-    answer
+    seen
 }
 
-fn queue_answer<I: Interner, A: Allocator + Copy>(
+fn queue_seen<I: Interner, A: Allocator + Copy>(
     heap: A,
     queue: &mut DecideQueue<A>,
     values: &mut DecisionMap<A>,
     interner: &I,
-) -> Result<Option<(usize, Answer)>, StoreError>
+) -> Result<Option<(usize, Option<ClauseId>)>, StoreError>
     requires { queue.old ≡ [] }
 {
     let set = VersionSetId(0);
@@ -209,9 +209,9 @@ fn queue_answer<I: Interner, A: Allocator + Copy>(
     queue.register_clause(variable(1), Requirement::Single(set), clause(0))?;
     values.set(variable(1), true, 1)?;
     let lists = RequirementMap::new(heap);
-    let answer = queue.decide(values, &lists, interner);
+    let falsified = queue.falsified(values, &lists, interner);
     drop(lists);
-    Ok(Some((queue.len(), answer)))
+    Ok(Some((queue.len(), falsified)))
 }
 
 #[test]

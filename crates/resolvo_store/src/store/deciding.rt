@@ -1,6 +1,5 @@
 //! The decision: the command `Decide`, and its two halves as calls of their own.
 ghost use Rattle.std.specs.Prelude.{◌≡◌, ◌↔◌, None, All, false, option_map};
-ghost use Rattle.resolvo_queue.specs.Answer.{answer};
 ghost use Rattle.resolvo_queue.specs.Pick.{decided, DecidesUnbeaten};
 ghost use Rattle.resolvo_queue.specs.Scan.{scan};
 
@@ -8,7 +7,7 @@ use crate::abstract_store::AbstractStore;
 use crate::reply::Reply;
 use crate::store::ClauseStore;
 use providers::DependencyProvider;
-use resolvo_queue::{Answer, QueueDecision};
+use resolvo_queue::QueueDecision;
 use typed_ids::ClauseId;
 
 impl<D: DependencyProvider + Drop> ClauseStore<D> {
@@ -16,21 +15,23 @@ impl<D: DependencyProvider + Drop> ClauseStore<D> {
     ghost use Rattle.resolvo_store.specs.Outcome.{falsified_clause, is_eligible_clause, offers, picked};
     ghost use Rattle.resolvo_store.specs.Step.{Step};
 
-    /// The decision, or the first falsified clause.
-    pub(super) fn decide(&mut self) -> Reply<D::Alloc>
-        ensures step { Step (⟦<D as AbstractStore>⟧.store self.old) Decide
-            (reply_of result) (⟦<D as AbstractStore>⟧.store self.new) }
-        ensures provider { self.new.provider ≡ self.old.provider }
+    /// The first falsified clause, else the decision, else that there is none.
+    pub(super) fn decide(&self) -> Reply<D::Alloc>
+        ensures { Step (⟦<D as AbstractStore>⟧.store self.now) Decide
+            (reply_of result) (⟦<D as AbstractStore>⟧.store self.now) }
     {
-        match self.answer() {
-            Answer::Falsified(clause) => Reply::Falsified(clause),
-            Answer::Decided(decision) => Reply::Decided(decision),
-            Answer::NoDecision => Reply::NoDecision,
+        if let Some(clause) = self.falsified() {
+            return Reply::Falsified(clause);
+        }
+        match self.next_decision() {
+            Some(decision) => Reply::Decided(decision),
+            None => Reply::NoDecision,
         }
     }
 
     /// The first falsified clause of the scan, if there is one: its parent is true, and all its candidates are false.
-    /// Takes no memory; linear in the rows of the clauses whose parent is true.
+    /// Takes no memory; linear in the parents, and in the rows of the clauses of true parents up to the first row of each
+    /// that isn't false.
     pub fn falsified(&self) -> Option<ClauseId>
         ensures { result ≡ option_map (λ c. c.clause_id) (falsified_clause (⟦<D as AbstractStore>⟧.store self.now)) }
     {
@@ -39,7 +40,7 @@ impl<D: DependencyProvider + Drop> ClauseStore<D> {
     }
 
     /// The decision that the scan picks, where nothing is falsified: [`ClauseStore::falsified`] is the test. Takes no
-    /// memory; linear in the rows of the clauses whose parent is true.
+    /// memory; linear in the parents, and in the rows of the clauses of true parents up to the first eligible one.
     pub fn next_decision(&self) -> Option<QueueDecision>
         requires { falsified_clause (⟦<D as AbstractStore>⟧.store self.now) ≡ None }
         ensures picked { result ≡ option_map decided (picked (⟦<D as AbstractStore>⟧.store self.now)) }
@@ -51,14 +52,5 @@ impl<D: DependencyProvider + Drop> ClauseStore<D> {
     {
         self.queue
             .next_decision(self.trail.map(), &self.loaded, &self.provider)
-    }
-
-    /// One pass over the clauses whose parent is true.
-    fn answer(&self) -> Answer
-        ensures { result ≡ answer (falsified_clause (⟦<D as AbstractStore>⟧.store self.now))
-            (picked (⟦<D as AbstractStore>⟧.store self.now)) }
-    {
-        self.queue
-            .decide(self.trail.map(), &self.loaded, &self.provider)
     }
 }

@@ -5,5 +5,5 @@ use Rattle.resolvo_queue.proofs.clauses_by_parent.reach.Goals as goal
 pub loop-alloc-preserved : goal.loop-alloc-preserved
 loop-alloc-preserved g c =
     λ key. same_with_empty (λ list. list.items) c.loop-alloc.lists.items c.push.new.self.items c.new.result
-    c.in-Ok.ensures.items c.new.ensures.items key
+    c.in_ok-push.ensures.items c.new.ensures.items key
     ∙ c.loop-alloc.invariant key

@@ -21,16 +21,16 @@ invariant_of-self-2 g c =
       | then-is_new w ↦
           index_more c.self.inside.clauses.items _ c.self.inside.parents.items _ c.self.inside.by_parent _
           c.push.new.self clause true c.self.invariant room (sym w.if-is_new.true ∙ is_empty) c.in_ok-push.ensures.ok
-          (c.push_reserved-2.ensures ∙ (ap (λ s. s.clauses.items ++ clause ∷ []) w.self-inside-is
-          ∙ ap (λ l. l ++ clause ∷ []) c.reserve_one.ensures.same))
-          (ap (λ s. s.parents.items) w.self-inside-is ∙ (w.push_reserved.ensures
-          ∙ ap (λ l. l ++ c.args.parent ∷ []) c.reserve_one-2.ensures.same))
+          (c.push_reserved-2.ensures.items ∙ (ap (λ s. s.clauses.items ++ clause ∷ []) w.self-inside-is
+          ∙ ap (λ l. l ++ clause ∷ []) c.reserve.ensures.items))
+          (ap (λ s. s.parents.items) w.self-inside-is ∙ (w.push_reserved.ensures.items
+          ∙ ap (λ l. l ++ c.args.parent ∷ []) c.reserve-2.ensures.items))
           (ap (λ s. s.by_parent) w.self-inside-is)
       | else-is_new w ↦
           index_more c.self.inside.clauses.items _ c.self.inside.parents.items _ c.self.inside.by_parent _
           c.push.new.self clause false c.self.invariant room (sym w.if-is_new.false ∙ is_empty) c.in_ok-push.ensures.ok
-          (c.push_reserved-2.ensures ∙ (ap (λ s. s.clauses.items ++ clause ∷ []) w.self-inside-is
-          ∙ ap (λ l. l ++ clause ∷ []) c.reserve_one.ensures.same))
-          (ap (λ s. s.parents.items) w.self-inside-is ∙ c.reserve_one-2.ensures.same)
+          (c.push_reserved-2.ensures.items ∙ (ap (λ s. s.clauses.items ++ clause ∷ []) w.self-inside-is
+          ∙ ap (λ l. l ++ clause ∷ []) c.reserve.ensures.items))
+          (ap (λ s. s.parents.items) w.self-inside-is ∙ c.reserve-2.ensures.items)
           (ap (λ s. s.by_parent) w.self-inside-is)
     ]

@@ -24,4 +24,4 @@ pub returns-in-UndoUntil-clause-refused : goal.returns-in-UndoUntil-clause-refus
 returns-in-UndoUntil-clause-refused g c = refused_same (store g c.args.self.now) (store g c.undo_until.new.self) (UndoUntil c.in-UndoUntil.level) (reply_of c.undo_until.result) c.undo_until.ensures.step
 
 pub returns-in-Decide-clause-refused : goal.returns-in-Decide-clause-refused
-returns-in-Decide-clause-refused g c = refused_same (store g c.args.self.now) (store g c.decide.new.self) (Decide) (reply_of c.decide.result) c.decide.ensures.step
+returns-in-Decide-clause-refused g c = refused_same (store g c.args.self.now) (store g c.args.self.now) (Decide) (reply_of c.decide.result) c.decide.ensures

@@ -1,0 +1,9 @@
+use Rattle.providers.specs.Provider.{sets_of}
+use Rattle.decisions.specs.Decisions.{values_in}
+use Rattle.resolvo_queue.proofs.RowLaws.{none_false}
+use Rattle.resolvo_queue.proofs.row_state.are_all_false.Goals as goal
+
+pub returns-in-None : goal.returns-in-None
+returns-in-None g c =
+    none_false (values_in c.args.decisions.now) (sets_of (g.I.Interner.universe c.args.interner.now) c.args.requirement)
+    c.args.lists.now c.args.requirement c.in-None.ensures
