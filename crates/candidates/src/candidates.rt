@@ -5,10 +5,7 @@ ghost use Rattle.typed_ids.specs.declared.error.StoreError.TheVariants.{OutOfMem
 ghost use Rattle.providers.specs.Provider.{matching, sorted, sets_of, knows_requirement};
 
 use providers::{DependencyProvider, Interner, Requirement};
-use typed_ids::{StoreError, VersionSetId};
-
-/// A requirement has fewer rows than this.
-const ROWS_LIMIT: usize = 1 << 40;
+use typed_ids::{DENSE_LIMIT, StoreError, VersionSetId};
 
 /// Lists of solvables, one a version set.
 pub type CandidateLists<S, A> = Vec<Vec<S, A>, A>;
@@ -72,13 +69,13 @@ fn sorted_candidates<D: DependencyProvider>(
     in_order(provider, alloc, found)
 }
 
-/// How many rows there are with those of one list more.
+/// How many rows there are with those of one list more. A requirement has fewer than [`DENSE_LIMIT`].
 fn more_rows(rows: usize, list: usize) -> Result<usize, StoreError>
     requires { rows < 2 ^ 40 }
     ensures ok { IfOk result (λ more. (more ≡ rows + list) × (more < 2 ^ 40)) }
     ensures err { IfErr result (λ e. (e ≡ IdSpace) × (2 ^ 40 ≤ rows + list)) }
 {
-    if list >= ROWS_LIMIT - rows {
+    if list >= DENSE_LIMIT - rows {
         return Err(StoreError::IdSpace);
     }
     Ok(rows + list)
@@ -100,10 +97,7 @@ fn sorted_lists<D: DependencyProvider>(
     for set in sets {
         let list = sorted_candidates(provider, alloc, *set)?;
         rows = more_rows(rows, list.len())?;
-        match lists.push(list) {
-            Ok(()) => {}
-            Err(_) => return Err(StoreError::OutOfMemory),
-        }
+        lists.push(list)?;
     }
     Ok(lists)
 }
