@@ -1,7 +1,8 @@
 -- The rows of loaded requirements, by what is kept of them.
 use Rattle.std.proofs.Common.{◌≡◌, ℕ, ◌+◌, length-append, Bool, arith, true, false, cond, List, [], ◌∷◌, ◌++◌, map, Option, Some, None, refl, ◌∙◌, sym, ap}
-use Rattle.std.specs.Prelude.{◌<◌, ◌^◌, length, flat_map, option_map, unwrap_or}
+use Rattle.std.specs.Prelude.{◌<◌, ◌^◌, vec_len, length, flat_map, option_map, unwrap_or}
 use Rattle.std.specs.Borrow.{Bor}
+use Rattle.std.specs.List.{AllZip, each_same}
 use Rattle.std.specs.Map.{lookup}
 use Rattle.std.specs.Option.{option_copied}
 use Rattle.std.specs.declared.vec.Vec.{Vec}
@@ -44,6 +45,15 @@ module _ {A : Type 0} where
   pub items-copied : (o : Option (Bor (Vec (Vec ℕ A) A))) → option_map (λ l. items_of l.now) o ≡ option_map items_of (option_copied o)
   items-copied None = refl
   items-copied (Some x) = refl
+
+  -- a clone of lists has the same lists
+  pub items-cloned : (lists clone : List (Vec ℕ A)) → AllZip (λ v w. AllZip (λ x y. y ≡ x) v.items w.items × (vec_len w ≡ vec_len v)) lists clone
+      → map (λ l. l.items) clone ≡ map (λ l. l.items) lists
+  items-cloned [] [] same = refl
+  items-cloned [] (w ∷ clone) same = absurd same
+  items-cloned (v ∷ lists) [] same = absurd same
+  items-cloned (v ∷ lists) (w ∷ clone) same =
+      ap (λ l. l ∷ map (λ l. l.items) clone) (each_same v.items w.items same.0.0) ∙ ap (λ ls. v.items ∷ ls) (items-cloned lists clone same.1)
 
   -- what is kept once a requirement that had nothing is given its lists
   pub insert-kept : (loaded : List (Requirement × Vec (Vec ℕ A) A)) (r : Requirement) (lists : Vec (Vec ℕ A) A) → lookup (same_requirement r) (lists_kept loaded) ≡ None

@@ -1,5 +1,5 @@
 -- Commands and replies, with lists where the program has vectors. S are the solvables.
-use Rattle.std.specs.Prelude.{ℕ, Bool, List, map, Option, ⊤}
+use Rattle.std.specs.Prelude.{ℕ, Bool, List, map, Option, Result, Ok, Err, ⊤}
 use Rattle.typed_ids.specs.declared.error.StoreError.{StoreError}
 use Rattle.providers.specs.declared.requirement.Requirement.{Requirement}
 use Rattle.decisions.specs.declared.decision.Decision.{Decision}
@@ -56,3 +56,8 @@ reply_of (Out.Decided q) = Decided q
 reply_of Out.NoDecision = NoDecision
 reply_of (Out.Falsified clause) = Falsified clause
 reply_of (Out.Refused e) = Refused e
+
+-- what a command is answered: its reply, or its refusal
+abbrev pub answer_of : {A : Type 0} → Result (ProgramReply A) StoreError → Reply
+answer_of (Ok reply) = reply_of reply
+answer_of (Err e) = Refused e

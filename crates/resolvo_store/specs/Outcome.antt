@@ -1,5 +1,5 @@
 -- What each command replies, and the store that it leaves, where nothing is refused.
-use Rattle.std.specs.Prelude.{ℕ, Bool, not, ◌&&◌, List, [], ◌∷◌, ◌++◌, map, length, flat_map, Option, Some, None, if◌then◌else◌}
+use Rattle.std.specs.Prelude.{ℕ, Bool, not, ◌&&◌, List, [], ◌∷◌, ◌++◌, map, length, Option, Some, None, if◌then◌else◌}
 use Rattle.std.specs.List.{list_all}
 use Rattle.std.specs.Bool.{beq}
 use Rattle.providers.specs.declared.requirement.Requirement.{Requirement}
@@ -13,7 +13,7 @@ use Rattle.resolvo_queue.specs.Rows.{Row}
 use Rattle.resolvo_queue.specs.Scan.{first_falsified, is_eligible}
 use Rattle.resolvo_queue.specs.Pick.{Offer, eligible, pick, decided}
 use Rattle.resolvo_store.specs.Command.{Command, Variable, Load, Requires, Assign, UndoUntil, Decide, Reply, VariableIs, LoadedAs, ClauseIs, Assigned, Already, Clash, Undone, Decided, NoDecision, Falsified}
-use Rattle.resolvo_store.specs.Store.{Store, values, lists_of, rows_of, score_of, candidates_of}
+use Rattle.resolvo_store.specs.Store.{Store, values, lists_of, rows_of, score_of, candidates_of, all_candidates}
 
 -- a reply, and the store after it
 pub record Outcome (N S : Type 0) : Type 0 where
@@ -46,7 +46,7 @@ decision None None = NoDecision
 module _ {N S : Type 0} where
   -- the origins once a requirement's candidates have variables
   abbrev pub origins_loaded : Store N S → Requirement → List (VariableOrigin N S)
-  origins_loaded st r = with_variables st.provider.same_solvable st.origins (flat_map (candidates_of st) (sets_of st.provider.universe r))
+  origins_loaded st r = with_variables st.provider.same_solvable st.origins (all_candidates st r)
 
   -- the candidates' variables, one list a version set
   abbrev pub variables_loaded : Store N S → Requirement → List (List ℕ)

@@ -1,9 +1,9 @@
 -- The refusals that a caller can foresee: for each command the tests, in order, with what each answers.
-use Rattle.std.specs.Prelude.{ℕ, ◌-◌, ◌^◌, Bool, not, ◌&&◌, ◌||◌, nat_lt, nat_le, List, [], ◌∷◌, length, find, Option, is_none, option_map}
+use Rattle.std.specs.Prelude.{ℕ, ◌-◌, ◌^◌, Bool, not, ◌&&◌, nat_lt, nat_le, List, [], ◌∷◌, length, find, Option, is_none, option_map}
 use Rattle.typed_ids.specs.declared.error.StoreError.{StoreError}
 use Rattle.typed_ids.specs.declared.error.StoreError.TheVariants.{IdSpace, UnknownId, LevelOutOfRange, NotLoaded, TooManyClauses}
 use Rattle.providers.specs.Provider.{knows_requirement}
-use Rattle.variables.specs.Variables.{variable_of_solvable, are_variables_out}
+use Rattle.variables.specs.Variables.{lacks_variable}
 use Rattle.resolvo_store.specs.Command.{Command, Variable, Load, Requires, Assign, UndoUntil, Decide}
 use Rattle.resolvo_store.specs.Store.{Store, lists_of}
 
@@ -17,17 +17,11 @@ module _ {N S : Type 0} where
   abbrev pub knows_clause : Store N S → ℕ → Bool
   knows_clause st c = nat_lt c (length st.requires)
 
-  -- a solvable without a variable can't get one: no id is left, or it can't be kept
-  abbrev pub lacks_variable : Store N S → S → Bool
-  lacks_variable st s =
-      is_none (variable_of_solvable st.provider.same_solvable st.origins s) &&
-      (are_variables_out (length st.origins) || st.provider.is_large_solvable s)
-
   -- the refusals of a command, each with whether it applies
   abbrev pub refusals : Store N S → Command S → List (Bool × StoreError)
   refusals st (Variable s) =
       (not (st.provider.universe.knows_solvable s), UnknownId) ∷
-      (lacks_variable st s, IdSpace) ∷ []
+      (lacks_variable st.provider.same_solvable st.provider.is_large_solvable st.origins s, IdSpace) ∷ []
   refusals st (Load r) = (not (knows_requirement st.provider.universe r), UnknownId) ∷ []
   refusals st (Requires parent r disjunction) =
       (not (knows_variable st parent && (knows_requirement st.provider.universe r && is_none disjunction)), UnknownId) ∷

@@ -1,30 +1,26 @@
 -- One step of the abstract store, and a run.
-use Rattle.std.specs.Prelude.{◌≡◌, ◌-◌, ◌^◌, Bool, true, false, not, ◌&&◌, ◌||◌, nat_lt, nat_le, List, [], ◌∷◌, flat_map, length, is_none, is_some, MatchOption, IsTrue}
-use Rattle.std.specs.List.{list_any}
+use Rattle.std.specs.Prelude.{◌≡◌, ◌^◌, Bool, true, false, not, ◌&&◌, ◌||◌, nat_le, List, [], ◌∷◌, length, is_none, is_some, MatchOption, IsTrue}
 use Rattle.typed_ids.specs.declared.error.StoreError.{StoreError}
 use Rattle.typed_ids.specs.declared.error.StoreError.TheVariants.{OutOfMemory, IdSpace}
-use Rattle.providers.specs.Provider.{sets_of}
 use Rattle.decisions.specs.Literals.{undecided}
-use Rattle.variables.specs.Variables.{variable_of_solvable}
+use Rattle.variables.specs.Variables.{variable_of_solvable, lacks_variables}
 use Rattle.resolvo_store.specs.Command.{Command, Variable, Load, Assign, UndoUntil, Decide, Reply, Refused}
-use Rattle.resolvo_store.specs.Store.{Store, values, lists_of, candidates_of}
+use Rattle.resolvo_store.specs.Store.{Store, values, lists_of, all_candidates}
 use Rattle.resolvo_store.specs.Refusals.{first_refusal}
-use Rattle.resolvo_store.specs.Outcome.{outcome, origins_loaded, falsified_clause}
+use Rattle.resolvo_store.specs.Outcome.{outcome, falsified_clause}
 
 module _ {N S : Type 0} where
   -- a Load would give its requirement 2^40 rows or more
   abbrev pub has_too_many_rows : Store N S → Command S → Bool
-  has_too_many_rows st (Load r) =
-      is_none (lists_of st r) && nat_le (2 ^ 40) (length (flat_map (candidates_of st) (sets_of st.provider.universe r)))
+  has_too_many_rows st (Load r) = is_none (lists_of st r) && nat_le (2 ^ 40) (length (all_candidates st r))
   has_too_many_rows st _ = false
 
-  -- a Load needs more ids than there are: variables beyond the last, a solvable that can't be kept, or 2^40 rows or more
+  -- a Load needs more ids than there are: for its rows, or for the variables of its candidates
   abbrev pub lacks_ids : Store N S → Command S → Bool
   lacks_ids st (Load r) =
       is_none (lists_of st r) &&
-      (nat_lt (2 ^ 31 - 1) (length (origins_loaded st r)) ||
-      (nat_le (2 ^ 40) (length (flat_map (candidates_of st) (sets_of st.provider.universe r))) ||
-      list_any st.provider.is_large_solvable (flat_map (candidates_of st) (sets_of st.provider.universe r))))
+      (nat_le (2 ^ 40) (length (all_candidates st r)) ||
+      lacks_variables st.provider.same_solvable st.provider.is_large_solvable st.origins (all_candidates st r))
   lacks_ids st _ = false
 
   -- the command is answered without taking memory

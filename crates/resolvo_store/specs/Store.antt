@@ -1,5 +1,5 @@
 -- The abstract store, and what a clause store keeps of it. N are the names, S the solvables.
-use Rattle.std.specs.Prelude.{ℕ, Bool, List, [], ◌∷◌, Option, unwrap_or}
+use Rattle.std.specs.Prelude.{ℕ, Bool, List, [], ◌∷◌, flat_map, Option, unwrap_or}
 use Rattle.std.specs.Map.{lookup}
 use Rattle.typed_ids.specs.declared.version_set_id.VersionSetId.{VersionSetId}
 use Rattle.providers.specs.declared.requirement.Requirement.{Requirement}
@@ -109,3 +109,7 @@ module _ {N S : Type 0} (st : Store N S) where
   -- the candidates of a version set
   abbrev pub candidates_of : VersionSetId → List S
   candidates_of v = sorted st.provider.universe st.provider.answers v
+
+  -- all candidates of a requirement, one version set after another
+  abbrev pub all_candidates : Requirement → List S
+  all_candidates r = flat_map candidates_of (sets_of st.provider.universe r)

@@ -1,8 +1,19 @@
 //! The clause store: what a search over packages keeps, decides and takes back, as one abstract machine.
 //!
-//! A store is given commands, one at a time by [`ClauseStore::step`] or as a list by [`ClauseStore::run`], and answers
-//! each with one reply. Their contracts say that the replies are those of the abstract store, whose steps and runs
-//! `specs/Step.antt` defines.
+//! A [`ClauseStore`] stands over the packages of a provider. It keeps what each variable stands for, the candidates'
+//! variables of each requirement that was loaded, the requires clauses, and the trail of assignments. Commands are the
+//! only way to change it: [`ClauseStore::step`] obeys one [`Command`] and answers it with one [`Reply`], and
+//! [`ClauseStore::run`] obeys a list of them in turn. A refusal is a reply too, and a refused command changes nothing.
+//!
+//! Contracts don't speak of the store's fields. They name the abstract store, `⟦<D as AbstractStore>⟧.store self.now`,
+//! a record of plain lists and functions:
+//!
+//! - `specs/Store.antt`: the abstract store;
+//! - `specs/Refusals.antt`: the refusals that a caller can foresee, in the order in which they are tested;
+//! - `specs/Outcome.antt`: the reply to a command that nothing refuses, and the store after it;
+//! - `specs/Step.antt`: a step, which adds the refusals for want of memory or of ids, and a run, one step after another.
+//!
+//! What `step` answers and leaves is a step of the abstract store, and what `run` answers and leaves is a run.
 #![tactic(auto)]
 
 mod abstract_store;

@@ -1,4 +1,15 @@
-//! The clause store.
+//! The clause store: what it keeps, and the way of a command through it.
+//!
+//! [`ClauseStore::step`] hands a command to the method that obeys it. The methods are in a file for each group of
+//! commands:
+//!
+//! - `store/loading.rt`: `Variable` and `Load`, which make variables and load requirements;
+//! - `store/registering.rt`: `Requires`, which adds clauses;
+//! - `store/assigning.rt`: `Assign` and `UndoUntil`, which change the trail;
+//! - `store/deciding.rt`: `Decide`, which changes nothing, and its two halves as calls of their own.
+//!
+//! Each method's contract is the step of its command. So a method takes back what it changed before it was refused:
+//! only a `Load` can be refused half way, and gives up the variables that it made.
 ghost use Rattle.std.specs.Prelude.{◌≡◌, map, length, vec_len, IfOk, IfErr};
 ghost use Rattle.typed_ids.specs.declared.error.StoreError.TheVariants.{OutOfMemory};
 ghost use Rattle.decisions.specs.Trail.{val};
@@ -20,8 +31,8 @@ use variables::VariableMap;
 
 /// A clause store over the packages of a provider.
 ///
-/// A contract speaks of the abstract store, `⟦<D as AbstractStore>⟧.store self.now`: lists of variables, loaded
-/// requirements and clauses, and the trail. Whatever a command is refused for, it is as it was.
+/// A contract speaks of the abstract store, `⟦<D as AbstractStore>⟧.store self.now`. Whatever a command is refused for,
+/// the store is as it was.
 #[derive(Drop)]
 pub struct ClauseStore<D: DependencyProvider> {
     provider: D,
@@ -51,7 +62,7 @@ impl<D: DependencyProvider> Model for ClauseStore<D> {
 }
 
 impl<D: DependencyProvider + Drop> ClauseStore<D> {
-    ghost use Rattle.resolvo_store.specs.Command.{command_of, reply_of, IsRefused};
+    ghost use Rattle.resolvo_store.specs.Command.{command_of, reply_of, answer_of, IsRefused};
     ghost use Rattle.resolvo_store.specs.Store.{new_store};
     ghost use Rattle.resolvo_store.specs.Step.{Step, Run};
 
@@ -88,6 +99,18 @@ impl<D: DependencyProvider + Drop> ClauseStore<D> {
             ⟦<D as AbstractStore>⟧.store self.new ≡ ⟦<D as AbstractStore>⟧.store self.old }
         ensures provider { self.new.provider ≡ self.old.provider }
     {
+        match self.obey(command) {
+            Ok(reply) => reply,
+            Err(e) => Reply::Refused(e),
+        }
+    }
+
+    /// Obeys a command: its reply, or the refusal.
+    fn obey(&mut self, command: &Command<D::SolvableId>) -> Result<Reply<D::Alloc>, StoreError>
+        ensures step { Step (⟦<D as AbstractStore>⟧.store self.old) (command_of command.now)
+            (answer_of result) (⟦<D as AbstractStore>⟧.store self.new) }
+        ensures provider { self.new.provider ≡ self.old.provider }
+    {
         match *command {
             Command::Variable(solvable) => self.variable(solvable),
             Command::Load(requirement) => self.load(requirement),
@@ -97,8 +120,8 @@ impl<D: DependencyProvider + Drop> ClauseStore<D> {
             Command::Assign(variable, value, clause, level) => {
                 self.assign(variable, value, clause, level)
             }
-            Command::UndoUntil(level) => self.undo_until(level),
-            Command::Decide => self.decide(),
+            Command::UndoUntil(level) => Ok(self.undo_until(level)),
+            Command::Decide => Ok(self.decide()),
         }
     }
 
@@ -115,17 +138,10 @@ impl<D: DependencyProvider + Drop> ClauseStore<D> {
         ensures err { IfErr result (λ e. (e ≡ OutOfMemory)
             × (⟦<D as AbstractStore>⟧.store self.new ≡ ⟦<D as AbstractStore>⟧.store self.old)) }
     {
-        let mut replies = Vec::new(self.alloc);
-        match replies.reserve(commands.len()) {
-            Ok(()) => {}
-            Err(_) => return Err(StoreError::OutOfMemory),
-        }
+        let mut replies = Vec::with_capacity(self.alloc, commands.len())?;
         for command in commands {
             let reply = self.step(command);
-            match replies.push(reply) {
-                Ok(()) => {}
-                Err(_) => unreachable!(),
-            }
+            replies.push_reserved(reply);
         }
         Ok(replies)
     }

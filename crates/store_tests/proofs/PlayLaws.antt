@@ -1,17 +1,16 @@
 -- What is computed is a run.
 use Rattle.std.proofs.Common.{◌≡◌, ℕ, Bool, true, false, cond, ◌&&◌, ◌||◌, arith, List, [], ◌∷◌, Option, Some, None, refl}
 use Rattle.std.specs.Bool.{beq}
-use Rattle.std.specs.Prelude.{◌-◌, ◌^◌, nat_lt, nat_le, flat_map, length, is_none, MatchOption}
-use Rattle.std.specs.List.{list_any}
+use Rattle.std.specs.Prelude.{◌^◌, nat_le, length, is_none, MatchOption}
 use Rattle.typed_ids.specs.declared.error.StoreError.{StoreError}
 use Rattle.typed_ids.specs.declared.error.StoreError.TheVariants.{IdSpace}
-use Rattle.providers.specs.Provider.{sets_of}
+use Rattle.variables.specs.Variables.{lacks_variables}
 use Rattle.resolvo_queue.specs.declared.requires_clause.RequiresClause.{RequiresClause}
 use Rattle.resolvo_queue.specs.Pick.{Offer}
 use Rattle.resolvo_store.specs.Command.{Command, Variable, Load, Requires, Assign, UndoUntil, Decide, Reply, Already, Clash, Refused, IsRefused}
-use Rattle.resolvo_store.specs.Store.{Store, values, lists_of, candidates_of}
+use Rattle.resolvo_store.specs.Store.{Store, values, lists_of, all_candidates}
 use Rattle.resolvo_store.specs.Refusals.{first_refusal}
-use Rattle.resolvo_store.specs.Outcome.{outcome, origins_loaded, load, assign_reply, decision, falsified_clause, picked}
+use Rattle.resolvo_store.specs.Outcome.{outcome, load, assign_reply, decision, falsified_clause, picked}
 use Rattle.resolvo_store.specs.Step.{IsAnswered, Step, has_too_many_rows, lacks_ids}
 use Rattle.store_tests.specs.Play.{answered, answer, PlayIsRun}
 
@@ -53,11 +52,11 @@ module _ {N S : Type 0} where
   -- where there are, it may lack ids
   rows_lack : (st : Store N S) (c : Command S) → has_too_many_rows st c ≡ true → lacks_ids st c ≡ true
   rows_lack st (Load r) many =
-      rows_among (is_none (lists_of st r)) (nat_lt (2 ^ 31 - 1) (length (origins_loaded st r))) (nat_le (2 ^ 40) (length (flat_map (candidates_of st) (sets_of st.provider.universe r))))
-      (list_any st.provider.is_large_solvable (flat_map (candidates_of st) (sets_of st.provider.universe r))) many
+      rows_among (is_none (lists_of st r)) (nat_le (2 ^ 40) (length (all_candidates st r)))
+      (lacks_variables st.provider.same_solvable st.provider.is_large_solvable st.origins (all_candidates st r)) many
     where
-      rows_among : (a b d e : Bool) → (a && d) ≡ true → (a && (b || (d || e))) ≡ true
-      rows_among a b d e h = grind (arith, h)
+      rows_among : (a b d : Bool) → (a && b) ≡ true → (a && (b || d)) ≡ true
+      rows_among a b d h = grind (arith, h)
   rows_lack st _ many = cc
 
   answer_is_step : (st : Store N S) (c : Command S) → Step st c (answer st c).reply (answer st c).store

@@ -1,6 +1,6 @@
 -- Solvables that get variables in turn.
 use Rattle.std.proofs.Common.{◌≡◌, ℕ, ◌+◌, ◌≤◌, ◌-◌, ◌^◌, Bool, true, false, cond, ◌||◌, List, [], ◌∷◌, ◌++◌, length, length-append, append_assoc, map, take, drop, Option, None, Some, Result, Ok, Err, refl, arith, sym, ◌∙◌, ap, subst, ltb, zero, suc}
-use Rattle.std.specs.Prelude.{is_some, unwrap_or, flat_map, IfErr}
+use Rattle.std.specs.Prelude.{is_some, is_none, ◌&&◌, unwrap_or, flat_map, IfErr}
 use Rattle.std.specs.Result.{IsErrAnd}
 use Rattle.std.specs.List.{list_any}
 use Rattle.std.proofs.Math.Bool.{or-true}
@@ -13,7 +13,7 @@ use Rattle.typed_ids.specs.declared.error.StoreError.{StoreError}
 use Rattle.typed_ids.specs.declared.error.StoreError.TheVariants.{OutOfMemory, IdSpace}
 use Rattle.variables.specs.declared.variable_origin.VariableOrigin.{VariableOrigin}
 use Rattle.variables.specs.declared.variable_origin.VariableOrigin.TheVariants.{Solvable}
-use Rattle.variables.specs.Variables.{is_solvable, variable_of_solvable, interned_variable, with_variable, with_variables, are_variables_out}
+use Rattle.variables.specs.Variables.{is_solvable, variable_of_solvable, interned_variable, with_variable, with_variables, are_variables_out, lacks_variable, lacks_variables}
 use Rattle.variables.proofs.VariableLemmas.{or_else, position-append}
 
 -- a refusal that was handed on
@@ -26,11 +26,6 @@ pub refusal_wider : (a b : Bool) (e : StoreError) → (a ≡ true → b ≡ true
 refusal_wider a b OutOfMemory h r = r
 refusal_wider a b IdSpace h r = h r
 refusal_wider a b _ h r = absurd r
-
--- where a known solvable would have been answered, a refused one isn't known
-pub unknown_if_refused : (known : Option ℕ) → (is_some known ≡ true → false ≡ true) → known ≡ None
-unknown_if_refused None h = refl
-unknown_if_refused (Some v) h = let no : false ≡ true = h refl in cc
 
 -- what is found behind a front is found
 pub list_any-drop : {X : Type 0} (test : X → Bool) (i : ℕ) (xs : List X) → list_any test (drop i xs) ≡ true → list_any test xs ≡ true
@@ -141,28 +136,33 @@ module _ {N S : Type 0} (same : S → S → Bool) where
         (lists-in-turn after lists
         ∙ ap (λ vs. map (map (interned_variable same vs)) lists) (sym (fold-append (with_variable same) os ss rest)))
 
-  -- ids that are out for one solvable are out for all of them
-  pub ids_out_for_all : (large : S → Bool) (os first : List (VariableOrigin N S)) (x : S) (rest ss : List S)
-      → variable_of_solvable same os x ≡ None → with_variables same os (x ∷ rest) ≡ with_variables same first ss
+  -- what lacks for one solvable lacks for all of them
+  pub lacks_for_one : (large : S → Bool) (os first : List (VariableOrigin N S)) (x : S) (rest ss : List S)
+      → with_variables same os (x ∷ rest) ≡ with_variables same first ss
       → (list_any large (x ∷ rest) ≡ true → list_any large ss ≡ true)
-      → (are_variables_out (length os) || large x) ≡ true
-      → (ltb (2 ^ 31 - 1) (length (with_variables same first ss)) || list_any large ss) ≡ true
-  ids_out_for_all large os first x rest ss new all any out = by_test (are_variables_out (length os)) (large x) refl refl out
+      → lacks_variable same large os x ≡ true → lacks_variables same large first ss ≡ true
+  lacks_for_one large os first x rest ss all any out =
+      by_known (variable_of_solvable same os x) refl out
     where
       grown : (vs : List (VariableOrigin N S)) → length vs + 1 ≤ length (with_variables same (vs ++ Solvable x ∷ []) rest)
       grown vs = omega (arith, length-append vs (Solvable x ∷ []), longer-all (vs ++ Solvable x ∷ []) rest)
 
-      by_test : (a b : Bool) → are_variables_out (length os) ≡ a → large x ≡ b → (a || b) ≡ true
-          → (ltb (2 ^ 31 - 1) (length (with_variables same first ss)) || list_any large ss) ≡ true
-      by_test true b f l h =
+      by_test : (a b : Bool) → variable_of_solvable same os x ≡ None → are_variables_out (length os) ≡ a → large x ≡ b → (a || b) ≡ true
+          → lacks_variables same large first ss ≡ true
+      by_test true b new f l h =
           let size : length os + 1 ≤ length (with_variables same first ss) =
           subst (λ vs. length os + 1 ≤ length vs) all (subst (λ vs. length os + 1 ≤ length (with_variables same vs rest)) (sym (with_variable-new x os new)) (grown os)) in
           let few : ltb (2 ^ 31 - 1) (length (with_variables same first ss)) ≡ true = grind (arith, nat_tests, f, size) in
           ap (λ c. c || list_any large ss) few
-      by_test false true f l h =
+      by_test false true new f l h =
           let some : list_any large ss ≡ true = any (ap (λ c. c || list_any large rest) l) in
           grind (arith, some)
-      by_test false false f l h = cc
+      by_test false false new f l h = cc
+
+      by_known : (p : Option ℕ) → variable_of_solvable same os x ≡ p → (is_none p && (are_variables_out (length os) || large x)) ≡ true
+          → lacks_variables same large first ss ≡ true
+      by_known None new h = by_test (are_variables_out (length os)) (large x) new refl refl h
+      by_known (Some v) known h = cc
 
   module _ (reflexive : (x : S) → same x x ≡ true) where
     -- once all solvables got their variables, those are the variables that they have
@@ -181,17 +181,16 @@ module _ {N S : Type 0} (same : S → S → Bool) where
         sym (append-nil done) ∙ sym (ap (λ b. done ++ lists_in_turn os b) e) ∙ h ∙ lists-in-turn reflexive first lists
         ∙ sym (ap (λ vs. map (map (interned_variable same vs)) lists) all)
 
-  -- ids that are out for one list are out for all of them
-  pub ids_out_for_lists : (large : S → Bool) (os first : List (VariableOrigin N S)) (ss rest all : List S)
+  -- what lacks for one list lacks for all of them
+  pub lacks_for_list : (large : S → Bool) (os first : List (VariableOrigin N S)) (ss rest all : List S)
       → with_variables same os (ss ++ rest) ≡ with_variables same first all
       → (list_any large (ss ++ rest) ≡ true → list_any large all ≡ true)
-      → (ltb (2 ^ 31 - 1) (length (with_variables same os ss)) || list_any large ss) ≡ true
-      → (ltb (2 ^ 31 - 1) (length (with_variables same first all)) || list_any large all) ≡ true
-  ids_out_for_lists large os first ss rest all e any out =
+      → lacks_variables same large os ss ≡ true → lacks_variables same large first all ≡ true
+  lacks_for_list large os first ss rest all e any out =
       by_test (ltb (2 ^ 31 - 1) (length (with_variables same os ss))) (list_any large ss) refl refl out
     where
       by_test : (a b : Bool) → ltb (2 ^ 31 - 1) (length (with_variables same os ss)) ≡ a → list_any large ss ≡ b → (a || b) ≡ true
-          → (ltb (2 ^ 31 - 1) (length (with_variables same first all)) || list_any large all) ≡ true
+          → lacks_variables same large first all ≡ true
       by_test true b f l h =
           let grown : length (with_variables same os ss) ≤ length (with_variables same first all) =
           subst (λ vs. length (with_variables same os ss) ≤ length vs) (sym (fold-append (with_variable same) os ss rest) ∙ e)

@@ -1,6 +1,6 @@
 -- The variables: a list of origins, one for each variable. N are the names, S the solvables.
-use Rattle.std.specs.Prelude.{◌≡◌, ℕ, ◌≤◌, ◌^◌, ◌-◌, Bool, false, nat_le, if◌then◌else◌, List, [], ◌∷◌, ◌++◌, length, fold, Option, None, Some, is_some, unwrap_or, slice_get}
-use Rattle.std.specs.List.{position_from}
+use Rattle.std.specs.Prelude.{◌≡◌, ℕ, ◌≤◌, ◌^◌, ◌-◌, Bool, false, ◌&&◌, ◌||◌, nat_le, nat_lt, if◌then◌else◌, List, [], ◌∷◌, ◌++◌, length, fold, Option, None, Some, is_some, is_none, unwrap_or, slice_get}
+use Rattle.std.specs.List.{position_from, list_any}
 use Rattle.variables.specs.declared.variable_origin.VariableOrigin.{VariableOrigin}
 use Rattle.variables.specs.declared.variable_origin.VariableOrigin.TheVariants.{Root, Solvable}
 
@@ -44,3 +44,13 @@ module _ {N S : Type 0} (same : S → S → Bool) where
     pub agrees : (s : S) → slots s ≡ variable_of_solvable origins s
     pub few : length origins ≤ 2 ^ 31 - 1
     pub root_first : IsRootFirst origins
+
+  module _ (is_large : S → Bool) where
+    -- the solvable has no variable and can't get one: no id is left, or nothing can be kept by the solvable's id
+    abbrev pub lacks_variable : List (VariableOrigin N S) → S → Bool
+    lacks_variable origins s =
+        is_none (variable_of_solvable origins s) && (are_variables_out (length origins) || is_large s)
+
+    -- the solvables can't all get variables: there would be more than 2^31 - 1, or one of them is too large to be kept
+    abbrev pub lacks_variables : List (VariableOrigin N S) → List S → Bool
+    lacks_variables origins ss = nat_lt (2 ^ 31 - 1) (length (with_variables origins ss)) || list_any is_large ss

@@ -1,5 +1,5 @@
 //! The variables of a store: what each stands for, and the variable of each solvable.
-ghost use Rattle.std.specs.Prelude.{◌≡◌, ◌<◌, ◌≤◌, ◌+◌, ◌^◌, ◌||◌, [], ◌∷◌, ◌++◌, length, take, IsTrue, IsSome, IsNone, IsOk, IfOk, OnOk, OnErr, IfErr};
+ghost use Rattle.std.specs.Prelude.{◌≡◌, ◌<◌, ◌≤◌, ◌+◌, ◌^◌, [], ◌∷◌, ◌++◌, length, take, IsTrue, IsSome, IsOk, IfOk, OnOk, OnErr, IfErr};
 ghost use Rattle.typed_ids.specs.Refusals.{IsGrowthRefusal};
 ghost use Rattle.typed_ids.specs.declared.error.StoreError.TheVariants.{OutOfMemory, IdSpace};
 
@@ -31,7 +31,7 @@ impl<N: Copy, S: SolverId<A>, A: Allocator + Copy> Model for VariableMap<N, S, A
 }
 
 impl<N: Copy, S: SolverId<A>, A: Allocator + Copy> VariableMap<N, S, A> {
-    ghost use Rattle.variables.specs.Variables.{variable_of_solvable, interned_variable, with_variable, are_variables_out, IsRootFirst};
+    ghost use Rattle.variables.specs.Variables.{variable_of_solvable, interned_variable, with_variable, lacks_variable, IsRootFirst};
 
     /// The root's variable alone.
     pub fn new(alloc: A) -> Result<Self, StoreError>
@@ -39,10 +39,7 @@ impl<N: Copy, S: SolverId<A>, A: Allocator + Copy> VariableMap<N, S, A> {
         ensures err { IfErr result (λ e. e ≡ OutOfMemory) }
     {
         let mut origins = Vec::new(alloc);
-        match origins.push(VariableOrigin::Root) {
-            Ok(()) => {}
-            Err(_) => return Err(StoreError::OutOfMemory),
-        }
+        origins.push(VariableOrigin::Root)?;
         Ok(VariableMap {
             origins,
             slots: <S::Slots as IdMap<S, Slot, A>>::new(alloc),
@@ -62,10 +59,8 @@ impl<N: Copy, S: SolverId<A>, A: Allocator + Copy> VariableMap<N, S, A> {
     pub fn lookup_solvable(&self, solvable: S) -> Option<VariableId>
         ensures { result ≡ variable_of_solvable S.eq self.now solvable }
     {
-        match self.slots.get(solvable).number() {
-            Some(index) => Some(VariableId::from_index(index as usize)),
-            None => None,
-        }
+        let index = self.slots.get(solvable).number()?;
+        Some(VariableId::from_index(index as usize))
     }
 
     /// The variable of the solvable. One that has none yet gets the next.
@@ -73,9 +68,9 @@ impl<N: Copy, S: SolverId<A>, A: Allocator + Copy> VariableMap<N, S, A> {
         ensures variable { IfOk result (λ v. v ≡ interned_variable S.eq self.old solvable) }
         ensures ok { OnOk result (self.new ≡ with_variable S.eq self.old solvable) }
         ensures known { IsSome (variable_of_solvable S.eq self.old solvable) → IsOk result }
-        ensures ids_out { IsNone (variable_of_solvable S.eq self.old solvable) → IsTrue (are_variables_out (length self.old) || S.Slots.is_too_large solvable) → result ≡ Err IdSpace }
+        ensures ids_out { IsTrue (lacks_variable S.eq S.Slots.is_too_large self.old solvable) → result ≡ Err IdSpace }
         ensures err { OnErr result (self.new ≡ self.old) }
-        ensures refused { IfErr result (IsGrowthRefusal (are_variables_out (length self.old) || S.Slots.is_too_large solvable)) }
+        ensures refused { IfErr result (IsGrowthRefusal (lacks_variable S.eq S.Slots.is_too_large self.old solvable)) }
     {
         if let Some(variable) = self.lookup_solvable(solvable) {
             return Ok(variable);
@@ -85,10 +80,7 @@ impl<N: Copy, S: SolverId<A>, A: Allocator + Copy> VariableMap<N, S, A> {
             return Err(StoreError::IdSpace);
         }
         self.slots.make_room(solvable)?;
-        match self.origins.push(VariableOrigin::Solvable(solvable)) {
-            Ok(()) => {}
-            Err(_) => return Err(StoreError::OutOfMemory),
-        }
+        self.origins.push(VariableOrigin::Solvable(solvable))?;
         self.slots.put(solvable, Slot::new(Some(index as u32)));
         Ok(VariableId::from_index(index))
     }

@@ -9,7 +9,7 @@ use providers::DependencyProvider;
 use typed_ids::{ClauseId, DenseIndex, StoreError, VariableId};
 
 impl<D: DependencyProvider + Drop> ClauseStore<D> {
-    ghost use Rattle.resolvo_store.specs.Command.{Assign, UndoUntil, reply_of};
+    ghost use Rattle.resolvo_store.specs.Command.{Assign, UndoUntil, answer_of, reply_of};
     ghost use Rattle.resolvo_store.specs.Step.{Step};
 
     /// Gives a variable a value.
@@ -19,23 +19,23 @@ impl<D: DependencyProvider + Drop> ClauseStore<D> {
         value: bool,
         clause: ClauseId,
         level: u32,
-    ) -> Reply<D::Alloc>
+    ) -> Result<Reply<D::Alloc>, StoreError>
         ensures step { Step (⟦<D as AbstractStore>⟧.store self.old) (Assign variable value clause level)
-            (reply_of result) (⟦<D as AbstractStore>⟧.store self.new) }
+            (answer_of result) (⟦<D as AbstractStore>⟧.store self.new) }
         ensures provider { self.new.provider ≡ self.old.provider }
     {
         if variable.to_index() >= self.variables.count() || clause.to_index() >= self.queue.len() {
-            return Reply::Refused(StoreError::UnknownId);
+            return Err(StoreError::UnknownId);
         }
         if !DecisionTracker::<D::Alloc>::level_in_range(level) {
-            return Reply::Refused(StoreError::LevelOutOfRange);
+            return Err(StoreError::LevelOutOfRange);
         }
         let decision = Decision::new(variable, value, clause);
         match self.trail.try_add_decision(decision, level) {
-            Ok(true) => Reply::Assigned,
-            Ok(false) => Reply::Already,
-            Err(AddFault::Clash) => Reply::Clash,
-            Err(AddFault::Store(e)) => Reply::Refused(e),
+            Ok(true) => Ok(Reply::Assigned),
+            Ok(false) => Ok(Reply::Already),
+            Err(AddFault::Clash) => Ok(Reply::Clash),
+            Err(AddFault::Store(e)) => Err(e),
         }
     }
 

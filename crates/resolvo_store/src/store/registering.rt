@@ -12,7 +12,7 @@ use typed_ids::{ClauseId, DenseIndex, DisjunctionId, StoreError, VariableId};
 impl<D: DependencyProvider + Drop> ClauseStore<D> {
     ghost use Rattle.providers.specs.Provider.{knows_requirement, sets_of};
     ghost use Rattle.resolvo_queue.specs.Rows.{rows};
-    ghost use Rattle.resolvo_store.specs.Command.{Requires, reply_of};
+    ghost use Rattle.resolvo_store.specs.Command.{Requires, answer_of};
     ghost use Rattle.resolvo_store.specs.Store.{lists_of, values};
     ghost use Rattle.resolvo_store.specs.Outcome.{is_conflict};
     ghost use Rattle.resolvo_store.specs.Step.{Step};
@@ -23,24 +23,22 @@ impl<D: DependencyProvider + Drop> ClauseStore<D> {
         parent: VariableId,
         requirement: Requirement,
         disjunction: Option<DisjunctionId>,
-    ) -> Reply<D::Alloc>
+    ) -> Result<Reply<D::Alloc>, StoreError>
         ensures step { Step (⟦<D as AbstractStore>⟧.store self.old) (Requires parent requirement disjunction)
-            (reply_of result) (⟦<D as AbstractStore>⟧.store self.new) }
+            (answer_of result) (⟦<D as AbstractStore>⟧.store self.new) }
         ensures provider { self.new.provider ≡ self.old.provider }
     {
         if parent.to_index() >= self.variables.count()
             || !self.knows_requirement(requirement)
             || disjunction.is_some()
         {
-            return Reply::Refused(StoreError::UnknownId);
+            return Err(StoreError::UnknownId);
         }
         let Some(conflict) = self.conflict(parent, requirement) else {
-            return Reply::Refused(StoreError::NotLoaded);
+            return Err(StoreError::NotLoaded);
         };
-        match self.register(parent, requirement) {
-            Ok(clause) => Reply::Clause(clause, conflict),
-            Err(e) => Reply::Refused(e),
-        }
+        let clause = self.register(parent, requirement)?;
+        Ok(Reply::Clause(clause, conflict))
     }
 
     /// Whether the provider knows the requirement's version set, or its union.
@@ -85,9 +83,7 @@ impl<D: DependencyProvider + Drop> ClauseStore<D> {
             return Err(StoreError::TooManyClauses);
         }
         let clause = ClauseId::from_index(self.queue.len());
-        match self.queue.register_clause(parent, requirement, clause) {
-            Ok(()) => Ok(clause),
-            Err(e) => Err(e),
-        }
+        self.queue.register_clause(parent, requirement, clause)?;
+        Ok(clause)
     }
 }

@@ -12,7 +12,7 @@ invariant_of-self-2 g c =
     ap (λ l. variable_of_solvable same l c.args.solvable) c.self.view_is ∙ sym c.lookup_solvable.ensures ∙ c.in_default.is in
     let size : c.len-index.result ≡ length os = c.len-index.ensures ∙ c.self.inside.origins.ok.0 in
     let below : c.len-index.result < 2147483647 = search rules in
-    rw c.in-Ok.ensures.items record {
+    rw c.in_ok-push.ensures.items record {
       agrees = agrees-with_variable same g.met.S.Eq.laws.refl g.met.S.SameId.same c.args.solvable c.len-index.result os _ _ _ size c.self.invariant.agrees c.make_room.ensures.same absent (c.put.ensures.put.0 ∙ c.new.ensures, c.put.ensures.put.1);
       few = simp length-append (omega (arith, size, below));
       root_first = root-append os _ c.self.invariant.root_first;
@@ -28,8 +28,8 @@ pub returns-in_err-make_room-clause-known : goal.returns-in_err-make_room-clause
 returns-in_err-make_room-clause-known g c =
     λ known. absurd (not_known _ (sym c.lookup_solvable.ensures ∙ c.in_default.is) known)
 
-pub returns-in-Err-clause-known : goal.returns-in-Err-clause-known
-returns-in-Err-clause-known g c =
+pub returns-in_err-push-clause-known : goal.returns-in_err-push-clause-known
+returns-in_err-push-clause-known g c =
     λ known. absurd (not_known _ (sym c.lookup_solvable.ensures ∙ c.in_default.is) known)
 
 -- it changes no value
@@ -38,9 +38,9 @@ pub invariant_of-self : goal.invariant_of-self
 invariant_of-self g c =
     IsVariableMap-same g.S.PartialEq.eq _ _ c.self.inside.origins.items c.make_room.ensures.same c.self.invariant
 
-pub invariant_of-self-in-Err : goal.invariant_of-self-in-Err
-invariant_of-self-in-Err g c =
-    rw c.in-Err.ensures.items
+pub invariant_of-self-in_err-push : goal.invariant_of-self-in_err-push
+invariant_of-self-in_err-push g c =
+    rw c.in_err-push.ensures.items
     (IsVariableMap-same g.S.PartialEq.eq _ _ c.self.inside.origins.items c.make_room.ensures.same c.self.invariant)
 
 -- a new variable
@@ -52,5 +52,5 @@ returns-clause-variable g c =
 
 pub returns-clause-ok : goal.returns-clause-ok
 returns-clause-ok g c =
-    c.in-Ok.ensures.items ∙ (ap (λ os. os ++ Solvable c.args.solvable ∷ []) c.self.view_is
+    c.in_ok-push.ensures.items ∙ (ap (λ os. os ++ Solvable c.args.solvable ∷ []) c.self.view_is
     ∙ sym (with_variable-new g.S.PartialEq.eq c.args.solvable c.args.self.now (sym c.lookup_solvable.ensures ∙ c.in_default.is)))

@@ -1,7 +1,7 @@
 use Rattle.std.proofs.Common.{◌≡◌, ◌≤◌, ◌++◌, take, drop, length}
 use Rattle.variables.specs.Variables.{with_variables}
 use Rattle.variables.proofs.InterningLemmas.{variables_in_turn}
-use Rattle.variables.proofs.lists.intern_all.Given as goal
+use Rattle.variables.proofs.lists.intern_list.Given as goal
 
 abbrev pub invariant-loop-solvable : goal.invariant-loop-solvable
 invariant-loop-solvable g l =

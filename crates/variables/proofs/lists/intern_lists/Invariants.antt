@@ -2,7 +2,7 @@ use Rattle.std.proofs.Common.{◌≡◌, ◌≤◌, ◌++◌, take, drop, length
 use Rattle.std.specs.Prelude.{flat_map}
 use Rattle.variables.specs.Variables.{with_variables}
 use Rattle.variables.proofs.InterningLemmas.{lists_in_turn}
-use Rattle.variables.proofs.lists.intern_each.Given as goal
+use Rattle.variables.proofs.lists.intern_lists.Given as goal
 
 abbrev pub invariant-loop-list : goal.invariant-loop-list
 invariant-loop-list g l =

@@ -1,9 +1,9 @@
-use Rattle.std.proofs.Common.{◌≡◌, ◌∷◌, ◌+◌, ◌∙◌, sym, ap, drop, length, None, arith}
+use Rattle.std.proofs.Common.{◌≡◌, ◌∷◌, ◌+◌, ◌∙◌, sym, ap, drop, length, arith}
 use Rattle.std.specs.List.{list_any}
 use Rattle.std.proofs.lemmas.List.{drop_more, drop_all}
-use Rattle.variables.specs.Variables.{variable_of_solvable, with_variable, with_variables}
-use Rattle.variables.proofs.InterningLemmas.{in_turn-more, front-with_variable, longer-with_variable, in_turn-all, ids_out_for_all, refusal_wider, list_any-drop, unknown_if_refused, handed_on}
-use Rattle.variables.proofs.lists.intern_all.Goals as goal
+use Rattle.variables.specs.Variables.{with_variable, with_variables}
+use Rattle.variables.proofs.InterningLemmas.{in_turn-more, front-with_variable, longer-with_variable, in_turn-all, lacks_for_one, refusal_wider, list_any-drop, handed_on}
+use Rattle.variables.proofs.lists.intern_list.Goals as goal
 
 pub loop-solvable-preserved : goal.loop-solvable-preserved
 loop-solvable-preserved g c =
@@ -15,7 +15,7 @@ loop-solvable-preserved g c =
     drop_more c.args.solvables.now c.loop-solvable.solvable-index x c.loop-solvable-test.true ∙ ap (λ y. y ∷ rest) (sym c.solvable-item.is) in
     let after : c.intern_solvable.new.self ≡ with_variable same vs x = c.in_ok-variable.ensures.ok in
     record {
-      list = rw c.in-Ok.ensures.items
+      list = rw c.in_ok-push.ensures.items
           (in_turn-more same vs c.intern_solvable.new.self c.args.variables.now x rest (drop c.loop-solvable.solvable-index c.args.solvables.now) c.args.solvables.now
           c.loop-solvable.list.items c.in_ok-variable.variable behind c.in_ok-variable.ensures.variable after c.loop-solvable.invariant.list);
       all = ap (λ os. with_variables same os rest) after ∙ sym (ap (with_variables same vs) behind) ∙ c.loop-solvable.invariant.all;
@@ -41,10 +41,9 @@ returns-in_err-variable-clause-refused g c =
     let behind : drop c.loop-solvable.solvable-index ss ≡ x ∷ rest =
     drop_more ss c.loop-solvable.solvable-index x c.loop-solvable-test.true ∙ ap (λ y. y ∷ rest) (sym c.solvable-item.is) in
     let e = c.in_err-variable.field-0.0 in
-    let unknown : variable_of_solvable same vs x ≡ None = unknown_if_refused (variable_of_solvable same vs x) c.in_err-variable.ensures.known in
     handed_on _ c.from_residual.result e c.from_residual.ensures.1
     (refusal_wider _ _ e
-    (ids_out_for_all same large vs c.args.variables.now x rest ss unknown
+    (lacks_for_one same large vs c.args.variables.now x rest ss
     (sym (ap (with_variables same vs) behind) ∙ c.loop-solvable.invariant.all)
     (λ any. list_any-drop large c.loop-solvable.solvable-index ss (ap (list_any large) behind ∙ any)))
     c.in_err-variable.ensures.refused)

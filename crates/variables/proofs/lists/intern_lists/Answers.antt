@@ -5,8 +5,8 @@ use Rattle.std.proofs.lemmas.List.{drop_more, drop_all}
 use Rattle.std.proofs.lemmas.Simd.{map-map}
 use Rattle.std.proofs.lemmas.List.Folds.{flat_map-map}
 use Rattle.variables.specs.Variables.{interned_variable, with_variables}
-use Rattle.variables.proofs.InterningLemmas.{lists-all, ids_out_for_lists, list_any-drop-pieces, refusal_wider, handed_on}
-use Rattle.variables.proofs.lists.intern_each.Goals as goal
+use Rattle.variables.proofs.InterningLemmas.{lists-all, lacks_for_list, list_any-drop-pieces, refusal_wider, handed_on}
+use Rattle.variables.proofs.lists.intern_lists.Goals as goal
 
 pub returns-in_err-own-clause-refused : goal.returns-in_err-own-clause-refused
 returns-in_err-own-clause-refused g c =
@@ -23,7 +23,7 @@ returns-in_err-own-clause-refused g c =
     let e = c.in_err-own.field-0.0 in
     handed_on _ c.from_residual.result e c.from_residual.ensures.1
     (refusal_wider _ _ e
-    (ids_out_for_lists same large vs c.args.variables.now c.deref.result.now (flat_map (λ l. l.items) rest) (flat_map (λ l. l.items) lists)
+    (lacks_for_list same large vs c.args.variables.now c.deref.result.now (flat_map (λ l. l.items) rest) (flat_map (λ l. l.items) lists)
     (ap (with_variables same vs) own ∙ c.loop-list.invariant.all)
     (λ any. list_any-drop-pieces large (λ l. l.items) i lists (sym (ap (list_any large) own) ∙ any)))
     c.in_err-own.ensures.refused)

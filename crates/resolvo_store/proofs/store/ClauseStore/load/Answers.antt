@@ -1,0 +1,30 @@
+use Rattle.std.proofs.Common.{◌≡◌, ◌∙◌, sym, ap, subst, Some, ℕ, List}
+use Rattle.std.specs.Prelude.{option_map}
+use Rattle.resolvo_store.specs.Command.{Load, LoadedAs}
+use Rattle.resolvo_store.specs.Store.{Kept, store_of, provided, lists_of}
+use Rattle.resolvo_store.specs.Step.{IsAnswered}
+use Rattle.resolvo_store.proofs.ListLemmas.{items-cloned, items_of}
+use Rattle.resolvo_store.proofs.LoadingLemmas.{step-known, loaded-again}
+use Rattle.resolvo_store.proofs.store.ClauseStore.load.Goals as goal
+use Rattle.resolvo_store.proofs.store.ClauseStore.load.Goals.{in-Some+in_ok-lists-in-Some, in-None+in_ok-lists-in-None}
+
+pub returns-clause-step : goal.returns-clause-step
+returns-clause-step g c =
+    let store = store_of (provided g.D.NameId.PartialEq.eq g.D.SolvableId.PartialEq.eq g.D.NameId.Scores.IdMap.is_too_large g.D.SolvableId.Slots.IdMap.is_too_large g.D.Interner.universe g.D.DependencyProvider.answers) in
+    let old = store c.args.self.now in
+    let r = c.args.requirement in
+    let Answered : List (List ℕ) → Kept g.row.D.Denot g.row.D-NameId.Denot g.row.D-SolvableId.Denot → Type 0 =
+    λ lists kept. IsAnswered old (Load r) (LoadedAs lists) (store kept) in
+    let answered : Answered (items_of c.match-lists.lists) c.match-lists.self =
+    elim c.match-lists.branch [
+      | in-Some+in_ok-lists-in-Some w ↦
+          let found : lists_of old r ≡ Some (items_of w.in-Some.lists.now) = sym c.lists.ensures ∙ ap (option_map (λ l. items_of l.now)) w.in-Some.is in
+          let same : items_of c.match-lists.lists ≡ items_of w.in-Some.lists.now =
+          ap items_of w.lists-is ∙ items-cloned w.in-Some.lists.now.items w.in_ok-lists-in-Some.lists.items w.in_ok-lists-in-Some.ensures.cases.0 in
+          subst (Answered (items_of c.match-lists.lists)) (sym w.self-is)
+          (subst (λ lists. Answered lists c.args.self.now) (sym same) (loaded-again old r (items_of w.in-Some.lists.now) found))
+      | in-None+in_ok-lists-in-None w ↦
+          subst (Answered (items_of c.match-lists.lists)) (sym w.self-is)
+          (subst (λ lists. Answered (items_of lists) w.load_new.new.self) (sym w.lists-is) w.in_ok-lists-in-None.ensures.ok)
+    ] in
+    step-known old r (LoadedAs (items_of c.match-lists.lists)) (store c.match-lists.self) (sym c.knows_requirement.ensures ∙ c.if-not-knows_requirement.false) answered
