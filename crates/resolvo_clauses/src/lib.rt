@@ -10,4 +10,4 @@
 #![tactic(auto)]
 
 pub use decisions::{AddFault, Decision, DecisionMap, DecisionTracker, Literal};
-pub use variables::{VariableLists, VariableMap, VariableOrigin, intern_lists};
+pub use variables::{VariableMap, VariableOrigin};
