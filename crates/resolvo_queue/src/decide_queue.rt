@@ -1,19 +1,20 @@
 //! The queue of requires clauses: what is falsified, and what to decide next.
 //!
-//! A requires clause says that where its parent is true, one of the candidates of its requirement is true as well. A search
-//! asks after each step whether some clause can't be met any more, and if none is, which candidate to try next. Both
-//! questions go through the clauses in one order, the scan's: parent by parent as the parents were first registered, and
-//! each parent's clauses as these were.
+//! A requires clause says that where its parent is true, one of its requirement's candidates is true as well. A
+//! search asks after each step whether a clause can't be met any more, and where none is such, which candidate to try
+//! next. Both questions go through the clauses in one order, the scan's: parent by parent as the parents were first
+//! registered, and each parent's clauses in the order of their registration.
 //!
-//! A clause is open while its parent is true and none of its candidates is. The candidates of a requirement are its rows:
-//! those of its version sets, list after list. An open clause has a frontier, the first row that is undecided, and then it
-//! is eligible; or all its rows are false, and then it is falsified. So a clause whose parent is false or undecided is
-//! neither, whatever its rows are.
+//! A requirement's candidates are its rows: those of its first version set, then those of the next, and so on. A
+//! clause is open while its parent is true and no row is. Where an open clause has undecided rows, it is eligible:
+//! the first of them is its frontier, the candidate to try. Where it has none, all its rows are false, and it is
+//! falsified. A clause whose parent is false or undecided is neither.
 //!
-//! Beside the list of clauses the queue keeps what that order wants: the parents, each once, and each parent's own clauses.
-//! So a question reads one value for each parent, and no clause of a parent that isn't true. Of an open clause
-//! [`DecideQueue::falsified`] reads the rows up to the first that isn't false, and [`DecideQueue::next_decision`] reads
-//! those of one eligible clause, the first. Neither takes memory.
+//! Beside the list of clauses the queue keeps what the scan's order wants: the parents, each once, and each parent's
+//! own clauses. So a question costs one look at each parent's value, and nothing for the clauses of a parent that
+//! isn't true. Of an open clause [`DecideQueue::falsified`] reads the rows up to the first that isn't false;
+//! [`DecideQueue::next_decision`] reads all its rows, but no clause after the first eligible one. Neither takes
+//! memory.
 ghost use Rattle.std.specs.Prelude.{◌≡◌, ℕ, ◌-◌, ◌<◌, ◌≤◌, ◌^◌, ◌↔◌, ◌≢◌, [], ◌∷◌, ◌++◌, length, find, filter_map, if◌then◌else◌, All, IsTrue, true, false, option_map, OnOk, OnErr, IfErr};
 ghost use Rattle.typed_ids.specs.declared.error.StoreError.TheVariants.{OutOfMemory, TooManyClauses};
 ghost use Rattle.decisions.specs.Decisions.{values_in};
@@ -126,8 +127,8 @@ impl<A: Allocator + Copy> DecideQueue<A> {
         Ok(())
     }
 
-    /// The first falsified clause of the scan, if there is one. Takes no memory; linear in the parents, and in the rows of
-    /// the clauses of true parents up to the first row of each that isn't false.
+    /// The first falsified clause of the scan, if there is one. Takes no memory; linear in the parents, and in the rows
+    /// of the clauses of true parents, of each up to the first row that isn't false.
     pub fn falsified<I: Interner>(
         &self,
         map: &DecisionMap<A>,
@@ -148,10 +149,10 @@ impl<A: Allocator + Copy> DecideQueue<A> {
 
     /// The decision to take where no clause is falsified, which [`DecideQueue::falsified`] tells: that of an eligible
     /// clause which no other one beats. Takes no memory; linear in the parents, and in the rows of the clauses of true
-    /// parents up to the first eligible one.
+    /// parents up to the first eligible clause.
     ///
-    /// An offer beats another by a higher score, and no package has a score yet. So nothing beats the first eligible clause,
-    /// and the pass ends there.
+    /// A clause beats another by a higher score, and no package has a score yet. So nothing beats the first eligible
+    /// clause, and the pass ends there.
     pub fn next_decision<I: Interner>(
         &self,
         map: &DecisionMap<A>,

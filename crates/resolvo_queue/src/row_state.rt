@@ -112,7 +112,8 @@ pub(crate) fn requirement_state<I: Interner, A: Allocator + Copy>(
     }
 }
 
-/// Whether all rows of a requirement are false, by the lists that are loaded. Reads the rows up to the first that isn't.
+/// Whether all rows of a requirement are false, by the lists that are loaded. What isn't loaded has no rows. Reads the
+/// rows up to the first that isn't false.
 pub(crate) fn are_all_false<I: Interner, A: Allocator + Copy>(
     decisions: &DecisionMap<A>,
     lists: &RequirementMap<Vec<Vec<VariableId, A>, A>, A>,

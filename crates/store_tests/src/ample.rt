@@ -179,8 +179,8 @@ fn the_queue_takes_clauses(rt: HostRuntime) -> Result<(), Fail> {
     is_same(seen, Ok(Some((1, Some(clause(0))))))
 }
 
-/// How many clauses a new queue has, and which one is falsified, once it has one whose parent is true and whose requirement
-/// isn't loaded. None if the interner knows no version set.
+/// How many clauses a new queue has, and which one is falsified, once it has one whose parent is true and whose
+/// requirement isn't loaded. None if the interner knows no version set.
 fn new_queue_seen<I: Interner + Drop, A: Allocator + Copy>(
     heap: A,
     interner: I,

@@ -30,8 +30,8 @@ impl<D: DependencyProvider + Drop> ClauseStore<D> {
     }
 
     /// The first falsified clause of the scan, if there is one: its parent is true, and all its candidates are false.
-    /// Takes no memory; linear in the parents, and in the rows of the clauses of true parents up to the first row of each
-    /// that isn't false.
+    /// Takes no memory; linear in the parents, and in the rows of the clauses of true parents, of each up to the first
+    /// row that isn't false.
     pub fn falsified(&self) -> Option<ClauseId>
         ensures { result ≡ option_map (λ c. c.clause_id) (falsified_clause (⟦<D as AbstractStore>⟧.store self.now)) }
     {
@@ -40,7 +40,7 @@ impl<D: DependencyProvider + Drop> ClauseStore<D> {
     }
 
     /// The decision that the scan picks, where nothing is falsified: [`ClauseStore::falsified`] is the test. Takes no
-    /// memory; linear in the parents, and in the rows of the clauses of true parents up to the first eligible one.
+    /// memory; linear in the parents, and in the rows of the clauses of true parents up to the first eligible clause.
     pub fn next_decision(&self) -> Option<QueueDecision>
         requires { falsified_clause (⟦<D as AbstractStore>⟧.store self.now) ≡ None }
         ensures picked { result ≡ option_map decided (picked (⟦<D as AbstractStore>⟧.store self.now)) }
