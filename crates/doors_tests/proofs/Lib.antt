@@ -1,0 +1,2 @@
+pub mod ShelfLemmas
+pub mod StoreLemmas

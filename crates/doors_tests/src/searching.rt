@@ -1,0 +1,71 @@
+//! A small search.
+ghost use Rattle.std.specs.Prelude.{◌≡◌, not, None, Some, option_map, IfOk, OnOk, IfErr};
+ghost use Rattle.resolvo_clauses.specs.Trail.{val};
+ghost use Rattle.resolvo_queue.specs.Pick.{DecidesUnbeaten};
+ghost use Rattle.resolvo_store.specs.Outcome.{falsified_clause, offers};
+ghost use Rattle.doors_tests.specs.Search.{IsEnd};
+
+use crate::callers::{give, obey};
+use resolvo_ids::{ClauseId, StoreError, VariableId};
+use resolvo_pool::DependencyProvider;
+use resolvo_queue::QueueDecision;
+use resolvo_store::{AbstractStore, ClauseStore, Command};
+use std::ops::Range;
+
+/// How a search ends.
+#[derive(Clone, Copy, Debug, PartialEq, Eq)]
+pub enum SearchEnd {
+    /// Each clause whose parent is true has a candidate that is true.
+    Solved,
+    /// This clause can't be met any more.
+    Falsified(ClauseId),
+    /// Each level has its decision, and the last one was not looked at.
+    LevelsUsed,
+}
+
+/// The next decision, if there is one, which no eligible clause beats; or the first clause that can't be met any more.
+pub fn ask<D: DependencyProvider + Drop>(
+    store: &ClauseStore<D>,
+) -> Result<Option<QueueDecision>, ClauseId>
+    ensures decision { IfOk result (λ decision. DecidesUnbeaten (offers (⟦<D as AbstractStore>⟧.store store.now)) decision) }
+    ensures unfalsified { OnOk result (falsified_clause (⟦<D as AbstractStore>⟧.store store.now) ≡ None) }
+    ensures falsified { IfErr result (λ clause. option_map (λ c. c.clause_id) (falsified_clause (⟦<D as AbstractStore>⟧.store store.now)) ≡ Some clause) }
+{
+    match store.falsified() {
+        Some(clause) => Err(clause),
+        None => Ok(store.next_decision()),
+    }
+}
+
+/// Decides, one candidate a level, until nothing is left to decide or a clause is falsified.
+pub fn search<D: DependencyProvider + Drop>(
+    store: &mut ClauseStore<D>,
+    levels: Range<u32>,
+) -> Result<SearchEnd, StoreError>
+    ensures { IfOk result (λ end. IsEnd (⟦<D as AbstractStore>⟧.store store.new) end) }
+{
+    for level in levels {
+        let decision = match ask(store) {
+            Err(clause) => return Ok(SearchEnd::Falsified(clause)),
+            Ok(None) => return Ok(SearchEnd::Solved),
+            Ok(Some(decision)) => decision,
+        };
+        let assign = Command::Assign(decision.candidate, true, decision.clause_id, level);
+        obey(store, &assign)?;
+    }
+    Ok(SearchEnd::LevelsUsed)
+}
+
+/// Takes back what was assigned above a level, and rules a candidate out at this level: the clause can't be met with it.
+/// Answers whether it is ruled out now; it isn't if it was chosen at this level or below.
+pub fn rule_out<D: DependencyProvider + Drop>(
+    store: &mut ClauseStore<D>,
+    candidate: VariableId,
+    clause: ClauseId,
+    level: u32,
+) -> Result<bool, StoreError>
+    ensures { IfOk result (λ done. val (⟦<D as AbstractStore>⟧.store store.new).trail candidate ≡ Some (not done)) }
+{
+    obey(store, &Command::UndoUntil(level))?;
+    give(store, candidate, false, clause, level)
+}
