@@ -1,22 +1,10 @@
 -- Runs of the abstract store.
-use Rattle.std.proofs.Common.{◌≡◌, List, [], ◌∷◌, ◌++◌, Option, None, Some, refl, subst}
-use Rattle.std.specs.Prelude.{MatchOption}
-use Rattle.typed_ids.specs.declared.error.StoreError.{StoreError}
-use Rattle.resolvo_store.specs.Command.{Command, Reply, Refused, IsRefused}
-use Rattle.resolvo_store.specs.Refusals.{first_refusal}
+use Rattle.std.proofs.Common.{List, [], ◌∷◌, ◌++◌, refl, subst}
+use Rattle.resolvo_store.specs.Command.{Command, Reply}
 use Rattle.resolvo_store.specs.Store.{Store}
-use Rattle.resolvo_store.specs.Step.{IsAnswered, Step, Run}
+use Rattle.resolvo_store.specs.Step.{Step, Run}
 
 module _ {N S : Type 0} where
-  -- a refused command changes nothing
-  pub refused_same : (old new : Store N S) (c : Command S) (reply : Reply) → Step old c reply new → IsRefused reply → new ≡ old
-  refused_same old new c (Refused e) step r = by_refusal (first_refusal old c) step
-    where
-      by_refusal : (x : Option StoreError) → MatchOption x (IsAnswered old c (Refused e) new) (λ y. (Refused e ≡ Refused y) × (new ≡ old)) → new ≡ old
-      by_refusal None h = h.1
-      by_refusal (Some y) h = h.1
-  refused_same old new c _ step r = absurd r
-
   -- a run goes on by a step
   pub run_more : (old mid new : Store N S) (cs : List (Command S)) (replies : List Reply) (c : Command S) (reply : Reply)
       → Run old cs replies mid → Step mid c reply new → Run old (cs ++ c ∷ []) (replies ++ reply ∷ []) new

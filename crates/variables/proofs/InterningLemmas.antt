@@ -1,11 +1,13 @@
 -- Solvables that get variables in turn.
-use Rattle.std.proofs.Common.{◌≡◌, ℕ, ◌+◌, ◌≤◌, ◌-◌, ◌^◌, Bool, true, false, cond, ◌||◌, List, [], ◌∷◌, ◌++◌, length, length-append, append_assoc, map, take, drop, Option, None, Some, Result, Ok, Err, refl, arith, sym, ◌∙◌, ap, subst, ltb, zero, suc}
+use Rattle.std.proofs.Common.{◌≡◌, ℕ, ◌+◌, ◌≤◌, ◌-◌, ◌^◌, Bool, true, false, cond, ◌||◌, List, [], ◌∷◌, ◌++◌, length, length-append, map, min, take, drop, Option, None, Some, Result, Ok, Err, refl, arith, sym, ◌∙◌, ap, subst, ltb}
 use Rattle.std.specs.Prelude.{is_some, is_none, ◌&&◌, unwrap_or, flat_map, IfErr}
 use Rattle.std.specs.Result.{IsErrAnd}
 use Rattle.std.specs.List.{list_any}
 use Rattle.std.proofs.Math.Bool.{or-true}
+use Rattle.std.proofs.Math.Seq.{take-append-add, take-length}
 use Rattle.std.proofs.lemmas.Bool.Decides.{nat_tests}
-use Rattle.std.proofs.lemmas.List.{take-append-le, append-nil}
+use Rattle.std.proofs.lemmas.Grind.{flat_map-append}
+use Rattle.std.proofs.lemmas.List.{take-append-le, take-append-drop, take_min, append-nil}
 use Rattle.std.proofs.lemmas.List.Folds.{list_any-append}
 use Rattle.std.proofs.lemmas.List.Sums.{fold-append}
 use Rattle.typed_ids.specs.Refusals.{IsGrowthRefusal}
@@ -13,7 +15,7 @@ use Rattle.typed_ids.specs.declared.error.StoreError.{StoreError}
 use Rattle.typed_ids.specs.declared.error.StoreError.TheVariants.{OutOfMemory, IdSpace}
 use Rattle.variables.specs.declared.variable_origin.VariableOrigin.{VariableOrigin}
 use Rattle.variables.specs.declared.variable_origin.VariableOrigin.TheVariants.{Solvable}
-use Rattle.variables.specs.Variables.{is_solvable, variable_of_solvable, interned_variable, with_variable, with_variables, are_variables_out, lacks_variable, lacks_variables}
+use Rattle.variables.specs.Variables.{is_solvable, variable_of_solvable, interned_variable, with_variable, with_variables, are_variables_out, lacks_variable, lacks_variables, IsPartlyInterned}
 use Rattle.variables.proofs.VariableLemmas.{or_else, position-append}
 
 -- a refusal that was handed on
@@ -27,20 +29,13 @@ refusal_wider a b OutOfMemory h r = r
 refusal_wider a b IdSpace h r = h r
 refusal_wider a b _ h r = absurd r
 
--- what is found behind a front is found
-pub list_any-drop : {X : Type 0} (test : X → Bool) (i : ℕ) (xs : List X) → list_any test (drop i xs) ≡ true → list_any test xs ≡ true
-list_any-drop test zero xs h = h
-list_any-drop test (suc i) [] h = h
-list_any-drop test (suc i) (x ∷ xs) h = elim (test x) as (λ b. (b || list_any test xs) ≡ true) [ true ↦ refl | false ↦ list_any-drop test i xs h ]
-
--- and so is what is found in the pieces behind some
-pub list_any-drop-pieces : {X Y : Type 0} (test : Y → Bool) (pieces : X → List Y) (i : ℕ) (xs : List X)
-    → list_any test (flat_map pieces (drop i xs)) ≡ true → list_any test (flat_map pieces xs) ≡ true
-list_any-drop-pieces test pieces zero xs h = h
-list_any-drop-pieces test pieces (suc i) [] h = h
-list_any-drop-pieces test pieces (suc i) (x ∷ xs) h =
-    list_any-append test (pieces x) (flat_map pieces xs)
-    ∙ ap (λ b. list_any test (pieces x) || b) (list_any-drop-pieces test pieces i xs h) ∙ or-true (list_any test (pieces x))
+-- lists one after another: the list of x, with those before and after it
+pub split-at : {X S : Type 0} (list : X → List S) (xs : List X) (i : ℕ) (x : X) (own : List S) → drop i xs ≡ x ∷ drop (i + 1) xs → own ≡ list x
+    → flat_map list xs ≡ flat_map list (take i xs) ++ (own ++ flat_map list (drop (i + 1) xs))
+split-at list xs i x own behind is =
+    ap (flat_map list) (sym (take-append-drop i xs) ∙ ap (λ l. take i xs ++ l) behind)
+    ∙ flat_map-append list (take i xs) (x ∷ drop (i + 1) xs)
+    ∙ ap (λ l. flat_map list (take i xs) ++ (l ++ flat_map list (drop (i + 1) xs))) (sym is)
 
 module _ {N S : Type 0} (same : S → S → Bool) where
   -- the variables of solvables that get them in turn
@@ -48,10 +43,11 @@ module _ {N S : Type 0} (same : S → S → Bool) where
   variables_in_turn os [] = []
   variables_in_turn os (s ∷ ss) = interned_variable same os s ∷ variables_in_turn (with_variable same os s) ss
 
-  -- the variables of lists of solvables that get them list by list
-  abbrev pub lists_in_turn : List (VariableOrigin N S) → List (List S) → List (List ℕ)
-  lists_in_turn os [] = []
-  lists_in_turn os (ss ∷ lists) = map (interned_variable same (with_variables same os ss)) ss ∷ lists_in_turn (with_variables same os ss) lists
+  -- the variables of solvables that get them list by list, where each x has a list
+  abbrev pub lists_in_turn : {X : Type 0} → (X → List S) → List (VariableOrigin N S) → List X → List (List ℕ)
+  lists_in_turn list os [] = []
+  lists_in_turn list os (x ∷ xs) =
+      map (interned_variable same (with_variables same os (list x))) (list x) ∷ lists_in_turn list (with_variables same os (list x)) xs
 
   -- an origin more takes no solvable its variable
   variable-kept : (s : S) (o : VariableOrigin N S) (v : ℕ) (os : List (VariableOrigin N S)) → variable_of_solvable same os s ≡ Some v → variable_of_solvable same (os ++ o ∷ []) s ≡ Some v
@@ -68,30 +64,49 @@ module _ {N S : Type 0} (same : S → S → Bool) where
   kept-all s v os (t ∷ ss) h = kept-all s v (with_variable same os t) ss (kept-with_variable s t v os h)
 
   -- a solvable of which nothing is known makes the list longer
-  pub with_variable-new : (s : S) (os : List (VariableOrigin N S)) → variable_of_solvable same os s ≡ None → with_variable same os s ≡ os ++ Solvable s ∷ []
+  with_variable-new : (s : S) (os : List (VariableOrigin N S)) → variable_of_solvable same os s ≡ None → with_variable same os s ≡ os ++ Solvable s ∷ []
   with_variable-new s os h = ap (λ p. cond (is_some p) os (os ++ Solvable s ∷ [])) h
 
-  pub longer-with_variable : (s : S) (os : List (VariableOrigin N S)) → length os ≤ length (with_variable same os s)
+  longer-with_variable : (s : S) (os : List (VariableOrigin N S)) → length os ≤ length (with_variable same os s)
   longer-with_variable s os =
       elim (is_some (variable_of_solvable same os s)) as (λ b. length os ≤ length (cond b os (os ++ Solvable s ∷ [])))
       [ true ↦ omega arith | false ↦ omega (arith, length-append os (Solvable s ∷ [])) ]
 
   -- the variables that were there stay in front
-  pub front-with_variable : (n : ℕ) (s : S) (os : List (VariableOrigin N S)) → n ≤ length os → take n (with_variable same os s) ≡ take n os
+  front-with_variable : (n : ℕ) (s : S) (os : List (VariableOrigin N S)) → n ≤ length os → take n (with_variable same os s) ≡ take n os
   front-with_variable n s os h =
       elim (is_some (variable_of_solvable same os s)) as (λ b. take n (cond b os (os ++ Solvable s ∷ [])) ≡ take n os)
       [ true ↦ refl | false ↦ take-append-le n os (Solvable s ∷ []) h ]
 
+  front-some : (n : ℕ) (os : List (VariableOrigin N S)) (ss : List S) → n ≤ length os → take n (with_variables same os ss) ≡ take n os
+  front-some n os [] h = refl
+  front-some n os (s ∷ ss) h = front-some n (with_variable same os s) ss (omega (arith, h, longer-with_variable s os)) ∙ front-with_variable n s os h
+
+  front-all : (os : List (VariableOrigin N S)) (ss : List S) → take (length os) (with_variables same os ss) ≡ os
+  front-all os ss = front-some (length os) os ss (omega arith) ∙ take-length os
+
+  -- once one solvable more has a variable
+  pub one-more : (os vs after : List (VariableOrigin N S)) (done : List S) (x : S) → vs ≡ with_variables same os done → after ≡ with_variable same vs x
+      → after ≡ with_variables same os (done ++ x ∷ [])
+  one-more os vs after done x grown is = is ∙ ap (λ o. with_variable same o x) grown ∙ sym (fold-append (with_variable same) os done (x ∷ []))
+
   -- one solvable more of those that get variables in turn
-  pub in_turn-more : (os after first : List (VariableOrigin N S)) (x : S) (rest behind ss : List S) (done : List ℕ) (v : ℕ)
-      → behind ≡ x ∷ rest → v ≡ interned_variable same os x → after ≡ with_variable same os x
-      → done ++ variables_in_turn os behind ≡ variables_in_turn first ss
-      → (done ++ v ∷ []) ++ variables_in_turn after rest ≡ variables_in_turn first ss
-  in_turn-more os after first x rest behind ss done v e f g h =
-      append_assoc done (v ∷ []) (variables_in_turn after rest)
-      ∙ ap (λ w. done ++ w ∷ variables_in_turn after rest) f
-      ∙ ap (λ vs. done ++ interned_variable same os x ∷ variables_in_turn vs rest) g
-      ∙ sym (ap (λ b. done ++ variables_in_turn os b) e) ∙ h
+  pub in_turn-more : (os : List (VariableOrigin N S)) (ss : List S) (x : S)
+      → variables_in_turn os (ss ++ x ∷ []) ≡ variables_in_turn os ss ++ interned_variable same (with_variables same os ss) x ∷ []
+  in_turn-more os [] x = refl
+  in_turn-more os (s ∷ ss) x = ap (λ vs. interned_variable same os s ∷ vs) (in_turn-more (with_variable same os s) ss x)
+
+  -- one list more
+  pub lists-more : {X : Type 0} (list : X → List S) (os : List (VariableOrigin N S)) (xs : List X) (x : X)
+      → lists_in_turn list os (xs ++ x ∷ []) ≡ lists_in_turn list os xs
+      ++ map (interned_variable same (with_variables same (with_variables same os (flat_map list xs)) (list x))) (list x) ∷ []
+  lists-more list os [] x = refl
+  lists-more list os (y ∷ ys) x =
+      let after : List (VariableOrigin N S) = with_variables same os (list y) in
+      ap (λ vs. map (interned_variable same after) (list y) ∷ vs)
+      (lists-more list after ys x
+      ∙ ap (λ vs. lists_in_turn list after ys ++ map (interned_variable same (with_variables same vs (list x))) (list x) ∷ [])
+      (sym (fold-append (with_variable same) os (list y) (flat_map list ys))))
 
   pub longer-all : (os : List (VariableOrigin N S)) (ss : List S) → length os ≤ length (with_variables same os ss)
   longer-all os [] = omega arith
@@ -123,81 +138,106 @@ module _ {N S : Type 0} (same : S → S → Bool) where
         variables-later os ss [] ∙ ap (λ all. map (interned_variable same (with_variables same os all)) ss) (append-nil ss)
 
     -- and so are those of lists
-    pub lists-in-turn : (os : List (VariableOrigin N S)) (lists : List (List S))
-        → lists_in_turn os lists ≡ map (map (interned_variable same (with_variables same os (flat_map (λ l. l) lists)))) lists
-    lists-in-turn os [] = refl
-    lists-in-turn os (ss ∷ lists) =
-        let rest : List S = flat_map (λ l. l) lists in
-        let after : List (VariableOrigin N S) = with_variables same os ss in
-        let own : map (interned_variable same after) ss ≡ map (interned_variable same (with_variables same os (ss ++ rest))) ss =
-        sym (variables-in-turn os ss) ∙ variables-later os ss rest in
-        ap (λ l. l ∷ lists_in_turn after lists) own
-        ∙ ap (λ ls. map (interned_variable same (with_variables same os (ss ++ rest))) ss ∷ ls)
-        (lists-in-turn after lists
-        ∙ ap (λ vs. map (map (interned_variable same vs)) lists) (sym (fold-append (with_variable same) os ss rest)))
+    pub lists-in-turn : {X : Type 0} (list : X → List S) (os : List (VariableOrigin N S)) (xs : List X)
+        → lists_in_turn list os xs ≡ map (λ x. map (interned_variable same (with_variables same os (flat_map list xs))) (list x)) xs
+    lists-in-turn list os [] = refl
+    lists-in-turn list os (x ∷ xs) =
+        let rest : List S = flat_map list xs in
+        let after : List (VariableOrigin N S) = with_variables same os (list x) in
+        let own : map (interned_variable same after) (list x) ≡ map (interned_variable same (with_variables same os (list x ++ rest))) (list x) =
+        sym (variables-in-turn os (list x)) ∙ variables-later os (list x) rest in
+        ap (λ l. l ∷ lists_in_turn list after xs) own
+        ∙ ap (λ ls. map (interned_variable same (with_variables same os (list x ++ rest))) (list x) ∷ ls)
+        (lists-in-turn list after xs
+        ∙ ap (λ vs. map (λ y. map (interned_variable same vs) (list y)) xs) (sym (fold-append (with_variable same) os (list x) rest)))
 
   -- what lacks for one solvable lacks for all of them
-  pub lacks_for_one : (large : S → Bool) (os first : List (VariableOrigin N S)) (x : S) (rest ss : List S)
-      → with_variables same os (x ∷ rest) ≡ with_variables same first ss
-      → (list_any large (x ∷ rest) ≡ true → list_any large ss ≡ true)
-      → lacks_variable same large os x ≡ true → lacks_variables same large first ss ≡ true
-  lacks_for_one large os first x rest ss all any out =
-      by_known (variable_of_solvable same os x) refl out
+  pub lacks_for_one : (large : S → Bool) (os : List (VariableOrigin N S)) (done : List S) (x : S) (rest : List S)
+      → lacks_variable same large (with_variables same os done) x ≡ true → lacks_variables same large os (done ++ x ∷ rest) ≡ true
+  lacks_for_one large os done x rest out =
+      by_known (variable_of_solvable same vs x) refl out
     where
-      grown : (vs : List (VariableOrigin N S)) → length vs + 1 ≤ length (with_variables same (vs ++ Solvable x ∷ []) rest)
-      grown vs = omega (arith, length-append vs (Solvable x ∷ []), longer-all (vs ++ Solvable x ∷ []) rest)
+      vs : List (VariableOrigin N S)
+      vs = with_variables same os done
 
-      by_test : (a b : Bool) → variable_of_solvable same os x ≡ None → are_variables_out (length os) ≡ a → large x ≡ b → (a || b) ≡ true
-          → lacks_variables same large first ss ≡ true
+      all : List (VariableOrigin N S)
+      all = with_variables same os (done ++ x ∷ rest)
+
+      by_test : (a b : Bool) → variable_of_solvable same vs x ≡ None → are_variables_out (length vs) ≡ a → large x ≡ b → (a || b) ≡ true
+          → lacks_variables same large os (done ++ x ∷ rest) ≡ true
       by_test true b new f l h =
-          let size : length os + 1 ≤ length (with_variables same first ss) =
-          subst (λ vs. length os + 1 ≤ length vs) all (subst (λ vs. length os + 1 ≤ length (with_variables same vs rest)) (sym (with_variable-new x os new)) (grown os)) in
-          let few : ltb (2 ^ 31 - 1) (length (with_variables same first ss)) ≡ true = grind (arith, nat_tests, f, size) in
-          ap (λ c. c || list_any large ss) few
+          let grown : length vs + 1 ≤ length (with_variables same (vs ++ Solvable x ∷ []) rest) =
+          omega (arith, length-append vs (Solvable x ∷ []), longer-all (vs ++ Solvable x ∷ []) rest) in
+          let size : length vs + 1 ≤ length all =
+          subst (λ o. length vs + 1 ≤ length o) (sym (fold-append (with_variable same) os done (x ∷ rest)))
+          (subst (λ o. length vs + 1 ≤ length (with_variables same o rest)) (sym (with_variable-new x vs new)) grown) in
+          let few : ltb (2 ^ 31 - 1) (length all) ≡ true = grind (arith, nat_tests, f, size) in
+          ap (λ c. c || list_any large (done ++ x ∷ rest)) few
       by_test false true new f l h =
-          let some : list_any large ss ≡ true = any (ap (λ c. c || list_any large rest) l) in
+          let some : list_any large (done ++ x ∷ rest) ≡ true =
+          list_any-append large done (x ∷ rest) ∙ ap (λ c. list_any large done || (c || list_any large rest)) l ∙ or-true (list_any large done) in
           grind (arith, some)
       by_test false false new f l h = cc
 
-      by_known : (p : Option ℕ) → variable_of_solvable same os x ≡ p → (is_none p && (are_variables_out (length os) || large x)) ≡ true
-          → lacks_variables same large first ss ≡ true
-      by_known None new h = by_test (are_variables_out (length os)) (large x) new refl refl h
+      by_known : (p : Option ℕ) → variable_of_solvable same vs x ≡ p → (is_none p && (are_variables_out (length vs) || large x)) ≡ true
+          → lacks_variables same large os (done ++ x ∷ rest) ≡ true
+      by_known None new h = by_test (are_variables_out (length vs)) (large x) new refl refl h
       by_known (Some v) known h = cc
 
-  module _ (reflexive : (x : S) → same x x ≡ true) where
-    -- once all solvables got their variables, those are the variables that they have
-    pub in_turn-all : (os first : List (VariableOrigin N S)) (behind ss : List S) (done : List ℕ) → behind ≡ []
-        → done ++ variables_in_turn os behind ≡ variables_in_turn first ss → with_variables same os behind ≡ with_variables same first ss
-        → done ≡ map (interned_variable same os) ss
-    in_turn-all os first behind ss done e h all =
-        sym (append-nil done) ∙ sym (ap (λ b. done ++ variables_in_turn os b) e) ∙ h ∙ variables-in-turn reflexive first ss
-        ∙ sym (ap (λ vs. map (interned_variable same vs) ss) (sym (ap (with_variables same os) e) ∙ all))
-
-    -- once all lists' solvables got their variables, those are the variables that they have
-    pub lists-all : (os first : List (VariableOrigin N S)) (behind lists : List (List S)) (done : List (List ℕ)) → behind ≡ []
-        → done ++ lists_in_turn os behind ≡ lists_in_turn first lists → os ≡ with_variables same first (flat_map (λ l. l) lists)
-        → done ≡ map (map (interned_variable same os)) lists
-    lists-all os first behind lists done e h all =
-        sym (append-nil done) ∙ sym (ap (λ b. done ++ lists_in_turn os b) e) ∙ h ∙ lists-in-turn reflexive first lists
-        ∙ sym (ap (λ vs. map (map (interned_variable same vs)) lists) all)
-
   -- what lacks for one list lacks for all of them
-  pub lacks_for_list : (large : S → Bool) (os first : List (VariableOrigin N S)) (ss rest all : List S)
-      → with_variables same os (ss ++ rest) ≡ with_variables same first all
-      → (list_any large (ss ++ rest) ≡ true → list_any large all ≡ true)
-      → lacks_variables same large os ss ≡ true → lacks_variables same large first all ≡ true
-  lacks_for_list large os first ss rest all e any out =
-      by_test (ltb (2 ^ 31 - 1) (length (with_variables same os ss))) (list_any large ss) refl refl out
+  pub lacks_for_list : (large : S → Bool) (os : List (VariableOrigin N S)) (done own rest : List S)
+      → lacks_variables same large (with_variables same os done) own ≡ true → lacks_variables same large os (done ++ (own ++ rest)) ≡ true
+  lacks_for_list large os done own rest out =
+      by_test (ltb (2 ^ 31 - 1) (length (with_variables same vs own))) (list_any large own) refl refl out
     where
-      by_test : (a b : Bool) → ltb (2 ^ 31 - 1) (length (with_variables same os ss)) ≡ a → list_any large ss ≡ b → (a || b) ≡ true
-          → lacks_variables same large first all ≡ true
+      vs : List (VariableOrigin N S)
+      vs = with_variables same os done
+
+      all : List (VariableOrigin N S)
+      all = with_variables same os (done ++ (own ++ rest))
+
+      by_test : (a b : Bool) → ltb (2 ^ 31 - 1) (length (with_variables same vs own)) ≡ a → list_any large own ≡ b → (a || b) ≡ true
+          → lacks_variables same large os (done ++ (own ++ rest)) ≡ true
       by_test true b f l h =
-          let grown : length (with_variables same os ss) ≤ length (with_variables same first all) =
-          subst (λ vs. length (with_variables same os ss) ≤ length vs) (sym (fold-append (with_variable same) os ss rest) ∙ e)
-          (longer-all (with_variables same os ss) rest) in
-          let many : ltb (2 ^ 31 - 1) (length (with_variables same first all)) ≡ true = grind (arith, nat_tests, f, grown) in
-          ap (λ c. c || list_any large all) many
+          let grown : length (with_variables same vs own) ≤ length all =
+          subst (λ o. length (with_variables same vs own) ≤ length o)
+          (sym (fold-append (with_variable same) os done (own ++ rest) ∙ fold-append (with_variable same) vs own rest))
+          (longer-all (with_variables same vs own) rest) in
+          let many : ltb (2 ^ 31 - 1) (length all) ≡ true = grind (arith, nat_tests, f, grown) in
+          ap (λ c. c || list_any large (done ++ (own ++ rest))) many
       by_test false true f l h =
-          let some : list_any large all ≡ true = any (list_any-append large ss rest ∙ ap (λ c. c || list_any large rest) l) in
+          let some : list_any large (done ++ (own ++ rest)) ≡ true =
+          list_any-append large done (own ++ rest) ∙ ap (λ c. list_any large done || c) (list_any-append large own rest ∙ ap (λ c. c || list_any large rest) l)
+          ∙ or-true (list_any large done) in
           grind (arith, some)
       by_test false false f l h = cc
+
+  -- where some solvables of one list got variables after those of the lists before it, so did some of all of them
+  pub partly_more : {X : Type 0} (list : X → List S) (os vs after : List (VariableOrigin N S)) (xs : List X) (i : ℕ) (x : X) (own : List S)
+      → drop i xs ≡ x ∷ drop (i + 1) xs → own ≡ list x → vs ≡ with_variables same os (flat_map list (take i xs))
+      → IsPartlyInterned same vs own after → IsPartlyInterned same os (flat_map list xs) after
+  partly_more list os vs after xs i x own behind is grown part =
+      let done : List S = flat_map list (take i xs) in
+      let rest : List S = flat_map list (drop (i + 1) xs) in
+      let n : ℕ = min part.0 (length own) in
+      let within : n ≤ length own = omega arith in (
+        length done + n,
+        part.1 ∙ ap (with_variables same vs) (sym (take_min part.0 own)) ∙ ap (λ o. with_variables same o (take n own)) grown
+            ∙ sym (fold-append (with_variable same) os done (take n own))
+            ∙ ap (with_variables same os) (ap (λ ts. done ++ ts) (sym (take-append-le n own rest within)) ∙ sym (take-append-add done (own ++ rest) n)
+            ∙ ap (take (length done + n)) (sym (split-at list xs i x own behind is))),
+      )
+
+  -- all of them are some
+  pub wholly : (os : List (VariableOrigin N S)) (ss : List S) (after : List (VariableOrigin N S))
+      → after ≡ with_variables same os ss → IsPartlyInterned same os ss after
+  wholly os ss after all = (length ss, all ∙ ap (with_variables same os) (sym (take-length ss)))
+
+  -- the variables that were there stay in front
+  pub front_of_part : (os : List (VariableOrigin N S)) (ss : List S) (after : List (VariableOrigin N S))
+      → IsPartlyInterned same os ss after → take (length os) after ≡ os
+  front_of_part os ss after part = ap (take (length os)) part.1 ∙ front-all os (take part.0 ss)
+
+  pub longer_part : (os : List (VariableOrigin N S)) (ss : List S) (after : List (VariableOrigin N S))
+      → IsPartlyInterned same os ss after → length os ≤ length after
+  longer_part os ss after part = subst (λ vs. length os ≤ length vs) (sym part.1) (longer-all os (take part.0 ss))

@@ -1,5 +1,5 @@
 -- The variables: a list of origins, one for each variable. N are the names, S the solvables.
-use Rattle.std.specs.Prelude.{◌≡◌, ℕ, ◌≤◌, ◌^◌, ◌-◌, Bool, false, ◌&&◌, ◌||◌, nat_le, nat_lt, if◌then◌else◌, List, [], ◌∷◌, ◌++◌, length, fold, Option, None, Some, is_some, is_none, unwrap_or, slice_get}
+use Rattle.std.specs.Prelude.{◌≡◌, ℕ, ◌≤◌, ◌^◌, ◌-◌, Bool, false, ◌&&◌, ◌||◌, nat_le, nat_lt, if◌then◌else◌, List, [], ◌∷◌, ◌++◌, length, take, fold, Option, None, Some, is_some, is_none, unwrap_or, slice_get}
 use Rattle.std.specs.List.{position_from, list_any}
 use Rattle.variables.specs.declared.variable_origin.VariableOrigin.{VariableOrigin}
 use Rattle.variables.specs.declared.variable_origin.VariableOrigin.TheVariants.{Root, Solvable}
@@ -38,6 +38,10 @@ module _ {N S : Type 0} (same : S → S → Bool) where
   -- the origins once each solvable has a variable, interned in the list's order
   abbrev pub with_variables : List (VariableOrigin N S) → List S → List (VariableOrigin N S)
   with_variables origins ss = fold with_variable origins ss
+
+  -- the origins once the first so many of the solvables have variables
+  abbrev pub IsPartlyInterned : List (VariableOrigin N S) → List S → List (VariableOrigin N S) → Type 0
+  IsPartlyInterned origins ss after = (n : ℕ) × (after ≡ with_variables origins (take n ss))
 
   -- a map from solvables to their variables that belongs to a list of variables
   pub record IsVariableMap (slots : S → Option ℕ) (origins : List (VariableOrigin N S)) : Type 0 where

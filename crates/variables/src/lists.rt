@@ -1,7 +1,7 @@
 //! The variables of lists of solvables.
-ghost use Rattle.std.specs.Prelude.{◌≡◌, ◌≤◌, map, flat_map, length, take, IfOk, OnOk, IfErr};
+ghost use Rattle.std.specs.Prelude.{◌≡◌, ◌≤◌, map, flat_map, length, take, IfOk, OnOk, OnErr, IfErr};
 ghost use Rattle.typed_ids.specs.Refusals.{IsGrowthRefusal};
-ghost use Rattle.variables.specs.Variables.{interned_variable, with_variables, lacks_variables};
+ghost use Rattle.variables.specs.Variables.{interned_variable, with_variables, lacks_variables, IsPartlyInterned};
 
 use crate::variable_map::VariableMap;
 use id_maps::SolverId;
@@ -11,8 +11,9 @@ use typed_ids::{StoreError, VariableId};
 /// Lists of variables, one a version set.
 pub type VariableLists<A> = Vec<Vec<VariableId, A>, A>;
 
-/// The variables of lists of solvables, list by list; each solvable gets one if it has none. A refusal leaves the
-/// variables that were there in front, and some new ones after them: [`VariableMap::forget_from`] takes these back.
+/// The variables of lists of solvables, list by list; each solvable gets one if it has none. A refusal leaves variables
+/// to the first so many solvables. Those that were there stay in front: [`VariableMap::forget_from`] takes back the
+/// others.
 pub fn intern_lists<N: Copy, S: SolverId<A>, A: Allocator + Copy>(
     variables: &mut VariableMap<N, S, A>,
     alloc: A,
@@ -20,6 +21,7 @@ pub fn intern_lists<N: Copy, S: SolverId<A>, A: Allocator + Copy>(
 ) -> Result<VariableLists<A>, StoreError>
     ensures lists { IfOk result (λ made. map (λ l. l.items) made.items ≡ map (λ l. map (interned_variable S.eq variables.new) l.items) lists.now) }
     ensures ok { OnOk result (variables.new ≡ with_variables S.eq variables.old (flat_map (λ l. l.items) lists.now)) }
+    ensures err { OnErr result (IsPartlyInterned S.eq variables.old (flat_map (λ l. l.items) lists.now) variables.new) }
     ensures front { take (length variables.old) variables.new ≡ variables.old }
     ensures longer { length variables.old ≤ length variables.new }
     ensures refused { IfErr result (IsGrowthRefusal (lacks_variables S.eq S.Slots.is_too_large variables.old (flat_map (λ l. l.items) lists.now))) }
@@ -40,8 +42,7 @@ fn intern_list<N: Copy, S: SolverId<A>, A: Allocator + Copy>(
 ) -> Result<Vec<VariableId, A>, StoreError>
     ensures list { IfOk result (λ list. list.items ≡ map (interned_variable S.eq variables.new) solvables.now) }
     ensures ok { OnOk result (variables.new ≡ with_variables S.eq variables.old solvables.now) }
-    ensures front { take (length variables.old) variables.new ≡ variables.old }
-    ensures longer { length variables.old ≤ length variables.new }
+    ensures err { OnErr result (IsPartlyInterned S.eq variables.old solvables.now variables.new) }
     ensures refused { IfErr result (IsGrowthRefusal (lacks_variables S.eq S.Slots.is_too_large variables.old solvables.now)) }
 {
     let mut list = Vec::new(alloc);
