@@ -7,9 +7,9 @@ use Rattle.std.proofs.Common.{arith, rules, refl, suc, zero}
 use Rattle.script_packages.specs.declared.packages.Span.{Span}
 use Rattle.script_packages.specs.declared.packages.VersionRange.{VersionRange}
 
--- names and solvables are their numbers. The second test is that of the ids' domain, of which there is one
+-- names and solvables are their numbers
 abbrev pub same_id : ℕ → ℕ → Bool
-same_id a b = (a == b) && true
+same_id a b = a == b
 
 -- so many numbers from the first on
 abbrev pub numbers : ℕ → ℕ → List ℕ

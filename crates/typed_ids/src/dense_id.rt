@@ -10,6 +10,7 @@ use std::marker::{Model, PhantomData};
 #[derive_where(Clone, Copy, PartialEq, Eq, PartialOrd, Ord, Hash; Repr)]
 pub struct DenseId<Tag, Repr = u32> {
     raw: Repr,
+    #[derive_where(skip)]
     tag: PhantomData<Tag>,
 }
 

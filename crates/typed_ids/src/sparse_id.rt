@@ -11,6 +11,7 @@ use std::marker::{Model, PhantomData};
 #[derive_where(Clone, Copy, PartialEq, Eq, Hash; Repr)]
 pub struct SparseId<Tag, Repr = u32, H = BuildHasherDefault<DefaultHasher>> {
     raw: Repr,
+    #[derive_where(skip)]
     tag: PhantomData<(Tag, H)>,
 }
 

@@ -1,17 +1,12 @@
-use Rattle.std.proofs.Common.{ℕ, Bool, true, ◌==◌, ◌&&◌, ◌<◌, sym, subst, length, rules}
+use Rattle.std.proofs.Common.{ℕ, ◌<◌, sym, subst, length, rules}
 use Rattle.package_pool.specs.Pool.{IsSound, same_set}
 use Rattle.package_pool.specs.PoolView.{lists_in}
-use Rattle.package_pool.proofs.InternedLemmas.{has_by_test, place_by_test, interned_by_test}
 use Rattle.package_pool.proofs.PoolLemmas.{grown_and_placed, own_with_sets}
 use Rattle.package_pool.proofs.pool.Pool.intern_version_set.Goals as goal
 
--- the derived `==` of pairs of a name and a set
-abbrev pairs_eq : {X : Type 0} → (X → X → Bool) → ℕ × X → ℕ × X → Bool
-pairs_eq same a b = ((a.0 == b.0) && true) && same a.1 b.1
-
 sound : (g : _) (c : goal.After-map_err g) → IsSound (record (lists_in c.self.inside) { version_sets = c.intern.new.table.keys })
 sound g c =
-    let eq = pairs_eq g.VS.PartialEq.eq in
+    let eq = same_set g.VS.PartialEq.eq in
     let p = lists_in c.self.inside in
     let entry : ℕ × g.row.VS.Denot = (c.args.name, c.args.set) in
     let new = c.intern.new.table.keys in
@@ -24,19 +19,13 @@ pub invariant_of-self : goal.invariant_of-self
 invariant_of-self g c = sound g c
 
 pub returns-clause-id : goal.returns-clause-id
-returns-clause-id g c =
-    let same = g.VS.PartialEq.eq in
-    rw (← c.self.view_is, ← place_by_test (pairs_eq same) (same_set same) (λ a b. search rules) c.self.inside.version_sets.keys (c.args.name, c.args.set)) (search rules)
+returns-clause-id g c = rw (← c.self.view_is) (search rules)
 
 pub returns-clause-ok : goal.returns-clause-ok
-returns-clause-ok g c =
-    let same = g.VS.PartialEq.eq in
-    rw (← c.self.view_is, ← interned_by_test (pairs_eq same) (same_set same) (λ a b. search rules) c.self.inside.version_sets.keys (c.args.name, c.args.set)) (search rules)
+returns-clause-ok g c = rw (← c.self.view_is) (search rules)
 
 pub returns-clause-ids_out : goal.returns-clause-ids_out
-returns-clause-ids_out g c =
-    let same = g.VS.PartialEq.eq in
-    rw (← c.self.view_is, ← has_by_test (pairs_eq same) (same_set same) (λ a b. search rules) c.self.inside.version_sets.keys (c.args.name, c.args.set)) (search rules)
+returns-clause-ids_out g c = rw (← c.self.view_is) (search rules)
 
 pub returns-clause-sound : goal.returns-clause-sound
 returns-clause-sound g c = sound g c
