@@ -1,4 +1,4 @@
-//! The commands of a script, which stand behind its catalogue.
+//! A script's catalogue: the lines up to `begin`, which list packages.
 ghost use Rattle.std.specs.Prelude.{◌≡◌, ◌+◌, ◌^◌, ◌<◌, ⊤, length, IfOk, IfErr, MatchOption};
 ghost use Rattle.script_packages.specs.Listing.{listing_of, nothing_listed};
 ghost use Rattle.script_packages.specs.CatalogueEnds.{NeverBegins, CommandsBegin, CatalogueFault};
@@ -9,42 +9,36 @@ use crate::packages::Packages;
 use script_text::{Line, ScriptFault, next_line};
 use std::alloc::Global;
 
-/// The commands of a script: the lines behind its catalogue, and the packages that it lists.
+/// A catalogue that was read to its `begin`: what it lists, and where the commands are.
 #[derive(Drop)]
-pub struct Commands<'a> {
+pub struct Catalogue<'a> {
     pub packages: Packages,
-    pub lines: &'a [u8],
-    /// How many lines the catalogue had.
-    pub before: u64,
-    ghost fits: { before + length lines.now < 2 ^ 64 },
+    /// The lines after `begin`.
+    pub commands: &'a [u8],
+    /// How many lines the catalogue has, that of `begin` among them.
+    pub line_count: u64,
+    ghost fits: { line_count + length commands.now < 2 ^ 64 },
 }
 
-/// Reads a catalogue, up to its `begin`; there may be none.
-pub fn read_catalogue(alloc: Global, text: &[u8]) -> Result<Option<Commands<'_>>, ScriptFault>
+/// Reads a script's catalogue, up to `begin`; none where no line begins the commands.
+pub fn read_catalogue(alloc: Global, text: &[u8]) -> Result<Option<Catalogue<'_>>, ScriptFault>
     ensures ok { IfOk result (λ o. MatchOption o (NeverBegins nothing_listed (lines_of text.now))
-        (λ c. CommandsBegin nothing_listed 0 (lines_of text.now) c.before (lines_of c.lines.now) c.packages)) }
+        (λ c. CommandsBegin nothing_listed 0 (lines_of text.now) c.line_count (lines_of c.commands.now) c.packages)) }
     ensures err { IfErr result (CatalogueFault (lines_of text.now)) }
 {
     let mut packages = Packages::new(alloc);
-    match list_packages(&mut packages, text) {
-        Ok(Some((before, lines))) => Ok(Some(Commands {
-            packages,
-            lines,
-            before,
-        })),
-        Ok(None) => {
-            drop(packages);
-            Ok(None)
-        }
-        Err(fault) => {
-            drop(packages);
-            Err(fault)
-        }
-    }
+    let Some((line_count, commands)) = list_packages(&mut packages, text)? else {
+        return Ok(None);
+    };
+    Ok(Some(Catalogue {
+        packages,
+        commands,
+        line_count,
+    }))
 }
 
 /// Lists what the lines say, up to `begin`, in packages that list nothing yet. Answers how many lines that took, and the
-/// lines behind them; none where no line begins the commands.
+/// lines after them; none where no line begins the commands.
 fn list_packages<'a>(
     packages: &mut Packages,
     text: &'a [u8],
@@ -55,18 +49,18 @@ fn list_packages<'a>(
     ensures fits { IfOk result (λ o. MatchOption o ⊤ (λ r. r.0 + length r.1.now < 2 ^ 64)) }
     ensures err { IfErr result (CatalogueFault (lines_of text.now)) }
 {
-    let mut before = 0;
+    let mut count = 0;
     let mut rest = text;
-    while let Some((line, lines)) = next_line(rest) {
-        before += 1;
-        rest = lines;
+    while let Some((line, others)) = next_line(rest) {
+        count += 1;
+        rest = others;
         match catalogue_line(line) {
             Line::Skipped => {}
-            Line::Unreadable => return Err(ScriptFault::Unreadable(before)),
-            Line::Says(CatalogueLine::Begin) => return Ok(Some((before, lines))),
+            Line::Unreadable => return Err(ScriptFault::Unreadable(count)),
+            Line::Says(CatalogueLine::Begin) => return Ok(Some((count, others))),
             Line::Says(entry) => match packages.add(&entry) {
                 Ok(()) => {}
-                Err(fault) => return Err(fault.at(before)),
+                Err(fault) => return Err(fault.at(count)),
             },
         }
     }

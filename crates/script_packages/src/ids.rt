@@ -24,14 +24,8 @@ pub fn requirement(word: &[u8]) -> Option<Requirement>
     ensures { result ≡ requirement_of word.now }
 {
     match word {
-        [b's', set @ ..] => match id(set) {
-            Some(index) => Some(Requirement::Single(VersionSetId(index))),
-            None => None,
-        },
-        [b'u', union @ ..] => match id(union) {
-            Some(index) => Some(Requirement::Union(VersionSetUnionId(index))),
-            None => None,
-        },
+        [b's', set @ ..] => Some(Requirement::Single(VersionSetId(id(set)?))),
+        [b'u', union @ ..] => Some(Requirement::Union(VersionSetUnionId(id(union)?))),
         _ => None,
     }
 }

@@ -1,6 +1,6 @@
 //! The packages that a script's catalogue lists.
 //!
-//! [`read_catalogue`] makes [`Packages`] of the lines up to `begin`, and hands back the lines behind it: the commands,
+//! [`read_catalogue`] makes [`Packages`] of the lines up to `begin`, and hands back the lines after it: the commands,
 //! of which nothing is known here but that words of theirs stand for ids too. The packages answer what a store asks of
 //! its provider.
 #![tactic(auto)]
@@ -12,6 +12,6 @@ mod order;
 mod packages;
 mod provider;
 
-pub use catalogue::{Commands, read_catalogue};
+pub use catalogue::{Catalogue, read_catalogue};
 pub use ids::{id, requirement};
 pub use packages::{Packages, Span, VersionRange};

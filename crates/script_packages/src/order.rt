@@ -52,10 +52,7 @@ pub(crate) fn best_first(
     let mut sorted = Vec::new(alloc);
     for solvable in solvables {
         let place = place_of(pool, *solvable, &sorted);
-        match sorted.insert(place, *solvable) {
-            Ok(()) => {}
-            Err(_) => return Err(StoreError::OutOfMemory),
-        }
+        sorted.insert(place, *solvable)?;
     }
     Ok(sorted)
 }

@@ -150,28 +150,14 @@ impl Packages {
         Ok(last)
     }
 
-    /// Adds a union of the version sets in the text.
+    /// Adds a union of the version sets in the text, of which there is one at least.
     fn add_union(&mut self, text: &[u8]) -> Result<(), LineFault>
         ensures ok { OnOk result (with_some_union (listing_of self.old) (listed_sets (length self.old.pool.version_sets) [] (words text.now))
             ≡ Some (listing_of self.new)) }
         ensures unreadable { IfErr result (λ e. e ≡ Unreadable →
             with_some_union (listing_of self.old) (listed_sets (length self.old.pool.version_sets) [] (words text.now)) ≡ None) }
     {
-        let mut sets = Vec::new(self.alloc);
-        let added = self.unite(&mut sets, text);
-        drop(sets);
-        added
-    }
-
-    /// Adds a union of the version sets in the text, which the empty list takes up.
-    fn unite(&mut self, sets: &mut Vec<VersionSetId>, text: &[u8]) -> Result<(), LineFault>
-        requires { sets.old.items ≡ [] }
-        ensures ok { OnOk result (with_some_union (listing_of self.old) (listed_sets (length self.old.pool.version_sets) [] (words text.now))
-            ≡ Some (listing_of self.new)) }
-        ensures unreadable { IfErr result (λ e. e ≡ Unreadable →
-            with_some_union (listing_of self.old) (listed_sets (length self.old.pool.version_sets) [] (words text.now)) ≡ None) }
-    {
-        self.list_sets(sets, text)?;
+        let sets = self.sets(text)?;
         let Some((first, others)) = sets.split_first() else {
             return Err(LineFault::Unreadable);
         };
@@ -181,20 +167,19 @@ impl Packages {
         Ok(())
     }
 
-    /// Puts the version sets in a text, each of which is there, behind those of a list.
-    fn list_sets(&self, sets: &mut Vec<VersionSetId>, text: &[u8]) -> Result<(), LineFault>
-        requires { All (λ v. v.0 < length self.now.pool.version_sets) sets.old.items }
-        ensures ok { OnOk result (listed_sets (length self.now.pool.version_sets) sets.old.items (words text.now) ≡ Some sets.new.items) }
-        ensures known { OnOk result (All (λ v. v.0 < length self.now.pool.version_sets) sets.new.items) }
-        ensures unreadable { IfErr result (λ e. e ≡ Unreadable → listed_sets (length self.now.pool.version_sets) sets.old.items (words text.now) ≡ None) }
+    /// The version sets in the text, each of which is there.
+    fn sets(&self, text: &[u8]) -> Result<Vec<VersionSetId>, LineFault>
+        ensures ok { IfOk result (λ sets. listed_sets (length self.now.pool.version_sets) [] (words text.now) ≡ Some sets.items) }
+        ensures known { IfOk result (λ sets. All (λ v. v.0 < length self.now.pool.version_sets) sets.items) }
+        ensures unreadable { IfErr result (λ e. e ≡ Unreadable → listed_sets (length self.now.pool.version_sets) [] (words text.now) ≡ None) }
     {
+        let mut sets = Vec::new(self.alloc);
         let mut rest = text;
         while let Some((word, others)) = next_word(rest) {
-            let set = self.set(word)?;
-            sets.push(set)?;
+            sets.push(self.set(word)?)?;
             rest = others;
         }
-        Ok(())
+        Ok(sets)
     }
 
     /// The version set that a word stands for.

@@ -82,10 +82,8 @@ impl Interner for Packages {
         let solvable = self.pool.resolve_solvable(solvable);
         let name = self.pool.resolve_package_name(solvable.name);
         let version = solvable.payload;
-        match format!(in *out.allocator(); "{name} {version}") {
-            Ok(text) => append(out, &text),
-            Err(_) => Err(StoreError::OutOfMemory),
-        }
+        let text = format!(in *out.allocator(); "{name} {version}")?;
+        append(out, &text)
     }
 
     /// The name of its package.
@@ -105,10 +103,8 @@ impl Interner for Packages {
     fn display_version_set(&self, set: VersionSetId, out: &mut String) -> Result<(), StoreError> {
         let range = self.pool.resolve_version_set(set);
         let (low, high) = (range.low, range.high);
-        match format!(in *out.allocator(); ">={low}, <{high}") {
-            Ok(text) => append(out, &text),
-            Err(_) => Err(StoreError::OutOfMemory),
-        }
+        let text = format!(in *out.allocator(); ">={low}, <{high}")?;
+        append(out, &text)
     }
 
     fn display_string(&self, string: StringId, out: &mut String) -> Result<(), StoreError> {
@@ -122,10 +118,7 @@ fn append(out: &mut String, text: &str) -> Result<(), StoreError>
     ensures err { OnErr result (IsSameText out.old out.new) }
     ensures memory { IfErr result (λ e. e ≡ OutOfMemory) }
 {
-    match out.push_str(text) {
-        Ok(()) => Ok(()),
-        Err(_) => Err(StoreError::OutOfMemory),
-    }
+    Ok(out.push_str(text)?)
 }
 
 impl DependencyProvider for Packages {
@@ -179,10 +172,7 @@ fn numbers(alloc: Global, span: Span) -> Result<Vec<SolvableId>, StoreError>
 {
     let mut found = Vec::new(alloc);
     for i in span.first.to_index()..span.last.to_index() + 1 {
-        match found.push(SolvableId::from_index(i)) {
-            Ok(()) => {}
-            Err(_) => return Err(StoreError::OutOfMemory),
-        }
+        found.push(SolvableId::from_index(i))?;
     }
     Ok(found)
 }
@@ -202,10 +192,7 @@ fn within(
     for solvable in candidates {
         let version = version_at(pool, *solvable);
         if (range.low <= version && version < range.high) != inverse {
-            match found.push(*solvable) {
-                Ok(()) => {}
-                Err(_) => return Err(StoreError::OutOfMemory),
-            }
+            found.push(*solvable)?;
         }
     }
     Ok(found)

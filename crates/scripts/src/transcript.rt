@@ -12,7 +12,7 @@ ghost use Rattle.scripts.specs.Transcript.{ObeysLine, Answered, IfRead};
 use crate::command_line::command_line;
 use crate::reply_line::{push_reply, push_unreadable};
 use resolvo_store::ClauseStore;
-use script_packages::{Commands, Packages, read_catalogue};
+use script_packages::{Catalogue, Packages, read_catalogue};
 use script_text::{Line, LineFault, ScriptFault, next_line, read_whole, write_much, write_rest};
 use std::alloc::Global;
 use std::io::{Read, Write};
@@ -63,32 +63,32 @@ fn obey_text<W: Write>(
 {
     match read_catalogue(alloc, text) {
         Ok(None) => Ok(()),
-        Ok(Some(commands)) => obey_commands(alloc, commands, waiting, writer),
+        Ok(Some(catalogue)) => obey_commands(alloc, catalogue, waiting, writer),
         Err(fault) => Err(fault),
     }
 }
 
-/// Obeys the commands in turn.
+/// Obeys the commands after a catalogue in turn.
 fn obey_commands<W: Write>(
     alloc: Global,
-    commands: Commands<'_>,
+    catalogue: Catalogue<'_>,
     waiting: &mut Vec<u8>,
     writer: &mut W,
 ) -> Result<(), ScriptFault>
     ensures { IfRead result (λ faulty. (text : List ℕ)
-        × Answered (new_store (provider_of commands.entry.packages)) commands.entry.before (lines_of commands.entry.lines.now) text faulty
+        × Answered (new_store (provider_of catalogue.entry.packages)) catalogue.entry.line_count (lines_of catalogue.entry.commands.now) text faulty
         × Writes (W.contents writer.old) waiting.old.items (W.contents writer.new) waiting.new.items text) }
 {
-    let Commands {
+    let Catalogue {
         packages,
-        lines,
-        before,
-    } = commands;
+        commands,
+        line_count,
+    } = catalogue;
     let mut store = match ClauseStore::new(alloc, packages) {
         Ok(store) => store,
         Err(_) => return Err(ScriptFault::Memory),
     };
-    let ended = obey_lines(&mut store, lines, before, waiting, writer);
+    let ended = obey_lines(&mut store, commands, line_count, waiting, writer);
     drop(store);
     ended
 }

@@ -8,11 +8,11 @@ use Rattle.script_packages.proofs.catalogue.list_packages.Given as goal
 -- how what is left of the lines ends behind what is listed, so all of them do
 abbrev pub invariant-loop-line : goal.invariant-loop-line
 invariant-loop-line l = record {
-  fits : l.before + length l.rest ≤ length l.text;
+  fits : l.count + length l.rest ≤ length l.text;
   never : NeverBegins (listing_of l.packages) (lines_of l.rest) → NeverBegins nothing_listed (lines_of l.text);
-  begins : (before : ℕ) (left : List (List ℕ)) (packages : Packages) → CommandsBegin (listing_of l.packages) l.before (lines_of l.rest) before left packages
+  begins : (before : ℕ) (left : List (List ℕ)) (packages : Packages) → CommandsBegin (listing_of l.packages) l.count (lines_of l.rest) before left packages
       → CommandsBegin nothing_listed 0 (lines_of l.text) before left packages;
-  faulty : (number : ℕ) → FaultyAt (listing_of l.packages) l.before (lines_of l.rest) number → FaultyAt nothing_listed 0 (lines_of l.text) number;
+  faulty : (number : ℕ) → FaultyAt (listing_of l.packages) l.count (lines_of l.rest) number → FaultyAt nothing_listed 0 (lines_of l.text) number;
 }
 
 abbrev pub decreases-loop-line : goal.decreases-loop-line

@@ -13,5 +13,5 @@ loop-solvable-preserved c =
     let behind : drop i c.args.solvables.now ≡ x ∷ rest =
     drop_more c.args.solvables.now i x c.loop-solvable-test.true ∙ ap (λ y. y ∷ rest) (sym c.solvable-item.is) in
     let one_more : c.insert.new.self.items ≡ inserted all sorted x =
-    c.in-Ok.ensures.items ∙ ap (λ n. insert sorted n x) (c.place_of-place.ensures.place ∙ ap (place_of all x) c.deref.ensures.value) in
+    c.in_ok-insert.ensures.items ∙ ap (λ n. insert sorted n x) (c.place_of-place.ensures.place ∙ ap (place_of all x) c.deref.ensures.value) in
     ap (λ l. fold (inserted all) l rest) one_more ∙ (sym (ap (fold (inserted all) sorted) behind) ∙ c.loop-solvable.invariant)

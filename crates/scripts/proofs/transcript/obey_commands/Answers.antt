@@ -10,6 +10,6 @@ pub returns : goal.returns
 returns g c =
     let ended = c.obey_lines-ended in
     subst (λ (st : Store ℕ ℕ). IfRead ended.result (λ faulty. (text : List ℕ)
-    × Answered st c.args.commands.before (lines_of c.args.commands.lines.now) text faulty
+    × Answered st c.args.catalogue.line_count (lines_of c.args.catalogue.commands.now) text faulty
     × Writes (g.W.Write.contents c.args.writer.now) c.args.waiting.now.items (g.W.Write.contents ended.new.writer) ended.new.waiting.items text))
     (c.in-Ok.ensures.ok ∙ ap (λ p. new_store (provider_of p)) c.in-Ok.ensures.provider) ended.ensures

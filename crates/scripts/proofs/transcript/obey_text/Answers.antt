@@ -7,5 +7,5 @@ returns-in-Err g c = catalogue_faulty (Unit {0}) c.in-Err.fault (lines_of c.args
 
 pub returns-in-Ok-Some : goal.returns-in-Ok-Some
 returns-in-Ok-Some g c =
-    let commands = c.in-Ok-Some.commands in
-    commands_answered _ (lines_of c.args.text.now) commands.packages commands.before (lines_of commands.lines.now) _ _ _ _ (rw c.in-Ok-Some.field-0-is at c.in-Ok-Some.ensures.ok) c.obey_commands.ensures
+    let catalogue = c.in-Ok-Some.catalogue in
+    commands_answered _ (lines_of c.args.text.now) catalogue.packages catalogue.line_count (lines_of catalogue.commands.now) _ _ _ _ (rw c.in-Ok-Some.field-0-is at c.in-Ok-Some.ensures.ok) c.obey_commands.ensures

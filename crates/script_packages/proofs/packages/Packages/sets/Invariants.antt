@@ -1,14 +1,14 @@
-use Rattle.std.proofs.Common.{◌≡◌, ◌<◌, length}
+use Rattle.std.proofs.Common.{◌≡◌, ◌<◌, [], length}
 use Rattle.std.specs.Prelude.{All}
 use Rattle.script_packages.specs.Listing.{listed_sets}
 use Rattle.script_text.specs.Words.{words}
-use Rattle.script_packages.proofs.packages.Packages.list_sets.Given as goal
+use Rattle.script_packages.proofs.packages.Packages.sets.Given as goal
 
 abbrev pub invariant-loop-word : goal.invariant-loop-word
 invariant-loop-word l =
     let count = length l.self.pool.version_sets in
     record {
-      listed : listed_sets count l.sets.items (words l.rest) ≡ listed_sets count l.fn.sets.items (words l.text);
+      listed : listed_sets count l.sets.items (words l.rest) ≡ listed_sets count [] (words l.text);
       known : All (λ v. v.0 < count) l.sets.items;
     }
 

@@ -1,9 +1,9 @@
 use Rattle.std.proofs.Common.{◌<◌, length, sym, ◌∙◌, subst}
 use Rattle.std.specs.Prelude.{All}
 use Rattle.typed_ids.specs.declared.version_set_id.VersionSetId.{VersionSetId}
-use Rattle.script_packages.proofs.packages.Packages.unite.Goals as goal
+use Rattle.script_packages.proofs.packages.Packages.add_union.Goals as goal
 
 pub intern_version_set_union-requires : goal.intern_version_set_union-requires
 intern_version_set_union-requires c =
     subst (λ sets. All (λ (v : VersionSetId). v.0 < length c.args.self.now.pool.version_sets) sets)
-    (sym c.deref.ensures.value ∙ c.in-Some.ensures.cases.0) c.in_ok-list_sets.ensures.known
+    (sym c.deref.ensures.value ∙ c.in-Some.ensures.cases.0) c.in_ok-sets.ensures.known
