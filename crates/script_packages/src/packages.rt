@@ -1,6 +1,6 @@
-//! The packages of a script, which stand in a pool, and what the lines of a catalogue add to them.
+//! The packages of a script, which are kept in a pool, and what the lines of a catalogue add to them.
 //!
-//! What they answer as a provider is in [`provider`](crate::provider).
+//! What they answer a store as its provider is in [`provider`](crate::provider).
 ghost use Rattle.std.specs.Prelude.{◌≡◌, ◌<◌, ◌-◌, false, [], All, length, Some, None, string_bytes, IfOk, OnOk, IfErr};
 ghost use Rattle.package_pool.specs.Pool.{IsOfItself, with_string};
 ghost use Rattle.package_pool.specs.PoolProps.{pool_props};
@@ -42,7 +42,7 @@ pub struct Packages {
     pub pool: Pool<VersionRange>,
     /// The solvables of each name that a package line listed.
     pub spans: FrozenCopyMap<NameId, Span>,
-    pub(crate) alloc: Global,
+    alloc: Global,
     ghost of_itself: { IsOfItself pool } by { Prim.hlevel pool_props },
 }
 
@@ -77,7 +77,7 @@ impl Packages {
     }
 
     /// Whether a package line listed the name.
-    pub(crate) fn has_span(&self, name: NameId) -> bool
+    fn has_span(&self, name: NameId) -> bool
         ensures { result ≡ has_span (listing_of self.now) name }
     {
         self.spans.get_copy(&name).is_some()
@@ -125,7 +125,7 @@ impl Packages {
         self.add_span(name, Span { first, last })
     }
 
-    /// Makes a solvable of each version in the text, behind the last one; answers which is the last one then.
+    /// Makes a solvable of each version in the text, after the last one; answers which is the last one then.
     fn add_others(
         &mut self,
         name: NameId,
@@ -222,7 +222,7 @@ impl Packages {
     }
 
     /// Gives a name its solvables, of which the last is the last of all.
-    pub(crate) fn add_span(&mut self, name: NameId, span: Span) -> Result<(), LineFault>
+    fn add_span(&mut self, name: NameId, span: Span) -> Result<(), LineFault>
         requires new { has_span (listing_of self.old) name ≡ false }
         requires last { span.last ≡ length self.old.pool.solvables - 1 }
         ensures ok { OnOk result (listing_of self.new ≡ with_span_from name span.first (listing_of self.old)) }
@@ -235,7 +235,7 @@ impl Packages {
     }
 
     /// The id of a name, which gets one if it has none.
-    pub(crate) fn name(&mut self, name: &str) -> Result<NameId, LineFault>
+    fn name(&mut self, name: &str) -> Result<NameId, LineFault>
         ensures number { IfOk result (λ n. n ≡ name_number (listing_of self.old) name.now) }
         ensures ok { OnOk result (listing_of self.new ≡ named (listing_of self.old) name.now) }
         ensures known { IfOk result (λ n. n < length self.new.pool.names) }
@@ -248,7 +248,7 @@ impl Packages {
     }
 
     /// Adds a string, if it isn't there.
-    pub(crate) fn add_string(&mut self, text: &str) -> Result<(), LineFault>
+    fn add_string(&mut self, text: &str) -> Result<(), LineFault>
         ensures ok { let l = listing_of self.old in OnOk result (listing_of self.new ≡ with_pool l (with_string l.pool text.now)) }
         ensures err { IfErr result (λ e. e ≡ Memory) }
     {
@@ -260,11 +260,7 @@ impl Packages {
     }
 
     /// Adds a version of a package, as a solvable.
-    pub(crate) fn add_version(
-        &mut self,
-        name: NameId,
-        version: u32,
-    ) -> Result<SolvableId, LineFault>
+    fn add_version(&mut self, name: NameId, version: u32) -> Result<SolvableId, LineFault>
         requires { name < length self.old.pool.names }
         ensures id { IfOk result (λ s. s ≡ length self.old.pool.solvables) }
         ensures ok { OnOk result (listing_of self.new ≡ with_version (listing_of self.old) name version) }
@@ -277,7 +273,7 @@ impl Packages {
     }
 
     /// Adds a version set of a package, if it isn't there.
-    pub(crate) fn add_set(&mut self, name: NameId, range: VersionRange) -> Result<(), LineFault>
+    fn add_set(&mut self, name: NameId, range: VersionRange) -> Result<(), LineFault>
         requires { name < length self.old.pool.names }
         ensures ok { OnOk result (listing_of self.new ≡ with_set (listing_of self.old) name range) }
         ensures err { IfErr result (λ e. e ≡ Memory) }
