@@ -1,1 +1,4 @@
+pub mod FirstLines
+pub mod Lanes
+pub mod Prefixes
 pub mod Printing

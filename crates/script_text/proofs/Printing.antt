@@ -9,7 +9,7 @@ use Rattle.std.proofs.lemmas.Str.{IsUtf8-from_ascii}
 use Rattle.script_text.specs.Lines.{is_printed, IsPrinted}
 use Rattle.script_text.specs.Words.{ArePrinted}
 
-both : (a b : Bool) → (a && b) ≡ true → (a ≡ true) × (b ≡ true)
+pub both : (a b : Bool) → (a && b) ≡ true → (a ≡ true) × (b ≡ true)
 both true true h = (h, h)
 both true false h = cc
 both false b h = cc

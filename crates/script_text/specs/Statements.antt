@@ -24,6 +24,10 @@ MeansWords line Skipped = (list_all is_printed line ≡ true) × IsSkipped (word
 MeansWords line (Says s) = (list_all is_printed line ≡ true) × (is_comment s.keyword.now ≡ false)
     × (words line ≡ s.keyword.now ∷ words s.rest.now)
 
+-- of the lines of a text the first says so, and these are the others
+abbrev pub FirstMeans : List (List ℕ) → Line Statement → List (List ℕ) → Type 0
+FirstMeans lines said others = (line : List ℕ) × (lines ≡ line ∷ others) × MeansWords line said
+
 -- what stands behind the first word is printed
 abbrev pub IsRestPrinted : Line Statement → Type 0
 IsRestPrinted (Says s) = IsPrinted s.rest.now

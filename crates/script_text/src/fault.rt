@@ -1,7 +1,8 @@
 //! How a script can end.
 ghost use Rattle.std.specs.Prelude.{◌≡◌};
-ghost use Rattle.script_text.specs.declared.fault.LineFault.TheVariants.{Memory};
 ghost use Rattle.script_text.specs.Status.{status_of};
+ghost use Rattle.script_text.specs.declared.fault.LineFault.TheVariants as OfLine;
+ghost use Rattle.script_text.specs.declared.fault.ScriptFault.TheVariants as OfScript;
 
 use std::alloc::{AllocError, AllocFailed};
 use thiserror::Error;
@@ -43,21 +44,39 @@ impl LineFault {
     }
 }
 
-/// Want of memory.
+/// Want of memory; so `?` passes on what the allocator refused.
 impl From<AllocError> for LineFault {
-    ghost from_gives = { λ _ e. e ≡ Memory };
+    ghost from_gives = { λ _ e. e ≡ OfLine.Memory };
 
     fn from(_refused: AllocError) -> LineFault {
         LineFault::Memory
     }
 }
 
-/// Want of memory.
+/// Want of memory; what wasn't stored is dropped.
 impl<T: Drop> From<AllocFailed<T>> for LineFault {
-    ghost from_gives = { λ _ e. e ≡ Memory };
+    ghost from_gives = { λ _ e. e ≡ OfLine.Memory };
 
     fn from(_refused: AllocFailed<T>) -> LineFault {
         LineFault::Memory
+    }
+}
+
+/// Want of memory; so `?` passes on what the allocator refused.
+impl From<AllocError> for ScriptFault {
+    ghost from_gives = { λ _ e. e ≡ OfScript.Memory };
+
+    fn from(_refused: AllocError) -> ScriptFault {
+        ScriptFault::Memory
+    }
+}
+
+/// Want of memory; what wasn't stored is dropped.
+impl<T: Drop> From<AllocFailed<T>> for ScriptFault {
+    ghost from_gives = { λ _ e. e ≡ OfScript.Memory };
+
+    fn from(_refused: AllocFailed<T>) -> ScriptFault {
+        ScriptFault::Memory
     }
 }
 

@@ -9,6 +9,7 @@ mod fault;
 mod input;
 mod line;
 mod output;
+mod printed;
 mod statement;
 mod word;
 
@@ -17,5 +18,5 @@ pub use fault::{LineFault, ScriptFault, status};
 pub use input::read_whole;
 pub use line::next_line;
 pub use output::{write_much, write_rest};
-pub use statement::{Line, Statement, open_line};
+pub use statement::{Line, Statement, next_statement, open_line};
 pub use word::{is_word, next_word, text_of};

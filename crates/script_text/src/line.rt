@@ -1,9 +1,20 @@
 //! Lines of a text.
-ghost use Rattle.std.specs.Prelude.{◌≡◌, ◌<◌, ◌≤◌, [], ◌∷◌, length, MatchOption};
+ghost use Rattle.std.specs.Prelude.{◌≡◌, ◌<◌, ◌≤◌, [], ◌∷◌, length, IfSome, MatchOption, ◌⊎◌};
 ghost use Rattle.std.specs.List.{list_all};
 ghost use Rattle.script_text.specs.Lines.{lines, lines_from, without_return, is_printed};
 
-/// The first line of a text, and what stands behind it; none where no line is left.
+use crate::printed::{is_printed, printed_length};
+
+/// The first line of a text, and what is after it.
+#[derive(Clone, Copy)]
+pub(crate) struct FirstLine<'a> {
+    pub(crate) line: &'a [u8],
+    /// Whether all bytes of the line are printed.
+    pub(crate) is_printed: bool,
+    pub(crate) rest: &'a [u8],
+}
+
+/// The first line of a text, and what is after it; none where no line is left.
 pub fn next_line(text: &[u8]) -> Option<(&[u8], &[u8])>
     ensures first { MatchOption result (lines text.now ≡ []) (λ r. lines text.now ≡ r.0.now ∷ lines r.1.now) }
     ensures shorter { MatchOption result (text.now ≡ []) (λ r. length r.1.now < length text.now) }
@@ -11,11 +22,56 @@ pub fn next_line(text: &[u8]) -> Option<(&[u8], &[u8])>
     if text.is_empty() {
         return None;
     }
-    let (line, rest) = split_line(text);
-    Some((without_return(line), rest))
+    let first = first_line(text);
+    Some((first.line, first.rest))
 }
 
-/// The bytes up to the first line feed or the end, and those behind it.
+/// The first line of a text. Up to the first byte that isn't printed it is looked at once, and mostly that byte ends it.
+pub(crate) fn first_line(text: &[u8]) -> FirstLine<'_>
+    requires { 0 < length text.now }
+    ensures first { lines text.now ≡ result.line.now ∷ lines result.rest.now }
+    ensures printed { result.is_printed ≡ list_all is_printed result.line.now }
+    ensures shorter { length result.rest.now < length text.now }
+{
+    let (line, after) = text.split_at(printed_length(text));
+    match after_end(after) {
+        Some(rest) => FirstLine {
+            line,
+            is_printed: true,
+            rest,
+        },
+        None => other_line(text),
+    }
+}
+
+/// What is after a line's end, where the text begins with one.
+fn after_end(text: &[u8]) -> Option<&[u8]>
+    ensures { IfSome result (λ rest. (text.now ≡ 10 ∷ rest.now) ⊎ (text.now ≡ 13 ∷ 10 ∷ rest.now)) }
+{
+    match text {
+        [b'\n', rest @ ..] => Some(rest),
+        [b'\r', b'\n', rest @ ..] => Some(rest),
+        _ => None,
+    }
+}
+
+/// The first line of a text, if it isn't printed, or ends with the text.
+fn other_line(text: &[u8]) -> FirstLine<'_>
+    requires { 0 < length text.now }
+    ensures first { lines text.now ≡ result.line.now ∷ lines result.rest.now }
+    ensures printed { result.is_printed ≡ list_all is_printed result.line.now }
+    ensures shorter { length result.rest.now < length text.now }
+{
+    let (line, rest) = split_line(text);
+    let line = without_return(line);
+    FirstLine {
+        line,
+        is_printed: is_printed(line),
+        rest,
+    }
+}
+
+/// The bytes up to the first line feed or the end, and those after it.
 fn split_line(text: &[u8]) -> (&[u8], &[u8])
     requires { 0 < length text.now }
     ensures first { lines text.now ≡ without_return result.0.now ∷ lines result.1.now }
@@ -37,11 +93,4 @@ fn without_return(line: &[u8]) -> &[u8]
         [before @ .., b'\r'] => before,
         _ => line,
     }
-}
-
-/// Whether all bytes of a line are those of ASCII's printed characters and the blank.
-pub(crate) fn is_printed(line: &[u8]) -> bool
-    ensures { result ≡ list_all is_printed line.now }
-{
-    line.iter().all(|byte| b' ' <= *byte && *byte <= b'~')
 }

@@ -1,8 +1,11 @@
 //! Lines that say something.
-ghost use Rattle.std.specs.Prelude.{◌≡◌};
-ghost use Rattle.script_text.specs.Statements.{MeansWords, IsRestPrinted};
+ghost use Rattle.std.specs.Prelude.{◌≡◌, ◌<◌, [], length, IfSome, MatchOption};
+ghost use Rattle.std.specs.List.{list_all};
+ghost use Rattle.script_text.specs.Lines.{lines, is_printed};
+ghost use Rattle.script_text.specs.Statements.{MeansWords, FirstMeans, IsRestPrinted};
 
-use crate::line::is_printed;
+use crate::line::first_line;
+use crate::printed::is_printed;
 use crate::word::next_word;
 
 /// What a line says.
@@ -15,11 +18,25 @@ pub enum Line<T> {
     Says(T),
 }
 
-/// The first word of a line, and what stands behind it.
+/// The first word of a line, and what is after it.
 #[derive(Clone, Copy)]
 pub struct Statement<'a> {
     pub keyword: &'a [u8],
     pub rest: &'a [u8],
+}
+
+/// What the first line of a text says, and what is after the line; none where no line is left. A printed line is looked
+/// at once for its end, and a second time for its words only if it says something.
+pub fn next_statement(text: &[u8]) -> Option<(Line<Statement<'_>>, &[u8])>
+    ensures first { MatchOption result (lines text.now ≡ []) (λ r. FirstMeans (lines text.now) r.0 (lines r.1.now)) }
+    ensures printed { IfSome result (λ r. IsRestPrinted r.0) }
+    ensures shorter { MatchOption result (text.now ≡ []) (λ r. length r.1.now < length text.now) }
+{
+    if text.is_empty() {
+        return None;
+    }
+    let first = first_line(text);
+    Some((meaning(first.line, first.is_printed), first.rest))
 }
 
 /// The line as a statement.
@@ -27,7 +44,16 @@ pub fn open_line(line: &[u8]) -> Line<Statement<'_>>
     ensures means { MeansWords line.now result }
     ensures printed { IsRestPrinted result }
 {
-    if !is_printed(line) {
+    meaning(line, is_printed(line))
+}
+
+/// The line as a statement, where it is known whether the line is printed.
+fn meaning(line: &[u8], all_printed: bool) -> Line<Statement<'_>>
+    requires { all_printed ≡ list_all is_printed line.now }
+    ensures means { MeansWords line.now result }
+    ensures printed { IsRestPrinted result }
+{
+    if !all_printed {
         return Line::Unreadable;
     }
     match next_word(line) {
