@@ -7,8 +7,7 @@
 #[cfg(test)]
 mod tests;
 
-use script_text::status;
-use scripts::script;
+use scripts::{script, status};
 use std::io;
 use std::process::ExitCode;
 

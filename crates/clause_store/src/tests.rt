@@ -1,8 +1,7 @@
 //! Scripts and their answers, and devices that fail.
 use providers::{Interner, Requirement};
 use script_packages::{Packages, read_catalogue};
-use script_text::{ScriptFault, status};
-use scripts::script;
+use scripts::{ScriptFault, script, status};
 use std::alloc::Global;
 use std::io;
 use std::io::{Error, ErrorKind, Read, Write};

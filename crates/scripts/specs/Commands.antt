@@ -9,6 +9,7 @@ use Rattle.script_text.specs.Words.{words}
 use Rattle.script_packages.specs.Ids.{number_32, variable_of, clause_of, requirement_of, truth_of}
 use Rattle.script_text.specs.Statements.{is_comment}
 use Rattle.script_text.specs.declared.statement.Line.{Line}
+use Rattle.script_text.specs.declared.statement.Statement.{Statement}
 use Rattle.script_text.specs.declared.statement.Line.TheVariants.{Skipped, Unreadable, Says}
 
 -- the word that stands alone
@@ -63,11 +64,17 @@ abbrev pub says : Option (Command ℕ) → Line (Command ℕ)
 says None = Unreadable
 says (Some c) = Says c
 
+-- the command of a line that says this
+abbrev pub command_meant : Line Statement → Line (Command ℕ)
+command_meant Skipped = Skipped
+command_meant Unreadable = Unreadable
+command_meant (Says s) = says (command_said s.keyword.now (words s.rest.now))
+
 -- what the words of a line say: none, or a comment's, are skipped
 abbrev pub words_say : List (List ℕ) → Line (Command ℕ)
 words_say [] = Skipped
 words_say (keyword ∷ ws) = if is_comment keyword then Skipped else says (command_said keyword ws)
 
--- what a line behind `begin` says
+-- what a line after `begin` says
 abbrev pub command_line_of : List ℕ → Line (Command ℕ)
 command_line_of line = if list_all is_printed line then words_say (words line) else Unreadable

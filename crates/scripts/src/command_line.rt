@@ -1,19 +1,19 @@
 //! Command lines.
-ghost use Rattle.std.specs.Prelude.{◌≡◌, ◌∷◌, [], option_map};
+ghost use Rattle.std.specs.Prelude.{◌≡◌, option_map};
 ghost use Rattle.script_text.specs.Words.{words};
 ghost use Rattle.script_packages.specs.Ids.{truth_of};
-ghost use Rattle.scripts.specs.Commands.{command_said, variable_command, load_command, requires_command, assign_command, undo_command, decide_command, only_word, command_line_of};
+ghost use Rattle.scripts.specs.Commands.{command_said, variable_command, load_command, requires_command, assign_command, undo_command, decide_command, only_word, command_meant};
 
 use resolvo_store::Command;
 use script_packages::{id, requirement};
-use script_text::{Line, Statement, is_word, next_word, open_line};
+use script_text::{Line, Statement, is_word, next_word};
 use typed_ids::SolvableId;
 
-/// What a line behind `begin` says.
-pub fn command_line(line: &[u8]) -> Line<Command<SolvableId>>
-    ensures { result ≡ command_line_of line.now }
+/// The command of a line after `begin`, by what the line says.
+pub fn command_line(said: Line<Statement<'_>>) -> Line<Command<SolvableId>>
+    ensures { result ≡ command_meant said.entry }
 {
-    match open_line(line) {
+    match said {
         Line::Skipped => Line::Skipped,
         Line::Unreadable => Line::Unreadable,
         Line::Says(said) => match command(said) {

@@ -10,4 +10,5 @@ mod command_line;
 mod reply_line;
 mod transcript;
 
+pub use script_text::{ScriptFault, status};
 pub use transcript::script;

@@ -4,7 +4,7 @@ ghost use Rattle.resolvo_store.specs.Store.{new_store};
 ghost use Rattle.script_text.specs.declared.fault.ScriptFault.TheVariants.{Device, Memory};
 ghost use Rattle.script_text.specs.Lines.{lines as lines_of};
 ghost use Rattle.script_text.specs.Output.{Writes};
-ghost use Rattle.scripts.specs.Commands.{command_line_of};
+ghost use Rattle.scripts.specs.Commands.{command_meant};
 ghost use Rattle.scripts.specs.ScriptStore.{script_store, provider_of};
 ghost use Rattle.scripts.specs.Scripts.{ScriptAnswered, faulty_text};
 ghost use Rattle.scripts.specs.Transcript.{ObeysLine, Answered, IfRead};
@@ -13,7 +13,9 @@ use crate::command_line::command_line;
 use crate::reply_line::{push_reply, push_unreadable};
 use resolvo_store::ClauseStore;
 use script_packages::{Catalogue, Packages, read_catalogue};
-use script_text::{Line, LineFault, ScriptFault, next_line, read_whole, write_much, write_rest};
+use script_text::{
+    Line, LineFault, ScriptFault, Statement, next_statement, read_whole, write_much, write_rest,
+};
 use std::alloc::Global;
 use std::io::{Read, Write};
 
@@ -43,10 +45,7 @@ fn name_unreadable(waiting: &mut Vec<u8>, ended: Result<(), ScriptFault>) -> Res
     ensures memory { ended ≡ Err Memory → result ≡ Err Memory }
 {
     if let Err(ScriptFault::Unreadable(number)) = ended {
-        match push_unreadable(waiting, number) {
-            Ok(()) => {}
-            Err(_) => return Err(ScriptFault::Memory),
-        }
+        push_unreadable(waiting, number)?;
     }
     ended
 }
@@ -107,10 +106,10 @@ fn obey_lines<W: Write>(
 {
     let mut number = before;
     let mut rest = lines;
-    while let Some((line, others)) = next_line(rest) {
+    while let Some((said, others)) = next_statement(rest) {
         number += 1;
         rest = others;
-        match obey_line(store, line, waiting) {
+        match obey_line(store, said, waiting) {
             Ok(()) => {}
             Err(fault) => return Err(fault.at(number)),
         }
@@ -119,23 +118,21 @@ fn obey_lines<W: Write>(
     Ok(())
 }
 
-/// Obeys a line, and puts the line of the reply behind what waits.
+/// Obeys a line that says this, and puts the line of the reply behind what waits.
 fn obey_line(
     store: &mut ClauseStore<Packages>,
-    line: &[u8],
+    said: Line<Statement<'_>>,
     waiting: &mut Vec<u8>,
 ) -> Result<(), LineFault>
-    ensures { ObeysLine (script_store store.old) (command_line_of line.now) waiting.old.items result waiting.new.items (script_store store.new) }
+    ensures { ObeysLine (script_store store.old) (command_meant said.entry) waiting.old.items result waiting.new.items (script_store store.new) }
 {
-    match command_line(line) {
+    match command_line(said) {
         Line::Skipped => Ok(()),
         Line::Unreadable => Err(LineFault::Unreadable),
         Line::Says(command) => {
             let reply = store.step(&command);
-            match push_reply(waiting, &reply) {
-                Ok(()) => Ok(()),
-                Err(_) => Err(LineFault::Memory),
-            }
+            push_reply(waiting, &reply)?;
+            Ok(())
         }
     }
 }

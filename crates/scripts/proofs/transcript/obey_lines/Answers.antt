@@ -7,12 +7,12 @@ use Rattle.scripts.proofs.transcript.obey_lines.Goals as goal
 pub returns-in-Err : goal.returns-in-Err
 returns-in-Err g c =
     rw c.at.ensures
-    (ended_faulty (Unit {0}) (Unit {0}) (script_store c.args.store.now) _ _ c.args.before _ (lines_of c.args.lines.now) _ _ _ _ _ _ _ _ c.in-Err.fault
-    c.in-Some.ensures.first c.in-Err.ensures c.loop-line.invariant.so_far)
+    (ended_faulty (Unit {0}) (Unit {0}) (script_store c.args.store.now) _ _ c.args.before _ (lines_of c.args.lines.now) _ _ _ _ _ _ _ _ _ c.in-Err.fault
+    c.in-Some.ensures.first.1 c.in-Some.ensures.first.2 c.in-Err.ensures c.loop-said.invariant.so_far)
 
-pub loop-line-preserved : goal.loop-line-preserved
-loop-line-preserved g c = record {
-  fits = omega (arith, c.loop-line.invariant.fits, c.in-Some.ensures.shorter);
-  so_far = so_far_more (script_store c.args.store.now) _ _ c.args.before _ (lines_of c.args.lines.now) _ _ _ _ _ _ _ _ _ _ _
-      c.in-Some.ensures.first c.in-Ok.ensures c.in_ok-write_much.ensures.ok c.loop-line.invariant.so_far;
+pub loop-said-preserved : goal.loop-said-preserved
+loop-said-preserved g c = record {
+  fits = omega (arith, c.loop-said.invariant.fits, c.in-Some.ensures.shorter);
+  so_far = so_far_more (script_store c.args.store.now) _ _ c.args.before _ (lines_of c.args.lines.now) _ _ _ _ _ _ _ _ _ _ _ _
+      c.in-Some.ensures.first.1 c.in-Some.ensures.first.2 c.in-Ok.ensures c.in_ok-write_much.ensures.ok c.loop-said.invariant.so_far;
 }
