@@ -45,14 +45,20 @@ pub fn push_unreadable(text: &mut Vec<u8>, number: u64) -> Result<(), AllocError
     text.extend_from_slice(b" unreadable\n")
 }
 
+/// A number; one of a single digit, as most are, needs no buffer.
+#[tactic(auto, using(std::proofs::lemmas::Fmt::decimal_digit))]
 fn push_number(text: &mut Vec<u8>, number: u64) -> Result<(), AllocError>
     ensures { OnOk result (text.new.items ≡ text.old.items ++ decimal number) }
 {
+    if number < 10 {
+        return text.extend_from_slice(&[b'0' + number as u8]);
+    }
     let mut buffer = Buffer::new();
     text.extend_from_slice(buffer.format(number).as_bytes())
 }
 
-/// A text, and a number directly behind it.
+/// A text, and a number directly after it.
+#[inline(always)]
 fn push_field(text: &mut Vec<u8>, name: &[u8], number: usize) -> Result<(), AllocError>
     ensures { OnOk result (text.new.items ≡ text.old.items ++ (name.now ++ decimal number)) }
 {
