@@ -8,7 +8,7 @@ ghost use Rattle.resolvo_store.specs.Command.{command_of};
 ghost use Rattle.resolvo_store.specs.Outcome.{outcome};
 
 use resolvo_ids::{ClauseId, StoreError, VariableId};
-use resolvo_pool::{DependencyProvider, Interner, Requirement};
+use resolvo_pool::{DependencyProvider, Requirement};
 use resolvo_store::{AbstractStore, ClauseStore, Command, Reply};
 
 /// Obeys a command. One that is refused changes nothing; any other has its outcome.

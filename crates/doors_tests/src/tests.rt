@@ -3,7 +3,7 @@ use crate::callers::{give, require};
 use crate::searching::{SearchEnd, rule_out, search};
 use crate::shelf::{Release, Shelf, Since};
 use resolvo_ids::{ClauseId, DenseIndex, NameId, SolvableId, StoreError, VariableId, VersionSetId};
-use resolvo_pool::{DependencyProvider, Interner, Requirement};
+use resolvo_pool::{DependencyProvider, Requirement};
 use resolvo_store::{ClauseStore, Command, Reply};
 use std::alloc::Allocator;
 
