@@ -4,3 +4,4 @@ pub mod Outcome
 pub mod Refusals
 pub mod Step
 pub mod Store
+pub mod Types

@@ -7,7 +7,7 @@ use std::marker::Model;
 /// How many ids there are: 2^32 - 1.
 const COUNT: usize = 4294967295;
 
-/// A clause of a store; ids count up from 0.
+/// A clause of a store; ids count up from 0. [`DenseIndex`] makes one of its index.
 #[derive(Clone, Copy, Debug, PartialEq, Eq, PartialOrd, Ord, Hash)]
 pub struct ClauseId(u32);
 

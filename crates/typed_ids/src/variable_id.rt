@@ -8,6 +8,7 @@ use std::marker::Model;
 const COUNT: usize = 2147483647;
 
 /// A variable: 0 is the root's. Indexes end at 2^31 - 2, so that each variable has two literals of 32 bits.
+/// [`DenseIndex`] makes one of its index.
 #[derive(Clone, Copy, Debug, PartialEq, Eq, PartialOrd, Ord, Hash)]
 pub struct VariableId(u32);
 
