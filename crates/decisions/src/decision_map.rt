@@ -4,10 +4,10 @@ ghost use Rattle.typed_ids.specs.declared.error.StoreError.TheVariants.{OutOfMem
 ghost use Rattle.typed_ids.specs.TotalMaps.{IsUpdate, SameValues};
 ghost use Rattle.decisions.specs.Decisions.{decision_in, values_in, level_in};
 
-use id_maps::{DefaultValue, IdMap};
+use id_maps::IdMap;
 use std::alloc::Allocator;
 use std::marker::Model;
-use typed_ids::{StoreError, VariableId};
+use typed_ids::{DefaultValue, StoreError, VariableId};
 
 /// The value of a variable and the level at which it got it, or neither.
 #[derive(Clone, Copy, Debug, PartialEq, Eq)]

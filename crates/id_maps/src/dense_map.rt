@@ -3,10 +3,9 @@ ghost use Rattle.std.specs.Prelude.{◌≡◌, ◌<◌, ◌^◌, ◌↔◌, ℕ,
 ghost use Rattle.typed_ids.specs.Refusals.{is_too_dense};
 ghost use Rattle.typed_ids.specs.TotalMaps.{kept, kept_within};
 
-use crate::default_value::DefaultValue;
 use crate::id_map::IdMap;
 use std::alloc::Allocator;
-use typed_ids::{DENSE_LIMIT, DenseIndex, StoreError};
+use typed_ids::{DENSE_LIMIT, DefaultValue, DenseIndex, StoreError};
 
 /// The map of dense ids: the value at index i is at place i. Indexes from 2^40 on are refused. It grows to twice its
 /// size at least, so that writing at ascending indexes takes a time linear in their number.

@@ -4,9 +4,8 @@ ghost use Rattle.typed_ids.specs.declared.error.StoreError.TheVariants.{IdSpace}
 ghost use Rattle.typed_ids.specs.Refusals.{IsGrowthRefusal};
 ghost use Rattle.typed_ids.specs.TotalMaps.{IsUpdate, SameValues, IsLargest};
 
-use crate::default_value::DefaultValue;
 use std::alloc::Allocator;
-use typed_ids::StoreError;
+use typed_ids::{DefaultValue, StoreError};
 
 /// A total map: a key that was never written has the default value.
 ///

@@ -8,18 +8,18 @@
 //! root to a set of solvables. The words of the contracts are those of `typed_ids`, and `has_bit` in `specs/IndexedSet`.
 #![tactic(auto)]
 
-mod default_value;
 mod dense_map;
 mod id_map;
 mod id_set;
 mod indexed_set;
+mod slot;
 mod solver_id;
 mod sparse_map;
 mod with_root_set;
 
-pub use default_value::{DefaultValue, Slot};
 pub use id_map::IdMap;
 pub use id_set::IdSet;
 pub use indexed_set::IndexedSet;
+pub use slot::Slot;
 pub use solver_id::SolverId;
 pub use with_root_set::WithRootSet;

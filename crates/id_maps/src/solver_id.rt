@@ -1,8 +1,8 @@
 //! Ids that choose how the maps and sets kept by them are stored.
-use crate::default_value::Slot;
 use crate::id_map::IdMap;
 use crate::id_set::IdSet;
 use crate::indexed_set::IndexedSet;
+use crate::slot::Slot;
 use indexmap::IndexMap;
 use std::alloc::Allocator;
 use std::collections::HashSet;

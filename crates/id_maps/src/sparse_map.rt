@@ -4,12 +4,11 @@ ghost use Rattle.std.specs.Option.{unwrap_or};
 ghost use Rattle.indexmap.specs.IndexMap.{get};
 ghost use Rattle.typed_ids.specs.TotalMaps.{some_is_stored};
 
-use crate::default_value::DefaultValue;
 use crate::id_map::IdMap;
 use indexmap::IndexMap;
 use std::alloc::Allocator;
 use std::hash::BuildHasher;
-use typed_ids::{SameId, StoreError};
+use typed_ids::{DefaultValue, SameId, StoreError};
 
 /// The map of sparse ids: room for a key is an entry, which holds the default value until another is written. No key is
 /// too large.

@@ -8,13 +8,13 @@ ghost use Rattle.typed_ids.specs.WithRoot.{has_key, root_or};
 
 use crate::id_set::IdSet;
 use crate::solver_id::SolverId;
-use std::alloc::Allocator;
+use std::alloc::{Allocator, Global};
 use std::marker::Model;
 use typed_ids::{SolvableIdOrRoot, StoreError};
 
 /// A set that may have the root beside solvables, which are in a set of their own. The root takes no memory.
 #[derive(Drop)]
-pub struct WithRootSet<S: SolverId<A>, A: Allocator + Copy> {
+pub struct WithRootSet<S: SolverId<A>, A: Allocator + Copy = Global> {
     root: bool,
     solvables: S::Set,
 }

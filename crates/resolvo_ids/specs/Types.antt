@@ -16,7 +16,7 @@ pub use Rattle.typed_ids.specs.declared.string_id.StringId
 pub use Rattle.typed_ids.specs.declared.variable_id.VariableId
 pub use Rattle.typed_ids.specs.declared.version_set_id.VersionSetId
 pub use Rattle.typed_ids.specs.declared.version_set_union_id.VersionSetUnionId
-pub use Rattle.id_maps.specs.declared.default_value.Slot
+pub use Rattle.id_maps.specs.declared.slot.Slot
 pub use Rattle.id_maps.specs.declared.indexed_set.IndexedSet
 pub use Rattle.id_maps.specs.declared.with_root_set.WithRootSet
 pub use Rattle.id_storage.specs.declared.arena.Arena

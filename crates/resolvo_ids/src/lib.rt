@@ -10,11 +10,11 @@
 //! with its ghost members, as `Rattle.resolvo_ids.specs.Types.NAME`.
 #![tactic(auto)]
 
-pub use id_maps::{DefaultValue, IdMap, IdSet, IndexedSet, Slot, SolverId, WithRootSet};
+pub use id_maps::{IdMap, IdSet, IndexedSet, Slot, SolverId, WithRootSet};
 pub use id_storage::{Arena, ArenaIter, FrozenCopyMap, Mapping, MappingIter};
 pub use typed_ids::{
-    CandidatesId, ClauseId, ConditionId, DENSE_LIMIT, DenseId, DenseIndex, DependenciesId,
-    DisjunctionId, InsertError, LearntClauseId, NameId, NameTag, SameId, SolvableId,
-    SolvableIdOrRoot, SolvableTag, SparseId, StoreError, StringId, VariableId, VersionSetId,
-    VersionSetUnionId,
+    CandidatesId, ClauseId, ConditionId, DENSE_LIMIT, DefaultValue, DenseId, DenseIndex,
+    DependenciesId, DisjunctionId, InsertError, LearntClauseId, NameId, NameTag, OrderedByParts,
+    SameId, SameValue, SolvableId, SolvableIdOrRoot, SolvableTag, SparseId, StoreError, StringId,
+    VariableId, VersionSetId, VersionSetUnionId,
 };

@@ -6,13 +6,15 @@ ghost use Rattle.std.specs.Prelude.{◌≡◌, []};
 use crate::script::{Example, clause, lists_of, single, variable};
 use crate::stores::{Way, dense_gives, sparse_gives};
 use decisions::{AddFault, Decision, DecisionMap, DecisionTracker};
-use id_maps::{DefaultValue, IdMap, Slot, SolverId};
+use id_maps::{IdMap, Slot, SolverId};
 use providers::{Interner, Requirement, RequirementMap};
 use resolvo_queue::DecideQueue;
 use std::alloc::{Allocator, Global};
 use std::test::Fail;
 use test_checks::is_same;
-use typed_ids::{ClauseId, DenseIndex, NameId, SolvableId, StoreError, VariableId, VersionSetId};
+use typed_ids::{
+    ClauseId, DefaultValue, DenseIndex, NameId, SolvableId, StoreError, VariableId, VersionSetId,
+};
 use variables::{VariableMap, VariableOrigin};
 
 #[test]

@@ -1,5 +1,6 @@
 //! Candidates of packages.
 use crate::dense_index::DenseIndex;
+use crate::same_value::SameValue;
 use std::marker::Model;
 
 /// The candidates of one package, kept by a cache.
@@ -40,4 +41,10 @@ impl DenseIndex for CandidatesId {
     fn to_index(self) -> usize {
         self.0 as usize
     }
+}
+
+impl SameValue for CandidatesId {
+    ghost use Rattle.std.proofs.Common.{rules};
+
+    ghost same = { λ a b h. Prim.search rules };
 }

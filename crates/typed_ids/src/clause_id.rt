@@ -2,6 +2,8 @@
 ghost use Rattle.std.specs.Prelude.{◌≡◌};
 
 use crate::dense_index::DenseIndex;
+use crate::ordered_by_parts::OrderedByParts;
+use crate::same_value::SameValue;
 use std::marker::Model;
 
 /// How many ids there are: 2^32 - 1.
@@ -59,4 +61,19 @@ impl DenseIndex for ClauseId {
     fn to_index(self) -> usize {
         (self.0 - 1) as usize
     }
+}
+
+impl SameValue for ClauseId {
+    ghost use Rattle.std.proofs.Common.{rules};
+
+    ghost same = { λ a b h. Prim.search rules };
+}
+
+impl OrderedByParts for ClauseId {
+    ghost use Rattle.std.specs.Prelude.{[], ◌∷◌};
+    ghost use Rattle.std.proofs.Common.{rules};
+
+    ghost parts = { λ x. x ∷ [] };
+
+    ghost by_parts = { λ a b. Prim.search rules };
 }

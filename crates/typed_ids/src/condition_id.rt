@@ -2,6 +2,8 @@
 ghost use Rattle.std.specs.Prelude.{◌≡◌, ◌<◌};
 
 use crate::dense_index::DenseIndex;
+use crate::ordered_by_parts::OrderedByParts;
+use crate::same_value::SameValue;
 use std::marker::Model;
 
 /// How many ids there are: 2^32 - 1.
@@ -68,4 +70,19 @@ impl DenseIndex for ConditionId {
     fn to_index(self) -> usize {
         (self.0 - 1) as usize
     }
+}
+
+impl SameValue for ConditionId {
+    ghost use Rattle.std.proofs.Common.{rules};
+
+    ghost same = { λ a b h. Prim.search rules };
+}
+
+impl OrderedByParts for ConditionId {
+    ghost use Rattle.std.specs.Prelude.{[], ◌∷◌};
+    ghost use Rattle.std.proofs.Common.{rules};
+
+    ghost parts = { λ x. x ∷ [] };
+
+    ghost by_parts = { λ a b. Prim.search rules };
 }

@@ -2,7 +2,8 @@
 ghost use Rattle.std.specs.Prelude.{◌≡◌};
 
 use crate::dense_index::DenseIndex;
-use crate::same_id::SameId;
+use crate::ordered_by_parts::OrderedByParts;
+use crate::same_value::SameValue;
 use std::fmt;
 use std::marker::{Model, PhantomData};
 
@@ -77,10 +78,19 @@ impl<Tag, Repr: DenseIndex> DenseIndex for DenseId<Tag, Repr> {
     }
 }
 
-impl<Tag, Repr: SameId> SameId for DenseId<Tag, Repr> {
+impl<Tag, Repr: SameValue> SameValue for DenseId<Tag, Repr> {
     ghost use Rattle.std.proofs.Common.{rules};
 
     ghost same = { λ a b h. Repr.same a b (Prim.search rules) };
+}
+
+/// The order is that of the raw numbers.
+impl<Tag, Repr: OrderedByParts> OrderedByParts for DenseId<Tag, Repr> {
+    ghost use Rattle.std.proofs.Common.{rules};
+
+    ghost parts = { λ x. Repr.parts x };
+
+    ghost by_parts = { λ a b. Prim.search rules };
 }
 
 /// The domain of names.

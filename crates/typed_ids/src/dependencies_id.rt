@@ -1,5 +1,6 @@
 //! Dependencies of solvables. An id is kept as its index plus one, which its `Debug` text shows; a contract sees the index.
 use crate::dense_index::DenseIndex;
+use crate::same_value::SameValue;
 use std::marker::Model;
 
 /// How many ids there are: 2^32 - 1.
@@ -48,4 +49,10 @@ impl DenseIndex for DependenciesId {
     fn to_index(self) -> usize {
         (self.0 - 1) as usize
     }
+}
+
+impl SameValue for DependenciesId {
+    ghost use Rattle.std.proofs.Common.{rules};
+
+    ghost same = { λ a b h. Prim.search rules };
 }

@@ -1,5 +1,7 @@
 //! Disjunctions. An id is kept as its index plus one, which its `Debug` text shows; a contract sees the index.
 use crate::dense_index::DenseIndex;
+use crate::ordered_by_parts::OrderedByParts;
+use crate::same_value::SameValue;
 use std::marker::Model;
 
 /// How many ids there are: 2^32 - 1.
@@ -48,4 +50,19 @@ impl DenseIndex for DisjunctionId {
     fn to_index(self) -> usize {
         (self.0 - 1) as usize
     }
+}
+
+impl SameValue for DisjunctionId {
+    ghost use Rattle.std.proofs.Common.{rules};
+
+    ghost same = { λ a b h. Prim.search rules };
+}
+
+impl OrderedByParts for DisjunctionId {
+    ghost use Rattle.std.specs.Prelude.{[], ◌∷◌};
+    ghost use Rattle.std.proofs.Common.{rules};
+
+    ghost parts = { λ x. x ∷ [] };
+
+    ghost by_parts = { λ a b. Prim.search rules };
 }

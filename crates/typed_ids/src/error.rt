@@ -2,6 +2,7 @@
 ghost use Rattle.std.specs.Prelude.{◌≡◌};
 ghost use Rattle.typed_ids.specs.declared.error.StoreError.TheVariants.{OutOfMemory};
 
+use crate::same_value::SameValue;
 use std::alloc::{AllocError, AllocFailed};
 use thiserror::Error;
 
@@ -86,4 +87,10 @@ impl<T: Drop> From<AllocFailed<T>> for StoreError {
     fn from(_refused: AllocFailed<T>) -> StoreError {
         StoreError::OutOfMemory
     }
+}
+
+impl SameValue for StoreError {
+    ghost use Rattle.std.proofs.Common.{rules};
+
+    ghost same = { λ a b h. Prim.search rules };
 }

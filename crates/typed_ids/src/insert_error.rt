@@ -1,5 +1,6 @@
 //! What a refused insertion hands back.
 use crate::error::StoreError;
+use crate::same_value::SameValue;
 use thiserror::Error;
 
 /// A refused insertion: why, and the value that was to be kept, which is kept nowhere.
@@ -20,4 +21,10 @@ impl<V: Drop> From<InsertError<V>> for StoreError {
     fn from(refused: InsertError<V>) -> StoreError {
         refused.error
     }
+}
+
+impl<V: SameValue> SameValue for InsertError<V> {
+    ghost use Rattle.std.proofs.Common.{rules};
+
+    ghost same = { λ a b h. Prim.search rules };
 }

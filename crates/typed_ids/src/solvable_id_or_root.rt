@@ -3,7 +3,7 @@ ghost use Rattle.std.specs.Prelude.{◌≡◌};
 ghost use Rattle.typed_ids.specs.declared.solvable_id_or_root.SolvableIdOrRoot.TheVariants.{Root};
 ghost use Rattle.typed_ids.specs.WithRoot.{solvable_of};
 
-use crate::same_id::SameId;
+use crate::same_value::SameValue;
 
 /// The root, or a solvable of the provider.
 #[derive(Clone, Copy, Debug, PartialEq, Eq, Hash)]
@@ -43,7 +43,7 @@ impl<S> From<S> for SolvableIdOrRoot<S> {
     }
 }
 
-impl<S: SameId> SameId for SolvableIdOrRoot<S> {
+impl<S: SameValue> SameValue for SolvableIdOrRoot<S> {
     ghost use Rattle.std.proofs.Common.{rules};
 
     ghost same = { λ a b h. Prim.search rules };

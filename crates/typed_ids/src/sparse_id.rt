@@ -1,7 +1,7 @@
 //! Ids with gaps between their numbers.
 ghost use Rattle.std.specs.Prelude.{◌≡◌};
 
-use crate::same_id::SameId;
+use crate::same_value::SameValue;
 use std::fmt;
 use std::hash::{BuildHasherDefault, DefaultHasher};
 use std::marker::{Model, PhantomData};
@@ -51,7 +51,7 @@ impl<Tag, Repr: fmt::Debug, H> fmt::Debug for SparseId<Tag, Repr, H> {
     }
 }
 
-impl<Tag, Repr: SameId, H> SameId for SparseId<Tag, Repr, H> {
+impl<Tag, Repr: SameValue, H> SameValue for SparseId<Tag, Repr, H> {
     ghost use Rattle.std.proofs.Common.{rules};
 
     ghost same = { λ a b h. Repr.same a b (Prim.search rules) };

@@ -1,5 +1,7 @@
 //! Strings.
 use crate::dense_index::DenseIndex;
+use crate::ordered_by_parts::OrderedByParts;
+use crate::same_value::SameValue;
 
 /// A string of a pool, as a reason why a solvable is excluded.
 #[derive(Clone, Copy, Debug, PartialEq, Eq, PartialOrd, Ord, Hash)]
@@ -30,4 +32,19 @@ impl DenseIndex for StringId {
     fn to_index(self) -> usize {
         self.0 as usize
     }
+}
+
+impl SameValue for StringId {
+    ghost use Rattle.std.proofs.Common.{rules};
+
+    ghost same = { λ a b h. Prim.search rules };
+}
+
+impl OrderedByParts for StringId {
+    ghost use Rattle.std.specs.Prelude.{[], ◌∷◌};
+    ghost use Rattle.std.proofs.Common.{rules};
+
+    ghost parts = { λ x. x.0 ∷ [] };
+
+    ghost by_parts = { λ a b. Prim.search rules };
 }

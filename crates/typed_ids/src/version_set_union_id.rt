@@ -1,5 +1,8 @@
 //! Unions of version sets.
+use crate::default_value::DefaultValue;
 use crate::dense_index::DenseIndex;
+use crate::ordered_by_parts::OrderedByParts;
+use crate::same_value::SameValue;
 
 /// A union of version sets, perhaps of several packages.
 #[derive(Clone, Copy, Debug, Default, PartialEq, Eq, PartialOrd, Ord, Hash)]
@@ -30,4 +33,28 @@ impl DenseIndex for VersionSetUnionId {
     fn to_index(self) -> usize {
         self.0 as usize
     }
+}
+
+impl SameValue for VersionSetUnionId {
+    ghost use Rattle.std.proofs.Common.{rules};
+
+    ghost same = { λ a b h. Prim.search rules };
+}
+
+impl OrderedByParts for VersionSetUnionId {
+    ghost use Rattle.std.specs.Prelude.{[], ◌∷◌};
+    ghost use Rattle.std.proofs.Common.{rules};
+
+    ghost parts = { λ x. x.0 ∷ [] };
+
+    ghost by_parts = { λ a b. Prim.search rules };
+}
+
+/// The default is the id of index 0.
+impl DefaultValue for VersionSetUnionId {
+    ghost use Rattle.std.proofs.Common.{rules};
+
+    ghost default_value = { record { 0 = 0 } };
+
+    ghost only_default = { λ x h. Prim.search rules };
 }

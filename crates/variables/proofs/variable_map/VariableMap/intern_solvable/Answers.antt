@@ -13,7 +13,7 @@ invariant_of-self-2 g c =
     let size : c.len-index.result ≡ length os = c.len-index.ensures ∙ c.self.inside.origins.ok.0 in
     let below : c.len-index.result < 2147483647 = search rules in
     rw c.in_ok-push.ensures.items record {
-      agrees = agrees-with_variable same g.met.S.Eq.laws.refl g.met.S.SameId.same c.args.solvable c.len-index.result os _ _ _ size c.self.invariant.agrees c.make_room.ensures.same absent (c.put.ensures.put.0 ∙ c.new.ensures, c.put.ensures.put.1);
+      agrees = agrees-with_variable same g.met.S.Eq.laws.refl g.met.S.SameValue.same c.args.solvable c.len-index.result os _ _ _ size c.self.invariant.agrees c.make_room.ensures.same absent (c.put.ensures.put.0 ∙ c.new.ensures, c.put.ensures.put.1);
       few = simp length-append (omega (arith, size, below));
       root_first = root-append os _ c.self.invariant.root_first;
     }

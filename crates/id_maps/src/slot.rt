@@ -1,17 +1,8 @@
-//! Values of total maps: what is read where nothing was written.
+//! Values of maps: a number or none.
 ghost use Rattle.std.specs.Prelude.{◌≡◌};
 
 use std::marker::Model;
-
-/// A value type whose default is one known value, so that a total map can be said to have it wherever nothing was
-/// written. (The contract of `Default` alone doesn't say that two calls agree.)
-pub trait DefaultValue: Copy + Default {
-    /// The default.
-    ghost default_value: { Self };
-
-    /// `default` answers no other value.
-    ghost only_default: { (x : Self) → Self.is_default x → x ≡ default_value };
-}
+use typed_ids::{DefaultValue, SameValue};
 
 /// A number or none. A type of its own, since a bound on the maps of an id can't name `Option<u32>`.
 #[derive(Clone, Copy, Debug, PartialEq, Eq)]
@@ -63,8 +54,8 @@ impl DefaultValue for Slot {
     ghost only_default = { λ s h. h };
 }
 
-impl DefaultValue for u64 {
-    ghost default_value = { 0 };
+impl SameValue for Slot {
+    ghost use Rattle.std.proofs.Common.{rules};
 
-    ghost only_default = { λ x h. h };
+    ghost same = { λ a b h. Prim.search rules };
 }
