@@ -1,3 +1,4 @@
+pub mod Parts
 pub mod Provider
 pub mod Requirement
 pub mod RequirementMap

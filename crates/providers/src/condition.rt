@@ -1,5 +1,5 @@
 //! Conditions: when a requirement is asked for at all.
-use typed_ids::{ConditionId, VersionSetId};
+use typed_ids::{ConditionId, OrderedByParts, SameValue, VersionSetId};
 
 /// A condition is met by what is picked: by a candidate of a version set, or as two other conditions are.
 #[derive(Clone, Copy, Debug, PartialEq, Eq, PartialOrd, Ord, Hash)]
@@ -17,4 +17,34 @@ pub enum LogicalOperator {
     And,
     /// One of them is met, or both are.
     Or,
+}
+
+impl SameValue for Condition {
+    ghost use Rattle.std.proofs.Common.{rules};
+
+    ghost same = { λ a b h. Prim.search rules };
+}
+
+impl OrderedByParts for Condition {
+    ghost use Rattle.providers.specs.Parts.{condition_parts};
+    ghost use Rattle.std.proofs.Common.{rules};
+
+    ghost parts = { condition_parts };
+
+    ghost by_parts = { Prim.search rules };
+}
+
+impl SameValue for LogicalOperator {
+    ghost use Rattle.std.proofs.Common.{rules};
+
+    ghost same = { λ a b h. Prim.search rules };
+}
+
+impl OrderedByParts for LogicalOperator {
+    ghost use Rattle.providers.specs.Parts.{operator_parts};
+    ghost use Rattle.std.proofs.Common.{rules};
+
+    ghost parts = { operator_parts };
+
+    ghost by_parts = { Prim.search rules };
 }

@@ -2,7 +2,7 @@
 ghost use Rattle.std.specs.Prelude.{◌≡◌, None};
 
 use crate::requirement::Requirement;
-use typed_ids::{ConditionId, VersionSetId, VersionSetUnionId};
+use typed_ids::{ConditionId, OrderedByParts, SameValue, VersionSetId, VersionSetUnionId};
 
 /// A requirement, and the condition under which alone it is asked for; without one it always is.
 #[derive(Clone, Copy, Debug, PartialEq, Eq, PartialOrd, Ord, Hash)]
@@ -45,4 +45,19 @@ impl From<VersionSetUnionId> for ConditionalRequirement {
     fn from(union: VersionSetUnionId) -> Self {
         ConditionalRequirement::from(Requirement::Union(union))
     }
+}
+
+impl SameValue for ConditionalRequirement {
+    ghost use Rattle.std.proofs.Common.{rules};
+
+    ghost same = { λ a b h. Prim.search rules };
+}
+
+impl OrderedByParts for ConditionalRequirement {
+    ghost use Rattle.providers.specs.Parts.{conditional_parts};
+    ghost use Rattle.std.proofs.Common.{rules};
+
+    ghost parts = { conditional_parts };
+
+    ghost by_parts = { Prim.search rules };
 }

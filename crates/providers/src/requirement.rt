@@ -10,7 +10,10 @@ use crate::joined::append_joined;
 use crate::requirement_text::texts_of_sets;
 use crate::version_sets::VersionSets;
 use std::slice;
-use typed_ids::{ConditionId, StoreError, VersionSetId, VersionSetUnionId};
+use typed_ids::{
+    ConditionId, DefaultValue, OrderedByParts, SameValue, StoreError, VersionSetId,
+    VersionSetUnionId,
+};
 
 /// One of the candidates of a version set, or of any set of a union.
 #[derive(Clone, Copy, Debug, PartialEq, Eq, PartialOrd, Ord, Hash)]
@@ -93,4 +96,29 @@ impl From<VersionSetUnionId> for Requirement {
     fn from(union: VersionSetUnionId) -> Self {
         Requirement::Union(union)
     }
+}
+
+impl SameValue for Requirement {
+    ghost use Rattle.std.proofs.Common.{rules};
+
+    ghost same = { λ a b h. Prim.search rules };
+}
+
+impl OrderedByParts for Requirement {
+    ghost use Rattle.providers.specs.Parts.{requirement_parts};
+    ghost use Rattle.std.proofs.Common.{rules};
+
+    ghost parts = { requirement_parts };
+
+    ghost by_parts = { Prim.search rules };
+}
+
+/// The default is the version set of index 0.
+impl DefaultValue for Requirement {
+    ghost use Rattle.std.proofs.Common.{rules};
+    ghost use Rattle.providers.specs.declared.requirement.Requirement.TheVariants.{Single};
+
+    ghost default_value = { Single (record { 0 = 0 }) };
+
+    ghost only_default = { λ x h. h };
 }

@@ -8,7 +8,7 @@ ghost use Rattle.providers.specs.Requirement.{same_requirement};
 
 use crate::requirement::Requirement;
 use indexmap::IndexMap;
-use std::alloc::Allocator;
+use std::alloc::{Allocator, Global};
 use std::hash::{BuildHasherDefault, FoldHasher};
 use std::marker::Model;
 use std::ops::Index;
@@ -16,7 +16,7 @@ use typed_ids::{InsertError, StoreError};
 
 /// A map from requirements to values. A contract sees its entries in the order of insertion.
 #[derive(Drop)]
-pub struct RequirementMap<V, A: Allocator> {
+pub struct RequirementMap<V, A: Allocator = Global> {
     entries: IndexMap<Requirement, V, BuildHasherDefault<FoldHasher>, A>,
 }
 
