@@ -1,7 +1,7 @@
 //! Decisions: what a variable is, and why.
 ghost use Rattle.std.specs.Prelude.{◌≡◌};
 
-use typed_ids::{ClauseId, VariableId};
+use typed_ids::{ClauseId, SameValue, VariableId};
 
 /// A value given to a variable, and the clause that gave it.
 #[derive(Clone, Copy, Debug, PartialEq, Eq)]
@@ -26,4 +26,10 @@ impl Decision {
             derived_from,
         }
     }
+}
+
+impl SameValue for Decision {
+    ghost use Rattle.std.proofs.Common.{rules};
+
+    ghost same = { λ a b h. Prim.search rules };
 }

@@ -17,7 +17,7 @@ use crate::decision::Decision;
 use crate::decision_map::DecisionMap;
 use std::alloc::Allocator;
 use std::marker::Model;
-use typed_ids::{StoreError, VariableId};
+use typed_ids::{SameValue, StoreError, VariableId};
 
 /// Why a decision wasn't added.
 #[derive(Clone, Copy, Debug, PartialEq, Eq)]
@@ -26,6 +26,12 @@ pub enum AddFault {
     Clash,
     /// There was no room for it.
     Store(StoreError),
+}
+
+impl SameValue for AddFault {
+    ghost use Rattle.std.proofs.Common.{rules};
+
+    ghost same = { λ a b h. Prim.search rules };
 }
 
 /// The decisions in the order in which they were made, beside a map that answers for one variable in constant time.
