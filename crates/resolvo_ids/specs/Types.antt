@@ -25,9 +25,11 @@ pub use Rattle.id_storage.specs.declared.frozen_copy_map.FrozenCopyMap
 pub use Rattle.id_storage.specs.declared.mapping.Mapping
 pub use Rattle.id_storage.specs.declared.mapping_iter.MappingIter
 -- the traits, each with its ghost members
+pub use Rattle.typed_ids.specs.declared.default_value.DefaultValue
 pub use Rattle.typed_ids.specs.declared.dense_index.DenseIndex
+pub use Rattle.typed_ids.specs.declared.ordered_by_parts.OrderedByParts
 pub use Rattle.typed_ids.specs.declared.same_id.SameId
-pub use Rattle.id_maps.specs.declared.default_value.DefaultValue
+pub use Rattle.typed_ids.specs.declared.same_value.SameValue
 pub use Rattle.id_maps.specs.declared.id_map.IdMap
 pub use Rattle.id_maps.specs.declared.id_set.IdSet
 pub use Rattle.id_maps.specs.declared.solver_id.SolverId

@@ -4,9 +4,10 @@
 //! lies in vectors: total maps and sets in `id_maps`, lists of values and finite maps in `id_storage`.
 //!
 //! Each id has a file of its own. Those of names and solvables are a provider's to choose, and are dense (`dense_id`) or
-//! sparse (`sparse_id`); `dense_index` and `same_id` have the traits. The refusals are in `error`, and `insert_error`
-//! hands back what was refused. `specs/Refusals` and `specs/TotalMaps` have the words by which contracts of all crates
-//! speak of them and of total maps.
+//! sparse (`sparse_id`); `dense_index` and `same_id` have the traits. Three more traits are laws of a type's derives:
+//! `same_value` of `==`, `ordered_by_parts` of the order, `default_value` of the default. The refusals are in `error`,
+//! and `insert_error` hands back what was refused. `specs/Refusals` and `specs/TotalMaps` have the words by which
+//! contracts of all crates speak of them and of total maps.
 #![tactic(auto)]
 
 mod candidates_id;
