@@ -1,5 +1,5 @@
 //! Where a requirement that isn't met can still be met.
-use typed_ids::{VariableId, VersionSetId};
+use typed_ids::{SameValue, VariableId, VersionSetId};
 
 /// The first undecided candidate of a requirement, its version set, and how many candidates of that version set are
 /// undecided.
@@ -8,4 +8,10 @@ pub struct Frontier {
     pub variable: VariableId,
     pub set: VersionSetId,
     pub count: usize,
+}
+
+impl SameValue for Frontier {
+    ghost use Rattle.std.proofs.Common.{rules};
+
+    ghost same = { λ a b h. Prim.search rules };
 }

@@ -1,5 +1,5 @@
 //! What to decide next.
-use typed_ids::{ClauseId, VariableId};
+use typed_ids::{ClauseId, SameValue, VariableId};
 
 /// A candidate to try, and the clause that asks for it.
 #[derive(Clone, Copy, Debug, PartialEq, Eq)]
@@ -13,4 +13,10 @@ pub struct QueueDecision {
     pub package_activity: u64,
     /// How many candidates of the same version set are undecided.
     pub candidate_count: usize,
+}
+
+impl SameValue for QueueDecision {
+    ghost use Rattle.std.proofs.Common.{rules};
+
+    ghost same = { λ a b h. Prim.search rules };
 }

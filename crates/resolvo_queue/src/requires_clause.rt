@@ -1,6 +1,6 @@
 //! Requires clauses, as a queue keeps them.
 use providers::Requirement;
-use typed_ids::{ClauseId, VariableId};
+use typed_ids::{ClauseId, SameValue, VariableId};
 
 /// The clause that a parent, if it is true, has its requirement met.
 #[derive(Clone, Copy, Debug, PartialEq, Eq)]
@@ -8,4 +8,10 @@ pub struct RequiresClause {
     pub parent: VariableId,
     pub requirement: Requirement,
     pub clause_id: ClauseId,
+}
+
+impl SameValue for RequiresClause {
+    ghost use Rattle.std.proofs.Common.{rules};
+
+    ghost same = { λ a b h. Prim.search rules };
 }
