@@ -6,6 +6,7 @@ ghost use Rattle.script_text.specs.declared.fault.ScriptFault.TheVariants as OfS
 
 use std::alloc::{AllocError, AllocFailed};
 use thiserror::Error;
+use typed_ids::SameValue;
 
 /// Why a script was left before its end.
 #[derive(Clone, Copy, Debug, PartialEq, Eq, Error)]
@@ -90,4 +91,16 @@ pub fn status(ended: &Result<(), ScriptFault>) -> u8
         Err(ScriptFault::Device) => 2,
         Err(ScriptFault::Memory) => 3,
     }
+}
+
+impl SameValue for ScriptFault {
+    ghost use Rattle.std.proofs.Common.{rules};
+
+    ghost same = { λ a b h. Prim.search rules };
+}
+
+impl SameValue for LineFault {
+    ghost use Rattle.std.proofs.Common.{rules};
+
+    ghost same = { λ a b h. Prim.search rules };
 }

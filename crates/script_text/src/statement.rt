@@ -7,6 +7,7 @@ ghost use Rattle.script_text.specs.Statements.{MeansWords, FirstMeans, IsRestPri
 use crate::line::first_line;
 use crate::printed::is_printed;
 use crate::word::next_word;
+use typed_ids::SameValue;
 
 /// What a line says.
 #[derive(Clone, Copy, PartialEq, Eq)]
@@ -60,4 +61,10 @@ fn meaning(line: &[u8], all_printed: bool) -> Line<Statement<'_>>
         None | Some(([b'#', ..], _)) => Line::Skipped,
         Some((keyword, rest)) => Line::Says(Statement { keyword, rest }),
     }
+}
+
+impl<T: SameValue> SameValue for Line<T> {
+    ghost use Rattle.std.proofs.Common.{rules};
+
+    ghost same = { λ a b h. Prim.search rules };
 }
