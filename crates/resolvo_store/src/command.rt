@@ -1,6 +1,6 @@
 //! What a store is asked.
 use providers::Requirement;
-use typed_ids::{ClauseId, DisjunctionId, VariableId};
+use typed_ids::{ClauseId, DisjunctionId, SameValue, VariableId};
 
 /// A command. `S` are the provider's solvables.
 ///
@@ -21,4 +21,10 @@ pub enum Command<S> {
     UndoUntil(u32),
     /// Asks which candidate to decide next.
     Decide,
+}
+
+impl<S: SameValue> SameValue for Command<S> {
+    ghost use Rattle.std.proofs.Common.{rules};
+
+    ghost same = { λ a b h. Prim.search rules };
 }

@@ -24,5 +24,5 @@ mod store;
 
 pub use abstract_store::AbstractStore;
 pub use command::Command;
-pub use reply::Reply;
+pub use reply::{AbstractReply, Reply};
 pub use store::ClauseStore;

@@ -1,4 +1,6 @@
 //! What a store answers.
+ghost use Rattle.std.specs.Prelude.{◌≡◌, true};
+
 use decisions::Decision;
 use resolvo_queue::QueueDecision;
 use std::alloc::Allocator;
@@ -31,4 +33,25 @@ pub enum Reply<A: Allocator> {
     Falsified(ClauseId),
     /// The command was refused, and changed nothing.
     Refused(StoreError),
+}
+
+/// A reply as the abstract store gives it, of which `==` speaks: how much room its lists have tells none from another.
+pub trait AbstractReply: Eq {
+    ghost use Rattle.resolvo_store.specs.Command.{Reply};
+
+    /// What the reply says.
+    ghost reply: { Self → Reply };
+
+    /// Replies that compare equal say the same. (That a reply equals itself is a law of `Eq`.)
+    ghost same_reply: { (a b : Self) → Self.eq a b ≡ true → reply a ≡ reply b };
+}
+
+impl<A: Allocator> AbstractReply for Reply<A> {
+    ghost use Rattle.resolvo_store.specs.Command.{reply_of};
+    ghost use Rattle.resolvo_store.specs.ReplyLaws.{same_lists};
+    ghost use Rattle.std.proofs.Common.{rules};
+
+    ghost reply = { reply_of };
+
+    ghost same_reply = { λ a b h. Prim.search (rules, same_lists) };
 }
