@@ -6,6 +6,8 @@ mod any_set;
 mod arena;
 mod arena_callers;
 #[cfg(test)]
+mod global;
+#[cfg(test)]
 mod ids;
 #[cfg(test)]
 mod mapping;
@@ -13,7 +15,11 @@ mod mapping_callers;
 #[cfg(test)]
 mod maps;
 #[cfg(test)]
+mod refusals;
+#[cfg(test)]
 mod sets;
+#[cfg(test)]
+mod slots;
 
 pub use any_set::{SetAnswers, set_answers};
 pub use arena_callers::{added, count, pairs, replace, total};

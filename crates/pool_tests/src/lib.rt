@@ -11,6 +11,8 @@ mod noted;
 #[cfg(test)]
 mod pool;
 #[cfg(test)]
+mod shown;
+#[cfg(test)]
 mod texts;
 
 pub use callers::interns_once;
