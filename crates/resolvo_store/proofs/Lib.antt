@@ -1,4 +1,6 @@
+pub mod CallerLaws
 pub mod ConflictLemmas
 pub mod ListLemmas
 pub mod LoadingLemmas
 pub mod RunLemmas
+pub mod SoundLaws

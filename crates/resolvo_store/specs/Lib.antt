@@ -3,6 +3,8 @@ pub mod Lists
 pub mod Outcome
 pub mod Refusals
 pub mod ReplyLaws
+pub mod Solved
+pub mod Sound
 pub mod Step
 pub mod Store
 pub mod Types

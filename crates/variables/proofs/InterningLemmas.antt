@@ -50,16 +50,16 @@ module _ {N S : Type 0} (same : S → S → Bool) where
       map (interned_variable same (with_variables same os (list x))) (list x) ∷ lists_in_turn list (with_variables same os (list x)) xs
 
   -- an origin more takes no solvable its variable
-  variable-kept : (s : S) (o : VariableOrigin N S) (v : ℕ) (os : List (VariableOrigin N S)) → variable_of_solvable same os s ≡ Some v → variable_of_solvable same (os ++ o ∷ []) s ≡ Some v
+  pub variable-kept : (s : S) (o : VariableOrigin N S) (v : ℕ) (os : List (VariableOrigin N S)) → variable_of_solvable same os s ≡ Some v → variable_of_solvable same (os ++ o ∷ []) s ≡ Some v
   variable-kept s o v os h =
       position-append (is_solvable same s) o 0 (length os) os (omega arith) ∙ ap (λ p. or_else p (cond (is_solvable same s o) (Some (length os)) None)) h
 
-  kept-with_variable : (s t : S) (v : ℕ) (os : List (VariableOrigin N S)) → variable_of_solvable same os s ≡ Some v → variable_of_solvable same (with_variable same os t) s ≡ Some v
+  pub kept-with_variable : (s t : S) (v : ℕ) (os : List (VariableOrigin N S)) → variable_of_solvable same os s ≡ Some v → variable_of_solvable same (with_variable same os t) s ≡ Some v
   kept-with_variable s t v os h =
       elim (is_some (variable_of_solvable same os t)) as (λ b. variable_of_solvable same (cond b os (os ++ Solvable t ∷ [])) s ≡ Some v)
       [ true ↦ h | false ↦ variable-kept s (Solvable t) v os h ]
 
-  kept-all : (s : S) (v : ℕ) (os : List (VariableOrigin N S)) (ss : List S) → variable_of_solvable same os s ≡ Some v → variable_of_solvable same (with_variables same os ss) s ≡ Some v
+  pub kept-all : (s : S) (v : ℕ) (os : List (VariableOrigin N S)) (ss : List S) → variable_of_solvable same os s ≡ Some v → variable_of_solvable same (with_variables same os ss) s ≡ Some v
   kept-all s v os [] h = h
   kept-all s v os (t ∷ ss) h = kept-all s v (with_variable same os t) ss (kept-with_variable s t v os h)
 
@@ -114,7 +114,7 @@ module _ {N S : Type 0} (same : S → S → Bool) where
 
   module _ (reflexive : (x : S) → same x x ≡ true) where
     -- a solvable has the variable that it got
-    variable-with_variable : (s : S) (os : List (VariableOrigin N S)) → variable_of_solvable same (with_variable same os s) s ≡ Some (interned_variable same os s)
+    pub variable-with_variable : (s : S) (os : List (VariableOrigin N S)) → variable_of_solvable same (with_variable same os s) s ≡ Some (interned_variable same os s)
     variable-with_variable s os = by_known (variable_of_solvable same os s) refl
       where
         by_known : (p : Option ℕ) → variable_of_solvable same os s ≡ p

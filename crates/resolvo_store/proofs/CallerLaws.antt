@@ -1,0 +1,213 @@
+-- Laws for those who write a search over a store: what follows from the contracts of its calls.
+use Rattle.std.proofs.Common.{◌≡◌, ℕ, ◌<◌, ◌≤◌, Bool, true, false, cond, not, List, [], ◌∷◌, ◌++◌, length, map, get_or, Option, None, Some, refl, arith, sym, ◌∙◌, ap, subst, zero, suc}
+use Rattle.std.specs.Prelude.{◌==◌, nat_lt, ◌&&◌, All, Contains, filter, flat_map, fold, find, is_some, is_none, option_map, MatchOption}
+use Rattle.std.specs.Bool.{beq}
+use Rattle.std.specs.List.{list_any, list_all}
+use Rattle.std.proofs.lemmas.Bool.{eqb-true}
+use Rattle.std.proofs.lemmas.Bool.Decides.{nat_tests}
+use Rattle.std.proofs.lemmas.List.Elements.{All-nil, All-cons, All-head, All-tail, All-contains, Contains-get_or, Contains-push, Contains-append_left, Contains-append_right}
+use Rattle.std.proofs.lemmas.Map.Views.{Contains-from_any}
+use Rattle.typed_ids.specs.declared.error.StoreError.{StoreError}
+use Rattle.typed_ids.specs.declared.error.StoreError.TheVariants.{OutOfMemory, IdSpace}
+use Rattle.decisions.specs.Literals.{known_true}
+use Rattle.decisions.specs.Trail.{Entry, val, kept_until, HasLevel}
+use Rattle.decisions.proofs.TrailLemmas.{val-push}
+use Rattle.resolvo_queue.specs.declared.frontier.Frontier.{Frontier}
+use Rattle.resolvo_queue.specs.declared.requires_clause.RequiresClause.{RequiresClause}
+use Rattle.resolvo_queue.specs.Rows.{has_true_row, frontier}
+use Rattle.resolvo_queue.specs.Scan.{add_parent, parents, clauses_of, scan, is_open, is_falsified}
+use Rattle.resolvo_queue.specs.Pick.{Offer, decided}
+use Rattle.resolvo_queue.proofs.PickLaws.{none_decided}
+use Rattle.resolvo_store.specs.Command.{Command, Assign, UndoUntil, Decide, Reply, Assigned, Already, Clash, NoDecision, Refused, IsRefused}
+use Rattle.resolvo_store.specs.Store.{Store, values, rows_of, score_of}
+use Rattle.resolvo_store.specs.Refusals.{first_refusal}
+use Rattle.resolvo_store.specs.Outcome.{outcome, assign_reply, assigned, decision, falsified_clause, picked}
+use Rattle.resolvo_store.specs.Step.{IsAnswered, Step, may_be_refused}
+use Rattle.resolvo_store.specs.Solved.{IsSolved}
+use Rattle.resolvo_store.specs.Sound.{IsSound, IsAssigned}
+
+-- ---- members of lists
+
+module _ {X : Type 0} where
+  -- what is true of whatever a list contains
+  ByMember : (P : X → Type 0) (xs : List X) → ((x : X) → Contains xs x → P x) → All P xs
+  ByMember P xs each = λ k d within. each (get_or xs k d) (Contains-get_or xs k d within)
+
+  Contains-head : (x : X) (xs : List X) → Contains (x ∷ xs) x
+  Contains-head x xs = (0, omega arith, refl)
+
+  Contains-cons : (x y : X) (xs : List X) → Contains xs x → Contains (y ∷ xs) x
+  Contains-cons x y xs has = (suc has.0, omega (arith, has.1), has.2)
+
+  -- a member is the first or a later one
+  Contains-cases : (P : Type 0) (x y : X) (xs : List X) → Contains (y ∷ xs) x → (y ≡ x → P) → (Contains xs x → P) → P
+  Contains-cases P x y xs has first later = by_place has.0 has.1 has.2
+    where
+      by_place : (k : ℕ) → k < length (y ∷ xs) → get_or (y ∷ xs) k x ≡ x → P
+      by_place zero w e = first e
+      by_place (suc k) w e = later (k, omega (arith, w), e)
+
+  no_member : (x : X) → Contains [] x → ⊥
+  no_member x has = omega (arith, has.1)
+
+  -- a member that passes the test is kept
+  Contains-filter : (test : X → Bool) (xs : List X) (x : X) → test x ≡ true → Contains xs x → Contains (filter test xs) x
+  Contains-filter test [] x pass has = has
+  Contains-filter test (y ∷ xs) x pass has =
+      Contains-cases (Contains (filter test (y ∷ xs)) x) x y xs has
+      (λ e. subst (λ b. Contains (cond b (y ∷ filter test xs) (filter test xs)) x) (sym (ap test e ∙ pass)) (subst (λ z. Contains (z ∷ filter test xs) x) (sym e) (Contains-head x (filter test xs))))
+      (λ k. elim (test y) as (λ b. Contains (cond b (y ∷ filter test xs) (filter test xs)) x)
+      [ true ↦ Contains-cons x y (filter test xs) (Contains-filter test xs x pass k) | false ↦ Contains-filter test xs x pass k ])
+
+  -- what the list of a member contains, the lists of all members contain
+  Contains-flat_map : {Y : Type 0} (f : X → List Y) (xs : List X) (x : X) (y : Y) → Contains xs x → Contains (f x) y → Contains (flat_map f xs) y
+  Contains-flat_map f [] x y has own = absurd (no_member x has)
+  Contains-flat_map f (z ∷ xs) x y has own =
+      Contains-cases (Contains (flat_map f (z ∷ xs)) y) x z xs has
+      (λ e. Contains-append_left (f z) (flat_map f xs) y (subst (λ w. Contains (f w) y) (sym e) own))
+      (λ k. Contains-append_right (f z) (flat_map f xs) y (Contains-flat_map f xs x y k own))
+
+  -- where nothing is found no member passes
+  none_passes : (test : X → Bool) (xs : List X) → find test xs ≡ None → All (λ x. test x ≡ false) xs
+  none_passes test [] none = All-nil (λ x. test x ≡ false)
+  none_passes test (x ∷ xs) none =
+      (elim (test x) as (λ b. test x ≡ b → cond b (Some x) (find test xs) ≡ None → All (λ y. test y ≡ false) (x ∷ xs))
+      [ true ↦ λ e h. cc | false ↦ λ e h. All-cons (λ y. test y ≡ false) x xs e (none_passes test xs h) ]) refl none
+
+-- ---- the scan
+
+add_has : (seen : List ℕ) (p : ℕ) → Contains (add_parent seen p) p
+add_has seen p = by_test (list_any (λ q. q == p) seen) refl
+  where
+    by_test : (b : Bool) → list_any (λ q. q == p) seen ≡ b → Contains (cond b seen (seen ++ p ∷ [])) p
+    by_test true e = Contains-from_any {eq = λ a b. b == a} (λ a b h. sym (eqb-true b a h)) p seen e
+    by_test false e = Contains-push seen p
+
+add_keeps : (seen : List ℕ) (p q : ℕ) → Contains seen q → Contains (add_parent seen p) q
+add_keeps seen p q has =
+    elim (list_any (λ x. x == p) seen) as (λ b. Contains (cond b seen (seen ++ p ∷ [])) q) [ true ↦ has | false ↦ Contains-append_left seen (p ∷ []) q has ]
+
+parents_keep : (seen ps : List ℕ) (q : ℕ) → Contains seen q → Contains (fold add_parent seen ps) q
+parents_keep seen [] q has = has
+parents_keep seen (p ∷ ps) q has = parents_keep (add_parent seen p) ps q (add_keeps seen p q has)
+
+parents_have : (seen : List ℕ) (cs : List RequiresClause) (c : RequiresClause) → Contains cs c → Contains (fold add_parent seen (map (λ d. d.parent) cs)) c.parent
+parents_have seen [] c has = absurd (no_member c has)
+parents_have seen (d ∷ cs) c has =
+    Contains-cases (Contains (fold add_parent (add_parent seen d.parent) (map (λ x. x.parent) cs)) c.parent) c d cs has
+    (λ e. subst (λ x. Contains (fold add_parent (add_parent seen d.parent) (map (λ y. y.parent) cs)) x.parent) e
+    (parents_keep (add_parent seen d.parent) (map (λ x. x.parent) cs) d.parent (add_has seen d.parent)))
+    (λ k. parents_have (add_parent seen d.parent) cs c k)
+
+-- each registered clause is in the scan
+pub scan_has_each : (cs : List RequiresClause) → All (Contains (scan cs)) cs
+scan_has_each cs =
+    ByMember (Contains (scan cs)) cs
+    (λ c has. Contains-flat_map (clauses_of cs) (parents cs) c.parent c (parents_have [] cs c has)
+    (Contains-filter (λ d. d.parent == c.parent) cs c (let same : (c.parent == c.parent) ≡ true = grind (arith, nat_tests) in same) has))
+
+-- ---- what a reply tells
+
+-- levels begin at 1, so none is kept below it
+none_kept : (es : List Entry) → All HasLevel es → kept_until 0 es ≡ []
+none_kept [] levels = refl
+none_kept (e ∷ es) levels = ap (λ b. cond b [] (e ∷ kept_until 0 es)) (above (e ∷ es) levels)
+  where
+    above : (fs : List Entry) → All HasLevel fs → list_all (λ f. nat_lt 0 f.level) fs ≡ true
+    above [] all = refl
+    above (f ∷ fs) all =
+        let head = All-head HasLevel f fs all in
+        let own : nat_lt 0 f.level ≡ true = grind (arith, nat_tests, head.0) in
+        ap (λ b. b && list_all (λ x. nat_lt 0 x.level) fs) own ∙ above fs (All-tail HasLevel f fs all)
+
+-- `NoDecision` comes where nothing is falsified and nothing picked
+no_decision : (f : Option RequiresClause) (o : Option Offer) → NoDecision ≡ decision f o → (f ≡ None) × (o ≡ None)
+no_decision (Some c) o h = cc
+no_decision None (Some o) h = cc
+no_decision None None h = (refl, refl)
+
+-- a clause that is neither falsified nor eligible isn't open
+closed : (o : Bool) (f : Option Frontier) → (o && is_some f) ≡ false → (o && is_none f) ≡ false → o ≡ false
+closed true None e g = g
+closed true (Some x) e g = e
+closed false f e g = refl
+
+module _ {N S : Type 0} where
+  -- a command that isn't refused is answered by its outcome
+  pub answered_by_outcome : (old new : Store N S) (c : Command S) (reply : Reply) → Step old c reply new → (IsRefused reply → ⊥)
+      → (reply ≡ (outcome old c).reply) × (new ≡ (outcome old c).store)
+  answered_by_outcome old new c reply step answered = by_refusal (first_refusal old c) step
+    where
+      by_reply : (r : Reply) → (IsRefused r → ⊥) → IsAnswered old c r new → (r ≡ (outcome old c).reply) × (new ≡ (outcome old c).store)
+      by_reply (Refused e) n h = absurd (n tt)
+      by_reply _ n h = (h.1, h.2)
+
+      by_refusal : (x : Option StoreError) → MatchOption x (IsAnswered old c reply new) (λ e. (reply ≡ Refused e) × (new ≡ old))
+          → (reply ≡ (outcome old c).reply) × (new ≡ (outcome old c).store)
+      by_refusal None h = by_reply reply answered h
+      by_refusal (Some e) h = absurd (answered (subst IsRefused (sym h.0) tt))
+
+  -- after `Assigned` the variable has the value
+  pub assigned_value : (old new : Store N S) (v : ℕ) (value : Bool) (clause level : ℕ) → Step old (Assign v value clause level) Assigned new
+      → values new v ≡ Some value
+  assigned_value old new v value clause level step =
+      let answer = answered_by_outcome old new (Assign v value clause level) Assigned step (λ h. h) in
+      subst (λ st. values st v ≡ Some value) (sym answer.1) (by_value (values old v) refl answer.0)
+    where
+      entry : Entry
+      entry = record { decision = record { variable = v; value = value; derived_from = clause }; level = level }
+
+      by_test : (b : Bool) → Assigned ≡ cond b Already Clash → ⊥
+      by_test true h = cc
+      by_test false h = cc
+
+      by_value : (o : Option Bool) → values old v ≡ o → Assigned ≡ assign_reply o value → val (assigned o old.trail entry) v ≡ Some value
+      by_value None h e = val-push old.trail entry v h ∙ (let same : (v == v) ≡ true = grind (arith, nat_tests) in ap (λ b. cond b (Some value) (val old.trail v)) same)
+      by_value (Some known) h e = absurd (by_test (beq known value) e)
+
+  -- a variable that the store doesn't have has no value
+  pub unknown_undecided : (st : Store N S) → IsSound st → (v : ℕ) → length st.origins ≤ v → values st v ≡ None
+  unknown_undecided st sound v beyond = go st.trail sound.assigned
+    where
+      go : (es : List Entry) → All (IsAssigned st) es → val es v ≡ None
+      go [] all = refl
+      go (e ∷ es) all =
+          let head = All-head (IsAssigned st) e es all in
+          let other : (e.decision.variable == v) ≡ false = grind (arith, nat_tests, head.variable, beyond) in
+          ap (λ b. cond b (Some e.decision.value) (val es v)) other ∙ go es (All-tail (IsAssigned st) e es all)
+
+  -- no list of refusals has one for an undo, and it takes no memory
+  undo_answered : (old : Store N S) (level : ℕ) (e : StoreError) → may_be_refused old (UndoUntil level) e ≡ true → ⊥
+  undo_answered old level OutOfMemory h = cc
+  undo_answered old level IdSpace h = cc
+  undo_answered old level _ h = cc
+
+  -- an undo to level 0 empties the trail
+  pub undone_to_zero : (old new : Store N S) (reply : Reply) → IsSound old → Step old (UndoUntil 0) reply new → new.trail ≡ []
+  undone_to_zero old new reply sound step = by_reply reply step
+    where
+      by_reply : (r : Reply) → IsAnswered old (UndoUntil 0) r new → new.trail ≡ []
+      by_reply (Refused e) h = absurd (undo_answered old 0 e h.0)
+      by_reply _ h = ap (λ st. st.trail) h.2 ∙ none_kept old.trail sound.trail.levels
+
+  -- after `NoDecision` no clause of the scan is open
+  pub none_open : (old new : Store N S) → Step old Decide NoDecision new → All (λ c. is_open (values new) (rows_of new) c ≡ false) (scan new.requires)
+  none_open old new step =
+      let answer = answered_by_outcome old new Decide NoDecision step (λ h. h) in
+      let none = no_decision (falsified_clause old) (picked old) answer.0 in
+      let falsified = none_passes (is_falsified (values old) (rows_of old)) (scan old.requires) none.0 in
+      let eligible = (none_decided (values old) (rows_of old) (score_of old) old.requires (option_map decided (picked old)) refl).0 (ap (option_map decided) none.1) in
+      subst (λ st. All (λ c. is_open (values st) (rows_of st) c ≡ false) (scan st.requires)) (sym answer.1)
+      (λ k d within. closed (is_open (values old) (rows_of old) (get_or (scan old.requires) k d)) (frontier (values old) (rows_of old (get_or (scan old.requires) k d).requirement))
+      (eligible k d within) (falsified k d within))
+
+  -- after `NoDecision` the store is solved: each registered clause whose parent is true has a candidate that is true
+  pub solved : (old new : Store N S) → Step old Decide NoDecision new → IsSolved new
+  solved old new step = λ k d within.
+      met (known_true (values new (get_or new.requires k d).parent)) (has_true_row (values new) (rows_of new (get_or new.requires k d).requirement))
+      (All-contains (λ c. is_open (values new) (rows_of new) c ≡ false) (scan new.requires) (get_or new.requires k d) (none_open old new step) (scan_has_each new.requires k d within))
+    where
+      met : (a b : Bool) → (a && not b) ≡ false → a ≡ true → b ≡ true
+      met a true h e = refl
+      met true false h e = let no : true ≡ false = h in cc
+      met false false h e = e

@@ -1,0 +1,9 @@
+-- What a search is after. N are the names, S the solvables.
+use Rattle.std.specs.Prelude.{◌≡◌, true, All}
+use Rattle.decisions.specs.Literals.{known_true}
+use Rattle.resolvo_queue.specs.Rows.{has_true_row}
+use Rattle.resolvo_store.specs.Store.{Store, values, rows_of}
+
+-- each registered clause whose parent is true has a candidate that is true
+abbrev pub IsSolved : {N S : Type 0} → Store N S → Type 0
+IsSolved st = All (λ c. known_true (values st c.parent) ≡ true → has_true_row (values st) (rows_of st c.requirement) ≡ true) st.requires
