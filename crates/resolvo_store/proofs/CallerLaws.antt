@@ -26,6 +26,10 @@ use Rattle.resolvo_store.specs.Step.{IsAnswered, Step, may_be_refused}
 use Rattle.resolvo_store.specs.Solved.{IsSolved}
 use Rattle.resolvo_store.specs.Sound.{IsSound, IsAssigned}
 
+-- the abstract store of which a clause says that it is sound: so a proof file names the store that the clause speaks of
+abbrev pub store_in : {N S : Type 0} {st : Store N S} → IsSound st → Store N S
+store_in {st = it} sound = it
+
 -- ---- members of lists
 
 module _ {X : Type 0} where

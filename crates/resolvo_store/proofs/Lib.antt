@@ -1,5 +1,6 @@
 pub mod CallerLaws
 pub mod ConflictLemmas
+pub mod InvariantLemmas
 pub mod ListLemmas
 pub mod LoadingLemmas
 pub mod RunLemmas

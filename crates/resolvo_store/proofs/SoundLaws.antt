@@ -18,14 +18,14 @@ use Rattle.variables.specs.declared.variable_origin.VariableOrigin.{VariableOrig
 use Rattle.variables.specs.declared.variable_origin.VariableOrigin.TheVariants.{Solvable}
 use Rattle.variables.specs.Variables.{IsRootFirst, is_solvable, variable_of_solvable, interned_variable, with_variable, with_variables}
 use Rattle.variables.proofs.VariableLemmas.{or_else, position_within, position-append, root-append}
-use Rattle.variables.proofs.InterningLemmas.{variable-kept, kept-all, variable-with_variable, longer-with_variable, longer-all}
+use Rattle.variables.proofs.InterningLemmas.{variable-kept, kept-all, variable-with_variable, longer-all}
 use Rattle.decisions.specs.Trail.{Entry, val, kept_until, IsOnce, IsTrail, HasLevel}
 use Rattle.decisions.proofs.TrailLemmas.{IsTrail-push}
 use Rattle.resolvo_queue.specs.declared.requires_clause.RequiresClause.{RequiresClause}
 use Rattle.resolvo_store.specs.Command.{Command, Variable, Load, Requires, Assign, UndoUntil, Decide, Reply, Refused}
 use Rattle.resolvo_store.specs.Store.{Store, Provider, new_store, values, lists_of, candidates_of}
 use Rattle.resolvo_store.specs.Refusals.{refusals, first_refusal}
-use Rattle.resolvo_store.specs.Outcome.{outcome, origins_loaded, variables_loaded, assigned, load}
+use Rattle.resolvo_store.specs.Outcome.{outcome, assigned, load}
 use Rattle.resolvo_store.specs.Step.{IsAnswered, Step, Run}
 use Rattle.resolvo_store.specs.Sound.{IsSound, IsVariable, IsLoaded, IsRegistered, IsAssigned, HasOneVariableEach}
 
@@ -298,36 +298,40 @@ module _ {N S : Type 0} (st : Store N S) (sound : IsSound st) (reflexive : (s : 
   here : AreVariables st.provider.same_solvable st.origins
   here = record { root_first = sound.root_first; one_each = sound.one_variable_each }
 
-  pub IsSound-with_variable : (s : S) → IsSound (record st { origins = with_variable st.provider.same_solvable st.origins s })
-  IsSound-with_variable s =
-      IsSound-origins st sound (with_variable st.provider.same_solvable st.origins s) (longer-with_variable st.provider.same_solvable s st.origins)
-      (AreVariables-with st.provider.same_solvable reflexive st.origins s here)
+  pub IsSound-with_variables : (ss : List S) → IsSound (record st { origins = with_variables st.provider.same_solvable st.origins ss })
+  IsSound-with_variables ss =
+      IsSound-origins st sound (with_variables st.provider.same_solvable st.origins ss) (longer-all st.provider.same_solvable st.origins ss)
+      (AreVariables-with_all st.provider.same_solvable reflexive st.origins ss here)
 
-  pub IsSound-load : (r : Requirement) → lists_of st r ≡ None → IsSound (load st r None).store
-  IsSound-load r fresh =
+  -- lists of solvables got variables, and these are kept for a requirement
+  pub IsSound-interned : (r : Requirement) {C : Type 0} (members : C → List S) (cs : List C) → lists_of st r ≡ None
+      → length cs ≡ length (sets_of st.provider.universe r)
+      → IsSound (record st {
+        origins = with_variables st.provider.same_solvable st.origins (flat_map members cs);
+        loaded = st.loaded ++ (r, map (λ c. map (interned_variable st.provider.same_solvable (with_variables st.provider.same_solvable st.origins (flat_map members cs))) (members c)) cs) ∷ [];
+      })
+  IsSound-interned r members cs fresh one_each =
       let same = st.provider.same_solvable in
-      let sets = sets_of st.provider.universe r in
-      let all : List S = flat_map (candidates_of st) sets in
-      let os : List (VariableOrigin N S) = origins_loaded st r in
+      let os : List (VariableOrigin N S) = with_variables same st.origins (flat_map members cs) in
+      let interned : S → ℕ = interned_variable same os in
       let grown : Store N S = record st { origins = os } in
-      let within : All (λ v. All (λ s. interned_variable same os s < length os) (candidates_of st v)) sets =
-      All-lists (λ s. interned_variable same os s < length os) (candidates_of st) sets (interned_all same reflexive st.origins all) in
-      IsSound-loaded grown (IsSound-origins st sound os (longer-all same st.origins all) (AreVariables-with_all same reflexive st.origins all here)) r (variables_loaded st r) fresh (record {
-        one_a_set = length-map sets (λ v. map (interned_variable same os) (candidates_of st v));
-        variables = All-map (All (IsVariable grown)) (λ v. map (interned_variable same os) (candidates_of st v)) sets
-            (All-weaker (λ v. All (λ s. interned_variable same os s < length os) (candidates_of st v)) (λ v. All (IsVariable grown) (map (interned_variable same os) (candidates_of st v)))
-            (λ v k. All-map (IsVariable grown) (interned_variable same os) (candidates_of st v) k) sets within);
+      let within = All-lists (λ s. interned s < length os) members cs (interned_all same reflexive st.origins (flat_map members cs)) in
+      IsSound-loaded grown (IsSound-with_variables (flat_map members cs)) r (map (λ c. map interned (members c)) cs) fresh (record {
+        one_a_set = length-map cs (λ c. map interned (members c)) ∙ one_each;
+        variables = All-map (All (IsVariable grown)) (λ c. map interned (members c)) cs
+            (All-weaker (λ c. All (λ s. interned s < length os) (members c)) (λ c. All (IsVariable grown) (map interned (members c)))
+            (λ c k. All-map (IsVariable grown) interned (members c) k) cs within);
       })
 
   -- ---- a command that nothing refuses
 
   pub IsSound-outcome : (c : Command S) → first_refusal st c ≡ None → IsSound (outcome st c).store
-  IsSound-outcome (Variable s) none = IsSound-with_variable s
+  IsSound-outcome (Variable s) none = IsSound-with_variables (s ∷ [])
   IsSound-outcome (Load r) none = by_lists (lists_of st r) refl
     where
       by_lists : (o : Option (List (List ℕ))) → lists_of st r ≡ o → IsSound (load st r o).store
       by_lists (Some lists) h = sound
-      by_lists None h = IsSound-load r h
+      by_lists None h = IsSound-interned r (candidates_of st) (sets_of st.provider.universe r) h refl
   IsSound-outcome (Requires parent r disjunction) none =
       let tests = none_applies (refusals st (Requires parent r disjunction)) none in
       let known : parent < length st.origins = grind (arith, nat_tests, tests.0) in
@@ -376,9 +380,9 @@ module _ {N S : Type 0} where
       by_refusal None h = elim (by_reply reply h) [ inl same ↦ inl same | inr done ↦ inr (refl, done) ]
       by_refusal (Some e) h = inl h.1
 
-  pub IsSound-step : (old new : Store N S) (c : Command S) (reply : Reply) → ((s : S) → old.provider.same_solvable s s ≡ true)
+  pub IsSound-step : {old new : Store N S} (c : Command S) (reply : Reply) → ((s : S) → old.provider.same_solvable s s ≡ true)
       → IsSound old → Step old c reply new → IsSound new
-  IsSound-step old new c reply reflexive sound step = elim (step_store old new c reply step) [
+  IsSound-step {old} {new} c reply reflexive sound step = elim (step_store old new c reply step) [
     | inl same ↦ subst (λ st. IsSound st) (sym same) sound
     | inr done ↦ subst (λ st. IsSound st) (sym done.1) (IsSound-outcome old sound reflexive c done.0)
   ]
@@ -398,11 +402,15 @@ module _ {N S : Type 0} where
     | inr done ↦ ap (λ st. st.provider) done.1 ∙ outcome_provider old c
   ]
 
-  pub IsSound-run : (old new : Store N S) (cs : List (Command S)) (replies : List Reply) → ((s : S) → old.provider.same_solvable s s ≡ true)
+  run_sound : (old new : Store N S) (cs : List (Command S)) (replies : List Reply) → ((s : S) → old.provider.same_solvable s s ≡ true)
       → IsSound old → Run old cs replies new → IsSound new
-  IsSound-run old new [] [] reflexive sound ran = subst (λ st. IsSound st) (sym ran) sound
-  IsSound-run old new (c ∷ cs) (reply ∷ replies) reflexive sound ran =
+  run_sound old new [] [] reflexive sound ran = subst (λ st. IsSound st) (sym ran) sound
+  run_sound old new (c ∷ cs) (reply ∷ replies) reflexive sound ran =
       let same : (s : S) → ran.0.provider.same_solvable s s ≡ true = λ s. ap (λ p. p.same_solvable s s) (step_provider old ran.0 c reply ran.1) ∙ reflexive s in
-      IsSound-run ran.0 new cs replies same (IsSound-step old ran.0 c reply reflexive sound ran.1) ran.2
-  IsSound-run old new [] (reply ∷ replies) reflexive sound ran = absurd ran
-  IsSound-run old new (c ∷ cs) [] reflexive sound ran = absurd ran
+      run_sound ran.0 new cs replies same (IsSound-step c reply reflexive sound ran.1) ran.2
+  run_sound old new [] (reply ∷ replies) reflexive sound ran = absurd ran
+  run_sound old new (c ∷ cs) [] reflexive sound ran = absurd ran
+
+  pub IsSound-run : {old new : Store N S} (cs : List (Command S)) (replies : List Reply) → ((s : S) → old.provider.same_solvable s s ≡ true)
+      → IsSound old → Run old cs replies new → IsSound new
+  IsSound-run {old} {new} cs replies reflexive sound ran = run_sound old new cs replies reflexive sound ran

@@ -5,6 +5,8 @@ use Rattle.providers.specs.declared.requirement.Requirement.{Requirement}
 use Rattle.providers.specs.Provider.{Universe, knows_requirement}
 use Rattle.resolvo_queue.specs.declared.requires_clause.RequiresClause.{RequiresClause}
 use Rattle.resolvo_queue.specs.Rows.{AreFew}
+use Rattle.resolvo_store.specs.Sound.{IsSound}
+use Rattle.resolvo_store.specs.Store.{Store}
 
 -- the requirements with the lists that are kept for them
 abbrev pub lists_kept : {A : Type 0} → List (Requirement × Vec (Vec ℕ A) A) → List (Requirement × List (List ℕ))
@@ -14,8 +16,9 @@ lists_kept loaded = map (λ e. (e.0, map (λ l. l.items) e.1.items)) loaded
 abbrev pub AreKnown : {N S : Type 0} → Universe N S → List RequiresClause → Type 0
 AreKnown universe requires = All (λ c. knows_requirement universe c.requirement ≡ true) requires
 
--- what is kept can be asked for decisions: few rows for each requirement, and clauses of known requirements alone
-pub record IsDecidable {N S A : Type 0} (universe : Universe N S) (loaded : List (Requirement × Vec (Vec ℕ A) A))
-    (requires : List RequiresClause) : Type 0 where
+-- what is kept can be asked for decisions: few rows for each requirement, and clauses of known requirements alone; and the
+-- store is one that commands can make
+pub record IsDecidable {N S A : Type 0} (st : Store N S) (loaded : List (Requirement × Vec (Vec ℕ A) A)) : Type 0 where
   pub few : AreFew loaded
-  pub known : AreKnown universe requires
+  pub known : AreKnown st.provider.universe st.requires
+  pub sound : IsSound st

@@ -23,6 +23,7 @@ use crate::abstract_store::AbstractStore;
 use crate::command::Command;
 use crate::reply::Reply;
 use decisions::DecisionTracker;
+use id_maps::{IdMap, Slot, SolverId};
 use providers::{DependencyProvider, RequirementMap};
 use resolvo_queue::DecideQueue;
 use std::marker::Model;
@@ -45,7 +46,7 @@ pub struct ClauseStore<D: DependencyProvider> {
 }
 
 impl<D: DependencyProvider> Model for ClauseStore<D> {
-    ghost use Rattle.resolvo_store.specs.Store.{Kept};
+    ghost use Rattle.resolvo_store.specs.Store.{Kept, store_of, provided};
     ghost use Rattle.resolvo_store.specs.Lists.{lists_kept, IsDecidable};
 
     ghost Value = { Kept D D.NameId D.SolvableId };
@@ -58,19 +59,27 @@ impl<D: DependencyProvider> Model for ClauseStore<D> {
       trail = a.trail;
     } };
 
-    ghost invariant = { λ a. IsDecidable (D.universe a.provider) a.loaded a.queue };
+    ghost invariant = { λ a. IsDecidable (store_of (provided D.NameId.eq D.SolvableId.eq D.NameId.Scores.is_too_large D.SolvableId.Slots.is_too_large D.universe D.answers) (record {
+      provider = a.provider;
+      origins = a.variables;
+      loaded = lists_kept a.loaded;
+      requires = a.queue;
+      trail = a.trail;
+    })) a.loaded };
 }
 
 impl<D: DependencyProvider + Drop> ClauseStore<D> {
     ghost use Rattle.resolvo_store.specs.Command.{command_of, reply_of, answer_of, IsRefused};
     ghost use Rattle.resolvo_store.specs.Store.{new_store};
     ghost use Rattle.resolvo_store.specs.Step.{Step, Run};
+    ghost use Rattle.resolvo_store.specs.Sound.{IsSound};
 
     /// A store that has the root's variable, and nothing else.
     pub fn new(alloc: D::Alloc, provider: D) -> Result<Self, StoreError>
         ensures provider { IfOk result (λ s. s.provider ≡ provider) }
         ensures ok { IfOk result (λ s. ⟦<D as AbstractStore>⟧.store s
             ≡ new_store (⟦<D as AbstractStore>⟧.store s).provider) }
+        ensures sound { IfOk result (λ s. IsSound (⟦<D as AbstractStore>⟧.store s)) }
         ensures err { IfErr result (λ e. e ≡ OutOfMemory) }
     {
         let variables = VariableMap::new(alloc)?;
@@ -98,6 +107,8 @@ impl<D: DependencyProvider + Drop> ClauseStore<D> {
         ensures refused { IsRefused (reply_of result) →
             ⟦<D as AbstractStore>⟧.store self.new ≡ ⟦<D as AbstractStore>⟧.store self.old }
         ensures provider { self.new.provider ≡ self.old.provider }
+        ensures was_sound { IsSound (⟦<D as AbstractStore>⟧.store self.old) }
+        ensures sound { IsSound (⟦<D as AbstractStore>⟧.store self.new) }
     {
         match self.obey(command) {
             Ok(reply) => reply,
@@ -110,7 +121,11 @@ impl<D: DependencyProvider + Drop> ClauseStore<D> {
         ensures step { Step (⟦<D as AbstractStore>⟧.store self.old) (command_of command.now)
             (answer_of result) (⟦<D as AbstractStore>⟧.store self.new) }
         ensures provider { self.new.provider ≡ self.old.provider }
+        ensures was_sound { IsSound (⟦<D as AbstractStore>⟧.store self.old) }
+        ensures sound { IsSound (⟦<D as AbstractStore>⟧.store self.new) }
     {
+        // What is true of each store is true of this one: a look at a field tells it.
+        let _provider = &self.provider;
         match *command {
             Command::Variable(solvable) => self.variable(solvable),
             Command::Load(requirement) => self.load(requirement),
@@ -137,6 +152,7 @@ impl<D: DependencyProvider + Drop> ClauseStore<D> {
         ensures one_each { IfOk result (λ replies. vec_len replies ≡ length commands.now) }
         ensures err { IfErr result (λ e. (e ≡ OutOfMemory)
             × (⟦<D as AbstractStore>⟧.store self.new ≡ ⟦<D as AbstractStore>⟧.store self.old)) }
+        ensures sound { IsSound (⟦<D as AbstractStore>⟧.store self.new) }
     {
         let mut replies = Vec::with_capacity(self.alloc, commands.len())?;
         for command in commands {
@@ -148,7 +164,8 @@ impl<D: DependencyProvider + Drop> ClauseStore<D> {
 
     /// The value of a variable, if it has one: that of its entry on the trail. Takes constant time.
     pub fn value(&self, variable: VariableId) -> Option<bool>
-        ensures { result ≡ val (⟦<D as AbstractStore>⟧.store self.now).trail variable }
+        ensures value { result ≡ val (⟦<D as AbstractStore>⟧.store self.now).trail variable }
+        ensures sound { IsSound (⟦<D as AbstractStore>⟧.store self.now) }
     {
         self.trail.assigned_value(variable)
     }

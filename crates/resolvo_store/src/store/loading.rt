@@ -1,7 +1,7 @@
 //! The commands that bring solvables: `Variable` and `Load`.
 ghost use Rattle.std.specs.Prelude.{◌≡◌, ◌<◌, ◌^◌, ◌∷◌, ◌++◌, [], None, true, map, flat_map, option_map, length, take, IfOk, OnOk, OnErr, IfErr};
 ghost use Rattle.typed_ids.specs.Refusals.{IsGrowthRefusal};
-ghost use Rattle.providers.specs.Provider.{knows_requirement};
+ghost use Rattle.providers.specs.Provider.{knows_requirement, sets_of};
 
 use crate::abstract_store::AbstractStore;
 use crate::reply::Reply;
@@ -84,6 +84,7 @@ impl<D: DependencyProvider + Drop> ClauseStore<D> {
         candidates: &[Vec<D::SolvableId, D::Alloc>],
     ) -> Result<VariableLists<D::Alloc>, StoreError>
         requires new { lists_of (⟦<D as AbstractStore>⟧.store self.old) requirement ≡ None }
+        requires one_a_set { length candidates.now ≡ length (sets_of (D.universe self.old.provider) requirement) }
         requires few { length (flat_map (λ l. l.items) candidates.now) < 2 ^ 40 }
         ensures lists { IfOk result (λ lists. map (λ l. l.items) lists.items ≡
             map (λ l. map (interned_variable D.SolvableId.eq self.new.origins) l.items) candidates.now) }

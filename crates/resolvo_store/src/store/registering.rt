@@ -1,5 +1,5 @@
 //! The command that adds requires clauses.
-ghost use Rattle.std.specs.Prelude.{◌≡◌, ◌-◌, ◌^◌, [], ◌∷◌, ◌++◌, length, true, false, nat_le, if◌then◌else◌, option_map, IfOk, OnOk, OnErr, IfErr};
+ghost use Rattle.std.specs.Prelude.{◌≡◌, ◌<◌, ◌-◌, ◌^◌, [], ◌∷◌, ◌++◌, length, true, false, nat_le, if◌then◌else◌, option_map, IsSome, IfOk, OnOk, OnErr, IfErr};
 ghost use Rattle.typed_ids.specs.declared.error.StoreError.TheVariants.{OutOfMemory, TooManyClauses};
 
 use crate::abstract_store::AbstractStore;
@@ -68,7 +68,9 @@ impl<D: DependencyProvider + Drop> ClauseStore<D> {
         parent: VariableId,
         requirement: Requirement,
     ) -> Result<ClauseId, StoreError>
-        requires { knows_requirement (D.universe self.old.provider) requirement ≡ true }
+        requires known { knows_requirement (D.universe self.old.provider) requirement ≡ true }
+        requires parent { parent < length self.old.origins }
+        requires loaded { IsSome (lists_of (⟦<D as AbstractStore>⟧.store self.old) requirement) }
         ensures clause { IfOk result (λ clause. clause ≡ length self.old.requires) }
         ensures ok { OnOk result (self.new ≡ record self.old {
           requires = self.old.requires ++

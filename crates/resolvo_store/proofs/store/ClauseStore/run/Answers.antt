@@ -1,8 +1,9 @@
-use Rattle.std.proofs.Common.{◌∙◌, ◌+◌, ap, map, subst, arith, rules}
+use Rattle.std.proofs.Common.{◌∙◌, ◌+◌, ap, map, subst, arith, rules, take}
 use Rattle.std.proofs.lemmas.List.{take_more, take_all, map-append}
 use Rattle.resolvo_store.specs.Command.{command_of, reply_of}
 use Rattle.resolvo_store.specs.Step.{Run}
 use Rattle.resolvo_store.proofs.RunLemmas.{run_more}
+use Rattle.resolvo_store.proofs.SoundLaws.{IsSound-run}
 use Rattle.resolvo_store.proofs.store.ClauseStore.run.Invariants.{store}
 use Rattle.resolvo_store.proofs.store.ClauseStore.run.Goals as goal
 
@@ -22,3 +23,8 @@ returns-clause-ok g c =
 
 pub returns-clause-one_each : goal.returns-clause-one_each
 returns-clause-one_each g c = omega (arith, c.loop-command.invariant.len, c.loop-command-test.false, c.loop-command.auto.command-index-end)
+
+pub returns-clause-sound : goal.returns-clause-sound
+returns-clause-sound g c =
+    IsSound-run (map command_of (take c.loop-command.command-index c.args.commands.now)) (map reply_of c.loop-command.replies.items) g.met.D.SolvableId.Eq.laws.refl c.self.invariant.sound
+    (rw (← c.self.view_is) at c.loop-command.invariant.ran)
