@@ -6,6 +6,7 @@
 mod ample;
 mod callers;
 mod computed;
+mod law_callers;
 #[cfg(test)]
 mod obeys;
 #[cfg(test)]
@@ -21,3 +22,4 @@ mod worked;
 
 pub use callers::{ask, decides_unbeaten, load_first, obey, unknown};
 pub use computed::{examples, play_is_run};
+pub use law_callers::{search_is_done, start_again, value_of_unknown};

@@ -1,0 +1,37 @@
+//! Callers that conclude what is true of every store, whatever store they are handed: they know nothing of the provider but
+//! its trait, and nothing of the store but its contracts. The laws that their proofs cite are those of
+//! `resolvo_store/proofs/CallerLaws.antt`.
+ghost use Rattle.std.specs.Prelude.{◌≡◌, ◌≤◌, ℕ, length, [], None};
+ghost use Rattle.resolvo_store.specs.Command.{reply_of, NoDecision};
+ghost use Rattle.resolvo_store.specs.Solved.{IsSolved};
+ghost use Rattle.resolvo_store.specs.Store.{values};
+
+use providers::DependencyProvider;
+use resolvo_store::{AbstractStore, ClauseStore, Command, Reply};
+use typed_ids::VariableId;
+
+/// A variable that the store doesn't have has no value.
+pub fn value_of_unknown<D: DependencyProvider + Drop>(
+    store: &ClauseStore<D>,
+    variable: VariableId,
+) -> Option<bool>
+    requires { length (⟦<D as AbstractStore>⟧.store store.now).origins ≤ variable }
+    ensures { result ≡ None }
+{
+    store.value(variable)
+}
+
+/// An undo to level 0 takes every assignment back: then no variable has a value.
+pub fn start_again<D: DependencyProvider + Drop>(store: &mut ClauseStore<D>) -> Reply<D::Alloc>
+    ensures trail { (⟦<D as AbstractStore>⟧.store store.new).trail ≡ [] }
+    ensures values { (variable : ℕ) → values (⟦<D as AbstractStore>⟧.store store.new) variable ≡ None }
+{
+    store.step(&Command::UndoUntil(0))
+}
+
+/// Where no decision is left the store is solved: each registered clause whose parent is true has a true candidate.
+pub fn search_is_done<D: DependencyProvider + Drop>(store: &mut ClauseStore<D>) -> Reply<D::Alloc>
+    ensures { reply_of result ≡ NoDecision → IsSolved (⟦<D as AbstractStore>⟧.store store.new) }
+{
+    store.step(&Command::Decide)
+}
