@@ -10,7 +10,7 @@
 //!
 //! Each method's contract is the step of its command. So a method takes back what it changed before it was refused:
 //! only a `Load` can be refused half way, and gives up the variables that it made.
-ghost use Rattle.std.specs.Prelude.{◌≡◌, map, length, vec_len, IfOk, IfErr};
+ghost use Rattle.std.specs.Prelude.{◌≡◌, map, length, vec_len, IfOk, IfErr, OnErr};
 ghost use Rattle.typed_ids.specs.declared.error.StoreError.TheVariants.{OutOfMemory};
 ghost use Rattle.decisions.specs.Trail.{val};
 
@@ -116,10 +116,13 @@ impl<D: DependencyProvider + Drop> ClauseStore<D> {
         }
     }
 
-    /// Obeys a command: its reply, or the refusal.
-    fn obey(&mut self, command: &Command<D::SolvableId>) -> Result<Reply<D::Alloc>, StoreError>
+    /// Obeys a command: its reply, or the refusal, which changes nothing. [`ClauseStore::step`] is the same with the
+    /// refusal among the replies.
+    pub fn obey(&mut self, command: &Command<D::SolvableId>) -> Result<Reply<D::Alloc>, StoreError>
         ensures step { Step (⟦<D as AbstractStore>⟧.store self.old) (command_of command.now)
             (answer_of result) (⟦<D as AbstractStore>⟧.store self.new) }
+        ensures ok { IfOk result (λ reply. IsRefused (reply_of reply) → ⊥) }
+        ensures err { OnErr result (⟦<D as AbstractStore>⟧.store self.new ≡ ⟦<D as AbstractStore>⟧.store self.old) }
         ensures provider { self.new.provider ≡ self.old.provider }
         ensures was_sound { IsSound (⟦<D as AbstractStore>⟧.store self.old) }
         ensures sound { IsSound (⟦<D as AbstractStore>⟧.store self.new) }

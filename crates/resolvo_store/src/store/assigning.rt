@@ -1,5 +1,5 @@
 //! The commands that change the trail: `Assign` and `UndoUntil`.
-ghost use Rattle.std.specs.Prelude.{◌≡◌};
+ghost use Rattle.std.specs.Prelude.{◌≡◌, IfOk};
 
 use crate::abstract_store::AbstractStore;
 use crate::reply::Reply;
@@ -9,7 +9,7 @@ use providers::DependencyProvider;
 use typed_ids::{ClauseId, DenseIndex, StoreError, VariableId};
 
 impl<D: DependencyProvider + Drop> ClauseStore<D> {
-    ghost use Rattle.resolvo_store.specs.Command.{Assign, UndoUntil, answer_of, reply_of};
+    ghost use Rattle.resolvo_store.specs.Command.{Assign, UndoUntil, answer_of, reply_of, IsRefused};
     ghost use Rattle.resolvo_store.specs.Step.{Step};
 
     /// Gives a variable a value.
@@ -22,6 +22,7 @@ impl<D: DependencyProvider + Drop> ClauseStore<D> {
     ) -> Result<Reply<D::Alloc>, StoreError>
         ensures step { Step (⟦<D as AbstractStore>⟧.store self.old) (Assign variable value clause level)
             (answer_of result) (⟦<D as AbstractStore>⟧.store self.new) }
+        ensures answered { IfOk result (λ reply. IsRefused (reply_of reply) → ⊥) }
         ensures provider { self.new.provider ≡ self.old.provider }
     {
         if variable.to_index() >= self.variables.count() || clause.to_index() >= self.queue.len() {
@@ -43,6 +44,7 @@ impl<D: DependencyProvider + Drop> ClauseStore<D> {
     pub(super) fn undo_until(&mut self, level: u32) -> Reply<D::Alloc>
         ensures step { Step (⟦<D as AbstractStore>⟧.store self.old) (UndoUntil level)
             (reply_of result) (⟦<D as AbstractStore>⟧.store self.new) }
+        ensures answered { IsRefused (reply_of result) → ⊥ }
         ensures provider { self.new.provider ≡ self.old.provider }
     {
         self.trail.undo_until(level);

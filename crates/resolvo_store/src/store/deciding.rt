@@ -11,14 +11,15 @@ use resolvo_queue::QueueDecision;
 use typed_ids::ClauseId;
 
 impl<D: DependencyProvider + Drop> ClauseStore<D> {
-    ghost use Rattle.resolvo_store.specs.Command.{Decide, reply_of};
+    ghost use Rattle.resolvo_store.specs.Command.{Decide, reply_of, IsRefused};
     ghost use Rattle.resolvo_store.specs.Outcome.{falsified_clause, is_eligible_clause, offers, picked};
     ghost use Rattle.resolvo_store.specs.Step.{Step};
 
     /// The first falsified clause, else the decision, else that there is none.
     pub(super) fn decide(&self) -> Reply<D::Alloc>
-        ensures { Step (⟦<D as AbstractStore>⟧.store self.now) Decide
+        ensures step { Step (⟦<D as AbstractStore>⟧.store self.now) Decide
             (reply_of result) (⟦<D as AbstractStore>⟧.store self.now) }
+        ensures answered { IsRefused (reply_of result) → ⊥ }
     {
         if let Some(clause) = self.falsified() {
             return Reply::Falsified(clause);

@@ -13,7 +13,7 @@ use variables::{VariableLists, intern_lists};
 
 impl<D: DependencyProvider + Drop> ClauseStore<D> {
     ghost use Rattle.variables.specs.Variables.{interned_variable, with_variables, lacks_variables};
-    ghost use Rattle.resolvo_store.specs.Command.{Variable, Load, answer_of, LoadedAs, Refused};
+    ghost use Rattle.resolvo_store.specs.Command.{Variable, Load, answer_of, LoadedAs, Refused, reply_of, IsRefused};
     ghost use Rattle.resolvo_store.specs.Store.{lists_of};
     ghost use Rattle.resolvo_store.specs.Step.{Step, IsAnswered};
 
@@ -24,6 +24,7 @@ impl<D: DependencyProvider + Drop> ClauseStore<D> {
     ) -> Result<Reply<D::Alloc>, StoreError>
         ensures step { Step (⟦<D as AbstractStore>⟧.store self.old) (Variable solvable)
             (answer_of result) (⟦<D as AbstractStore>⟧.store self.new) }
+        ensures answered { IfOk result (λ reply. IsRefused (reply_of reply) → ⊥) }
         ensures provider { self.new.provider ≡ self.old.provider }
     {
         if !self.provider.knows_solvable(solvable) {
@@ -37,6 +38,7 @@ impl<D: DependencyProvider + Drop> ClauseStore<D> {
     pub(super) fn load(&mut self, requirement: Requirement) -> Result<Reply<D::Alloc>, StoreError>
         ensures step { Step (⟦<D as AbstractStore>⟧.store self.old) (Load requirement)
             (answer_of result) (⟦<D as AbstractStore>⟧.store self.new) }
+        ensures answered { IfOk result (λ reply. IsRefused (reply_of reply) → ⊥) }
         ensures provider { self.new.provider ≡ self.old.provider }
     {
         if !self.knows_requirement(requirement) {

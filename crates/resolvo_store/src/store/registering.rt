@@ -12,7 +12,7 @@ use typed_ids::{ClauseId, DenseIndex, DisjunctionId, StoreError, VariableId};
 impl<D: DependencyProvider + Drop> ClauseStore<D> {
     ghost use Rattle.providers.specs.Provider.{knows_requirement, sets_of};
     ghost use Rattle.resolvo_queue.specs.Rows.{rows};
-    ghost use Rattle.resolvo_store.specs.Command.{Requires, answer_of};
+    ghost use Rattle.resolvo_store.specs.Command.{Requires, answer_of, reply_of, IsRefused};
     ghost use Rattle.resolvo_store.specs.Store.{lists_of, values};
     ghost use Rattle.resolvo_store.specs.Outcome.{is_conflict};
     ghost use Rattle.resolvo_store.specs.Step.{Step};
@@ -26,6 +26,7 @@ impl<D: DependencyProvider + Drop> ClauseStore<D> {
     ) -> Result<Reply<D::Alloc>, StoreError>
         ensures step { Step (⟦<D as AbstractStore>⟧.store self.old) (Requires parent requirement disjunction)
             (answer_of result) (⟦<D as AbstractStore>⟧.store self.new) }
+        ensures answered { IfOk result (λ reply. IsRefused (reply_of reply) → ⊥) }
         ensures provider { self.new.provider ≡ self.old.provider }
     {
         if parent.to_index() >= self.variables.count()
