@@ -83,10 +83,7 @@ fn obey_commands<W: Write>(
         commands,
         line_count,
     } = catalogue;
-    let mut store = match ClauseStore::new(alloc, packages) {
-        Ok(store) => store,
-        Err(_) => return Err(ScriptFault::Memory),
-    };
+    let mut store = ClauseStore::new(alloc, packages).map_err(|_| ScriptFault::Memory)?;
     let ended = obey_lines(&mut store, commands, line_count, waiting, writer);
     drop(store);
     ended
