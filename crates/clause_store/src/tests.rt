@@ -197,9 +197,9 @@ fn have_texts(rt: &(impl Abort + AllocGlobal), packages: &Packages) -> Result<()
 #[test]
 fn requirements_have_texts(rt: HostRuntime) -> Result<(), Fail> {
     match read_catalogue(rt.alloc(), UNIONS) {
-        Ok(Some(commands)) => {
-            let ended = have_texts(&rt, &commands.packages);
-            drop(commands);
+        Ok(Some(catalogue)) => {
+            let ended = have_texts(&rt, &catalogue.packages);
+            drop(catalogue);
             ended
         }
         _ => panic!(&rt; "the catalogue has a begin"),
