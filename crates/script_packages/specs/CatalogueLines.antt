@@ -1,16 +1,15 @@
 -- What the lines of a catalogue say.
 use Rattle.std.specs.Prelude.{ℕ, List, [], ◌∷◌, Option, None, Some, option_map, option_and_then, if◌then◌else◌, codes}
-use Rattle.std.specs.List.{list_all}
 use Rattle.std.specs.Str.{bytes_eq}
 use Rattle.providers.specs.declared.condition.Condition.{Condition}
 use Rattle.providers.specs.declared.condition.Condition.TheVariants.{Binary, Requirement}
 use Rattle.providers.specs.declared.condition.LogicalOperator.{LogicalOperator}
 use Rattle.providers.specs.declared.condition.LogicalOperator.TheVariants.{And, Or}
-use Rattle.script_text.specs.Lines.{is_printed}
 use Rattle.script_text.specs.Words.{words}
 use Rattle.script_packages.specs.Ids.{number_32, clause_of}
-use Rattle.script_text.specs.Statements.{is_comment}
+use Rattle.script_text.specs.Statements.{line_says, statement_says}
 use Rattle.script_text.specs.declared.statement.Line.{Line}
+use Rattle.script_text.specs.declared.statement.Statement.{Statement}
 use Rattle.script_text.specs.declared.statement.Line.TheVariants.{Skipped, Unreadable, Says}
 use Rattle.script_packages.specs.declared.catalogue_line.CatalogueLine.{CatalogueLine}
 use Rattle.script_packages.specs.declared.catalogue_line.CatalogueLine.TheVariants.{Package, Set, Union, Condition as OfCondition, String as OfString, Begin}
@@ -91,14 +90,10 @@ said_of keyword ws =
     else if bytes_eq keyword (codes "begin") then begin_of ws
     else None
 
-abbrev pub says : Option Said → Line Said
-says None = Unreadable
-says (Some said) = Says said
-
-abbrev pub words_say : List (List ℕ) → Line Said
-words_say [] = Skipped
-words_say (keyword ∷ ws) = if is_comment keyword then Skipped else says (said_of keyword ws)
+-- the entry of a line that says this
+abbrev pub entry_meant : Line Statement → Line Said
+entry_meant said = statement_says said_of said
 
 -- what a line up to `begin` says
 abbrev pub catalogue_line_of : List ℕ → Line Said
-catalogue_line_of line = if list_all is_printed line then words_say (words line) else Unreadable
+catalogue_line_of line = line_says said_of line

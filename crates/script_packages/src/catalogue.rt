@@ -6,7 +6,7 @@ ghost use Rattle.script_text.specs.Lines.{lines as lines_of};
 
 use crate::catalogue_line::{CatalogueLine, catalogue_line};
 use crate::packages::Packages;
-use script_text::{Line, ScriptFault, next_line};
+use script_text::{Line, ScriptFault, next_statement};
 use std::alloc::Global;
 
 /// A catalogue that was read to its `begin`: what it lists, and where the commands are.
@@ -51,17 +51,14 @@ fn list_packages<'a>(
 {
     let mut count = 0;
     let mut rest = text;
-    while let Some((line, others)) = next_line(rest) {
+    while let Some((said, others)) = next_statement(rest) {
         count += 1;
         rest = others;
-        match catalogue_line(line) {
+        match catalogue_line(said) {
             Line::Skipped => {}
             Line::Unreadable => return Err(ScriptFault::Unreadable(count)),
             Line::Says(CatalogueLine::Begin) => return Ok(Some((count, others))),
-            Line::Says(entry) => match packages.add(&entry) {
-                Ok(()) => {}
-                Err(fault) => return Err(fault.at(count)),
-            },
+            Line::Says(entry) => packages.add(&entry).map_err(|fault| fault.at(count))?,
         }
     }
     Ok(None)

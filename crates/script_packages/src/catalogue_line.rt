@@ -1,14 +1,15 @@
 //! Catalogue lines.
 ghost use Rattle.std.specs.Prelude.{◌≡◌};
 ghost use Rattle.script_text.specs.Lines.{IsPrinted};
+ghost use Rattle.script_text.specs.Statements.{IsRestPrinted};
 ghost use Rattle.script_text.specs.Words.{words};
-ghost use Rattle.script_packages.specs.CatalogueLines.{plain_line, plain, catalogue_line_of};
+ghost use Rattle.script_packages.specs.CatalogueLines.{plain_line, plain, entry_meant};
 ghost use Rattle.script_packages.specs.CatalogueLines.{said_of, package_of, set_of, union_of, condition_of, string_of};
 ghost use Rattle.script_packages.specs.CatalogueLines.{set_condition, operator_of, joined_condition, begin_of};
 
 use crate::ids::id;
 use providers::{Condition, LogicalOperator};
-use script_text::{Line, Statement, is_word, next_word, open_line, text_of};
+use script_text::{Line, Statement, is_word, next_word, text_of};
 use typed_ids::VersionSetId;
 
 /// What a line up to `begin` says.
@@ -26,11 +27,12 @@ pub(crate) enum CatalogueLine<'a> {
     Begin,
 }
 
-/// What a line up to `begin` says.
-pub(crate) fn catalogue_line(line: &[u8]) -> Line<CatalogueLine<'_>>
-    ensures { plain_line result ≡ catalogue_line_of line.now }
+/// The entry of a line up to `begin`, by what the line says.
+pub(crate) fn catalogue_line(said: Line<Statement<'_>>) -> Line<CatalogueLine<'_>>
+    requires { IsRestPrinted said }
+    ensures { plain_line result ≡ entry_meant said.entry }
 {
-    match open_line(line) {
+    match said {
         Line::Skipped => Line::Skipped,
         Line::Unreadable => Line::Unreadable,
         Line::Says(said) => match entry(said) {

@@ -2,3 +2,4 @@ pub mod FirstLines
 pub mod Lanes
 pub mod Prefixes
 pub mod Printing
+pub mod Statements

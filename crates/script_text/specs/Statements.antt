@@ -1,5 +1,5 @@
 -- Lines that are skipped, and those that say something.
-use Rattle.std.specs.Prelude.{◌≡◌, ℕ, ◌==◌, Bool, false, true, List, [], ◌∷◌, ⊤}
+use Rattle.std.specs.Prelude.{◌≡◌, ℕ, ◌==◌, Bool, false, true, List, [], ◌∷◌, Option, None, Some, ⊤, if◌then◌else◌}
 use Rattle.std.specs.List.{list_all}
 use Rattle.script_text.specs.Lines.{is_printed, IsPrinted}
 use Rattle.script_text.specs.Words.{words}
@@ -28,7 +28,28 @@ MeansWords line (Says s) = (list_all is_printed line ≡ true) × (is_comment s.
 abbrev pub FirstMeans : List (List ℕ) → Line Statement → List (List ℕ) → Type 0
 FirstMeans lines said others = (line : List ℕ) × (lines ≡ line ∷ others) × MeansWords line said
 
--- what stands behind the first word is printed
+-- what lines say in a format in which `read` gives what a first word and the others say
+module _ {T : Type 0} (read : List ℕ → List (List ℕ) → Option T) where
+  abbrev pub says : Option T → Line T
+  says None = Unreadable
+  says (Some said) = Says said
+
+  -- what words say: none, or a comment's, are skipped
+  abbrev pub words_say : List (List ℕ) → Line T
+  words_say [] = Skipped
+  words_say (keyword ∷ ws) = if is_comment keyword then Skipped else says (read keyword ws)
+
+  -- what a line says
+  abbrev pub line_says : List ℕ → Line T
+  line_says line = if list_all is_printed line then words_say (words line) else Unreadable
+
+  -- what a statement says that was read of a line
+  abbrev pub statement_says : Line Statement → Line T
+  statement_says Skipped = Skipped
+  statement_says Unreadable = Unreadable
+  statement_says (Says s) = says (read s.keyword.now (words s.rest.now))
+
+-- what is after the first word is printed
 abbrev pub IsRestPrinted : Line Statement → Type 0
 IsRestPrinted (Says s) = IsPrinted s.rest.now
 IsRestPrinted _ = ⊤

@@ -16,7 +16,6 @@ mod word;
 pub use decimal::number;
 pub use fault::{LineFault, ScriptFault, status};
 pub use input::read_whole;
-pub use line::next_line;
 pub use output::{write_much, write_rest};
-pub use statement::{Line, Statement, next_statement, open_line};
+pub use statement::{Line, Statement, next_statement};
 pub use word::{is_word, next_word, text_of};

@@ -1,5 +1,5 @@
 //! Lines of a text.
-ghost use Rattle.std.specs.Prelude.{◌≡◌, ◌<◌, ◌≤◌, [], ◌∷◌, length, IfSome, MatchOption, ◌⊎◌};
+ghost use Rattle.std.specs.Prelude.{◌≡◌, ◌<◌, ◌∷◌, length, IfSome, ◌⊎◌};
 ghost use Rattle.std.specs.List.{list_all};
 ghost use Rattle.script_text.specs.Lines.{lines, lines_from, without_return, is_printed};
 
@@ -12,18 +12,6 @@ pub(crate) struct FirstLine<'a> {
     /// Whether all bytes of the line are printed.
     pub(crate) is_printed: bool,
     pub(crate) rest: &'a [u8],
-}
-
-/// The first line of a text, and what is after it; none where no line is left.
-pub fn next_line(text: &[u8]) -> Option<(&[u8], &[u8])>
-    ensures first { MatchOption result (lines text.now ≡ []) (λ r. lines text.now ≡ r.0.now ∷ lines r.1.now) }
-    ensures shorter { MatchOption result (text.now ≡ []) (λ r. length r.1.now < length text.now) }
-{
-    if text.is_empty() {
-        return None;
-    }
-    let first = first_line(text);
-    Some((first.line, first.rest))
 }
 
 /// The first line of a text. Up to the first byte that isn't printed it is looked at once, and mostly that byte ends it.

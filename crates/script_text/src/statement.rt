@@ -5,7 +5,6 @@ ghost use Rattle.script_text.specs.Lines.{lines, is_printed};
 ghost use Rattle.script_text.specs.Statements.{MeansWords, FirstMeans, IsRestPrinted};
 
 use crate::line::first_line;
-use crate::printed::is_printed;
 use crate::word::next_word;
 use typed_ids::SameValue;
 
@@ -38,14 +37,6 @@ pub fn next_statement(text: &[u8]) -> Option<(Line<Statement<'_>>, &[u8])>
     }
     let first = first_line(text);
     Some((meaning(first.line, first.is_printed), first.rest))
-}
-
-/// The line as a statement.
-pub fn open_line(line: &[u8]) -> Line<Statement<'_>>
-    ensures means { MeansWords line.now result }
-    ensures printed { IsRestPrinted result }
-{
-    meaning(line, is_printed(line))
 }
 
 /// The line as a statement, where it is known whether the line is printed.

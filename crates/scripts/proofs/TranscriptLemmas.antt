@@ -1,5 +1,4 @@
 -- One line more of a transcript.
-use Rattle.std.specs.Prelude.{if◌then◌else◌}
 use Rattle.std.proofs.Common.{◌≡◌, ℕ, ◌+◌, List, [], ◌∷◌, ◌++◌, Option, None, Some, Ok, Err, refl, sym, ap, subst, ◌∙◌, append_assoc, append-nil}
 use Rattle.resolvo_store.specs.declared.command.Command.{Command as ProgramCommand}
 use Rattle.resolvo_store.specs.Store.{Store}
@@ -10,9 +9,9 @@ use Rattle.script_text.specs.declared.statement.Statement.{Statement}
 use Rattle.script_text.specs.declared.statement.Line.TheVariants.{Skipped, Unreadable, Says}
 use Rattle.script_text.specs.Output.{Writes}
 use Rattle.script_text.specs.Status.{fault_at}
-use Rattle.script_text.specs.Statements.{MeansWords, IsSkipped}
-use Rattle.script_text.specs.Words.{words}
-use Rattle.scripts.specs.Commands.{command_line_of, command_meant, command_said, says, words_say}
+use Rattle.script_text.specs.Statements.{MeansWords}
+use Rattle.script_text.proofs.Statements.{meant_by}
+use Rattle.scripts.specs.Commands.{command_line_of, command_meant, command_said}
 use Rattle.scripts.specs.Replies.{reply_text}
 use Rattle.scripts.specs.Transcript.{ObeysLine, LineAnswered, Answered, IfRead}
 
@@ -34,20 +33,6 @@ Writes-on None b c wa wb wc s h k = tt
 Writes-on (Some xs) None c wa wb wc s h k = absurd h
 Writes-on (Some xs) (Some ys) None wa wb wc s h k = absurd k
 Writes-on (Some xs) (Some ys) (Some zs) wa wb wc s h k = k ∙ append-nil (ys ++ wb) ∙ h
-
-words_skipped : (ws : List (List ℕ)) → IsSkipped ws → Skipped ≡ words_say ws
-words_skipped [] h = refl
-words_skipped (word ∷ ws) h = ap (λ comment. if comment then Skipped else says (command_said word ws)) (sym h)
-
--- what was read of a line gives the command that the line gives
-meant_by : (line : List ℕ) (said : Line Statement) → MeansWords line said → command_meant said ≡ command_line_of line
-meant_by line Unreadable h = ap (λ printed. if printed then words_say (words line) else Unreadable) (sym h)
-meant_by line Skipped h =
-    words_skipped (words line) h.1 ∙ ap (λ printed. if printed then words_say (words line) else Unreadable) (sym h.0)
-meant_by line (Says s) h =
-    ap (λ comment. if comment then Skipped else says (command_said s.keyword.now (words s.rest.now))) (sym h.1)
-    ∙ ap words_say (sym h.2)
-    ∙ ap (λ printed. if printed then words_say (words line) else Unreadable) (sym h.0)
 
 module _ {N : Type 0} where
   -- lines were obeyed so far, with this text: how what is left goes on, so all of them do behind it
@@ -73,7 +58,7 @@ module _ {N : Type 0} where
       → left ≡ line ∷ lines → MeansWords line said → ObeysLine now (command_meant said) w' (Ok t) w'' new → Writes held' w'' held'' v []
       → SoFar first before all held w now number left held' w' → SoFar first before all held w new (number + 1) lines held'' v
   so_far_more {T} first now new before number all left lines line said held held' held'' w w' w'' v t behind means obeyed written so_far =
-      let meant = subst (λ l. ObeysLine {T = T} now l w' (Ok t) w'' new) (meant_by line said means) obeyed in
+      let meant = subst (λ l. ObeysLine {T = T} now l w' (Ok t) w'' new) (meant_by command_said line said means) obeyed in
       let more = line_obeyed now new (number + 1) (command_line_of line) lines w' w'' t meant in (
         so_far.0 ++ more.0,
         Writes-on held held' held'' w w'' v (so_far.0 ++ more.0)
@@ -100,6 +85,6 @@ module _ {N : Type 0} where
     so_far.0 ++ [],
     so_far.2 [] (Some (number + 1))
         (subst (λ ls. Answered now number ls [] (Some (number + 1))) (sym behind)
-        (unreadable_here now (number + 1) (command_line_of line) (λ mid r. Answered mid (number + 1) lines r (Some (number + 1))) (sym (meant_by line said means) ∙ obeyed.0))),
+        (unreadable_here now (number + 1) (command_line_of line) (λ mid r. Answered mid (number + 1) lines r (Some (number + 1))) (sym (meant_by command_said line said means) ∙ obeyed.0))),
     Writes-trans held held' held' w w' w'' so_far.0 [] so_far.1 (Writes-wait held' w' w'' [] (obeyed.1 ∙ sym (append-nil w'))),
   )

@@ -1,16 +1,12 @@
 -- The commands that lines give.
 use Rattle.std.specs.Prelude.{ℕ, List, [], ◌∷◌, Option, None, Some, option_map, option_and_then, if◌then◌else◌, codes}
-use Rattle.std.specs.List.{list_all}
 use Rattle.std.specs.Str.{bytes_eq}
 use Rattle.resolvo_store.specs.declared.command.Command.{Command}
 use Rattle.resolvo_store.specs.declared.command.Command.TheVariants.{Variable, Load, Requires, Assign, UndoUntil, Decide}
-use Rattle.script_text.specs.Lines.{is_printed}
-use Rattle.script_text.specs.Words.{words}
 use Rattle.script_packages.specs.Ids.{number_32, variable_of, clause_of, requirement_of, truth_of}
-use Rattle.script_text.specs.Statements.{is_comment}
+use Rattle.script_text.specs.Statements.{line_says, statement_says}
 use Rattle.script_text.specs.declared.statement.Line.{Line}
 use Rattle.script_text.specs.declared.statement.Statement.{Statement}
-use Rattle.script_text.specs.declared.statement.Line.TheVariants.{Skipped, Unreadable, Says}
 
 -- the word that stands alone
 abbrev pub only_word : List (List ℕ) → Option (List ℕ)
@@ -59,22 +55,10 @@ command_said keyword ws =
     else if bytes_eq keyword (codes "decide") then decide_command ws
     else None
 
--- a command, where there is one
-abbrev pub says : Option (Command ℕ) → Line (Command ℕ)
-says None = Unreadable
-says (Some c) = Says c
-
 -- the command of a line that says this
 abbrev pub command_meant : Line Statement → Line (Command ℕ)
-command_meant Skipped = Skipped
-command_meant Unreadable = Unreadable
-command_meant (Says s) = says (command_said s.keyword.now (words s.rest.now))
-
--- what the words of a line say: none, or a comment's, are skipped
-abbrev pub words_say : List (List ℕ) → Line (Command ℕ)
-words_say [] = Skipped
-words_say (keyword ∷ ws) = if is_comment keyword then Skipped else says (command_said keyword ws)
+command_meant said = statement_says command_said said
 
 -- what a line after `begin` says
 abbrev pub command_line_of : List ℕ → Line (Command ℕ)
-command_line_of line = if list_all is_printed line then words_say (words line) else Unreadable
+command_line_of line = line_says command_said line

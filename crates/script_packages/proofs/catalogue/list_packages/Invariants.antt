@@ -5,9 +5,9 @@ use Rattle.script_packages.specs.Listing.{listing_of, nothing_listed}
 use Rattle.script_text.specs.Lines.{lines as lines_of}
 use Rattle.script_packages.proofs.catalogue.list_packages.Given as goal
 
--- how what is left of the lines ends behind what is listed, so all of them do
-abbrev pub invariant-loop-line : goal.invariant-loop-line
-invariant-loop-line l = record {
+-- how what is left of the lines ends after what is listed, so all of them do
+abbrev pub invariant-loop-said : goal.invariant-loop-said
+invariant-loop-said l = record {
   fits : l.count + length l.rest ≤ length l.text;
   never : NeverBegins (listing_of l.packages) (lines_of l.rest) → NeverBegins nothing_listed (lines_of l.text);
   begins : (before : ℕ) (left : List (List ℕ)) (packages : Packages) → CommandsBegin (listing_of l.packages) l.count (lines_of l.rest) before left packages
@@ -15,5 +15,5 @@ invariant-loop-line l = record {
   faulty : (number : ℕ) → FaultyAt (listing_of l.packages) l.count (lines_of l.rest) number → FaultyAt nothing_listed 0 (lines_of l.text) number;
 }
 
-abbrev pub decreases-loop-line : goal.decreases-loop-line
-decreases-loop-line l = length l.rest
+abbrev pub decreases-loop-said : goal.decreases-loop-said
+decreases-loop-said l = length l.rest
