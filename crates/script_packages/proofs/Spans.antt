@@ -1,4 +1,4 @@
--- A span of a name that had none stands behind the others.
+-- A span of a name that had none is after the others.
 use Rattle.std.proofs.Common.{◌≡◌, ℕ, true, false, cond, List, [], ◌∷◌, ◌++◌, Some, ap, refl}
 use Rattle.std.specs.Prelude.{is_some}
 use Rattle.std.specs.Map.{lookup}

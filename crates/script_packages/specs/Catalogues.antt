@@ -9,7 +9,7 @@ use Rattle.script_packages.specs.Listing.{Listing, listing_of, with_pool, named,
 abbrev pub AreListed : Packages → Listing → Type 0
 AreListed packages l = listing_of packages ≡ l
 
--- what is listed behind an entry, unless it is the second package line of a name, or has a word that is no version, or an
+-- what is listed after an entry, unless it is the second package line of a name, or has a word that is no version, or an
 -- id of nothing that is listed
 abbrev pub listed : Listing → Said → Option Listing
 listed l (Lists name words) = with_versions (named l name) (name_number l name) words

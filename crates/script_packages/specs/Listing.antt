@@ -86,7 +86,7 @@ with_versions l name (word ∷ words) =
     if has_span l name then None
     else option_map (with_span_from name (length l.pool.solvables)) (listed_versions l name (word ∷ words))
 
--- the version sets with those of these words behind them, where each word is one of so many
+-- the version sets with those of these words after them, where each word is one of so many
 abbrev pub listed_sets : ℕ → List VersionSetId → List (List ℕ) → Option (List VersionSetId)
 listed_sets count sets [] = Some sets
 listed_sets count sets (word ∷ words) =

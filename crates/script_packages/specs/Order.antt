@@ -20,7 +20,7 @@ abbrev pub place_of : List (Solvable ℕ) → ℕ → List ℕ → ℕ
 place_of all s [] = 0
 place_of all s (t ∷ ts) = if is_before all t s then place_of all s ts + 1 else 0
 
--- s behind those at the front that come before it
+-- s after those at the front that come before it
 abbrev pub inserted : List (Solvable ℕ) → List ℕ → ℕ → List ℕ
 inserted all sorted s = insert sorted (place_of all s sorted) s
 

@@ -15,11 +15,11 @@ use typed_ids::VersionSetId;
 /// What a line up to `begin` says.
 #[derive(Clone, Copy)]
 pub(crate) enum CatalogueLine<'a> {
-    /// The versions of a package, in words that stand in one text.
+    /// The versions of a package, in the words of one text.
     Package { name: &'a str, versions: &'a [u8] },
     /// The version set of a package's versions from `low` to below `high`.
     Set { name: &'a str, low: u32, high: u32 },
-    /// The version sets of a union, in words that stand in one text.
+    /// The version sets of a union, in the words of one text.
     Union { sets: &'a [u8] },
     Condition(Condition),
     String(&'a str),

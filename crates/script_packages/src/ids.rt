@@ -19,7 +19,7 @@ pub fn id<I: DenseIndex>(word: &[u8]) -> Option<I>
     }
 }
 
-/// A requirement: `s` or `u`, and the number of a version set or of a union directly behind it.
+/// A requirement: `s` or `u`, and the number of a version set or of a union directly after it.
 pub fn requirement(word: &[u8]) -> Option<Requirement>
     ensures { result ≡ requirement_of word.now }
 {

@@ -4,11 +4,11 @@ use Rattle.std.specs.Prelude.{ℕ, ◌+◌, ◌-◌, ◌*◌, ◌^◌, Bool, ◌
 abbrev pub is_digit : ℕ → Bool
 is_digit b = nat_le 48 b && nat_le b 57
 
--- the value with one more digit behind it, where it is below 2^64
+-- the value with one more digit after it, where it is below 2^64
 abbrev pub with_digit : ℕ → ℕ → Option ℕ
 with_digit n digit = if is_digit digit && nat_lt (n * 10 + (digit - 48)) (2 ^ 64) then Some (n * 10 + (digit - 48)) else None
 
--- the value of these digits behind a number. Digits never make it less, so that a value below 2^64 was so at each digit
+-- the value of these digits after a number. Digits never make it less, so that a value below 2^64 was so at each digit
 abbrev pub value_from : ℕ → List ℕ → Option ℕ
 value_from n [] = Some n
 value_from n (digit ∷ digits) = option_and_then (λ m. value_from m digits) (with_digit n digit)

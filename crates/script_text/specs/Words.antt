@@ -12,10 +12,10 @@ abbrev pub words_from : List ℕ → List ℕ → List (List ℕ)
 words_from begun [] = begun_word begun
 words_from begun (b ∷ bs) = if b == 32 then begun_word begun ++ words_from [] bs else words_from (begun ++ b ∷ []) bs
 
--- the words of a line: what stands between its blanks
+-- the words of a line: what is between its blanks
 abbrev pub words : List ℕ → List (List ℕ)
 words line = words_from [] line
 
--- a word and what stands behind it
+-- a word and what is after it
 abbrev pub ArePrinted : List ℕ → List ℕ → Type 0
 ArePrinted word rest = IsPrinted word × IsPrinted rest

@@ -26,7 +26,7 @@ fn value(digits: &[u8]) -> Option<u64>
     Some(value)
 }
 
-/// The value with one more decimal digit behind it.
+/// The value with one more decimal digit after it.
 fn with_digit(value: u64, digit: u8) -> Option<u64>
     ensures { result ≡ with_digit value digit }
 {

@@ -25,7 +25,7 @@ pub(crate) fn printed_length(text: &[u8]) -> usize
     length + printed_by_one(&text[length..])
 }
 
-/// How many of sixteen bytes stand before the first that isn't printed.
+/// How many of sixteen bytes are before the first that isn't printed.
 #[inline(always)]
 fn printed_of_sixteen(bytes: u8x16) -> usize
     ensures { result ≡ prefix_len is_printed bytes }

@@ -7,7 +7,7 @@ ghost use Rattle.script_text.specs.Words.{words, words_from, begun_word, ArePrin
 
 use std::str;
 
-/// The first word of a line, and what stands behind it; none where no word is left.
+/// The first word of a line, and what is after it; none where no word is left.
 pub fn next_word(line: &[u8]) -> Option<(&[u8], &[u8])>
     ensures first { MatchOption result (words line.now ≡ []) (λ r. words line.now ≡ r.0.now ∷ words r.1.now) }
     ensures shorter { MatchOption result (words line.now ≡ []) (λ r. length r.1.now < length line.now) }

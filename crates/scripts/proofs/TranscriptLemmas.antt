@@ -22,7 +22,7 @@ Writes-trans (Some xs) None c wa wb wc s t h k = absurd h
 Writes-trans (Some xs) (Some ys) None wa wb wc s t h k = absurd k
 Writes-trans (Some xs) (Some ys) (Some zs) wa wb wc s t h k = k ∙ ap (λ l. l ++ t) h ∙ append_assoc (xs ++ wa) s t
 
--- a text that is put behind what waits
+-- a text that is put after what waits
 pub Writes-wait : (a : Option (List ℕ)) (waiting waiting' t : List ℕ) → waiting' ≡ waiting ++ t → Writes a waiting a waiting' t
 Writes-wait None waiting waiting' t e = tt
 Writes-wait (Some xs) waiting waiting' t e = ap (λ l. xs ++ l) e ∙ sym (append_assoc xs waiting t)
@@ -35,13 +35,13 @@ Writes-on (Some xs) (Some ys) None wa wb wc s h k = absurd k
 Writes-on (Some xs) (Some ys) (Some zs) wa wb wc s h k = k ∙ append-nil (ys ++ wb) ∙ h
 
 module _ {N : Type 0} where
-  -- lines were obeyed so far, with this text: how what is left goes on, so all of them do behind it
+  -- lines were obeyed so far, with this text: how what is left goes on, so all of them do after it
   abbrev pub SoFar : Store N ℕ → ℕ → List (List ℕ) → Option (List ℕ) → List ℕ → Store N ℕ → ℕ → List (List ℕ) → Option (List ℕ) → List ℕ → Type 0
   SoFar first before lines held waiting now number left held' waiting' =
       (own : List ℕ) × Writes held waiting held' waiting' own
       × ((text : List ℕ) (faulty : Option ℕ) → Answered now number left text faulty → Answered first before lines (own ++ text) faulty)
 
-  -- the text of an obeyed line, and how what is behind it goes on
+  -- the text of an obeyed line, and how what is after it goes on
   line_obeyed : {T : Type 0} (old new : Store N ℕ) (number : ℕ) (said : Line (ProgramCommand ℕ)) (lines : List (List ℕ)) (waiting waiting' : List ℕ) (t : T)
       → ObeysLine old said waiting (Ok t) waiting' new
       → (own : List ℕ) × (waiting' ≡ waiting ++ own)

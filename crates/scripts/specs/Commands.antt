@@ -8,7 +8,7 @@ use Rattle.script_text.specs.Statements.{line_says, statement_says}
 use Rattle.script_text.specs.declared.statement.Line.{Line}
 use Rattle.script_text.specs.declared.statement.Statement.{Statement}
 
--- the word that stands alone
+-- the only word
 abbrev pub only_word : List (List ℕ) → Option (List ℕ)
 only_word (word ∷ []) = Some word
 only_word _ = None

@@ -5,7 +5,7 @@ use Rattle.decisions.specs.declared.decision.Decision.{Decision}
 use Rattle.resolvo_queue.specs.declared.queue_decision.QueueDecision.{QueueDecision}
 use Rattle.resolvo_store.specs.Command.{Reply, VariableIs, LoadedAs, ClauseIs, Assigned, Already, Clash, Undone, Decided, NoDecision, Falsified, Refused}
 
--- a name, and a number directly behind it
+-- a name, and a number directly after it
 abbrev pub field : List ℕ → ℕ → List ℕ
 field name n = name ++ decimal n
 
@@ -18,7 +18,7 @@ abbrev pub list_text : List ℕ → List ℕ
 list_text [] = codes "-"
 list_text (v ∷ vs) = decimal v ++ others_text vs
 
--- each list behind a blank
+-- each list after a blank
 abbrev pub lists_text : List (List ℕ) → List ℕ
 lists_text [] = []
 lists_text (l ∷ ls) = (codes " " ++ list_text l) ++ lists_text ls

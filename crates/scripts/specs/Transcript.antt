@@ -24,7 +24,7 @@ module _ {N : Type 0} where
   ObeysLine old Unreadable text (Ok _) text' new = ⊥
   ObeysLine old (Says c) text (Ok _) text' new = (reply : Reply) × Step old (command_of c) reply new × (text' ≡ text ++ reply_text reply)
 
-  -- a line of this number says this, and what is behind it goes on so from the store that it leaves, with the text that is
+  -- a line of this number says this, and what is after it goes on so from the store that it leaves, with the text that is
   -- left. `faulty` is the number of the first unreadable line, if there is one
   abbrev pub LineAnswered : Store N ℕ → ℕ → Line (ProgramCommand ℕ) → (Store N ℕ → List ℕ → Type 0) → List ℕ → Option ℕ
       → Type 0
@@ -34,7 +34,7 @@ module _ {N : Type 0} where
       (reply : Reply) × (mid : Store N ℕ) × (rest : List ℕ) × Step st (command_of c) reply mid
       × (text ≡ reply_text reply ++ rest) × goes_on mid rest
 
-  -- the lines, before which so many stand, are answered by this text: a line for each command that was obeyed, in turn, up
+  -- the lines, with so many before them, are answered by this text: a line for each command that was obeyed, in turn, up
   -- to the first unreadable line or the end
   abbrev pub Answered : Store N ℕ → ℕ → List (List ℕ) → List ℕ → Option ℕ → Type 0
   Answered st before [] text faulty = (text ≡ []) × (faulty ≡ None)

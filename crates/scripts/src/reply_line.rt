@@ -10,7 +10,7 @@ use resolvo_store::Reply;
 use std::alloc::{AllocError, Allocator};
 use typed_ids::{ClauseId, DenseIndex, VariableId};
 
-/// Puts the line of a reply behind the text.
+/// Puts the line of a reply after the text.
 pub fn push_reply<A: Allocator>(text: &mut Vec<u8>, reply: &Reply<A>) -> Result<(), AllocError>
     ensures { OnOk result (text.new.items ≡ text.old.items ++ reply_text (reply_of reply.now)) }
 {
@@ -36,7 +36,7 @@ fn push_words<A: Allocator>(text: &mut Vec<u8>, reply: &Reply<A>) -> Result<(), 
     }
 }
 
-/// Puts the line that names an unreadable line behind the text.
+/// Puts the line that names an unreadable line after the text.
 pub fn push_unreadable(text: &mut Vec<u8>, number: u64) -> Result<(), AllocError>
     ensures { OnOk result (text.new.items ≡ text.old.items ++ unreadable_text number) }
 {
@@ -144,7 +144,7 @@ fn push_list(text: &mut Vec<u8>, list: &[VariableId]) -> Result<(), AllocError>
     }
 }
 
-/// Each variable behind a comma.
+/// Each variable after a comma.
 fn push_others(text: &mut Vec<u8>, others: &[VariableId]) -> Result<(), AllocError>
     ensures { OnOk result (text.new.items ≡ text.old.items ++ others_text others.now) }
 {

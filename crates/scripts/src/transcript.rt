@@ -89,7 +89,7 @@ fn obey_commands<W: Write>(
     ended
 }
 
-/// Obeys the lines in turn, before which so many stand.
+/// Obeys the lines in turn, with so many before them.
 fn obey_lines<W: Write>(
     store: &mut ClauseStore<Packages>,
     lines: &[u8],
@@ -115,7 +115,7 @@ fn obey_lines<W: Write>(
     Ok(())
 }
 
-/// Obeys a line that says this, and puts the line of the reply behind what waits.
+/// Obeys a line that says this, and puts the line of the reply after what waits.
 fn obey_line(
     store: &mut ClauseStore<Packages>,
     said: Line<Statement<'_>>,
