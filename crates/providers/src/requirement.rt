@@ -9,14 +9,15 @@ use crate::interner::Interner;
 use crate::joined::append_joined;
 use crate::requirement_text::texts_of_sets;
 use crate::version_sets::VersionSets;
+use std::hash::{Hash, Hasher};
 use std::slice;
 use typed_ids::{
-    ConditionId, DefaultValue, OrderedByParts, SameValue, StoreError, VersionSetId,
+    ConditionId, DefaultValue, DenseIndex, OrderedByParts, SameValue, StoreError, VersionSetId,
     VersionSetUnionId,
 };
 
 /// One of the candidates of a version set, or of any set of a union.
-#[derive(Clone, Copy, Debug, PartialEq, Eq, PartialOrd, Ord, Hash)]
+#[derive(Clone, Copy, Debug, PartialEq, Eq, PartialOrd, Ord)]
 pub enum Requirement {
     /// One of the candidates of this version set.
     Single(VersionSetId),
@@ -64,6 +65,26 @@ impl Requirement {
         let sets = self.version_sets(interner);
         let texts = texts_of_sets(interner, *out.allocator(), sets.as_slice())?;
         append_joined(&texts, out)
+    }
+}
+
+/// The hash is that of the index alone, so a version set and a union of one index share it.
+impl Hash for Requirement {
+    ghost use Rattle.std.specs.Hash as fed;
+    ghost use Rattle.std.specs.Cmp.Rules.{hashing};
+    ghost use Rattle.std.proofs.Common.{rules};
+    ghost use Rattle.providers.specs.Requirement.{requirement_index};
+
+    ghost hash_input = { λ requirement. fed.usize (requirement_index requirement) };
+
+    ghost respects_eq = { Prim.search (hashing, rules) };
+
+    fn hash<H: Hasher>(&self, state: &mut H) {
+        let index = match self {
+            Requirement::Single(set) => set.to_index(),
+            Requirement::Union(union) => union.to_index(),
+        };
+        state.write_usize(index);
     }
 }
 

@@ -46,13 +46,23 @@ pub fn push_unreadable(text: &mut Vec<u8>, number: u64) -> Result<(), AllocError
 }
 
 /// A number; one of a single digit, as most are, needs no buffer.
+#[inline(never)]
 #[tactic(auto, using(std::proofs::lemmas::Fmt::decimal_digit))]
 fn push_number(text: &mut Vec<u8>, number: u64) -> Result<(), AllocError>
     ensures { OnOk result (text.new.items ≡ text.old.items ++ decimal number) }
 {
     if number < 10 {
-        return text.extend_from_slice(&[b'0' + number as u8]);
+        text.extend_from_slice(&[b'0' + number as u8])
+    } else {
+        push_digits(text, number)
     }
+}
+
+/// A number of any size.
+#[inline(never)]
+fn push_digits(text: &mut Vec<u8>, number: u64) -> Result<(), AllocError>
+    ensures { OnOk result (text.new.items ≡ text.old.items ++ decimal number) }
+{
     let mut buffer = Buffer::new();
     text.extend_from_slice(buffer.format(number).as_bytes())
 }
