@@ -115,8 +115,15 @@ fn push_decision(text: &mut Vec<u8>, decision: &QueueDecision) -> Result<(), All
     push_field(text, b"decided ", decision.candidate.to_index())?;
     push_field(text, b" by ", decision.required_by.to_index())?;
     push_field(text, b" clause ", decision.clause_id.to_index())?;
-    push_field(text, b" score ", decision.package_activity as usize)?;
-    push_field(text, b" count ", decision.candidate_count)
+    push_weight(text, decision.package_activity, decision.candidate_count)
+}
+
+/// What a decision is weighed by: its package's score, and the number of candidates.
+fn push_weight(text: &mut Vec<u8>, score: u64, count: usize) -> Result<(), AllocError>
+    ensures { OnOk result (text.new.items ≡ text.old.items ++ (field (codes " score ") score ++ field (codes " count ") count)) }
+{
+    push_field(text, b" score ", score as usize)?;
+    push_field(text, b" count ", count)
 }
 
 /// `loaded`, and a word for each list.
