@@ -25,7 +25,7 @@ pub returns-in-UndoUntil-clause-sound : goal.returns-in-UndoUntil-clause-sound
 returns-in-UndoUntil-clause-sound g c = IsSound-step (UndoUntil c.in-UndoUntil.level) (reply_of c.undo_until.result) g.met.D.SolvableId.Eq.laws.refl c.self.invariant.sound (rw (← c.self.view_is) at c.undo_until.ensures.step)
 
 pub returns-in-Decide-clause-sound : goal.returns-in-Decide-clause-sound
-returns-in-Decide-clause-sound g c = IsSound-step Decide (reply_of c.decide.result) g.met.D.SolvableId.Eq.laws.refl c.self.invariant.sound (rw (← c.self.view_is) at c.decide.ensures.step)
+returns-in-Decide-clause-sound g c = rw (← c.self.view_is) c.self.invariant.sound
 
 pub returns-in-Variable-clause-err : goal.returns-in-Variable-clause-err
 returns-in-Variable-clause-err g c = refused_same (store g c.args.self.now) (store g c.variable.new.self) (Variable c.in-Variable.solvable) c.variable.result c.variable.ensures.step
