@@ -6,8 +6,8 @@ use Rattle.std.proofs.lemmas.Bool.Decides.{nat_tests}
 use Rattle.resolvo_ids.specs.Types.StoreError.{StoreError}
 use Rattle.resolvo_clauses.specs.Trail.{Entry, val}
 use Rattle.resolvo_store.specs.Command.{Command, Assign, Reply, Assigned, Already, Clash, Refused, reply_of}
-use Rattle.resolvo_store.specs.Types.Reply.{Reply as ProgramReply}
-use Rattle.resolvo_store.specs.Types.Reply.TheVariants as Out
+use Rattle.resolvo_store.specs.declared.reply.Reply.{Reply as ProgramReply}
+use Rattle.resolvo_store.specs.declared.reply.Reply.TheVariants as Out
 use Rattle.resolvo_store.specs.Store.{Store, values}
 use Rattle.resolvo_store.specs.Refusals.{first_refusal}
 use Rattle.resolvo_store.specs.Outcome.{outcome, assigned, assign_reply}

@@ -3,4 +3,3 @@ pub mod Pick
 pub mod RowState
 pub mod Rows
 pub mod Scan
-pub mod Types

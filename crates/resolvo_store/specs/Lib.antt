@@ -7,4 +7,3 @@ pub mod Solved
 pub mod Sound
 pub mod Step
 pub mod Store
-pub mod Types
