@@ -41,10 +41,8 @@ fn append<A: Allocator>(out: &mut String<A>, text: &str) -> Result<(), StoreErro
     ensures err { OnErr result (IsSameText out.old out.new) }
     ensures memory { IfErr result (λ e. e ≡ OutOfMemory) }
 {
-    match out.push_str(text) {
-        Ok(()) => Ok(()),
-        Err(_) => Err(StoreError::OutOfMemory),
-    }
+    out.push_str(text)?;
+    Ok(())
 }
 
 impl<'w, N: SolverId<A>, S: DenseIndex + SolverId<A>, A: Allocator + Copy> Interner

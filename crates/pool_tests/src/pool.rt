@@ -16,10 +16,7 @@ use typed_ids::{
 fn owned(alloc: Global, text: &str) -> Result<String, StoreError>
     ensures { IfOk result (λ copy. string_bytes copy ≡ text.now) }
 {
-    match String::from_str(alloc, text) {
-        Ok(copy) => Ok(copy),
-        Err(_) => Err(StoreError::OutOfMemory),
-    }
+    Ok(String::from_str(alloc, text)?)
 }
 
 /// The numbers of `a`, `b` and `a` once more; whether the second is of the pool, with its text; and whether the pool

@@ -24,10 +24,7 @@ pub(crate) fn lists_of<A: Allocator + Copy>(
     alloc: A,
     example: Example,
 ) -> Result<Lists<A>, StoreError> {
-    match try_lists_of(alloc, example) {
-        Ok(lists) => Ok(lists),
-        Err(_) => Err(StoreError::OutOfMemory),
-    }
+    Ok(try_lists_of(alloc, example)?)
 }
 
 fn try_lists_of<A: Allocator + Copy>(alloc: A, example: Example) -> Result<Lists<A>, AllocError> {

@@ -213,10 +213,7 @@ fn steps<S, A: Allocator + Copy, T: Obeys<S, A>>(
         } else {
             store.obey(command)
         };
-        match replies.push(reply) {
-            Ok(()) => {}
-            Err(_) => return Err(StoreError::OutOfMemory),
-        }
+        replies.push(reply)?;
     }
     Ok(replies)
 }
