@@ -1,2 +1,1 @@
 pub mod ShelfLemmas
-pub mod StoreLemmas

@@ -1,29 +1,13 @@
 //! Callers that know nothing of the provider but its traits, and nothing of the store but its contracts.
-ghost use Rattle.std.specs.Prelude.{◌≡◌, ◌==◌, [], ◌∷◌, ◌++◌, false, not, if◌then◌else◌, Some, Err, IfOk, OnOk, OnErr};
+ghost use Rattle.std.specs.Prelude.{◌≡◌, ◌==◌, [], ◌∷◌, ◌++◌, false, not, if◌then◌else◌, Some, Err, IfOk, OnErr};
 ghost use Rattle.resolvo_ids.specs.Refusals.{code_of};
 ghost use Rattle.resolvo_ids.specs.Types.StoreError.TheVariants.{UnknownId};
 ghost use Rattle.resolvo_pool.specs.Provider.{knows_requirement};
 ghost use Rattle.resolvo_clauses.specs.Trail.{val};
-ghost use Rattle.resolvo_store.specs.Command.{command_of};
-ghost use Rattle.resolvo_store.specs.Outcome.{outcome};
 
 use resolvo_ids::{ClauseId, StoreError, VariableId};
 use resolvo_pool::{DependencyProvider, Requirement};
 use resolvo_store::{AbstractStore, ClauseStore, Command, Reply};
-
-/// Obeys a command. One that is refused changes nothing; any other has its outcome.
-pub fn obey<D: DependencyProvider + Drop>(
-    store: &mut ClauseStore<D>,
-    command: &Command<D::SolvableId>,
-) -> Result<(), StoreError>
-    ensures obeyed { OnOk result (⟦<D as AbstractStore>⟧.store store.new ≡ (outcome (⟦<D as AbstractStore>⟧.store store.old) (command_of command.now)).store) }
-    ensures refused { OnErr result (⟦<D as AbstractStore>⟧.store store.new ≡ ⟦<D as AbstractStore>⟧.store store.old) }
-{
-    match store.step(command) {
-        Reply::Refused(error) => Err(error),
-        _ => Ok(()),
-    }
-}
 
 /// Gives a variable a value, and answers whether it has this one now or the other one.
 pub fn give<D: DependencyProvider + Drop>(
@@ -36,10 +20,10 @@ pub fn give<D: DependencyProvider + Drop>(
     ensures given { IfOk result (λ given. val (⟦<D as AbstractStore>⟧.store store.new).trail variable ≡ Some (if given then value else not value)) }
     ensures refused { OnErr result (⟦<D as AbstractStore>⟧.store store.new ≡ ⟦<D as AbstractStore>⟧.store store.old) }
 {
-    match store.step(&Command::Assign(variable, value, clause, level)) {
-        Reply::Assigned | Reply::Already => Ok(true),
+    match store.obey(&Command::Assign(variable, value, clause, level))? {
+        Reply::Assigned => Ok(true),
+        Reply::Already => Ok(true),
         Reply::Clash => Ok(false),
-        Reply::Refused(error) => Err(error),
         _ => unreachable!(),
     }
 }
@@ -52,10 +36,8 @@ pub fn load<D: DependencyProvider + Drop>(
     ensures clauses { (⟦<D as AbstractStore>⟧.store store.new).requires ≡ (⟦<D as AbstractStore>⟧.store store.old).requires }
     ensures unknown { knows_requirement (D.universe store.old.provider) requirement ≡ false → result ≡ Err UnknownId }
 {
-    match store.step(&Command::Load(requirement)) {
-        Reply::Refused(error) => Err(error),
-        _ => Ok(()),
-    }
+    store.obey(&Command::Load(requirement))?;
+    Ok(())
 }
 
 /// Adds the clause that the parent, if true, requires one of the requirement's candidates.

@@ -9,6 +9,6 @@ mod shelf;
 #[cfg(test)]
 mod tests;
 
-pub use callers::{give, load, may_pass, obey, register, require};
+pub use callers::{give, load, may_pass, register, require};
 pub use searching::{SearchEnd, ask, rule_out, search};
 pub use shelf::{Release, Shelf, Since};

@@ -5,11 +5,11 @@ ghost use Rattle.resolvo_queue.specs.Pick.{DecidesUnbeaten};
 ghost use Rattle.resolvo_store.specs.Outcome.{falsified_clause, offers};
 ghost use Rattle.doors_tests.specs.Search.{IsEnd};
 
-use crate::callers::{give, obey};
+use crate::callers::give;
 use resolvo_ids::{ClauseId, StoreError, VariableId};
 use resolvo_pool::DependencyProvider;
 use resolvo_queue::QueueDecision;
-use resolvo_store::{AbstractStore, ClauseStore, Command};
+use resolvo_store::{AbstractStore, ClauseStore, Command, Reply};
 use std::ops::Range;
 
 /// How a search ends.
@@ -45,13 +45,14 @@ pub fn search<D: DependencyProvider + Drop>(
     ensures { IfOk result (λ end. IsEnd (⟦<D as AbstractStore>⟧.store store.new) end) }
 {
     for level in levels {
-        let decision = match ask(store) {
-            Err(clause) => return Ok(SearchEnd::Falsified(clause)),
-            Ok(None) => return Ok(SearchEnd::Solved),
-            Ok(Some(decision)) => decision,
+        let decision = match store.step(&Command::Decide) {
+            Reply::Decided(decision) => decision,
+            Reply::NoDecision => return Ok(SearchEnd::Solved),
+            Reply::Falsified(clause) => return Ok(SearchEnd::Falsified(clause)),
+            Reply::Refused(error) => return Err(error),
+            _ => unreachable!(),
         };
-        let assign = Command::Assign(decision.candidate, true, decision.clause_id, level);
-        obey(store, &assign)?;
+        store.obey(&Command::Assign(decision.candidate, true, decision.clause_id, level))?;
     }
     Ok(SearchEnd::LevelsUsed)
 }
@@ -66,6 +67,6 @@ pub fn rule_out<D: DependencyProvider + Drop>(
 ) -> Result<bool, StoreError>
     ensures { IfOk result (λ done. val (⟦<D as AbstractStore>⟧.store store.new).trail candidate ≡ Some (not done)) }
 {
-    obey(store, &Command::UndoUntil(level))?;
+    store.obey(&Command::UndoUntil(level))?;
     give(store, candidate, false, clause, level)
 }
