@@ -1,5 +1,5 @@
 //! A small provider: the releases of packages in a list.
-ghost use Rattle.std.specs.Prelude.{◌≡◌, ◌≤◌, ◌<◌, ◌^◌, [], true, All, length, reverse, refl, nat_lt, IfOk, OnOk, OnErr, IfErr};
+ghost use Rattle.std.specs.Prelude.{◌≡◌, ◌==◌, ◌≤◌, ◌<◌, ◌^◌, [], true, All, length, reverse, refl, nat_lt, IfOk, OnOk, OnErr, IfErr};
 ghost use Rattle.resolvo_ids.specs.Types.StoreError.TheVariants.{OutOfMemory};
 ghost use Rattle.resolvo_pool.specs.Provider.{filtered};
 ghost use Rattle.resolvo_pool.specs.Texts.{IsAppended, IsSameText};
@@ -26,8 +26,8 @@ pub struct Since {
     pub version: u32,
 }
 
-/// Releases and version sets. The later a release stands, the better. There are no strings and no unions; of each
-/// version set there is the condition that it is met; and each package has the same text.
+/// Releases and version sets. The later a release is in the list, the better. There is one string, and one union, which
+/// has no version sets; of each version set there is the condition that it is met; and each package has the same text.
 #[derive(Drop)]
 pub struct Shelf<A: Allocator> {
     pub releases: Vec<Release, A>,
@@ -42,15 +42,14 @@ impl<A: Allocator + Copy> Interner for Shelf<A> {
 
     type SolvableId = SolvableId;
 
-    ghost use Rattle.std.specs.Prelude.{false};
     ghost use Rattle.std.proofs.lemmas.List.Elements.{All-nil};
 
     ghost universe = { λ p. record {
-      knows_string = λ s. false;
+      knows_string = λ s. s.0 == 0;
       knows_name = λ n. true;
       knows_solvable = λ s. nat_lt s (length p.releases.items);
       knows_set = λ v. nat_lt v.0 (length p.sets.items);
-      knows_union = λ u. false;
+      knows_union = λ u. u.0 == 0;
       knows_condition = λ c. nat_lt c (length p.sets.items);
       solvable_name = λ s. (release_at p.releases.items s).name;
       set_name = λ v. (since_at p.sets.items v).name;
@@ -62,7 +61,7 @@ impl<A: Allocator + Copy> Interner for Shelf<A> {
       solvable = λ s. package_text;
       name = λ n. package_text;
       version_set = λ v. [];
-      string = λ s. [];
+      string = λ s. package_text;
     } };
 
     ghost solvable_names_known = { λ p s known. refl };
@@ -73,8 +72,8 @@ impl<A: Allocator + Copy> Interner for Shelf<A> {
 
     ghost operands_known = { λ p c known. known };
 
-    fn knows_string(&self, _string: StringId) -> bool {
-        false
+    fn knows_string(&self, string: StringId) -> bool {
+        string.0 == 0
     }
 
     fn knows_name(&self, _name: NameId) -> bool {
@@ -89,8 +88,8 @@ impl<A: Allocator + Copy> Interner for Shelf<A> {
         (set.0 as usize) < self.sets.len()
     }
 
-    fn knows_union(&self, _union: VersionSetUnionId) -> bool {
-        false
+    fn knows_union(&self, union: VersionSetUnionId) -> bool {
+        union.0 == 0
     }
 
     fn knows_condition(&self, condition: ConditionId) -> bool {
@@ -135,7 +134,8 @@ impl<A: Allocator + Copy> Interner for Shelf<A> {
         Ok(())
     }
 
-    fn display_string(&self, _string: StringId, _out: &mut String<A>) -> Result<(), StoreError> {
+    fn display_string(&self, _string: StringId, out: &mut String<A>) -> Result<(), StoreError> {
+        out.push_str("package")?;
         Ok(())
     }
 }
