@@ -1,8 +1,10 @@
 //! The values of variables, and the levels at which they got them.
 ghost use Rattle.std.specs.Prelude.{◌≡◌, [], Some, None, OnOk, OnErr, IfErr};
+ghost use Rattle.std.specs.List.{list_all};
 ghost use Rattle.typed_ids.specs.declared.error.StoreError.TheVariants.{OutOfMemory};
 ghost use Rattle.typed_ids.specs.TotalMaps.{IsUpdate, SameValues};
 ghost use Rattle.decisions.specs.Decisions.{decision_in, values_in, level_in};
+ghost use Rattle.decisions.specs.Literals.{known_false};
 
 use id_maps::IdMap;
 use std::alloc::Allocator;
@@ -105,6 +107,15 @@ impl<A: Allocator + Copy> DecisionMap<A> {
             Some((value, _)) => Some(value),
             None => None,
         }
+    }
+
+    /// Whether all of these variables are false. Reads them up to the first that isn't.
+    pub fn are_false(&self, variables: &[VariableId]) -> bool
+        ensures { result ≡ list_all (λ v. known_false (values_in self.now v)) variables.now }
+    {
+        variables
+            .iter()
+            .all(|variable| self.value(*variable) == Some(false))
     }
 
     /// What was decided of the variable.

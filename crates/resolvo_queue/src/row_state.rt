@@ -2,9 +2,7 @@
 //!
 //! A row is a candidate of a requirement: a variable, in the list of one of the requirement's version sets.
 ghost use Rattle.std.specs.Prelude.{◌≡◌, ◌+◌, ◌<◌, ◌≤◌, ◌^◌, true, map, flat_map, length};
-ghost use Rattle.std.specs.List.{list_all};
 ghost use Rattle.decisions.specs.Decisions.{values_in};
-ghost use Rattle.decisions.specs.Literals.{known_false};
 ghost use Rattle.providers.specs.Provider.{knows_requirement};
 ghost use Rattle.resolvo_queue.specs.Rows.{list_rows, rows, loaded_rows, all_false, AreFew};
 ghost use Rattle.resolvo_queue.specs.RowState.{state_of, counted, with_row, with_rows};
@@ -141,13 +139,5 @@ fn are_rows_false<A: Allocator + Copy>(
     lists
         .iter()
         .take(sets.len())
-        .all(|list| is_list_false(decisions, list))
-}
-
-/// Whether all variables of a list are false.
-fn is_list_false<A: Allocator + Copy>(decisions: &DecisionMap<A>, list: &[VariableId]) -> bool
-    ensures { result ≡ list_all (λ v. known_false (values_in decisions.now v)) list.now }
-{
-    list.iter()
-        .all(|variable| decisions.value(*variable) == Some(false))
+        .all(|list| decisions.are_false(list))
 }

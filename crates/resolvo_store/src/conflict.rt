@@ -1,8 +1,6 @@
 //! Whether a new clause is a conflict.
 ghost use Rattle.std.specs.Prelude.{◌≡◌, map};
-ghost use Rattle.std.specs.List.{list_all};
 ghost use Rattle.decisions.specs.Decisions.{values_in};
-ghost use Rattle.decisions.specs.Literals.{known_false};
 ghost use Rattle.resolvo_queue.specs.Rows.{rows};
 ghost use Rattle.resolvo_store.specs.Outcome.{is_conflict};
 
@@ -30,19 +28,11 @@ pub(crate) fn is_conflict<A: Allocator + Copy>(
         let Some((_, others)) = left.split_first() else {
             return has_rows;
         };
-        if !are_false(decisions, list) {
+        if !decisions.are_false(list) {
             return false;
         }
         has_rows = has_rows || !list.is_empty();
         left = others;
     }
     has_rows
-}
-
-/// Whether all variables are false.
-fn are_false<A: Allocator + Copy>(decisions: &DecisionMap<A>, list: &[VariableId]) -> bool
-    ensures { result ≡ list_all (λ v. known_false (values_in decisions.now v)) list.now }
-{
-    list.iter()
-        .all(|variable| decisions.value(*variable) == Some(false))
 }
