@@ -1,5 +1,7 @@
 -- The exit status of a script.
 use Rattle.std.specs.Prelude.{ℕ, Result, Ok, Err}
+use Rattle.std.specs.declared.io.ErrorKind.{ErrorKind}
+use Rattle.std.specs.declared.io.ErrorKind.TheVariants.{OutOfMemory}
 use Rattle.script_text.specs.declared.fault.LineFault.{LineFault}
 use Rattle.script_text.specs.declared.fault.LineFault.TheVariants as In
 use Rattle.script_text.specs.declared.fault.ScriptFault.{ScriptFault}
@@ -15,3 +17,8 @@ status_of (Err Memory) = 3
 abbrev pub fault_at : ℕ → LineFault → ScriptFault
 fault_at number In.Unreadable = Unreadable number
 fault_at number In.Memory = Memory
+
+-- the fault of a script whose reader failed so, or found no memory for what it read
+abbrev pub fault_of : ErrorKind → ScriptFault
+fault_of OutOfMemory = Memory
+fault_of _ = Device

@@ -1,19 +1,43 @@
 //! The input, read whole.
-ghost use Rattle.std.specs.Prelude.{◌≡◌, ◌⊎◌, IfOk, IfErr, IfSome};
+ghost use Rattle.std.specs.Prelude.{◌≡◌, ◌⊎◌, ◌-◌, IfOk, IfErr, IfSome, OnOk, ◌<◌};
+ghost use Rattle.std.specs.Io.{ReadsAtMost};
+ghost use Rattle.std.specs.Io.KnownBytes.{ReadConsumes};
+ghost use Rattle.script_text.specs.Status.{fault_of};
 ghost use Rattle.script_text.specs.declared.fault.ScriptFault.TheVariants.{Device, Memory};
 
 use crate::fault::ScriptFault;
 use std::alloc::Global;
-use std::io::{ErrorKind, Read};
+use std::io;
+use std::io::{Error, ErrorKind, Read};
 
-/// All bytes of the reader, to its end. A read that was interrupted is tried again. After 2^64 reads a reader that
-/// hasn't ended counts as one that fails.
+/// How many reads a reader has to end in.
+const MOST_READS: u64 = 1 << 32;
+
+/// All bytes of the reader, to its end. A read that was interrupted is tried again. A reader that hasn't ended after 2^32
+/// reads counts as one that fails.
 pub fn read_whole<R: Read>(alloc: Global, reader: &mut R) -> Result<Vec<u8>, ScriptFault>
     ensures ok { IfOk result (λ input. IfSome (R.remaining reader.old) (λ bytes. input.items ≡ bytes)) }
     ensures err { IfErr result (λ e. (e ≡ Device) ⊎ (e ≡ Memory)) }
 {
+    read_within(alloc, reader, MOST_READS)
+}
+
+/// All bytes of the reader, to its end, as [`read_whole`] reads them, but in so many reads at most. That which meets the
+/// end is one of them, and so is one that was interrupted.
+pub fn read_within<R: Read>(
+    alloc: Global,
+    reader: &mut R,
+    reads: u64,
+) -> Result<Vec<u8>, ScriptFault>
+    ensures ok { IfOk result (λ input. IfSome (R.remaining reader.old) (λ bytes. input.items ≡ bytes)) }
+    ensures err { IfErr result (λ e. (e ≡ Device) ⊎ (e ≡ Memory)) }
+{
+    let mut counted = Counted {
+        reader,
+        left: reads,
+    };
     let mut input = Vec::new(alloc);
-    match reader.read_to_end(&mut input) {
+    match counted.read_to_end(&mut input) {
         Ok(_) => Ok(input),
         Err(e) => {
             drop(input);
@@ -22,13 +46,37 @@ pub fn read_whole<R: Read>(alloc: Global, reader: &mut R) -> Result<Vec<u8>, Scr
     }
 }
 
+/// A reader whose reads are counted.
+#[derive(Drop)]
+struct Counted<'a, R> {
+    reader: &'a mut R,
+    /// How many reads are left before one fails.
+    left: u64,
+}
+
+impl<R: Read> Read for Counted<'_, R> {
+    ghost remaining = { λ c. R.remaining c.reader.now };
+
+    fn read(&mut self, buf: &mut [u8]) -> io::Result<usize>
+        ensures bound { ReadsAtMost result buf.new }
+        ensures bytes { ReadConsumes (R.remaining self.old.reader.now) (R.remaining self.new.reader.now) result buf.new }
+        ensures counted { self.new.left ≡ self.old.left - 1 }
+        ensures within { OnOk result (0 < self.old.left) }
+    {
+        if self.left == 0 {
+            return Err(Error::from(ErrorKind::TimedOut));
+        }
+        self.left -= 1;
+        self.reader.read(buf)
+    }
+}
+
 /// The fault of a script whose reader failed so, or found no memory for what it read.
 fn fault_of(kind: ErrorKind) -> ScriptFault
-    ensures { (result ≡ Device) ⊎ (result ≡ Memory) }
+    ensures { result ≡ fault_of kind }
 {
-    if kind == ErrorKind::OutOfMemory {
-        ScriptFault::Memory
-    } else {
-        ScriptFault::Device
+    match kind {
+        ErrorKind::OutOfMemory => ScriptFault::Memory,
+        _ => ScriptFault::Device,
     }
 }

@@ -15,7 +15,7 @@ mod word;
 
 pub use decimal::number;
 pub use fault::{LineFault, ScriptFault, status};
-pub use input::read_whole;
+pub use input::{read_whole, read_within};
 pub use output::{write_much, write_rest};
 pub use statement::{Line, Statement, next_statement};
 pub use word::{is_word, next_word, text_of};
