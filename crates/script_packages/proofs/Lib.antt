@@ -1,3 +1,4 @@
 pub mod Numbering
 pub mod Sorting
 pub mod Spans
+pub mod Unread

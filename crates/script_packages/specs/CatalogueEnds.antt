@@ -1,12 +1,12 @@
 -- Where the catalogue of a script ends, and what it lists by then.
-use Rattle.std.specs.Prelude.{◌≡◌, ℕ, ◌+◌, List, [], ◌∷◌, Option, None, Some, ⊤}
+use Rattle.std.specs.Prelude.{◌≡◌, ℕ, ◌+◌, List, [], ◌∷◌, ◌⊎◌, Option, None, Some, ⊤}
 use Rattle.script_text.specs.declared.fault.ScriptFault.{ScriptFault}
 use Rattle.script_text.specs.declared.fault.ScriptFault.TheVariants as OfScript
 use Rattle.script_packages.specs.declared.packages.Packages.{Packages}
 use Rattle.script_text.specs.declared.statement.Line.{Line}
 use Rattle.script_text.specs.declared.statement.Line.TheVariants.{Skipped, Unreadable, Says}
 use Rattle.script_packages.specs.CatalogueLines.{Said, Lists, Bounds, Unites, Conditions, Strings, Begins, catalogue_line_of}
-use Rattle.script_packages.specs.Catalogues.{listed, AreListed}
+use Rattle.script_packages.specs.Catalogues.{listed, AreListed, CanBeListed}
 use Rattle.script_packages.specs.Listing.{Listing, nothing_listed}
 
 -- what a line does: the catalogue goes on with this listing, its end is here, or the line is unreadable
@@ -55,8 +55,19 @@ FaultyAt l n [] number = ⊥
 FaultyAt l n (line ∷ lines) number =
     OnEffect (effect_of l (catalogue_line_of line)) (λ more. FaultyAt more (n + 1) lines number) ⊥ (number ≡ n + 1)
 
+-- a line says something that can be listed
+abbrev pub SaysEntry : Listing → Line Said → Type 0
+SaysEntry l (Says said) = CanBeListed l said
+SaysEntry l _ = ⊥
+
+-- of lines after this listing one says something that can be listed, and all before it go on
+abbrev pub NeedMemory : Listing → List (List ℕ) → Type 0
+NeedMemory l [] = ⊥
+NeedMemory l (line ∷ lines) = SaysEntry l (catalogue_line_of line)
+    ⊎ OnEffect (effect_of l (catalogue_line_of line)) (λ more. NeedMemory more lines) ⊥ ⊥
+
 -- the fault of a catalogue
 abbrev pub CatalogueFault : List (List ℕ) → ScriptFault → Type 0
 CatalogueFault lines (OfScript.Unreadable number) = FaultyAt nothing_listed 0 lines number
 CatalogueFault lines OfScript.Device = ⊥
-CatalogueFault lines OfScript.Memory = ⊤
+CatalogueFault lines OfScript.Memory = NeedMemory nothing_listed lines

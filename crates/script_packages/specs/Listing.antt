@@ -1,5 +1,6 @@
 -- What the lines of a catalogue make of the packages.
 use Rattle.std.specs.Prelude.{ℕ, Bool, ◌==◌, ◌&&◌, ◌-◌, nat_lt, length, List, [], ◌∷◌, ◌++◌, map, Option, None, Some, is_some, option_map, option_and_then, if◌then◌else◌}
+use Rattle.std.specs.List.{list_all}
 use Rattle.std.specs.Map.{lookup}
 use Rattle.std.specs.Str.{bytes_eq}
 use Rattle.std.specs.String.{string_bytes}
@@ -91,6 +92,10 @@ abbrev pub listed_sets : ℕ → List VersionSetId → List (List ℕ) → Optio
 listed_sets count sets [] = Some sets
 listed_sets count sets (word ∷ words) =
     option_and_then (λ v. listed_sets count (sets ++ record { 0 = v } ∷ []) words) (below count (number_32 word))
+
+-- whether each word is a version set, of so many
+abbrev pub are_sets : ℕ → List (List ℕ) → Bool
+are_sets count words = list_all (λ word. is_some (below count (number_32 word))) words
 
 -- with a union of these version sets, where there are some
 abbrev pub with_some_union : Listing → Option (List VersionSetId) → Option Listing

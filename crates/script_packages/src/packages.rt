@@ -1,12 +1,13 @@
 //! The packages of a script, which are kept in a pool, and what the lines of a catalogue add to them.
 //!
 //! What they answer a store as its provider is in [`provider`](crate::provider).
-ghost use Rattle.std.specs.Prelude.{◌≡◌, ◌<◌, ◌-◌, false, [], All, length, Some, None, string_bytes, IfOk, OnOk, IfErr};
+ghost use Rattle.std.specs.Prelude.{◌≡◌, ◌<◌, ◌-◌, false, true, [], All, length, Some, None, string_bytes, IfOk, OnOk, OnErr, IfErr};
 ghost use Rattle.package_pool.specs.Pool.{IsOfItself, with_string};
 ghost use Rattle.package_pool.specs.PoolProps.{pool_props};
 ghost use Rattle.script_text.specs.declared.fault.LineFault.TheVariants.{Memory, Unreadable};
 ghost use Rattle.script_text.specs.Words.{words};
 ghost use Rattle.script_text.specs.Numbers.{below};
+ghost use Rattle.script_packages.specs.Ids.{are_versions};
 
 use crate::catalogue_line::CatalogueLine;
 use crate::ids::id;
@@ -49,11 +50,12 @@ pub struct Packages {
 impl Packages {
     ghost use Rattle.script_packages.specs.Ids.{number_32};
     ghost use Rattle.script_packages.specs.CatalogueLines.{plain_said};
-    ghost use Rattle.script_packages.specs.Catalogues.{listed};
+    ghost use Rattle.script_packages.specs.Catalogues.{listed, CanBeListed};
     ghost use Rattle.script_packages.specs.Packages.{span_of};
     ghost use Rattle.script_packages.specs.Listing.{listing_of, nothing_listed, named, name_number, has_span, with_pool};
     ghost use Rattle.script_packages.specs.Listing.{with_version, with_span_from, with_set, with_versions, listed_versions};
     ghost use Rattle.script_packages.specs.Listing.{listed_sets, with_some_union, is_made_of_listed, with_listed_condition};
+    ghost use Rattle.script_packages.specs.Listing.{are_sets};
 
     /// No packages.
     pub(crate) fn new(alloc: Global) -> Packages
@@ -83,16 +85,15 @@ impl Packages {
         self.spans.get_copy(&name).is_some()
     }
 
-    /// Adds what a line says.
+    /// Adds what a line says. Where memory is refused, the words that are left are read all the same, so that a line that
+    /// isn't in the format is found; only whether its package is listed already isn't known if its name finds no room.
     pub(crate) fn add(&mut self, line: &CatalogueLine<'_>) -> Result<(), LineFault>
         ensures ok { OnOk result (listed (listing_of self.old) (plain_said line.now) ≡ Some (listing_of self.new)) }
         ensures unreadable { IfErr result (λ e. e ≡ Unreadable → listed (listing_of self.old) (plain_said line.now) ≡ None) }
+        ensures memory { IfErr result (λ e. e ≡ Memory → CanBeListed (listing_of self.old) (plain_said line.now)) }
     {
         match line {
-            CatalogueLine::Package { name, versions } => {
-                let name = self.name(name)?;
-                self.add_versions(name, versions)
-            }
+            CatalogueLine::Package { name, versions } => self.add_package(name, versions),
             CatalogueLine::Set { name, low, high } => {
                 let name = self.name(name)?;
                 let (low, high) = (*low, *high);
@@ -105,11 +106,38 @@ impl Packages {
         }
     }
 
+    /// Adds a package line.
+    #[tactic(auto, using(crate::proofs::Unread::no_package))]
+    fn add_package(&mut self, name: &str, versions: &[u8]) -> Result<(), LineFault>
+        ensures ok { let l = listing_of self.old in OnOk result (with_versions (named l name.now) (name_number l name.now) (words versions.now)
+            ≡ Some (listing_of self.new)) }
+        ensures unreadable { let l = listing_of self.old in IfErr result (λ e. e ≡ Unreadable →
+            with_versions (named l name.now) (name_number l name.now) (words versions.now) ≡ None) }
+        ensures memory { IfErr result (λ e. e ≡ Memory → are_versions (words versions.now) ≡ true) }
+    {
+        match self.list_package(name, versions) {
+            Err(LineFault::Memory) if !are_versions(versions) => Err(LineFault::Unreadable),
+            ended => ended,
+        }
+    }
+
+    /// Lists a package, up to the first word that is no version, or to where memory is refused.
+    fn list_package(&mut self, name: &str, versions: &[u8]) -> Result<(), LineFault>
+        ensures ok { let l = listing_of self.old in OnOk result (with_versions (named l name.now) (name_number l name.now) (words versions.now)
+            ≡ Some (listing_of self.new)) }
+        ensures unreadable { let l = listing_of self.old in IfErr result (λ e. e ≡ Unreadable →
+            with_versions (named l name.now) (name_number l name.now) (words versions.now) ≡ None) }
+    {
+        let name = self.name(name)?;
+        self.add_versions(name, versions)
+    }
+
     /// Gives a name its versions, each of which is a solvable. A name is listed once.
     fn add_versions(&mut self, name: NameId, versions: &[u8]) -> Result<(), LineFault>
         requires { name < length self.old.pool.names }
         ensures ok { OnOk result (with_versions (listing_of self.old) name (words versions.now) ≡ Some (listing_of self.new)) }
         ensures unreadable { IfErr result (λ e. e ≡ Unreadable → with_versions (listing_of self.old) name (words versions.now) ≡ None) }
+        ensures memory { IfErr result (λ e. e ≡ Memory → has_span (listing_of self.old) name ≡ false) }
     {
         if self.has_span(name) {
             return Err(LineFault::Unreadable);
@@ -151,11 +179,27 @@ impl Packages {
     }
 
     /// Adds a union of the version sets in the text, of which there is one at least.
+    #[tactic(auto, using(crate::proofs::Unread::no_union))]
     fn add_union(&mut self, text: &[u8]) -> Result<(), LineFault>
         ensures ok { OnOk result (with_some_union (listing_of self.old) (listed_sets (length self.old.pool.version_sets) [] (words text.now))
             ≡ Some (listing_of self.new)) }
         ensures unreadable { IfErr result (λ e. e ≡ Unreadable →
             with_some_union (listing_of self.old) (listed_sets (length self.old.pool.version_sets) [] (words text.now)) ≡ None) }
+        ensures memory { IfErr result (λ e. e ≡ Memory → are_sets (length self.old.pool.version_sets) (words text.now) ≡ true) }
+    {
+        match self.unite(text) {
+            Err(LineFault::Memory) if !self.are_sets(text) => Err(LineFault::Unreadable),
+            ended => ended,
+        }
+    }
+
+    /// Adds a union, unless a word is no version set, or memory is refused.
+    fn unite(&mut self, text: &[u8]) -> Result<(), LineFault>
+        ensures ok { OnOk result (with_some_union (listing_of self.old) (listed_sets (length self.old.pool.version_sets) [] (words text.now))
+            ≡ Some (listing_of self.new)) }
+        ensures unreadable { IfErr result (λ e. e ≡ Unreadable →
+            with_some_union (listing_of self.old) (listed_sets (length self.old.pool.version_sets) [] (words text.now)) ≡ None) }
+        ensures kept { OnErr result (self.new.pool.version_sets ≡ self.old.pool.version_sets) }
     {
         let sets = self.sets(text)?;
         let Some((first, others)) = sets.split_first() else {
@@ -180,6 +224,20 @@ impl Packages {
             rest = others;
         }
         Ok(sets)
+    }
+
+    /// Whether each word of the text stands for a version set that is there.
+    fn are_sets(&self, text: &[u8]) -> bool
+        ensures { result ≡ are_sets (length self.now.pool.version_sets) (words text.now) }
+    {
+        let mut rest = text;
+        while let Some((word, others)) = next_word(rest) {
+            if self.set(word).is_err() {
+                return false;
+            }
+            rest = others;
+        }
+        true
     }
 
     /// The version set that a word stands for.
@@ -211,6 +269,7 @@ impl Packages {
     fn add_condition(&mut self, condition: Condition) -> Result<(), LineFault>
         ensures ok { OnOk result (with_listed_condition (listing_of self.old) condition ≡ Some (listing_of self.new)) }
         ensures unreadable { IfErr result (λ e. e ≡ Unreadable → with_listed_condition (listing_of self.old) condition ≡ None) }
+        ensures memory { IfErr result (λ e. e ≡ Memory → is_made_of_listed (listing_of self.old) condition ≡ true) }
     {
         if !self.is_made_of_listed(&condition) {
             return Err(LineFault::Unreadable);
@@ -283,4 +342,18 @@ impl Packages {
             .map_err(|_| LineFault::Memory)?;
         Ok(())
     }
+}
+
+/// Whether each word of the text is a version.
+fn are_versions(text: &[u8]) -> bool
+    ensures { result ≡ are_versions (words text.now) }
+{
+    let mut rest = text;
+    while let Some((word, others)) = next_word(rest) {
+        if id::<u32>(word).is_none() {
+            return false;
+        }
+        rest = others;
+    }
+    true
 }

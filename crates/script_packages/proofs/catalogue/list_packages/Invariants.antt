@@ -1,6 +1,6 @@
 use Rattle.std.proofs.Common.{◌+◌, ◌≤◌, length, ℕ, List}
 use Rattle.script_packages.specs.declared.packages.Packages.{Packages}
-use Rattle.script_packages.specs.CatalogueEnds.{NeverBegins, CommandsBegin, FaultyAt}
+use Rattle.script_packages.specs.CatalogueEnds.{NeverBegins, CommandsBegin, FaultyAt, NeedMemory}
 use Rattle.script_packages.specs.Listing.{listing_of, nothing_listed}
 use Rattle.script_text.specs.Lines.{lines as lines_of}
 use Rattle.script_packages.proofs.catalogue.list_packages.Given as goal
@@ -13,6 +13,7 @@ invariant-loop-said l = record {
   begins : (before : ℕ) (left : List (List ℕ)) (packages : Packages) → CommandsBegin (listing_of l.packages) l.count (lines_of l.rest) before left packages
       → CommandsBegin nothing_listed 0 (lines_of l.text) before left packages;
   faulty : (number : ℕ) → FaultyAt (listing_of l.packages) l.count (lines_of l.rest) number → FaultyAt nothing_listed 0 (lines_of l.text) number;
+  need : NeedMemory (listing_of l.packages) (lines_of l.rest) → NeedMemory nothing_listed (lines_of l.text);
 }
 
 abbrev pub decreases-loop-said : goal.decreases-loop-said

@@ -1,0 +1,33 @@
+-- Where a word isn't read, nothing is listed.
+use Rattle.std.proofs.Common.{◌≡◌, ℕ, true, false, List, [], ◌∷◌, ◌++◌, Some, ap, refl}
+use Rattle.std.specs.Prelude.{None, ◌&&◌, is_some, option_map, option_and_then, length}
+use Rattle.std.specs.Prelude.{if◌then◌else◌}
+use Rattle.typed_ids.specs.declared.version_set_id.VersionSetId.{VersionSetId}
+use Rattle.script_text.specs.Numbers.{below}
+use Rattle.script_packages.specs.Ids.{number_32, are_versions}
+use Rattle.script_packages.specs.Listing.{Listing, has_span, listed_versions, with_version, with_versions, with_span_from, listed_sets, are_sets, with_some_union}
+
+no_versions : (l : Listing) (name : ℕ) (words : List (List ℕ)) → are_versions words ≡ false → listed_versions l name words ≡ None
+no_versions l name [] h = let no : true ≡ false = h in cc
+no_versions l name (word ∷ words) h =
+    (elim (number_32 word) as (λ o. (is_some o && are_versions words) ≡ false
+    → option_and_then (λ version. listed_versions (with_version l name version) name words) o ≡ None)
+    [ None ↦ λ h. refl | Some version ↦ λ h. no_versions (with_version l name version) name words h ]) h
+
+pub no_package : (l : Listing) (name : ℕ) (words : List (List ℕ)) → are_versions words ≡ false → with_versions l name words ≡ None
+no_package l name [] h = refl
+no_package l name (word ∷ words) h =
+    elim (has_span l name) as (λ b. (if b then None
+    else option_map (with_span_from name (length l.pool.solvables)) (listed_versions l name (word ∷ words))) ≡ None)
+    [ true ↦ refl | false ↦ ap (option_map (with_span_from name (length l.pool.solvables))) (no_versions l name (word ∷ words) h) ]
+
+no_sets : (count : ℕ) (sets : List VersionSetId) (words : List (List ℕ)) → are_sets count words ≡ false → listed_sets count sets words ≡ None
+no_sets count sets [] h = let no : true ≡ false = h in cc
+no_sets count sets (word ∷ words) h =
+    (elim (below count (number_32 word)) as (λ o. (is_some o && are_sets count words) ≡ false
+    → option_and_then (λ v. listed_sets count (sets ++ record { 0 = v } ∷ []) words) o ≡ None)
+    [ None ↦ λ h. refl | Some v ↦ λ h. no_sets count (sets ++ record { 0 = v } ∷ []) words h ]) h
+
+pub no_union : (l : Listing) (count : ℕ) (words : List (List ℕ)) → are_sets count words ≡ false
+    → with_some_union l (listed_sets count [] words) ≡ None
+no_union l count words h = ap (with_some_union l) (no_sets count [] words h)
