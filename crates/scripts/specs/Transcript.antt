@@ -13,12 +13,17 @@ use Rattle.script_text.specs.declared.statement.Line.TheVariants.{Skipped, Unrea
 use Rattle.scripts.specs.Commands.{command_line_of}
 use Rattle.scripts.specs.Replies.{reply_text}
 
+-- what a line says is a command
+abbrev pub IsCommand : Line (ProgramCommand ℕ) → Type 0
+IsCommand (Says c) = ⊤
+IsCommand _ = ⊥
+
 module _ {N : Type 0} where
-  -- a line that says this is obeyed, and a text grows by the reply's line; or the line is unreadable. Nothing is said
-  -- where memory was refused
+  -- a line that says this is obeyed, and a text grows by the reply's line; or the line is unreadable; or memory was
+  -- refused, which only a command can be
   abbrev pub ObeysLine : {T : Type 0} → Store N ℕ → Line (ProgramCommand ℕ) → List ℕ → Result T LineFault → List ℕ → Store N ℕ
       → Type 0
-  ObeysLine old said text (Err OfLine.Memory) text' new = ⊤
+  ObeysLine old said text (Err OfLine.Memory) text' new = IsCommand said
   ObeysLine old said text (Err OfLine.Unreadable) text' new = (said ≡ Unreadable) × (text' ≡ text)
   ObeysLine old Skipped text (Ok _) text' new = (text' ≡ text) × (new ≡ old)
   ObeysLine old Unreadable text (Ok _) text' new = ⊥

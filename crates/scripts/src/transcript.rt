@@ -1,5 +1,5 @@
 //! Scripts: a catalogue, and then commands, each of which is answered by a line.
-ghost use Rattle.std.specs.Prelude.{◌≡◌, ℕ, List, [], ◌++◌, ◌+◌, ◌^◌, ◌<◌, length, IfSome};
+ghost use Rattle.std.specs.Prelude.{◌≡◌, ℕ, List, [], ◌++◌, ◌+◌, ◌^◌, ◌<◌, ◌⊎◌, length, IfSome, IfOk, IfErr};
 ghost use Rattle.resolvo_store.specs.Store.{new_store};
 ghost use Rattle.script_text.specs.declared.fault.ScriptFault.TheVariants.{Device, Memory};
 ghost use Rattle.script_text.specs.Lines.{lines as lines_of};
@@ -43,6 +43,7 @@ fn name_unreadable(waiting: &mut Vec<u8>, ended: Result<(), ScriptFault>) -> Res
     ensures read { IfRead result (λ faulty. IfRead ended (λ was. (faulty ≡ was) × (waiting.new.items ≡ waiting.old.items ++ faulty_text was))) }
     ensures device { ended ≡ Err Device → result ≡ Err Device }
     ensures memory { ended ≡ Err Memory → result ≡ Err Memory }
+    ensures other { (result ≡ ended) ⊎ (result ≡ Err Memory) }
 {
     if let Err(ScriptFault::Unreadable(number)) = ended {
         push_unreadable(waiting, number)?;
@@ -83,10 +84,18 @@ fn obey_commands<W: Write>(
         commands,
         line_count,
     } = catalogue;
-    let mut store = ClauseStore::new(alloc, packages).map_err(|_| ScriptFault::Memory)?;
+    let mut store = store_over(alloc, packages)?;
     let ended = obey_lines(&mut store, commands, line_count, waiting, writer);
     drop(store);
     ended
+}
+
+/// A new store over the packages.
+fn store_over(alloc: Global, packages: Packages) -> Result<ClauseStore<Packages>, ScriptFault>
+    ensures ok { IfOk result (λ store. script_store store ≡ new_store (provider_of packages)) }
+    ensures err { IfErr result (λ e. e ≡ Memory) }
+{
+    ClauseStore::new(alloc, packages).map_err(|_| ScriptFault::Memory)
 }
 
 /// Obeys the lines in turn, with so many before them.
