@@ -5,13 +5,25 @@
 #![tactic(auto)]
 
 #[cfg(test)]
+mod device_tests;
+#[cfg(test)]
 mod tests;
 
-use scripts::{script, status};
+ghost use Rattle.std.specs.Prelude.{◌≡◌};
+ghost use Rattle.std.specs.Process.{exit_status};
+ghost use Rattle.script_text.specs.Status.{status_of};
+
+use scripts::{ScriptFault, script, status};
 use std::io;
 use std::process::ExitCode;
 
 fn main(rt: HostRuntime) -> ExitCode {
-    let ended = script(rt.alloc(), &mut rt.reader(), &mut io::writer(&rt));
+    exit_code(script(rt.alloc(), &mut rt.reader(), &mut io::writer(&rt)))
+}
+
+/// The exit code of a script that ended so.
+fn exit_code(ended: Result<(), ScriptFault>) -> ExitCode
+    ensures { exit_status result ≡ status_of ended }
+{
     ExitCode::from(status(&ended))
 }

@@ -1,10 +1,8 @@
-//! Scripts and their answers, and devices that fail.
+//! Scripts and their answers.
 use providers::{Interner, Requirement};
 use script_packages::{Packages, read_catalogue};
 use scripts::{ScriptFault, script, status};
 use std::alloc::Global;
-use std::io;
-use std::io::{Error, ErrorKind, Read, Write};
 use std::process::Abort;
 use std::test::Fail;
 use typed_ids::{StoreError, VersionSetId, VersionSetUnionId};
@@ -43,10 +41,10 @@ fn are_answered(rt: &(impl Abort + AllocGlobal), rows: &[Row]) {
 }
 
 /// Refusals, a clause that is falsified, and what takes that back.
-const REFUSALS: &[u8] =
+pub(crate) const REFUSALS: &[u8] =
     b"package a 1 2\nset a 1 3\nbegin\nrequires 0 s0\nload s0\nload u0\nrequires 0 s0 0\nrequires 0 s0\nassign 0 true 0 0\nassign 0 true 0 1\nassign 1 false 0 1\nassign 2 false 0 1\ndecide\nundo-until 0\ndecide\n";
 
-const REFUSALS_ANSWER: &[u8] =
+pub(crate) const REFUSALS_ANSWER: &[u8] =
     b"refused 5\nloaded 1,2\nrefused 3\nrefused 3\nclause 0\nrefused 4\nassigned\nassigned\nassigned\nfalsified 0\nundone\nno decision\n";
 
 #[test]
@@ -62,6 +60,11 @@ fn scripts_are_answered(rt: HostRuntime) -> Result<(), Fail> {
         given(b"begin\nrequires 0\n", b"line 2 unreadable\n", 1),
         given(b"package a 1\npackage a 2\n", b"line 2 unreadable\n", 1),
         given(b"package a\n", b"line 1 unreadable\n", 1),
+        given(b"package a x\n", b"line 1 unreadable\n", 1),
+        given(b"package a 1 x\n", b"line 1 unreadable\n", 1),
+        given(b"package a 1*\n", b"line 1 unreadable\n", 1),
+        given(b"package a 4294967296\n", b"line 1 unreadable\n", 1),
+        given(b"package a 1 4294967296\n", b"line 1 unreadable\n", 1),
         given(b"set a 1 4294967296\n", b"line 1 unreadable\n", 1),
         given(b"set a 4294967295 0\n", b"", 0),
         given(b"begin\nbegin\n", b"line 2 unreadable\n", 1),
@@ -218,6 +221,8 @@ fn catalogues_have_unions_conditions_and_strings(rt: HostRuntime) -> Result<(), 
         given(b"union 0\n", b"line 1 unreadable\n", 1),
         given(b"set a 0 1\nunion\n", b"line 2 unreadable\n", 1),
         given(b"set a 0 1\nunion 0 1\n", b"line 2 unreadable\n", 1),
+        given(b"set a 0 1\nunion 1 0\n", b"line 2 unreadable\n", 1),
+        given(b"set a 0 1\ncondition set 1\n", b"line 2 unreadable\n", 1),
         given(b"condition set 0\n", b"line 1 unreadable\n", 1),
         given(
             b"set a 0 1\ncondition set 0\ncondition and 0 1\n",
@@ -264,95 +269,5 @@ fn long_scripts_are_answered(rt: HostRuntime) -> Result<(), Fail> {
     drop(answer);
     drop(text);
     assert_eq!(&rt; (count, ended), (120000, Ok(())));
-    Ok(())
-}
-
-/// Gives its text byte by byte, with an interruption before each, and then fails.
-#[derive(Drop)]
-struct Failing<'a> {
-    left: &'a [u8],
-    is_interrupted: bool,
-}
-
-impl Read for Failing<'_> {
-    fn read(&mut self, buf: &mut [u8]) -> io::Result<usize> {
-        self.is_interrupted = !self.is_interrupted;
-        if self.is_interrupted {
-            return Err(Error::from(ErrorKind::Interrupted));
-        }
-        match (self.left, buf) {
-            ([first, rest @ ..], [place, ..]) => {
-                *place = *first;
-                self.left = rest;
-                Ok(1)
-            }
-            _ => Err(Error::from(ErrorKind::BrokenPipe)),
-        }
-    }
-}
-
-/// Where a read fails nothing is written, though whole commands were read.
-#[test]
-fn a_reader_fails(rt: HostRuntime) -> Result<(), Fail> {
-    let mut reader = Failing {
-        left: REFUSALS,
-        is_interrupted: false,
-    };
-    let mut answer = Vec::new(rt.alloc());
-    let ended = script(rt.alloc(), &mut reader, &mut answer);
-    let count = answer.len();
-    drop(answer);
-    assert_eq!(&rt; (count, status(&ended)), (0, 2));
-    Ok(())
-}
-
-/// Takes some bytes, three at a time, and then fails.
-#[derive(Drop)]
-struct Full {
-    taken: Vec<u8>,
-    room: usize,
-}
-
-impl Write for Full {
-    fn write(&mut self, buf: &[u8]) -> io::Result<usize> {
-        if self.room == 0 {
-            return Err(Error::from(ErrorKind::StorageFull));
-        }
-        let count = buf.len().min(self.room).min(3);
-        self.taken.extend_from_slice(&buf[..count])?;
-        self.room -= count;
-        Ok(count)
-    }
-
-    fn flush(&mut self) -> io::Result<()> {
-        Ok(())
-    }
-}
-
-/// The exit status over a writer with so much room, how many bytes it took, and whether the answer begins with them.
-fn written(alloc: Global, room: usize) -> (u8, usize, bool) {
-    let mut reader = REFUSALS;
-    let mut writer = Full {
-        taken: Vec::new(alloc),
-        room,
-    };
-    let ended = script(alloc, &mut reader, &mut writer);
-    let is_beginning = REFUSALS_ANSWER.starts_with(writer.taken.as_slice());
-    (status(&ended), writer.taken.len(), is_beginning)
-}
-
-/// What a writer took before it failed is a beginning of the answer.
-#[test]
-fn a_writer_fails(rt: HostRuntime) -> Result<(), Fail> {
-    for room in [0, 1, 10, 99] {
-        assert_eq!(&rt; written(rt.alloc(), room), (2, room, true));
-    }
-    Ok(())
-}
-
-/// Memory that is refused outside a command.
-#[test]
-fn memory_has_a_status(rt: HostRuntime) -> Result<(), Fail> {
-    assert_eq!(&rt; status(&Err(ScriptFault::Memory)), 3);
     Ok(())
 }
