@@ -4,6 +4,7 @@ use Rattle.resolvo_store.specs.declared.command.Command.{Command as ProgramComma
 use Rattle.resolvo_store.specs.Store.{Store}
 use Rattle.script_text.specs.declared.fault.LineFault.{LineFault}
 use Rattle.script_text.specs.declared.fault.LineFault.TheVariants as OfLine
+use Rattle.script_text.specs.declared.fault.ScriptFault.TheVariants as OfScript
 use Rattle.script_text.specs.declared.statement.Line.{Line}
 use Rattle.script_text.specs.declared.statement.Statement.{Statement}
 use Rattle.script_text.specs.declared.statement.Line.TheVariants.{Skipped, Unreadable, Says}
@@ -13,7 +14,7 @@ use Rattle.script_text.specs.Statements.{MeansWords}
 use Rattle.script_text.proofs.Statements.{meant_by}
 use Rattle.scripts.specs.Commands.{command_line_of, command_meant, command_said}
 use Rattle.scripts.specs.Replies.{reply_text}
-use Rattle.scripts.specs.Transcript.{ObeysLine, LineAnswered, Answered, IfRead}
+use Rattle.scripts.specs.Transcript.{IsCommand, BeginsCommand, HasCommand, ObeysLine, LineAnswered, Answered, IfRead}
 
 -- what was written and waits, and then more of it
 pub Writes-trans : (a b c : Option (List ℕ)) (wa wb wc s t : List ℕ) → Writes a wa b wb s → Writes b wb c wc t → Writes a wa c wc (s ++ t)
@@ -33,6 +34,14 @@ Writes-on None b c wa wb wc s h k = tt
 Writes-on (Some xs) None c wa wb wc s h k = absurd h
 Writes-on (Some xs) (Some ys) None wa wb wc s h k = absurd k
 Writes-on (Some xs) (Some ys) (Some zs) wa wb wc s h k = k ∙ append-nil (ys ++ wb) ∙ h
+
+begins : (said : Line (ProgramCommand ℕ)) (after : Type 0) → IsCommand said → BeginsCommand said after
+begins Skipped after h = absurd h
+begins Unreadable after h = absurd h
+begins (Says c) after h = tt
+
+unreadable_lacks_nothing : (number : ℕ) → fault_at number OfLine.Unreadable ≡ OfScript.Memory → ⊥
+unreadable_lacks_nothing number h = cc
 
 module _ {N : Type 0} where
   -- lines were obeyed so far, with this text: how what is left goes on, so all of them do after it
@@ -88,3 +97,24 @@ module _ {N : Type 0} where
         (unreadable_here now (number + 1) (command_line_of line) (λ mid r. Answered mid (number + 1) lines r (Some (number + 1))) (sym (meant_by command_said line said means) ∙ obeyed.0))),
     Writes-trans held held' held' w w' w'' so_far.0 [] so_far.1 (Writes-wait held' w' w'' [] (obeyed.1 ∙ sym (append-nil w'))),
   )
+
+  -- a line for which memory was refused says a command
+  pub command_here : (T : Type 0) (number : ℕ) (fault : LineFault) (now new : Store N ℕ) (left lines : List (List ℕ)) (line : List ℕ) (said : Line Statement)
+      (w w' : List ℕ) → left ≡ line ∷ lines → MeansWords line said → ObeysLine {T = T} now (command_meant said) w (Err fault) w' new
+      → fault_at number fault ≡ OfScript.Memory → HasCommand left
+  command_here T number OfLine.Unreadable now new left lines line said w w' behind means obeyed memory = absurd (unreadable_lacks_nothing number memory)
+  command_here T number OfLine.Memory now new left lines line said w w' behind means obeyed memory =
+      subst HasCommand (sym behind) (begins (command_line_of line) (HasCommand lines) (subst IsCommand (meant_by command_said line said means) obeyed))
+
+  passes : {T : Type 0} (now new : Store N ℕ) (said : Line (ProgramCommand ℕ)) (w w' : List ℕ) (t : T) (after : Type 0)
+      → ObeysLine now said w (Ok t) w' new → after → BeginsCommand said after
+  passes now new Skipped w w' t after h more = more
+  passes now new Unreadable w w' t after h more = absurd h
+  passes now new (Says c) w w' t after h more = tt
+
+  -- a command after a line that was obeyed
+  pub command_after : {T : Type 0} (now new : Store N ℕ) (left lines : List (List ℕ)) (line : List ℕ) (said : Line Statement) (w w' : List ℕ) (t : T)
+      → left ≡ line ∷ lines → MeansWords line said → ObeysLine now (command_meant said) w (Ok t) w' new → HasCommand lines → HasCommand left
+  command_after {T} now new left lines line said w w' t behind means obeyed more =
+      subst HasCommand (sym behind) (passes now new (command_line_of line) w w' t (HasCommand lines)
+      (subst (λ l. ObeysLine {T = T} now l w (Ok t) w' new) (meant_by command_said line said means) obeyed) more)

@@ -18,6 +18,17 @@ abbrev pub IsCommand : Line (ProgramCommand ℕ) → Type 0
 IsCommand (Says c) = ⊤
 IsCommand _ = ⊥
 
+-- a line says a command, or it is skipped and this holds of those after it
+abbrev pub BeginsCommand : Line (ProgramCommand ℕ) → Type 0 → Type 0
+BeginsCommand Skipped after = after
+BeginsCommand Unreadable after = ⊥
+BeginsCommand (Says c) after = ⊤
+
+-- of these lines one says a command, and none before it is unreadable
+abbrev pub HasCommand : List (List ℕ) → Type 0
+HasCommand [] = ⊥
+HasCommand (line ∷ lines) = BeginsCommand (command_line_of line) (HasCommand lines)
+
 module _ {N : Type 0} where
   -- a line that says this is obeyed, and a text grows by the reply's line; or the line is unreadable; or memory was
   -- refused, which only a command can be

@@ -7,7 +7,7 @@ ghost use Rattle.script_text.specs.Output.{Writes};
 ghost use Rattle.scripts.specs.Commands.{command_meant};
 ghost use Rattle.scripts.specs.ScriptStore.{script_store, provider_of};
 ghost use Rattle.scripts.specs.Scripts.{ScriptAnswered, faulty_text};
-ghost use Rattle.scripts.specs.Transcript.{ObeysLine, Answered, IfRead};
+ghost use Rattle.scripts.specs.Transcript.{ObeysLine, Answered, HasCommand, IfRead};
 
 use crate::command_line::command_line;
 use crate::reply_line::{push_reply, push_unreadable};
@@ -107,8 +107,9 @@ fn obey_lines<W: Write>(
     writer: &mut W,
 ) -> Result<(), ScriptFault>
     requires { before + length lines.now < 2 ^ 64 }
-    ensures { IfRead result (λ faulty. (text : List ℕ) × Answered (script_store store.old) before (lines_of lines.now) text faulty
+    ensures read { IfRead result (λ faulty. (text : List ℕ) × Answered (script_store store.old) before (lines_of lines.now) text faulty
         × Writes (W.contents writer.old) waiting.old.items (W.contents writer.new) waiting.new.items text) }
+    ensures memory { result ≡ Err Memory → HasCommand (lines_of lines.now) }
 {
     let mut number = before;
     let mut rest = lines;

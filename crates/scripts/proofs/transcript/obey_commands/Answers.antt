@@ -11,4 +11,4 @@ returns g c =
     subst (λ (st : Store ℕ ℕ). IfRead ended.result (λ faulty. (text : List ℕ)
     × Answered st c.args.catalogue.line_count (lines_of c.args.catalogue.commands.now) text faulty
     × Writes (g.W.Write.contents c.args.writer.now) c.args.waiting.now.items (g.W.Write.contents ended.new.writer) ended.new.waiting.items text))
-    c.in_ok-store.ensures.ok ended.ensures
+    c.in_ok-store.ensures.ok ended.ensures.read
