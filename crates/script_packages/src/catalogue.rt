@@ -27,14 +27,20 @@ pub fn read_catalogue(alloc: Global, text: &[u8]) -> Result<Option<Catalogue<'_>
     ensures err { IfErr result (CatalogueFault (lines_of text.now)) }
 {
     let mut packages = Packages::new(alloc);
-    let Some((line_count, commands)) = list_packages(&mut packages, text)? else {
-        return Ok(None);
-    };
-    Ok(Some(Catalogue {
-        packages,
-        commands,
-        line_count,
-    }))
+    let listed = list_packages(&mut packages, text);
+    if let Ok(Some((line_count, commands))) = listed {
+        return Ok(Some(Catalogue {
+            packages,
+            commands,
+            line_count,
+        }));
+    }
+    // one drop for both: a drop spells out each part of the packages
+    drop(packages);
+    match listed {
+        Err(fault) => Err(fault),
+        Ok(_) => Ok(None),
+    }
 }
 
 /// Lists what the lines say, up to `begin`, in packages that list nothing yet. Answers how many lines that took, and the
