@@ -1,13 +1,11 @@
-//! The library as who embeds it sees it: a provider, callers that are generic in it, a small search, and a script of
-//! commands. Each crate, item and definition is named through a door: `resolvo_ids`, `resolvo_pool`, `resolvo_clauses`,
-//! `resolvo_queue` and `resolvo_store`. docs/USING.md quotes this crate.
+//! The library as who embeds it sees it: a provider, callers that are generic in it, and a small search. Each crate, item
+//! and definition is named through a door: `resolvo_ids`, `resolvo_pool`, `resolvo_clauses`, `resolvo_queue` and
+//! `resolvo_store`. docs/USING.md quotes this crate, and `doors_runs` runs it.
 #![tactic(auto)]
 
 mod callers;
 mod searching;
 mod shelf;
-#[cfg(test)]
-mod tests;
 
 pub use callers::{give, load, may_pass, register, require};
 pub use searching::{SearchEnd, ask, rule_out, search};

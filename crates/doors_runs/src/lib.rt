@@ -1,0 +1,6 @@
+//! Runs of the user in `doors_tests`: its provider, its callers and its search over a store. They are a crate of their
+//! own, so that the user is proved once.
+#![tactic(auto)]
+
+#[cfg(test)]
+mod tests;
