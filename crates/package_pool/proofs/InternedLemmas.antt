@@ -1,8 +1,10 @@
 -- Lists in which equal values stand once, where their values are seen in another way.
-use Rattle.std.proofs.Common.{◌≡◌, ℕ, zero, suc, Bool, true, false, not, cond, ◌||◌, List, [], ◌∷◌, ◌++◌, ◌+◌, map, Some, refl, ap, arith, add_comm, add-one, ◌∙◌}
-use Rattle.std.specs.Prelude.{slice_get}
+use Rattle.std.proofs.Common.{◌≡◌, ℕ, suc, Bool, true, false, not, cond, ◌||◌, List, [], ◌∷◌, ◌++◌, ◌+◌, map, Option, Some, refl, sym, ap, add_comm, add-one, ◌∙◌}
+use Rattle.std.specs.Prelude.{slice_get, unwrap_or}
+use Rattle.std.specs.List.{find}
+use Rattle.std.specs.Cmp.{IsPartialEquivalence, per_alike}
 use Rattle.std.proofs.lemmas.List.{map-append}
-use Rattle.package_pool.specs.Interned.{has_same, interned, interned_place}
+use Rattle.package_pool.specs.Interned.{has_same, interned, interned_place, first_same}
 
 -- values are equal exactly if what is seen of them is
 module _ {X Y : Type 0} (view : X → Y) (eq : X → X → Bool) (same : Y → Y → Bool) (agree : (x y : X) → eq x y ≡ same (view x) (view y)) where
@@ -41,44 +43,44 @@ module _ {X : Type 0} (eq same : X → X → Bool) (agree : (x y : X) → eq x y
   interned_by_test xs x = ap (λ b. cond b xs (xs ++ x ∷ [])) (has_by_test xs x)
 
 -- what an interned value gets
-module _ {X : Type 0} (same : X → X → Bool) (x : X) (itself : same x x ≡ true) where
-  place_push : (list : List X) → interned_place same (list ++ x ∷ []) x ≡ interned_place same list x
-  place_push [] = ap (λ b. cond (not b) 1 0) itself
-  place_push (k ∷ ks) = ap (λ n. cond (not (same x k)) (1 + n) 0) (place_push ks)
+module _ {X : Type 0} (same : X → X → Bool) (x : X) where
+  stands_behind : (b : Bool) (k : X) (ks : List X) (place : ℕ) (found : Option X) → slice_get (cond b ks (ks ++ x ∷ [])) place ≡ found
+      → slice_get (cond b (k ∷ ks) (k ∷ ks ++ x ∷ [])) (suc place) ≡ found
+  stands_behind true k ks place found h = h
+  stands_behind false k ks place found h = h
 
-  place_either : (b : Bool) (list : List X) → interned_place same (cond b list (list ++ x ∷ [])) x ≡ interned_place same list x
-  place_either true list = refl
-  place_either false list = place_push list
+  -- at its place stands the first equal value
+  pub first_stands : (list : List X) → slice_get (interned same list x) (interned_place same list x) ≡ Some (first_same same list x)
+  first_stands [] = refl
+  first_stands (k ∷ ks) =
+      elim (same x k) as (λ b. slice_get (cond (b || has_same same ks x) (k ∷ ks) (k ∷ ks ++ x ∷ [])) (cond (not b) (1 + interned_place same ks x) 0) ≡ Some (unwrap_or (cond b (Some k) (find (same x) ks)) x)) [
+        | true ↦ refl
+        | false ↦ rw (add_comm 1 (interned_place same ks x), add-one) (stands_behind (has_same same ks x) k ks (interned_place same ks x) (Some (first_same same ks x)) (first_stands ks))
+      ]
 
-  -- the second time it has the same place
-  pub place_again : (list : List X) → interned_place same (interned same list x) x ≡ interned_place same list x
-  place_again list = place_either (has_same same list x) list
+  module _ (itself : same x x ≡ true) where
+    place_push : (list : List X) → interned_place same (list ++ x ∷ []) x ≡ interned_place same list x
+    place_push [] = ap (λ b. cond (not b) 1 0) itself
+    place_push (k ∷ ks) = ap (λ n. cond (not (same x k)) (1 + n) 0) (place_push ks)
 
-  -- an equal value stands at the place
-  abbrev pub StandsAt : ℕ → List X → Type 0
-  StandsAt place list = (k : X) × (slice_get list place ≡ Some k) × (same x k ≡ true)
+    place_either : (b : Bool) (list : List X) → interned_place same (cond b list (list ++ x ∷ [])) x ≡ interned_place same list x
+    place_either true list = refl
+    place_either false list = place_push list
 
-  stands_behind : (b : Bool) (k : X) (ks : List X) (place : ℕ) → StandsAt place (cond b ks (ks ++ x ∷ [])) → StandsAt (suc place) (cond b (k ∷ ks) (k ∷ ks ++ x ∷ []))
-  stands_behind true k ks place h = h
-  stands_behind false k ks place h = h
+    -- the second time it has the same place
+    pub place_again : (list : List X) → interned_place same (interned same list x) x ≡ interned_place same list x
+    place_again list = place_either (has_same same list x) list
 
-  pub stands : (list : List X) → StandsAt (interned_place same list x) (interned same list x)
-  stands [] = (x, refl, itself)
-  stands (k ∷ ks) =
-      elim (same x k) as (λ b. same x k ≡ b → StandsAt (cond (not b) (1 + interned_place same ks x) 0) (cond (b || has_same same ks x) (k ∷ ks) (k ∷ ks ++ x ∷ []))) [
-        | true ↦ λ h. (k, refl, h)
-        | false ↦ λ h. rw (add_comm 1 (interned_place same ks x), add-one) (stands_behind (has_same same ks x) k ks (interned_place same ks x) (stands ks))
-      ] refl
+-- so has an equal value
+module _ {X : Type 0} (same : X → X → Bool) (laws : IsPartialEquivalence same) (x y : X) (equal : same x y ≡ true) where
+  place_of_equal : (list : List X) → interned_place same list y ≡ interned_place same list x
+  place_of_equal [] = refl
+  place_of_equal (k ∷ ks) =
+      ap (λ b. cond (not b) (1 + interned_place same ks y) 0) (sym (per_alike laws x y k equal))
+      ∙ ap (λ n. cond (not (same x k)) (1 + n) 0) (place_of_equal ks)
 
-  kept_push : (list : List X) (place : ℕ) (k : X) → slice_get list place ≡ Some k → slice_get (list ++ x ∷ []) place ≡ Some k
-  kept_push [] place k h = absurd (grind arith)
-  kept_push (y ∷ ys) zero k h = h
-  kept_push (y ∷ ys) (suc place) k h = kept_push ys place k h
+  itself : same x x ≡ true
+  itself = laws.trans x y x equal (laws.symm y x ∙ equal)
 
-  kept_either : (b : Bool) (list : List X) (place : ℕ) (k : X) → slice_get list place ≡ Some k → slice_get (cond b list (list ++ x ∷ [])) place ≡ Some k
-  kept_either true list place k h = h
-  kept_either false list place k h = kept_push list place k h
-
-  -- what stood at a place stands there
-  pub kept : (list : List X) (place : ℕ) (k : X) → slice_get list place ≡ Some k → slice_get (interned same list x) place ≡ Some k
-  kept list = kept_either (has_same same list x) list
+  pub place_of_second : (list : List X) → interned_place same (interned same list x) y ≡ interned_place same list x
+  place_of_second list = place_of_equal (interned same list x) ∙ place_again same x itself list

@@ -1,3 +1,4 @@
 pub mod ConditionLemmas
 pub mod InternedLemmas
+pub mod LaterLemmas
 pub mod PoolLemmas

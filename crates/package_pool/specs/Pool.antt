@@ -26,6 +26,19 @@ Placed {X} P list = (place : ℕ) (x : X) → slice_get list place ≡ Some x �
 abbrev pub nothing : {N VS V : Type 0} → Lists N VS V
 nothing = record { strings = []; names = []; solvables = []; version_sets = []; unions = []; conditions = [] }
 
+-- what was there, and perhaps more behind it
+abbrev pub IsExtended : {X : Type 0} → List X → List X → Type 0
+IsExtended {X} old new = (more : List X) × (new ≡ old ++ more)
+
+-- the second pool is the first one later on
+pub record IsLater {N VS V : Type 0} (p q : Lists N VS V) : Type 0 where
+  pub strings : IsExtended p.strings q.strings
+  pub names : IsExtended p.names q.names
+  pub solvables : IsExtended p.solvables q.solvables
+  pub version_sets : IsExtended p.version_sets q.version_sets
+  pub unions : IsExtended p.unions q.unions
+  pub conditions : IsExtended p.conditions q.conditions
+
 -- a set of one package is another set of another one
 abbrev pub same_set : {VS : Type 0} → (VS → VS → Bool) → ℕ × VS → ℕ × VS → Bool
 same_set same a b = (a.0 == b.0) && same a.1 b.1

@@ -1,1 +1,2 @@
-pub mod Twice
+pub mod FirstStays
+pub mod NewEachTime

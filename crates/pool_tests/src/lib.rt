@@ -2,7 +2,9 @@
 #![tactic(auto)]
 
 mod callers;
+mod each_kind;
 mod few_words;
+mod kinds;
 mod map_callers;
 #[cfg(test)]
 mod maps;
@@ -14,7 +16,11 @@ mod pool;
 mod shown;
 #[cfg(test)]
 mod texts;
+#[cfg(test)]
+mod twice;
 
-pub use callers::interns_once;
+pub use callers::{Twice, interned_twice};
+pub use each_kind::{Conditions, Names, Solvables, Strings, Unions, VersionSets};
 pub use few_words::FewWords;
+pub use kinds::{Kind, Seen};
 pub use map_callers::{clear, count_up};

@@ -1,7 +1,6 @@
 //! The pool with ample memory: none of its calls is refused, and the answers are as wanted.
-ghost use Rattle.std.specs.Prelude.{◌≡◌, ◌<◌, length, string_bytes, IfOk};
+ghost use Rattle.std.specs.Prelude.{◌<◌, length};
 
-use crate::callers::interns_once;
 use crate::noted::{Noted, with_note};
 use package_pool::{NameText, Pool};
 use providers::Condition;
@@ -13,9 +12,7 @@ use typed_ids::{
 };
 
 /// The text, in memory of its own.
-fn owned(alloc: Global, text: &str) -> Result<String, StoreError>
-    ensures { IfOk result (λ copy. string_bytes copy ≡ text.now) }
-{
+pub(crate) fn owned(alloc: Global, text: &str) -> Result<String, StoreError> {
     Ok(String::from_str(alloc, text)?)
 }
 
@@ -307,23 +304,4 @@ fn set_note(pool: &Pool<Noted, Noted>, set: VersionSetId) -> Option<(u32, u32)> 
     } else {
         None
     }
-}
-
-#[test]
-fn a_string_that_comes_twice_has_one_id(rt: HostRuntime) -> Result<(), Fail> {
-    sees(comes_twice(rt.alloc()), true)
-}
-
-/// Whether `ab` that comes twice has one id.
-fn comes_twice(alloc: Global) -> Result<bool, StoreError> {
-    let mut pool: Pool<Noted> = Pool::new(alloc);
-    let is_one = interned_twice(alloc, &mut pool);
-    drop(pool);
-    is_one
-}
-
-fn interned_twice(alloc: Global, pool: &mut Pool<Noted>) -> Result<bool, StoreError> {
-    let first = owned(alloc, "ab")?;
-    let second = owned(alloc, "ab")?;
-    interns_once(pool, "ab", first, second)
 }
