@@ -1,6 +1,6 @@
 -- What a map of requirements ends as, where a `&mut` to one of its values was returned.
 use Rattle.std.specs.Prelude.{◌≡◌, List, Option, Result}
-use Rattle.std.specs.Borrow.{Lends, LendsSo, LendsIfOk, Fml, RattleType, MutBor}
+use Rattle.std.specs.Borrow.{LendsSo, LendsIfOk, Fml, RattleType, MutBor}
 use Rattle.std.specs.Map.{set_value}
 use Rattle.std.specs.declared.alloc.Allocator.{Ghosts}
 use Rattle.typed_ids.specs.declared.error.StoreError.{StoreError}
@@ -18,7 +18,3 @@ module _ (V A : RattleType) (alloc : Ghosts A.Denot) (m : MutBor (List (Requirem
   -- the same, where a requirement without an entry gets one at the end; at `Err` the map stays
   abbrev pub lends_inserted : Result (MutBor V.Denot) StoreError → Fml
   lends_inserted r = LendsIfOk (the_row V A alloc) V m r (with_entry m.now requirement) m.now
-
-  -- the same, of a requirement that has an entry
-  abbrev pub lends_known : MutBor V.Denot → Fml
-  lends_known r = Lends (the_row V A alloc) V m r (set_value (same_requirement requirement) m.now)

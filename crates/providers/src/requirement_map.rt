@@ -1,7 +1,8 @@
 //! Maps that are kept by requirements.
 ghost use Rattle.std.specs.Prelude.{◌≡◌, [], Some, None, IsOk, IsSome, OnOk, OnErr, IfOk, IfErr};
 ghost use Rattle.std.specs.Option.{option_copied, option_copied_mut, MatchOption, ForNone};
-ghost use Rattle.std.specs.Map.{lookup};
+ghost use Rattle.std.specs.List.{position_or_len};
+ghost use Rattle.std.specs.Map.{keys_of, lookup};
 ghost use Rattle.typed_ids.specs.declared.error.StoreError.TheVariants.{OutOfMemory};
 ghost use Rattle.providers.specs.RequirementMap.{with_entry};
 ghost use Rattle.providers.specs.Requirement.{same_requirement};
@@ -31,7 +32,7 @@ impl<V, A: Allocator> Model for RequirementMap<V, A> {
 
 impl<V: Drop, A: Allocator + Copy> RequirementMap<V, A> {
     ghost use Rattle.std.specs.Borrow.{sem};
-    ghost use Rattle.providers.specs.RequirementMapLends.{lends_value, lends_known, lends_inserted};
+    ghost use Rattle.providers.specs.RequirementMapLends.{lends_value, lends_inserted};
 
     /// The empty map. Takes no memory.
     pub fn new(alloc: A) -> Self
@@ -82,32 +83,25 @@ impl<V: Drop, A: Allocator + Copy> RequirementMap<V, A> {
         }
     }
 
-    /// Gives a requirement that has no value what `default` answers, which isn't called by a refusal.
-    fn add_with<F: FnOnce() -> V>(
+    /// The place of the requirement's entry. A requirement without one is first given what `default` answers: room is
+    /// taken before it is called, and nothing is refused after.
+    fn place_with<F: FnOnce() -> V>(
         &mut self,
         requirement: Requirement,
         default: F,
-    ) -> Result<(), StoreError>
-        requires absent { lookup (same_requirement requirement) self.old ≡ None }
-        requires callable { F.pre default }
-        ensures ok { OnOk result ((value : V) ×
-            F.post default value × (self.new ≡ with_entry self.old requirement value)) }
+    ) -> Result<usize, StoreError>
+        requires { ForNone (lookup (same_requirement requirement) self.old) (F.pre default) }
+        ensures place { IfOk result (λ place. place ≡ position_or_len (same_requirement requirement) (keys_of self.old)) }
+        ensures ok { OnOk result ((value : V) × (self.new ≡ with_entry self.old requirement value)
+            × MatchOption (lookup (same_requirement requirement) self.old) (F.post default value) (λ earlier. value ≡ earlier)) }
         ensures err { OnErr result (self.new ≡ self.old) }
         ensures memory { IfErr result (λ e. e ≡ OutOfMemory) }
+        ensures known { IsSome (lookup (same_requirement requirement) self.old) → IsOk result }
     {
-        self.entries.reserve(1)?;
-        self.entries.insert(requirement, default())?;
-        Ok(())
-    }
-
-    /// The value of a requirement that has one, to be changed.
-    fn value_mut(&mut self, requirement: Requirement) -> &mut V
-        requires { IsSome (lookup (same_requirement requirement) self.old) }
-        ensures* writes_back { sem 𝓛 (lends_known V.row A.row A.Allocator self.entry requirement result) }
-        ensures value { lookup (same_requirement requirement) self.old ≡ Some result.now }
-    {
-        let place = self.entries.get_index_of(&requirement).unwrap();
-        &mut self.entries[place]
+        let entry = self.entries.entry(requirement)?;
+        let place = entry.index();
+        entry.or_insert_with(default);
+        Ok(place)
     }
 
     /// The requirement's value, to be changed. A requirement without one is first given what `default` answers, which
@@ -124,10 +118,8 @@ impl<V: Drop, A: Allocator + Copy> RequirementMap<V, A> {
         ensures memory { IfErr result (λ e. e ≡ OutOfMemory) }
         ensures known { IsSome (lookup (same_requirement requirement) self.old) → IsOk result }
     {
-        if self.get(requirement).is_none() {
-            self.add_with(requirement, default)?;
-        }
-        Ok(self.value_mut(requirement))
+        let place = self.place_with(requirement, default)?;
+        Ok(&mut self.entries[place])
     }
 }
 
