@@ -5,7 +5,7 @@ use refusing::Refusing;
 use std::alloc::Allocator;
 use std::cell::Cell;
 use std::test::Fail;
-use test_checks::sees;
+use test_checks::{is_same, sees};
 use typed_ids::{InsertError, StoreError, VersionSetId, VersionSetUnionId};
 
 #[test]
@@ -100,29 +100,88 @@ fn refused<B: Allocator>(
 }
 
 #[test]
-fn a_refused_map_asks_for_no_value(rt: HostRuntime) {
-    let heap = Refusing::new(rt.alloc());
-    assert_eq!(rt; asked_twice(&heap), [(false, false), (true, true)]);
+fn a_refused_map_asks_for_no_value(rt: HostRuntime) -> Result<(), Fail> {
+    let wanted = Growth {
+        refused: 1,
+        is_refused_in_part: false,
+        kept: SETS - 1,
+    };
+    for number in 1..100u64 {
+        let heap = Refusing::new(rt.alloc());
+        let grown = grown(&heap, number);
+        let is_refused = !heap.is_armed();
+        drop(heap);
+        if !is_refused {
+            return is_same(number > 10, true);
+        }
+        is_same(grown, wanted)?;
+    }
+    Err(Fail::new("each map met a refusal"))
 }
 
-/// Whether a value is lent, and whether it was asked for: where the first request is refused, and where none is.
-fn asked_twice<B: Allocator>(heap: &Refusing<B>) -> [(bool, bool); 2] {
+/// How many version sets a map is given a default at, so that it grows more than once.
+const SETS: u32 = 40;
+
+/// What is seen of a new map that is given a default at each version set.
+#[derive(Clone, Copy, Debug, PartialEq, Eq)]
+struct Growth {
+    /// How many calls were refused.
+    refused: u32,
+    /// Whether one of these asked for its default, or left an entry.
+    is_refused_in_part: bool,
+    /// How many version sets then have their default.
+    kept: u32,
+}
+
+/// What is seen where the request of this number is refused.
+fn grown<B: Allocator>(heap: &Refusing<B>, number: u64) -> Growth {
     let mut map: RequirementMap<u32, &Refusing<B>> = RequirementMap::new(heap);
-    heap.arm(1);
-    let refused = asked(&mut map);
-    heap.arm(0);
-    let lent = asked(&mut map);
+    heap.arm(number);
+    let grown = grow(&mut map);
     drop(map);
-    [refused, lent]
+    grown
 }
 
-fn asked<A: Allocator + Copy>(map: &mut RequirementMap<u32, A>) -> (bool, bool) {
+fn grow<A: Allocator + Copy>(map: &mut RequirementMap<u32, A>) -> Growth {
+    let mut refused: u32 = 0;
+    let mut is_refused_in_part = false;
+    for set in 0..SETS {
+        let (is_lent, is_asked) = asked(map, set);
+        if !is_lent {
+            refused = refused.saturating_add(1);
+            is_refused_in_part = is_refused_in_part || is_asked || value_of(map, set).is_some();
+        }
+    }
+    Growth {
+        refused,
+        is_refused_in_part,
+        kept: kept_of(map),
+    }
+}
+
+/// Whether a version set's value is lent, and whether its default is asked for, which is the set's number.
+fn asked<A: Allocator + Copy>(map: &mut RequirementMap<u32, A>, set: u32) -> (bool, bool) {
     let asked = Cell::new(false);
-    let lent = map.get_or_insert_with(Requirement::default(), || {
+    let lent = map.get_or_insert_with(Requirement::from(VersionSetId(set)), || {
         asked.set(true);
-        9
+        set
     });
     (lent.is_ok(), asked.get())
+}
+
+fn value_of<A: Allocator + Copy>(map: &RequirementMap<u32, A>, set: u32) -> Option<u32> {
+    map.get(Requirement::from(VersionSetId(set))).copied()
+}
+
+/// How many version sets have their default.
+fn kept_of<A: Allocator + Copy>(map: &RequirementMap<u32, A>) -> u32 {
+    let mut kept: u32 = 0;
+    for set in 0..SETS {
+        if value_of(map, set) == Some(set) {
+            kept = kept.saturating_add(1);
+        }
+    }
+    kept
 }
 
 #[test]
