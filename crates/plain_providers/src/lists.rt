@@ -1,5 +1,5 @@
 //! A provider of plain lists.
-ghost use Rattle.std.specs.Prelude.{◌≡◌, ◌<◌, ◌≤◌, ◌^◌, ◌==◌, ◌&&◌, [], true, All, map, length, reverse, refl, IfOk, OnOk, OnErr, IfErr, nat_lt};
+ghost use Rattle.std.specs.Prelude.{◌≡◌, ◌<◌, ◌≤◌, ◌^◌, ◌==◌, ◌&&◌, [], Some, true, All, map, length, reverse, refl, IfOk, OnOk, OnErr, IfErr, nat_lt};
 ghost use Rattle.typed_ids.specs.declared.error.StoreError.TheVariants.{OutOfMemory};
 ghost use Rattle.providers.specs.Provider.{filtered};
 ghost use Rattle.providers.specs.Texts.{IsAppended, IsSameText};
@@ -73,6 +73,8 @@ impl<A: Allocator + Copy> Interner for Lists<A> {
       version_set = λ v. [];
       string = λ s. [];
     } };
+
+    ghost own_merged = { λ p list. Some every_name };
 
     ghost solvable_names_known = { λ p s h. refl };
 

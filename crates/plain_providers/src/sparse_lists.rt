@@ -34,6 +34,8 @@ impl<A: Allocator + Copy> Interner for SparseLists<A> {
 
     ghost texts = { λ p. ⟦<Lists<A> as Interner>⟧.texts p.0 };
 
+    ghost own_merged = { λ p list. ⟦<Lists<A> as Interner>⟧.own_merged p.0 list };
+
     ghost solvable_names_known = { λ p s h. refl };
 
     ghost set_names_known = { λ p v h. refl };

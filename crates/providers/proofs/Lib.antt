@@ -1,2 +1,4 @@
 pub mod EntryLemmas
+pub mod GatherLemmas
 pub mod JoinLemmas
+pub mod MergedLemmas

@@ -1,8 +1,8 @@
 //! The ids of an ecosystem: which are in use, how they belong together, and what texts stand for them.
-ghost use Rattle.std.specs.Prelude.{◌≡◌, true, All, OnOk, OnErr, IfErr};
+ghost use Rattle.std.specs.Prelude.{◌≡◌, ℕ, List, Option, None, true, All, OnOk, OnErr, IfErr};
 ghost use Rattle.typed_ids.specs.declared.error.StoreError.TheVariants.{OutOfMemory};
 ghost use Rattle.providers.specs.Provider.{Universe, AreSolvableNamesKnown, AreSetNamesKnown, AreUnionSetsKnown, AreOperandsKnown};
-ghost use Rattle.providers.specs.Texts.{Texts, IsAppended, IsContinued, IsSameText};
+ghost use Rattle.providers.specs.Texts.{Texts, IsAppended, IsContinuedBy, IsSameText, IsOwnOr, IsSolvableName, IsMergedByDefault};
 
 use crate::condition::Condition;
 use crate::merged_text::MergedText;
@@ -29,6 +29,12 @@ pub trait Interner {
 
     /// The texts of known ids.
     ghost texts: { Self → Texts Self.NameId Self.SolvableId };
+
+    /// The text of [`Interner::display_solvable_name`], where it isn't the default's.
+    ghost own_solvable_name: { Self → Self.SolvableId → Option (List ℕ) } = { λ _ _. None };
+
+    /// The text of [`Interner::display_merged_solvables`], where it isn't the default's.
+    ghost own_merged: { Self → List Self.SolvableId → Option (List ℕ) } = { λ _ _. None };
 
     /// Whether the string is known.
     fn knows_string(&self, string: StringId) -> bool
@@ -118,14 +124,16 @@ pub trait Interner {
         ensures err { OnErr result (IsSameText out.old out.new) }
         ensures memory { IfErr result (λ e. e ≡ OutOfMemory) };
 
-    /// Appends the name of a solvable's package; by default as [`Interner::display_name`] does.
+    /// Appends the name of a solvable's package; by default as [`Interner::display_name`] does. Where an override
+    /// appends another text, `own_solvable_name` tells it.
     fn display_solvable_name(
         &self,
         solvable: Self::SolvableId,
         out: &mut String<Self::Alloc>,
     ) -> Result<(), StoreError>
         requires { (universe self.now).knows_solvable solvable ≡ true }
-        ensures ok { OnOk result (IsContinued out.old out.new) }
+        ensures ok { OnOk result (IsContinuedBy out.old out.new
+            (IsSolvableName (universe self.now) (texts self.now) (own_solvable_name self.now) solvable)) }
         ensures err { OnErr result (IsSameText out.old out.new) }
         ensures memory { IfErr result (λ e. e ≡ OutOfMemory) }
     {
@@ -134,24 +142,30 @@ pub trait Interner {
 
     /// Appends a text for solvables of one package together. By default that is nothing for none, and else the text of
     /// [`Interner::display_solvable_name`] for the first, a blank, and the solvables' distinct texts in ascending order
-    /// of their bytes, with ` | ` between them.
+    /// of their bytes, with ` | ` between them. Where an override appends another text, `own_merged` tells it.
     fn display_merged_solvables(
         &self,
         solvables: &[Self::SolvableId],
         out: &mut String<Self::Alloc>,
     ) -> Result<(), StoreError>
         requires { All (λ s. (universe self.now).knows_solvable s ≡ true) solvables.now }
-        ensures ok { OnOk result (IsContinued out.old out.new) }
+        ensures ok { OnOk result (IsContinuedBy out.old out.new
+            (IsOwnOr (IsMergedByDefault (universe self.now) (texts self.now) (own_solvable_name self.now) solvables.now)
+            (own_merged self.now solvables.now))) }
         ensures err { OnErr result (IsSameText out.old out.new) }
         ensures memory { IfErr result (λ e. e ≡ OutOfMemory) }
     {
         let Some(first) = solvables.first() else {
             return Ok(());
         };
-        let mut merged = MergedText::new(*out.allocator());
-        self.display_solvable_name(*first, merged.name_mut())?;
+        let alloc = *out.allocator();
+        let mut name = String::new(alloc);
+        self.display_solvable_name(*first, &mut name)?;
+        let mut merged = MergedText::new(alloc, name);
         for solvable in solvables {
-            self.display_solvable(*solvable, merged.next_text()?)?;
+            let mut text = String::new(alloc);
+            self.display_solvable(*solvable, &mut text)?;
+            merged.push(text)?;
         }
         merged.append_to(out)
     }

@@ -1,7 +1,7 @@
 //! One text for several solvables of a package.
-ghost use Rattle.std.specs.Prelude.{◌≡◌, string_bytes, OnOk, OnErr, IfErr};
+ghost use Rattle.std.specs.Prelude.{◌≡◌, [], ◌∷◌, ◌++◌, map, string_bytes, OnOk, OnErr, IfErr};
 ghost use Rattle.typed_ids.specs.declared.error.StoreError.TheVariants.{OutOfMemory};
-ghost use Rattle.providers.specs.Texts.{IsContinued, IsMerged, IsSameText};
+ghost use Rattle.providers.specs.Texts.{IsContinuedBy, IsMerged, IsSameText};
 
 use crate::joined::{append, append_joined};
 use std::alloc::Allocator;
@@ -15,33 +15,30 @@ pub(crate) struct MergedText<A: Allocator> {
 }
 
 impl<A: Allocator + Copy> MergedText<A> {
-    /// No text, and an empty name. Takes no memory.
-    pub(crate) fn new(alloc: A) -> Self {
+    /// The name, with no text. Takes no memory.
+    pub(crate) fn new(alloc: A, name: String<A>) -> Self
+        ensures name { result.name ≡ name }
+        ensures texts { result.texts.items ≡ [] }
+    {
         MergedText {
-            name: String::new(alloc),
+            name,
             texts: Vec::new(alloc),
         }
     }
 
-    /// The name, to write it.
-    pub(crate) fn name_mut(&mut self) -> &mut String<A> {
-        &mut self.name
-    }
-
-    /// A further text, to write it.
-    pub(crate) fn next_text(&mut self) -> Result<&mut String<A>, StoreError>
-        ensures { IfErr result (λ e. e ≡ OutOfMemory) }
+    /// A further text.
+    pub(crate) fn push(&mut self, text: String<A>) -> Result<(), StoreError>
+        ensures name { self.new.name ≡ self.old.name }
+        ensures ok { OnOk result (self.new.texts.items ≡ self.old.texts.items ++ text ∷ []) }
+        ensures err { IfErr result (λ e. e ≡ OutOfMemory) }
     {
-        let text = String::new(*self.texts.allocator());
-        self.texts.push(text)?;
-        Ok(self.texts.last_mut().unwrap())
+        Ok(self.texts.push(text)?)
     }
 
     /// Appends the name, a blank and the distinct texts in ascending order of their bytes, with ` | ` between them.
     /// After a refusal `out` is as it was.
     pub(crate) fn append_to(mut self, out: &mut String<A>) -> Result<(), StoreError>
-        ensures ok { OnOk result (IsMerged (string_bytes self.name) self.texts.items (string_bytes out.old) (string_bytes out.new)) }
-        ensures continued { OnOk result (IsContinued out.old out.new) }
+        ensures ok { OnOk result (IsContinuedBy out.old out.new (IsMerged (string_bytes self.name) (map string_bytes self.texts.items))) }
         ensures err { OnErr result (IsSameText out.old out.new) }
         ensures memory { IfErr result (λ e. e ≡ OutOfMemory) }
     {
