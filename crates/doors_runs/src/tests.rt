@@ -176,33 +176,79 @@ fn a_run_is_answered_line_by_line(rt: HostRuntime) -> Result<(), Fail> {
 /// What is seen of a search: how it ended, and the values of the three candidates.
 type Seen = (SearchEnd, [Option<bool>; 3]);
 
-fn seen_after<D: DependencyProvider + Drop>(
-    store: &mut ClauseStore<D>,
-) -> Result<Seen, StoreError> {
-    let end = search(store, 2..10)?;
-    let values = [
-        store.value(variable(1)),
-        store.value(variable(2)),
-        store.value(variable(3)),
-    ];
-    Ok((end, values))
+/// What is to be decided: the candidate, if there is one, or the clause that can't be met any more.
+type Asked = Result<Option<VariableId>, ClauseId>;
+
+/// What the searches ask of a store. They are generic in it: a proof over a type parameter is much shorter than one over
+/// the store's own type.
+trait Searcher {
+    fn require_set(&mut self, parent: VariableId, set: u32) -> Result<ClauseId, StoreError>;
+
+    fn assign(
+        &mut self,
+        variable: VariableId,
+        value: bool,
+        clause: ClauseId,
+        level: u32,
+    ) -> Result<bool, StoreError>;
+
+    fn rule_out(&mut self, candidate: VariableId, clause: ClauseId) -> Result<bool, StoreError>;
+
+    fn search_on(&mut self) -> Result<Seen, StoreError>;
+
+    fn asked(&self) -> Asked;
+}
+
+impl<D: DependencyProvider + Drop> Searcher for ClauseStore<D> {
+    fn require_set(&mut self, parent: VariableId, set: u32) -> Result<ClauseId, StoreError> {
+        require(self, parent, single(set))
+    }
+
+    fn assign(
+        &mut self,
+        variable: VariableId,
+        value: bool,
+        clause: ClauseId,
+        level: u32,
+    ) -> Result<bool, StoreError> {
+        give(self, variable, value, clause, level)
+    }
+
+    fn rule_out(&mut self, candidate: VariableId, clause: ClauseId) -> Result<bool, StoreError> {
+        rule_out(self, candidate, clause, 1)
+    }
+
+    fn search_on(&mut self) -> Result<Seen, StoreError> {
+        let end = search(self, 2..10)?;
+        let values = [
+            self.value(variable(1)),
+            self.value(variable(2)),
+            self.value(variable(3)),
+        ];
+        Ok((end, values))
+    }
+
+    fn asked(&self) -> Asked {
+        match ask(self) {
+            Ok(Some(decision)) => Ok(Some(decision.candidate)),
+            Ok(None) => Ok(None),
+            Err(clause) => Err(clause),
+        }
+    }
 }
 
 /// A search for both packages; one after it where the first candidate requires a package that has no release; and one
 /// with this candidate ruled out.
-fn searches<D: DependencyProvider + Drop>(
-    store: &mut ClauseStore<D>,
-) -> Result<[Seen; 3], StoreError> {
+fn three_searches<T: Searcher>(store: &mut T) -> Result<[Seen; 3], StoreError> {
     let root = VariableId::root();
-    let first = require(store, root, single(0))?;
-    require(store, root, single(1))?;
-    give(store, root, true, first, 1)?;
-    let solved = seen_after(store)?;
-    let missing = require(store, variable(1), single(2))?;
-    let falsified = seen_after(store)?;
-    rule_out(store, variable(1), missing, 1)?;
-    let solved_again = seen_after(store)?;
-    Ok([solved, falsified, solved_again])
+    let first = store.require_set(root, 0)?;
+    store.require_set(root, 1)?;
+    store.assign(root, true, first, 1)?;
+    let solved = store.search_on()?;
+    let missing = store.require_set(variable(1), 2)?;
+    let falsified = store.search_on()?;
+    store.rule_out(variable(1), missing)?;
+    Ok([solved, falsified, store.search_on()?])
 }
 
 /// What is seen of the searches of a new store.
@@ -211,7 +257,7 @@ fn searched<D: DependencyProvider + Drop>(
     provider: D,
 ) -> Result<[Seen; 3], StoreError> {
     let mut store = ClauseStore::new(alloc, provider)?;
-    let seen = searches(&mut store);
+    let seen = three_searches(&mut store);
     drop(store);
     seen
 }
@@ -228,25 +274,15 @@ fn a_search_takes_the_next_candidate(rt: HostRuntime) -> Result<(), Fail> {
     is_same(searched(rt.alloc(), shelf), Ok(wanted))
 }
 
-/// What is to be decided: the candidate, if there is one, or the clause that can't be met any more.
-type Asked = Result<Option<VariableId>, ClauseId>;
-
-fn asked<D: DependencyProvider + Drop>(store: &ClauseStore<D>) -> Asked {
-    let decision = ask(store)?;
-    Ok(decision.map(|decision| decision.candidate))
-}
-
 /// What is asked of a store with one clause, before its parent is true, after it, and once both candidates are false.
-fn questions<D: DependencyProvider + Drop>(
-    store: &mut ClauseStore<D>,
-) -> Result<[Asked; 3], StoreError> {
+fn three_questions<T: Searcher>(store: &mut T) -> Result<[Asked; 3], StoreError> {
     let root = VariableId::root();
-    let clause = require(store, root, single(1))?;
-    let before = asked(store);
-    give(store, root, true, clause, 1)?;
-    let after = asked(store);
-    give(store, variable(1), false, clause, 2)?;
-    Ok([before, after, asked(store)])
+    let clause = store.require_set(root, 1)?;
+    let before = store.asked();
+    store.assign(root, true, clause, 1)?;
+    let after = store.asked();
+    store.assign(variable(1), false, clause, 2)?;
+    Ok([before, after, store.asked()])
 }
 
 /// What is asked of a new store.
@@ -255,7 +291,7 @@ fn questioned<D: DependencyProvider + Drop>(
     provider: D,
 ) -> Result<[Asked; 3], StoreError> {
     let mut store = ClauseStore::new(alloc, provider)?;
-    let seen = questions(&mut store);
+    let seen = three_questions(&mut store);
     drop(store);
     seen
 }
