@@ -17,6 +17,8 @@ mod maps;
 #[cfg(test)]
 mod refusals;
 #[cfg(test)]
+mod refused_defaults;
+#[cfg(test)]
 mod sets;
 #[cfg(test)]
 mod slots;
