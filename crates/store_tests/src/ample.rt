@@ -15,7 +15,7 @@ use test_checks::is_same;
 use typed_ids::{
     ClauseId, DefaultValue, DenseIndex, NameId, SolvableId, StoreError, VariableId, VersionSetId,
 };
-use variables::{VariableMap, VariableOrigin};
+use variables::VariableMap;
 
 #[test]
 fn total_maps_keep_numbers(rt: HostRuntime) -> Result<(), Fail> {
@@ -130,13 +130,6 @@ fn variables_seen<N: Copy, S: SolverId<A>, A: Allocator + Copy>(
     }
     let after = (variables.count(), variables.lookup_solvable(second));
     Ok((interned, [before, after]))
-}
-
-#[test]
-fn origins_name_their_solvable(rt: HostRuntime) -> Result<(), Fail> {
-    let first = SolvableId::from_raw(8);
-    let origin: VariableOrigin<NameId, SolvableId> = VariableOrigin::Solvable(first);
-    is_same(origin.as_solvable(), Some(first))
 }
 
 #[test]

@@ -2,12 +2,20 @@
 //! than one over the store's own type.
 use crate::script::variable;
 use providers::{DependencyProvider, Interner};
+use resolvo_queue::QueueDecision;
 use resolvo_store::{ClauseStore, Command, Reply};
 use std::alloc::Allocator;
 use typed_ids::{ClauseId, StoreError};
 
-/// What a store ends with: the values of the root and of variable 2, and the falsified clause.
-pub(crate) type End = (Option<bool>, Option<bool>, Option<ClauseId>);
+/// What a store tells of itself, but for the lists of what is loaded.
+#[derive(Clone, Copy, Debug, PartialEq, Eq)]
+pub(crate) struct Seen {
+    /// The values of the root and of the next three variables.
+    pub(crate) values: [Option<bool>; 4],
+    pub(crate) falsified: Option<ClauseId>,
+    /// The next decision, where no clause is falsified.
+    pub(crate) decision: Option<QueueDecision>,
+}
 
 /// A store over a provider with solvables `S`.
 pub(crate) trait Obeys<S, A: Allocator> {
@@ -15,7 +23,7 @@ pub(crate) trait Obeys<S, A: Allocator> {
 
     fn obey_all(&mut self, commands: &[Command<S>]) -> Result<Vec<Reply<A>, A>, StoreError>;
 
-    fn end(&self) -> End;
+    fn seen(&self) -> Seen;
 }
 
 impl<D: DependencyProvider + Drop> Obeys<D::SolvableId, D::Alloc> for ClauseStore<D> {
@@ -30,11 +38,21 @@ impl<D: DependencyProvider + Drop> Obeys<D::SolvableId, D::Alloc> for ClauseStor
         self.run(commands)
     }
 
-    fn end(&self) -> End {
-        (
-            self.value(variable(0)),
-            self.value(variable(2)),
-            self.falsified(),
-        )
+    fn seen(&self) -> Seen {
+        let falsified = self.falsified();
+        let decision = match falsified {
+            Some(_) => None,
+            None => self.next_decision(),
+        };
+        Seen {
+            values: [
+                self.value(variable(0)),
+                self.value(variable(1)),
+                self.value(variable(2)),
+                self.value(variable(3)),
+            ],
+            falsified,
+            decision,
+        }
     }
 }

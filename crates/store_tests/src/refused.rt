@@ -1,155 +1,362 @@
-//! Memory refused at each request in turn.
-use crate::script::{Example, TWO_PACKAGES_WANTED, two_packages_commands};
-use crate::stores::{Way, dense_play};
-use crate::wanted::first_unwanted;
+//! Memory refused at each request in turn, of each list of commands. Beside the store to which a request is refused there
+//! is a twin in ample memory, to which the refused command isn't given: the store must tell the same as its twin.
+use crate::obeys::Obeys;
+use crate::script::{
+    Example, clause, each_command, lists_of, one_package_commands, set_twice_commands,
+    two_packages_commands, variable,
+};
+use crate::stores::Way;
+use plain_providers::{SparseLists, SparseSolvable};
+use providers::{DependencyProvider, Interner};
 use refusing::Refusing;
-use resolvo_store::{Command, Reply};
+use resolvo_store::{ClauseStore, Command, Reply};
 use std::alloc::{Allocator, Global};
 use std::test::Fail;
 use test_checks::is_same;
 use typed_ids::{SolvableId, StoreError};
 
-/// The request to refuse, by its number from when it is armed, and the memory that is asked.
-#[derive(Clone, Copy)]
-pub(crate) struct Refusal<'h> {
-    heap: &'h Refusing<Global>,
+/// Commands that are given to a store in some way, to which a request is refused.
+#[derive(Drop)]
+struct Trial<'t, S> {
+    commands: &'t [Command<S>],
+    way: Way,
+    heap: &'t Refusing<Global>,
+    /// The number of the request, from the first command on.
     number: u64,
 }
 
-impl Refusal<'_> {
-    /// From now on requests count.
-    pub(crate) fn arm(&self) {
-        self.heap.arm(self.number);
-    }
-}
-
-/// What is seen of the replies of a store to which a request is refused.
+/// What is seen of a store beside its twin.
 #[derive(Clone, Copy, Debug, PartialEq, Eq)]
 struct Agreement {
-    /// The number of the request.
+    /// The number of the request, and whether it came.
     number: u64,
-    /// How many replies there are.
-    count: usize,
-    /// Whether one isn't as wanted. The first such reply is taken for the refusal.
-    is_refused: bool,
-    /// Whether that reply is want of memory, and each other is that of a store in ample memory to which its command
-    /// isn't given.
+    is_met: bool,
+    /// How many commands were answered: all, but for a run that is refused whole.
+    answered: usize,
+    /// How many were refused for want of memory.
+    refused: usize,
+    /// Whether the store and its twin told the same.
     agrees: bool,
 }
 
-/// What is seen of a new store over two packages, to which the request is refused. None if a run is refused whole.
-fn seen_refused<A: Allocator + Copy>(
+/// Whether the reply is want of memory.
+fn is_refused<A: Allocator>(reply: &Reply<A>) -> bool {
+    matches!(reply, Reply::Refused(StoreError::OutOfMemory))
+}
+
+/// Whether the store answers the command so.
+fn answers<S, A: Allocator, T: Obeys<S, A>>(
+    store: &mut T,
+    command: &Command<S>,
+    wanted: &Reply<A>,
+) -> bool {
+    let reply = store.obey(command);
+    let is_wanted = reply == *wanted;
+    drop(reply);
+    is_wanted
+}
+
+/// Whether the store and its twin obey the command alike.
+fn obey_alike<S, A: Allocator, T: Obeys<S, A>>(
+    store: &mut T,
+    twin: &mut T,
+    command: &Command<S>,
+) -> bool {
+    let reply = store.obey(command);
+    let is_same = answers(twin, command, &reply);
+    drop(reply);
+    is_same && store.seen() == twin.seen()
+}
+
+/// Whether the store and its twin know the same variables and clauses, of the first four: an assignment at level 0 is
+/// refused, but first for what isn't known.
+fn know_alike<S: Copy, A: Allocator, T: Obeys<S, A>>(store: &mut T, twin: &mut T) -> bool {
+    let mut is_alike = true;
+    for i in 0..4u16 {
+        let of_variable = Command::Assign(variable(i), true, clause(0), 0);
+        let of_clause = Command::Assign(variable(0), true, clause(i), 0);
+        is_alike = is_alike
+            && obey_alike(store, twin, &of_variable)
+            && obey_alike(store, twin, &of_clause);
+    }
+    is_alike
+}
+
+/// Whether the store and its twin tell the same of themselves, also what they have loaded of these commands.
+fn tell_alike<S: Copy, A: Allocator, T: Obeys<S, A>>(
+    store: &mut T,
+    twin: &mut T,
+    commands: &[Command<S>],
+) -> bool {
+    let mut is_alike = know_alike(store, twin) && store.seen() == twin.seen();
+    for command in commands {
+        if let Command::Load(_) = command {
+            is_alike = is_alike && obey_alike(store, twin, command);
+        }
+    }
+    is_alike
+}
+
+/// The commands by steps. A refused one leaves the store as it was: as its twin, to which it isn't given.
+fn steps_beside<S: Copy, A: Allocator, T: Obeys<S, A>>(
+    store: &mut T,
+    twin: &mut T,
+    commands: &[Command<S>],
+) -> (usize, bool) {
+    let mut refused: usize = 0;
+    let mut agrees = true;
+    for (i, command) in commands.iter().enumerate() {
+        let reply = store.obey(command);
+        let is_alike = if is_refused(&reply) {
+            refused = refused.saturating_add(1);
+            tell_alike(store, twin, &commands[..i])
+        } else {
+            answers(twin, command, &reply) && store.seen() == twin.seen()
+        };
+        drop(reply);
+        agrees = agrees && is_alike;
+    }
+    (refused, agrees)
+}
+
+/// The replies of a run beside the twin's.
+fn replies_beside<S, A: Allocator, T: Obeys<S, A>>(
+    twin: &mut T,
+    commands: &[Command<S>],
+    replies: &[Reply<A>],
+) -> (usize, bool) {
+    let mut refused: usize = 0;
+    let mut agrees = true;
+    for (command, reply) in commands.iter().zip(replies) {
+        if is_refused(reply) {
+            refused = refused.saturating_add(1);
+        } else {
+            agrees = agrees && answers(twin, command, reply);
+        }
+    }
+    (refused, agrees)
+}
+
+/// How many commands are answered, how many are refused, and whether the store agrees with its twin so far.
+fn given<S: Copy, A: Allocator, T: Obeys<S, A>>(
+    store: &mut T,
+    twin: &mut T,
+    commands: &[Command<S>],
     way: Way,
-    [heap, ample]: [A; 2],
-    commands: &[Command<SolvableId>],
-    refusal: Refusal,
-) -> Result<Option<Agreement>, StoreError> {
-    let played = dense_play(
-        heap,
-        ample,
-        Example::TwoPackages,
-        commands,
-        way,
-        Some(refusal),
-    )?;
-    let seen = match &played.replies {
-        Ok(replies) => seen_beside(ample, commands, replies, refusal.number),
-        Err(_) => Ok(None),
-    };
-    drop(played);
+) -> (usize, usize, bool) {
+    match way {
+        Way::Steps => {
+            let (refused, agrees) = steps_beside(store, twin, commands);
+            (commands.len(), refused, agrees)
+        }
+        Way::Run => match store.obey_all(commands) {
+            Ok(replies) => {
+                let (refused, agrees) = replies_beside(twin, commands, &replies);
+                let answered = replies.len();
+                drop(replies);
+                (answered, refused, agrees)
+            }
+            Err(_) => (0, 1, true),
+        },
+    }
+}
+
+/// What is seen of a store beside its twin: where all that was answered is the same, so is what they tell at the end.
+fn compared<S: Copy, A: Allocator, T: Obeys<S, A>>(
+    store: &mut T,
+    twin: &mut T,
+    trial: &Trial<'_, S>,
+) -> Agreement {
+    trial.heap.arm(trial.number);
+    let (answered, refused, agrees) = given(store, twin, trial.commands, trial.way);
+    let is_met = !trial.heap.is_armed();
+    trial.heap.arm(0);
+    let loaded = if answered == 0 { &[] } else { trial.commands };
+    Agreement {
+        number: trial.number,
+        is_met,
+        answered,
+        refused,
+        agrees: agrees && tell_alike(store, twin, loaded),
+    }
+}
+
+/// What is seen of a new store over the first provider, beside a twin over the other, which is in ample memory.
+fn new_beside<D: DependencyProvider + Drop>(
+    heap: D::Alloc,
+    ample: D::Alloc,
+    (provider, other): (D, D),
+    trial: &Trial<'_, D::SolvableId>,
+) -> Result<Agreement, StoreError> {
+    let mut store = ClauseStore::new(heap, provider)?;
+    let seen = new_twin_beside(&mut store, ample, other, trial);
+    drop(store);
     seen
 }
 
-/// The replies beside those of a new store in ample memory.
-fn seen_beside<A: Allocator + Copy>(
+fn new_twin_beside<D: DependencyProvider + Drop>(
+    store: &mut ClauseStore<D>,
+    ample: D::Alloc,
+    provider: D,
+    trial: &Trial<'_, D::SolvableId>,
+) -> Result<Agreement, StoreError> {
+    let mut twin = ClauseStore::new(ample, provider)?;
+    let seen = compared(store, &mut twin, trial);
+    drop(twin);
+    Ok(seen)
+}
+
+fn dense_beside<A: Allocator + Copy>(
+    heap: A,
     ample: A,
-    commands: &[Command<SolvableId>],
-    replies: &[Reply<A>],
-    number: u64,
-) -> Result<Option<Agreement>, StoreError> {
-    let refused = first_unwanted(replies, TWO_PACKAGES_WANTED.replies);
-    let way = match refused {
-        Some(left_out) => Way::StepsBut(left_out),
-        None => Way::Steps,
-    };
-    let played = dense_play(ample, ample, Example::TwoPackages, commands, way, None)?;
-    let agrees = are_same(&played.replies, replies);
-    drop(played);
-    Ok(Some(Agreement {
-        number,
-        count: replies.len(),
-        is_refused: refused.is_some(),
-        agrees,
-    }))
+    example: Example,
+    trial: &Trial<'_, SolvableId>,
+) -> Result<Agreement, StoreError> {
+    let provider = lists_of(heap, example)?;
+    let other = lists_of(ample, example)?;
+    new_beside(heap, ample, (provider, other), trial)
 }
 
-fn are_same<A: Allocator>(
-    given: &Result<Vec<Reply<A>, A>, StoreError>,
-    replies: &[Reply<A>],
-) -> bool {
-    match given {
-        Ok(given) => **given == *replies,
-        Err(_) => false,
-    }
+/// The same of stores whose ids are sparse.
+fn sparse_beside<A: Allocator + Copy>(
+    heap: A,
+    ample: A,
+    example: Example,
+    trial: &Trial<'_, SparseSolvable>,
+) -> Result<Agreement, StoreError> {
+    let provider = SparseLists(lists_of(heap, example)?);
+    let other = SparseLists(lists_of(ample, example)?);
+    new_beside(heap, ample, (provider, other), trial)
 }
 
-/// Whether there was a request of this number, which was refused.
-fn is_met(
-    rt: &impl AllocGlobal,
+/// Whether the request came; then one command was refused, but for a run whose first request is refused, that for the
+/// room for the replies: it is refused whole.
+fn is_as_wanted(
+    seen: Result<Agreement, StoreError>,
     way: Way,
-    commands: &[Command<SolvableId>],
     number: u64,
+    count: usize,
 ) -> Result<bool, Fail> {
-    let heap = Refusing::new(rt.alloc());
-    let ample = Refusing::new(rt.alloc());
-    let refusal = Refusal {
-        heap: &heap,
-        number,
-    };
-    let seen = seen_refused(way, [&heap, &ample], commands, refusal);
-    let is_refused = !heap.is_armed();
-    drop(ample);
-    drop(heap);
-    is_as_refused(seen, number, is_refused)?;
-    Ok(is_refused)
-}
-
-/// Steps go on after the command that is refused. A run is refused whole at its first request, the room for the
-/// replies, and goes on after any later one.
-fn is_as_refused(
-    seen: Result<Option<Agreement>, StoreError>,
-    number: u64,
-    is_refused: bool,
-) -> Result<(), Fail> {
+    let is_met = seen?.is_met;
     let wanted = Agreement {
         number,
-        count: TWO_PACKAGES_WANTED.replies.len(),
-        is_refused,
+        is_met,
+        answered: match way {
+            Way::Run if number == 1 => 0,
+            _ => count,
+        },
+        refused: usize::from(is_met),
         agrees: true,
     };
-    match seen {
-        Ok(None) => is_same(number, 1),
-        _ => is_same(seen, Ok(Some(wanted))),
-    }
+    is_same(seen, Ok(wanted))?;
+    Ok(is_met)
 }
 
-/// There are more than ten requests to refuse, and fewer than a thousand.
-fn each_request_is_refused(rt: &impl AllocGlobal, way: Way) -> Result<(), Fail> {
-    let commands = two_packages_commands();
+/// Each request is refused in turn: there are more than ten, and fewer than a thousand.
+fn dense_refused(
+    rt: &impl AllocGlobal,
+    example: Example,
+    commands: &[Command<SolvableId>],
+    way: Way,
+) -> Result<(), Fail> {
     for number in 1..1000u64 {
-        if !is_met(rt, way, &commands, number)? {
+        let seen = dense_seen(rt, example, commands, way, number);
+        if !is_as_wanted(seen, way, number, commands.len())? {
             return is_same(number > 10, true);
         }
     }
-    Err(Fail::new("each run met a refusal"))
+    Err(Fail::new("each store met a refusal"))
+}
+
+fn dense_seen(
+    rt: &impl AllocGlobal,
+    example: Example,
+    commands: &[Command<SolvableId>],
+    way: Way,
+    number: u64,
+) -> Result<Agreement, StoreError> {
+    let heap = Refusing::new(rt.alloc());
+    let ample = Refusing::new(rt.alloc());
+    let trial = Trial {
+        commands,
+        way,
+        heap: &heap,
+        number,
+    };
+    let seen = dense_beside(&heap, &ample, example, &trial);
+    drop(trial);
+    drop(ample);
+    drop(heap);
+    seen
+}
+
+fn sparse_refused(
+    rt: &impl AllocGlobal,
+    example: Example,
+    commands: &[Command<SparseSolvable>],
+    way: Way,
+) -> Result<(), Fail> {
+    for number in 1..1000u64 {
+        let seen = sparse_seen(rt, example, commands, way, number);
+        if !is_as_wanted(seen, way, number, commands.len())? {
+            return is_same(number > 10, true);
+        }
+    }
+    Err(Fail::new("each store met a refusal"))
+}
+
+fn sparse_seen(
+    rt: &impl AllocGlobal,
+    example: Example,
+    commands: &[Command<SparseSolvable>],
+    way: Way,
+    number: u64,
+) -> Result<Agreement, StoreError> {
+    let heap = Refusing::new(rt.alloc());
+    let ample = Refusing::new(rt.alloc());
+    let trial = Trial {
+        commands,
+        way,
+        heap: &heap,
+        number,
+    };
+    let seen = sparse_beside(&heap, &ample, example, &trial);
+    drop(trial);
+    drop(ample);
+    drop(heap);
+    seen
 }
 
 #[test]
-fn one_step_is_refused(rt: HostRuntime) -> Result<(), Fail> {
-    each_request_is_refused(&rt, Way::Steps)
+fn two_packages_are_refused(rt: HostRuntime) -> Result<(), Fail> {
+    let commands = two_packages_commands();
+    dense_refused(&rt, Example::TwoPackages, &commands, Way::Steps)?;
+    dense_refused(&rt, Example::TwoPackages, &commands, Way::Run)
 }
 
 #[test]
-fn runs_go_on_after_a_refusal(rt: HostRuntime) -> Result<(), Fail> {
-    each_request_is_refused(&rt, Way::Run)
+fn one_package_is_refused(rt: HostRuntime) -> Result<(), Fail> {
+    let commands = one_package_commands();
+    dense_refused(&rt, Example::OnePackage, &commands, Way::Steps)?;
+    dense_refused(&rt, Example::OnePackage, &commands, Way::Run)
+}
+
+#[test]
+fn a_union_of_one_set_twice_is_refused(rt: HostRuntime) -> Result<(), Fail> {
+    let commands = set_twice_commands();
+    dense_refused(&rt, Example::SetTwice, &commands, Way::Steps)?;
+    sparse_refused(&rt, Example::SetTwice, &set_twice_commands(), Way::Run)
+}
+
+#[test]
+fn each_command_is_refused(rt: HostRuntime) -> Result<(), Fail> {
+    let commands = each_command(SolvableId::from_raw(0));
+    dense_refused(&rt, Example::EachCommand, &commands, Way::Steps)?;
+    dense_refused(&rt, Example::EachCommand, &commands, Way::Run)
+}
+
+#[test]
+fn each_command_over_sparse_ids_is_refused(rt: HostRuntime) -> Result<(), Fail> {
+    let commands = each_command(SparseSolvable::from_raw(0));
+    sparse_refused(&rt, Example::EachCommand, &commands, Way::Steps)
 }

@@ -1,8 +1,7 @@
 //! New stores that are given the commands of an example, and what is seen of them. What is shared is generic in the
 //! provider, and only two functions name a provider of lists: a proof spells out a provider's traits wherever a call
 //! names it. What is seen is compared once, behind all that is owned.
-use crate::obeys::{End, Obeys};
-use crate::refused::Refusal;
+use crate::obeys::{Obeys, Seen};
 use crate::script::{
     Example, each_command, lists_of, one_package_commands, set_twice_commands,
     two_packages_commands, wanted_of,
@@ -14,26 +13,24 @@ use resolvo_store::{ClauseStore, Command, Reply};
 use std::alloc::Allocator;
 use std::test::Fail;
 use test_checks::is_same;
-use typed_ids::{NameId, SolvableId, StoreError};
+use typed_ids::{ClauseId, NameId, SolvableId, StoreError};
 
 /// How a store is given commands.
 #[derive(Clone, Copy)]
 pub(crate) enum Way {
     /// By steps.
     Steps,
-    /// By steps but for the command of this number, for which the reply of want of memory stands.
-    StepsBut(usize),
     /// In one run.
     Run,
 }
 
 /// What is seen of a new store that was given commands.
 #[derive(Drop)]
-pub(crate) struct Played<A: Allocator> {
+struct Played<A: Allocator> {
     /// How many candidates the provider lists of package 0.
     count: Result<usize, StoreError>,
-    pub(crate) replies: Result<Vec<Reply<A>, A>, StoreError>,
-    end: End,
+    replies: Result<Vec<Reply<A>, A>, StoreError>,
+    end: Seen,
 }
 
 /// A new store over the example's lists, which list two candidates, replies as wanted.
@@ -54,7 +51,7 @@ fn dense_case(
     commands: &[Command<SolvableId>],
     way: Way,
 ) -> Result<(), Fail> {
-    let played = dense_play(rt.alloc(), rt.alloc(), example, commands, way, None);
+    let played = dense_play(rt.alloc(), rt.alloc(), example, commands, way);
     is_as_wanted(played, example)
 }
 
@@ -87,43 +84,47 @@ fn is_as_wanted<A: Allocator>(
     example: Example,
 ) -> Result<(), Fail> {
     let wanted = wanted_of(example);
-    let seen = match played {
+    let told = match played {
         Ok(played) => {
-            let seen = seen(&played, wanted.replies);
+            let told = told(&played, wanted.replies);
             drop(played);
-            seen
+            told
         }
         Err(error) => Err(error),
     };
     let end = (wanted.root, None, None);
-    is_same(seen, Ok((2, wanted.replies.len(), None, end)))
+    is_same(told, Ok((2, wanted.replies.len(), None, end)))
 }
 
-/// How many candidates and replies there are, the first reply that isn't as wanted, and the end.
-type Seen = (usize, usize, Option<usize>, End);
+/// The values of the root and of variable 2, and the falsified clause.
+type End = (Option<bool>, Option<bool>, Option<ClauseId>);
 
-fn seen<A: Allocator>(played: &Played<A>, wanted: &[Wanted]) -> Result<Seen, StoreError> {
+/// How many candidates and replies there are, the first reply that isn't as wanted, and the end.
+type Told = (usize, usize, Option<usize>, End);
+
+fn told<A: Allocator>(played: &Played<A>, wanted: &[Wanted]) -> Result<Told, StoreError> {
     let count = played.count?;
     match &played.replies {
         Ok(replies) => {
             let unwanted = first_unwanted(replies, wanted);
-            Ok((count, replies.len(), unwanted, played.end))
+            let [root, _, second, _] = played.end.values;
+            let end = (root, second, played.end.falsified);
+            Ok((count, replies.len(), unwanted, end))
         }
         Err(error) => Err(*error),
     }
 }
 
 /// What is seen of a new store over the example's lists. The replies to steps are kept in the room.
-pub(crate) fn dense_play<A: Allocator + Copy>(
+fn dense_play<A: Allocator + Copy>(
     heap: A,
     room: A,
     example: Example,
     commands: &[Command<SolvableId>],
     way: Way,
-    refusal: Option<Refusal>,
 ) -> Result<Played<A>, StoreError> {
     let provider = (lists_of(heap, example)?, NameId::from_raw(0));
-    play(heap, room, provider, commands, way, refusal)
+    play(heap, room, provider, commands, way)
 }
 
 /// What is seen of a new store over the example's lists with sparse ids.
@@ -135,14 +136,7 @@ fn sparse_play<A: Allocator + Copy>(
     way: Way,
 ) -> Result<Played<A>, StoreError> {
     let lists = SparseLists(lists_of(heap, example)?);
-    play(
-        heap,
-        room,
-        (lists, SparseName::from_raw(0)),
-        commands,
-        way,
-        None,
-    )
+    play(heap, room, (lists, SparseName::from_raw(0)), commands, way)
 }
 
 /// What is seen of a new store over the provider.
@@ -152,11 +146,10 @@ fn play<D: DependencyProvider + Drop>(
     (provider, name): (D, D::NameId),
     commands: &[Command<D::SolvableId>],
     way: Way,
-    refusal: Option<Refusal>,
 ) -> Result<Played<D::Alloc>, StoreError> {
     let mut store = ClauseStore::new(heap, provider)?;
     let count = candidate_count(heap, store.provider(), name);
-    let played = obeyed(&mut store, count, room, commands, way, refusal);
+    let played = obeyed(&mut store, count, room, commands, way);
     drop(store);
     Ok(played)
 }
@@ -174,24 +167,19 @@ fn candidate_count<D: DependencyProvider>(
     }
 }
 
-/// What is seen of a store that is given commands, where the request is refused from now on.
+/// What is seen of a store that is given commands.
 fn obeyed<S, A: Allocator + Copy, T: Obeys<S, A>>(
     store: &mut T,
     count: Result<usize, StoreError>,
     room: A,
     commands: &[Command<S>],
     way: Way,
-    refusal: Option<Refusal>,
 ) -> Played<A> {
-    if let Some(refusal) = refusal {
-        refusal.arm();
-    }
     let replies = match way {
-        Way::Steps => steps(store, room, commands, None),
-        Way::StepsBut(left_out) => steps(store, room, commands, Some(left_out)),
+        Way::Steps => steps(store, room, commands),
         Way::Run => store.obey_all(commands),
     };
-    let end = store.end();
+    let end = store.seen();
     Played {
         count,
         replies,
@@ -199,21 +187,15 @@ fn obeyed<S, A: Allocator + Copy, T: Obeys<S, A>>(
     }
 }
 
-/// The replies to the commands in turn, but for one that is left out.
+/// The replies to the commands in turn.
 fn steps<S, A: Allocator + Copy, T: Obeys<S, A>>(
     store: &mut T,
     room: A,
     commands: &[Command<S>],
-    left_out: Option<usize>,
 ) -> Result<Vec<Reply<A>, A>, StoreError> {
     let mut replies = Vec::new(room);
-    for (i, command) in commands.iter().enumerate() {
-        let reply = if left_out == Some(i) {
-            Reply::Refused(StoreError::OutOfMemory)
-        } else {
-            store.obey(command)
-        };
-        replies.push(reply)?;
+    for command in commands {
+        replies.push(store.obey(command))?;
     }
     Ok(replies)
 }
