@@ -3,7 +3,7 @@ ghost use Rattle.std.specs.Prelude.{◌<◌, length};
 
 use crate::noted::{Noted, with_note};
 use package_pool::{NameText, Pool};
-use providers::Condition;
+use providers::{Condition, LogicalOperator};
 use std::alloc::Global;
 use std::test::Fail;
 use test_checks::sees;
@@ -117,7 +117,7 @@ fn solvables_and_unions_are_new_each_time(rt: HostRuntime) -> Result<(), Fail> {
 /// The numbers of two solvables, the second's payload, and how many there are.
 type Solvables = ([Option<u32>; 2], Option<u32>, usize);
 
-/// Two numbers, and whether the last has what it was given.
+/// Two numbers, and whether what was given is kept.
 type Numbers = ([Option<u32>; 2], bool);
 
 /// What is seen of the solvables, unions and conditions of one package that has one version set.
@@ -212,7 +212,18 @@ fn is_union(pool: &Pool<Noted, u32>, union: VersionSetUnionId, sets: &[VersionSe
 fn conditions(pool: &mut Pool<Noted, u32>, set: VersionSetId) -> Result<Numbers, StoreError> {
     let numbers = [condition_of(pool, set)?, condition_of(pool, set)?];
     let is_first = is_condition(pool, ConditionId::new(0), Condition::Requirement(set));
-    Ok((numbers, is_first))
+    Ok((numbers, is_first && keeps_binary(pool)?))
+}
+
+/// Whether the pool keeps what joins its first condition with itself, if that is of the pool.
+fn keeps_binary(pool: &mut Pool<Noted, u32>) -> Result<bool, StoreError> {
+    let first = ConditionId::new(0);
+    if !pool.knows_condition(first) {
+        return Ok(false);
+    }
+    let id = pool.intern_condition(Condition::Binary(LogicalOperator::Or, first, first))?;
+    let joined = Condition::Binary(LogicalOperator::Or, first, first);
+    Ok(is_condition(pool, id, joined))
 }
 
 /// The number of the condition of a version set, if the set is of the pool.
