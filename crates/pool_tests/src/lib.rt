@@ -1,11 +1,6 @@
-//! Tests of the pool, of requirements and of their maps, and callers that the contracts tell enough.
+//! Tests of the pool, of requirements and of their maps. The callers that they run are in `pool_callers`.
 #![tactic(auto)]
 
-mod callers;
-mod each_kind;
-mod few_words;
-mod kinds;
-mod map_callers;
 #[cfg(test)]
 mod maps;
 #[cfg(test)]
@@ -18,9 +13,3 @@ mod shown;
 mod texts;
 #[cfg(test)]
 mod twice;
-
-pub use callers::{Twice, interned_twice};
-pub use each_kind::{Conditions, Names, Solvables, Strings, Unions, VersionSets};
-pub use few_words::FewWords;
-pub use kinds::{Kind, Seen};
-pub use map_callers::{clear, count_up};

@@ -1,5 +1,5 @@
 //! Maps of requirements, by the calls, in ample memory and where memory is refused.
-use crate::map_callers::{clear, count_up};
+use pool_callers::{clear, count_up};
 use providers::{ConditionalRequirement, Requirement, RequirementMap};
 use refusing::Refusing;
 use std::alloc::Allocator;

@@ -2,7 +2,7 @@
 ghost use Rattle.std.specs.Prelude.{◌≡◌, true, All};
 ghost use Rattle.providers.specs.Provider.{knows_requirement, knows_key};
 
-use crate::few_words::FewWords;
+use pool_callers::FewWords;
 use providers::{Interner, Requirement, RootText};
 use std::alloc::Global;
 use std::marker::PhantomData;

@@ -1,10 +1,10 @@
 //! The generic caller with ample memory, and with names and version sets of which `==` reads a part.
-use crate::callers::{Twice, interned_twice};
-use crate::each_kind::{Conditions, Names, Solvables, Strings, Unions, VersionSets};
-use crate::kinds::{Kind, Seen};
 use crate::noted::{Noted, with_note};
 use crate::pool::owned;
 use package_pool::{Pool, Solvable};
+use pool_callers::{
+    Conditions, Kind, Names, Seen, Solvables, Strings, Twice, Unions, VersionSets, interned_twice,
+};
 use providers::Condition;
 use std::alloc::Global;
 use std::test::Fail;

@@ -3,7 +3,7 @@ ghost use Rattle.std.specs.Prelude.{◌≡◌, ◌==◌, true, [], length, nat_l
 ghost use Rattle.std.specs.List.{list_all};
 ghost use Rattle.typed_ids.specs.declared.error.StoreError.TheVariants.{OutOfMemory};
 ghost use Rattle.providers.specs.Texts.{IsAppended, IsSameText};
-ghost use Rattle.pool_tests.specs.Words.{text_at};
+ghost use Rattle.pool_callers.specs.Words.{text_at};
 
 use id_maps::SolverId;
 use providers::{Condition, Interner};

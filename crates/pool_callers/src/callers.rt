@@ -1,7 +1,7 @@
 //! A caller that is generic in what a pool keeps.
 ghost use Rattle.std.specs.Prelude.{◌≡◌, true, IfOk};
 ghost use Rattle.package_pool.specs.Interned.{first_same};
-ghost use Rattle.pool_tests.specs.Kinds.{parts_of};
+ghost use Rattle.pool_callers.specs.Kinds.{parts_of};
 
 use crate::kinds::{Kind, Seen};
 use package_pool::{Pool, VersionSet};

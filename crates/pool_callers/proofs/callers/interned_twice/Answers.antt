@@ -2,8 +2,8 @@ use Rattle.std.proofs.Common.{◌≡◌, ap}
 use Rattle.std.specs.Prelude.{option_map}
 use Rattle.package_pool.specs.Interned.{interned_place}
 use Rattle.package_pool.proofs.InternedLemmas.{place_of_second}
-use Rattle.pool_tests.proofs.FirstStays.{first_stays, place_stays}
-use Rattle.pool_tests.proofs.callers.interned_twice.Goals as goal
+use Rattle.pool_callers.proofs.FirstStays.{first_stays, place_stays}
+use Rattle.pool_callers.proofs.callers.interned_twice.Goals as goal
 
 pub intern-requires-2 : goal.intern-requires-2
 intern-requires-2 g c = g.met.K.Kind.may_still _ _ c.intern.ensures.later c.args.second c.requires.second

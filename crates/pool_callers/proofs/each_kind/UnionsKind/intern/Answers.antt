@@ -1,7 +1,7 @@
 use Rattle.std.proofs.Common.{◌∙◌, ◌∷◌, sym}
 use Rattle.std.proofs.lemmas.Result.{IfOk-weaker}
-use Rattle.pool_tests.proofs.NewEachTime.{place_at_end}
-use Rattle.pool_tests.proofs.each_kind.UnionsKind.intern.Goals as goal
+use Rattle.pool_callers.proofs.NewEachTime.{place_at_end}
+use Rattle.pool_callers.proofs.each_kind.UnionsKind.intern.Goals as goal
 
 pub returns-clause-id : goal.returns-clause-id
 returns-clause-id g c =

@@ -6,7 +6,7 @@ ghost use Rattle.typed_ids.specs.declared.version_set_id.VersionSetId.{VersionSe
 ghost use Rattle.package_pool.specs.declared.solvable.Solvable.{Solvable as SolvableValue};
 ghost use Rattle.package_pool.specs.Pool.{IsMadeBelow, AreSetsHere, same_set, same_condition};
 ghost use Rattle.package_pool.proofs.LaterLemmas.{name_still, sets_still, operands_still};
-ghost use Rattle.pool_tests.specs.SameLaws.{same_text, same_sets, same_conditions, never_same};
+ghost use Rattle.pool_callers.specs.SameLaws.{same_text, same_sets, same_conditions, never_same};
 
 use crate::kinds::{Kind, Seen};
 use package_pool::{Pool, Solvable, VersionSet};

@@ -3,7 +3,7 @@ ghost use Rattle.std.specs.Prelude.{◌≡◌, ◌<◌, ℕ, Bool, List, length,
 ghost use Rattle.std.specs.Cmp.{IsPartialEquivalence};
 ghost use Rattle.package_pool.specs.Interned.{interned, interned_place};
 ghost use Rattle.package_pool.specs.Pool.{Lists, IsExtended, IsLater};
-ghost use Rattle.pool_tests.specs.Kinds.{parts_of};
+ghost use Rattle.pool_callers.specs.Kinds.{parts_of};
 
 use package_pool::{Pool, VersionSet};
 use std::alloc::Allocator;
