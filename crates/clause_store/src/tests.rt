@@ -5,7 +5,7 @@ use scripts::{ScriptFault, script, status};
 use std::alloc::Global;
 use std::process::Abort;
 use std::test::Fail;
-use typed_ids::{StoreError, VersionSetId, VersionSetUnionId};
+use typed_ids::{ConditionId, SolvableId, StoreError, StringId, VersionSetId, VersionSetUnionId};
 
 /// A script, what it is answered, and the exit status.
 #[derive(Clone, Copy)]
@@ -185,7 +185,21 @@ fn texts<I: Interner>(
     Ok(true)
 }
 
-fn have_texts(rt: &(impl Abort + AllocGlobal), packages: &Packages) -> Result<(), Fail> {
+/// Appends the text of the second solvable, the first and the second again together, where both are known; answers
+/// whether they are.
+fn merged(packages: &Packages, out: &mut String) -> Result<bool, StoreError> {
+    let (first, second) = (SolvableId::from_raw(0), SolvableId::from_raw(1));
+    if !packages.knows_solvable(first) || !packages.knows_solvable(second) {
+        return Ok(false);
+    }
+    packages.display_merged_solvables(&[second, first, second], out)?;
+    Ok(true)
+}
+
+fn have_requirement_texts(
+    rt: &(impl Abort + AllocGlobal),
+    packages: &Packages,
+) -> Result<(), Fail> {
     let mut set = String::new(rt.alloc());
     let mut union = String::new(rt.alloc());
     let are_known = texts(packages, &mut set, &mut union);
@@ -196,14 +210,54 @@ fn have_texts(rt: &(impl Abort + AllocGlobal), packages: &Packages) -> Result<()
     Ok(())
 }
 
-/// The texts of a script's requirements.
+fn have_merged_text(rt: &(impl Abort + AllocGlobal), packages: &Packages) -> Result<(), Fail> {
+    let mut text = String::new(rt.alloc());
+    let are_known = merged(packages, &mut text);
+    let is_right = text.as_str() == "a a 1 | a 2";
+    drop(text);
+    assert_eq!(rt; (are_known?, is_right), (true, true));
+    Ok(())
+}
+
+fn have_texts(rt: &(impl Abort + AllocGlobal), packages: &Packages) -> Result<(), Fail> {
+    have_requirement_texts(rt, packages)?;
+    have_merged_text(rt, packages)
+}
+
+/// The texts of a script's requirements, and of its solvables together.
 #[test]
-fn requirements_have_texts(rt: HostRuntime) -> Result<(), Fail> {
+fn requirements_and_solvables_have_texts(rt: HostRuntime) -> Result<(), Fail> {
     match read_catalogue(rt.alloc(), UNIONS) {
         Ok(Some(catalogue)) => {
             let ended = have_texts(&rt, &catalogue.packages);
             drop(catalogue);
             ended
+        }
+        _ => panic!(&rt; "the catalogue has a begin"),
+    }
+}
+
+/// Whether strings 1 and 2 and conditions 2 and 3 are known.
+fn known<I: Interner>(interner: &I) -> [bool; 4] {
+    [
+        interner.knows_string(StringId(1)),
+        interner.knows_string(StringId(2)),
+        interner.knows_condition(ConditionId::new(2)),
+        interner.knows_condition(ConditionId::new(3)),
+    ]
+}
+
+/// Of two strings and three conditions, of which the first ones come twice, each has one number.
+#[test]
+fn strings_and_conditions_stand_once(rt: HostRuntime) -> Result<(), Fail> {
+    let catalogue =
+        b"set a 0 1\nstring x\nstring x\nstring y\ncondition set 0\ncondition set 0\ncondition and 0 0\ncondition or 0 1\nbegin\n";
+    match read_catalogue(rt.alloc(), catalogue) {
+        Ok(Some(catalogue)) => {
+            let known = known(&catalogue.packages);
+            drop(catalogue);
+            assert_eq!(rt; known, [true, false, true, false]);
+            Ok(())
         }
         _ => panic!(&rt; "the catalogue has a begin"),
     }
@@ -225,8 +279,8 @@ fn catalogues_have_unions_conditions_and_strings(rt: HostRuntime) -> Result<(), 
         given(b"set a 0 1\ncondition set 1\n", b"line 2 unreadable\n", 1),
         given(b"condition set 0\n", b"line 1 unreadable\n", 1),
         given(
-            b"set a 0 1\ncondition set 0\ncondition and 0 1\n",
-            b"line 3 unreadable\n",
+            b"set a 0 1\ncondition set 0\ncondition set 0\ncondition and 0 1\n",
+            b"line 4 unreadable\n",
             1,
         ),
         given(
