@@ -1,6 +1,6 @@
 //! Arenas by their calls: each with ample memory, and the ids of 16 bits to their end.
-use crate::arena_callers::{added, count, pairs, replace, total};
 use id_storage::Arena;
+use ids_callers::{added, count, pairs, replace, total};
 use std::alloc::{AllocError, Allocator, Global};
 use std::test::Fail;
 use test_checks::sees;

@@ -1,8 +1,8 @@
 //! Maps of ids, by the calls: what they answer in ample memory, and where their slots end.
 ghost use Rattle.std.specs.Prelude.{◌≡◌};
 
-use crate::mapping_callers::{clear, count_up, exchange, find_at_least};
 use id_storage::{Mapping, MappingIter};
+use ids_callers::{clear, count_up, exchange, find_at_least};
 use std::alloc::{Allocator, Global};
 use std::test::Fail;
 use test_checks::sees;

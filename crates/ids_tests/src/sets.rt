@@ -1,9 +1,9 @@
 //! The sets with ample memory: none of their calls is refused for want of it, and the answers are as wanted.
 ghost use Rattle.std.specs.Prelude.{◌≢◌};
 
-use crate::any_set::{SetAnswers, set_answers};
 use id_maps::{IndexedSet, SolverId, WithRootSet};
 use id_storage::FrozenCopyMap;
+use ids_callers::{SetAnswers, set_answers};
 use std::alloc::{Allocator, Global};
 use std::test::Fail;
 use test_checks::sees;

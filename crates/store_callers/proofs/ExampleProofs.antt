@@ -1,0 +1,21 @@
+-- Each example is computed.
+use Rattle.std.proofs.Common.{refl}
+use Rattle.store_callers.specs.Examples.{Examples}
+
+pub examples : Examples
+examples = record {
+  two_packages = refl;
+  one_package = refl;
+  met_and_undone = refl;
+  false_candidate = refl;
+  no_candidates = refl;
+  first_falsified_of_scan = refl;
+  conflict_flag = refl;
+  set_twice = refl;
+  two_packages_in_one = refl;
+  count_of_one_set = refl;
+  better_offer = refl;
+  equal_count = refl;
+  equal_score = refl;
+  root_stays = refl;
+}

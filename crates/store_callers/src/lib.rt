@@ -1,0 +1,11 @@
+//! Callers of the clause store that are generic in the provider, and worked examples that the checker computes from the
+//! definitions. They are proved from the contracts alone; `store_tests` has the same examples run by the code.
+#![tactic(auto)]
+
+mod callers;
+mod computed;
+mod law_callers;
+
+pub use callers::{ask, decides_unbeaten, load_first, obey, unknown};
+pub use computed::{examples, play_is_run};
+pub use law_callers::{search_is_done, start_again, value_of_unknown};
