@@ -12,6 +12,8 @@ mod mapping;
 #[cfg(test)]
 mod maps;
 #[cfg(test)]
+mod one_refusal;
+#[cfg(test)]
 mod refusals;
 #[cfg(test)]
 mod refused_defaults;

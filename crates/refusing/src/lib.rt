@@ -2,7 +2,7 @@
 //!
 //! What is proved is that it keeps the contract of `Allocator`: a block that it answers is whole and nobody else's, and
 //! is freed only by the right that came with it, at its own size. Which request it refuses is only tested, since no
-//! contract can say what a `Cell` holds.
+//! contract can say what a `Cell` holds: `ids_tests` has the test.
 #![tactic(auto)]
 
 use std::alloc::{AllocError, Allocator};
@@ -64,29 +64,5 @@ unsafe impl<B: Allocator> Allocator for Refusing<B> {
 
     unsafe fn deallocate(&self, ptr: *mut u8, size: usize, align: usize) {
         self.inner.deallocate(ptr, size, align);
-    }
-}
-
-#[cfg(test)]
-mod tests {
-    use super::*;
-    use std::test::Fail;
-
-    // A list's first push is a request, and its next few are none.
-    #[test]
-    fn refuses_the_second_request_alone(rt: HostRuntime) -> Result<(), Fail> {
-        let refusing = Refusing::new(rt.alloc());
-        assert!(rt; !refusing.is_armed());
-        let mut one = Vec::<u64, _>::new(&refusing);
-        let mut other = Vec::<u64, _>::new(&refusing);
-        refusing.arm(2);
-        assert!(rt; one.push(1).is_ok());
-        assert!(rt; refusing.is_armed());
-        assert!(rt; other.push(2).is_err());
-        assert!(rt; !refusing.is_armed());
-        assert!(rt; other.push(3).is_ok());
-        assert_eq!(rt; one.as_slice(), [1].as_slice());
-        assert_eq!(rt; other.as_slice(), [3].as_slice());
-        Ok(())
     }
 }
