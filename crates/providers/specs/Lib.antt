@@ -1,3 +1,4 @@
+pub mod Dependencies
 pub mod Parts
 pub mod Provider
 pub mod Requirement

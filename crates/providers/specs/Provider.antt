@@ -1,11 +1,13 @@
 -- What a provider of packages says, and the candidate lists that come of it. N are the names, S the solvables.
 use Rattle.std.specs.Prelude.{◌≡◌, ◌<◌, ℕ, Bool, true, false, not, if◌then◌else◌, List, [], ◌∷◌, filter, All, Option, None, Some}
-use Rattle.std.specs.declared.vec.Vec.{Vec}
+use Rattle.std.specs.List.{position_from, remove}
 use Rattle.typed_ids.specs.declared.solvable_id_or_root.SolvableIdOrRoot.{SolvableIdOrRoot}
 use Rattle.typed_ids.specs.declared.solvable_id_or_root.SolvableIdOrRoot.TheVariants.{Root, Solvable}
 use Rattle.typed_ids.specs.declared.string_id.StringId.{StringId}
 use Rattle.typed_ids.specs.declared.version_set_id.VersionSetId.{VersionSetId}
 use Rattle.typed_ids.specs.declared.version_set_union_id.VersionSetUnionId.{VersionSetUnionId}
+use Rattle.providers.specs.Dependencies.{Needs}
+use Rattle.providers.specs.declared.candidates.Candidates.{Candidates}
 use Rattle.providers.specs.declared.condition.Condition.{Condition}
 use Rattle.providers.specs.declared.condition.Condition.TheVariants as Cond
 use Rattle.providers.specs.declared.requirement.Requirement.{Requirement}
@@ -52,26 +54,48 @@ pub record Answers (N S : Type 0) : Type 0 where
   pub candidates : N → List S
   -- whether the version set holds the solvable
   pub matches : VersionSetId → S → Bool
+  -- the solvable of a package to try first
+  pub favored : N → Option S
   -- the solvables in the order of preference
   pub order : List S → List S
+  -- what a solvable needs
+  pub needs : S → Needs
 
--- an answered list of candidates; no answer stands for none
-abbrev pub candidates_or_none : {S A : Type 0} → Option (Vec S A) → List S
-candidates_or_none None = []
-candidates_or_none (Some found) = found.items
+-- the answered candidates of a package; no answer stands for none
+abbrev pub candidates_of : {S A : Type 0} → Option (Candidates S A) → List S
+candidates_of None = []
+candidates_of (Some found) = found.candidates.items
+
+-- the answered favored one
+abbrev pub favored_of : {S A : Type 0} → Option (Candidates S A) → Option S
+favored_of None = None
+favored_of (Some found) = found.favored
 
 -- the members that pass the test, or, if inverse, those that don't, in order
 abbrev pub filtered : {S : Type 0} → (S → Bool) → Bool → List S → List S
 filtered test inverse list = filter (λ s. if inverse then not (test s) else test s) list
 
+-- the list with s, which stands at this place, if there is one, at the front, and the rest in order
+abbrev pub from_place : {S : Type 0} → S → List S → Option ℕ → List S
+from_place s list None = list
+from_place s list (Some place) = s ∷ remove list place
+
+-- the list with the favored one, where it is among them, moved from its first place to the front
+abbrev pub favored_first : {S : Type 0} → (S → S → Bool) → Option S → List S → List S
+favored_first same None list = list
+favored_first same (Some s) list = from_place s list (position_from (λ t. same t s) 0 list)
+
 module _ {N S : Type 0} (universe : Universe N S) (answers : Answers N S) where
-  -- the candidates of the set's package that it holds
+  -- the candidates of the set's package that it holds, and the others
   abbrev pub matching : VersionSetId → List S
   matching v = filtered (answers.matches v) false (answers.candidates (universe.set_name v))
 
-  -- the candidate list of a version set: what it holds, in the order of preference
-  abbrev pub sorted : VersionSetId → List S
-  sorted v = answers.order (matching v)
+  abbrev pub non_matching : VersionSetId → List S
+  non_matching v = filtered (answers.matches v) true (answers.candidates (universe.set_name v))
+
+  -- the candidate list of a version set: what it holds, in the order of preference, but the favored one first
+  abbrev pub sorted : (S → S → Bool) → VersionSetId → List S
+  sorted same v = favored_first same (answers.favored (universe.set_name v)) (answers.order (matching v))
 
 -- the version sets of a requirement, in order
 abbrev pub sets_of : {N S : Type 0} → Universe N S → Requirement → List VersionSetId

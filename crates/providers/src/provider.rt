@@ -2,15 +2,22 @@
 ghost use Rattle.std.specs.Prelude.{◌≡◌, true, List, All, IfOk, IfErr, OnOk, OnErr};
 ghost use Rattle.std.specs.List.Sorted.{IsPermutation};
 ghost use Rattle.typed_ids.specs.declared.error.StoreError.TheVariants.{OutOfMemory};
-ghost use Rattle.providers.specs.Provider.{Answers, candidates_or_none, filtered};
+ghost use Rattle.providers.specs.Dependencies.{needs_of};
+ghost use Rattle.providers.specs.Provider.{Answers, candidates_of, favored_of, filtered};
 
+use crate::candidates::Candidates;
+use crate::dependencies::Dependencies;
 use crate::interner::Interner;
 use typed_ids::{StoreError, VersionSetId};
 
-/// Answers what a resolver asks of packages. The answers are fixed functions of the provider's value, and a refusal is
-/// want of memory.
+/// Answers what a resolver asks of packages. The candidates of a package, the favored one, which of them a version set
+/// holds, the order of preference and what a solvable needs are fixed functions of the provider's value; of what else is
+/// answered with candidates nothing is promised. A refusal is want of memory.
 pub trait DependencyProvider: Interner {
-    /// The candidates of each name, which of them each version set holds, and the order of preference.
+    /// What a provider that asks to stop hands to whoever it stops.
+    type Cancel: Drop;
+
+    /// The fixed functions.
     ghost answers: { Self → Answers Self.NameId Self.SolvableId };
 
     /// The candidates that the version set holds, or, if `inverse`, those that it doesn't, in order.
@@ -31,8 +38,9 @@ pub trait DependencyProvider: Interner {
         &self,
         alloc: Self::Alloc,
         name: Self::NameId,
-    ) -> Result<Option<Vec<Self::SolvableId, Self::Alloc>>, StoreError>
-        ensures ok { IfOk result (λ found. candidates_or_none found ≡ (answers self.now).candidates name) }
+    ) -> Result<Option<Candidates<Self::SolvableId, Self::Alloc>>, StoreError>
+        ensures candidates { IfOk result (λ found. candidates_of found ≡ (answers self.now).candidates name) }
+        ensures favored { IfOk result (λ found. favored_of found ≡ (answers self.now).favored name) }
         ensures err { IfErr result (λ e. e ≡ OutOfMemory) };
 
     /// Puts solvables in the order of preference, the best first. A refusal may leave them in any order.
@@ -45,6 +53,22 @@ pub trait DependencyProvider: Interner {
         ensures ok { OnOk result (solvables.new ≡ (answers self.now).order solvables.old) }
         ensures err { OnErr result (IsPermutation solvables.old solvables.new) }
         ensures memory { IfErr result (λ e. e ≡ OutOfMemory) };
+
+    /// What a solvable needs.
+    fn get_dependencies(
+        &self,
+        alloc: Self::Alloc,
+        solvable: Self::SolvableId,
+    ) -> Result<Dependencies<Self::Alloc>, StoreError>
+        requires { (Self.universe self.now).knows_solvable solvable ≡ true }
+        ensures ok { IfOk result (λ found. needs_of found ≡ (answers self.now).needs solvable) }
+        ensures err { IfErr result (λ e. e ≡ OutOfMemory) };
+
+    /// Whether to stop: a value is handed to whoever asked, and nothing more is asked of the provider. It is asked for
+    /// before anything costly is, and may be any at any time, so nothing is promised of it. By default there is none.
+    fn should_cancel_with_value(&self) -> Option<Self::Cancel> {
+        None
+    }
 
     /// Candidates are known solvables.
     ghost candidates_known: { (p : Self) (n : Self.NameId) → All (λ s. (Self.universe p).knows_solvable s ≡ true) ((answers p).candidates n) };
