@@ -1,1 +1,2 @@
 pub mod CandidateLemmas
+pub mod FavoredLemmas

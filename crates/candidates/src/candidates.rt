@@ -2,43 +2,56 @@
 ghost use Rattle.std.specs.Prelude.{◌≡◌, ◌+◌, ◌<◌, ◌≤◌, ◌^◌, nat_le, true, All, map, flat_map, length, IfOk, OnOk, IfErr};
 ghost use Rattle.typed_ids.specs.Refusals.{IsGrowthRefusal};
 ghost use Rattle.typed_ids.specs.declared.error.StoreError.TheVariants.{OutOfMemory, IdSpace};
-ghost use Rattle.providers.specs.Provider.{matching, sorted, sets_of, knows_requirement};
+ghost use Rattle.providers.specs.Provider.{matching, sorted, sets_of, knows_requirement, favored_of};
+ghost use Rattle.providers.specs.Provider.{candidates_of as answered_candidates};
 
-use providers::{DependencyProvider, Interner, Requirement};
+use crate::favored::put_favored_first;
+use providers::{Candidates, DependencyProvider, Interner, Requirement};
+use std::alloc::Allocator;
 use typed_ids::{DENSE_LIMIT, StoreError, VersionSetId};
 
 /// Lists of solvables, one a version set.
 pub type CandidateLists<S, A> = Vec<Vec<S, A>, A>;
 
-/// The candidates of a package; a package that there isn't has none.
+/// What a provider answered of a package; of a package that there isn't, no candidates.
+fn answered<S, A: Allocator + Copy>(alloc: A, found: Option<Candidates<S, A>>) -> Candidates<S, A>
+    ensures candidates { result.candidates.items ≡ answered_candidates found }
+    ensures favored { result.favored ≡ favored_of found }
+{
+    match found {
+        Some(candidates) => candidates,
+        None => Candidates::new(alloc),
+    }
+}
+
+/// The candidates of a package, and the favored one.
 fn candidates_of<D: DependencyProvider>(
     provider: &D,
     alloc: D::Alloc,
     name: D::NameId,
-) -> Result<Vec<D::SolvableId, D::Alloc>, StoreError>
-    ensures ok { IfOk result (λ list. list.items ≡ (D.answers provider.now).candidates name) }
+) -> Result<Candidates<D::SolvableId, D::Alloc>, StoreError>
+    ensures candidates { IfOk result (λ found. found.candidates.items ≡ (D.answers provider.now).candidates name) }
+    ensures favored { IfOk result (λ found. found.favored ≡ (D.answers provider.now).favored name) }
     ensures err { IfErr result (λ e. e ≡ OutOfMemory) }
 {
-    match provider.get_candidates(alloc, name)? {
-        Some(candidates) => Ok(candidates),
-        None => Ok(Vec::new(alloc)),
-    }
+    let found = provider.get_candidates(alloc, name)?;
+    Ok(answered(alloc, found))
 }
 
-/// The candidates that the version set holds.
+/// The candidates of the set's package that it holds.
 fn matching_candidates<D: DependencyProvider>(
     provider: &D,
     alloc: D::Alloc,
+    candidates: &[D::SolvableId],
     set: VersionSetId,
 ) -> Result<Vec<D::SolvableId, D::Alloc>, StoreError>
-    requires { (D.universe provider.now).knows_set set ≡ true }
+    requires set { (D.universe provider.now).knows_set set ≡ true }
+    requires candidates { candidates.now ≡ (D.answers provider.now).candidates ((D.universe provider.now).set_name set) }
     ensures ok { IfOk result (λ list. list.items ≡ matching (D.universe provider.now) (D.answers provider.now) set) }
     ensures known { IfOk result (λ list. All (λ s. (D.universe provider.now).knows_solvable s ≡ true) list.items) }
     ensures err { IfErr result (λ e. e ≡ OutOfMemory) }
 {
-    let name = provider.version_set_name(set);
-    let candidates = candidates_of(provider, alloc, name)?;
-    provider.filter_candidates(alloc, &candidates, set, false)
+    provider.filter_candidates(alloc, candidates, set, false)
 }
 
 /// Solvables in the order of preference.
@@ -55,18 +68,22 @@ fn in_order<D: DependencyProvider>(
     Ok(list)
 }
 
-/// The candidate list of a version set: what it holds, best first.
+/// The candidate list of a version set: what it holds, best first, but the favored one before all.
 fn sorted_candidates<D: DependencyProvider>(
     provider: &D,
     alloc: D::Alloc,
     set: VersionSetId,
 ) -> Result<Vec<D::SolvableId, D::Alloc>, StoreError>
     requires { (D.universe provider.now).knows_set set ≡ true }
-    ensures ok { IfOk result (λ list. list.items ≡ sorted (D.universe provider.now) (D.answers provider.now) set) }
+    ensures ok { IfOk result (λ list. list.items ≡ sorted (D.universe provider.now) (D.answers provider.now) D.SolvableId.eq set) }
     ensures err { IfErr result (λ e. e ≡ OutOfMemory) }
 {
-    let found = matching_candidates(provider, alloc, set)?;
-    in_order(provider, alloc, found)
+    let name = provider.version_set_name(set);
+    let found = candidates_of(provider, alloc, name)?;
+    let matching = matching_candidates(provider, alloc, &found.candidates, set)?;
+    let mut sorted = in_order(provider, alloc, matching)?;
+    put_favored_first(&mut sorted, found.favored);
+    Ok(sorted)
 }
 
 /// How many rows there are with those of one list more. A requirement has fewer than [`DENSE_LIMIT`].
@@ -88,9 +105,9 @@ fn sorted_lists<D: DependencyProvider>(
     sets: &[VersionSetId],
 ) -> Result<CandidateLists<D::SolvableId, D::Alloc>, StoreError>
     requires { All (λ v. (D.universe provider.now).knows_set v ≡ true) sets.now }
-    ensures ok { IfOk result (λ lists. map (λ l. l.items) lists.items ≡ map (sorted (D.universe provider.now) (D.answers provider.now)) sets.now) }
-    ensures few { OnOk result (length (flat_map (sorted (D.universe provider.now) (D.answers provider.now)) sets.now) < 2 ^ 40) }
-    ensures refused { IfErr result (IsGrowthRefusal (nat_le (2 ^ 40) (length (flat_map (sorted (D.universe provider.now) (D.answers provider.now)) sets.now)))) }
+    ensures ok { IfOk result (λ lists. map (λ l. l.items) lists.items ≡ map (sorted (D.universe provider.now) (D.answers provider.now) D.SolvableId.eq) sets.now) }
+    ensures few { OnOk result (length (flat_map (sorted (D.universe provider.now) (D.answers provider.now) D.SolvableId.eq) sets.now) < 2 ^ 40) }
+    ensures refused { IfErr result (IsGrowthRefusal (nat_le (2 ^ 40) (length (flat_map (sorted (D.universe provider.now) (D.answers provider.now) D.SolvableId.eq) sets.now)))) }
 {
     let mut lists = Vec::new(alloc);
     let mut rows = 0;
@@ -110,11 +127,11 @@ pub fn candidate_lists<D: DependencyProvider>(
 ) -> Result<CandidateLists<D::SolvableId, D::Alloc>, StoreError>
     requires { knows_requirement (D.universe provider.now) requirement ≡ true }
     ensures ok { IfOk result (λ lists. map (λ l. l.items) lists.items ≡
-        map (sorted (D.universe provider.now) (D.answers provider.now)) (sets_of (D.universe provider.now) requirement)) }
-    ensures few { OnOk result (length (flat_map (sorted (D.universe provider.now) (D.answers provider.now))
+        map (sorted (D.universe provider.now) (D.answers provider.now) D.SolvableId.eq) (sets_of (D.universe provider.now) requirement)) }
+    ensures few { OnOk result (length (flat_map (sorted (D.universe provider.now) (D.answers provider.now) D.SolvableId.eq)
         (sets_of (D.universe provider.now) requirement)) < 2 ^ 40) }
     ensures refused { IfErr result (IsGrowthRefusal (nat_le (2 ^ 40) (length (flat_map
-        (sorted (D.universe provider.now) (D.answers provider.now)) (sets_of (D.universe provider.now) requirement))))) }
+        (sorted (D.universe provider.now) (D.answers provider.now) D.SolvableId.eq) (sets_of (D.universe provider.now) requirement))))) }
 {
     let sets = requirement.version_sets(provider);
     sorted_lists(provider, alloc, sets.as_slice())

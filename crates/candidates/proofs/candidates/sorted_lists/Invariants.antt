@@ -5,7 +5,7 @@ use Rattle.candidates.proofs.candidates.sorted_lists.Given as goal
 
 abbrev pub invariant-loop-set : goal.invariant-loop-set
 invariant-loop-set g l =
-    let candidates = sorted (g.D.Interner.universe l.provider) (g.D.DependencyProvider.answers l.provider) in
+    let candidates = sorted (g.D.Interner.universe l.provider) (g.D.DependencyProvider.answers l.provider) g.D.SolvableId.PartialEq.eq in
     let behind = drop l.set-index l.sets in
     record {
       lists : map (λ c. c.items) l.lists.items ++ map candidates behind ≡ map candidates l.sets;
