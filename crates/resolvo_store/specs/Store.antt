@@ -106,9 +106,9 @@ module _ {N S : Type 0} (st : Store N S) where
   abbrev pub score_of : VersionSetId → ℕ
   score_of v = st.scores (st.provider.universe.set_name v)
 
-  -- the candidates of a version set
+  -- the candidates of a version set, the best first
   abbrev pub candidates_of : VersionSetId → List S
-  candidates_of v = sorted st.provider.universe st.provider.answers v
+  candidates_of v = sorted st.provider.universe st.provider.answers st.provider.same_solvable v
 
   -- all candidates of a requirement, one version set after another
   abbrev pub all_candidates : Requirement → List S

@@ -42,7 +42,7 @@ returns-in_err-candidates-clause-err g c =
 pub keep_candidates-kept-requires-clause-few : goal.keep_candidates-kept-requires-clause-few
 keep_candidates-kept-requires-clause-few g c =
     let universe = g.D.Interner.universe c.self.inside.provider in
-    let candidates = sorted universe (g.D.DependencyProvider.answers c.self.inside.provider) in
+    let candidates = sorted universe (g.D.DependencyProvider.answers c.self.inside.provider) g.D.SolvableId.PartialEq.eq in
     let lists = c.deref.result.now in
     let all : flat_map (λ l. l.items) lists ≡ flat_map candidates (sets_of universe c.args.requirement) =
     same-joined (λ l. l.items) candidates lists (sets_of universe c.args.requirement)
