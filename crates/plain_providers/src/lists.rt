@@ -5,7 +5,9 @@ ghost use Rattle.providers.specs.Provider.{filtered};
 ghost use Rattle.providers.specs.Texts.{IsAppended, IsSameText};
 ghost use Rattle.plain_providers.specs.Listed.{places_of, package_at, range_at, union_at, are_known, is_within, every_name, set_condition};
 
-use providers::{Condition, DependencyProvider, Interner};
+use providers::{
+    Candidates, Condition, Dependencies, DependencyProvider, Interner, KnownDependencies,
+};
 use std::alloc::Allocator;
 use typed_ids::{
     ConditionId, DenseIndex, NameId, SolvableId, StoreError, StringId, VersionSetId,
@@ -42,6 +44,8 @@ pub struct Lists<A: Allocator> {
     pub ranges: Vec<VersionRange, A>,
     /// The version sets of each union, whose id is its place in the list. It is known if all of them are.
     pub unions: Vec<Vec<VersionSetId, A>, A>,
+    /// The favored solvable, of whichever package.
+    pub favored: Option<SolvableId>,
     ghost few: { length packages.items ≤ 2 ^ 32 },
 }
 
@@ -169,11 +173,16 @@ impl<A: Allocator + Copy> Interner for Lists<A> {
 impl<A: Allocator + Copy> DependencyProvider for Lists<A> {
     ghost use Rattle.std.proofs.lemmas.List.Sorted.{IsPermutation-reverse};
     ghost use Rattle.plain_providers.specs.Listed.{places_known};
+    ghost use Rattle.providers.specs.Dependencies.{Known};
+
+    type Cancel = ();
 
     ghost answers = { λ p. record {
       candidates = λ n. places_of n 0 p.packages.items;
       matches = λ v s. is_within (range_at p.ranges.items v) (package_at p.packages.items s).version;
+      favored = λ n. p.favored;
       order = λ list. reverse list;
+      needs = λ s. Known [] [];
     } };
 
     ghost candidates_known = { λ p n. places_known n p.packages.items };
@@ -195,9 +204,19 @@ impl<A: Allocator + Copy> DependencyProvider for Lists<A> {
         &self,
         alloc: A,
         name: NameId,
-    ) -> Result<Option<Vec<SolvableId, A>>, StoreError> {
-        let candidates = named(alloc, &self.packages, name)?;
-        Ok(Some(candidates))
+    ) -> Result<Option<Candidates<SolvableId, A>>, StoreError> {
+        let mut found = Candidates::new(alloc);
+        found.candidates = named(alloc, &self.packages, name)?;
+        found.favored = self.favored;
+        Ok(Some(found))
+    }
+
+    fn get_dependencies(
+        &self,
+        alloc: A,
+        _solvable: SolvableId,
+    ) -> Result<Dependencies<A>, StoreError> {
+        Ok(Dependencies::Known(KnownDependencies::new(alloc)))
     }
 
     fn sort_candidates(&self, _alloc: A, solvables: &mut [SolvableId]) -> Result<(), StoreError> {

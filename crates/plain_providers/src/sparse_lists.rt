@@ -3,7 +3,7 @@ ghost use Rattle.std.specs.Prelude.{◌≡◌, map, length, refl, IfOk, IfErr};
 ghost use Rattle.typed_ids.specs.declared.error.StoreError.TheVariants.{OutOfMemory};
 
 use crate::lists::{Lists, append_name};
-use providers::{Condition, DependencyProvider, Interner};
+use providers::{Candidates, Condition, Dependencies, DependencyProvider, Interner};
 use std::alloc::Allocator;
 use typed_ids::{
     ConditionId, NameId, NameTag, SolvableId, SolvableTag, SparseId, StoreError, StringId,
@@ -129,6 +129,8 @@ impl<A: Allocator + Copy> DependencyProvider for SparseLists<A> {
     ghost use Rattle.std.proofs.lemmas.List.Sorted.{IsPermutation-reverse};
     ghost use Rattle.plain_providers.specs.Listed.{places_known};
 
+    type Cancel = ();
+
     ghost answers = { λ p. ⟦<Lists<A> as DependencyProvider>⟧.answers p.0 };
 
     ghost candidates_known = { λ p n. places_known n p.0.packages.items };
@@ -151,11 +153,25 @@ impl<A: Allocator + Copy> DependencyProvider for SparseLists<A> {
         &self,
         alloc: A,
         name: SparseName,
-    ) -> Result<Option<Vec<SparseSolvable, A>>, StoreError> {
-        match self.0.get_candidates(alloc, dense_name(name))? {
-            Some(found) => Ok(Some(sparse_list(alloc, &found)?)),
-            None => Ok(None),
-        }
+    ) -> Result<Option<Candidates<SparseSolvable, A>>, StoreError> {
+        let Some(dense) = self.0.get_candidates(alloc, dense_name(name))? else {
+            return Ok(None);
+        };
+        let mut found = Candidates::new(alloc);
+        found.candidates = sparse_list(alloc, &dense.candidates)?;
+        found.favored = match dense.favored {
+            Some(favored) => Some(sparse_solvable(favored)),
+            None => None,
+        };
+        Ok(Some(found))
+    }
+
+    fn get_dependencies(
+        &self,
+        alloc: A,
+        solvable: SparseSolvable,
+    ) -> Result<Dependencies<A>, StoreError> {
+        self.0.get_dependencies(alloc, dense_solvable(solvable))
     }
 
     fn sort_candidates(
