@@ -1,16 +1,17 @@
 -- Where a word isn't read, nothing is listed.
-use Rattle.std.proofs.Common.{◌≡◌, ℕ, true, false, List, [], ◌∷◌, ◌++◌, Some, ap, refl}
+use Rattle.std.proofs.Common.{◌≡◌, ℕ, true, false, List, [], ◌∷◌, ◌++◌, Some, Option, ap, refl}
 use Rattle.std.specs.Prelude.{None, ◌&&◌, is_some, option_map, option_and_then, length}
 use Rattle.std.specs.Prelude.{if◌then◌else◌}
 use Rattle.typed_ids.specs.declared.version_set_id.VersionSetId.{VersionSetId}
 use Rattle.script_text.specs.Numbers.{below}
-use Rattle.script_packages.specs.Ids.{number_32, are_versions}
+use Rattle.script_packages.specs.Ids.{number_32}
+use Rattle.script_packages.specs.Versions.{version_of, favored_place, each_is_version, are_versions}
 use Rattle.script_packages.specs.Listing.{Listing, has_span, listed_versions, with_version, with_versions, with_span_from, listed_sets, are_sets, with_some_union}
 
-no_versions : (l : Listing) (name : ℕ) (words : List (List ℕ)) → are_versions words ≡ false → listed_versions l name words ≡ None
+no_versions : (l : Listing) (name : ℕ) (words : List (List ℕ)) → each_is_version words ≡ false → listed_versions l name words ≡ None
 no_versions l name [] h = let no : true ≡ false = h in cc
 no_versions l name (word ∷ words) h =
-    (elim (number_32 word) as (λ o. (is_some o && are_versions words) ≡ false
+    (elim (version_of word) as (λ o. (is_some o && each_is_version words) ≡ false
     → option_and_then (λ version. listed_versions (with_version l name version) name words) o ≡ None)
     [ None ↦ λ h. refl | Some version ↦ λ h. no_versions (with_version l name version) name words h ]) h
 
@@ -18,8 +19,14 @@ pub no_package : (l : Listing) (name : ℕ) (words : List (List ℕ)) → are_ve
 no_package l name [] h = refl
 no_package l name (word ∷ words) h =
     elim (has_span l name) as (λ b. (if b then None
-    else option_map (with_span_from name (length l.pool.solvables)) (listed_versions l name (word ∷ words))) ≡ None)
-    [ true ↦ refl | false ↦ ap (option_map (with_span_from name (length l.pool.solvables))) (no_versions l name (word ∷ words) h) ]
+    else option_and_then (λ favored. option_map (with_span_from name (length l.pool.solvables) favored)
+      (listed_versions l name (word ∷ words))) (favored_place (word ∷ words))) ≡ None)
+    [ true ↦ refl | false ↦ by_place (favored_place (word ∷ words)) h ]
+  where
+    by_place : (o : Option (Option ℕ)) → (is_some o && each_is_version (word ∷ words)) ≡ false
+        → option_and_then (λ favored. option_map (with_span_from name (length l.pool.solvables) favored) (listed_versions l name (word ∷ words))) o ≡ None
+    by_place None k = refl
+    by_place (Some favored) k = ap (option_map (with_span_from name (length l.pool.solvables) favored)) (no_versions l name (word ∷ words) k)
 
 no_sets : (count : ℕ) (sets : List VersionSetId) (words : List (List ℕ)) → are_sets count words ≡ false → listed_sets count sets words ≡ None
 no_sets count sets [] h = let no : true ≡ false = h in cc

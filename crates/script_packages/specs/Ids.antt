@@ -1,6 +1,5 @@
 -- What the words of commands stand for.
-use Rattle.std.specs.Prelude.{ℕ, ◌-◌, ◌^◌, ◌==◌, Bool, true, false, List, [], ◌∷◌, Option, None, Some, is_some, option_map, if◌then◌else◌, codes}
-use Rattle.std.specs.List.{list_all}
+use Rattle.std.specs.Prelude.{ℕ, ◌-◌, ◌^◌, ◌==◌, Bool, true, false, List, [], ◌∷◌, Option, None, Some, option_map, if◌then◌else◌, codes}
 use Rattle.std.specs.Str.{bytes_eq}
 use Rattle.providers.specs.declared.requirement.Requirement.{Requirement}
 use Rattle.providers.specs.declared.requirement.Requirement.TheVariants.{Single, Union}
@@ -9,10 +8,6 @@ use Rattle.script_text.specs.Numbers.{number_of, below}
 -- a number of 32 bits: a version, a bound, a level, and the id of a solvable, a version set or a union
 abbrev pub number_32 : List ℕ → Option ℕ
 number_32 word = below (2 ^ 32) (number_of word)
-
--- whether each word is a version
-abbrev pub are_versions : List (List ℕ) → Bool
-are_versions words = list_all (λ word. is_some (number_32 word)) words
 
 abbrev pub variable_of : List ℕ → Option ℕ
 variable_of word = below (2 ^ 31 - 1) (number_of word)

@@ -8,3 +8,4 @@ pub mod OrderLaws
 pub mod PackageAnswers
 pub mod PackageLaws
 pub mod Packages
+pub mod Versions

@@ -15,6 +15,7 @@ use Rattle.script_packages.specs.declared.packages.VersionRange.{VersionRange}
 use Rattle.script_text.specs.Numbers.{below}
 use Rattle.script_packages.specs.Ids.{number_32}
 use Rattle.script_packages.specs.Packages.{same_id}
+use Rattle.script_packages.specs.Versions.{version_of, favored_place}
 
 -- what is listed: a pool whose names are their bytes, and the solvables of each name that a package line listed
 pub record Listing : Type 0 where
@@ -73,19 +74,22 @@ module _ (l : Listing) where
 abbrev pub listed_versions : Listing → ℕ → List (List ℕ) → Option Listing
 listed_versions l name [] = Some l
 listed_versions l name (word ∷ words) =
-    option_and_then (λ version. listed_versions (with_version l name version) name words) (number_32 word)
+    option_and_then (λ version. listed_versions (with_version l name version) name words) (version_of word)
 
--- with a span, whose first solvable has this number, and whose last one is the last of all
-abbrev pub with_span_from : ℕ → ℕ → Listing → Listing
-with_span_from name first l =
-    record l { spans = l.spans ++ (name, record { first = first; last = length l.pool.solvables - 1 }) ∷ [] }
+-- with a span, whose first solvable has this number, whose last one is the last of all, and whose favored one is at this
+-- place
+abbrev pub with_span_from : ℕ → ℕ → Option ℕ → Listing → Listing
+with_span_from name first favored l =
+    record l { spans = l.spans ++ (name, record { first = first; last = length l.pool.solvables - 1; favored = favored }) ∷ [] }
 
--- with the versions of a name, where it has none yet, and each of the words, of which there are some, is a version
+-- with the versions of a name, where it has none yet, and each of the words, of which there are some, is a version, and
+-- at most one has a star
 abbrev pub with_versions : Listing → ℕ → List (List ℕ) → Option Listing
 with_versions l name [] = None
 with_versions l name (word ∷ words) =
     if has_span l name then None
-    else option_map (with_span_from name (length l.pool.solvables)) (listed_versions l name (word ∷ words))
+    else option_and_then (λ favored. option_map (with_span_from name (length l.pool.solvables) favored)
+      (listed_versions l name (word ∷ words))) (favored_place (word ∷ words))
 
 -- the version sets with those of these words after them, where each word is one of so many
 abbrev pub listed_sets : ℕ → List VersionSetId → List (List ℕ) → Option (List VersionSetId)

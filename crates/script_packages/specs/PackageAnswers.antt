@@ -4,11 +4,12 @@ use Rattle.std.specs.String.{string_bytes}
 use Rattle.typed_ids.specs.declared.version_set_id.VersionSetId.{VersionSetId}
 use Rattle.providers.specs.declared.condition.Condition.TheVariants.{Requirement}
 use Rattle.package_pool.specs.declared.solvable.Solvable.{Solvable}
+use Rattle.providers.specs.Dependencies.{Known}
 use Rattle.providers.specs.Provider.{Universe, Answers}
 use Rattle.providers.specs.Texts.{Texts}
 use Rattle.script_packages.specs.declared.packages.Packages.{Packages}
 use Rattle.script_packages.specs.declared.packages.VersionRange.{VersionRange}
-use Rattle.script_packages.specs.Packages.{span_of, listed_numbers, is_within}
+use Rattle.script_packages.specs.Packages.{span_of, listed_numbers, favored_number, is_within}
 use Rattle.script_packages.specs.Order.{version_at, best_first}
 
 -- the package of a solvable
@@ -58,5 +59,7 @@ abbrev pub answers_of : Packages → Answers ℕ ℕ
 answers_of p = record {
   candidates = λ n. listed_numbers (span_of p.spans (length p.pool.solvables) n);
   matches = λ v s. is_within (range_at p.pool.version_sets v) (version_at p.pool.solvables s);
+  favored = λ n. favored_number (span_of p.spans (length p.pool.solvables) n);
   order = λ list. best_first p.pool.solvables list;
+  needs = λ s. Known [] [];
 }

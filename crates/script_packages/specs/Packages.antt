@@ -1,5 +1,5 @@
 -- What the provider of a script's packages answers. Ids are places in lists.
-use Rattle.std.specs.Prelude.{◌≡◌, ℕ, ◌<◌, ◌≤◌, ◌+◌, ◌-◌, ◌==◌, Bool, true, false, ◌&&◌, nat_le, nat_lt, List, [], ◌∷◌, All, Option, None, Some, if◌then◌else◌}
+use Rattle.std.specs.Prelude.{◌≡◌, ℕ, ◌<◌, ◌≤◌, ◌+◌, ◌-◌, ◌==◌, Bool, true, false, ◌&&◌, nat_le, nat_lt, List, [], ◌∷◌, All, Option, None, Some, option_and_then, slice_get, if◌then◌else◌}
 use Rattle.std.specs.List.{AllByRecursion}
 use Rattle.std.specs.Map.{lookup}
 use Rattle.std.proofs.lemmas.List.Elements.{All-from_recursion}
@@ -29,6 +29,11 @@ span_of spans count name = span_within count (lookup (same_id name) spans)
 abbrev pub listed_numbers : Option Span → List ℕ
 listed_numbers None = []
 listed_numbers (Some span) = numbers span.first (span.last + 1 - span.first)
+
+-- the favored one of them
+abbrev pub favored_number : Option Span → Option ℕ
+favored_number None = None
+favored_number (Some span) = option_and_then (slice_get (listed_numbers (Some span))) span.favored
 
 abbrev pub is_within : VersionRange → ℕ → Bool
 is_within r version = nat_le r.low version && nat_lt version r.high

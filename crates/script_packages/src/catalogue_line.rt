@@ -64,7 +64,7 @@ fn entry(said: Statement<'_>) -> Option<CatalogueLine<'_>>
     }
 }
 
-/// `package NAME VERSION ..`; the versions are read as they are taken.
+/// `package NAME VERSION ..`; the versions, one of which may have a star behind it, are read as they are taken.
 fn package(text: &[u8]) -> Option<CatalogueLine<'_>>
     requires { IsPrinted text.now }
     ensures { plain result ≡ package_of (words text.now) }

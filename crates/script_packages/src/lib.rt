@@ -11,6 +11,7 @@ mod ids;
 mod order;
 mod packages;
 mod provider;
+mod versions;
 
 pub use catalogue::{Catalogue, read_catalogue};
 pub use ids::{id, requirement};

@@ -7,10 +7,11 @@ ghost use Rattle.package_pool.specs.PoolProps.{pool_props};
 ghost use Rattle.script_text.specs.declared.fault.LineFault.TheVariants.{Memory, Unreadable};
 ghost use Rattle.script_text.specs.Words.{words};
 ghost use Rattle.script_text.specs.Numbers.{below};
-ghost use Rattle.script_packages.specs.Ids.{are_versions};
+ghost use Rattle.script_packages.specs.Versions.{are_versions};
 
 use crate::catalogue_line::CatalogueLine;
 use crate::ids::id;
+use crate::versions::{are_versions, favored_place, version};
 use id_storage::FrozenCopyMap;
 use package_pool::{Pool, VersionSet};
 use providers::Condition;
@@ -23,6 +24,8 @@ use typed_ids::{NameId, SolvableId, VersionSetId};
 pub struct Span {
     pub first: SolvableId,
     pub last: SolvableId,
+    /// The place of the favored one among them.
+    pub favored: Option<usize>,
 }
 
 /// The versions from `low` to below `high`.
@@ -121,7 +124,8 @@ impl Packages {
         }
     }
 
-    /// Lists a package, up to the first word that is no version, or to where memory is refused.
+    /// Lists a package, up to the first word that is no version, or to where memory is refused; nothing where two words
+    /// have a star.
     fn list_package(&mut self, name: &str, versions: &[u8]) -> Result<(), LineFault>
         ensures ok { let l = listing_of self.old in OnOk result (with_versions (named l name.now) (name_number l name.now) (words versions.now)
             ≡ Some (listing_of self.new)) }
@@ -142,15 +146,21 @@ impl Packages {
         if self.has_span(name) {
             return Err(LineFault::Unreadable);
         }
+        let favored = favored_place(versions)?;
         let Some((word, others)) = next_word(versions) else {
             return Err(LineFault::Unreadable);
         };
-        let Some(version) = id(word) else {
+        let Some(version) = version(word) else {
             return Err(LineFault::Unreadable);
         };
         let first = self.add_version(name, version)?;
         let last = self.add_others(name, first, others)?;
-        self.add_span(name, Span { first, last })
+        let span = Span {
+            first,
+            last,
+            favored,
+        };
+        self.add_span(name, span)
     }
 
     /// Makes a solvable of each version in the text, after the last one; answers which is the last one then.
@@ -169,7 +179,7 @@ impl Packages {
     {
         let mut rest = text;
         while let Some((word, others)) = next_word(rest) {
-            match id(word) {
+            match version(word) {
                 Some(version) => last = self.add_version(name, version)?,
                 None => return Err(LineFault::Unreadable),
             }
@@ -284,7 +294,7 @@ impl Packages {
     fn add_span(&mut self, name: NameId, span: Span) -> Result<(), LineFault>
         requires new { has_span (listing_of self.old) name ≡ false }
         requires last { span.last ≡ length self.old.pool.solvables - 1 }
-        ensures ok { OnOk result (listing_of self.new ≡ with_span_from name span.first (listing_of self.old)) }
+        ensures ok { OnOk result (listing_of self.new ≡ with_span_from name span.first span.favored (listing_of self.old)) }
         ensures err { IfErr result (λ e. e ≡ Memory) }
     {
         self.spans
@@ -342,18 +352,4 @@ impl Packages {
             .map_err(|_| LineFault::Memory)?;
         Ok(())
     }
-}
-
-/// Whether each word of the text is a version.
-fn are_versions(text: &[u8]) -> bool
-    ensures { result ≡ are_versions (words text.now) }
-{
-    let mut rest = text;
-    while let Some((word, others)) = next_word(rest) {
-        if id::<u32>(word).is_none() {
-            return false;
-        }
-        rest = others;
-    }
-    true
 }

@@ -1,5 +1,5 @@
 //! The provider of a script's packages.
-ghost use Rattle.std.specs.Prelude.{◌≡◌, ◌+◌, ◌-◌, length, IfOk, OnOk, OnErr, IfErr};
+ghost use Rattle.std.specs.Prelude.{◌≡◌, ◌+◌, ◌-◌, length, slice_get, option_and_then, IfOk, OnOk, OnErr, IfErr};
 ghost use Rattle.typed_ids.specs.declared.error.StoreError.TheVariants.{OutOfMemory};
 ghost use Rattle.providers.specs.Provider.{filtered};
 ghost use Rattle.providers.specs.Texts.{IsAppended, IsSameText};
@@ -9,7 +9,9 @@ ghost use Rattle.script_packages.specs.Order.{version_at, best_first};
 use crate::order::{best_first, version_at};
 use crate::packages::{Packages, Span, VersionRange};
 use package_pool::Pool;
-use providers::{Condition, DependencyProvider, Interner};
+use providers::{
+    Candidates, Condition, Dependencies, DependencyProvider, Interner, KnownDependencies,
+};
 use std::alloc::Global;
 use typed_ids::{
     ConditionId, DenseIndex, NameId, SolvableId, StoreError, StringId, VersionSetId,
@@ -126,6 +128,8 @@ impl DependencyProvider for Packages {
     ghost use Rattle.script_packages.specs.Packages.{listed_known};
     ghost use Rattle.script_packages.specs.OrderLaws.{best_first_permutes};
 
+    type Cancel = ();
+
     ghost answers = { answers_of };
 
     ghost candidates_known = { λ p n. listed_known p.spans (length p.pool.solvables) n };
@@ -147,11 +151,25 @@ impl DependencyProvider for Packages {
         &self,
         alloc: Global,
         name: NameId,
-    ) -> Result<Option<Vec<SolvableId>>, StoreError> {
-        match self.span(name) {
-            Some(span) => Ok(Some(numbers(alloc, span)?)),
-            None => Ok(None),
-        }
+    ) -> Result<Option<Candidates<SolvableId, Global>>, StoreError> {
+        let Some(span) = self.span(name) else {
+            return Ok(None);
+        };
+        let place = span.favored;
+        let candidates = numbers(alloc, span)?;
+        let favored = solvable_at(&candidates, place);
+        let mut found = Candidates::new(alloc);
+        found.candidates = candidates;
+        found.favored = favored;
+        Ok(Some(found))
+    }
+
+    fn get_dependencies(
+        &self,
+        alloc: Global,
+        _solvable: SolvableId,
+    ) -> Result<Dependencies<Global>, StoreError> {
+        Ok(Dependencies::Known(KnownDependencies::new(alloc)))
     }
 
     fn sort_candidates(
@@ -175,6 +193,13 @@ fn numbers(alloc: Global, span: Span) -> Result<Vec<SolvableId>, StoreError>
         found.push(SolvableId::from_index(i))?;
     }
     Ok(found)
+}
+
+/// The solvable at a place, if there is one.
+fn solvable_at(solvables: &[SolvableId], place: Option<usize>) -> Option<SolvableId>
+    ensures { result ≡ option_and_then (slice_get solvables.now) place }
+{
+    solvables.get(place?).copied()
 }
 
 /// The solvables whose versions are in the range, or, if `inverse`, the others.

@@ -2,7 +2,7 @@ use Rattle.std.proofs.Common.{◌≡◌, ◌+◌, ◌∙◌, Some, ap, sym, leng
 use Rattle.std.proofs.lemmas.List.{length-append, length-map}
 use Rattle.std.specs.Prelude.{option_and_then}
 use Rattle.std.specs.String.{string_bytes}
-use Rattle.script_packages.specs.Ids.{number_32}
+use Rattle.script_packages.specs.Versions.{version_of}
 use Rattle.script_packages.specs.Listing.{Listing, listing_of, listed_versions, with_version}
 use Rattle.script_text.specs.Words.{words}
 use Rattle.script_packages.proofs.packages.Packages.add_others.Goals as goal
@@ -12,8 +12,8 @@ loop-word-preserved c =
     let name = c.args.name in
     let old = listing_of c.loop-word.self in
     let left = words c.in-Some.others.now in
-    let more = c.in_ok-last-in-Some-id.ensures in
-    let number : number_32 c.in-Some.word.now ≡ Some c.in-Some-id.version = search rules in
+    let more = c.in_ok-last-in-Some-version.ensures in
+    let number : version_of c.in-Some.word.now ≡ Some c.in-Some-version.version = search rules in
     let solvables : length c.add_version.new.self.pool.solvables ≡ length c.loop-word.self.pool.solvables + 1 =
     ap (λ (l : Listing). length l.pool.solvables) more.ok ∙ length-append c.loop-word.self.pool.solvables _ in
     let names : length c.add_version.new.self.pool.names ≡ length c.loop-word.self.pool.names =
