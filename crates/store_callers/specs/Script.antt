@@ -2,6 +2,7 @@
 use Rattle.std.specs.Prelude.{ℕ, Bool, true, false, ◌==◌, ◌&&◌, ◌||◌, if◌then◌else◌, nat_lt, nat_le, List, [], ◌∷◌, map, length, filter, fold, Option, Some, None, unwrap_or, option_map, slice_get}
 use Rattle.std.specs.List.{enumerate_from}
 use Rattle.typed_ids.specs.declared.version_set_id.VersionSetId.{VersionSetId}
+use Rattle.providers.specs.Dependencies.{Known}
 use Rattle.resolvo_store.specs.Store.{Provider}
 use Rattle.plain_providers.specs.Listed.{set_condition}
 
@@ -66,6 +67,8 @@ module _ (c : Packages) where
     answers = record {
       candidates = named;
       matches = λ v s. is_within (slice_get c.sets v.0) (version s);
+      favored = λ n. None;
       order = λ list. fold (λ sorted s. inserted s sorted) [] list;
+      needs = λ s. Known [] [];
     };
   }

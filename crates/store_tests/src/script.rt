@@ -98,6 +98,7 @@ fn two_packages<A: Allocator + Copy>(alloc: A) -> Result<Lists<A>, AllocError> {
         packages,
         ranges,
         unions: Vec::new(alloc),
+        favored: None,
     })
 }
 
@@ -160,6 +161,7 @@ fn one_package<A: Allocator + Copy>(alloc: A) -> Result<Lists<A>, AllocError> {
         packages,
         ranges,
         unions: Vec::new(alloc),
+        favored: None,
     })
 }
 

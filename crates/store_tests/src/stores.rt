@@ -161,7 +161,7 @@ fn candidate_count<D: DependencyProvider>(
     name: D::NameId,
 ) -> Result<usize, StoreError> {
     match provider.get_candidates(heap, name) {
-        Ok(Some(list)) => Ok(list.len()),
+        Ok(Some(found)) => Ok(found.candidates.len()),
         Ok(None) => Ok(0),
         Err(error) => Err(error),
     }
