@@ -62,7 +62,13 @@ fn scripts_are_answered(rt: HostRuntime) -> Result<(), Fail> {
         given(b"package a\n", b"line 1 unreadable\n", 1),
         given(b"package a x\n", b"line 1 unreadable\n", 1),
         given(b"package a 1 x\n", b"line 1 unreadable\n", 1),
-        given(b"package a 1*\n", b"line 1 unreadable\n", 1),
+        given(b"package a 1*\n", b"", 0),
+        given(b"package a 1* 2*\n", b"line 1 unreadable\n", 1),
+        given(b"package a 1 2 1* 1*\n", b"line 1 unreadable\n", 1),
+        given(b"package a 1**\n", b"line 1 unreadable\n", 1),
+        given(b"package a 1 *\n", b"line 1 unreadable\n", 1),
+        given(b"package a 1 *2\n", b"line 1 unreadable\n", 1),
+        given(b"package a 4294967296*\n", b"line 1 unreadable\n", 1),
         given(b"package a 4294967296\n", b"line 1 unreadable\n", 1),
         given(b"package a 1 4294967296\n", b"line 1 unreadable\n", 1),
         given(b"set a 1 4294967296\n", b"line 1 unreadable\n", 1),
@@ -137,6 +143,30 @@ fn catalogues_are_listed(rt: HostRuntime) -> Result<(), Fail> {
         given(
             b"package a 1\nset a 1 2\nbegin\nload s0\nrequires 0 s0\nassign 1 false 0 1\nassign 1 false 0 2\nassign 1 true 0 2\nrequires 0 s0\n",
             b"loaded 1\nclause 0\nassigned\nalready\nclash\nclause 1 conflict\n",
+            0,
+        ),
+    ];
+    are_answered(&rt, &rows);
+    Ok(())
+}
+
+/// The favored version comes first, where the version set holds it.
+#[test]
+fn favored_versions_come_first(rt: HostRuntime) -> Result<(), Fail> {
+    let rows = [
+        given(
+            b"package a 3 4* 5\nset a 3 6\nbegin\nload s0\nvariable 1\nvariable 2\nvariable 0\n",
+            b"loaded 1,2,3\nvariable 1\nvariable 2\nvariable 3\n",
+            0,
+        ),
+        given(
+            b"package a 3 4 5*\nset a 3 5\nbegin\nload s0\nvariable 1\n",
+            b"loaded 1,2\nvariable 1\n",
+            0,
+        ),
+        given(
+            b"package b 9\npackage a 2 1 2*\nset a 0 9\nbegin\nload s0\nvariable 3\nvariable 1\nvariable 2\n",
+            b"loaded 1,2,3\nvariable 1\nvariable 2\nvariable 3\n",
             0,
         ),
     ];

@@ -1,5 +1,6 @@
 -- The definitions of the rooms, by topic.
 pub mod Types
+pub use Rattle.providers.specs.Dependencies
 pub use Rattle.providers.specs.Parts
 pub use Rattle.providers.specs.Provider
 pub use Rattle.providers.specs.Requirement

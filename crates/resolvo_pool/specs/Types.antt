@@ -1,7 +1,11 @@
 -- The types of the rooms, each with its fields or variants, and then their traits.
+pub use Rattle.providers.specs.declared.candidates.Candidates
+pub use Rattle.providers.specs.declared.candidates.HintDependenciesAvailable
 pub use Rattle.providers.specs.declared.condition.Condition
 pub use Rattle.providers.specs.declared.condition.LogicalOperator
 pub use Rattle.providers.specs.declared.conditional_requirement.ConditionalRequirement
+pub use Rattle.providers.specs.declared.dependencies.Dependencies
+pub use Rattle.providers.specs.declared.dependencies.KnownDependencies
 pub use Rattle.providers.specs.declared.requirement.Requirement
 pub use Rattle.providers.specs.declared.requirement_map.RequirementMap
 pub use Rattle.providers.specs.declared.version_sets.VersionSets

@@ -11,6 +11,7 @@
 
 pub use package_pool::{NameText, Pool, Solvable, VersionSet};
 pub use providers::{
-    Condition, ConditionalRequirement, DependencyProvider, Interner, LogicalOperator, Requirement,
+    Candidates, Condition, ConditionalRequirement, Dependencies, DependencyProvider,
+    HintDependenciesAvailable, Interner, KnownDependencies, LogicalOperator, Requirement,
     RequirementMap, RootText, VersionSets,
 };
