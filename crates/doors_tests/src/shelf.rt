@@ -1,5 +1,5 @@
 //! A small provider: the releases of packages in a list.
-ghost use Rattle.std.specs.Prelude.{◌≡◌, ◌==◌, ◌≤◌, ◌<◌, ◌^◌, [], true, All, length, reverse, refl, nat_lt, IfOk, OnOk, OnErr, IfErr};
+ghost use Rattle.std.specs.Prelude.{◌≡◌, ◌==◌, ◌≤◌, ◌<◌, ◌^◌, [], None, true, All, length, reverse, refl, nat_lt, IfOk, OnOk, OnErr, IfErr};
 ghost use Rattle.resolvo_ids.specs.Types.StoreError.TheVariants.{OutOfMemory};
 ghost use Rattle.resolvo_pool.specs.Provider.{filtered};
 ghost use Rattle.resolvo_pool.specs.Texts.{IsAppended, IsSameText};
@@ -9,7 +9,9 @@ use resolvo_ids::{
     ConditionId, DenseIndex, NameId, SolvableId, StoreError, StringId, VersionSetId,
     VersionSetUnionId,
 };
-use resolvo_pool::{Condition, DependencyProvider, Interner};
+use resolvo_pool::{
+    Candidates, Condition, Dependencies, DependencyProvider, Interner, KnownDependencies,
+};
 use std::alloc::Allocator;
 
 /// A solvable: a version of a package. Its id is its place on the shelf.
@@ -143,11 +145,16 @@ impl<A: Allocator + Copy> Interner for Shelf<A> {
 impl<A: Allocator + Copy> DependencyProvider for Shelf<A> {
     ghost use Rattle.std.proofs.lemmas.List.Sorted.{IsPermutation-reverse};
     ghost use Rattle.doors_tests.specs.Shelf.{places_known};
+    ghost use Rattle.resolvo_pool.specs.Dependencies.{Known};
+
+    type Cancel = ();
 
     ghost answers = { λ p. record {
       candidates = λ n. places_of n 0 p.releases.items;
       matches = λ v s. holds (since_at p.sets.items v) (release_at p.releases.items s);
+      favored = λ n. None;
       order = λ list. reverse list;
+      needs = λ s. Known [] [];
     } };
 
     ghost candidates_known = { λ p n. places_known n p.releases.items };
@@ -174,9 +181,18 @@ impl<A: Allocator + Copy> DependencyProvider for Shelf<A> {
         &self,
         alloc: A,
         name: NameId,
-    ) -> Result<Option<Vec<SolvableId, A>>, StoreError> {
-        let candidates = named(alloc, &self.releases, name)?;
-        Ok(Some(candidates))
+    ) -> Result<Option<Candidates<SolvableId, A>>, StoreError> {
+        let mut found = Candidates::new(alloc);
+        found.candidates = named(alloc, &self.releases, name)?;
+        Ok(Some(found))
+    }
+
+    fn get_dependencies(
+        &self,
+        alloc: A,
+        _solvable: SolvableId,
+    ) -> Result<Dependencies<A>, StoreError> {
+        Ok(Dependencies::Known(KnownDependencies::new(alloc)))
     }
 
     fn sort_candidates(&self, _alloc: A, solvables: &mut [SolvableId]) -> Result<(), StoreError> {
