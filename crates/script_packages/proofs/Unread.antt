@@ -20,7 +20,7 @@ no_package l name [] h = refl
 no_package l name (word ∷ words) h =
     elim (has_span l name) as (λ b. (if b then None
     else option_and_then (λ favored. option_map (with_span_from name (length l.pool.solvables) favored)
-      (listed_versions l name (word ∷ words))) (favored_place (word ∷ words))) ≡ None)
+    (listed_versions l name (word ∷ words))) (favored_place (word ∷ words))) ≡ None)
     [ true ↦ refl | false ↦ by_place (favored_place (word ∷ words)) h ]
   where
     by_place : (o : Option (Option ℕ)) → (is_some o && each_is_version (word ∷ words)) ≡ false

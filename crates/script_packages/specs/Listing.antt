@@ -89,7 +89,7 @@ with_versions l name [] = None
 with_versions l name (word ∷ words) =
     if has_span l name then None
     else option_and_then (λ favored. option_map (with_span_from name (length l.pool.solvables) favored)
-      (listed_versions l name (word ∷ words))) (favored_place (word ∷ words))
+    (listed_versions l name (word ∷ words))) (favored_place (word ∷ words))
 
 -- the version sets with those of these words after them, where each word is one of so many
 abbrev pub listed_sets : ℕ → List VersionSetId → List (List ℕ) → Option (List VersionSetId)
