@@ -9,6 +9,7 @@ use Rattle.std.proofs.lemmas.List.Elements.{All-nil, All-cons, All-head, All-tai
 use Rattle.std.proofs.lemmas.Map.Views.{Contains-from_any}
 use Rattle.typed_ids.specs.declared.error.StoreError.{StoreError}
 use Rattle.typed_ids.specs.declared.error.StoreError.TheVariants.{OutOfMemory, IdSpace}
+use Rattle.providers.specs.declared.requirement.Requirement.{Requirement}
 use Rattle.decisions.specs.Literals.{known_true}
 use Rattle.decisions.specs.Trail.{Entry, val, kept_until, HasLevel}
 use Rattle.decisions.proofs.TrailLemmas.{val-push}
@@ -18,10 +19,10 @@ use Rattle.resolvo_queue.specs.Rows.{has_true_row, frontier}
 use Rattle.resolvo_queue.specs.Scan.{add_parent, parents, clauses_of, scan, is_open, is_falsified}
 use Rattle.resolvo_queue.specs.Pick.{Offer, decided}
 use Rattle.resolvo_queue.proofs.PickLaws.{none_decided}
-use Rattle.resolvo_store.specs.Command.{Command, Assign, UndoUntil, Decide, Reply, Assigned, Already, Clash, NoDecision, Refused, IsRefused}
-use Rattle.resolvo_store.specs.Store.{Store, values, rows_of, score_of}
+use Rattle.resolvo_store.specs.Command.{Command, Load, Assign, UndoUntil, Decide, Reply, Assigned, Already, Clash, NoDecision, Refused, IsRefused}
+use Rattle.resolvo_store.specs.Store.{Store, values, lists_of, rows_of, score_of}
 use Rattle.resolvo_store.specs.Refusals.{first_refusal}
-use Rattle.resolvo_store.specs.Outcome.{outcome, assign_reply, assigned, decision, falsified_clause, picked}
+use Rattle.resolvo_store.specs.Outcome.{outcome, load, assign_reply, assigned, decision, falsified_clause, picked}
 use Rattle.resolvo_store.specs.Step.{IsAnswered, Step, may_be_refused}
 use Rattle.resolvo_store.specs.Solved.{IsSolved}
 use Rattle.resolvo_store.specs.Sound.{IsSound, IsAssigned}
@@ -168,6 +169,43 @@ module _ {N S : Type 0} where
       by_value : (o : Option Bool) → values old v ≡ o → Assigned ≡ assign_reply o value → val (assigned o old.trail entry) v ≡ Some value
       by_value None h e = val-push old.trail entry v h ∙ (let same : (v == v) ≡ true = grind (arith, nat_tests) in ap (λ b. cond b (Some value) (val old.trail v)) same)
       by_value (Some known) h e = absurd (by_test (beq known value) e)
+
+  -- after `Clash` it has the other one
+  pub clashing_value : (old new : Store N S) (v : ℕ) (value : Bool) (clause level : ℕ) → Step old (Assign v value clause level) Clash new
+      → values new v ≡ Some (not value)
+  clashing_value old new v value clause level step =
+      let answer = answered_by_outcome old new (Assign v value clause level) Clash step (λ h. h) in
+      subst (λ st. values st v ≡ Some (not value)) (sym answer.1) (by_value (values old v) refl answer.0)
+    where
+      entry : Entry
+      entry = record { decision = record { variable = v; value = value; derived_from = clause }; level = level }
+
+      other : (known value : Bool) → Clash ≡ cond (beq known value) Already Clash → known ≡ not value
+      other true true h = cc
+      other true false h = refl
+      other false true h = refl
+      other false false h = cc
+
+      by_value : (o : Option Bool) → values old v ≡ o → Clash ≡ assign_reply o value → val (assigned o old.trail entry) v ≡ Some (not value)
+      by_value None h e = cc
+      by_value (Some known) h e = h ∙ ap Some (other known value e)
+
+  -- a Load adds no clause, whatever it is answered
+  pub load_adds_no_clause : (old new : Store N S) (r : Requirement) (reply : Reply) → Step old (Load r) reply new → new.requires ≡ old.requires
+  load_adds_no_clause old new r reply step = by_refusal (first_refusal old (Load r)) step
+    where
+      by_lists : (o : Option (List (List ℕ))) → (load old r o).store.requires ≡ old.requires
+      by_lists None = refl
+      by_lists (Some lists) = refl
+
+      by_reply : (reply : Reply) → IsAnswered old (Load r) reply new → new.requires ≡ old.requires
+      by_reply (Refused e) h = ap (λ (st : Store N S). st.requires) h.1
+      by_reply _ h = ap (λ (st : Store N S). st.requires) h.2 ∙ by_lists (lists_of old r)
+
+      by_refusal : (x : Option StoreError) → MatchOption x (IsAnswered old (Load r) reply new) (λ e. (reply ≡ Refused e) × (new ≡ old))
+          → new.requires ≡ old.requires
+      by_refusal None h = by_reply reply h
+      by_refusal (Some e) h = ap (λ (st : Store N S). st.requires) h.1
 
   -- a variable that the store doesn't have has no value
   pub unknown_undecided : (st : Store N S) → IsSound st → (v : ℕ) → length st.origins ≤ v → values st v ≡ None

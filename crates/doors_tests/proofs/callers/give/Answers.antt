@@ -1,7 +1,7 @@
 use Rattle.std.proofs.Common.{subst}
 use Rattle.resolvo_store.specs.Command.{Assign, reply_of}
 use Rattle.resolvo_store.specs.Step.{Step}
-use Rattle.resolvo_store.proofs.CallerLaws.{store_in, assigned_value}
+use Rattle.resolvo_store.proofs.CallerLaws.{store_in, assigned_value, clashing_value}
 use Rattle.doors_tests.proofs.callers.give.Goals as goal
 
 pub returns-in-Assigned-clause-given : goal.returns-in-Assigned-clause-given
@@ -10,3 +10,10 @@ returns-in-Assigned-clause-given g c =
     let new = store_in c.obey.ensures.sound in
     assigned_value old new c.args.variable c.args.value c.args.clause c.args.level
     (subst (λ reply. Step old (Assign c.args.variable c.args.value c.args.clause c.args.level) (reply_of reply) new) c.in-Assigned.is c.in_ok-obey.ensures.step)
+
+pub returns-in-Clash-clause-given : goal.returns-in-Clash-clause-given
+returns-in-Clash-clause-given g c =
+    let old = store_in c.obey.ensures.was_sound in
+    let new = store_in c.obey.ensures.sound in
+    clashing_value old new c.args.variable c.args.value c.args.clause c.args.level
+    (subst (λ reply. Step old (Assign c.args.variable c.args.value c.args.clause c.args.level) (reply_of reply) new) c.in-Clash.is c.in_ok-obey.ensures.step)
