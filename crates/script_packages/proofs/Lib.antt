@@ -1,4 +1,5 @@
 pub mod Numbering
+pub mod Preferences
 pub mod Sorting
 pub mod Spans
 pub mod Unread

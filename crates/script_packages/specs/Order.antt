@@ -1,5 +1,7 @@
 -- The order of preference.
-use Rattle.std.specs.Prelude.{ℕ, ◌+◌, ◌==◌, Bool, ◌&&◌, ◌||◌, nat_lt, List, [], ◌∷◌, fold, insert, slice_get, Option, None, Some, if◌then◌else◌}
+use Rattle.std.specs.Prelude.{ℕ, List, [], ◌∷◌, slice_get, Option, None, Some, if◌then◌else◌}
+use Rattle.std.specs.declared.cmp.Ordering.{Ordering}
+use Rattle.std.specs.Ordering.{nat_cmp, ordering_then, is_lt}
 use Rattle.package_pool.specs.declared.solvable.Solvable.{Solvable}
 
 -- the version of a solvable, 0 where there is none
@@ -11,19 +13,19 @@ abbrev pub version_at : List (Solvable ℕ) → ℕ → ℕ
 version_at all s = version_or_zero (slice_get all s)
 
 -- a higher version comes first, and of one version the smaller number
-abbrev pub is_before : List (Solvable ℕ) → ℕ → ℕ → Bool
-is_before all s t =
-    nat_lt (version_at all t) (version_at all s) || ((version_at all s == version_at all t) && nat_lt s t)
+abbrev pub preference : List (Solvable ℕ) → ℕ → ℕ → Ordering
+preference all s t = ordering_then (nat_cmp (version_at all t) (version_at all s)) (nat_cmp s t)
 
--- how many at the front come before s
-abbrev pub place_of : List (Solvable ℕ) → ℕ → List ℕ → ℕ
-place_of all s [] = 0
-place_of all s (t ∷ ts) = if is_before all t s then place_of all s ts + 1 else 0
+-- x behind those at the front that are less
+abbrev pub insert_sorted : {X : Type 0} → (X → X → Ordering) → X → List X → List X
+insert_sorted cmp x [] = x ∷ []
+insert_sorted cmp x (y ∷ ys) = if is_lt (cmp y x) then y ∷ insert_sorted cmp x ys else x ∷ y ∷ ys
 
--- s after those at the front that come before it
-abbrev pub inserted : List (Solvable ℕ) → List ℕ → ℕ → List ℕ
-inserted all sorted s = insert sorted (place_of all s sorted) s
+-- the members in order
+abbrev pub sort_by : {X : Type 0} → (X → X → Ordering) → List X → List X
+sort_by cmp [] = []
+sort_by cmp (x ∷ xs) = insert_sorted cmp x (sort_by cmp xs)
 
 -- the solvables, the best first
 abbrev pub best_first : List (Solvable ℕ) → List ℕ → List ℕ
-best_first all list = fold (inserted all) [] list
+best_first all list = sort_by (preference all) list

@@ -4,9 +4,9 @@ ghost use Rattle.typed_ids.specs.declared.error.StoreError.TheVariants.{OutOfMem
 ghost use Rattle.providers.specs.Provider.{filtered};
 ghost use Rattle.providers.specs.Texts.{IsAppended, IsSameText};
 ghost use Rattle.script_packages.specs.Packages.{numbers, is_within};
-ghost use Rattle.script_packages.specs.Order.{version_at, best_first};
+ghost use Rattle.script_packages.specs.Order.{version_at};
 
-use crate::order::{best_first, version_at};
+use crate::order::{sort_best_first, version_at};
 use crate::packages::{Packages, Span, VersionRange};
 use package_pool::Pool;
 use providers::{
@@ -174,11 +174,10 @@ impl DependencyProvider for Packages {
 
     fn sort_candidates(
         &self,
-        alloc: Global,
+        _alloc: Global,
         solvables: &mut [SolvableId],
     ) -> Result<(), StoreError> {
-        let sorted = best_first(alloc, &self.pool, solvables)?;
-        solvables.copy_from_slice(&sorted);
+        sort_best_first(&self.pool, solvables);
         Ok(())
     }
 }
