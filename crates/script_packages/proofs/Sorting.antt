@@ -46,10 +46,9 @@ module _ {X : Type 0} (cmp : X → X → Ordering) (total : IsTotalOrder cmp) (a
   ascends_from_sorted : (xs : List X) → IsSorted cmp xs → Ascends xs
   ascends_from_sorted [] sorted = tt
   ascends_from_sorted (x ∷ xs) sorted =
-      let tail : IsSorted cmp xs = λ k d p q. rw add-one (rw add-one at (sorted (suc k) d (omega arith) (omega arith))) in
-      (
+      let tail : IsSorted cmp xs = λ k d p q. rw add-one (rw add-one at (sorted (suc k) d (omega arith) (omega arith))) in (
         recursion_from_All (λ y. lt y x ≡ false) xs (λ k d below. sorted_far lt ranks (x ∷ xs) sorted 0 (suc k) d (omega arith) (omega arith)),
-        ascends_from_sorted xs tail
+        ascends_from_sorted xs tail,
       )
 
   -- `sort_by` ascends
