@@ -9,5 +9,7 @@ pub use Rattle.providers.specs.RequirementMapLends
 pub use Rattle.providers.specs.Texts
 pub use Rattle.package_pool.specs.Interned
 pub use Rattle.package_pool.specs.Pool
+pub use Rattle.package_pool.specs.PoolIds
+pub use Rattle.package_pool.specs.PoolLaws
 pub use Rattle.package_pool.specs.PoolProps
 pub use Rattle.package_pool.specs.PoolView

@@ -6,6 +6,5 @@ pub mod Listing
 pub mod Order
 pub mod OrderLaws
 pub mod PackageAnswers
-pub mod PackageLaws
 pub mod Packages
 pub mod Versions

@@ -20,7 +20,7 @@ use typed_ids::{
 
 impl Interner for Packages {
     ghost use Rattle.script_packages.specs.PackageAnswers.{universe_of, texts_of};
-    ghost use Rattle.script_packages.specs.PackageLaws.{solvable_names_known, set_names_known, union_sets_known, operands_known};
+    ghost use Rattle.package_pool.specs.PoolLaws.{pool_solvable_names, pool_set_names, pool_union_sets, pool_operands};
 
     type Alloc = Global;
 
@@ -32,13 +32,13 @@ impl Interner for Packages {
 
     ghost texts = { texts_of };
 
-    ghost solvable_names_known = { solvable_names_known };
+    ghost solvable_names_known = { λ p. pool_solvable_names p.pool p.of_itself };
 
-    ghost set_names_known = { set_names_known };
+    ghost set_names_known = { λ p. pool_set_names p.pool p.of_itself };
 
-    ghost union_sets_known = { union_sets_known };
+    ghost union_sets_known = { λ p. pool_union_sets p.pool p.of_itself };
 
-    ghost operands_known = { operands_known };
+    ghost operands_known = { λ p. pool_operands p.pool p.of_itself };
 
     fn knows_string(&self, string: StringId) -> bool {
         self.pool.knows_string(string)
