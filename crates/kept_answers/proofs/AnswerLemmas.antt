@@ -1,0 +1,157 @@
+-- The places of questions, and the answers that stand there.
+use Rattle.std.proofs.Common.{◌≡◌, ◌≢◌, ℕ, suc, ◌+◌, ◌<◌, ◌≤◌, ◌^◌, ◌||◌, Bool, true, false, not, cond, ltb, min, List, [], ◌∷◌, ◌++◌, length, length-append, slice_get, is_some, Option, None, Some, option_map, refl, arith, sym, ◌∙◌, ap, subst}
+use Rattle.std.specs.Cmp.{IsEquivalence}
+use Rattle.std.specs.List.{IsDistinct, position_from, position_or_len, list_any}
+use Rattle.std.specs.Map.{lookup, keys_of, values_of}
+use Rattle.std.proofs.lemmas.Bool.Decides.{nat_tests}
+use Rattle.std.proofs.lemmas.Iterator.Adapters.{position_from-zero}
+use Rattle.std.proofs.lemmas.List.{map-append}
+use Rattle.std.proofs.lemmas.Map.Entries.{length-keys_of}
+use Rattle.std.proofs.lemmas.Map.Keys.{IsDistinct-push}
+use Rattle.std.proofs.lemmas.Option.{slice_get-map}
+use Rattle.typed_ids.specs.TotalMaps.{IsUpdate, SameValues}
+use Rattle.kept_answers.specs.KeptAnswers.{place_of, AreKept}
+
+module _ {K V : Type 0} (test : K → Bool) where
+  -- a question has a place exactly where it has an answer
+  has_place : (n : ℕ) (kept : List (K × V)) → is_some (position_from test n (keys_of kept)) ≡ is_some (lookup test kept)
+  has_place n [] = refl
+  has_place n (e ∷ kept) =
+      elim (test e.0) as (λ b. is_some (cond b (Some n) (position_from test (n + 1) (keys_of kept))) ≡ is_some (cond b (Some e.1) (lookup test kept)))
+      [ true ↦ refl | false ↦ has_place (n + 1) kept ]
+
+  -- it is among the questions exactly where it has an answer
+  is_among : (kept : List (K × V)) → list_any test (keys_of kept) ≡ is_some (lookup test kept)
+  is_among [] = refl
+  is_among (e ∷ kept) =
+      elim (test e.0) as (λ b. (b || list_any test (keys_of kept)) ≡ is_some (cond b (Some e.1) (lookup test kept)))
+      [ true ↦ refl | false ↦ is_among kept ]
+
+  -- the answer stands in the question's place
+  answer_in_place : (kept : List (K × V)) → lookup test kept ≡ slice_get (values_of kept) (position_or_len test (keys_of kept))
+  answer_in_place [] = refl
+  answer_in_place (e ∷ kept) =
+      elim (test e.0) as (λ b. cond b (Some e.1) (lookup test kept) ≡ slice_get (values_of (e ∷ kept)) (cond (not b) (1 + position_or_len test (keys_of kept)) 0)) [
+        | true ↦ refl
+        | false ↦
+            let next : suc (position_or_len test (keys_of kept)) ≡ 1 + position_or_len test (keys_of kept) = omega arith in
+            answer_in_place kept ∙ ap (slice_get (values_of (e ∷ kept))) next
+      ]
+
+-- ---- places in a list of keys
+
+module _ {K : Type 0} (test : K → Bool) where
+  -- a place that is there is the first that passes, and within the list
+  place_is : (p : ℕ) (keys : List K) → position_from test 0 keys ≡ Some p → (position_or_len test keys ≡ p) × (p < length keys)
+  place_is p keys at = by_test (ltb (position_or_len test keys) (length keys)) refl (position_from-zero test keys ∙ at)
+    where
+      by_test : (b : Bool) → ltb (position_or_len test keys) (length keys) ≡ b → cond b (Some (position_or_len test keys)) None ≡ Some p
+          → (position_or_len test keys ≡ p) × (p < length keys)
+      by_test true t e =
+          let same : position_or_len test keys ≡ p = cc in
+          (same, grind (arith, nat_tests, t, same))
+      by_test false t e = (let no : ⊥ = cc in absurd no)
+
+  -- a key more at the end, which fails, has no place
+  place-push_other : (n : ℕ) (keys : List K) (key : K) → test key ≡ false
+      → position_from test n (keys ++ key ∷ []) ≡ position_from test n keys
+  place-push_other n [] key fails = ap (λ b. cond b (Some n) None) fails
+  place-push_other n (k ∷ keys) key fails = ap (cond (test k) (Some n)) (place-push_other (n + 1) keys key fails)
+
+  -- one that passes has its place there, if it is the first
+  place-push_new : (n m : ℕ) (keys : List K) (key : K) → m ≡ n + length keys → position_from test n keys ≡ None → test key ≡ true
+      → position_from test n (keys ++ key ∷ []) ≡ Some m
+  place-push_new n m [] key e none passes =
+      let same : n ≡ m = omega arith in
+      ap (λ b. cond b (Some n) None) passes ∙ ap Some same
+  place-push_new n m (k ∷ keys) key e none passes =
+      (elim (test k) as (λ b. cond b (Some n) (position_from test (n + 1) keys) ≡ None
+      → cond b (Some n) (position_from test (n + 1) (keys ++ key ∷ [])) ≡ Some m) [
+        | true ↦ λ h. (let no : ⊥ = cc in absurd no)
+        | false ↦ λ h. place-push_new (n + 1) m keys key (omega arith) h passes
+      ]) none
+
+-- what isn't some is none
+none_from : {X : Type 0} (o : Option X) → is_some o ≡ false → o ≡ None
+none_from None e = refl
+none_from (Some x) e = cc
+
+-- ---- answers that are kept
+
+-- no answers
+pub AreKept-none : {K V : Type 0} (same : K → K → Bool) (limit : ℕ) (slots : K → Option ℕ) → ((key : K) → slots key ≡ None)
+    → AreKept {V = V} same limit slots []
+unfolding IsDistinct
+AreKept-none same limit slots none = record { agrees = none; few = omega arith; distinct = tt }
+
+-- where a slot has a place
+module _ {K V : Type 0} (same : K → K → Bool) (limit : ℕ) (slots : K → Option ℕ) (kept : List (K × V)) (key : K) (p : ℕ)
+    (are : AreKept same limit slots kept) (slot : slots key ≡ Some p) where
+  at : place_of same kept key ≡ Some p
+  at = sym (are.agrees key) ∙ slot
+
+  -- there is an id for it, and an answer
+  pub place_below : (p < length kept) × (p < limit)
+  place_below =
+      let within : p < length (keys_of kept) = (place_is (same key) p (keys_of kept) at).1 in
+      let size : length (keys_of kept) ≡ length kept = length-keys_of kept in
+      let few : length kept ≤ min limit (2 ^ 32) = are.few in
+      (omega arith, omega arith)
+
+  -- the answer is that of the entry there
+  pub answer_at : (e : K × V) → slice_get kept p ≡ Some e → lookup (same key) kept ≡ Some e.1
+  answer_at e is =
+      answer_in_place (same key) kept ∙ ap (slice_get (values_of kept)) (place_is (same key) p (keys_of kept) at).0
+      ∙ slice_get-map (λ e. e.1) kept p ∙ ap (option_map (λ e. e.1)) is
+
+-- a question has an answer where its slot has a place
+pub some_answer : {K V : Type 0} (same : K → K → Bool) (limit : ℕ) (slots : K → Option ℕ) (kept : List (K × V)) (key : K)
+    → AreKept same limit slots kept → is_some (slots key) ≡ is_some (lookup (same key) kept)
+some_answer same limit slots kept key are = ap is_some (are.agrees key) ∙ has_place (same key) 0 kept
+
+-- and none where it has none
+pub no_answer : {K V : Type 0} (same : K → K → Bool) (limit : ℕ) (slots : K → Option ℕ) (kept : List (K × V)) (key : K)
+    → AreKept same limit slots kept → slots key ≡ None → lookup (same key) kept ≡ None
+no_answer same limit slots kept key are slot =
+    none_from _ (sym (some_answer same limit slots kept key are) ∙ ap is_some slot)
+
+-- a question more, which has no answer yet, differs from all others
+distinct-push : {K V : Type 0} (same : K → K → Bool) → IsEquivalence same → (kept : List (K × V)) (key : K)
+    → IsDistinct same (keys_of kept) → lookup (same key) kept ≡ None → IsDistinct same (keys_of kept ++ key ∷ [])
+distinct-push same laws kept key distinct none =
+    IsDistinct-push laws (keys_of kept) key distinct (is_among (same key) kept ∙ ap is_some none)
+
+-- the questions differ, with the one that has no answer yet
+pub all_distinct : {K V : Type 0} (same : K → K → Bool) → IsEquivalence same → (limit : ℕ) (slots : K → Option ℕ) (inside kept : List (K × V)) (key : K)
+    → AreKept same limit slots inside → inside ≡ kept → lookup (same key) kept ≡ None → IsDistinct same (keys_of kept ++ key ∷ [])
+all_distinct same laws limit slots inside kept key are is none =
+    distinct-push same laws kept key (subst (λ l. IsDistinct same (keys_of l)) is are.distinct) none
+
+-- an answer more, for which the next place was put
+pub AreKept-push : {K V : Type 0} (same : K → K → Bool) → IsEquivalence same → ((a b : K) → same a b ≡ true → a ≡ b)
+    → (limit m : ℕ) (f g h : K → Option ℕ) (kept : List (K × V)) (key : K) (value : V) → m ≡ length kept → m < min limit (2 ^ 32)
+    → AreKept same limit f kept → SameValues f g → lookup (same key) kept ≡ None → IsUpdate g key (Some m) h
+    → AreKept same limit h (kept ++ (key, value) ∷ [])
+AreKept-push {K} {V} same laws is_sameness limit m f g h kept key value size below are alike none put =
+    record {
+      agrees = λ other. by_test other (same other key) refl ∙ sym (ap (position_from (same other) 0) pushed);
+      few = simp length-append (omega arith);
+      distinct = subst (IsDistinct same) (sym pushed) (distinct-push same laws kept key are.distinct none);
+    }
+  where
+    pushed : keys_of (kept ++ (key, value) ∷ []) ≡ keys_of kept ++ key ∷ []
+    pushed = map-append (λ e. e.0) kept ((key, value) ∷ [])
+
+    new : place_of same kept key ≡ None
+    new = none_from _ (has_place (same key) 0 kept ∙ ap is_some none)
+
+    last : m ≡ 0 + length (keys_of kept)
+    last = let e : length (keys_of kept) ≡ length kept = length-keys_of kept in omega arith
+
+    by_test : (other : K) (b : Bool) → same other key ≡ b → h other ≡ position_from (same other) 0 (keys_of kept ++ key ∷ [])
+    by_test other true t =
+        subst (λ k. h k ≡ position_from (same k) 0 (keys_of kept ++ key ∷ [])) (sym (is_sameness other key t))
+        (put.0 ∙ sym (place-push_new (same key) 0 m (keys_of kept) key last new (laws.refl key)))
+    by_test other false t =
+        let apart : other ≢ key = λ e. (let no : true ≡ false = sym (laws.refl key) ∙ ap (λ k. same k key) (sym e) ∙ t in let bad : ⊥ = cc in bad) in
+        put.1 other apart ∙ alike other ∙ are.agrees other ∙ sym (place-push_other (same other) 0 (keys_of kept) key t)
