@@ -24,8 +24,8 @@ fn answered<S, A: Allocator + Copy>(alloc: A, found: Option<Candidates<S, A>>) -
     }
 }
 
-/// The candidates of a package, and the favored one.
-fn candidates_of<D: DependencyProvider>(
+/// The provider's answer for a package; one that there isn't has no candidates.
+pub fn candidates_of<D: DependencyProvider>(
     provider: &D,
     alloc: D::Alloc,
     name: D::NameId,

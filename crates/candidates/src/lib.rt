@@ -8,4 +8,5 @@
 mod candidates;
 mod favored;
 
-pub use candidates::{CandidateLists, candidate_lists};
+pub use candidates::{CandidateLists, candidate_lists, candidates_of};
+pub use favored::put_favored_first;

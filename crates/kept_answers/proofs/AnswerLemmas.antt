@@ -1,5 +1,5 @@
 -- The places of questions, and the answers that stand there.
-use Rattle.std.proofs.Common.{◌≡◌, ◌≢◌, ℕ, suc, ◌+◌, ◌<◌, ◌≤◌, ◌^◌, ◌||◌, Bool, true, false, not, cond, ltb, min, List, [], ◌∷◌, ◌++◌, length, length-append, slice_get, is_some, Option, None, Some, option_map, refl, arith, sym, ◌∙◌, ap, subst}
+use Rattle.std.proofs.Common.{◌≡◌, ◌≢◌, ℕ, suc, ◌+◌, ◌<◌, ◌≤◌, ◌^◌, ◌||◌, Bool, true, false, not, cond, ltb, min, leb, List, [], ◌∷◌, ◌++◌, length, length-append, slice_get, is_some, Option, None, Some, option_map, refl, arith, sym, ◌∙◌, ap, subst}
 use Rattle.std.specs.Cmp.{IsEquivalence}
 use Rattle.std.specs.List.{IsDistinct, position_from, position_or_len, list_any}
 use Rattle.std.specs.Map.{lookup, keys_of, values_of}
@@ -10,18 +10,18 @@ use Rattle.std.proofs.lemmas.Map.Entries.{length-keys_of}
 use Rattle.std.proofs.lemmas.Map.Keys.{IsDistinct-push}
 use Rattle.std.proofs.lemmas.Option.{slice_get-map}
 use Rattle.typed_ids.specs.TotalMaps.{IsUpdate, SameValues}
-use Rattle.kept_answers.specs.KeptAnswers.{place_of, AreKept}
+use Rattle.kept_answers.specs.KeptAnswers.{place_of, lacks_answer, AreKept}
 
 module _ {K V : Type 0} (test : K → Bool) where
   -- a question has a place exactly where it has an answer
-  has_place : (n : ℕ) (kept : List (K × V)) → is_some (position_from test n (keys_of kept)) ≡ is_some (lookup test kept)
+  pub has_place : (n : ℕ) (kept : List (K × V)) → is_some (position_from test n (keys_of kept)) ≡ is_some (lookup test kept)
   has_place n [] = refl
   has_place n (e ∷ kept) =
       elim (test e.0) as (λ b. is_some (cond b (Some n) (position_from test (n + 1) (keys_of kept))) ≡ is_some (cond b (Some e.1) (lookup test kept)))
       [ true ↦ refl | false ↦ has_place (n + 1) kept ]
 
   -- it is among the questions exactly where it has an answer
-  is_among : (kept : List (K × V)) → list_any test (keys_of kept) ≡ is_some (lookup test kept)
+  pub is_among : (kept : List (K × V)) → list_any test (keys_of kept) ≡ is_some (lookup test kept)
   is_among [] = refl
   is_among (e ∷ kept) =
       elim (test e.0) as (λ b. (b || list_any test (keys_of kept)) ≡ is_some (cond b (Some e.1) (lookup test kept)))
@@ -42,7 +42,7 @@ module _ {K V : Type 0} (test : K → Bool) where
 
 module _ {K : Type 0} (test : K → Bool) where
   -- a place that is there is the first that passes, and within the list
-  place_is : (p : ℕ) (keys : List K) → position_from test 0 keys ≡ Some p → (position_or_len test keys ≡ p) × (p < length keys)
+  pub place_is : (p : ℕ) (keys : List K) → position_from test 0 keys ≡ Some p → (position_or_len test keys ≡ p) × (p < length keys)
   place_is p keys at = by_test (ltb (position_or_len test keys) (length keys)) refl (position_from-zero test keys ∙ at)
     where
       by_test : (b : Bool) → ltb (position_or_len test keys) (length keys) ≡ b → cond b (Some (position_or_len test keys)) None ≡ Some p
@@ -53,13 +53,13 @@ module _ {K : Type 0} (test : K → Bool) where
       by_test false t e = (let no : ⊥ = cc in absurd no)
 
   -- a key more at the end, which fails, has no place
-  place-push_other : (n : ℕ) (keys : List K) (key : K) → test key ≡ false
+  pub place-push_other : (n : ℕ) (keys : List K) (key : K) → test key ≡ false
       → position_from test n (keys ++ key ∷ []) ≡ position_from test n keys
   place-push_other n [] key fails = ap (λ b. cond b (Some n) None) fails
   place-push_other n (k ∷ keys) key fails = ap (cond (test k) (Some n)) (place-push_other (n + 1) keys key fails)
 
   -- one that passes has its place there, if it is the first
-  place-push_new : (n m : ℕ) (keys : List K) (key : K) → m ≡ n + length keys → position_from test n keys ≡ None → test key ≡ true
+  pub place-push_new : (n m : ℕ) (keys : List K) (key : K) → m ≡ n + length keys → position_from test n keys ≡ None → test key ≡ true
       → position_from test n (keys ++ key ∷ []) ≡ Some m
   place-push_new n m [] key e none passes =
       let same : n ≡ m = omega arith in
@@ -78,54 +78,41 @@ none_from (Some x) e = cc
 
 -- ---- answers that are kept
 
--- no answers
-pub AreKept-none : {K V : Type 0} (same : K → K → Bool) (limit : ℕ) (slots : K → Option ℕ) → ((key : K) → slots key ≡ None)
-    → AreKept {V = V} same limit slots []
-unfolding IsDistinct
-AreKept-none same limit slots none = record { agrees = none; few = omega arith; distinct = tt }
+-- the answer stands in the question's place
+pub answer_at : {K V : Type 0} (same : K → K → Bool) (kept : List (K × V)) (key : K) (p : ℕ) → place_of same kept key ≡ Some p
+    → slice_get (values_of kept) p ≡ lookup (same key) kept
+answer_at same kept key p at =
+    sym (answer_in_place (same key) kept ∙ ap (slice_get (values_of kept)) (place_is (same key) p (keys_of kept) at).0)
 
--- where a slot has a place
-module _ {K V : Type 0} (same : K → K → Bool) (limit : ℕ) (slots : K → Option ℕ) (kept : List (K × V)) (key : K) (p : ℕ)
-    (are : AreKept same limit slots kept) (slot : slots key ≡ Some p) where
-  at : place_of same kept key ≡ Some p
-  at = sym (are.agrees key) ∙ slot
+-- and so there is one
+pub some_answer : {K V : Type 0} (same : K → K → Bool) (kept : List (K × V)) (key : K) (p : ℕ) → place_of same kept key ≡ Some p
+    → true ≡ is_some (lookup (same key) kept)
+some_answer same kept key p at = sym (ap is_some at) ∙ has_place (same key) 0 kept
 
-  -- there is an id for it, and an answer
-  pub place_below : (p < length kept) × (p < limit)
-  place_below =
-      let within : p < length (keys_of kept) = (place_is (same key) p (keys_of kept) at).1 in
-      let size : length (keys_of kept) ≡ length kept = length-keys_of kept in
-      let few : length kept ≤ min limit (2 ^ 32) = are.few in
-      (omega arith, omega arith)
+-- a question without a place has no answer
+pub no_answer : {K V : Type 0} (same : K → K → Bool) (kept : List (K × V)) (key : K)
+    → place_of same kept key ≡ None → lookup (same key) kept ≡ None
+no_answer same kept key none = none_from _ (sym (has_place (same key) 0 kept) ∙ ap is_some none)
 
-  -- the answer is that of the entry there
-  pub answer_at : (e : K × V) → slice_get kept p ≡ Some e → lookup (same key) kept ≡ Some e.1
-  answer_at e is =
-      answer_in_place (same key) kept ∙ ap (slice_get (values_of kept)) (place_is (same key) p (keys_of kept) at).0
-      ∙ slice_get-map (λ e. e.1) kept p ∙ ap (option_map (λ e. e.1)) is
+-- a place is below the limit, and a slot's number
+pub place_below : {K V : Type 0} (same : K → K → Bool) (limit : ℕ) (slots : K → Option ℕ) (kept : List (K × V)) (key : K) (p : ℕ)
+    → AreKept same limit slots kept → place_of same kept key ≡ Some p → (p < length kept) × (p < limit)
+place_below same limit slots kept key p are at =
+    let within : p < length (keys_of kept) = (place_is (same key) p (keys_of kept) at).1 in
+    let size : length (keys_of kept) ≡ length kept = length-keys_of kept in
+    let few : length kept ≤ min limit (2 ^ 32) = are.few in
+    (omega arith, omega arith)
 
--- a question has an answer where its slot has a place
-pub some_answer : {K V : Type 0} (same : K → K → Bool) (limit : ℕ) (slots : K → Option ℕ) (kept : List (K × V)) (key : K)
-    → AreKept same limit slots kept → is_some (slots key) ≡ is_some (lookup (same key) kept)
-some_answer same limit slots kept key are = ap is_some (are.agrees key) ∙ has_place (same key) 0 kept
-
--- and none where it has none
-pub no_answer : {K V : Type 0} (same : K → K → Bool) (limit : ℕ) (slots : K → Option ℕ) (kept : List (K × V)) (key : K)
-    → AreKept same limit slots kept → slots key ≡ None → lookup (same key) kept ≡ None
-no_answer same limit slots kept key are slot =
-    none_from _ (sym (some_answer same limit slots kept key are) ∙ ap is_some slot)
+-- the same places belong to the same answers
+pub AreKept-same : {K V : Type 0} (same : K → K → Bool) (limit : ℕ) (f g : K → Option ℕ) (kept : List (K × V)) → SameValues f g
+    → AreKept same limit f kept → AreKept same limit g kept
+AreKept-same same limit f g kept alike are = record { agrees = λ key. alike key ∙ are.agrees key; few = are.few; distinct = are.distinct }
 
 -- a question more, which has no answer yet, differs from all others
-distinct-push : {K V : Type 0} (same : K → K → Bool) → IsEquivalence same → (kept : List (K × V)) (key : K)
+pub distinct-push : {K V : Type 0} (same : K → K → Bool) → IsEquivalence same → (kept : List (K × V)) (key : K)
     → IsDistinct same (keys_of kept) → lookup (same key) kept ≡ None → IsDistinct same (keys_of kept ++ key ∷ [])
 distinct-push same laws kept key distinct none =
     IsDistinct-push laws (keys_of kept) key distinct (is_among (same key) kept ∙ ap is_some none)
-
--- the questions differ, with the one that has no answer yet
-pub all_distinct : {K V : Type 0} (same : K → K → Bool) → IsEquivalence same → (limit : ℕ) (slots : K → Option ℕ) (inside kept : List (K × V)) (key : K)
-    → AreKept same limit slots inside → inside ≡ kept → lookup (same key) kept ≡ None → IsDistinct same (keys_of kept ++ key ∷ [])
-all_distinct same laws limit slots inside kept key are is none =
-    distinct-push same laws kept key (subst (λ l. IsDistinct same (keys_of l)) is are.distinct) none
 
 -- an answer more, for which the next place was put
 pub AreKept-push : {K V : Type 0} (same : K → K → Bool) → IsEquivalence same → ((a b : K) → same a b ≡ true → a ≡ b)
@@ -155,3 +142,17 @@ AreKept-push {K} {V} same laws is_sameness limit m f g h kept key value size bel
     by_test other false t =
         let apart : other ≢ key = λ e. (let no : true ≡ false = sym (laws.refl key) ∙ ap (λ k. same k key) (sym e) ∙ t in let bad : ⊥ = cc in bad) in
         put.1 other apart ∙ alike other ∙ are.agrees other ∙ sym (place-push_other (same other) 0 (keys_of kept) key t)
+
+-- ---- when an answer can be kept
+
+pub not_lacking : {K : Type 0} (limit : ℕ) (is_large : K → Bool) (count : ℕ) (key : K) → count < min limit (2 ^ 32) → is_large key ≡ false
+    → lacks_answer limit is_large count key ≡ false
+not_lacking limit is_large count key below fits =
+    let out : leb (min limit (2 ^ 32)) count ≡ false = grind (arith, nat_tests) in
+    ap (λ b. b || is_large key) out ∙ fits
+
+-- no answers
+pub none_kept : {K V : Type 0} (same : K → K → Bool) (limit : ℕ) (slots : K → Option ℕ) → ((key : K) → slots key ≡ None)
+    → AreKept {K = K} {V = V} same limit slots []
+unfolding IsDistinct
+none_kept same limit slots none = record { agrees = none; few = omega arith; distinct = tt }

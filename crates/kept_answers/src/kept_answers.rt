@@ -1,5 +1,5 @@
 //! Answers, each found by the id that its question is about.
-ghost use Rattle.std.specs.Prelude.{◌≡◌, false, [], ◌∷◌, ◌++◌, length, is_some, None, option_copied, IsTrue, OnOk, OnErr, IfErr};
+ghost use Rattle.std.specs.Prelude.{◌≡◌, ◌<◌, false, [], ◌∷◌, ◌++◌, map, length, is_some, slice_get, Some, None, IfSome, IsTrue, IfOk, OnOk, OnErr, IfErr};
 ghost use Rattle.std.specs.List.{IsDistinct};
 ghost use Rattle.std.specs.Map.{lookup, keys_of};
 ghost use Rattle.typed_ids.specs.Refusals.{IsGrowthRefusal};
@@ -9,6 +9,7 @@ use id_maps::{IdMap, Slot, SolverId};
 use id_storage::Arena;
 use std::alloc::Allocator;
 use std::marker::Model;
+use std::ops::Index;
 use typed_ids::{DenseIndex, StoreError};
 
 /// The answers to questions about ids `K`, each kept under an id `I` of its own. A contract sees the questions with their
@@ -46,42 +47,52 @@ impl<I: DenseIndex, K: SolverId<A>, V, A: Allocator + Copy> KeptAnswers<I, K, V,
         }
     }
 
-    /// Whether the question has an answer.
-    pub fn contains(&self, key: K) -> bool
-        ensures value { result ≡ is_some (lookup (K.eq key) self.now) }
+    /// Where the question's answer is kept, if it has one: one look-up.
+    pub fn find(&self, key: K) -> Option<I>
+        ensures found { is_some result ≡ is_some (lookup (K.eq key) self.now) }
+        ensures within { IfSome result (λ id. I.index_of id < length self.now) }
+        ensures answer { IfSome result (λ id. slice_get (map (λ e. e.1) self.now) (I.index_of id) ≡ lookup (K.eq key) self.now) }
         ensures distinct { IsDistinct K.eq (keys_of self.now) }
     {
-        self.slots.get(key).number().is_some()
-    }
-
-    /// The question's answer, found by one look-up.
-    pub fn get(&self, key: K) -> Option<&V>
-        ensures { option_copied result ≡ lookup (K.eq key) self.now }
-    {
-        let index = self.slots.get(key).number()?;
-        Some(&self.answers[I::from_index(index as usize)].1)
+        match self.slots.get(key).number() {
+            Some(index) => Some(I::from_index(index as usize)),
+            None => None,
+        }
     }
 
     /// Keeps the answer to a question that has none. A refused answer is dropped. Takes memory where the question has no
     /// slot yet, or the answers no room.
-    pub fn insert(&mut self, key: K, value: V) -> Result<(), StoreError>
+    pub fn insert(&mut self, key: K, value: V) -> Result<I, StoreError>
     where
         V: Drop,
         requires { lookup (K.eq key) self.old ≡ None }
+        ensures place { IfOk result (λ id. I.index_of id ≡ length self.old) }
         ensures ok { OnOk result (self.new ≡ self.old ++ (key, value) ∷ []) }
         ensures err { OnErr result (self.new ≡ self.old) }
         ensures fits { OnOk result (lacks_answer I.limit K.Slots.is_too_large (length self.old) key ≡ false) }
         ensures ids_out { IsTrue (lacks_answer I.limit K.Slots.is_too_large (length self.old) key) → result ≡ Err IdSpace }
         ensures refused { IfErr result (IsGrowthRefusal (lacks_answer I.limit K.Slots.is_too_large (length self.old) key)) }
-        ensures distinct { IsDistinct K.eq (keys_of self.old ++ key ∷ []) }
     {
         let index = self.answers.len();
         if index > u32::MAX as usize || !I::in_range(index) {
             return Err(StoreError::IdSpace);
         }
         self.slots.make_room(key)?;
-        self.answers.alloc((key, value))?;
+        let id = self.answers.alloc((key, value))?;
         self.slots.put(key, Slot::new(Some(index as u32)));
-        Ok(())
+        Ok(id)
+    }
+}
+
+/// The answer that is kept under an id.
+impl<I: DenseIndex, K: SolverId<A>, V, A: Allocator + Copy> Index<I> for KeptAnswers<I, K, V, A> {
+    type Output = V;
+
+    ghost can_index = { λ kept id. I.index_of id < length kept };
+
+    ghost index_gives = { λ kept id value. slice_get (map (λ e. e.1) kept) (I.index_of id) ≡ Some value };
+
+    fn index(&self, id: I) -> &V {
+        &self.answers[id].1
     }
 }

@@ -4,43 +4,43 @@ use id_maps::SolverId;
 use std::alloc::{Allocator, Global};
 use typed_ids::{CandidatesId, NameId, NameTag, SparseId, StoreError};
 
-/// What is kept about a question: whether it has an answer, and the answer.
-type Kept = (bool, Option<u16>);
-
 /// What is kept about two questions before, between and after their answers come.
-const KEPT: [[Kept; 2]; 3] = [
-    [(false, None), (false, None)],
-    [(true, Some(30)), (false, None)],
-    [(true, Some(30)), (true, Some(40))],
-];
+const KEPT: [[Option<u16>; 2]; 3] = [[None, None], [Some(30), None], [Some(30), Some(40)]];
 
-fn read<K: SolverId<A>, A: Allocator + Copy>(
+fn answer<K: SolverId<A>, A: Allocator + Copy>(
+    kept: &KeptAnswers<CandidatesId, K, u16, A>,
+    key: K,
+) -> Option<u16> {
+    match kept.find(key) {
+        Some(id) => Some(kept[id]),
+        None => None,
+    }
+}
+
+fn answers<K: SolverId<A>, A: Allocator + Copy>(
     kept: &KeptAnswers<CandidatesId, K, u16, A>,
     keys: [K; 2],
-) -> [Kept; 2] {
+) -> [Option<u16>; 2] {
     let [first, second] = keys;
-    [
-        (kept.contains(first), kept.get(first).copied()),
-        (kept.contains(second), kept.get(second).copied()),
-    ]
+    [answer(kept, first), answer(kept, second)]
 }
 
 /// Keeps 30 for the first key and 40 for the second.
 fn keep_both<K: SolverId<A>, A: Allocator + Copy>(
     alloc: A,
     keys: [K; 2],
-) -> Result<[[Kept; 2]; 3], StoreError> {
+) -> Result<[[Option<u16>; 2]; 3], StoreError> {
     let [first, second] = keys;
     let mut kept = KeptAnswers::new(alloc);
-    let before = read(&kept, keys);
-    if !kept.contains(first) {
+    let before = answers(&kept, keys);
+    if kept.find(first).is_none() {
         kept.insert(first, 30)?;
     }
-    let between = read(&kept, keys);
-    if !kept.contains(second) {
+    let between = answers(&kept, keys);
+    if kept.find(second).is_none() {
         kept.insert(second, 40)?;
     }
-    Ok([before, between, read(&kept, keys)])
+    Ok([before, between, answers(&kept, keys)])
 }
 
 #[test]

@@ -13,3 +13,7 @@ pub use Rattle.package_pool.specs.PoolIds
 pub use Rattle.package_pool.specs.PoolLaws
 pub use Rattle.package_pool.specs.PoolProps
 pub use Rattle.package_pool.specs.PoolView
+pub use Rattle.solver_cache.specs.Cache
+pub use Rattle.solver_cache.specs.Functions
+pub use Rattle.solver_cache.specs.Hints
+pub use Rattle.solver_cache.specs.Questions

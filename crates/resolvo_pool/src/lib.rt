@@ -1,9 +1,10 @@
-//! Packages, as a resolver asks for them: the door to two rooms.
+//! Packages, as a resolver asks for them: the door to three rooms.
 //!
 //! | room | what it holds |
 //! |---|---|
 //! | `providers` | requirements and conditions, the traits of interner and provider, and the texts of ids |
 //! | `package_pool` | the pool, where an ecosystem keeps what its ids stand for |
+//! | `solver_cache` | the cache, by which a resolver asks each question once |
 //!
 //! A clause names a definition of a room as `Rattle.resolvo_pool.specs.TOPIC`, and a type with its variants, or a trait
 //! with its ghost members, as `Rattle.resolvo_pool.specs.Types.NAME`.
@@ -15,3 +16,4 @@ pub use providers::{
     HintDependenciesAvailable, Interner, KnownDependencies, LogicalOperator, Requirement,
     RequirementMap, RootText, VersionSets,
 };
+pub use solver_cache::{CacheError, ListId, ProviderFunctions, SolverCache};

@@ -1,6 +1,6 @@
-use Rattle.kept_answers.proofs.AnswerLemmas.{AreKept-none}
+use Rattle.kept_answers.proofs.AnswerLemmas.{none_kept}
 use Rattle.kept_answers.proofs.kept_answers.KeptAnswers.new.Goals as goal
 
 pub invariant_of-result : goal.invariant_of-result
 invariant_of-result g c =
-    rw c.new.ensures (AreKept-none g.K.PartialEq.eq g.I.DenseIndex.limit _ c.new-2.ensures)
+    rw c.new.ensures (none_kept g.K.PartialEq.eq g.I.DenseIndex.limit _ c.new-2.ensures)

@@ -1,0 +1,3 @@
+pub mod CacheLemmas
+pub mod HintLemmas
+pub mod KeptListLemmas

@@ -1,0 +1,46 @@
+use Rattle.std.proofs.Common.{◌∙◌, sym, refl}
+use Rattle.solver_cache.specs.Hints.{hints_of}
+use Rattle.solver_cache.proofs.CacheLemmas.{right_asked, later_asked, later_marked, once_new, value_last, kept_last, handed_on, refused_unasked}
+use Rattle.solver_cache.specs.declared.error.CacheError.TheVariants.{Store}
+use Rattle.solver_cache.proofs.HintLemmas.{still_marked}
+use Rattle.solver_cache.proofs.cache.SolverCache.ask_for.Goals as goal
+
+pub invariant_of-self-2 : goal.invariant_of-self-2
+invariant_of-self-2 g c =
+    rw c.in_ok-insert.ensures.ok (right_asked _ _ c.self.invariant c.args.name c.in_ok-answer.answer c.mark_hints.new.hinted (record { candidates = c.in_ok-answer.ensures.candidates; favored = c.in_ok-answer.ensures.favored }))
+
+pub returns-clause-asked : goal.returns-clause-asked
+returns-clause-asked g c =
+    once_new _ _ _ _ c.requires (rw (sym c.self.view_is, c.in_ok-insert.ensures.ok)
+    (c.in_ok-answer.answer, (record { candidates = c.in_ok-answer.ensures.candidates; favored = c.in_ok-answer.ensures.favored }), c.in_ok-mark_hints.ensures.ok, refl))
+
+pub returns-clause-answer : goal.returns-clause-answer
+returns-clause-answer g c =
+    rw (sym c.self.view_is, c.in_ok-insert.ensures.ok, c.in_ok-insert.ensures.place)
+    (c.in_ok-answer.answer, value_last c.self.inside.candidates c.args.name c.in_ok-answer.answer, (record { candidates = c.in_ok-answer.ensures.candidates; favored = c.in_ok-answer.ensures.favored }))
+
+pub returns-clause-later : goal.returns-clause-later
+returns-clause-later g c =
+    let has = g.D.SolvableId.Set.IdSet.has in
+    rw (sym c.self.view_is, c.in_ok-insert.ensures.ok)
+    (later_asked has _ c.args.name c.in_ok-answer.answer c.mark_hints.new.hinted
+    (λ s h. c.in_ok-mark_hints.ensures.ok s ∙ still_marked g.D.SolvableId.PartialEq.eq g.D.SolvableId.Set.IdSet.is_too_large (has c.self.inside.hinted) (hints_of c.in_ok-answer.answer) s h))
+
+pub returns-clause-asked_now : goal.returns-clause-asked_now
+returns-clause-asked_now g c =
+    rw c.in_ok-insert.ensures.ok
+    (kept_last (g.D.NameId.PartialEq.eq c.args.name) c.self.inside.candidates c.args.name c.in_ok-answer.answer (g.met.D.NameId.Eq.laws.refl c.args.name))
+
+-- where the answer can't be kept
+
+pub returns-in_err-insert-clause-refused : goal.returns-in_err-insert-clause-refused
+returns-in_err-insert-clause-refused g c =
+    handed_on _ c.from_residual-in_err-insert.result (Store c.in_err-insert.field-0.0) c.from_residual-in_err-insert.ensures.1
+    (rw c.in_err-insert.ensures.err (refused_unasked _ _ c.in_err-insert.field-0.0 c.requires c.in_err-insert.ensures.refused))
+
+pub returns-in_err-insert-clause-later : goal.returns-in_err-insert-clause-later
+returns-in_err-insert-clause-later g c =
+    let has = g.D.SolvableId.Set.IdSet.has in
+    rw (sym c.self.view_is, c.in_err-insert.ensures.err)
+    (later_marked has _ c.mark_hints.new.hinted
+    (λ s h. c.in_ok-mark_hints.ensures.ok s ∙ still_marked g.D.SolvableId.PartialEq.eq g.D.SolvableId.Set.IdSet.is_too_large (has c.self.inside.hinted) (hints_of c.in_ok-answer.answer) s h))

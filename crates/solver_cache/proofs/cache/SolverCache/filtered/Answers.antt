@@ -1,0 +1,26 @@
+use Rattle.std.proofs.Common.{◌≡◌, ◌∙◌, ap}
+use Rattle.providers.specs.Provider.{filtered}
+use Rattle.solver_cache.proofs.CacheLemmas.{same_answer}
+use Rattle.solver_cache.proofs.cache.SolverCache.filtered.Goals as goal
+
+pub filter_candidates-requires-clause-known : goal.filter_candidates-requires-clause-known
+filter_candidates-requires-clause-known g c =
+    let found = c.in_ok-id.ensures.answer in
+    let same : c.index.result.now ≡ found.0 = same_answer _ _ c.in_ok-id.id _ _ (ap (λ v. v.candidates) c.self-2.view_is) c.index.ensures found.1 in
+    let provider : c.self-2.inside.provider ≡ c.args.self.now.provider = ap (λ v. v.provider) c.self-2.view_is ∙ c.in_ok-id.ensures.later.provider in
+    let list : c.deref.result.now ≡ (g.D.DependencyProvider.answers c.args.self.now.provider).candidates c.version_set_name-name.result =
+    c.deref.ensures.value ∙ ap (λ a. a.candidates.items) same ∙ found.2.candidates in
+    rw (provider, list) (g.met.D.DependencyProvider.candidates_known c.args.self.now.provider c.version_set_name-name.result)
+
+pub returns-clause-list : goal.returns-clause-list
+returns-clause-list g c =
+    let answers = g.D.DependencyProvider.answers in
+    let found = c.in_ok-id.ensures.answer in
+    let same : c.index.result.now ≡ found.0 = same_answer _ _ c.in_ok-id.id _ _ (ap (λ v. v.candidates) c.self-2.view_is) c.index.ensures found.1 in
+    let provider : c.self-2.inside.provider ≡ c.args.self.now.provider = ap (λ v. v.provider) c.self-2.view_is ∙ c.in_ok-id.ensures.later.provider in
+    let name : c.version_set_name-name.result ≡ (g.D.Interner.universe c.args.self.now.provider).set_name c.args.set =
+    c.version_set_name-name.ensures ∙ ap (λ v. (g.D.Interner.universe v.provider).set_name c.args.set) c.self.view_is in
+    let list : c.deref.result.now ≡ (answers c.args.self.now.provider).candidates ((g.D.Interner.universe c.args.self.now.provider).set_name c.args.set) =
+    c.deref.ensures.value ∙ ap (λ a. a.candidates.items) same ∙ found.2.candidates ∙ ap (answers c.args.self.now.provider).candidates name in
+    c.in_ok-filter_candidates.ensures.ok ∙ ap (λ q. filtered ((answers q).matches c.args.set) c.args.inverse c.deref.result.now) provider
+    ∙ ap (filtered ((answers c.args.self.now.provider).matches c.args.set) c.args.inverse) list

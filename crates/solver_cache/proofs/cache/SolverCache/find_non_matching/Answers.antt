@@ -1,0 +1,16 @@
+use Rattle.std.proofs.Common.{sym}
+use Rattle.solver_cache.proofs.CacheLemmas.{once_new, value_last, more_non_matching}
+use Rattle.solver_cache.proofs.cache.SolverCache.find_non_matching.Goals as goal
+
+pub returns-clause-unmatched : goal.returns-clause-unmatched
+returns-clause-unmatched g c =
+    let found = c.in_ok-found.found.items in
+    once_new _ _ _ _ c.requires.new (
+      c.filtered.new.self,
+      c.in_ok-found.ensures.package,
+      rw (c.in_ok-place.ensures.ok, sym c.in_ok-found.ensures.list) (more_non_matching _ _ c.self.view_is c.args.set found),
+    )
+
+pub returns-clause-list : goal.returns-clause-list
+returns-clause-list g c =
+    rw (c.in_ok-place.ensures.ok, c.in_ok-place.ensures.place, sym c.in_ok-found.ensures.list) (value_last c.self.inside.non_matching c.args.set c.in_ok-found.found.items)

@@ -1,0 +1,79 @@
+-- A cache: what it was asked, and what it was answered. D are the providers, N the names, S the solvables, A the allocators,
+-- H the sets of solvables.
+use Rattle.std.specs.Prelude.{◌≡◌, ℕ, Bool, true, ◌||◌, ◌==◌, List, map, flat_map, All, Option, is_some, slice_get}
+use Rattle.std.specs.Map.{lookup}
+use Rattle.typed_ids.specs.declared.version_set_id.VersionSetId.{VersionSetId}
+use Rattle.providers.specs.Dependencies.{needs_of}
+use Rattle.providers.specs.Provider.{matching, non_matching, sorted, sets_of}
+use Rattle.providers.specs.declared.candidates.Candidates.{Candidates}
+use Rattle.providers.specs.declared.dependencies.Dependencies.{Dependencies}
+use Rattle.providers.specs.declared.requirement.Requirement.{Requirement}
+use Rattle.solver_cache.specs.Functions.{Provider}
+use Rattle.solver_cache.specs.declared.list_id.ListKind.{ListKind}
+use Rattle.solver_cache.specs.declared.list_id.ListKind.TheVariants.{Matching, NonMatching, Sorted}
+
+pub record Cache (D N S A H : Type 0) : Type 0 where
+  pub provider : D
+  -- the packages, each with the provider's answer; here and below the first one that was asked for stands first
+  pub candidates : List (N × Candidates S A)
+  -- the version sets, each with the candidates of its package that it holds, and with the others
+  pub matching : List (VersionSetId × List S)
+  pub non_matching : List (VersionSetId × List S)
+  -- the requirements, each with its candidates, best first
+  pub sorted : List (Requirement × List S)
+  -- the solvables, each with what it needs
+  pub dependencies : List (S × Dependencies A)
+  -- the solvables whose dependencies were said to be at hand
+  pub hinted : H
+
+abbrev pub same_set : VersionSetId → VersionSetId → Bool
+same_set v w = v.0 == w.0
+
+-- whether something is kept for the key that passes the test
+abbrev pub is_kept : {K V : Type 0} → (K → Bool) → List (K × V) → Bool
+is_kept test entries = is_some (lookup test entries)
+
+module _ {D N S A H : Type 0} (p : Provider N S) (c : Cache D N S A H) where
+  -- whether the package was asked for
+  abbrev pub is_asked : N → Bool
+  is_asked n = is_kept (p.same_name n) c.candidates
+
+  -- whether the version set's package was
+  abbrev pub is_set_asked : VersionSetId → Bool
+  is_set_asked v = is_asked (p.universe.set_name v)
+
+  -- whether a solvable's dependencies were asked for
+  abbrev pub is_fetched : S → Bool
+  is_fetched s = is_kept (p.same_solvable s) c.dependencies
+
+  -- whether they are at hand: they were asked for, or said to be
+  abbrev pub is_available : (H → S → Bool) → S → Bool
+  is_available has s = is_fetched s || has c.hinted s
+
+-- an answer of the provider to the question for a package
+pub record IsAnswer {N S A : Type 0} (p : Provider N S) (n : N) (answer : Candidates S A) : Type 0 where
+  pub candidates : answer.candidates.items ≡ p.answers.candidates n
+  pub favored : answer.favored ≡ p.answers.favored n
+
+-- the candidates of a requirement: those of its version sets, one list after the other
+abbrev pub sorted_of : {N S : Type 0} → Provider N S → Requirement → List S
+sorted_of p r = flat_map (sorted p.universe p.answers p.same_solvable) (sets_of p.universe r)
+
+-- what is kept is what the provider answers, and for what is kept of a version set its package was asked for
+pub record IsCache {D N S A H : Type 0} (p : Provider N S) (c : Cache D N S A H) : Type 0 where
+  pub answers : All (λ e. IsAnswer p e.0 e.1) c.candidates
+  pub matching : All (λ e. (e.1 ≡ matching p.universe p.answers e.0) × (is_set_asked p c e.0 ≡ true)) c.matching
+  pub non_matching : All (λ e. (e.1 ≡ non_matching p.universe p.answers e.0) × (is_set_asked p c e.0 ≡ true)) c.non_matching
+  pub sorted : All (λ e. (e.1 ≡ sorted_of p e.0) × All (λ v. is_set_asked p c v ≡ true) (sets_of p.universe e.0)) c.sorted
+  pub needs : All (λ e. needs_of e.1 ≡ p.answers.needs e.0) c.dependencies
+
+module _ {D N S A H : Type 0} (c : Cache D N S A H) where
+  -- the lists of a kind
+  abbrev pub lists_of : ListKind → List (List S)
+  lists_of Matching = map (λ e. e.1) c.matching
+  lists_of NonMatching = map (λ e. e.1) c.non_matching
+  lists_of Sorted = map (λ e. e.1) c.sorted
+
+  -- the list that is kept here
+  abbrev pub list_at : ListKind × ℕ → Option (List S)
+  list_at id = slice_get (lists_of id.0) id.1

@@ -1,0 +1,27 @@
+-- The fixed functions of a provider and of its ids, gathered. N are the names, S the solvables.
+use Rattle.std.specs.Prelude.{Bool}
+use Rattle.providers.specs.Provider.{Universe, Answers}
+
+pub record Provider (N S : Type 0) : Type 0 where
+  pub same_name : N → N → Bool
+  pub same_solvable : S → S → Bool
+  -- nothing can be kept by this id; for a dense one: its index is 2^40 or more
+  pub is_large_name : N → Bool
+  pub is_large_solvable : S → Bool
+  -- no set can hold this id
+  pub is_large_hint : S → Bool
+  pub universe : Universe N S
+  pub answers : Answers N S
+
+-- the same, of a provider D
+abbrev pub gathered : {D N S : Type 0} → (N → N → Bool) → (S → S → Bool) → (N → Bool) → (S → Bool) → (S → Bool) →
+    (D → Universe N S) → (D → Answers N S) → D → Provider N S
+gathered same_name same_solvable is_large_name is_large_solvable is_large_hint universe answers p = record {
+  same_name = same_name;
+  same_solvable = same_solvable;
+  is_large_name = is_large_name;
+  is_large_solvable = is_large_solvable;
+  is_large_hint = is_large_hint;
+  universe = universe p;
+  answers = answers p;
+}

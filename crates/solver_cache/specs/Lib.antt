@@ -1,0 +1,4 @@
+pub mod Cache
+pub mod Functions
+pub mod Hints
+pub mod Questions

@@ -1,0 +1,233 @@
+//! The questions about requirements: their candidates, best first.
+ghost use Rattle.std.specs.Prelude.{◌≡◌, ◌++◌, true, false, All, flat_map, Some, IsOk, IfOk, OnOk, IfErr};
+ghost use Rattle.typed_ids.specs.declared.error.StoreError.TheVariants.{OutOfMemory};
+ghost use Rattle.providers.specs.Provider.{favored_first};
+
+use super::SolverCache;
+use crate::error::CacheError;
+use crate::list_id::{ListId, ListKind};
+use crate::provider_functions::ProviderFunctions;
+use candidates::put_favored_first;
+use id_maps::{IdMap, IdSet, SolverId};
+use providers::{DependencyProvider, Interner, Requirement};
+use typed_ids::{StoreError, VersionSetId, VersionSetUnionId};
+
+impl<D: DependencyProvider + Drop> SolverCache<D> {
+    ghost use Rattle.providers.specs.Provider.{matching, sorted, sets_of, knows_requirement};
+    ghost use Rattle.providers.specs.Requirement.{same_requirement};
+    ghost use Rattle.providers.specs.declared.requirement.Requirement.TheVariants.{Single, Union};
+    ghost use Rattle.solver_cache.specs.Cache.{is_set_asked, is_kept, list_at, sorted_of};
+    ghost use Rattle.solver_cache.specs.Questions.{IsLater, IsSorted, AreSorted, IsRequirementSorted, IsRefusedOf, IsRefusedOfSets, lacks_candidates};
+
+    /// The candidates of a requirement: of each of its version sets, one after the other, those that it holds, best first.
+    /// The first refusal ends the call.
+    pub fn get_or_cache_sorted_candidates(
+        &mut self,
+        requirement: Requirement,
+    ) -> Result<ListId, CacheError<D::Cancel>>
+        requires { knows_requirement (D.universe self.old.provider) requirement ≡ true }
+        ensures sorted { OnOk result (IsRequirementSorted (⟦<D as ProviderFunctions>⟧.functions self.old.provider) D.SolvableId.Set.has self.old requirement self.new) }
+        ensures list { IfOk result (λ id. list_at self.new id ≡ Some (sorted_of (⟦<D as ProviderFunctions>⟧.functions self.old.provider) requirement)) }
+        ensures kept { is_kept (same_requirement requirement) self.old.sorted ≡ true → IsOk result }
+        ensures refused { IfErr result (λ e. IsRefusedOfSets (⟦<D as ProviderFunctions>⟧.functions self.old.provider)
+            (sets_of (D.universe self.old.provider) requirement) self.old e self.new) }
+        ensures later { IsLater D.SolvableId.Set.has self.old self.new }
+        ensures asked { OnOk result (All (λ v. is_set_asked (⟦<D as ProviderFunctions>⟧.functions self.old.provider) self.new v ≡ true)
+            (sets_of (D.universe self.old.provider) requirement)) }
+    {
+        match requirement {
+            Requirement::Single(set) => self.get_or_cache_sorted_candidates_for_version_set(set),
+            Requirement::Union(union) => self.sorted_union(union),
+        }
+    }
+
+    /// The candidates that a version set holds, best first. The favored one, where it is among them, is the best; the others
+    /// are in the provider's order.
+    pub fn get_or_cache_sorted_candidates_for_version_set(
+        &mut self,
+        set: VersionSetId,
+    ) -> Result<ListId, CacheError<D::Cancel>>
+        requires { (D.universe self.old.provider).knows_set set ≡ true }
+        ensures sorted { OnOk result (IsSorted (⟦<D as ProviderFunctions>⟧.functions self.old.provider) D.SolvableId.Set.has self.old set self.new) }
+        ensures list { IfOk result (λ id. list_at self.new id ≡ Some (sorted (D.universe self.old.provider) (D.answers self.old.provider) D.SolvableId.eq set)) }
+        ensures kept { is_kept (same_requirement (Single set)) self.old.sorted ≡ true → IsOk result }
+        ensures refused { IfErr result (λ e. let p = ⟦<D as ProviderFunctions>⟧.functions self.old.provider in
+            IsRefusedOf (is_set_asked p self.old set) (lacks_candidates p self.new (p.universe.set_name set)) self.old e self.new) }
+        ensures later { IsLater D.SolvableId.Set.has self.old self.new }
+        ensures asked { OnOk result (is_set_asked (⟦<D as ProviderFunctions>⟧.functions self.old.provider) self.new set ≡ true) }
+    {
+        match self.sorted.find(Requirement::Single(set)) {
+            Some(place) => Ok(ListId {
+                kind: ListKind::Sorted,
+                place,
+            }),
+            None => self.sort(set),
+        }
+    }
+
+    /// Sorts the candidates that a version set holds, and keeps them.
+    fn sort(&mut self, set: VersionSetId) -> Result<ListId, CacheError<D::Cancel>>
+        requires known { (D.universe self.old.provider).knows_set set ≡ true }
+        requires new { is_kept (same_requirement (Single set)) self.old.sorted ≡ false }
+        ensures sorted { OnOk result (IsSorted (⟦<D as ProviderFunctions>⟧.functions self.old.provider) D.SolvableId.Set.has self.old set self.new) }
+        ensures list { IfOk result (λ id. list_at self.new id ≡ Some (sorted (D.universe self.old.provider) (D.answers self.old.provider) D.SolvableId.eq set)) }
+        ensures refused { IfErr result (λ e. let p = ⟦<D as ProviderFunctions>⟧.functions self.old.provider in
+            IsRefusedOf (is_set_asked p self.old set) (lacks_candidates p self.new (p.universe.set_name set)) self.old e self.new) }
+        ensures later { IsLater D.SolvableId.Set.has self.old self.new }
+        ensures asked { OnOk result (is_set_asked (⟦<D as ProviderFunctions>⟧.functions self.old.provider) self.new set ≡ true) }
+    {
+        let id = self.get_or_cache_matching_candidates(set)?;
+        let favored = self.favored(set);
+        let list = in_order(
+            &self.provider,
+            self.alloc,
+            self.matching_list(set, id),
+            favored,
+        )?;
+        let place = self.sorted.insert(Requirement::Single(set), list)?;
+        Ok(ListId {
+            kind: ListKind::Sorted,
+            place,
+        })
+    }
+
+    /// The candidates of a union.
+    fn sorted_union(&mut self, union: VersionSetUnionId) -> Result<ListId, CacheError<D::Cancel>>
+        requires { (D.universe self.old.provider).knows_union union ≡ true }
+        ensures sorted { OnOk result (IsRequirementSorted (⟦<D as ProviderFunctions>⟧.functions self.old.provider) D.SolvableId.Set.has self.old (Union union) self.new) }
+        ensures list { IfOk result (λ id. list_at self.new id ≡ Some (sorted_of (⟦<D as ProviderFunctions>⟧.functions self.old.provider) (Union union))) }
+        ensures kept { is_kept (same_requirement (Union union)) self.old.sorted ≡ true → IsOk result }
+        ensures refused { IfErr result (λ e. IsRefusedOfSets (⟦<D as ProviderFunctions>⟧.functions self.old.provider)
+            ((D.universe self.old.provider).union_sets union) self.old e self.new) }
+        ensures later { IsLater D.SolvableId.Set.has self.old self.new }
+        ensures asked { OnOk result (All (λ v. is_set_asked (⟦<D as ProviderFunctions>⟧.functions self.old.provider) self.new v ≡ true)
+            ((D.universe self.old.provider).union_sets union)) }
+    {
+        match self.sorted.find(Requirement::Union(union)) {
+            Some(place) => Ok(ListId {
+                kind: ListKind::Sorted,
+                place,
+            }),
+            None => self.join(union),
+        }
+    }
+
+    /// Joins the candidates of a union's version sets, and keeps them.
+    fn join(&mut self, union: VersionSetUnionId) -> Result<ListId, CacheError<D::Cancel>>
+        requires known { (D.universe self.old.provider).knows_union union ≡ true }
+        requires new { is_kept (same_requirement (Union union)) self.old.sorted ≡ false }
+        ensures sorted { OnOk result (IsRequirementSorted (⟦<D as ProviderFunctions>⟧.functions self.old.provider) D.SolvableId.Set.has self.old (Union union) self.new) }
+        ensures list { IfOk result (λ id. list_at self.new id ≡ Some (sorted_of (⟦<D as ProviderFunctions>⟧.functions self.old.provider) (Union union))) }
+        ensures refused { IfErr result (λ e. IsRefusedOfSets (⟦<D as ProviderFunctions>⟧.functions self.old.provider)
+            ((D.universe self.old.provider).union_sets union) self.old e self.new) }
+        ensures later { IsLater D.SolvableId.Set.has self.old self.new }
+        ensures asked { OnOk result (All (λ v. is_set_asked (⟦<D as ProviderFunctions>⟧.functions self.old.provider) self.new v ≡ true)
+            ((D.universe self.old.provider).union_sets union)) }
+    {
+        let list = self.joined(union)?;
+        let place = self.sorted.insert(Requirement::Union(union), list)?;
+        Ok(ListId {
+            kind: ListKind::Sorted,
+            place,
+        })
+    }
+
+    /// The candidates of a union's version sets, one set after the other.
+    fn joined(
+        &mut self,
+        union: VersionSetUnionId,
+    ) -> Result<Vec<D::SolvableId, D::Alloc>, CacheError<D::Cancel>>
+        requires { (D.universe self.old.provider).knows_union union ≡ true }
+        ensures sorted { OnOk result (AreSorted (⟦<D as ProviderFunctions>⟧.functions self.old.provider) D.SolvableId.Set.has self.old
+            ((D.universe self.old.provider).union_sets union) self.new) }
+        ensures list { IfOk result (λ list. list.items ≡ sorted_of (⟦<D as ProviderFunctions>⟧.functions self.old.provider) (Union union)) }
+        ensures refused { IfErr result (λ e. IsRefusedOfSets (⟦<D as ProviderFunctions>⟧.functions self.old.provider)
+            ((D.universe self.old.provider).union_sets union) self.old e self.new) }
+        ensures later { IsLater D.SolvableId.Set.has self.old self.new }
+        ensures asked { OnOk result (All (λ v. is_set_asked (⟦<D as ProviderFunctions>⟧.functions self.old.provider) self.new v ≡ true)
+            ((D.universe self.old.provider).union_sets union)) }
+    {
+        let mut sets = Vec::new(self.alloc);
+        sets.extend_from_slice(self.provider.version_sets_in_union(union))?;
+        let mut all = Vec::new(self.alloc);
+        self.append_all(&sets, &mut all)?;
+        Ok(all)
+    }
+
+    /// Appends the candidates of version sets, one set after the other.
+    fn append_all(
+        &mut self,
+        sets: &[VersionSetId],
+        all: &mut Vec<D::SolvableId, D::Alloc>,
+    ) -> Result<(), CacheError<D::Cancel>>
+        requires { All (λ v. (D.universe self.old.provider).knows_set v ≡ true) sets.now }
+        ensures sorted { OnOk result (AreSorted (⟦<D as ProviderFunctions>⟧.functions self.old.provider) D.SolvableId.Set.has self.old sets.now self.new) }
+        ensures appended { OnOk result (all.new.items ≡ all.old.items ++ flat_map (sorted (D.universe self.old.provider) (D.answers self.old.provider) D.SolvableId.eq) sets.now) }
+        ensures refused { IfErr result (λ e. IsRefusedOfSets (⟦<D as ProviderFunctions>⟧.functions self.old.provider) sets.now self.old e self.new) }
+        ensures later { IsLater D.SolvableId.Set.has self.old self.new }
+        ensures asked { OnOk result (All (λ v. is_set_asked (⟦<D as ProviderFunctions>⟧.functions self.old.provider) self.new v ≡ true) sets.now) }
+    {
+        for set in sets {
+            self.append_sorted(*set, all)?;
+        }
+        Ok(())
+    }
+
+    /// Appends the candidates that a version set holds, best first.
+    fn append_sorted(
+        &mut self,
+        set: VersionSetId,
+        all: &mut Vec<D::SolvableId, D::Alloc>,
+    ) -> Result<(), CacheError<D::Cancel>>
+        requires { (D.universe self.old.provider).knows_set set ≡ true }
+        ensures sorted { OnOk result (IsSorted (⟦<D as ProviderFunctions>⟧.functions self.old.provider) D.SolvableId.Set.has self.old set self.new) }
+        ensures appended { OnOk result (all.new.items ≡ all.old.items ++ sorted (D.universe self.old.provider) (D.answers self.old.provider) D.SolvableId.eq set) }
+        ensures refused { IfErr result (λ e. let p = ⟦<D as ProviderFunctions>⟧.functions self.old.provider in
+            IsRefusedOf (is_set_asked p self.old set) (lacks_candidates p self.new (p.universe.set_name set)) self.old e self.new) }
+        ensures later { IsLater D.SolvableId.Set.has self.old self.new }
+        ensures asked { OnOk result (is_set_asked (⟦<D as ProviderFunctions>⟧.functions self.old.provider) self.new set ≡ true) }
+    {
+        let id = self.get_or_cache_sorted_candidates_for_version_set(set)?;
+        Ok(all.extend_from_slice(self.list(id))?)
+    }
+
+    /// The candidates that a version set holds, which are kept here.
+    fn matching_list(&self, set: VersionSetId, id: ListId) -> &[D::SolvableId]
+        requires { list_at self.now id ≡ Some (matching (D.universe self.now.provider) (D.answers self.now.provider) set) }
+        ensures list { result.now ≡ matching (D.universe self.now.provider) (D.answers self.now.provider) set }
+        ensures known { All (λ s. (D.universe self.now.provider).knows_solvable s ≡ true) result.now }
+    {
+        self.list(id)
+    }
+
+    /// The favored candidate of a version set's package, which was asked for.
+    fn favored(&self, set: VersionSetId) -> Option<D::SolvableId>
+        requires known { (D.universe self.now.provider).knows_set set ≡ true }
+        requires asked { is_set_asked (⟦<D as ProviderFunctions>⟧.functions self.now.provider) self.now set ≡ true }
+        ensures { result ≡ (D.answers self.now.provider).favored ((D.universe self.now.provider).set_name set) }
+    {
+        let name = self.provider.version_set_name(set);
+        match self.candidates.find(name) {
+            Some(id) => self.candidates[id].favored,
+            None => None,
+        }
+    }
+}
+
+/// Solvables in the order of preference, but the favored one, where it is among them, first.
+fn in_order<D: DependencyProvider>(
+    provider: &D,
+    alloc: D::Alloc,
+    solvables: &[D::SolvableId],
+    favored: Option<D::SolvableId>,
+) -> Result<Vec<D::SolvableId, D::Alloc>, StoreError>
+    requires { All (λ s. (D.universe provider.now).knows_solvable s ≡ true) solvables.now }
+    ensures ok { IfOk result (λ list. list.items ≡ favored_first D.SolvableId.eq favored ((D.answers provider.now).order solvables.now)) }
+    ensures memory { IfErr result (λ e. e ≡ OutOfMemory) }
+{
+    let mut list = Vec::new(alloc);
+    list.extend_from_slice(solvables)?;
+    provider.sort_candidates(alloc, &mut list)?;
+    put_favored_first(&mut list, favored);
+    Ok(list)
+}

@@ -1,0 +1,25 @@
+//! A solver's cache: each question to a provider is asked once, and each answer kept.
+//!
+//! A resolver asks for the same candidates again and again, and a provider may read them from a disk or a network. A
+//! [`SolverCache`] stands between them: it keeps the candidates of each package that was asked for, the candidates that a
+//! version set holds and those that it doesn't, the candidates of a requirement in order, and what a solvable needs. Before
+//! a question that may be costly, for a package's candidates or a solvable's dependencies, the provider is asked whether to
+//! stop.
+//!
+//! `specs/Cache` is what a cache is, as plain lists; `specs/Questions` is what each question leaves, answered or refused.
+//! `cache` has the type, and in `cache/` are the questions, a file for each kind: `asking` those to the provider, `filtering`
+//! `sorting` those about version sets and requirements; `reading` shows what is kept. `kept_lists` keeps lists by keys, and
+//! `hints` marks the solvables whose dependencies are at hand.
+#![tactic(auto)]
+
+mod cache;
+mod error;
+mod hints;
+mod kept_lists;
+mod list_id;
+mod provider_functions;
+
+pub use cache::SolverCache;
+pub use error::CacheError;
+pub use list_id::ListId;
+pub use provider_functions::ProviderFunctions;
