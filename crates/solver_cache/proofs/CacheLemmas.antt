@@ -48,6 +48,14 @@ module _ {K V : Type 0} where
       elim (test f.0) as (λ b. is_some (cond b (Some f.1) (lookup test (es ++ (key, value) ∷ []))) ≡ true)
       [ true ↦ refl | false ↦ kept_last test es key value h ]
 
+  -- and it is what is found, where nothing was
+  pub found_last : (test : K → Bool) (es : List (K × V)) (key : K) (value : V) → is_kept test es ≡ false → test key ≡ true
+      → lookup test (es ++ (key, value) ∷ []) ≡ Some value
+  found_last test [] key value absent h = ap (λ b. cond b (Some value) None) h
+  found_last test (f ∷ es) key value absent h =
+      (elim (test f.0) as (λ b. is_some (cond b (Some f.1) (lookup test es)) ≡ false → cond b (Some f.1) (lookup test (es ++ (key, value) ∷ [])) ≡ Some value)
+      [ true ↦ λ a. cc | false ↦ λ a. found_last test es key value a h ]) absent
+
   -- what is true of each entry is true of the one that is found
   pub found_right : (same : K → K → Bool) → ((a b : K) → same a b ≡ true → a ≡ b) → (P : K → V → Type 0) (key : K) (value : V) (es : List (K × V))
       → All (λ e. P e.0 e.1) es → lookup (same key) es ≡ Some value → P key value

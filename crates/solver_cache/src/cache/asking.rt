@@ -1,4 +1,5 @@
 //! The questions to the provider: for a package's candidates, and for what a solvable needs.
+ghost use Rattle.std.specs.Map.{lookup};
 ghost use Rattle.std.specs.Prelude.{◌≡◌, true, false, map, slice_get, Some, IsOk, IfOk, OnOk, OnErr, IfErr};
 
 use super::SolverCache;
@@ -23,6 +24,7 @@ impl<D: DependencyProvider + Drop> SolverCache<D> {
         name: D::NameId,
     ) -> Result<CandidatesId, CacheError<D::Cancel>>
         ensures asked { OnOk result (IsAsked (⟦<D as ProviderFunctions>⟧.functions self.old.provider) D.SolvableId.Set.has self.old name self.new) }
+        ensures own { IfOk result (λ id. slice_get (map (λ e. e.1) self.new.candidates) id ≡ lookup (D.NameId.eq name) self.new.candidates) }
         ensures answer { IfOk result (λ id. (answer : Candidates D.SolvableId D.Alloc) × (slice_get (map (λ e. e.1) self.new.candidates) id ≡ Some answer)
             × IsAnswer (⟦<D as ProviderFunctions>⟧.functions self.old.provider) name answer) }
         ensures kept { is_asked (⟦<D as ProviderFunctions>⟧.functions self.old.provider) self.old name ≡ true → IsOk result }
@@ -41,6 +43,7 @@ impl<D: DependencyProvider + Drop> SolverCache<D> {
     fn ask_for(&mut self, name: D::NameId) -> Result<CandidatesId, CacheError<D::Cancel>>
         requires { is_asked (⟦<D as ProviderFunctions>⟧.functions self.old.provider) self.old name ≡ false }
         ensures asked { OnOk result (IsAsked (⟦<D as ProviderFunctions>⟧.functions self.old.provider) D.SolvableId.Set.has self.old name self.new) }
+        ensures own { IfOk result (λ id. slice_get (map (λ e. e.1) self.new.candidates) id ≡ lookup (D.NameId.eq name) self.new.candidates) }
         ensures answer { IfOk result (λ id. (answer : Candidates D.SolvableId D.Alloc) × (slice_get (map (λ e. e.1) self.new.candidates) id ≡ Some answer)
             × IsAnswer (⟦<D as ProviderFunctions>⟧.functions self.old.provider) name answer) }
         ensures refused { IfErr result (λ e. let p = ⟦<D as ProviderFunctions>⟧.functions self.old.provider in

@@ -1,6 +1,7 @@
-use Rattle.std.proofs.Common.{◌∙◌, sym, refl}
+use Rattle.std.proofs.Common.{◌∙◌, sym, refl, ap}
+use Rattle.solver_cache.specs.Cache.{is_kept}
 use Rattle.solver_cache.specs.Hints.{hints_of}
-use Rattle.solver_cache.proofs.CacheLemmas.{right_asked, later_asked, later_marked, once_new, value_last, kept_last, handed_on, refused_unasked}
+use Rattle.solver_cache.proofs.CacheLemmas.{right_asked, later_asked, later_marked, once_new, value_last, found_last, kept_last, handed_on, refused_unasked}
 use Rattle.solver_cache.specs.declared.error.CacheError.TheVariants.{Store}
 use Rattle.solver_cache.proofs.HintLemmas.{still_marked}
 use Rattle.solver_cache.proofs.cache.SolverCache.ask_for.Goals as goal
@@ -18,6 +19,15 @@ pub returns-clause-answer : goal.returns-clause-answer
 returns-clause-answer g c =
     rw (sym c.self.view_is, c.in_ok-insert.ensures.ok, c.in_ok-insert.ensures.place)
     (c.in_ok-answer.answer, value_last c.self.inside.candidates c.args.name c.in_ok-answer.answer, (record { candidates = c.in_ok-answer.ensures.candidates; favored = c.in_ok-answer.ensures.favored }))
+
+pub returns-clause-own : goal.returns-clause-own
+returns-clause-own g c =
+    let same = g.D.NameId.PartialEq.eq in
+    let name = c.args.name in
+    let answer = c.in_ok-answer.answer in
+    rw (c.in_ok-insert.ensures.ok, c.in_ok-insert.ensures.place)
+    (value_last c.self.inside.candidates name answer
+    ∙ sym (found_last (same name) c.self.inside.candidates name answer (ap (λ v. is_kept (same name) v.candidates) c.self.view_is ∙ c.requires) (g.met.D.NameId.Eq.laws.refl name)))
 
 pub returns-clause-later : goal.returns-clause-later
 returns-clause-later g c =
