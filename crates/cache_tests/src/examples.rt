@@ -1,0 +1,145 @@
+//! The lists of the tests, and how a provider answers from them.
+use crate::asks::Ids;
+use asking_providers::{Asking, Listing, Stops};
+use plain_providers::{Lists, Package, SparseLists, SparseName, SparseSolvable, VersionRange};
+use providers::HintDependenciesAvailable;
+use std::alloc::{AllocError, Allocator};
+use typed_ids::{NameId, SolvableId, VersionSetId};
+
+/// How a provider answers. Solvables are told by their numbers.
+#[derive(Clone, Copy)]
+pub(crate) struct Setup {
+    pub(crate) favored: Option<u32>,
+    pub(crate) hint: Hint,
+    /// The locked candidate, which is excluded too.
+    pub(crate) locked: Option<u32>,
+    pub(crate) listing: Listing,
+    pub(crate) stops: Stops,
+}
+
+/// For which solvables a provider says that the dependencies are at hand.
+#[derive(Clone, Copy)]
+pub(crate) enum Hint {
+    None,
+    All,
+    /// For these two.
+    Some(u32, u32),
+}
+
+/// Nothing is favored, hinted or stopped.
+pub(crate) const PLAIN: Setup = Setup {
+    favored: None,
+    hint: Hint::None,
+    locked: None,
+    listing: Listing::Once,
+    stops: Stops::Never,
+};
+
+/// The same with a hint.
+pub(crate) fn with_hint(hint: Hint) -> Setup {
+    let mut setup = PLAIN;
+    setup.hint = hint;
+    setup
+}
+
+/// Package 0 has solvables 0, 1 and 2 of versions 1, 2 and 3, and package 1 has solvable 3. Set 0 holds versions 1 and 2
+/// of package 0, and set 1 version 1 of package 1. Union 0 is of set 0, and then set 1.
+fn lists_of<A: Allocator + Copy>(alloc: A, favored: Option<u32>) -> Result<Lists<A>, AllocError> {
+    let (first, second) = (NameId::from_raw(0), NameId::from_raw(1));
+    let packages = [
+        Package {
+            name: first,
+            version: 1,
+        },
+        Package {
+            name: first,
+            version: 2,
+        },
+        Package {
+            name: first,
+            version: 3,
+        },
+        Package {
+            name: second,
+            version: 1,
+        },
+    ];
+    let ranges = [
+        VersionRange {
+            name: first,
+            low: 1,
+            high: 3,
+        },
+        VersionRange {
+            name: second,
+            low: 1,
+            high: 2,
+        },
+    ];
+    let mut lists = Lists {
+        packages: Vec::from_array(alloc, packages)?,
+        ranges: Vec::from_array(alloc, ranges)?,
+        unions: Vec::new(alloc),
+        favored: favored.map(SolvableId::from_raw),
+    };
+    let sets = Vec::from_array(alloc, [VersionSetId(0), VersionSetId(1)])?;
+    match lists.unions.push(sets) {
+        Ok(()) => Ok(lists),
+        Err(_) => Err(AllocError),
+    }
+}
+
+/// The provider of these lists.
+pub(crate) fn dense_provider<A: Allocator + Copy>(
+    alloc: A,
+    setup: Setup,
+) -> Result<Asking<Lists<A>>, AllocError> {
+    let hint = match setup.hint {
+        Hint::None => HintDependenciesAvailable::None,
+        Hint::All => HintDependenciesAvailable::All,
+        Hint::Some(first, second) => {
+            let hinted = [SolvableId::from_raw(first), SolvableId::from_raw(second)];
+            HintDependenciesAvailable::Some(Vec::from_array(alloc, hinted)?)
+        }
+    };
+    let lists = lists_of(alloc, setup.favored)?;
+    let locked = setup.locked.map(SolvableId::from_raw);
+    Ok(Asking::new(lists, setup.listing, hint, locked, setup.stops))
+}
+
+/// The same with sparse ids.
+pub(crate) fn sparse_provider<A: Allocator + Copy>(
+    alloc: A,
+    setup: Setup,
+) -> Result<Asking<SparseLists<A>>, AllocError> {
+    let hint = match setup.hint {
+        Hint::None => HintDependenciesAvailable::None,
+        Hint::All => HintDependenciesAvailable::All,
+        Hint::Some(first, second) => {
+            let hinted = [
+                SparseSolvable::from_raw(first),
+                SparseSolvable::from_raw(second),
+            ];
+            HintDependenciesAvailable::Some(Vec::from_array(alloc, hinted)?)
+        }
+    };
+    let lists = SparseLists(lists_of(alloc, setup.favored)?);
+    let locked = setup.locked.map(SparseSolvable::from_raw);
+    Ok(Asking::new(lists, setup.listing, hint, locked, setup.stops))
+}
+
+/// Packages 0, 1 and 8, of which there isn't the last, and solvables 0 to 3 and 70, which isn't known.
+pub(crate) fn dense_ids() -> Ids<NameId, SolvableId> {
+    Ids {
+        names: [0, 1, 8].map(NameId::from_raw),
+        solvables: [0, 1, 2, 3, 70].map(SolvableId::from_raw),
+    }
+}
+
+/// The same by sparse ids.
+pub(crate) fn sparse_ids() -> Ids<SparseName, SparseSolvable> {
+    Ids {
+        names: [0, 1, 8].map(SparseName::from_raw),
+        solvables: [0, 1, 2, 3, 70].map(SparseSolvable::from_raw),
+    }
+}
