@@ -1,5 +1,7 @@
 //! The total maps of dense ids: vectors.
 ghost use Rattle.std.specs.Prelude.{◌≡◌, ◌<◌, ◌^◌, ◌↔◌, ℕ, IsTrue, min, vec_len, slice_index_or};
+ghost use Rattle.std.proofs.Common.{arith};
+ghost use Rattle.std.proofs.lemmas.Bool.Decides.{nat_tests};
 ghost use Rattle.typed_ids.specs.Refusals.{is_too_dense};
 ghost use Rattle.typed_ids.specs.TotalMaps.{kept, kept_within};
 
@@ -17,6 +19,8 @@ impl<K: DenseIndex, V: DefaultValue, A: Allocator + Copy> IdMap<K, V, A> for Vec
     ghost is_too_large = { λ k. is_too_dense (K.index_of k) };
 
     ghost written = { λ m k h. kept_within K.limit m.items V.default_value (K.index_of k) (vec_len m) m.ok.0 h };
+
+    ghost room_fits = { λ m k h. Prim.grind (arith, nat_tests, h.1) };
 
     fn new(alloc: A) -> Self {
         Vec::new(alloc)

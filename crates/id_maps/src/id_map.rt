@@ -1,5 +1,5 @@
 //! Total maps that are kept by ids.
-ghost use Rattle.std.specs.Prelude.{◌≡◌, ◌≢◌, Bool, IsTrue, IsOk, OnOk, OnErr, IfErr};
+ghost use Rattle.std.specs.Prelude.{◌≡◌, ◌≢◌, Bool, false, IsTrue, IsOk, OnOk, OnErr, IfErr};
 ghost use Rattle.typed_ids.specs.declared.error.StoreError.TheVariants.{IdSpace};
 ghost use Rattle.typed_ids.specs.Refusals.{IsGrowthRefusal};
 ghost use Rattle.typed_ids.specs.TotalMaps.{IsUpdate, SameValues, IsLargest};
@@ -70,4 +70,7 @@ pub trait IdMap<K, V: DefaultValue, A: Allocator + Copy>: Drop {
 
     /// There is room at each key whose value isn't the default.
     ghost written: { (m : Self) (k : K) → value_at m k ≢ V.default_value → has_room m k };
+
+    /// A key for which there is room isn't too large.
+    ghost room_fits: { (m : Self) (k : K) → has_room m k → is_too_large k ≡ false };
 }

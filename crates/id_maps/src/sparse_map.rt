@@ -1,5 +1,5 @@
 //! The total maps of sparse ids: hashed tables.
-ghost use Rattle.std.specs.Prelude.{◌≡◌, true, false, is_some};
+ghost use Rattle.std.specs.Prelude.{◌≡◌, true, false, is_some, refl};
 ghost use Rattle.std.specs.Option.{unwrap_or};
 ghost use Rattle.indexmap.specs.IndexMap.{get};
 ghost use Rattle.typed_ids.specs.TotalMaps.{some_is_stored};
@@ -24,6 +24,8 @@ impl<K: SameId, V: DefaultValue, S: BuildHasher + Default + Drop, A: Allocator +
     ghost is_too_large = { λ k. false };
 
     ghost written = { λ m k h. some_is_stored (get K.eq m k) V.default_value h };
+
+    ghost room_fits = { λ m k h. refl };
 
     fn new(alloc: A) -> Self {
         IndexMap::with_hasher(alloc, S::default())
