@@ -29,6 +29,11 @@ refusal_wider a b OutOfMemory h r = r
 refusal_wider a b IdSpace h r = h r
 refusal_wider a b _ h r = absurd r
 
+-- a test that fails on two lists fails on both together
+pub list_any-fails : {X : Type 0} (test : X → Bool) (xs ys : List X) → list_any test xs ≡ false → list_any test ys ≡ false
+    → list_any test (xs ++ ys) ≡ false
+list_any-fails test xs ys h k = list_any-append test xs ys ∙ ap (λ b. b || list_any test ys) h ∙ k
+
 -- lists one after another: the list of x, with those before and after it
 pub split-at : {X S : Type 0} (list : X → List S) (xs : List X) (i : ℕ) (x : X) (own : List S) → drop i xs ≡ x ∷ drop (i + 1) xs → own ≡ list x
     → flat_map list xs ≡ flat_map list (take i xs) ++ (own ++ flat_map list (drop (i + 1) xs))
@@ -183,6 +188,15 @@ module _ {N S : Type 0} (same : S → S → Bool) where
           → lacks_variables same large os (done ++ x ∷ rest) ≡ true
       by_known None new h = by_test (are_variables_out (length vs)) (large x) new refl refl h
       by_known (Some v) known h = cc
+
+  -- where nothing lacks, none is too large
+  pub none_large : (large : S → Bool) (os : List (VariableOrigin N S)) (ss : List S) → lacks_variables same large os ss ≡ false
+      → list_any large ss ≡ false
+  none_large large os ss h = by_test (ltb (2 ^ 31 - 1) (length (with_variables same os ss))) h
+    where
+      by_test : (b : Bool) → (b || list_any large ss) ≡ false → list_any large ss ≡ false
+      by_test true e = (let no : ⊥ = cc in absurd no)
+      by_test false e = e
 
   -- what lacks for one list lacks for all of them
   pub lacks_for_list : (large : S → Bool) (os : List (VariableOrigin N S)) (done own rest : List S)

@@ -7,6 +7,6 @@ mod lists;
 mod variable_map;
 mod variable_origin;
 
-pub use lists::{VariableLists, intern_lists};
+pub use lists::{VariableLists, intern_list, intern_lists};
 pub use variable_map::VariableMap;
 pub use variable_origin::VariableOrigin;

@@ -1,5 +1,5 @@
 //! The variables of lists of solvables.
-ghost use Rattle.std.specs.Prelude.{◌≡◌, ◌≤◌, map, flat_map, length, take, IfOk, OnOk, OnErr, IfErr};
+ghost use Rattle.std.specs.Prelude.{◌≡◌, ◌≤◌, map, flat_map, length, take, false, IfOk, OnOk, OnErr, IfErr};
 ghost use Rattle.typed_ids.specs.Refusals.{IsGrowthRefusal};
 ghost use Rattle.variables.specs.Variables.{interned_variable, with_variables, lacks_variables, IsPartlyInterned};
 
@@ -25,17 +25,19 @@ pub fn intern_lists<N: Copy, S: SolverId<A>, A: Allocator + Copy>(
     ensures front { take (length variables.old) variables.new ≡ variables.old }
     ensures longer { length variables.old ≤ length variables.new }
     ensures refused { IfErr result (IsGrowthRefusal (lacks_variables S.eq S.Slots.is_too_large variables.old (flat_map (λ l. l.items) lists.now))) }
+    ensures fit { OnOk result (lacks_variables S.eq S.Slots.is_too_large variables.old (flat_map (λ l. l.items) lists.now) ≡ false) }
 {
     let mut made = Vec::new(alloc);
     for list in lists {
         let own = intern_list(variables, alloc, list)?;
         made.push(own)?;
     }
+    prove!(variables.count() < 1 << 31);
     Ok(made)
 }
 
-/// The variables of the solvables of one list.
-fn intern_list<N: Copy, S: SolverId<A>, A: Allocator + Copy>(
+/// The variables of the solvables of one list. A refusal leaves variables to the first so many of them.
+pub fn intern_list<N: Copy, S: SolverId<A>, A: Allocator + Copy>(
     variables: &mut VariableMap<N, S, A>,
     alloc: A,
     solvables: &[S],
@@ -44,11 +46,15 @@ fn intern_list<N: Copy, S: SolverId<A>, A: Allocator + Copy>(
     ensures ok { OnOk result (variables.new ≡ with_variables S.eq variables.old solvables.now) }
     ensures err { OnErr result (IsPartlyInterned S.eq variables.old solvables.now variables.new) }
     ensures refused { IfErr result (IsGrowthRefusal (lacks_variables S.eq S.Slots.is_too_large variables.old solvables.now)) }
+    ensures fit { OnOk result (lacks_variables S.eq S.Slots.is_too_large variables.old solvables.now ≡ false) }
+    ensures front { take (length variables.old) variables.new ≡ variables.old }
+    ensures longer { length variables.old ≤ length variables.new }
 {
     let mut list = Vec::new(alloc);
     for solvable in solvables {
         let variable = variables.intern_solvable(*solvable)?;
         list.push(variable)?;
     }
+    prove!(variables.count() < 1 << 31);
     Ok(list)
 }

@@ -1,5 +1,5 @@
 //! The variables of a store: what each stands for, and the variable of each solvable.
-ghost use Rattle.std.specs.Prelude.{◌≡◌, ◌<◌, ◌≤◌, ◌+◌, ◌^◌, [], ◌∷◌, ◌++◌, length, take, IsTrue, IsSome, IsOk, IfOk, OnOk, OnErr, IfErr};
+ghost use Rattle.std.specs.Prelude.{◌≡◌, ◌<◌, ◌≤◌, ◌+◌, ◌^◌, [], ◌∷◌, ◌++◌, length, take, false, IsTrue, IsSome, IfSome, IsOk, IfOk, OnOk, OnErr, IfErr};
 ghost use Rattle.typed_ids.specs.Refusals.{IsGrowthRefusal};
 ghost use Rattle.typed_ids.specs.declared.error.StoreError.TheVariants.{OutOfMemory, IdSpace};
 
@@ -57,7 +57,8 @@ impl<N: Copy, S: SolverId<A>, A: Allocator + Copy> VariableMap<N, S, A> {
 
     /// The variable of the solvable, if it has one.
     pub fn lookup_solvable(&self, solvable: S) -> Option<VariableId>
-        ensures { result ≡ variable_of_solvable S.eq self.now solvable }
+        ensures variable { result ≡ variable_of_solvable S.eq self.now solvable }
+        ensures not_large { IfSome result (λ v. S.Slots.is_too_large solvable ≡ false) }
     {
         let index = self.slots.get(solvable).number()?;
         Some(VariableId::from_index(index as usize))
@@ -71,6 +72,8 @@ impl<N: Copy, S: SolverId<A>, A: Allocator + Copy> VariableMap<N, S, A> {
         ensures ids_out { IsTrue (lacks_variable S.eq S.Slots.is_too_large self.old solvable) → result ≡ Err IdSpace }
         ensures err { OnErr result (self.new ≡ self.old) }
         ensures refused { IfErr result (IsGrowthRefusal (lacks_variable S.eq S.Slots.is_too_large self.old solvable)) }
+        ensures fits { OnOk result (lacks_variable S.eq S.Slots.is_too_large self.old solvable ≡ false) }
+        ensures not_large { OnOk result (S.Slots.is_too_large solvable ≡ false) }
     {
         if let Some(variable) = self.lookup_solvable(solvable) {
             return Ok(variable);

@@ -1,12 +1,16 @@
-use Rattle.std.proofs.Common.{◌≡◌, ◌∷◌, [], ◌++◌, ◌+◌, ◌∙◌, sym, ap, subst, take, drop, map, true}
+use Rattle.std.proofs.Common.{◌≡◌, ◌∷◌, [], ◌++◌, ◌+◌, ◌||◌, ◌∙◌, sym, ap, subst, take, drop, map, true, false}
 use Rattle.std.proofs.lemmas.List.{take_more, take_all, drop_more, take-append-drop}
-use Rattle.variables.specs.Variables.{interned_variable, with_variables, lacks_variable, lacks_variables}
-use Rattle.variables.proofs.InterningLemmas.{variables_in_turn, one-more, in_turn-more, variables-in-turn, lacks_for_one, refusal_wider, handed_on}
+use Rattle.std.specs.List.{list_any}
+use Rattle.variables.specs.Variables.{interned_variable, with_variables, lacks_variable, lacks_variables, IsPartlyInterned}
+use Rattle.variables.proofs.InterningLemmas.{variables_in_turn, one-more, in_turn-more, variables-in-turn, lacks_for_one, refusal_wider, handed_on, list_any-fails, wholly, front_of_part, longer_part}
+use Rattle.variables.proofs.lists.intern_list.Given.{Over}
 use Rattle.variables.proofs.lists.intern_list.Goals as goal
+use Rattle.variables.proofs.lists.intern_list.Goals.{After-drop-list, After-drop-list-in_err-push, Else-prove}
 
 pub loop-solvable-preserved : goal.loop-solvable-preserved
 loop-solvable-preserved g c =
     let same = g.S.PartialEq.eq in
+    let large = g.S.Slots.IdMap.is_too_large in
     let first = c.args.variables.now in
     let ss = c.args.solvables.now in
     let i = c.loop-solvable.solvable-index in
@@ -20,6 +24,7 @@ loop-solvable-preserved g c =
           ∙ sym (in_turn-more same first done x) ∙ ap (variables_in_turn same first) (sym more);
       done = one-more same first c.loop-solvable.variables c.intern_solvable.new.self done x c.loop-solvable.invariant.done c.in_ok-variable.ensures.ok
           ∙ ap (with_variables same first) (sym more);
+      fit = ap (list_any large) more ∙ list_any-fails large done (x ∷ []) c.loop-solvable.invariant.fit (ap (λ b. b || false) c.in_ok-variable.ensures.not_large);
     }
 
 pub returns-clause-list : goal.returns-clause-list
@@ -31,10 +36,19 @@ returns-clause-list g c =
     c.loop-solvable.invariant.list ∙ ap (variables_in_turn same first) all ∙ variables-in-turn same g.met.S.Eq.laws.refl first ss
     ∙ ap (λ os. map (interned_variable same os) ss) (sym (c.loop-solvable.invariant.done ∙ ap (with_variables same first) all))
 
+-- where a solvable was refused, those before it have variables
+part-variable : (g : Over) (c : After-drop-list g) → IsPartlyInterned g.S.PartialEq.eq c.args.variables.now c.args.solvables.now c.intern_solvable.new.self
+part-variable g c = (c.loop-solvable.solvable-index, c.in_err-variable.ensures.err ∙ c.loop-solvable.invariant.done)
+
 pub returns-in_err-variable-clause-err : goal.returns-in_err-variable-clause-err
 returns-in_err-variable-clause-err g c =
-    handed_on _ c.from_residual.result c.in_err-variable.field-0.0 c.from_residual.ensures.1
-    (c.loop-solvable.solvable-index, c.in_err-variable.ensures.err ∙ c.loop-solvable.invariant.done)
+    handed_on _ c.from_residual.result c.in_err-variable.field-0.0 c.from_residual.ensures.1 (part-variable g c)
+
+pub returns-in_err-variable-clause-front : goal.returns-in_err-variable-clause-front
+returns-in_err-variable-clause-front g c = front_of_part g.S.PartialEq.eq c.args.variables.now c.args.solvables.now c.intern_solvable.new.self (part-variable g c)
+
+pub returns-in_err-variable-clause-longer : goal.returns-in_err-variable-clause-longer
+returns-in_err-variable-clause-longer g c = longer_part g.S.PartialEq.eq c.args.variables.now c.args.solvables.now c.intern_solvable.new.self (part-variable g c)
 
 pub returns-in_err-variable-clause-refused : goal.returns-in_err-variable-clause-refused
 returns-in_err-variable-clause-refused g c =
@@ -55,17 +69,41 @@ returns-in_err-variable-clause-refused g c =
     (lacks_for_one same large first done x rest (subst (λ os. lacks_variable same large os x ≡ true) c.loop-solvable.invariant.done out)))
     c.in_err-variable.ensures.refused)
 
-pub returns-in_err-push-clause-err : goal.returns-in_err-push-clause-err
-returns-in_err-push-clause-err g c =
+-- where the variable's place was refused, so has the solvable
+part-push : (g : Over) (c : After-drop-list-in_err-push g) → IsPartlyInterned g.S.PartialEq.eq c.args.variables.now c.args.solvables.now c.intern_solvable.new.self
+part-push g c =
     let same = g.S.PartialEq.eq in
     let first = c.args.variables.now in
     let ss = c.args.solvables.now in
     let i = c.loop-solvable.solvable-index in
     let x = c.solvable-item.result in
     let done = take i ss in
-    let more : take (i + 1) ss ≡ done ++ x ∷ [] = take_more ss i x c.loop-solvable-test.true ∙ ap (λ y. done ++ y ∷ []) (sym c.solvable-item.is) in
-    handed_on _ c.from_residual-in_err-push.result _ c.from_residual-in_err-push.ensures.1 (
+    let more : take (i + 1) ss ≡ done ++ x ∷ [] = take_more ss i x c.loop-solvable-test.true ∙ ap (λ y. done ++ y ∷ []) (sym c.solvable-item.is) in (
       i + 1,
       one-more same first c.loop-solvable.variables c.intern_solvable.new.self done x c.loop-solvable.invariant.done c.in_ok-variable.ensures.ok
           ∙ ap (with_variables same first) (sym more),
     )
+
+pub returns-in_err-push-clause-err : goal.returns-in_err-push-clause-err
+returns-in_err-push-clause-err g c =
+    handed_on _ c.from_residual-in_err-push.result _ c.from_residual-in_err-push.ensures.1 (part-push g c)
+
+pub returns-in_err-push-clause-front : goal.returns-in_err-push-clause-front
+returns-in_err-push-clause-front g c = front_of_part g.S.PartialEq.eq c.args.variables.now c.args.solvables.now c.intern_solvable.new.self (part-push g c)
+
+pub returns-in_err-push-clause-longer : goal.returns-in_err-push-clause-longer
+returns-in_err-push-clause-longer g c = longer_part g.S.PartialEq.eq c.args.variables.now c.args.solvables.now c.intern_solvable.new.self (part-push g c)
+
+-- in the end all of them have variables
+part-whole : (g : Over) (c : Else-prove g) → IsPartlyInterned g.S.PartialEq.eq c.args.variables.now c.args.solvables.now c.loop-solvable.variables
+part-whole g c =
+    let same = g.S.PartialEq.eq in
+    let all = take_all c.loop-solvable.solvable-index c.args.solvables.now c.loop-solvable-test.false in
+    wholly same c.args.variables.now c.args.solvables.now c.loop-solvable.variables
+    (c.loop-solvable.invariant.done ∙ ap (with_variables same c.args.variables.now) all)
+
+pub returns-clause-front : goal.returns-clause-front
+returns-clause-front g c = front_of_part g.S.PartialEq.eq c.args.variables.now c.args.solvables.now c.loop-solvable.variables (part-whole g c)
+
+pub returns-clause-longer : goal.returns-clause-longer
+returns-clause-longer g c = longer_part g.S.PartialEq.eq c.args.variables.now c.args.solvables.now c.loop-solvable.variables (part-whole g c)

@@ -1,4 +1,5 @@
-use Rattle.std.proofs.Common.{◌≡◌, take}
+use Rattle.std.proofs.Common.{◌≡◌, take, false}
+use Rattle.std.specs.List.{list_any}
 use Rattle.variables.specs.Variables.{with_variables}
 use Rattle.variables.proofs.InterningLemmas.{variables_in_turn}
 use Rattle.variables.proofs.lists.intern_list.Given as goal
@@ -9,5 +10,6 @@ invariant-loop-solvable g l =
     let done = take l.solvable-index l.solvables in
     record {
       list : l.list.items ≡ variables_in_turn same l.initial.variables done;
+      fit : list_any g.S.Slots.IdMap.is_too_large done ≡ false;
       done : l.variables ≡ with_variables same l.initial.variables done;
     }

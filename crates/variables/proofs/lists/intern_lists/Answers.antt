@@ -1,16 +1,19 @@
 use Rattle.std.proofs.Common.{◌≡◌, ◌∷◌, [], ◌++◌, ◌+◌, ◌∙◌, sym, ap, subst, take, drop, map, true}
 use Rattle.std.specs.Prelude.{flat_map}
+use Rattle.std.specs.List.{list_any}
 use Rattle.std.proofs.lemmas.Grind.{flat_map-append}
 use Rattle.std.proofs.lemmas.List.{take_more, take_all, drop_more, append-nil, map-append}
 use Rattle.std.proofs.lemmas.List.Sums.{fold-append}
 use Rattle.variables.specs.Variables.{interned_variable, with_variable, with_variables, lacks_variables, IsPartlyInterned}
-use Rattle.variables.proofs.InterningLemmas.{lists_in_turn, lists-more, lists-in-turn, lacks_for_list, split-at, partly_more, wholly, front_of_part, longer_part, refusal_wider, handed_on}
+use Rattle.variables.proofs.InterningLemmas.{lists_in_turn, lists-more, lists-in-turn, lacks_for_list, split-at, partly_more, wholly, front_of_part, longer_part, refusal_wider, handed_on, list_any-fails, none_large}
 use Rattle.variables.proofs.lists.intern_lists.Given.{Over}
 use Rattle.variables.proofs.lists.intern_lists.Goals as goal
+use Rattle.variables.proofs.lists.intern_lists.Goals.{Else-prove}
 
 pub loop-list-preserved : goal.loop-list-preserved
 loop-list-preserved g c =
     let same = g.S.PartialEq.eq in
+    let large = g.S.Slots.IdMap.is_too_large in
     let first = c.args.variables.now in
     let lists = c.args.lists.now in
     let i = c.loop-list.list-index in
@@ -31,6 +34,8 @@ loop-list-preserved g c =
           ∙ ap (λ l. lists_in_turn same (λ l. l.items) first done ++ l ∷ []) own
           ∙ sym (lists-more same (λ l. l.items) first done list) ∙ ap (lists_in_turn same (λ l. l.items) first) (sym more);
       done = after ∙ sym (fold-append (with_variable same) first ts list.items) ∙ ap (with_variables same first) (sym joined);
+      fit = ap (list_any large) joined ∙ list_any-fails large ts list.items c.loop-list.invariant.fit
+          (ap (list_any large) (sym c.deref.ensures.value) ∙ none_large same large c.loop-list.variables c.deref.result.now c.in_ok-own.ensures.fit);
     }
 
 pub returns-clause-lists : goal.returns-clause-lists
@@ -97,7 +102,7 @@ pub returns-in_err-push-clause-err : goal.returns-in_err-push-clause-err
 returns-in_err-push-clause-err g c = handed_on _ c.from_residual-in_err-push.result _ c.from_residual-in_err-push.ensures.1 (part-push g c)
 
 -- all lists have their variables
-whole : (g : Over) (c : goal.After-loop-list g) → c.loop-list.variables ≡ with_variables g.S.PartialEq.eq c.args.variables.now (flat_map (λ l. l.items) c.args.lists.now)
+whole : (g : Over) (c : Else-prove g) → c.loop-list.variables ≡ with_variables g.S.PartialEq.eq c.args.variables.now (flat_map (λ l. l.items) c.args.lists.now)
 whole g c =
     c.loop-list.invariant.done
     ∙ ap (λ ls. with_variables g.S.PartialEq.eq c.args.variables.now (flat_map (λ l. l.items) ls)) (take_all c.loop-list.list-index c.args.lists.now c.loop-list-test.false)

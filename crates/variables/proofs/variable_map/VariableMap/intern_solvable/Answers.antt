@@ -9,7 +9,7 @@ invariant_of-self-2 g c =
     let same = g.S.PartialEq.eq in
     let os = c.self.inside.origins.items in
     let absent : variable_of_solvable same os c.args.solvable ≡ None =
-    ap (λ l. variable_of_solvable same l c.args.solvable) c.self.view_is ∙ sym c.lookup_solvable.ensures ∙ c.in_default.is in
+    ap (λ l. variable_of_solvable same l c.args.solvable) c.self.view_is ∙ sym c.lookup_solvable.ensures.variable ∙ c.in_default.is in
     let size : c.len-index.result ≡ length os = c.len-index.ensures ∙ c.self.inside.origins.ok.0 in
     let below : c.len-index.result < 2147483647 = search rules in
     rw c.in_ok-push.ensures.items record {
@@ -22,15 +22,15 @@ invariant_of-self-2 g c =
 
 pub returns-then-not-in_range-clause-known : goal.returns-then-not-in_range-clause-known
 returns-then-not-in_range-clause-known g c =
-    λ known. absurd (not_known _ (sym c.lookup_solvable.ensures ∙ c.in_default.is) known)
+    λ known. absurd (not_known _ (sym c.lookup_solvable.ensures.variable ∙ c.in_default.is) known)
 
 pub returns-in_err-make_room-clause-known : goal.returns-in_err-make_room-clause-known
 returns-in_err-make_room-clause-known g c =
-    λ known. absurd (not_known _ (sym c.lookup_solvable.ensures ∙ c.in_default.is) known)
+    λ known. absurd (not_known _ (sym c.lookup_solvable.ensures.variable ∙ c.in_default.is) known)
 
 pub returns-in_err-push-clause-known : goal.returns-in_err-push-clause-known
 returns-in_err-push-clause-known g c =
-    λ known. absurd (not_known _ (sym c.lookup_solvable.ensures ∙ c.in_default.is) known)
+    λ known. absurd (not_known _ (sym c.lookup_solvable.ensures.variable ∙ c.in_default.is) known)
 
 -- it changes no value
 
@@ -48,9 +48,9 @@ invariant_of-self-in_err-push g c =
 pub returns-clause-variable : goal.returns-clause-variable
 returns-clause-variable g c =
     c.from_index.ensures ∙ (c.len-index.ensures ∙ (c.self.inside.origins.ok.0 ∙ (ap length c.self.view_is
-    ∙ sym (interned_variable-new g.S.PartialEq.eq c.args.solvable c.args.self.now (sym c.lookup_solvable.ensures ∙ c.in_default.is)))))
+    ∙ sym (interned_variable-new g.S.PartialEq.eq c.args.solvable c.args.self.now (sym c.lookup_solvable.ensures.variable ∙ c.in_default.is)))))
 
 pub returns-clause-ok : goal.returns-clause-ok
 returns-clause-ok g c =
     c.in_ok-push.ensures.items ∙ (ap (λ os. os ++ Solvable c.args.solvable ∷ []) c.self.view_is
-    ∙ sym (with_variable-new g.S.PartialEq.eq c.args.solvable c.args.self.now (sym c.lookup_solvable.ensures ∙ c.in_default.is)))
+    ∙ sym (with_variable-new g.S.PartialEq.eq c.args.solvable c.args.self.now (sym c.lookup_solvable.ensures.variable ∙ c.in_default.is)))
