@@ -1,1 +1,2 @@
+pub mod FewIds
 pub mod IndexedSet

@@ -6,7 +6,7 @@
 //! `id_map` and `id_set` have the traits, and `solver_id` the choice. `dense_map` is the map of dense ids and
 //! `indexed_set` their set; `sparse_map` is the map of sparse ids, and their set is in `id_set`. `slot` is the value of
 //! maps to optional indexes. `with_root_set` adds the root to a set of solvables. The words of the contracts are those of
-//! `typed_ids`, and `has_bit` in `specs/IndexedSet`.
+//! `typed_ids`, and `has_bit` in `specs/IndexedSet`; `specs/FewIds` proves how many dense ids there can be.
 #![tactic(auto)]
 
 mod dense_map;
