@@ -1,14 +1,14 @@
 -- The places of questions, and the answers that stand there.
-use Rattle.std.proofs.Common.{◌≡◌, ◌≢◌, ℕ, suc, ◌+◌, ◌<◌, ◌≤◌, ◌^◌, ◌||◌, Bool, true, false, not, cond, ltb, min, leb, List, [], ◌∷◌, ◌++◌, length, length-append, slice_get, is_some, Option, None, Some, option_map, refl, arith, sym, ◌∙◌, ap, subst}
+use Rattle.std.proofs.Common.{◌≡◌, ◌≢◌, ℕ, suc, ◌+◌, ◌<◌, ◌≤◌, ◌^◌, ◌||◌, Bool, true, false, not, cond, ltb, min, leb, List, [], ◌∷◌, ◌++◌, length, length-append, slice_get, is_some, Option, None, Some, refl, arith, sym, ◌∙◌, ap, subst}
 use Rattle.std.specs.Cmp.{IsEquivalence}
-use Rattle.std.specs.List.{IsDistinct, position_from, position_or_len, list_any}
+use Rattle.std.specs.List.{All, IsDistinct, position_from, position_or_len, list_any}
 use Rattle.std.specs.Map.{lookup, keys_of, values_of}
 use Rattle.std.proofs.lemmas.Bool.Decides.{nat_tests}
 use Rattle.std.proofs.lemmas.Iterator.Adapters.{position_from-zero}
 use Rattle.std.proofs.lemmas.List.{map-append}
+use Rattle.std.proofs.lemmas.List.Elements.{All-nil, All-push, All-same}
 use Rattle.std.proofs.lemmas.Map.Entries.{length-keys_of}
 use Rattle.std.proofs.lemmas.Map.Keys.{IsDistinct-push}
-use Rattle.std.proofs.lemmas.Option.{slice_get-map}
 use Rattle.typed_ids.specs.TotalMaps.{IsUpdate, SameValues}
 use Rattle.kept_answers.specs.KeptAnswers.{place_of, lacks_answer, AreKept}
 
@@ -95,18 +95,19 @@ pub no_answer : {K V : Type 0} (same : K → K → Bool) (kept : List (K × V)) 
 no_answer same kept key none = none_from _ (sym (has_place (same key) 0 kept) ∙ ap is_some none)
 
 -- a place is below the limit, and a slot's number
-pub place_below : {K V : Type 0} (same : K → K → Bool) (limit : ℕ) (slots : K → Option ℕ) (kept : List (K × V)) (key : K) (p : ℕ)
-    → AreKept same limit slots kept → place_of same kept key ≡ Some p → (p < length kept) × (p < limit)
-place_below same limit slots kept key p are at =
+pub place_below : {K V : Type 0} (same : K → K → Bool) (IsId : K → Type 0) (limit : ℕ) (slots : K → Option ℕ) (kept : List (K × V)) (key : K) (p : ℕ)
+    → AreKept same IsId limit slots kept → place_of same kept key ≡ Some p → (p < length kept) × (p < limit)
+place_below same IsId limit slots kept key p are at =
     let within : p < length (keys_of kept) = (place_is (same key) p (keys_of kept) at).1 in
     let size : length (keys_of kept) ≡ length kept = length-keys_of kept in
     let few : length kept ≤ min limit (2 ^ 32) = are.few in
     (omega arith, omega arith)
 
 -- the same places belong to the same answers
-pub AreKept-same : {K V : Type 0} (same : K → K → Bool) (limit : ℕ) (f g : K → Option ℕ) (kept : List (K × V)) → SameValues f g
-    → AreKept same limit f kept → AreKept same limit g kept
-AreKept-same same limit f g kept alike are = record { agrees = λ key. alike key ∙ are.agrees key; few = are.few; distinct = are.distinct }
+pub AreKept-same : {K V : Type 0} (same : K → K → Bool) (IsId : K → Type 0) (limit : ℕ) (f g : K → Option ℕ) (kept : List (K × V)) → SameValues f g
+    → AreKept same IsId limit f kept → AreKept same IsId limit g kept
+AreKept-same same IsId limit f g kept alike are =
+    record { agrees = λ key. alike key ∙ are.agrees key; few = are.few; distinct = are.distinct; ids = are.ids }
 
 -- a question more, which has no answer yet, differs from all others
 pub distinct-push : {K V : Type 0} (same : K → K → Bool) → IsEquivalence same → (kept : List (K × V)) (key : K)
@@ -116,14 +117,15 @@ distinct-push same laws kept key distinct none =
 
 -- an answer more, for which the next place was put
 pub AreKept-push : {K V : Type 0} (same : K → K → Bool) → IsEquivalence same → ((a b : K) → same a b ≡ true → a ≡ b)
-    → (limit m : ℕ) (f g h : K → Option ℕ) (kept : List (K × V)) (key : K) (value : V) → m ≡ length kept → m < min limit (2 ^ 32)
-    → AreKept same limit f kept → SameValues f g → lookup (same key) kept ≡ None → IsUpdate g key (Some m) h
-    → AreKept same limit h (kept ++ (key, value) ∷ [])
-AreKept-push {K} {V} same laws is_sameness limit m f g h kept key value size below are alike none put =
+    → (IsId : K → Type 0) (limit m : ℕ) (f g h : K → Option ℕ) (kept : List (K × V)) (key : K) (value : V) → m ≡ length kept → m < min limit (2 ^ 32)
+    → AreKept same IsId limit f kept → SameValues f g → lookup (same key) kept ≡ None → IsId key → IsUpdate g key (Some m) h
+    → AreKept same IsId limit h (kept ++ (key, value) ∷ [])
+AreKept-push {K} {V} same laws is_sameness IsId limit m f g h kept key value size below are alike none id put =
     record {
       agrees = λ other. by_test other (same other key) refl ∙ sym (ap (position_from (same other) 0) pushed);
       few = simp length-append (omega arith);
       distinct = subst (IsDistinct same) (sym pushed) (distinct-push same laws kept key are.distinct none);
+      ids = All-same IsId (keys_of (kept ++ (key, value) ∷ [])) (keys_of kept ++ key ∷ []) pushed (All-push IsId (keys_of kept) key are.ids id);
     }
   where
     pushed : keys_of (kept ++ (key, value) ∷ []) ≡ keys_of kept ++ key ∷ []
@@ -145,6 +147,16 @@ AreKept-push {K} {V} same laws is_sameness limit m f g h kept key value size bel
 
 -- ---- when an answer can be kept
 
+-- where no more than 2^32 ids differ, fewer questions than that have answers while one has none
+pub fewer_kept : {K V : Type 0} (same : K → K → Bool) → IsEquivalence same → (IsId : K → Type 0) (are_many : Bool)
+    → (are_many ≡ false → (ids : List K) → All IsId ids → IsDistinct same ids → length ids ≤ 2 ^ 32)
+    → (limit : ℕ) (slots : K → Option ℕ) (kept : List (K × V)) (key : K) → AreKept same IsId limit slots kept → IsId key
+    → lookup (same key) kept ≡ None → are_many ≡ false → length kept < 2 ^ 32
+fewer_kept same laws IsId are_many law limit slots kept key are id none few =
+    let within : length (keys_of kept ++ key ∷ []) ≤ 2 ^ 32 =
+    law few (keys_of kept ++ key ∷ []) (All-push IsId (keys_of kept) key are.ids id) (distinct-push same laws kept key are.distinct none) in
+    omega (arith, length-append (keys_of kept) (key ∷ []), length-keys_of kept)
+
 pub not_lacking : {K : Type 0} (limit : ℕ) (is_large : K → Bool) (count : ℕ) (key : K) → count < min limit (2 ^ 32) → is_large key ≡ false
     → lacks_answer limit is_large count key ≡ false
 not_lacking limit is_large count key below fits =
@@ -152,7 +164,7 @@ not_lacking limit is_large count key below fits =
     ap (λ b. b || is_large key) out ∙ fits
 
 -- no answers
-pub none_kept : {K V : Type 0} (same : K → K → Bool) (limit : ℕ) (slots : K → Option ℕ) → ((key : K) → slots key ≡ None)
-    → AreKept {K = K} {V = V} same limit slots []
+pub none_kept : {K V : Type 0} (same : K → K → Bool) (IsId : K → Type 0) (limit : ℕ) (slots : K → Option ℕ) → ((key : K) → slots key ≡ None)
+    → AreKept {K = K} {V = V} same IsId limit slots []
 unfolding IsDistinct
-none_kept same limit slots none = record { agrees = none; few = omega arith; distinct = tt }
+none_kept same IsId limit slots none = record { agrees = none; few = omega arith; distinct = tt; ids = All-nil IsId }

@@ -1,6 +1,6 @@
 -- Questions with their answers, the first one first, where each question has one answer. K are the questions, V the answers.
 use Rattle.std.specs.Prelude.{◌≡◌, ℕ, ◌≤◌, ◌^◌, Bool, ◌||◌, min, nat_le, List, length, Option}
-use Rattle.std.specs.List.{IsDistinct, position_from}
+use Rattle.std.specs.List.{All, IsDistinct, position_from}
 use Rattle.std.specs.Map.{keys_of}
 
 -- no further answer can be kept by the key after the first so many: answers are counted by ids, which end at the limit, and
@@ -13,8 +13,9 @@ module _ {K V : Type 0} (same : K → K → Bool) where
   abbrev pub place_of : List (K × V) → K → Option ℕ
   place_of kept key = position_from (same key) 0 (keys_of kept)
 
-  -- a map from questions to places that belongs to answers kept by ids that end at the limit
-  pub record AreKept (limit : ℕ) (slots : K → Option ℕ) (kept : List (K × V)) : Type 0 where
+  -- a map from questions, which are ids, to places that belongs to answers kept by ids that end at the limit
+  pub record AreKept (IsId : K → Type 0) (limit : ℕ) (slots : K → Option ℕ) (kept : List (K × V)) : Type 0 where
     pub agrees : (key : K) → slots key ≡ place_of kept key
     pub few : length kept ≤ min limit (2 ^ 32)
     pub distinct : IsDistinct same (keys_of kept)
+    pub ids : All IsId (keys_of kept)

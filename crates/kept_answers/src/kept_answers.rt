@@ -1,5 +1,5 @@
 //! Answers, each found by the id that its question is about.
-ghost use Rattle.std.specs.Prelude.{◌≡◌, ◌<◌, false, [], ◌∷◌, ◌++◌, map, length, is_some, slice_get, Some, None, IfSome, IsTrue, IfOk, OnOk, OnErr, IfErr};
+ghost use Rattle.std.specs.Prelude.{◌≡◌, ◌<◌, ◌^◌, false, [], ◌∷◌, ◌++◌, map, length, is_some, slice_get, Some, None, IfSome, IsTrue, IfOk, OnOk, OnErr, IfErr};
 ghost use Rattle.std.specs.List.{IsDistinct};
 ghost use Rattle.std.specs.Map.{lookup, keys_of};
 ghost use Rattle.typed_ids.specs.Refusals.{IsGrowthRefusal};
@@ -31,7 +31,7 @@ impl<I: DenseIndex, K: SolverId<A>, V, A: Allocator + Copy> Model for KeptAnswer
 
     ghost view = { λ kept. kept.answers };
 
-    ghost invariant = { λ kept. AreKept K.eq I.limit (K.Slots.value_at kept.slots) kept.answers };
+    ghost invariant = { λ kept. AreKept K.eq K.is_id I.limit (K.Slots.value_at kept.slots) kept.answers };
 }
 
 impl<I: DenseIndex, K: SolverId<A>, V, A: Allocator + Copy> KeptAnswers<I, K, V, A> {
@@ -53,6 +53,7 @@ impl<I: DenseIndex, K: SolverId<A>, V, A: Allocator + Copy> KeptAnswers<I, K, V,
         ensures within { IfSome result (λ id. I.index_of id < length self.now) }
         ensures answer { IfSome result (λ id. slice_get (map (λ e. e.1) self.now) (I.index_of id) ≡ lookup (K.eq key) self.now) }
         ensures distinct { IsDistinct K.eq (keys_of self.now) }
+        ensures fits { IfSome result (λ id. K.Slots.is_too_large key ≡ false) }
     {
         match self.slots.get(key).number() {
             Some(index) => Some(I::from_index(index as usize)),
@@ -72,7 +73,9 @@ impl<I: DenseIndex, K: SolverId<A>, V, A: Allocator + Copy> KeptAnswers<I, K, V,
         ensures fits { OnOk result (lacks_answer I.limit K.Slots.is_too_large (length self.old) key ≡ false) }
         ensures ids_out { IsTrue (lacks_answer I.limit K.Slots.is_too_large (length self.old) key) → result ≡ Err IdSpace }
         ensures refused { IfErr result (IsGrowthRefusal (lacks_answer I.limit K.Slots.is_too_large (length self.old) key)) }
+        ensures few { K.are_many ≡ false → length self.old < 2 ^ 32 }
     {
+        key.attest();
         let index = self.answers.len();
         if index > u32::MAX as usize || !I::in_range(index) {
             return Err(StoreError::IdSpace);
