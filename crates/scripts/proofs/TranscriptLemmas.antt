@@ -35,7 +35,7 @@ Writes-on (Some xs) None c wa wb wc s h k = absurd h
 Writes-on (Some xs) (Some ys) None wa wb wc s h k = absurd k
 Writes-on (Some xs) (Some ys) (Some zs) wa wb wc s h k = k ∙ append-nil (ys ++ wb) ∙ h
 
-begins : (said : Line (ProgramCommand ℕ)) (after : Type 0) → IsCommand said → BeginsCommand said after
+begins : {S : Type 0} (said : Line (ProgramCommand S)) (after : Type 0) → IsCommand said → BeginsCommand said after
 begins Skipped after h = absurd h
 begins Unreadable after h = absurd h
 begins (Says c) after h = tt
@@ -43,78 +43,83 @@ begins (Says c) after h = tt
 unreadable_lacks_nothing : (number : ℕ) → fault_at number OfLine.Unreadable ≡ OfScript.Memory → ⊥
 unreadable_lacks_nothing number h = cc
 
-module _ {N : Type 0} where
+module _ {N S : Type 0} (limit : ℕ) (id_at : ℕ → S) where
   -- lines were obeyed so far, with this text: how what is left goes on, so all of them do after it
-  abbrev pub SoFar : Store N ℕ → ℕ → List (List ℕ) → Option (List ℕ) → List ℕ → Store N ℕ → ℕ → List (List ℕ) → Option (List ℕ) → List ℕ → Type 0
+  abbrev pub SoFar : Store N S → ℕ → List (List ℕ) → Option (List ℕ) → List ℕ → Store N S → ℕ → List (List ℕ) → Option (List ℕ) → List ℕ → Type 0
   SoFar first before lines held waiting now number left held' waiting' =
       (own : List ℕ) × Writes held waiting held' waiting' own
-      × ((text : List ℕ) (faulty : Option ℕ) → Answered now number left text faulty → Answered first before lines (own ++ text) faulty)
+      × ((text : List ℕ) (faulty : Option ℕ) → Answered limit id_at now number left text faulty → Answered limit id_at first before lines (own ++ text) faulty)
+
+  -- at first no line was obeyed
+  pub so_far_none : (first : Store N S) (before : ℕ) (lines : List (List ℕ)) (held : Option (List ℕ)) (waiting : List ℕ)
+      → SoFar first before lines held waiting first before lines held waiting
+  so_far_none first before lines held waiting = ([], Writes-wait held waiting waiting [] (sym (append-nil waiting)), λ text faulty goes_on. goes_on)
 
   -- the text of an obeyed line, and how what is after it goes on
-  line_obeyed : {T : Type 0} (old new : Store N ℕ) (number : ℕ) (said : Line (ProgramCommand ℕ)) (lines : List (List ℕ)) (waiting waiting' : List ℕ) (t : T)
+  line_obeyed : {T : Type 0} (old new : Store N S) (number : ℕ) (said : Line (ProgramCommand S)) (lines : List (List ℕ)) (waiting waiting' : List ℕ) (t : T)
       → ObeysLine old said waiting (Ok t) waiting' new
       → (own : List ℕ) × (waiting' ≡ waiting ++ own)
-      × ((rest : List ℕ) (faulty : Option ℕ) → Answered new number lines rest faulty → LineAnswered old number said (λ mid r. Answered mid number lines r faulty) (own ++ rest) faulty)
+      × ((rest : List ℕ) (faulty : Option ℕ) → Answered limit id_at new number lines rest faulty → LineAnswered old number said (λ mid r. Answered limit id_at mid number lines r faulty) (own ++ rest) faulty)
   line_obeyed old new number Skipped lines waiting waiting' t h =
-      ([], h.0 ∙ sym (append-nil waiting), λ rest faulty g. subst (λ st. Answered st number lines rest faulty) h.1 g)
+      ([], h.0 ∙ sym (append-nil waiting), λ rest faulty g. subst (λ st. Answered limit id_at st number lines rest faulty) h.1 g)
   line_obeyed old new number Unreadable lines waiting waiting' t h = absurd h
   line_obeyed old new number (Says c) lines waiting waiting' t h =
       (reply_text h.0, h.2, λ rest faulty g. (h.0, new, rest, h.1, refl, g))
 
   -- an obeyed line more, of which it was read what it says
-  pub so_far_more : {T : Type 0} (first now new : Store N ℕ) (before number : ℕ) (all left lines : List (List ℕ)) (line : List ℕ) (said : Line Statement)
+  pub so_far_more : {T : Type 0} (first now new : Store N S) (before number : ℕ) (all left lines : List (List ℕ)) (line : List ℕ) (said : Line Statement)
       (held held' held'' : Option (List ℕ)) (w w' w'' v : List ℕ) (t : T)
-      → left ≡ line ∷ lines → MeansWords line said → ObeysLine now (command_meant said) w' (Ok t) w'' new → Writes held' w'' held'' v []
+      → left ≡ line ∷ lines → MeansWords line said → ObeysLine now (command_meant limit id_at said) w' (Ok t) w'' new → Writes held' w'' held'' v []
       → SoFar first before all held w now number left held' w' → SoFar first before all held w new (number + 1) lines held'' v
   so_far_more {T} first now new before number all left lines line said held held' held'' w w' w'' v t behind means obeyed written so_far =
-      let meant = subst (λ l. ObeysLine {T = T} now l w' (Ok t) w'' new) (meant_by command_said line said means) obeyed in
-      let more = line_obeyed now new (number + 1) (command_line_of line) lines w' w'' t meant in (
+      let meant = subst (λ l. ObeysLine {T = T} now l w' (Ok t) w'' new) (meant_by (command_said limit id_at) line said means) obeyed in
+      let more = line_obeyed now new (number + 1) (command_line_of limit id_at line) lines w' w'' t meant in (
         so_far.0 ++ more.0,
         Writes-on held held' held'' w w'' v (so_far.0 ++ more.0)
             (Writes-trans held held' held' w w' w'' so_far.0 more.0 so_far.1 (Writes-wait held' w' w'' more.0 more.1)) written,
-        λ text faulty goes_on. subst (λ l. Answered first before all l faulty) (sym (append_assoc so_far.0 more.0 text))
+        λ text faulty goes_on. subst (λ l. Answered limit id_at first before all l faulty) (sym (append_assoc so_far.0 more.0 text))
             (so_far.2 (more.0 ++ text) faulty
-            (subst (λ ls. Answered now number ls (more.0 ++ text) faulty) (sym behind) (more.2 text faulty goes_on))),
+            (subst (λ ls. Answered limit id_at now number ls (more.0 ++ text) faulty) (sym behind) (more.2 text faulty goes_on))),
       )
 
   -- the first unreadable line
-  unreadable_here : (now : Store N ℕ) (number : ℕ) (said : Line (ProgramCommand ℕ)) (goes_on : Store N ℕ → List ℕ → Type 0) → said ≡ Unreadable
+  unreadable_here : (now : Store N S) (number : ℕ) (said : Line (ProgramCommand S)) (goes_on : Store N S → List ℕ → Type 0) → said ≡ Unreadable
       → LineAnswered now number said goes_on [] (Some number)
   unreadable_here now number said goes_on e =
       subst (λ l. LineAnswered now number l goes_on [] (Some number)) (sym e) (refl, refl)
 
   -- the script's end at a faulty line
-  pub ended_faulty : (T U : Type 0) (first now new : Store N ℕ) (before number : ℕ) (all left lines : List (List ℕ)) (line : List ℕ) (said : Line Statement)
+  pub ended_faulty : (T U : Type 0) (first now new : Store N S) (before number : ℕ) (all left lines : List (List ℕ)) (line : List ℕ) (said : Line Statement)
       (held held' : Option (List ℕ)) (w w' w'' : List ℕ) (fault : LineFault)
-      → left ≡ line ∷ lines → MeansWords line said → ObeysLine {T = T} now (command_meant said) w' (Err fault) w'' new
+      → left ≡ line ∷ lines → MeansWords line said → ObeysLine {T = T} now (command_meant limit id_at said) w' (Err fault) w'' new
       → SoFar first before all held w now number left held' w'
-      → IfRead {T = U} (Err (fault_at (number + 1) fault)) (λ faulty. (text : List ℕ) × Answered first before all text faulty × Writes held w held' w'' text)
+      → IfRead {T = U} (Err (fault_at (number + 1) fault)) (λ faulty. (text : List ℕ) × Answered limit id_at first before all text faulty × Writes held w held' w'' text)
   ended_faulty T U first now new before number all left lines line said held held' w w' w'' OfLine.Memory behind means obeyed so_far = tt
   ended_faulty T U first now new before number all left lines line said held held' w w' w'' OfLine.Unreadable behind means obeyed so_far = (
     so_far.0 ++ [],
     so_far.2 [] (Some (number + 1))
-        (subst (λ ls. Answered now number ls [] (Some (number + 1))) (sym behind)
-        (unreadable_here now (number + 1) (command_line_of line) (λ mid r. Answered mid (number + 1) lines r (Some (number + 1))) (sym (meant_by command_said line said means) ∙ obeyed.0))),
+        (subst (λ ls. Answered limit id_at now number ls [] (Some (number + 1))) (sym behind)
+        (unreadable_here now (number + 1) (command_line_of limit id_at line) (λ mid r. Answered limit id_at mid (number + 1) lines r (Some (number + 1))) (sym (meant_by (command_said limit id_at) line said means) ∙ obeyed.0))),
     Writes-trans held held' held' w w' w'' so_far.0 [] so_far.1 (Writes-wait held' w' w'' [] (obeyed.1 ∙ sym (append-nil w'))),
   )
 
   -- a line for which memory was refused says a command
-  pub command_here : (T : Type 0) (number : ℕ) (fault : LineFault) (now new : Store N ℕ) (left lines : List (List ℕ)) (line : List ℕ) (said : Line Statement)
-      (w w' : List ℕ) → left ≡ line ∷ lines → MeansWords line said → ObeysLine {T = T} now (command_meant said) w (Err fault) w' new
-      → fault_at number fault ≡ OfScript.Memory → HasCommand left
+  pub command_here : (T : Type 0) (number : ℕ) (fault : LineFault) (now new : Store N S) (left lines : List (List ℕ)) (line : List ℕ) (said : Line Statement)
+      (w w' : List ℕ) → left ≡ line ∷ lines → MeansWords line said → ObeysLine {T = T} now (command_meant limit id_at said) w (Err fault) w' new
+      → fault_at number fault ≡ OfScript.Memory → HasCommand limit id_at left
   command_here T number OfLine.Unreadable now new left lines line said w w' behind means obeyed memory = absurd (unreadable_lacks_nothing number memory)
   command_here T number OfLine.Memory now new left lines line said w w' behind means obeyed memory =
-      subst HasCommand (sym behind) (begins (command_line_of line) (HasCommand lines) (subst IsCommand (meant_by command_said line said means) obeyed))
+      subst (HasCommand limit id_at) (sym behind) (begins (command_line_of limit id_at line) (HasCommand limit id_at lines) (subst IsCommand (meant_by (command_said limit id_at) line said means) obeyed))
 
-  passes : {T : Type 0} (now new : Store N ℕ) (said : Line (ProgramCommand ℕ)) (w w' : List ℕ) (t : T) (after : Type 0)
+  passes : {T : Type 0} (now new : Store N S) (said : Line (ProgramCommand S)) (w w' : List ℕ) (t : T) (after : Type 0)
       → ObeysLine now said w (Ok t) w' new → after → BeginsCommand said after
   passes now new Skipped w w' t after h more = more
   passes now new Unreadable w w' t after h more = absurd h
   passes now new (Says c) w w' t after h more = tt
 
   -- a command after a line that was obeyed
-  pub command_after : {T : Type 0} (now new : Store N ℕ) (left lines : List (List ℕ)) (line : List ℕ) (said : Line Statement) (w w' : List ℕ) (t : T)
-      → left ≡ line ∷ lines → MeansWords line said → ObeysLine now (command_meant said) w (Ok t) w' new → HasCommand lines → HasCommand left
+  pub command_after : {T : Type 0} (now new : Store N S) (left lines : List (List ℕ)) (line : List ℕ) (said : Line Statement) (w w' : List ℕ) (t : T)
+      → left ≡ line ∷ lines → MeansWords line said → ObeysLine now (command_meant limit id_at said) w (Ok t) w' new → HasCommand limit id_at lines → HasCommand limit id_at left
   command_after {T} now new left lines line said w w' t behind means obeyed more =
-      subst HasCommand (sym behind) (passes now new (command_line_of line) w w' t (HasCommand lines)
-      (subst (λ l. ObeysLine {T = T} now l w (Ok t) w' new) (meant_by command_said line said means) obeyed) more)
+      subst (HasCommand limit id_at) (sym behind) (passes now new (command_line_of limit id_at line) w w' t (HasCommand limit id_at lines)
+      (subst (λ l. ObeysLine {T = T} now l w (Ok t) w' new) (meant_by (command_said limit id_at) line said means) obeyed) more)

@@ -1,6 +1,7 @@
--- The abstract store over a script's packages.
-use Rattle.std.specs.Prelude.{ℕ, ◌^◌, Bool, nat_le}
-use Rattle.resolvo_store.specs.Store.{Store, Kept, Provider, store_of, provided}
+-- What a store over a script's packages knows of them, and what a new store keeps.
+use Rattle.std.specs.Prelude.{ℕ, ◌^◌, Bool, [], ◌∷◌, nat_le}
+use Rattle.resolvo_store.specs.Store.{Kept, Provider, provided}
+use Rattle.variables.specs.declared.variable_origin.VariableOrigin.TheVariants.{Root}
 use Rattle.script_packages.specs.declared.packages.Packages.{Packages}
 use Rattle.script_packages.specs.Packages.{same_id}
 use Rattle.script_packages.specs.PackageAnswers.{universe_of, answers_of}
@@ -13,6 +14,6 @@ is_large n = nat_le (2 ^ 40) n
 abbrev pub provider_of : Packages → Provider ℕ ℕ
 provider_of p = provided same_id same_id is_large is_large universe_of answers_of p
 
--- the abstract store of what a store of packages keeps
-abbrev pub script_store : Kept Packages ℕ ℕ → Store ℕ ℕ
-script_store kept = store_of provider_of kept
+-- what a new store over a provider keeps
+abbrev pub new_kept : {D N S : Type 0} → D → Kept D N S
+new_kept provider = record { provider = provider; origins = Root ∷ []; loaded = []; requires = []; trail = [] }

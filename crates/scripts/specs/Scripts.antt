@@ -1,5 +1,5 @@
 -- What a whole script is answered.
-use Rattle.std.specs.Prelude.{◌≡◌, ℕ, List, [], ◌⊎◌, Option, None, Some}
+use Rattle.std.specs.Prelude.{◌≡◌, ℕ, ◌^◌, List, [], ◌⊎◌, Option, None, Some}
 use Rattle.resolvo_store.specs.Store.{new_store}
 use Rattle.script_packages.specs.declared.packages.Packages.{Packages}
 use Rattle.script_packages.specs.Listing.{nothing_listed}
@@ -13,11 +13,12 @@ abbrev pub faulty_text : Option ℕ → List ℕ
 faulty_text None = []
 faulty_text (Some number) = unreadable_text number
 
--- the commands of a script are answered by this text, over the packages of its catalogue
+-- the commands of a script are answered by this text, over the packages of its catalogue; solvables are named by their
+-- numbers of 32 bits
 abbrev pub CommandsAnswered : List (List ℕ) → List ℕ → Option ℕ → Type 0
 CommandsAnswered lines text faulty =
     (packages : Packages) × (before : ℕ) × (left : List (List ℕ)) × CommandsBegin nothing_listed 0 lines before left packages
-    × Answered (new_store (provider_of packages)) before left text faulty
+    × Answered (2 ^ 32) (λ n. n) (new_store (provider_of packages)) before left text faulty
 
 -- the lines of a script are answered by this text, up to the first unreadable one: it has no commands, or its catalogue
 -- has an unreadable line, or its commands are answered

@@ -14,25 +14,20 @@ use Rattle.scripts.specs.Commands.{command_line_of}
 use Rattle.scripts.specs.Replies.{reply_text}
 
 -- what a line says is a command
-abbrev pub IsCommand : Line (ProgramCommand ℕ) → Type 0
+abbrev pub IsCommand : {S : Type 0} → Line (ProgramCommand S) → Type 0
 IsCommand (Says c) = ⊤
 IsCommand _ = ⊥
 
 -- a line says a command, or it is skipped and this holds of those after it
-abbrev pub BeginsCommand : Line (ProgramCommand ℕ) → Type 0 → Type 0
+abbrev pub BeginsCommand : {S : Type 0} → Line (ProgramCommand S) → Type 0 → Type 0
 BeginsCommand Skipped after = after
 BeginsCommand Unreadable after = ⊥
 BeginsCommand (Says c) after = ⊤
 
--- of these lines one says a command, and none before it is unreadable
-abbrev pub HasCommand : List (List ℕ) → Type 0
-HasCommand [] = ⊥
-HasCommand (line ∷ lines) = BeginsCommand (command_line_of line) (HasCommand lines)
-
-module _ {N : Type 0} where
+module _ {N S : Type 0} where
   -- a line that says this is obeyed, and a text grows by the reply's line; or the line is unreadable; or memory was
   -- refused, which only a command can be
-  abbrev pub ObeysLine : {T : Type 0} → Store N ℕ → Line (ProgramCommand ℕ) → List ℕ → Result T LineFault → List ℕ → Store N ℕ
+  abbrev pub ObeysLine : {T : Type 0} → Store N S → Line (ProgramCommand S) → List ℕ → Result T LineFault → List ℕ → Store N S
       → Type 0
   ObeysLine old said text (Err OfLine.Memory) text' new = IsCommand said
   ObeysLine old said text (Err OfLine.Unreadable) text' new = (said ≡ Unreadable) × (text' ≡ text)
@@ -42,20 +37,28 @@ module _ {N : Type 0} where
 
   -- a line of this number says this, and what is after it goes on so from the store that it leaves, with the text that is
   -- left. `faulty` is the number of the first unreadable line, if there is one
-  abbrev pub LineAnswered : Store N ℕ → ℕ → Line (ProgramCommand ℕ) → (Store N ℕ → List ℕ → Type 0) → List ℕ → Option ℕ
+  abbrev pub LineAnswered : Store N S → ℕ → Line (ProgramCommand S) → (Store N S → List ℕ → Type 0) → List ℕ → Option ℕ
       → Type 0
   LineAnswered st number Skipped goes_on text faulty = goes_on st text
   LineAnswered st number Unreadable goes_on text faulty = (text ≡ []) × (faulty ≡ Some number)
   LineAnswered st number (Says c) goes_on text faulty =
-      (reply : Reply) × (mid : Store N ℕ) × (rest : List ℕ) × Step st (command_of c) reply mid
+      (reply : Reply) × (mid : Store N S) × (rest : List ℕ) × Step st (command_of c) reply mid
       × (text ≡ reply_text reply ++ rest) × goes_on mid rest
+
+-- lines in which a number below a limit names the solvable at it
+module _ {S : Type 0} (limit : ℕ) (id_at : ℕ → S) where
+  -- of these lines one says a command, and none before it is unreadable
+  abbrev pub HasCommand : List (List ℕ) → Type 0
+  HasCommand [] = ⊥
+  HasCommand (line ∷ lines) = BeginsCommand (command_line_of limit id_at line) (HasCommand lines)
 
   -- the lines, with so many before them, are answered by this text: a line for each command that was obeyed, in turn, up
   -- to the first unreadable line or the end
-  abbrev pub Answered : Store N ℕ → ℕ → List (List ℕ) → List ℕ → Option ℕ → Type 0
+  abbrev pub Answered : {N : Type 0} → Store N S → ℕ → List (List ℕ) → List ℕ → Option ℕ → Type 0
   Answered st before [] text faulty = (text ≡ []) × (faulty ≡ None)
   Answered st before (line ∷ lines) text faulty =
-      LineAnswered st (before + 1) (command_line_of line) (λ mid rest. Answered mid (before + 1) lines rest faulty) text faulty
+      LineAnswered st (before + 1) (command_line_of limit id_at line) (λ mid rest. Answered mid (before + 1) lines rest faulty)
+      text faulty
 
 -- a fact of a script that neither lacked memory nor met a fault of a device, by the number of its unreadable line
 abbrev pub IfRead : {T : Type 0} → Result T ScriptFault → (Option ℕ → Type 0) → Type 0

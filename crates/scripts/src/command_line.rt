@@ -7,11 +7,11 @@ ghost use Rattle.scripts.specs.Commands.{command_said, variable_command, load_co
 use resolvo_store::Command;
 use script_packages::{id, requirement};
 use script_text::{Line, Statement, is_word, next_word};
-use typed_ids::SolvableId;
+use typed_ids::DenseIndex;
 
-/// The command of a line after `begin`, by what the line says.
-pub fn command_line(said: Line<Statement<'_>>) -> Line<Command<SolvableId>>
-    ensures { result ≡ command_meant said.entry }
+/// The command of a line after `begin`, by what the line says. A number names the solvable of this index.
+pub fn command_line<S: DenseIndex>(said: Line<Statement<'_>>) -> Line<Command<S>>
+    ensures { result ≡ command_meant S.limit S.id_at said.entry }
 {
     match said {
         Line::Skipped => Line::Skipped,
@@ -24,8 +24,8 @@ pub fn command_line(said: Line<Statement<'_>>) -> Line<Command<SolvableId>>
 }
 
 /// The command that a statement gives.
-fn command(said: Statement<'_>) -> Option<Command<SolvableId>>
-    ensures { result ≡ command_said said.entry.keyword.now (words said.entry.rest.now) }
+fn command<S: DenseIndex>(said: Statement<'_>) -> Option<Command<S>>
+    ensures { result ≡ command_said S.limit S.id_at said.entry.keyword.now (words said.entry.rest.now) }
 {
     if is_word(said.keyword, b"assign") {
         assign(said.rest)
@@ -56,15 +56,15 @@ fn only_word(text: &[u8]) -> Option<&[u8]>
 }
 
 /// `variable SOLVABLE`
-fn variable(text: &[u8]) -> Option<Command<SolvableId>>
-    ensures { result ≡ variable_command (words text.now) }
+fn variable<S: DenseIndex>(text: &[u8]) -> Option<Command<S>>
+    ensures { result ≡ variable_command S.limit S.id_at (words text.now) }
 {
     let solvable = id(only_word(text)?)?;
     Some(Command::Variable(solvable))
 }
 
 /// `load R`
-fn load(text: &[u8]) -> Option<Command<SolvableId>>
+fn load<S>(text: &[u8]) -> Option<Command<S>>
     ensures { result ≡ load_command (words text.now) }
 {
     let loaded = requirement(only_word(text)?)?;
@@ -72,7 +72,7 @@ fn load(text: &[u8]) -> Option<Command<SolvableId>>
 }
 
 /// `requires PARENT R` or `requires PARENT R DISJUNCTION`
-fn requires_clause(text: &[u8]) -> Option<Command<SolvableId>>
+fn requires_clause<S>(text: &[u8]) -> Option<Command<S>>
     ensures { result ≡ requires_command (words text.now) }
 {
     let (parent, text) = next_word(text)?;
@@ -90,7 +90,7 @@ fn requires_clause(text: &[u8]) -> Option<Command<SolvableId>>
 }
 
 /// `assign V BOOL CLAUSE LEVEL`
-fn assign(text: &[u8]) -> Option<Command<SolvableId>>
+fn assign<S>(text: &[u8]) -> Option<Command<S>>
     ensures { result ≡ assign_command (words text.now) }
 {
     let (variable, text) = next_word(text)?;
@@ -107,7 +107,7 @@ fn assign(text: &[u8]) -> Option<Command<SolvableId>>
 }
 
 /// `undo-until LEVEL`
-fn undo_until(text: &[u8]) -> Option<Command<SolvableId>>
+fn undo_until<S>(text: &[u8]) -> Option<Command<S>>
     ensures { result ≡ undo_command (words text.now) }
 {
     let level = id(only_word(text)?)?;
@@ -115,7 +115,7 @@ fn undo_until(text: &[u8]) -> Option<Command<SolvableId>>
 }
 
 /// `decide`
-fn decide(text: &[u8]) -> Option<Command<SolvableId>>
+fn decide<S>(text: &[u8]) -> Option<Command<S>>
     ensures { result ≡ decide_command (words text.now) }
 {
     match next_word(text) {

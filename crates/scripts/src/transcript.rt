@@ -1,23 +1,24 @@
 //! Scripts: a catalogue, and then commands, each of which is answered by a line.
 ghost use Rattle.std.specs.Prelude.{◌≡◌, ℕ, List, [], ◌++◌, ◌+◌, ◌^◌, ◌<◌, ◌⊎◌, length, IfSome, IfOk, IfErr};
-ghost use Rattle.resolvo_store.specs.Store.{new_store};
 ghost use Rattle.script_text.specs.declared.fault.ScriptFault.TheVariants.{Device, Memory};
 ghost use Rattle.script_text.specs.Lines.{lines as lines_of};
 ghost use Rattle.script_text.specs.Output.{Writes};
 ghost use Rattle.scripts.specs.Commands.{command_meant};
-ghost use Rattle.scripts.specs.ScriptStore.{script_store, provider_of};
+ghost use Rattle.scripts.specs.ScriptStore.{new_kept};
 ghost use Rattle.scripts.specs.Scripts.{ScriptAnswered, faulty_text};
 ghost use Rattle.scripts.specs.Transcript.{ObeysLine, Answered, HasCommand, IfRead};
 
 use crate::command_line::command_line;
 use crate::reply_line::{push_reply, push_unreadable};
-use resolvo_store::ClauseStore;
-use script_packages::{Catalogue, Packages, read_catalogue};
+use providers::{DependencyProvider, Interner};
+use resolvo_store::{AbstractStore, ClauseStore};
+use script_packages::read_catalogue;
 use script_text::{
     Line, LineFault, ScriptFault, Statement, next_statement, read_whole, write_much, write_rest,
 };
 use std::alloc::Global;
 use std::io::{Read, Write};
+use typed_ids::DenseIndex;
 
 /// Reads a whole script, obeys its commands in turn, and writes a line for each reply. At the first unreadable line the
 /// line that names it is written, and nothing more is read. All that was to be written is written and flushed at every
@@ -63,53 +64,62 @@ fn obey_text<W: Write>(
 {
     match read_catalogue(alloc, text) {
         Ok(None) => Ok(()),
-        Ok(Some(catalogue)) => obey_commands(alloc, catalogue, waiting, writer),
+        Ok(Some(catalogue)) => obey_commands(
+            alloc,
+            catalogue.packages,
+            catalogue.commands,
+            catalogue.line_count,
+            waiting,
+            writer,
+        ),
         Err(fault) => Err(fault),
     }
 }
 
-/// Obeys the commands after a catalogue in turn.
-fn obey_commands<W: Write>(
-    alloc: Global,
-    catalogue: Catalogue<'_>,
-    waiting: &mut Vec<u8>,
-    writer: &mut W,
-) -> Result<(), ScriptFault>
-    ensures { IfRead result (λ faulty. (text : List ℕ)
-        × Answered (new_store (provider_of catalogue.entry.packages)) catalogue.entry.line_count (lines_of catalogue.entry.commands.now) text faulty
-        × Writes (W.contents writer.old) waiting.old.items (W.contents writer.new) waiting.new.items text) }
-{
-    let Catalogue {
-        packages,
-        commands,
-        line_count,
-    } = catalogue;
-    let mut store = store_over(alloc, packages)?;
-    let ended = obey_lines(&mut store, commands, line_count, waiting, writer);
-    drop(store);
-    ended
-}
-
-/// A new store over the packages.
-fn store_over(alloc: Global, packages: Packages) -> Result<ClauseStore<Packages>, ScriptFault>
-    ensures ok { IfOk result (λ store. script_store store ≡ new_store (provider_of packages)) }
-    ensures err { IfErr result (λ e. e ≡ Memory) }
-{
-    ClauseStore::new(alloc, packages).map_err(|_| ScriptFault::Memory)
-}
-
-/// Obeys the lines in turn, with so many before them.
-fn obey_lines<W: Write>(
-    store: &mut ClauseStore<Packages>,
+/// Obeys the commands of these lines in turn, with so many before them, over the packages of the provider.
+fn obey_commands<D: DependencyProvider<SolvableId: DenseIndex> + Drop, W: Write>(
+    alloc: D::Alloc,
+    provider: D,
     lines: &[u8],
     before: u64,
     waiting: &mut Vec<u8>,
     writer: &mut W,
 ) -> Result<(), ScriptFault>
     requires { before + length lines.now < 2 ^ 64 }
-    ensures read { IfRead result (λ faulty. (text : List ℕ) × Answered (script_store store.old) before (lines_of lines.now) text faulty
+    ensures { IfRead result (λ faulty. (text : List ℕ)
+        × Answered D.SolvableId.limit D.SolvableId.id_at (⟦<D as AbstractStore>⟧.store (new_kept provider)) before (lines_of lines.now) text faulty
         × Writes (W.contents writer.old) waiting.old.items (W.contents writer.new) waiting.new.items text) }
-    ensures memory { result ≡ Err Memory → HasCommand (lines_of lines.now) }
+{
+    let mut store = store_over(alloc, provider)?;
+    let ended = obey_lines(&mut store, lines, before, waiting, writer);
+    drop(store);
+    ended
+}
+
+/// A new store over the packages of the provider.
+fn store_over<D: DependencyProvider + Drop>(
+    alloc: D::Alloc,
+    provider: D,
+) -> Result<ClauseStore<D>, ScriptFault>
+    ensures ok { IfOk result (λ store. ⟦<D as AbstractStore>⟧.store store ≡ ⟦<D as AbstractStore>⟧.store (new_kept provider)) }
+    ensures err { IfErr result (λ e. e ≡ Memory) }
+{
+    ClauseStore::new(alloc, provider).map_err(|_| ScriptFault::Memory)
+}
+
+/// Obeys the lines in turn, with so many before them.
+fn obey_lines<D: DependencyProvider<SolvableId: DenseIndex> + Drop, W: Write>(
+    store: &mut ClauseStore<D>,
+    lines: &[u8],
+    before: u64,
+    waiting: &mut Vec<u8>,
+    writer: &mut W,
+) -> Result<(), ScriptFault>
+    requires { before + length lines.now < 2 ^ 64 }
+    ensures read { IfRead result (λ faulty. (text : List ℕ)
+        × Answered D.SolvableId.limit D.SolvableId.id_at (⟦<D as AbstractStore>⟧.store store.old) before (lines_of lines.now) text faulty
+        × Writes (W.contents writer.old) waiting.old.items (W.contents writer.new) waiting.new.items text) }
+    ensures memory { result ≡ Err Memory → HasCommand D.SolvableId.limit D.SolvableId.id_at (lines_of lines.now) }
 {
     let mut number = before;
     let mut rest = lines;
@@ -126,12 +136,13 @@ fn obey_lines<W: Write>(
 }
 
 /// Obeys a line that says this, and puts the line of the reply after what waits.
-fn obey_line(
-    store: &mut ClauseStore<Packages>,
+fn obey_line<D: DependencyProvider<SolvableId: DenseIndex> + Drop>(
+    store: &mut ClauseStore<D>,
     said: Line<Statement<'_>>,
     waiting: &mut Vec<u8>,
 ) -> Result<(), LineFault>
-    ensures { ObeysLine (script_store store.old) (command_meant said.entry) waiting.old.items result waiting.new.items (script_store store.new) }
+    ensures { ObeysLine (⟦<D as AbstractStore>⟧.store store.old) (command_meant D.SolvableId.limit D.SolvableId.id_at said.entry)
+        waiting.old.items result waiting.new.items (⟦<D as AbstractStore>⟧.store store.new) }
 {
     match command_line(said) {
         Line::Skipped => Ok(()),

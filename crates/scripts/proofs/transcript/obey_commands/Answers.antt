@@ -8,7 +8,7 @@ use Rattle.scripts.proofs.transcript.obey_commands.Goals as goal
 pub returns : goal.returns
 returns g c =
     let ended = c.obey_lines-ended in
-    subst (λ (st : Store ℕ ℕ). IfRead ended.result (λ faulty. (text : List ℕ)
-    × Answered st c.args.catalogue.line_count (lines_of c.args.catalogue.commands.now) text faulty
+    subst (λ (st : Store g.row.D-NameId.Denot g.row.D-SolvableId.Denot). IfRead ended.result (λ faulty. (text : List ℕ)
+    × Answered g.D.SolvableId.DenseIndex.limit g.D.SolvableId.DenseIndex.id_at st c.args.before (lines_of c.args.lines.now) text faulty
     × Writes (g.W.Write.contents c.args.writer.now) c.args.waiting.now.items (g.W.Write.contents ended.new.writer) ended.new.waiting.items text))
     c.in_ok-store.ensures.ok ended.ensures.read

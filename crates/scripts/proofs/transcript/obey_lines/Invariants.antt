@@ -1,16 +1,20 @@
 use Rattle.std.proofs.Common.{◌+◌, ◌≤◌, length}
+use Rattle.resolvo_store.specs.Store.{Store, Kept, store_of, provided}
 use Rattle.script_text.specs.Lines.{lines as lines_of}
-use Rattle.scripts.specs.ScriptStore.{script_store}
 use Rattle.scripts.specs.Transcript.{HasCommand}
 use Rattle.scripts.proofs.TranscriptLemmas.{SoFar}
 use Rattle.scripts.proofs.transcript.obey_lines.Given as goal
 
+-- the abstract store
+abbrev pub store : (g : goal.Over) → Kept g.row.D.Denot g.row.D-NameId.Denot g.row.D-SolvableId.Denot → Store g.row.D-NameId.Denot g.row.D-SolvableId.Denot
+store g = store_of (provided g.D.NameId.PartialEq.eq g.D.SolvableId.PartialEq.eq g.D.NameId.Scores.IdMap.is_too_large g.D.SolvableId.Slots.IdMap.is_too_large g.D.Interner.universe g.D.DependencyProvider.answers)
+
 abbrev pub invariant-loop-said : goal.invariant-loop-said
 invariant-loop-said g l = record {
   fits : l.number + length l.rest ≤ l.before + length l.lines;
-  so_far : SoFar (script_store l.fn.store) l.before (lines_of l.lines) (g.W.Write.contents l.fn.writer) l.fn.waiting.items
-      (script_store l.store) l.number (lines_of l.rest) (g.W.Write.contents l.writer) l.waiting.items;
-  command : HasCommand (lines_of l.rest) → HasCommand (lines_of l.lines);
+  so_far : SoFar g.D.SolvableId.DenseIndex.limit g.D.SolvableId.DenseIndex.id_at (store g l.fn.store) l.before (lines_of l.lines) (g.W.Write.contents l.fn.writer) l.fn.waiting.items
+      (store g l.store) l.number (lines_of l.rest) (g.W.Write.contents l.writer) l.waiting.items;
+  command : HasCommand g.D.SolvableId.DenseIndex.limit g.D.SolvableId.DenseIndex.id_at (lines_of l.rest) → HasCommand g.D.SolvableId.DenseIndex.limit g.D.SolvableId.DenseIndex.id_at (lines_of l.lines);
 }
 
 abbrev pub decreases-loop-said : goal.decreases-loop-said
