@@ -1,4 +1,4 @@
-use Rattle.std.proofs.Common.{◌≡◌, ◌∙◌, sym, arith}
+use Rattle.std.proofs.Common.{◌≡◌, ◌+◌, arith}
 use Rattle.script_text.specs.declared.fault.ScriptFault.TheVariants.{Memory}
 use Rattle.script_text.specs.Lines.{lines as lines_of}
 use Rattle.scripts.proofs.TranscriptLemmas.{so_far_none, so_far_more, ended_faulty, command_here, command_after}
@@ -21,8 +21,8 @@ returns-in-Err-clause-read g c =
 pub returns-in-Err-clause-memory : goal.returns-in-Err-clause-memory
 returns-in-Err-clause-memory g c h =
     let memory : c.at.result ≡ Memory = cc in
-    c.loop-said.invariant.command (command_here g.D.SolvableId.DenseIndex.limit g.D.SolvableId.DenseIndex.id_at (Unit {0}) _ c.in-Err.fault (store g c.loop-said.store) _ _ _ _ _ _ _
-    c.in-Some.ensures.first.1 c.in-Some.ensures.first.2 c.in-Err.ensures (sym c.at.ensures ∙ memory))
+    c.loop-said.invariant.command (command_here g.D.SolvableId.DenseIndex.limit g.D.SolvableId.DenseIndex.id_at (Unit {0}) (c.loop-said.number + 1) c.in-Err.fault (store g c.loop-said.store) _ _ _ _ _ _ _
+    c.in-Some.ensures.first.1 c.in-Some.ensures.first.2 c.in-Err.ensures (rw c.at.ensures at memory))
 
 pub loop-said-preserved : goal.loop-said-preserved
 loop-said-preserved g c = record {
