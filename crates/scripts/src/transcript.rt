@@ -10,7 +10,7 @@ ghost use Rattle.scripts.specs.Transcript.{ObeysLine, Answered, HasCommand, IfRe
 
 use crate::command_line::command_line;
 use crate::reply_line::{push_reply, push_unreadable};
-use providers::{DependencyProvider, Interner};
+use providers::DependencyProvider;
 use resolvo_store::{AbstractStore, ClauseStore};
 use script_packages::read_catalogue;
 use script_text::{
