@@ -1,13 +1,12 @@
 -- A cache that keeps more: what is kept is still right, and what was kept is still kept.
 use Rattle.std.proofs.Common.{rules, ◌≡◌, Bool, true, false, cond, ℕ, ◌<◌, List, [], ◌∷◌, ◌++◌, length, slice_get, is_some, Option, None, Some, take, drop, get_or, true≢false, ◌≤◌, ◌∙◌, ap, refl, sym, subst, arith}
 use Rattle.std.specs.List.{list_any}
-use Rattle.std.specs.Prelude.{◌&&◌, not, flat_map, All, Result, Ok, Err, OnErr, IfErr}
+use Rattle.std.specs.Prelude.{◌&&◌, not, All, Result, Ok, Err, OnErr, IfErr}
 use Rattle.std.specs.Result.{IsErrAnd}
 use Rattle.std.specs.Map.{lookup, values_of}
 use Rattle.std.proofs.Math.Path.{fun_ext}
 use Rattle.std.proofs.Math.Seq.{take-append_seam, take-length}
-use Rattle.std.proofs.lemmas.List.{append-nil, append_assoc, take-append-drop, take-append-le, length-take}
-use Rattle.std.proofs.lemmas.Grind.{flat_map-append}
+use Rattle.std.proofs.lemmas.List.{append-nil, take-append-drop, take-append-le, length-take}
 use Rattle.std.proofs.lemmas.List.Folds.{list_all_at, list_any_at}
 use Rattle.std.proofs.lemmas.List.Elements.{All-head, All-tail, All-push}
 use Rattle.typed_ids.specs.Refusals.{IsGrowthRefusal}
@@ -74,7 +73,7 @@ module _ {K V : Type 0} where
   value_last [] key value = refl
   value_last (e ∷ es) key value = value_last es key value
 
-some_of : {X : Type 0} (o : Option X) → is_some o ≡ true → (x : X) × (o ≡ Some x)
+pub some_of : {X : Type 0} (o : Option X) → is_some o ≡ true → (x : X) × (o ≡ Some x)
 some_of None h = cc
 some_of (Some x) h = (x, refl)
 
@@ -182,12 +181,13 @@ module _ {D N S A H : Type 0} (has : H → S → Bool) where
 
 module _ {D N S A H : Type 0} (p : Provider N S) (c : Cache D N S A H) (is : IsCache p c) where
   pub right_marked : (hinted : H) → IsCache p (record c { hinted = hinted })
-  right_marked hinted = record { answers = is.answers; matching = is.matching; non_matching = is.non_matching; sorted = is.sorted; needs = is.needs }
+  right_marked hinted = record { answers = is.answers; fits = is.fits; matching = is.matching; non_matching = is.non_matching; sorted = is.sorted; needs = is.needs }
 
-  pub right_asked : (n : N) (answer : Candidates S A) (hinted : H) → IsAnswer p n answer
+  pub right_asked : (n : N) (answer : Candidates S A) (hinted : H) → IsAnswer p n answer → p.is_large_name n ≡ false
       → IsCache p (record c { candidates = c.candidates ++ (n, answer) ∷ []; hinted = hinted })
-  right_asked n answer hinted h = record {
+  right_asked n answer hinted h fit = record {
     answers = All-push (λ e. IsAnswer p e.0 e.1) c.candidates (n, answer) is.answers h;
+    fits = All-push (λ e. p.is_large_name e.0 ≡ false) c.candidates (n, answer) is.fits fit;
     matching = λ k d lt. ((is.matching k d lt).0, kept_more _ c.candidates (n, answer) (is.matching k d lt).1);
     non_matching = λ k d lt. ((is.non_matching k d lt).0, kept_more _ c.candidates (n, answer) (is.non_matching k d lt).1);
     sorted = λ k d lt. ((is.sorted k d lt).0, λ i v below. kept_more _ c.candidates (n, answer) ((is.sorted k d lt).1 i v below));
@@ -198,6 +198,7 @@ module _ {D N S A H : Type 0} (p : Provider N S) (c : Cache D N S A H) (is : IsC
       → IsCache p (record c { dependencies = c.dependencies ++ (s, answer) ∷ [] })
   right_fetched s answer h = record {
     answers = is.answers;
+    fits = is.fits;
     matching = is.matching;
     non_matching = is.non_matching;
     sorted = is.sorted;
@@ -208,6 +209,7 @@ module _ {D N S A H : Type 0} (p : Provider N S) (c : Cache D N S A H) (is : IsC
       → IsCache p (record c { matching = c.matching ++ (v, list) ∷ [] })
   right_matched v list h asked = record {
     answers = is.answers;
+    fits = is.fits;
     matching = All-push (λ e. (e.1 ≡ matching p.universe p.answers e.0) × (is_set_asked p c e.0 ≡ true)) c.matching (v, list) is.matching (h, asked);
     non_matching = is.non_matching;
     sorted = is.sorted;
@@ -218,6 +220,7 @@ module _ {D N S A H : Type 0} (p : Provider N S) (c : Cache D N S A H) (is : IsC
       → IsCache p (record c { non_matching = c.non_matching ++ (v, list) ∷ [] })
   right_unmatched v list h asked = record {
     answers = is.answers;
+    fits = is.fits;
     matching = is.matching;
     non_matching = All-push (λ e. (e.1 ≡ non_matching p.universe p.answers e.0) × (is_set_asked p c e.0 ≡ true)) c.non_matching (v, list) is.non_matching (h, asked);
     sorted = is.sorted;
@@ -228,6 +231,7 @@ module _ {D N S A H : Type 0} (p : Provider N S) (c : Cache D N S A H) (is : IsC
       → IsCache p (record c { sorted = c.sorted ++ (r, list) ∷ [] })
   right_sorted r list h asked = record {
     answers = is.answers;
+    fits = is.fits;
     matching = is.matching;
     non_matching = is.non_matching;
     sorted = All-push (λ e. (e.1 ≡ sorted_of p e.0) × All (λ v. is_set_asked p c v ≡ true) (sets_of p.universe e.0)) c.sorted (r, list) is.sorted (h, asked);
@@ -300,6 +304,7 @@ pub right_new : {D N S A H : Type 0} (p : Provider N S) (provider : D) (hinted :
 })
 right_new p provider hinted = record {
   answers = λ k d lt. (let no : ⊥ = omega arith in absurd no);
+  fits = λ k d lt. (let no : ⊥ = omega arith in absurd no);
   matching = λ k d lt. (let no : ⊥ = omega arith in absurd no);
   non_matching = λ k d lt. (let no : ⊥ = omega arith in absurd no);
   sorted = λ k d lt. (let no : ⊥ = omega arith in absurd no);
@@ -347,17 +352,10 @@ module _ {D N S A H : Type 0} (has : H → S → Bool) where
   sorted_push p (w ∷ vs) v c d e first next = (first.0, first.1, sorted_push p vs v first.0 d e first.2 next)
 
 -- a growth that may be refused may also be refused where ids are out in more cases
-refusal_wider : (a b : Bool) (e : StoreError) → (a ≡ true → b ≡ true) → IsGrowthRefusal a e → IsGrowthRefusal b e
+pub refusal_wider : (a b : Bool) (e : StoreError) → (a ≡ true → b ≡ true) → IsGrowthRefusal a e → IsGrowthRefusal b e
 refusal_wider a b OutOfMemory h r = r
 refusal_wider a b IdSpace h r = h r
 refusal_wider a b _ h r = absurd r
-
--- lists of one element more, one after the other
-pub appended_more : {V S : Type 0} (f : V → List S) (first now after : List S) (done : List V) (v : V) → now ≡ first ++ flat_map f done → after ≡ now ++ f v
-    → after ≡ first ++ flat_map f (done ++ v ∷ [])
-appended_more f first now after done v is next =
-    next ∙ ap (λ l. l ++ f v) is ∙ append_assoc first (flat_map f done) (f v)
-    ∙ ap (λ l. first ++ l) (ap (λ l. flat_map f done ++ l) (sym (append-nil (f v))) ∙ sym (flat_map-append f done (v ∷ [])))
 
 module _ {D N S A H : Type 0} (has : H → S → Bool) (p : Provider N S) (old mid new : Cache D N S A H) (earlier : IsLater has old mid)
     (vs : List VersionSetId) (i : ℕ) (d : VersionSetId) (lt : i < length vs) where

@@ -1,3 +1,5 @@
 pub mod CacheLemmas
 pub mod HintLemmas
+pub mod IdLemmas
 pub mod KeptListLemmas
+pub mod ListedLemmas

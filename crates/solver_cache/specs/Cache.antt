@@ -1,6 +1,6 @@
 -- A cache: what it was asked, and what it was answered. D are the providers, N the names, S the solvables, A the allocators,
 -- H the sets of solvables.
-use Rattle.std.specs.Prelude.{◌≡◌, ℕ, Bool, true, ◌||◌, ◌==◌, List, map, flat_map, All, Option, is_some, slice_get}
+use Rattle.std.specs.Prelude.{◌≡◌, ℕ, Bool, true, false, ◌||◌, ◌==◌, List, [], map, flat_map, All, Option, Some, is_some, unwrap_or, slice_get}
 use Rattle.std.specs.Map.{lookup}
 use Rattle.typed_ids.specs.declared.version_set_id.VersionSetId.{VersionSetId}
 use Rattle.providers.specs.Dependencies.{needs_of}
@@ -55,13 +55,19 @@ pub record IsAnswer {N S A : Type 0} (p : Provider N S) (n : N) (answer : Candid
   pub candidates : answer.candidates.items ≡ p.answers.candidates n
   pub favored : answer.favored ≡ p.answers.favored n
 
--- the candidates of a requirement: those of its version sets, one list after the other
-abbrev pub sorted_of : {N S : Type 0} → Provider N S → Requirement → List S
-sorted_of p r = flat_map (sorted p.universe p.answers p.same_solvable) (sets_of p.universe r)
+module _ {N S : Type 0} (p : Provider N S) where
+  -- the candidates of a version set, best first
+  abbrev pub sorted_of_set : VersionSetId → List S
+  sorted_of_set v = sorted p.universe p.answers p.same_solvable v
+
+  -- the candidates of a requirement: those of its version sets, one list after the other
+  abbrev pub sorted_of : Requirement → List S
+  sorted_of r = flat_map sorted_of_set (sets_of p.universe r)
 
 -- what is kept is what the provider answers, and for what is kept of a version set its package was asked for
 pub record IsCache {D N S A H : Type 0} (p : Provider N S) (c : Cache D N S A H) : Type 0 where
   pub answers : All (λ e. IsAnswer p e.0 e.1) c.candidates
+  pub fits : All (λ e. p.is_large_name e.0 ≡ false) c.candidates
   pub matching : All (λ e. (e.1 ≡ matching p.universe p.answers e.0) × (is_set_asked p c e.0 ≡ true)) c.matching
   pub non_matching : All (λ e. (e.1 ≡ non_matching p.universe p.answers e.0) × (is_set_asked p c e.0 ≡ true)) c.non_matching
   pub sorted : All (λ e. (e.1 ≡ sorted_of p e.0) × All (λ v. is_set_asked p c v ≡ true) (sets_of p.universe e.0)) c.sorted
@@ -77,3 +83,11 @@ module _ {D N S A H : Type 0} (c : Cache D N S A H) where
   -- the list that is kept here
   abbrev pub list_at : ListKind × ℕ → Option (List S)
   list_at id = slice_get (lists_of id.0) id.1
+
+  -- the same, none where nothing is
+  abbrev pub listed : ListKind × ℕ → List S
+  listed id = unwrap_or (list_at id) []
+
+-- these are the places of the candidates of version sets, best first, one list a set
+abbrev pub AreListed : {D N S A H : Type 0} → Provider N S → Cache D N S A H → List (ListKind × ℕ) → List VersionSetId → Type 0
+AreListed p c ids vs = map (list_at c) ids ≡ map (λ v. Some (sorted_of_set p v)) vs

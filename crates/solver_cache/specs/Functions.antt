@@ -10,18 +10,21 @@ pub record Provider (N S : Type 0) : Type 0 where
   pub is_large_solvable : S → Bool
   -- no set can hold this id
   pub is_large_hint : S → Bool
+  -- there may be more than 2^32 names
+  pub are_names_many : Bool
   pub universe : Universe N S
   pub answers : Answers N S
 
 -- the same, of a provider D
 abbrev pub gathered : {D N S : Type 0} → (N → N → Bool) → (S → S → Bool) → (N → Bool) → (S → Bool) → (S → Bool) →
-    (D → Universe N S) → (D → Answers N S) → D → Provider N S
-gathered same_name same_solvable is_large_name is_large_solvable is_large_hint universe answers p = record {
+    Bool → (D → Universe N S) → (D → Answers N S) → D → Provider N S
+gathered same_name same_solvable is_large_name is_large_solvable is_large_hint are_names_many universe answers p = record {
   same_name = same_name;
   same_solvable = same_solvable;
   is_large_name = is_large_name;
   is_large_solvable = is_large_solvable;
   is_large_hint = is_large_hint;
+  are_names_many = are_names_many;
   universe = universe p;
   answers = answers p;
 }

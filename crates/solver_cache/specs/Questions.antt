@@ -1,6 +1,6 @@
 -- What a question leaves of a cache, answered or refused. D are the providers, N the names, S the solvables,
 -- A the allocators, H the sets of solvables.
-use Rattle.std.specs.Prelude.{◌≡◌, ◌-◌, ◌^◌, Bool, true, false, not, ◌&&◌, List, [], ◌∷◌, ◌++◌, length, take}
+use Rattle.std.specs.Prelude.{◌≡◌, ◌-◌, ◌^◌, Bool, true, false, not, ◌&&◌, ◌||◌, nat_le, List, [], ◌∷◌, ◌++◌, length, take}
 use Rattle.std.specs.List.{list_any, list_all}
 use Rattle.typed_ids.specs.Refusals.{IsGrowthRefusal}
 use Rattle.typed_ids.specs.declared.error.StoreError.{StoreError}
@@ -88,9 +88,10 @@ module _ {D N S A H : Type 0} (p : Provider N S) (has : H → S → Bool) where
       (new ≡ record mid { sorted = mid.sorted ++ (Union u, sorted_of p (Union u)) ∷ [] })) new
 
 module _ {D N S A H : Type 0} (p : Provider N S) (c : Cache D N S A H) where
-  -- no answer can be kept for the package: nothing can be kept by its id, or all ids of answers are in use
+  -- no answer can be kept for the package: nothing can be kept by its id, or all ids of answers are in use, as only names
+  -- that may be more than 2^32 can bring about
   abbrev pub lacks_candidates : N → Bool
-  lacks_candidates n = lacks_answer (2 ^ 32) p.is_large_name (length c.candidates) n
+  lacks_candidates n = p.is_large_name n || (p.are_names_many && nat_le (2 ^ 32) (length c.candidates))
 
   -- nor for the solvable
   abbrev pub lacks_dependencies : S → Bool

@@ -50,7 +50,7 @@ impl<D: DependencyProvider> Model for SolverCache<D> {
       hinted = a.hinted;
     } };
 
-    ghost invariant = { λ a. IsCache (gathered D.NameId.eq D.SolvableId.eq D.NameId.Slots.is_too_large D.SolvableId.Slots.is_too_large D.SolvableId.Set.is_too_large D.universe D.answers a.provider) (record {
+    ghost invariant = { λ a. IsCache (gathered D.NameId.eq D.SolvableId.eq D.NameId.Slots.is_too_large D.SolvableId.Slots.is_too_large D.SolvableId.Set.is_too_large D.NameId.are_many D.universe D.answers a.provider) (record {
       provider = a.provider;
       candidates = a.candidates;
       matching = a.matching;

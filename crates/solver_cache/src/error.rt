@@ -1,7 +1,7 @@
 //! Why a question to a cache isn't answered.
 ghost use Rattle.std.specs.Prelude.{◌≡◌};
 
-use std::alloc::AllocError;
+use std::alloc::{AllocError, AllocFailed};
 use typed_ids::{SameValue, StoreError};
 
 /// A question that isn't answered.
@@ -31,6 +31,18 @@ impl<C> From<AllocError> for CacheError<C> {
     ghost from_gives = { λ refused e. e ≡ Store OutOfMemory };
 
     fn from(_refused: AllocError) -> CacheError<C> {
+        CacheError::Store(StoreError::OutOfMemory)
+    }
+}
+
+/// Want of memory; what wasn't stored is dropped.
+impl<C, T: Drop> From<AllocFailed<T>> for CacheError<C> {
+    ghost use Rattle.solver_cache.specs.declared.error.CacheError.TheVariants.{Store};
+    ghost use Rattle.typed_ids.specs.declared.error.StoreError.TheVariants.{OutOfMemory};
+
+    ghost from_gives = { λ refused e. e ≡ Store OutOfMemory };
+
+    fn from(_refused: AllocFailed<T>) -> CacheError<C> {
         CacheError::Store(StoreError::OutOfMemory)
     }
 }

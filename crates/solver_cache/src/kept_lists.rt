@@ -1,5 +1,5 @@
 //! Lists that are kept by keys.
-ghost use Rattle.std.specs.Prelude.{◌≡◌, ◌<◌, [], ◌∷◌, ◌++◌, map, length, is_some, slice_get, Some, None, IfSome, IfOk, OnOk, OnErr, IfErr};
+ghost use Rattle.std.specs.Prelude.{◌≡◌, [], ◌∷◌, ◌++◌, map, length, is_some, unwrap_or, slice_get, None, IfSome, IfOk, OnOk, OnErr, IfErr};
 ghost use Rattle.std.specs.Map.{lookup};
 ghost use Rattle.typed_ids.specs.declared.error.StoreError.TheVariants.{OutOfMemory};
 
@@ -41,11 +41,13 @@ impl<K: SameId, S: Drop, A: Allocator + Copy> KeptLists<K, S, A> {
         self.lists.get_index_of(&key)
     }
 
-    /// The list at a place.
+    /// The list at a place; an empty one where none is kept.
     pub(crate) fn at(&self, place: usize) -> &[S]
-        requires { place < length self.now }
-        ensures { slice_get (map (λ e. e.1) self.now) place ≡ Some result.now }
+        ensures { result.now ≡ unwrap_or (slice_get (map (λ e. e.1) self.now) place) [] }
     {
+        if place >= self.lists.len() {
+            return &[];
+        }
         &self.lists[place]
     }
 

@@ -7,7 +7,7 @@ use providers::{Candidates, Dependencies, DependencyProvider, Interner};
 use typed_ids::{CandidatesId, DependenciesId};
 
 impl<D: DependencyProvider + Drop> SolverCache<D> {
-    ghost use Rattle.solver_cache.specs.Cache.{list_at};
+    ghost use Rattle.solver_cache.specs.Cache.{listed};
 
     /// The provider's answer for a package.
     pub fn candidates(&self, id: CandidatesId) -> &Candidates<D::SolvableId, D::Alloc>
@@ -25,10 +25,9 @@ impl<D: DependencyProvider + Drop> SolverCache<D> {
         &self.dependencies[id]
     }
 
-    /// The candidates of a version set or of a requirement.
+    /// The candidates of a version set or of a requirement. An id that another cache answered may show others, or none.
     pub fn list(&self, id: ListId) -> &[D::SolvableId]
-        requires { IsSome (list_at self.now id) }
-        ensures { list_at self.now id ≡ Some result.now }
+        ensures { result.now ≡ listed self.now id }
     {
         match id.kind {
             ListKind::Matching => self.matching.at(id.place),

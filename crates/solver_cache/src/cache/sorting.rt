@@ -1,5 +1,6 @@
 //! The questions about requirements: their candidates, best first.
-ghost use Rattle.std.specs.Prelude.{◌≡◌, ◌++◌, true, false, All, flat_map, Some, IsOk, IfOk, OnOk, IfErr};
+ghost use Rattle.std.specs.Prelude.{◌≡◌, ℕ, [], ◌∷◌, ◌++◌, true, false, All, flat_map, Some, IsOk, IfOk, OnOk, IfErr};
+ghost use Rattle.std.specs.List.{list_any};
 ghost use Rattle.typed_ids.specs.declared.error.StoreError.TheVariants.{OutOfMemory};
 ghost use Rattle.providers.specs.Provider.{favored_first};
 
@@ -16,7 +17,8 @@ impl<D: DependencyProvider + Drop> SolverCache<D> {
     ghost use Rattle.providers.specs.Provider.{matching, sorted, sets_of, knows_requirement};
     ghost use Rattle.providers.specs.Requirement.{same_requirement};
     ghost use Rattle.providers.specs.declared.requirement.Requirement.TheVariants.{Single, Union};
-    ghost use Rattle.solver_cache.specs.Cache.{is_set_asked, is_kept, list_at, sorted_of};
+    ghost use Rattle.solver_cache.specs.Cache.{is_set_asked, is_kept, list_at, listed, sorted_of, AreListed};
+    ghost use Rattle.solver_cache.specs.declared.list_id.ListKind.{ListKind};
     ghost use Rattle.solver_cache.specs.Questions.{IsLater, IsSorted, AreSorted, IsRequirementSorted, IsRefusedOf, IsRefusedOfSets, lacks_candidates};
 
     /// The candidates of a requirement: of each of its version sets, one after the other, those that it holds, best first.
@@ -147,48 +149,87 @@ impl<D: DependencyProvider + Drop> SolverCache<D> {
         ensures asked { OnOk result (All (λ v. is_set_asked (⟦<D as ProviderFunctions>⟧.functions self.old.provider) self.new v ≡ true)
             ((D.universe self.old.provider).union_sets union)) }
     {
-        let mut sets = Vec::new(self.alloc);
-        sets.extend_from_slice(self.provider.version_sets_in_union(union))?;
-        let mut all = Vec::new(self.alloc);
-        self.append_all(&sets, &mut all)?;
-        Ok(all)
+        let ids = self.get_or_cache_sorted_lists(Requirement::Union(union))?;
+        Ok(self.concatenated(&ids)?)
     }
 
-    /// Appends the candidates of version sets, one set after the other.
-    fn append_all(
+    /// The candidates of each of a requirement's version sets, in the order of the sets: where each list is kept that
+    /// [`SolverCache::get_or_cache_sorted_candidates_for_version_set`] answers. The first refusal ends the call.
+    pub fn get_or_cache_sorted_lists(
+        &mut self,
+        requirement: Requirement,
+    ) -> Result<Vec<ListId, D::Alloc>, CacheError<D::Cancel>>
+        requires { knows_requirement (D.universe self.old.provider) requirement ≡ true }
+        ensures sorted { OnOk result (AreSorted (⟦<D as ProviderFunctions>⟧.functions self.old.provider) D.SolvableId.Set.has self.old
+            (sets_of (D.universe self.old.provider) requirement) self.new) }
+        ensures lists { IfOk result (λ ids. AreListed (⟦<D as ProviderFunctions>⟧.functions self.old.provider) self.new ids.items
+            (sets_of (D.universe self.old.provider) requirement)) }
+        ensures refused { IfErr result (λ e. IsRefusedOfSets (⟦<D as ProviderFunctions>⟧.functions self.old.provider)
+            (sets_of (D.universe self.old.provider) requirement) self.old e self.new) }
+        ensures later { IsLater D.SolvableId.Set.has self.old self.new }
+        ensures asked { OnOk result (All (λ v. is_set_asked (⟦<D as ProviderFunctions>⟧.functions self.old.provider) self.new v ≡ true)
+            (sets_of (D.universe self.old.provider) requirement)) }
+        ensures fit { OnOk result (let p = ⟦<D as ProviderFunctions>⟧.functions self.old.provider in
+            list_any (λ v. p.is_large_name (p.universe.set_name v)) (sets_of p.universe requirement) ≡ false) }
+    {
+        let mut sets = Vec::new(self.alloc);
+        sets.extend_from_slice(requirement.version_sets(&self.provider).as_slice())?;
+        let mut ids = Vec::new(self.alloc);
+        self.sort_all(&sets, &mut ids)?;
+        // What is true of each cache is true of this one: a look at a field tells it.
+        let _provider = &self.provider;
+        Ok(ids)
+    }
+
+    /// Sorts the candidates of version sets in turn, and notes where each list is kept.
+    fn sort_all(
         &mut self,
         sets: &[VersionSetId],
-        all: &mut Vec<D::SolvableId, D::Alloc>,
+        ids: &mut Vec<ListId, D::Alloc>,
     ) -> Result<(), CacheError<D::Cancel>>
-        requires { All (λ v. (D.universe self.old.provider).knows_set v ≡ true) sets.now }
+        requires known { All (λ v. (D.universe self.old.provider).knows_set v ≡ true) sets.now }
+        requires empty { ids.old.items ≡ [] }
         ensures sorted { OnOk result (AreSorted (⟦<D as ProviderFunctions>⟧.functions self.old.provider) D.SolvableId.Set.has self.old sets.now self.new) }
-        ensures appended { OnOk result (all.new.items ≡ all.old.items ++ flat_map (sorted (D.universe self.old.provider) (D.answers self.old.provider) D.SolvableId.eq) sets.now) }
+        ensures lists { OnOk result (AreListed (⟦<D as ProviderFunctions>⟧.functions self.old.provider) self.new ids.new.items sets.now) }
         ensures refused { IfErr result (λ e. IsRefusedOfSets (⟦<D as ProviderFunctions>⟧.functions self.old.provider) sets.now self.old e self.new) }
         ensures later { IsLater D.SolvableId.Set.has self.old self.new }
         ensures asked { OnOk result (All (λ v. is_set_asked (⟦<D as ProviderFunctions>⟧.functions self.old.provider) self.new v ≡ true) sets.now) }
     {
         for set in sets {
-            self.append_sorted(*set, all)?;
+            self.sort_next(*set, ids)?;
         }
         Ok(())
     }
 
-    /// Appends the candidates that a version set holds, best first.
-    fn append_sorted(
+    /// Sorts the candidates of a version set, and notes where they are kept.
+    fn sort_next(
         &mut self,
         set: VersionSetId,
-        all: &mut Vec<D::SolvableId, D::Alloc>,
+        ids: &mut Vec<ListId, D::Alloc>,
     ) -> Result<(), CacheError<D::Cancel>>
         requires { (D.universe self.old.provider).knows_set set ≡ true }
         ensures sorted { OnOk result (IsSorted (⟦<D as ProviderFunctions>⟧.functions self.old.provider) D.SolvableId.Set.has self.old set self.new) }
-        ensures appended { OnOk result (all.new.items ≡ all.old.items ++ sorted (D.universe self.old.provider) (D.answers self.old.provider) D.SolvableId.eq set) }
+        ensures noted { OnOk result ((id : ListKind × ℕ) × (ids.new.items ≡ ids.old.items ++ id ∷ [])
+            × (list_at self.new id ≡ Some (sorted (D.universe self.old.provider) (D.answers self.old.provider) D.SolvableId.eq set))) }
         ensures refused { IfErr result (λ e. let p = ⟦<D as ProviderFunctions>⟧.functions self.old.provider in
             IsRefusedOf (is_set_asked p self.old set) (lacks_candidates p self.new (p.universe.set_name set)) self.old e self.new) }
         ensures later { IsLater D.SolvableId.Set.has self.old self.new }
         ensures asked { OnOk result (is_set_asked (⟦<D as ProviderFunctions>⟧.functions self.old.provider) self.new set ≡ true) }
     {
         let id = self.get_or_cache_sorted_candidates_for_version_set(set)?;
-        Ok(all.extend_from_slice(self.list(id))?)
+        Ok(ids.push(id)?)
+    }
+
+    /// The lists that are kept here, one after the other.
+    fn concatenated(&self, ids: &[ListId]) -> Result<Vec<D::SolvableId, D::Alloc>, StoreError>
+        ensures ok { IfOk result (λ all. all.items ≡ flat_map (listed self.now) ids.now) }
+        ensures memory { IfErr result (λ e. e ≡ OutOfMemory) }
+    {
+        let mut all = Vec::new(self.alloc);
+        for id in ids {
+            all.extend_from_slice(self.list(*id))?;
+        }
+        Ok(all)
     }
 
     /// The candidates that a version set holds, which are kept here.

@@ -1,14 +1,16 @@
-use Rattle.std.proofs.Common.{◌∙◌, sym, refl, ap}
+use Rattle.std.proofs.Common.{◌∙◌, sym, refl, ap, length}
 use Rattle.solver_cache.specs.Cache.{is_kept}
 use Rattle.solver_cache.specs.Hints.{hints_of}
-use Rattle.solver_cache.proofs.CacheLemmas.{right_asked, later_asked, later_marked, once_new, value_last, found_last, kept_last, handed_on, refused_unasked}
+use Rattle.solver_cache.proofs.CacheLemmas.{right_asked, later_asked, later_marked, once_new, value_last, found_last, kept_last, handed_on, refused_unasked, refusal_wider}
+use Rattle.solver_cache.proofs.IdLemmas.{used_up_by_many, second_fails}
 use Rattle.solver_cache.specs.declared.error.CacheError.TheVariants.{Store}
 use Rattle.solver_cache.proofs.HintLemmas.{still_marked}
 use Rattle.solver_cache.proofs.cache.SolverCache.ask_for.Goals as goal
 
 pub invariant_of-self-2 : goal.invariant_of-self-2
 invariant_of-self-2 g c =
-    rw c.in_ok-insert.ensures.ok (right_asked _ _ c.self.invariant c.args.name c.in_ok-answer.answer c.mark_hints.new.hinted (record { candidates = c.in_ok-answer.ensures.candidates; favored = c.in_ok-answer.ensures.favored }))
+    rw c.in_ok-insert.ensures.ok (right_asked _ _ c.self.invariant c.args.name c.in_ok-answer.answer c.mark_hints.new.hinted (record { candidates = c.in_ok-answer.ensures.candidates; favored = c.in_ok-answer.ensures.favored })
+    (second_fails _ _ c.in_ok-insert.ensures.fits))
 
 pub returns-clause-asked : goal.returns-clause-asked
 returns-clause-asked g c =
@@ -46,7 +48,10 @@ returns-clause-asked_now g c =
 pub returns-in_err-insert-clause-refused : goal.returns-in_err-insert-clause-refused
 returns-in_err-insert-clause-refused g c =
     handed_on _ c.from_residual-in_err-insert.result (Store c.in_err-insert.field-0.0) c.from_residual-in_err-insert.ensures.1
-    (rw c.in_err-insert.ensures.err (refused_unasked _ _ c.in_err-insert.field-0.0 c.requires c.in_err-insert.ensures.refused))
+    (rw c.in_err-insert.ensures.err (refused_unasked _ _ c.in_err-insert.field-0.0 c.requires
+    (refusal_wider _ _ c.in_err-insert.field-0.0
+    (used_up_by_many g.D.NameId.SolverId.are_many (g.D.NameId.Slots.IdMap.is_too_large c.args.name) (length c.self.inside.candidates) c.insert.ensures.few)
+    c.in_err-insert.ensures.refused)))
 
 pub returns-in_err-insert-clause-later : goal.returns-in_err-insert-clause-later
 returns-in_err-insert-clause-later g c =

@@ -13,7 +13,7 @@ insert-requires g c =
     let has = D.SolvableId.Set.IdSet.has in
     let universe = D.Interner.universe in
     let provided = gathered D.NameId.PartialEq.eq D.SolvableId.PartialEq.eq D.NameId.Slots.IdMap.is_too_large D.SolvableId.Slots.IdMap.is_too_large
-    D.SolvableId.Set.IdSet.is_too_large universe D.DependencyProvider.answers in
+    D.SolvableId.Set.IdSet.is_too_large D.NameId.SolverId.are_many universe D.DependencyProvider.answers in
     let u = c.args.union in
     let r = Union u in
     let old = c.args.self.now in
@@ -28,7 +28,7 @@ invariant_of-self-2 g c =
     let has = D.SolvableId.Set.IdSet.has in
     let universe = D.Interner.universe in
     let provided = gathered D.NameId.PartialEq.eq D.SolvableId.PartialEq.eq D.NameId.Slots.IdMap.is_too_large D.SolvableId.Slots.IdMap.is_too_large
-    D.SolvableId.Set.IdSet.is_too_large universe D.DependencyProvider.answers in
+    D.SolvableId.Set.IdSet.is_too_large D.NameId.SolverId.are_many universe D.DependencyProvider.answers in
     let u = c.args.union in
     let r = Union u in
     let old = c.args.self.now in
@@ -45,7 +45,7 @@ returns-clause-sorted g c =
     let has = D.SolvableId.Set.IdSet.has in
     let universe = D.Interner.universe in
     let provided = gathered D.NameId.PartialEq.eq D.SolvableId.PartialEq.eq D.NameId.Slots.IdMap.is_too_large D.SolvableId.Slots.IdMap.is_too_large
-    D.SolvableId.Set.IdSet.is_too_large universe D.DependencyProvider.answers in
+    D.SolvableId.Set.IdSet.is_too_large D.NameId.SolverId.are_many universe D.DependencyProvider.answers in
     let u = c.args.union in
     let r = Union u in
     let old = c.args.self.now in

@@ -1,15 +1,15 @@
-use Rattle.std.proofs.Common.{◌≡◌, ◌∙◌, true, sym}
+use Rattle.std.proofs.Common.{◌≡◌, ◌∙◌, [], true, ap}
+use Rattle.std.specs.Prelude.{unwrap_or}
 use Rattle.std.proofs.lemmas.List.Elements.{All-filter}
 use Rattle.providers.specs.Provider.{matching}
-use Rattle.solver_cache.proofs.CacheLemmas.{some_is}
 use Rattle.solver_cache.proofs.cache.SolverCache.matching_list.Goals as goal
 
 pub returns-clause-known : goal.returns-clause-known
 returns-clause-known g c =
     let universe = g.D.Interner.universe c.args.self.now.provider in
     let answers = g.D.DependencyProvider.answers c.args.self.now.provider in
-    let list : c.list.result.now ≡ matching universe answers c.args.set = some_is _ _ (sym c.list.ensures ∙ c.requires) in
+    let list : c.list.result.now ≡ matching universe answers c.args.set = c.list.ensures ∙ ap (λ o. unwrap_or o []) c.requires in
     rw list (All-filter _ (λ s. universe.knows_solvable s ≡ true) _ (g.met.D.DependencyProvider.candidates_known c.args.self.now.provider (universe.set_name c.args.set)))
 
 pub returns-clause-list : goal.returns-clause-list
-returns-clause-list g c = some_is _ _ (sym c.list.ensures ∙ c.requires)
+returns-clause-list g c = c.list.ensures ∙ ap (λ o. unwrap_or o []) c.requires

@@ -1,0 +1,19 @@
+use Rattle.std.proofs.Common.{◌∙◌, ap}
+use Rattle.std.specs.Prelude.{flat_map}
+use Rattle.solver_cache.specs.Cache.{listed}
+use Rattle.solver_cache.specs.Functions.{Provider, gathered}
+use Rattle.solver_cache.proofs.ListedLemmas.{listed_joined}
+use Rattle.solver_cache.proofs.cache.SolverCache.joined.Given.{Over}
+use Rattle.solver_cache.proofs.cache.SolverCache.joined.Goals as goal
+
+-- the provider's functions
+abbrev provided : (g : Over) → g.row.D.Denot → Provider g.row.D-NameId.Denot g.row.D-SolvableId.Denot
+provided g = gathered g.D.NameId.PartialEq.eq g.D.SolvableId.PartialEq.eq g.D.NameId.Slots.IdMap.is_too_large g.D.SolvableId.Slots.IdMap.is_too_large
+    g.D.SolvableId.Set.IdSet.is_too_large g.D.NameId.SolverId.are_many g.D.Interner.universe g.D.DependencyProvider.answers
+
+pub returns-clause-list : goal.returns-clause-list
+returns-clause-list g c =
+    let p = provided g c.args.self.now.provider in
+    let new = c.get_or_cache_sorted_lists.new.self in
+    c.in_ok-concatenated.ensures.ok ∙ ap (flat_map (listed new)) c.deref.ensures.value
+    ∙ listed_joined p new c.in_ok-ids.ids.items (p.universe.union_sets c.args.union) c.in_ok-ids.ensures.lists
