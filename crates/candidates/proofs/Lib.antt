@@ -1,2 +1,1 @@
-pub mod CandidateLemmas
 pub mod FavoredLemmas

@@ -1,12 +1,9 @@
-//! What a load brings: the candidate lists of a requirement, best first, as the provider answers them. A package's
-//! favored solvable is first in each list that it is in.
-//!
-//! A requirement has one list a version set, in the order of its version sets. Each call takes memory; after a refusal
-//! what it was given is as it was.
+//! What a package's question brings: the provider's answer, where a package that there isn't has no candidates; and how its
+//! favored solvable is put first among others.
 #![tactic(auto)]
 
 mod candidates;
 mod favored;
 
-pub use candidates::{CandidateLists, candidate_lists, candidates_of};
+pub use candidates::candidates_of;
 pub use favored::put_favored_first;

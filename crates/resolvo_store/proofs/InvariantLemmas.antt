@@ -1,6 +1,11 @@
 -- What a store keeps stays in order: what each call on a part of it leaves.
-use Rattle.std.proofs.Common.{◌≡◌, ℕ, ◌<◌, ◌≤◌, ◌^◌, Bool, true, List, [], ◌∷◌, ◌++◌, length, map, Option, None, Some, IsSome, Result, Ok, Err, refl, sym, subst, ◌⊎◌, inl, inr}
-use Rattle.std.specs.Prelude.{flat_map, OnOk, OnErr}
+use Rattle.std.proofs.Common.{◌≡◌, ℕ, ◌<◌, ◌≤◌, ◌^◌, Bool, true, List, [], ◌∷◌, ◌++◌, length, map, Option, None, Some, IsSome, Result, Ok, Err, refl, sym, subst, ap, ◌∙◌, ◌⊎◌, inl, inr}
+use Rattle.std.specs.Prelude.{flat_map, All, OnOk, OnErr}
+use Rattle.std.specs.Map.{lookup}
+use Rattle.std.proofs.lemmas.List.Folds.{flat_map-map}
+use Rattle.typed_ids.specs.declared.version_set_id.VersionSetId.{VersionSetId}
+use Rattle.providers.specs.RequirementMap.{with_entry}
+use Rattle.providers.specs.Requirement.{same_requirement}
 use Rattle.std.specs.declared.vec.Vec.{Vec}
 use Rattle.std.proofs.lemmas.List.Elements.{All-push}
 use Rattle.providers.specs.declared.requirement.Requirement.{Requirement}
@@ -11,10 +16,13 @@ use Rattle.decisions.specs.Trail.{Entry, val, kept_until, AddsEntry}
 use Rattle.decisions.specs.declared.decision_tracker.AddFault.{AddFault}
 use Rattle.decisions.proofs.TrailLemmas.{IsTrail-push}
 use Rattle.resolvo_queue.specs.declared.requires_clause.RequiresClause.{RequiresClause}
-use Rattle.resolvo_queue.specs.Rows.{AreFew}
-use Rattle.resolvo_store.specs.Lists.{lists_kept, IsDecidable}
+use Rattle.resolvo_store.specs.Lists.{lists_kept, AreAsked, IsConsistent}
 use Rattle.resolvo_store.specs.Sound.{IsSound, IsAssigned}
-use Rattle.resolvo_store.specs.Store.{Store, lists_of}
+use Rattle.resolvo_store.specs.Store.{Store, Provider, store_of, lists_of}
+use Rattle.resolvo_store.proofs.ListLemmas.{items_of, insert-kept, few-more, length-mapped}
+use Rattle.solver_cache.specs.Cache.{Cache, is_set_asked}
+use Rattle.solver_cache.specs.Questions.{IsLater}
+use Rattle.solver_cache.proofs.CacheLemmas.{asked_later}
 use Rattle.resolvo_store.proofs.SoundLaws.{IsSound-trail, IsSound-kept_until, IsSound-requires, IsSound-with_variables, IsSound-interned}
 
 -- what comes of success, or of failure
@@ -29,19 +37,19 @@ added_or_same (Some b) old new e answer h = inr h.1
 added_or_same None old new e (Ok added) h = inl (refl, h.1)
 added_or_same None old new e (Err fault) h = inr h.1
 
-module _ {N S A : Type 0} {st : Store N S} {loaded : List (Requirement × Vec (Vec ℕ A) A)} (is : IsDecidable st loaded) where
+module _ {D N S A H : Type 0} {st : Store N S} {loaded : List (Requirement × Vec (Vec ℕ A) A)} {cache : Cache D N S A H} (is : IsConsistent st loaded cache) where
   -- another trail
-  with_trail : {es : List Entry} → IsSound (record st { trail = es }) → IsDecidable (record st { trail = es }) loaded
-  with_trail sound = record { few = is.few; known = is.known; sound = sound }
+  with_trail : {es : List Entry} → IsSound (record st { trail = es }) → IsConsistent (record st { trail = es }) loaded cache
+  with_trail sound = record { few = is.few; known = is.known; sound = sound; asked = is.asked }
 
   -- after an undo
-  pub after_undo : (level : ℕ) {es : List Entry} → es ≡ kept_until level st.trail → IsDecidable (record st { trail = es }) loaded
+  pub after_undo : (level : ℕ) {es : List Entry} → es ≡ kept_until level st.trail → IsConsistent (record st { trail = es }) loaded cache
   after_undo level kept = with_trail (subst (λ es. IsSound (record st { trail = es })) (sym kept) (IsSound-kept_until st is.sound level))
 
   -- after an assignment
   pub after_entry : (e : Entry) {es : List Entry} (answer : Result Bool AddFault) → e.decision.variable < length st.origins → e.decision.derived_from < length st.requires
       → (1 ≤ e.level) × (e.level < 2 ^ 31) → AddsEntry (val st.trail e.decision.variable) st.trail e answer es
-      → IsDecidable (record st { trail = es }) loaded
+      → IsConsistent (record st { trail = es }) loaded cache
   after_entry e {es} answer variable clause level adds =
       with_trail (elim (added_or_same (val st.trail e.decision.variable) st.trail es e answer adds) [
         | inl more ↦ subst (λ fs. IsSound (record st { trail = fs })) (sym more.1)
@@ -53,10 +61,11 @@ module _ {N S A : Type 0} {st : Store N S} {loaded : List (Requirement × Vec (V
   -- after a solvable's variable was asked for
   pub after_variable : {T E : Type 0} → ((x : S) → st.provider.same_solvable x x ≡ true) → (s : S) {os : List (VariableOrigin N S)} (result : Result T E)
       → OnOk result (os ≡ with_variable st.provider.same_solvable st.origins s) → OnErr result (os ≡ st.origins)
-      → IsDecidable (record st { origins = os }) loaded
+      → IsConsistent (record st { origins = os }) loaded cache
   after_variable reflexive s {os} result ok err = record {
     few = is.few;
     known = is.known;
+    asked = is.asked;
     sound = elim (either result ok err) [
       | inl more ↦ subst (λ vs. IsSound (record st { origins = vs })) (sym more) (IsSound-with_variables st is.sound reflexive (s ∷ []))
       | inr same ↦ subst (λ vs. IsSound (record st { origins = vs })) (sym same) is.sound
@@ -67,45 +76,71 @@ module _ {N S A : Type 0} {st : Store N S} {loaded : List (Requirement × Vec (V
   pub after_clause : {T E : Type 0} (c : RequiresClause) {cs : List RequiresClause} (result : Result T E)
       → knows_requirement st.provider.universe c.requirement ≡ true → c.parent < length st.origins → IsSome (lists_of st c.requirement) → c.clause_id ≡ length st.requires
       → OnOk result (cs ≡ st.requires ++ c ∷ []) → OnErr result (cs ≡ st.requires)
-      → IsDecidable (record st { requires = cs }) loaded
+      → IsConsistent (record st { requires = cs }) loaded cache
   after_clause c {cs} result known parent found id ok err = elim (either result ok err) [
-    | inl more ↦ subst (λ ds. IsDecidable (record st { requires = ds }) loaded) (sym more) (record {
+    | inl more ↦ subst (λ ds. IsConsistent (record st { requires = ds }) loaded cache) (sym more) (record {
       few = is.few;
       known = All-push (λ d. knows_requirement st.provider.universe d.requirement ≡ true) st.requires c is.known known;
       sound = IsSound-requires st is.sound c id parent found;
+      asked = is.asked;
     })
-    | inr same ↦ subst (λ ds. IsDecidable (record st { requires = ds }) loaded) (sym same) is
+    | inr same ↦ subst (λ ds. IsConsistent (record st { requires = ds }) loaded cache) (sym same) is
   ]
 
-  -- after solvables got variables, or the first so many of them did
-  pub after_variables : ((x : S) → st.provider.same_solvable x x ≡ true) → (ss : List S) {os : List (VariableOrigin N S)}
-      → os ≡ with_variables st.provider.same_solvable st.origins ss → IsDecidable (record st { origins = os }) loaded
-  after_variables reflexive ss got = record {
-    few = is.few;
-    known = is.known;
-    sound = subst (λ vs. IsSound (record st { origins = vs })) (sym got) (IsSound-with_variables st is.sound reflexive ss);
-  }
+-- a store of these variables and lists
+abbrev pub store_with : {D N S A : Type 0} → (D → Provider N S) → List RequiresClause → List Entry → D → List (VariableOrigin N S)
+    → List (Requirement × Vec (Vec ℕ A) A) → Store N S
+store_with provided requires trail provider os kept =
+    store_of provided (record { provider = provider; origins = os; loaded = lists_kept kept; requires = requires; trail = trail })
 
-  -- after lists of solvables got variables, and these are kept for a requirement
-  pub after_load : ((x : S) → st.provider.same_solvable x x ≡ true) → (r : Requirement) {C : Type 0} (members : C → List S) (cs : List C)
-      → lists_of st r ≡ None → length cs ≡ length (sets_of st.provider.universe r)
-      → {os : List (VariableOrigin N S)} {kept : List (Requirement × List (List ℕ))} {after : List (Requirement × Vec (Vec ℕ A) A)}
-      → os ≡ with_variables st.provider.same_solvable st.origins (flat_map members cs)
-      → kept ≡ st.loaded ++ (r, map (λ c. map (interned_variable st.provider.same_solvable os) (members c)) cs) ∷ [] → AreFew after
-      → IsDecidable (record st { origins = os; loaded = kept }) after
-  after_load reflexive r members cs fresh one_each {os} {kept} {after} got keeps few = record {
-    few = few;
-    known = is.known;
-    sound = subst (λ vs. kept ≡ st.loaded ++ (r, map (λ c. map (interned_variable st.provider.same_solvable vs) (members c)) cs) ∷ []
-        → IsSound (record st { origins = vs; loaded = kept })) (sym got)
-        (λ k. subst (λ l. IsSound (record st { origins = with_variables st.provider.same_solvable st.origins (flat_map members cs); loaded = l })) (sym k)
-        (IsSound-interned st is.sound reflexive r members cs fresh one_each)) keeps;
-  }
+-- after a load, of what was kept before it: the provider is the cache's
+module _ {D N S A H : Type 0} (provided : D → Provider N S) (has : H → S → Bool) (origins : List (VariableOrigin N S))
+    (loaded : List (Requirement × Vec (Vec ℕ A) A)) (requires : List RequiresClause) (trail : List Entry) (old new : Cache D N S A H)
+    (later : IsLater has old new) where
+  abbrev same_solvable : S → S → Bool
+  same_solvable = (provided old.provider).same_solvable
 
-  -- after solvables got variables, and nothing was kept
-  pub after_refused : ((x : S) → st.provider.same_solvable x x ≡ true) → (ss : List S) {os : List (VariableOrigin N S)} (after : List (Requirement × Vec (Vec ℕ A) A))
-      → lists_kept loaded ≡ st.loaded → after ≡ loaded → os ≡ with_variables st.provider.same_solvable st.origins ss
-      → IsDecidable (record st { origins = os; loaded = lists_kept after }) after
-  after_refused reflexive ss {os} after kept same got =
-      subst (λ l. IsDecidable (record st { origins = os; loaded = lists_kept l }) l) (sym same)
-      (subst (λ l. IsDecidable (record st { origins = os; loaded = l }) loaded) (sym kept) (after_variables reflexive ss got))
+  abbrev with_all : D → List (VariableOrigin N S) → List (Requirement × Vec (Vec ℕ A) A) → Store N S
+  with_all = store_with provided requires trail
+
+  module _ (is : IsConsistent (with_all old.provider origins loaded) loaded old) (reflexive : (x : S) → same_solvable x x ≡ true) where
+    -- after solvables got variables, or the first so many of them did
+    pub after_variables : (ss : List S) (os : List (VariableOrigin N S)) → os ≡ with_variables same_solvable origins ss
+        → IsConsistent (with_all new.provider os loaded) loaded new
+    after_variables ss os got = subst (λ q. IsConsistent (with_all q os loaded) loaded new) (sym later.provider) (record {
+      few = is.few;
+      known = is.known;
+      sound = subst (λ vs. IsSound (with_all old.provider vs loaded)) (sym got) (IsSound-with_variables (with_all old.provider origins loaded) is.sound reflexive ss);
+      asked = λ k d lt i v below. asked_later has (provided old.provider) _ old new later (is.asked k d lt i v below);
+    })
+
+    -- after the candidates of a requirement got variables, and these were kept
+    pub after_load : (r : Requirement) (best : VersionSetId → List S) (os : List (VariableOrigin N S)) (lists : Vec (Vec ℕ A) A) (kept : List (Requirement × Vec (Vec ℕ A) A))
+        → lookup (same_requirement r) (lists_kept loaded) ≡ None
+        → os ≡ with_variables same_solvable origins (flat_map best (sets_of (provided old.provider).universe r))
+        → map (λ l. l.items) lists.items ≡ map (λ v. map (interned_variable same_solvable os) (best v)) (sets_of (provided old.provider).universe r)
+        → length (flat_map best (sets_of (provided old.provider).universe r)) < 2 ^ 40
+        → All (λ v. is_set_asked (provided old.provider) new v ≡ true) (sets_of (provided old.provider).universe r)
+        → kept ≡ with_entry loaded r lists
+        → IsConsistent (with_all new.provider os kept) kept new
+    after_load r best os lists kept fresh got made few asked keeps =
+        let sets = sets_of (provided old.provider).universe r in
+        let st = with_all old.provider origins loaded in
+        let own : List (VariableOrigin N S) → List (List ℕ) = λ vs. map (λ v. map (interned_variable same_solvable vs) (best v)) sets in
+        let entry : lists_kept (with_entry loaded r lists) ≡ lists_kept loaded ++ (r, own os) ∷ [] =
+        insert-kept loaded r lists fresh ∙ ap (λ ls. lists_kept loaded ++ (r, ls) ∷ []) made in
+        let rows : length (flat_map (λ l. l) (items_of lists)) ≡ length (flat_map best sets) =
+        ap (λ ls. length (flat_map (λ l. l) ls)) made ∙ ap length (flat_map-map (λ l. l) (λ v. map (interned_variable same_solvable os) (best v)) sets)
+        ∙ length-mapped best (interned_variable same_solvable os) sets in
+        let sound : IsSound (record st { origins = os; loaded = lists_kept loaded ++ (r, own os) ∷ [] }) =
+        subst (λ vs. IsSound (record st { origins = vs; loaded = lists_kept loaded ++ (r, own vs) ∷ [] })) (sym got)
+        (IsSound-interned st is.sound reflexive r best sets fresh refl) in
+        subst (λ ks. IsConsistent (with_all new.provider os ks) ks new) (sym keeps)
+        (subst (λ q. IsConsistent (with_all q os (with_entry loaded r lists)) (with_entry loaded r lists) new) (sym later.provider) (record {
+          few = few-more loaded r lists is.few (rw rows few);
+          known = is.known;
+          sound = subst (λ ls. IsSound (record st { origins = os; loaded = ls })) (sym entry) sound;
+          asked = subst (AreAsked (provided old.provider) new) (sym entry)
+              (All-push (λ e. All (λ v. is_set_asked (provided old.provider) new v ≡ true) (sets_of (provided old.provider).universe e.0)) (lists_kept loaded) (r, own os)
+              (λ k d lt i v below. asked_later has (provided old.provider) _ old new later (is.asked k d lt i v below)) asked);
+        }))

@@ -1,72 +1,176 @@
 -- Loading a requirement.
-use Rattle.std.proofs.Common.{◌≡◌, ℕ, ◌^◌, ◌<◌, Bool, true, false, not, arith, ◌||◌, List, [], ◌∷◌, ◌++◌, length, map, take, None, Some, Result, Ok, Err, ◌∙◌, ap, subst, sym, leb, refl}
-use Rattle.std.specs.Prelude.{is_none, ◌&&◌, flat_map, find, option_map, MatchOption, IfOk, IfErr, OnErr, is_err}
-use Rattle.std.specs.declared.vec.Vec.{Vec}
+use Rattle.std.proofs.Common.{◌≡◌, ℕ, ◌^◌, ◌<◌, Bool, true, false, not, arith, ◌||◌, List, [], ◌∷◌, length, None, Some, Result, Ok, Err, ◌∙◌, ap, subst, sym, leb, refl, true≢false}
+use Rattle.std.specs.Prelude.{is_none, ◌&&◌, All, find, option_map, MatchOption, IfErr}
+use Rattle.std.specs.List.{list_any, list_all}
 use Rattle.std.proofs.Math.Bool.{or-true, and-false}
 use Rattle.std.proofs.lemmas.Bool.Decides.{nat_tests}
-use Rattle.std.proofs.lemmas.List.Folds.{flat_map-map}
-use Rattle.std.proofs.lemmas.Simd.{map-map}
+use Rattle.std.proofs.lemmas.List.Elements.{All-head, All-tail}
 use Rattle.typed_ids.specs.Refusals.{IsGrowthRefusal}
 use Rattle.typed_ids.specs.declared.error.StoreError.{StoreError}
-use Rattle.typed_ids.specs.declared.error.StoreError.TheVariants.{OutOfMemory, IdSpace, UnknownId}
+use Rattle.typed_ids.specs.declared.error.StoreError.TheVariants.{OutOfMemory, IdSpace, UnknownId, Cancelled}
+use Rattle.typed_ids.specs.declared.version_set_id.VersionSetId.{VersionSetId}
 use Rattle.providers.specs.declared.requirement.Requirement.{Requirement}
 use Rattle.providers.specs.Provider.{sets_of, knows_requirement}
-use Rattle.variables.specs.declared.variable_origin.VariableOrigin.{VariableOrigin}
-use Rattle.variables.specs.Variables.{interned_variable, with_variables, lacks_variables}
+use Rattle.variables.specs.Variables.{lacks_variables}
+use Rattle.solver_cache.specs.Cache.{Cache, is_asked, is_set_asked}
+use Rattle.solver_cache.specs.Questions.{lacks_candidates}
 use Rattle.resolvo_store.specs.Command.{Reply, Load, LoadedAs, Refused}
-use Rattle.resolvo_store.specs.Store.{Store, Provider, Kept, store_of, lists_of, candidates_of, all_candidates}
-use Rattle.resolvo_store.specs.Outcome.{outcome, load, origins_loaded, variables_loaded}
-use Rattle.resolvo_store.specs.Step.{has_too_many_rows, may_be_refused, IsAnswered, Step}
+use Rattle.resolvo_store.specs.LoadRefusals.{IsLoadRefusal}
+use Rattle.resolvo_store.specs.Lists.{AreAsked}
+use Rattle.resolvo_store.specs.Store.{Store, lists_of, all_candidates}
+use Rattle.resolvo_store.specs.Outcome.{load}
+use Rattle.resolvo_store.specs.Step.{is_named, lacks_ids, may_be_refused, IsAnswered, Step}
+
+-- what follows of a refusal
+pub if_refused : {T E : Type 0} (P Q : E → Type 0) (result : Result T E) → ((e : E) → P e → Q e) → IfErr result P → IfErr result Q
+if_refused P Q (Ok x) more h = tt
+if_refused P Q (Err e) more h = more e h
+
+-- where ids are lacking, they are among more that may be
+pub growth_refused : (asked more lacks : Bool) (e : StoreError) → IsGrowthRefusal lacks e → IsLoadRefusal asked (more || lacks) e
+growth_refused asked more lacks OutOfMemory h = h
+growth_refused asked more lacks IdSpace h = ap (λ b. more || b) h ∙ or-true more
+growth_refused asked more lacks _ h = absurd h
+
+-- of two, the second lacks something
+lacks_behind : (large others_large many new others_new : Bool) → (others_large || (many && others_new)) ≡ true
+    → ((large || others_large) || (many && (new || others_new))) ≡ true
+lacks_behind true ol many new on e = refl
+lacks_behind false true many new on e = refl
+lacks_behind false false true new on e = ap (λ b. new || b) e ∙ or-true new
+lacks_behind false false false new on e = e
+
+-- the first does
+lacks_here : (large others_large many full others_new new : Bool) → new ≡ true → (large || (many && full)) ≡ true
+    → ((large || others_large) || (many && (new || others_new))) ≡ true
+lacks_here true ol many full on new n e = refl
+lacks_here false true many full on new n e = refl
+lacks_here false false true full on new n e = ap (λ b. b || on) n
+lacks_here false false false full on new n e = e
 
 module _ {N S : Type 0} (st : Store N S) (r : Requirement) where
-  abbrev pub same : S → S → Bool
-  same = st.provider.same_solvable
+  abbrev pub sets : List VersionSetId
+  sets = sets_of st.provider.universe r
 
-  abbrev pub large : S → Bool
-  large = st.provider.is_large_solvable
+  abbrev pub rows_out : Bool
+  rows_out = leb (2 ^ 40) (length (all_candidates st r))
 
-  -- the requirement's candidates
-  abbrev pub candidate_lists : List (List S)
-  candidate_lists = map (candidates_of st) (sets_of st.provider.universe r)
+  abbrev pub variables_out : Bool
+  variables_out = lacks_variables st.provider.same_solvable st.provider.is_large_solvable st.origins (all_candidates st r)
 
-  -- few candidates are few rows
-  pub rows-few : length (all_candidates st r) < 2 ^ 40 → has_too_many_rows st (Load r) ≡ false
-  rows-few few =
-      let below : leb (2 ^ 40) (length (all_candidates st r)) ≡ false = grind (arith, nat_tests, few) in
-      ap (λ b. is_none (lists_of st r) && b) below ∙ and-false (is_none (lists_of st r))
+  abbrev pub is_large : VersionSetId → Bool
+  is_large v = st.provider.is_large_name (st.provider.universe.set_name v)
 
-  module _ {C : Type 0} (members : C → List S) (cs : List C) (all : map members cs ≡ candidate_lists) where
-    -- the members of the candidate lists, one list after another, are all candidates
-    pub joined : flat_map members cs ≡ all_candidates st r
-    joined = sym (flat_map-map (λ l. l) members cs) ∙ ap (flat_map (λ l. l)) all ∙ flat_map-map (λ l. l) (candidates_of st) (sets_of st.provider.universe r)
+  -- nothing was lacking
+  pub lacks_nothing : list_any is_large sets ≡ false → length (all_candidates st r) < 2 ^ 40 → variables_out ≡ false → lacks_ids st (Load r) ≡ false
+  lacks_nothing names few fit =
+      let below : rows_out ≡ false = grind (arith, nat_tests, few) in
+      ap (λ b. is_none (lists_of st r) && (b || (rows_out || variables_out))) names
+      ∙ ap (λ b. is_none (lists_of st r) && (b || variables_out)) below ∙ ap (λ b. is_none (lists_of st r) && b) fit ∙ and-false (is_none (lists_of st r))
 
-    -- a Load that gave them variables, and kept and answered the lists of these, did what it should
-    pub load-new : (os : List (VariableOrigin N S)) (lists : List (List ℕ)) → lists_of st r ≡ None
-        → os ≡ with_variables same st.origins (flat_map members cs)
-        → lists ≡ map (λ c. map (interned_variable same os) (members c)) cs
-        → (LoadedAs lists ≡ (outcome st (Load r)).reply)
-        × (record st { origins = os; loaded = st.loaded ++ (r, lists) ∷ [] } ≡ (outcome st (Load r)).store)
-    load-new os lists new after made =
-        let done : outcome st (Load r) ≡ load st r None = ap (load st r) new in
-        let origins : os ≡ origins_loaded st r = after ∙ ap (with_variables same st.origins) joined in
-        let own : List S → List ℕ = map (interned_variable same (origins_loaded st r)) in
-        let variables : lists ≡ variables_loaded st r =
-        made ∙ ap (λ vs. map (λ c. map (interned_variable same vs) (members c)) cs) origins
-        ∙ sym (map-map own members cs) ∙ ap (map own) all ∙ map-map own (candidates_of st) (sets_of st.provider.universe r) in (
-          ap LoadedAs variables ∙ sym (ap (λ o. o.reply) done),
-          ap (λ vs. record st { origins = vs; loaded = st.loaded ++ (r, lists) ∷ [] }) origins
-              ∙ ap (λ ls. record st { origins = origins_loaded st r; loaded = st.loaded ++ (r, ls) ∷ [] }) variables
-              ∙ sym (ap (λ o. o.store) done),
-        )
+  -- ---- refusals of a Load that is new
 
-  -- a refusal that comes where ids are lacking may come of a Load that is new
-  pub refused-new : (lacking : Bool) (e : StoreError) → lists_of st r ≡ None
-      → (lacking ≡ true → (leb (2 ^ 40) (length (all_candidates st r)) || lacks_variables same large st.origins (all_candidates st r)) ≡ true)
-      → IsGrowthRefusal lacking e → may_be_refused st (Load r) e ≡ true
-  refused-new lacking OutOfMemory new h k = refl
-  refused-new lacking IdSpace new h k =
-      ap (λ lists. is_none lists && (leb (2 ^ 40) (length (all_candidates st r)) || lacks_variables same large st.origins (all_candidates st r))) new ∙ h k
-  refused-new lacking _ new h k = absurd k
+  module _ {D A H : Type 0} (old after : Cache D N S A H) (is_sameness : (a b : N) → st.provider.same_name a b ≡ true → a ≡ b)
+      (asked : AreAsked st.provider old st.loaded) where
+    abbrev name : VersionSetId → N
+    name v = st.provider.universe.set_name v
+
+    -- a package of which a version set is among these, all of which were asked for
+    among : (n : N) (vs : List VersionSetId) → All (λ v. is_set_asked st.provider old v ≡ true) vs → list_any (λ v. st.provider.same_name n (name v)) vs ≡ true
+        → is_asked st.provider old n ≡ true
+    among n [] all h = absurd (true≢false (sym h))
+    among n (v ∷ vs) all h =
+        by_test (st.provider.same_name n (name v)) refl h (among n vs (All-tail (λ w. is_set_asked st.provider old w ≡ true) v vs all))
+      where
+        by_test : (b : Bool) → st.provider.same_name n (name v) ≡ b → (b || list_any (λ w. st.provider.same_name n (name w)) vs) ≡ true
+            → (list_any (λ w. st.provider.same_name n (name w)) vs ≡ true → is_asked st.provider old n ≡ true) → is_asked st.provider old n ≡ true
+        by_test true t e rest = subst (λ m. is_asked st.provider old m ≡ true) (sym (is_sameness n (name v) t)) (All-head (λ w. is_set_asked st.provider old w ≡ true) v vs all)
+        by_test false t e rest = rest e
+
+    abbrev OfEntry : Requirement × List (List ℕ) → Type 0
+    OfEntry e = All (λ v. is_set_asked st.provider old v ≡ true) (sets_of st.provider.universe e.0)
+
+    -- one of these entries names the package
+    abbrev one_names : N → List (Requirement × List (List ℕ)) → Bool
+    one_names n es = list_any (λ (e : Requirement × List (List ℕ)). list_any (λ v. st.provider.same_name n (name v)) (sets_of st.provider.universe e.0)) es
+
+    -- a package that an accepted Load named was asked for
+    named_asked : (n : N) (es : List (Requirement × List (List ℕ))) → AreAsked st.provider old es → one_names n es ≡ true → is_asked st.provider old n ≡ true
+    named_asked n [] all h = absurd (true≢false (sym h))
+    named_asked n (e ∷ es) all h =
+        by_test (list_any (λ v. st.provider.same_name n (name v)) (sets_of st.provider.universe e.0)) refl h (named_asked n es (All-tail OfEntry e es all))
+      where
+        by_test : (b : Bool) → list_any (λ v. st.provider.same_name n (name v)) (sets_of st.provider.universe e.0) ≡ b → (b || one_names n es) ≡ true
+            → (one_names n es ≡ true → is_asked st.provider old n ≡ true) → is_asked st.provider old n ≡ true
+        by_test true t k rest = among n (sets_of st.provider.universe e.0) (All-head OfEntry e es all) t
+        by_test false t k rest = rest k
+
+    -- so one that wasn't asked for wasn't named
+    unasked_new : (v : VersionSetId) → is_set_asked st.provider old v ≡ false → not (is_named st (name v)) ≡ true
+    unasked_new v h = by_test (is_named st (name v)) refl
+      where
+        by_test : (b : Bool) → is_named st (name v) ≡ b → not b ≡ true
+        by_test true t = absurd (true≢false (sym (named_asked (name v) st.loaded asked t) ∙ h))
+        by_test false t = refl
+
+    abbrev are_new : List VersionSetId → Bool
+    are_new vs = list_any (λ v. not (is_named st (name v))) vs
+
+    -- where not all packages were asked for, one is new
+    some_new : (vs : List VersionSetId) → list_all (is_set_asked st.provider old) vs ≡ false → are_new vs ≡ true
+    some_new [] h = absurd (true≢false h)
+    some_new (v ∷ vs) h = by_test (is_set_asked st.provider old v) refl h (some_new vs)
+      where
+        by_test : (b : Bool) → is_set_asked st.provider old v ≡ b → (b && list_all (is_set_asked st.provider old) vs) ≡ false
+            → (list_all (is_set_asked st.provider old) vs ≡ false → are_new vs ≡ true) → (not (is_named st (name v)) || are_new vs) ≡ true
+        by_test true t e rest = ap (λ b. not (is_named st (name v)) || b) (rest e) ∙ or-true (not (is_named st (name v)))
+        by_test false t e rest = ap (λ b. b || are_new vs) (unasked_new v t)
+
+    abbrev lacking : VersionSetId → Bool
+    lacking v = not (is_set_asked st.provider old v) && lacks_candidates st.provider after (name v)
+
+    -- where no answer can be kept for a package, it is too large, or one is new and names may be many
+    some_lack : (vs : List VersionSetId) → list_any lacking vs ≡ true → (list_any is_large vs || (st.provider.are_names_many && are_new vs)) ≡ true
+    some_lack [] h = absurd (true≢false (sym h))
+    some_lack (v ∷ vs) h = by_asked (is_set_asked st.provider old v) refl h (some_lack vs)
+      where
+        Goal : Type 0
+        Goal = ((is_large v || list_any is_large vs) || (st.provider.are_names_many && (not (is_named st (name v)) || are_new vs))) ≡ true
+
+        Rest : Type 0
+        Rest = list_any lacking vs ≡ true → (list_any is_large vs || (st.provider.are_names_many && are_new vs)) ≡ true
+
+        by_lacks : (b : Bool) → lacks_candidates st.provider after (name v) ≡ b → is_set_asked st.provider old v ≡ false → (b || list_any lacking vs) ≡ true → Rest → Goal
+        by_lacks true t a e rest = lacks_here (is_large v) (list_any is_large vs) st.provider.are_names_many (leb (2 ^ 32) (length after.candidates)) (are_new vs) _ (unasked_new v a) t
+        by_lacks false t a e rest = lacks_behind (is_large v) (list_any is_large vs) st.provider.are_names_many (not (is_named st (name v))) (are_new vs) (rest e)
+
+        by_asked : (b : Bool) → is_set_asked st.provider old v ≡ b → ((not b && lacks_candidates st.provider after (name v)) || list_any lacking vs) ≡ true → Rest → Goal
+        by_asked true t e rest = lacks_behind (is_large v) (list_any is_large vs) st.provider.are_names_many (not (is_named st (name v))) (are_new vs) (rest e)
+        by_asked false t e rest = by_lacks (lacks_candidates st.provider after (name v)) refl t e rest
+
+    -- why the cache and the variables refuse is why a Load may be refused
+    pub load_refused : lists_of st r ≡ None → (e : StoreError)
+        → IsLoadRefusal (list_all (is_set_asked st.provider old) sets) (list_any lacking sets || (rows_out || variables_out)) e → may_be_refused st (Load r) e ≡ true
+    load_refused fresh OutOfMemory h = refl
+    load_refused fresh Cancelled h = some_new sets h
+    load_refused fresh IdSpace h =
+        ap (λ o. (is_none o && (list_any is_large sets || (rows_out || variables_out))) || (st.provider.are_names_many && are_new sets)) fresh
+        ∙ by_lacks (list_any lacking sets) refl h
+      where
+        by_lacks : (b : Bool) → list_any lacking sets ≡ b → (b || (rows_out || variables_out)) ≡ true
+            → ((list_any is_large sets || (rows_out || variables_out)) || (st.provider.are_names_many && are_new sets)) ≡ true
+        by_lacks true t k = with_others (list_any is_large sets) (rows_out || variables_out) (st.provider.are_names_many && are_new sets) (some_lack sets t)
+          where
+            with_others : (a b d : Bool) → (a || d) ≡ true → ((a || b) || d) ≡ true
+            with_others true b d e = refl
+            with_others false true d e = refl
+            with_others false false d e = e
+        by_lacks false t k = first (list_any is_large sets) (rows_out || variables_out) (st.provider.are_names_many && are_new sets) k
+          where
+            first : (a b d : Bool) → b ≡ true → ((a || b) || d) ≡ true
+            first true b d e = refl
+            first false b d e = ap (λ x. x || d) e
+    load_refused fresh _ h = absurd h
 
   -- ---- what a Load of a known requirement answers
 
@@ -80,61 +184,7 @@ module _ {N S : Type 0} (st : Store N S) (r : Requirement) where
   -- what was loaded is answered again
   pub loaded-again : (lists : List (List ℕ)) → lists_of st r ≡ Some lists → IsAnswered st (Load r) (LoadedAs lists) st
   loaded-again lists old = (
-    ap (λ o. is_none o && leb (2 ^ 40) (length (all_candidates st r))) old,
+    ap (λ o. is_none o && (list_any is_large sets || (rows_out || variables_out))) old,
     sym (ap (λ o. (load st r o).reply) old),
     sym (ap (λ o. (load st r o).store) old),
   )
-
--- what is kept, with other origins
-abbrev pub with_origins : {D N S : Type 0} → Kept D N S → List (VariableOrigin N S) → Kept D N S
-with_origins kept os = record kept { origins = os }
-
--- a Load that is new, of what was kept before it, once candidates were given variables and in the end
-module _ {D N S A C : Type 0} (provided : D → Provider N S) (old mid final : Kept D N S) (r : Requirement)
-    (members : C → List S) (cs : List C) (all : map members cs ≡ candidate_lists (store_of provided old) r)
-    (new : lists_of (store_of provided old) r ≡ None) (result : Result (Vec (Vec ℕ A) A) StoreError) where
-  abbrev pub st : Store N S
-  st = store_of provided old
-
-  -- the origins once each candidate has a variable
-  abbrev pub grown : List (VariableOrigin N S)
-  grown = with_variables (same st r) old.origins (flat_map members cs)
-
-  -- where the candidates' lists are kept, they are what it should answer
-  pub answered-new : length (all_candidates st r) < 2 ^ 40
-      → IfOk result (λ lists. map (λ l. l.items) lists.items ≡ map (λ c. map (interned_variable (same st r) mid.origins) (members c)) cs)
-      → IfOk result (λ lists. mid ≡ record old { origins = grown; loaded = old.loaded ++ (r, map (λ l. l.items) lists.items) ∷ [] })
-      → (is_err result ≡ false → final ≡ mid)
-      → IfOk result (λ lists. IsAnswered st (Load r) (LoadedAs (map (λ l. l.items) lists.items)) (store_of provided final))
-  answered-new few = by_result result
-    where
-      by_result : (x : Result (Vec (Vec ℕ A) A) StoreError)
-          → IfOk x (λ lists. map (λ l. l.items) lists.items ≡ map (λ c. map (interned_variable (same st r) mid.origins) (members c)) cs)
-          → IfOk x (λ lists. mid ≡ record old { origins = grown; loaded = old.loaded ++ (r, map (λ l. l.items) lists.items) ∷ [] })
-          → (is_err x ≡ false → final ≡ mid)
-          → IfOk x (λ lists. IsAnswered st (Load r) (LoadedAs (map (λ l. l.items) lists.items)) (store_of provided final))
-      by_result (Err e) made kept end = tt
-      by_result (Ok lists) made kept end =
-          let variables = made ∙ ap (λ k. map (λ c. map (interned_variable (same st r) k.origins) (members c)) cs) kept in
-          let right = load-new st r members cs all grown (map (λ l. l.items) lists.items) new refl variables in
-          (rows-few st r few, right.0, ap (store_of provided) (end refl ∙ kept) ∙ right.1)
-
-  -- where it is refused and the new variables are taken back, nothing changed
-  pub refused-same : IfErr result (IsGrowthRefusal (lacks_variables (same st r) (large st r) old.origins (flat_map members cs)))
-      → OnErr result (mid ≡ with_origins old mid.origins) → take (length old.origins) mid.origins ≡ old.origins
-      → (is_err result ≡ true → final ≡ with_origins mid (take (length old.origins) mid.origins))
-      → IfErr result (λ e. IsAnswered st (Load r) (Refused e) (store_of provided final))
-  refused-same growth others front = by_result result growth others
-    where
-      by_result : (x : Result (Vec (Vec ℕ A) A) StoreError)
-          → IfErr x (IsGrowthRefusal (lacks_variables (same st r) (large st r) old.origins (flat_map members cs)))
-          → OnErr x (mid ≡ with_origins old mid.origins)
-          → (is_err x ≡ true → final ≡ with_origins mid (take (length old.origins) mid.origins))
-          → IfErr x (λ e. IsAnswered st (Load r) (Refused e) (store_of provided final))
-      by_result (Ok lists) growth others end = tt
-      by_result (Err e) growth others end = (
-        refused-new st r _ e new
-            (λ h. ap (λ b. leb (2 ^ 40) (length (all_candidates st r)) || b) (sym (ap (lacks_variables (same st r) (large st r) old.origins) (joined st r members cs all)) ∙ h)
-            ∙ or-true (leb (2 ^ 40) (length (all_candidates st r)))) growth,
-        ap (store_of provided) (end refl ∙ ap (with_origins mid) front ∙ ap (λ k. with_origins k old.origins) others),
-      )

@@ -1,5 +1,6 @@
 pub mod Command
 pub mod Lists
+pub mod LoadRefusals
 pub mod Outcome
 pub mod Refusals
 pub mod ReplyLaws

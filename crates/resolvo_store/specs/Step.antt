@@ -1,7 +1,10 @@
 -- One step of the abstract store, and a run.
-use Rattle.std.specs.Prelude.{◌≡◌, ◌^◌, Bool, true, false, not, ◌&&◌, ◌||◌, nat_le, List, [], ◌∷◌, length, is_none, is_some, MatchOption, IsTrue}
+use Rattle.std.specs.Prelude.{◌≡◌, ℕ, ◌^◌, Bool, true, false, not, ◌&&◌, ◌||◌, nat_le, List, [], ◌∷◌, length, is_none, is_some, MatchOption, IsTrue}
 use Rattle.typed_ids.specs.declared.error.StoreError.{StoreError}
-use Rattle.typed_ids.specs.declared.error.StoreError.TheVariants.{OutOfMemory, IdSpace}
+use Rattle.typed_ids.specs.declared.error.StoreError.TheVariants.{OutOfMemory, IdSpace, Cancelled}
+use Rattle.std.specs.List.{list_any}
+use Rattle.providers.specs.declared.requirement.Requirement.{Requirement}
+use Rattle.providers.specs.Provider.{sets_of}
 use Rattle.decisions.specs.Literals.{undecided}
 use Rattle.variables.specs.Variables.{variable_of_solvable, lacks_variables}
 use Rattle.resolvo_store.specs.Command.{Command, Variable, Load, Assign, UndoUntil, Decide, Reply, Refused}
@@ -10,18 +13,29 @@ use Rattle.resolvo_store.specs.Refusals.{first_refusal}
 use Rattle.resolvo_store.specs.Outcome.{outcome, falsified_clause}
 
 module _ {N S : Type 0} where
-  -- a Load would give its requirement 2^40 rows or more
-  abbrev pub has_too_many_rows : Store N S → Command S → Bool
-  has_too_many_rows st (Load r) = is_none (lists_of st r) && nat_le (2 ^ 40) (length (all_candidates st r))
-  has_too_many_rows st _ = false
+  -- an accepted Load named the package: a loaded requirement has a version set of it
+  abbrev pub is_named : Store N S → N → Bool
+  is_named st name = list_any (λ (e : Requirement × List (List ℕ)).
+      list_any (λ v. st.provider.same_name name (st.provider.universe.set_name v)) (sets_of st.provider.universe e.0)) st.loaded
 
-  -- a Load needs more ids than there are: for its rows, or for the variables of its candidates
+  -- a Load names a package that no accepted Load named
+  abbrev pub names_new_package : Store N S → Command S → Bool
+  names_new_package st (Load r) = list_any (λ v. not (is_named st (st.provider.universe.set_name v))) (sets_of st.provider.universe r)
+  names_new_package st _ = false
+
+  -- a Load needs more ids than there are: for its packages, for its rows, or for the variables of its candidates
   abbrev pub lacks_ids : Store N S → Command S → Bool
   lacks_ids st (Load r) =
       is_none (lists_of st r) &&
+      (list_any (λ v. st.provider.is_large_name (st.provider.universe.set_name v)) (sets_of st.provider.universe r) ||
       (nat_le (2 ^ 40) (length (all_candidates st r)) ||
-      lacks_variables st.provider.same_solvable st.provider.is_large_solvable st.origins (all_candidates st r))
+      lacks_variables st.provider.same_solvable st.provider.is_large_solvable st.origins (all_candidates st r)))
   lacks_ids st _ = false
+
+  -- more packages may have been asked for than answers have ids: that takes more than 2^32 names, and one more package
+  abbrev pub may_use_up_answers : Store N S → Command S → Bool
+  may_use_up_answers st (Load r) = st.provider.are_names_many && names_new_package st (Load r)
+  may_use_up_answers st _ = false
 
   -- the command is answered without taking memory
   abbrev pub takes_no_memory : Store N S → Command S → Bool
@@ -34,14 +48,15 @@ module _ {N S : Type 0} where
   -- a refusal that may come where no foreseeable one applies
   abbrev pub may_be_refused : Store N S → Command S → StoreError → Bool
   may_be_refused st c OutOfMemory = not (takes_no_memory st c)
-  may_be_refused st c IdSpace = lacks_ids st c
+  may_be_refused st c IdSpace = lacks_ids st c || may_use_up_answers st c
+  may_be_refused st c Cancelled = names_new_package st c
   may_be_refused st c _ = false
 
   -- the command is given its reply and takes effect, or is refused and has none
   abbrev pub IsAnswered : Store N S → Command S → Reply → Store N S → Type 0
   IsAnswered old c (Refused e) new = IsTrue (may_be_refused old c e) × (new ≡ old)
   IsAnswered old c reply new =
-      (has_too_many_rows old c ≡ false) × (reply ≡ (outcome old c).reply) × (new ≡ (outcome old c).store)
+      (lacks_ids old c ≡ false) × (reply ≡ (outcome old c).reply) × (new ≡ (outcome old c).store)
 
   -- from the old store this command may be given this reply and lead to the new store
   abbrev pub Step : Store N S → Command S → Reply → Store N S → Type 0

@@ -1,38 +1,17 @@
 -- The abstract store, and what a clause store keeps of it. N are the names, S the solvables.
-use Rattle.std.specs.Prelude.{ℕ, Bool, List, [], ◌∷◌, flat_map, Option, unwrap_or}
+use Rattle.std.specs.Prelude.{ℕ, List, [], ◌∷◌, flat_map, Option, unwrap_or}
 use Rattle.std.specs.Map.{lookup}
 use Rattle.typed_ids.specs.declared.version_set_id.VersionSetId.{VersionSetId}
 use Rattle.providers.specs.declared.requirement.Requirement.{Requirement}
 use Rattle.providers.specs.Requirement.{same_requirement}
-use Rattle.providers.specs.Provider.{Universe, Answers, sorted, sets_of}
+use Rattle.providers.specs.Provider.{sorted, sets_of}
 use Rattle.variables.specs.declared.variable_origin.VariableOrigin.{VariableOrigin}
 use Rattle.variables.specs.declared.variable_origin.VariableOrigin.TheVariants.{Root}
 use Rattle.decisions.specs.Literals.{Lit, Values}
 use Rattle.decisions.specs.Trail.{Entry, val}
 use Rattle.resolvo_queue.specs.declared.requires_clause.RequiresClause.{RequiresClause}
 use Rattle.resolvo_queue.specs.Rows.{Row, rows}
-
--- the fixed functions of a provider and of its ids
-pub record Provider (N S : Type 0) : Type 0 where
-  pub same_name : N → N → Bool
-  pub same_solvable : S → S → Bool
-  -- nothing can be kept by this id; for a dense one: its index is 2^40 or more
-  pub is_large_name : N → Bool
-  pub is_large_solvable : S → Bool
-  pub universe : Universe N S
-  pub answers : Answers N S
-
--- the same, gathered
-abbrev pub provided : {D N S : Type 0} → (N → N → Bool) → (S → S → Bool) → (N → Bool) → (S → Bool) →
-    (D → Universe N S) → (D → Answers N S) → D → Provider N S
-provided same_name same_solvable is_large_name is_large_solvable universe answers p = record {
-  same_name = same_name;
-  same_solvable = same_solvable;
-  is_large_name = is_large_name;
-  is_large_solvable = is_large_solvable;
-  universe = universe p;
-  answers = answers p;
-}
+pub use Rattle.solver_cache.specs.Functions.{Provider, gathered}
 
 -- the variables that are tracked under a name, and their helpers
 pub record Tracker : Type 0 where

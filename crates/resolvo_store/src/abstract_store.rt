@@ -1,5 +1,5 @@
 //! How contracts name the abstract store.
-use id_maps::{IdMap, Slot, SolverId};
+use id_maps::{IdMap, IdSet, SolverId};
 use providers::{DependencyProvider, Interner};
 
 /// The abstract store of what a clause store keeps: contracts write it `⟦<D as AbstractStore>⟧.store self.now`.
@@ -13,7 +13,9 @@ pub trait AbstractStore: DependencyProvider {
 }
 
 impl<D: DependencyProvider> AbstractStore for D {
-    ghost use Rattle.resolvo_store.specs.Store.{store_of, provided};
+    ghost use Rattle.resolvo_store.specs.Store.{store_of};
+    ghost use Rattle.solver_cache.specs.Functions.{gathered};
 
-    ghost store = { store_of (provided D.NameId.eq D.SolvableId.eq D.NameId.Scores.is_too_large D.SolvableId.Slots.is_too_large D.universe D.answers) };
+    ghost store = { store_of (gathered D.NameId.eq D.SolvableId.eq D.NameId.Slots.is_too_large D.SolvableId.Slots.is_too_large
+        D.SolvableId.Set.is_too_large D.NameId.are_many D.universe D.answers) };
 }

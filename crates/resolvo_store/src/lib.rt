@@ -19,6 +19,7 @@
 mod abstract_store;
 mod command;
 mod conflict;
+mod loaded_lists;
 mod reply;
 mod store;
 

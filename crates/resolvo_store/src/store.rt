@@ -23,9 +23,10 @@ use crate::abstract_store::AbstractStore;
 use crate::command::Command;
 use crate::reply::Reply;
 use decisions::DecisionTracker;
-use id_maps::{IdMap, Slot, SolverId};
+use id_maps::{IdMap, IdSet, SolverId};
 use providers::{DependencyProvider, RequirementMap};
 use resolvo_queue::DecideQueue;
+use solver_cache::SolverCache;
 use std::marker::Model;
 use typed_ids::{StoreError, VariableId};
 use variables::VariableMap;
@@ -36,7 +37,8 @@ use variables::VariableMap;
 /// the store is as it was.
 #[derive(Drop)]
 pub struct ClauseStore<D: DependencyProvider> {
-    provider: D,
+    /// The provider, and what it was asked and answered.
+    cache: SolverCache<D>,
     variables: VariableMap<D::NameId, D::SolvableId, D::Alloc>,
     /// The candidates' variables of each loaded requirement, best first, one list a version set.
     loaded: RequirementMap<Vec<Vec<VariableId, D::Alloc>, D::Alloc>, D::Alloc>,
@@ -46,26 +48,28 @@ pub struct ClauseStore<D: DependencyProvider> {
 }
 
 impl<D: DependencyProvider> Model for ClauseStore<D> {
-    ghost use Rattle.resolvo_store.specs.Store.{Kept, store_of, provided};
-    ghost use Rattle.resolvo_store.specs.Lists.{lists_kept, IsDecidable};
+    ghost use Rattle.resolvo_store.specs.Store.{Kept, store_of};
+    ghost use Rattle.resolvo_store.specs.Lists.{lists_kept, IsConsistent};
+    ghost use Rattle.solver_cache.specs.Functions.{gathered};
 
     ghost Value = { Kept D D.NameId D.SolvableId };
 
     ghost view = { λ a. record {
-      provider = a.provider;
+      provider = a.cache.provider;
       origins = a.variables;
       loaded = lists_kept a.loaded;
       requires = a.queue;
       trail = a.trail;
     } };
 
-    ghost invariant = { λ a. IsDecidable (store_of (provided D.NameId.eq D.SolvableId.eq D.NameId.Scores.is_too_large D.SolvableId.Slots.is_too_large D.universe D.answers) (record {
-      provider = a.provider;
-      origins = a.variables;
-      loaded = lists_kept a.loaded;
-      requires = a.queue;
-      trail = a.trail;
-    })) a.loaded };
+    ghost invariant = { λ a. IsConsistent (store_of (gathered D.NameId.eq D.SolvableId.eq D.NameId.Slots.is_too_large D.SolvableId.Slots.is_too_large
+        D.SolvableId.Set.is_too_large D.NameId.are_many D.universe D.answers) (record {
+          provider = a.cache.provider;
+          origins = a.variables;
+          loaded = lists_kept a.loaded;
+          requires = a.queue;
+          trail = a.trail;
+        })) a.loaded a.cache };
 }
 
 impl<D: DependencyProvider + Drop> ClauseStore<D> {
@@ -84,7 +88,7 @@ impl<D: DependencyProvider + Drop> ClauseStore<D> {
     {
         let variables = VariableMap::new(alloc)?;
         Ok(ClauseStore {
-            provider,
+            cache: SolverCache::new(alloc, provider),
             variables,
             loaded: RequirementMap::new(alloc),
             queue: DecideQueue::new(alloc),
@@ -97,7 +101,7 @@ impl<D: DependencyProvider + Drop> ClauseStore<D> {
     pub fn provider(&self) -> &D
         ensures { result.now ≡ self.now.provider }
     {
-        &self.provider
+        self.cache.provider()
     }
 
     /// Obeys a command, and answers it.
@@ -128,7 +132,7 @@ impl<D: DependencyProvider + Drop> ClauseStore<D> {
         ensures sound { IsSound (⟦<D as AbstractStore>⟧.store self.new) }
     {
         // What is true of each store is true of this one: a look at a field tells it.
-        let _provider = &self.provider;
+        let _cache = &self.cache;
         match *command {
             Command::Variable(solvable) => self.variable(solvable),
             Command::Load(requirement) => self.load(requirement),

@@ -1,5 +1,5 @@
 -- What is computed is a run.
-use Rattle.std.proofs.Common.{◌≡◌, ℕ, Bool, true, false, cond, ◌&&◌, ◌||◌, arith, List, [], ◌∷◌, Option, Some, None, refl}
+use Rattle.std.proofs.Common.{◌≡◌, ℕ, Bool, true, false, cond, ◌&&◌, ◌||◌, arith, List, [], ◌∷◌, Option, Some, None, refl, ap}
 use Rattle.std.specs.Bool.{beq}
 use Rattle.std.specs.Prelude.{◌^◌, nat_le, length, is_none, MatchOption}
 use Rattle.typed_ids.specs.declared.error.StoreError.{StoreError}
@@ -11,7 +11,7 @@ use Rattle.resolvo_store.specs.Command.{Command, Variable, Load, Requires, Assig
 use Rattle.resolvo_store.specs.Store.{Store, values, lists_of, all_candidates}
 use Rattle.resolvo_store.specs.Refusals.{first_refusal}
 use Rattle.resolvo_store.specs.Outcome.{outcome, load, assign_reply, decision, falsified_clause, picked}
-use Rattle.resolvo_store.specs.Step.{IsAnswered, Step, has_too_many_rows, lacks_ids}
+use Rattle.resolvo_store.specs.Step.{IsAnswered, Step, lacks_ids, may_use_up_answers}
 use Rattle.store_callers.specs.Play.{answered, answer, PlayIsRun}
 
 module _ {N S : Type 0} where
@@ -41,35 +41,25 @@ module _ {N S : Type 0} where
       by_answer None (Some o) h = h
       by_answer None None h = h
 
-  -- where there aren't too many rows, a command is answered by its outcome
-  outcome_answers : (st : Store N S) (c : Command S) → has_too_many_rows st c ≡ false → IsAnswered st c (outcome st c).reply (outcome st c).store
+  -- where no ids are lacking, a command is answered by its outcome
+  outcome_answers : (st : Store N S) (c : Command S) → lacks_ids st c ≡ false → IsAnswered st c (outcome st c).reply (outcome st c).store
   outcome_answers st c few = by_reply (outcome st c).reply (not_refused st c) refl
     where
       by_reply : (reply : Reply) → (IsRefused reply → ⊥) → reply ≡ (outcome st c).reply → IsAnswered st c reply (outcome st c).store
       by_reply (Refused e) n is = absurd (n tt)
       by_reply _ n is = (few, is, refl)
 
-  -- where there are, it may lack ids
-  rows_lack : (st : Store N S) (c : Command S) → has_too_many_rows st c ≡ true → lacks_ids st c ≡ true
-  rows_lack st (Load r) many =
-      rows_among (is_none (lists_of st r)) (nat_le (2 ^ 40) (length (all_candidates st r)))
-      (lacks_variables st.provider.same_solvable st.provider.is_large_solvable st.origins (all_candidates st r)) many
-    where
-      rows_among : (a b d : Bool) → (a && b) ≡ true → (a && (b || d)) ≡ true
-      rows_among a b d h = grind (arith, h)
-  rows_lack st _ many = cc
-
   answer_is_step : (st : Store N S) (c : Command S) → Step st c (answer st c).reply (answer st c).store
   answer_is_step st c = go (first_refusal st c)
     where
-      by_rows : (b : Bool) → has_too_many_rows st c ≡ b →
+      by_ids : (b : Bool) → lacks_ids st c ≡ b →
           IsAnswered st c (cond b (record { reply = Refused IdSpace; store = st }) (outcome st c)).reply (cond b (record { reply = Refused IdSpace; store = st }) (outcome st c)).store
-      by_rows true many = (rows_lack st c many, refl)
-      by_rows false few = outcome_answers st c few
+      by_ids true lacks = (ap (λ b. b || may_use_up_answers st c) lacks, refl)
+      by_ids false few = outcome_answers st c few
 
       go : (e : Option StoreError) → MatchOption e (IsAnswered st c (answered st c e).reply (answered st c e).store) (λ x. ((answered st c e).reply ≡ Refused x) × ((answered st c e).store ≡ st))
       go (Some e) = (refl, refl)
-      go None = by_rows (has_too_many_rows st c) refl
+      go None = by_ids (lacks_ids st c) refl
 
 pub play_is_run : (N S : Type 0) → PlayIsRun N S
 play_is_run N S st [] = refl

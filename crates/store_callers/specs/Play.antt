@@ -6,13 +6,13 @@ use Rattle.resolvo_store.specs.Command.{Command, Reply, Refused}
 use Rattle.resolvo_store.specs.Store.{Store}
 use Rattle.resolvo_store.specs.Refusals.{first_refusal}
 use Rattle.resolvo_store.specs.Outcome.{Outcome, outcome}
-use Rattle.resolvo_store.specs.Step.{Run, has_too_many_rows}
+use Rattle.resolvo_store.specs.Step.{Run, lacks_ids}
 
 module _ {N S : Type 0} where
   -- the reply to a command and the store after it, by the first refusal that applies
   abbrev pub answered : Store N S → Command S → Option StoreError → Outcome N S
   answered st c (Some e) = record { reply = Refused e; store = st }
-  answered st c None = if has_too_many_rows st c then record { reply = Refused IdSpace; store = st } else outcome st c
+  answered st c None = if lacks_ids st c then record { reply = Refused IdSpace; store = st } else outcome st c
 
   abbrev pub answer : Store N S → Command S → Outcome N S
   answer st c = answered st c (first_refusal st c)

@@ -52,6 +52,8 @@ module _ (c : Packages) where
     same_solvable = λ s t. s == t;
     is_large_name = λ n. false;
     is_large_solvable = λ s. false;
+    is_large_hint = λ s. false;
+    are_names_many = false;
     universe = record {
       knows_string = λ s. false;
       knows_name = λ n. true;

@@ -37,7 +37,7 @@ impl<D: DependencyProvider + Drop> ClauseStore<D> {
         ensures { result ≡ option_map (λ c. c.clause_id) (falsified_clause (⟦<D as AbstractStore>⟧.store self.now)) }
     {
         self.queue
-            .falsified(self.trail.map(), &self.loaded, &self.provider)
+            .falsified(self.trail.map(), &self.loaded, self.cache.provider())
     }
 
     /// The decision that the scan picks, where nothing is falsified: [`ClauseStore::falsified`] is the test. Takes no
@@ -52,6 +52,6 @@ impl<D: DependencyProvider + Drop> ClauseStore<D> {
         ensures unbeaten { DecidesUnbeaten (offers (⟦<D as AbstractStore>⟧.store self.now)) result }
     {
         self.queue
-            .next_decision(self.trail.map(), &self.loaded, &self.provider)
+            .next_decision(self.trail.map(), &self.loaded, self.cache.provider())
     }
 }

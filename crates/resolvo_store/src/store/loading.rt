@@ -1,21 +1,20 @@
 //! The commands that bring solvables: `Variable` and `Load`.
-ghost use Rattle.std.specs.Prelude.{◌≡◌, ◌<◌, ◌^◌, ◌∷◌, ◌++◌, [], None, true, map, flat_map, option_map, length, take, IfOk, OnOk, OnErr, IfErr};
-ghost use Rattle.typed_ids.specs.Refusals.{IsGrowthRefusal};
-ghost use Rattle.providers.specs.Provider.{knows_requirement, sets_of};
+ghost use Rattle.std.specs.Prelude.{◌≡◌, ◌∷◌, ◌++◌, [], None, true, false, map, option_map, length, take, IfOk, OnOk, OnErr, IfErr};
+ghost use Rattle.providers.specs.Provider.{knows_requirement};
 
 use crate::abstract_store::AbstractStore;
+use crate::loaded_lists::load_lists;
 use crate::reply::Reply;
 use crate::store::ClauseStore;
-use candidates::candidate_lists;
 use providers::{DependencyProvider, Interner, Requirement};
 use typed_ids::StoreError;
-use variables::{VariableLists, intern_lists};
+use variables::VariableLists;
 
 impl<D: DependencyProvider + Drop> ClauseStore<D> {
-    ghost use Rattle.variables.specs.Variables.{interned_variable, with_variables, lacks_variables};
     ghost use Rattle.resolvo_store.specs.Command.{Variable, Load, answer_of, LoadedAs, Refused, reply_of, IsRefused};
     ghost use Rattle.resolvo_store.specs.Store.{lists_of};
-    ghost use Rattle.resolvo_store.specs.Step.{Step, IsAnswered};
+    ghost use Rattle.resolvo_store.specs.Step.{Step, IsAnswered, lacks_ids, may_be_refused};
+    ghost use Rattle.resolvo_store.specs.Outcome.{origins_loaded, variables_loaded};
 
     /// The variable of a solvable.
     pub(super) fn variable(
@@ -27,7 +26,7 @@ impl<D: DependencyProvider + Drop> ClauseStore<D> {
         ensures answered { IfOk result (λ reply. IsRefused (reply_of reply) → ⊥) }
         ensures provider { self.new.provider ≡ self.old.provider }
     {
-        if !self.provider.knows_solvable(solvable) {
+        if !self.cache.provider().knows_solvable(solvable) {
             return Err(StoreError::UnknownId);
         }
         let variable = self.variables.intern_solvable(solvable)?;
@@ -69,37 +68,33 @@ impl<D: DependencyProvider + Drop> ClauseStore<D> {
             (⟦<D as AbstractStore>⟧.store self.new)) }
         ensures provider { self.new.provider ≡ self.old.provider }
     {
-        let candidates = candidate_lists(&self.provider, self.alloc, requirement)?;
         let before = self.variables.count();
-        let kept = self.keep_candidates(requirement, &candidates);
+        let kept = self.keep_candidates(requirement);
         if kept.is_err() {
             self.variables.forget_from(before);
         }
         kept
     }
 
-    /// Gives candidates variables, and keeps their lists as the requirement's. A refusal keeps no lists, and leaves
-    /// the variables that were there in front.
+    /// Gives a requirement's candidates variables, and keeps their lists as the requirement's. A refusal keeps no lists,
+    /// and leaves the variables that were there in front.
     fn keep_candidates(
         &mut self,
         requirement: Requirement,
-        candidates: &[Vec<D::SolvableId, D::Alloc>],
     ) -> Result<VariableLists<D::Alloc>, StoreError>
+        requires known { knows_requirement (D.universe self.old.provider) requirement ≡ true }
         requires new { lists_of (⟦<D as AbstractStore>⟧.store self.old) requirement ≡ None }
-        requires one_a_set { length candidates.now ≡ length (sets_of (D.universe self.old.provider) requirement) }
-        requires few { length (flat_map (λ l. l.items) candidates.now) < 2 ^ 40 }
-        ensures lists { IfOk result (λ lists. map (λ l. l.items) lists.items ≡
-            map (λ l. map (interned_variable D.SolvableId.eq self.new.origins) l.items) candidates.now) }
+        ensures lists { IfOk result (λ lists. map (λ l. l.items) lists.items ≡ variables_loaded (⟦<D as AbstractStore>⟧.store self.old) requirement) }
         ensures ok { IfOk result (λ lists. self.new ≡ record self.old {
-          origins = with_variables D.SolvableId.eq self.old.origins (flat_map (λ l. l.items) candidates.now);
+          origins = origins_loaded (⟦<D as AbstractStore>⟧.store self.old) requirement;
           loaded = self.old.loaded ++ (requirement, map (λ l. l.items) lists.items) ∷ [];
         }) }
+        ensures fit { OnOk result (lacks_ids (⟦<D as AbstractStore>⟧.store self.old) (Load requirement) ≡ false) }
         ensures err { OnErr result (self.new ≡ record self.old { origins = self.new.origins }) }
         ensures front { take (length self.old.origins) self.new.origins ≡ self.old.origins }
-        ensures refused { IfErr result (IsGrowthRefusal (lacks_variables D.SolvableId.eq D.SolvableId.Slots.is_too_large
-            self.old.origins (flat_map (λ l. l.items) candidates.now))) }
+        ensures refused { IfErr result (λ e. may_be_refused (⟦<D as AbstractStore>⟧.store self.old) (Load requirement) e ≡ true) }
     {
-        let lists = intern_lists(&mut self.variables, self.alloc, candidates)?;
+        let lists = load_lists(&mut self.cache, &mut self.variables, requirement)?;
         let reply = lists.clone()?;
         self.loaded.insert(requirement, lists)?;
         Ok(reply)

@@ -47,8 +47,8 @@ impl<D: DependencyProvider + Drop> ClauseStore<D> {
         ensures { result ≡ knows_requirement (D.universe self.now.provider) requirement }
     {
         match requirement {
-            Requirement::Single(set) => self.provider.knows_version_set(set),
-            Requirement::Union(union) => self.provider.knows_union(union),
+            Requirement::Single(set) => self.cache.provider().knows_version_set(set),
+            Requirement::Union(union) => self.cache.provider().knows_union(union),
         }
     }
 
@@ -59,7 +59,7 @@ impl<D: DependencyProvider + Drop> ClauseStore<D> {
             (rows (sets_of (D.universe self.now.provider) requirement) lists)) (lists_of (⟦<D as AbstractStore>⟧.store self.now) requirement) }
     {
         let lists = self.lists(requirement)?;
-        let sets = requirement.version_sets(&self.provider);
+        let sets = requirement.version_sets(self.cache.provider());
         Some(is_conflict(self.trail.map(), parent, sets.as_slice(), lists))
     }
 

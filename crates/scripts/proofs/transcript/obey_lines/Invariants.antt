@@ -1,5 +1,5 @@
 use Rattle.std.proofs.Common.{◌+◌, ◌≤◌, length}
-use Rattle.resolvo_store.specs.Store.{Store, Kept, store_of, provided}
+use Rattle.resolvo_store.specs.Store.{Store, Kept, store_of, gathered}
 use Rattle.script_text.specs.Lines.{lines as lines_of}
 use Rattle.scripts.specs.Transcript.{HasCommand}
 use Rattle.scripts.proofs.TranscriptLemmas.{SoFar}
@@ -7,7 +7,7 @@ use Rattle.scripts.proofs.transcript.obey_lines.Given as goal
 
 -- the abstract store
 abbrev pub store : (g : goal.Over) → Kept g.row.D.Denot g.row.D-NameId.Denot g.row.D-SolvableId.Denot → Store g.row.D-NameId.Denot g.row.D-SolvableId.Denot
-store g = store_of (provided g.D.NameId.PartialEq.eq g.D.SolvableId.PartialEq.eq g.D.NameId.Scores.IdMap.is_too_large g.D.SolvableId.Slots.IdMap.is_too_large g.D.Interner.universe g.D.DependencyProvider.answers)
+store g = store_of (gathered g.D.NameId.PartialEq.eq g.D.SolvableId.PartialEq.eq g.D.NameId.Slots.IdMap.is_too_large g.D.SolvableId.Slots.IdMap.is_too_large g.D.SolvableId.Set.IdSet.is_too_large g.D.NameId.SolverId.are_many g.D.Interner.universe g.D.DependencyProvider.answers)
 
 abbrev pub invariant-loop-said : goal.invariant-loop-said
 invariant-loop-said g l = record {

@@ -1,62 +1,109 @@
-use Rattle.std.proofs.Common.{◌≡◌, ◌∷◌, ◌++◌, [], ◌∙◌, sym, ap, subst, length, None, map, take, refl}
-use Rattle.std.specs.Prelude.{flat_map}
+use Rattle.std.proofs.Common.{◌≡◌, ◌∷◌, ◌++◌, [], ◌∙◌, sym, ap, subst, None, map, take, true, false}
 use Rattle.std.specs.Map.{lookup}
-use Rattle.std.proofs.lemmas.List.Folds.{flat_map-map}
 use Rattle.providers.specs.Requirement.{same_requirement}
-use Rattle.resolvo_queue.specs.Rows.{AreFew}
-use Rattle.variables.specs.Variables.{interned_variable, with_variables}
 use Rattle.providers.specs.Provider.{sets_of}
-use Rattle.resolvo_store.specs.Lists.{lists_kept}
-use Rattle.resolvo_store.proofs.InvariantLemmas.{after_variables, after_refused, after_load}
-use Rattle.resolvo_store.proofs.ListLemmas.{insert-kept, items_of, items-cloned, few-more, length-mapped}
+use Rattle.variables.specs.Variables.{interned_variable}
+use Rattle.solver_cache.specs.Cache.{sorted_of_set, sorted_of}
+use Rattle.solver_cache.proofs.CacheLemmas.{handed_on}
+use Rattle.resolvo_store.specs.Command.{Load}
+use Rattle.resolvo_store.specs.Lists.{lists_kept, IsConsistent}
+use Rattle.resolvo_store.specs.Outcome.{origins_loaded, variables_loaded}
+use Rattle.resolvo_store.specs.Step.{lacks_ids, may_be_refused}
+use Rattle.resolvo_store.specs.Store.{Store, Provider, Kept, store_of, gathered}
+use Rattle.resolvo_store.proofs.InvariantLemmas.{after_variables, after_load, store_with}
+use Rattle.resolvo_store.proofs.ListLemmas.{insert-kept, items_of, items-cloned}
+use Rattle.resolvo_store.proofs.LoadingLemmas.{lacks_nothing, load_refused}
+use Rattle.resolvo_store.proofs.store.ClauseStore.keep_candidates.Given.{Over}
 use Rattle.resolvo_store.proofs.store.ClauseStore.keep_candidates.Goals as goal
+
+-- the provider's functions
+abbrev given : (g : Over) → g.row.D.Denot → Provider g.row.D-NameId.Denot g.row.D-SolvableId.Denot
+given g = gathered g.D.NameId.PartialEq.eq g.D.SolvableId.PartialEq.eq g.D.NameId.Slots.IdMap.is_too_large g.D.SolvableId.Slots.IdMap.is_too_large
+    g.D.SolvableId.Set.IdSet.is_too_large g.D.NameId.SolverId.are_many g.D.Interner.universe g.D.DependencyProvider.answers
+
+-- the abstract store
+abbrev store : (g : Over) → Kept g.row.D.Denot g.row.D-NameId.Denot g.row.D-SolvableId.Denot → Store g.row.D-NameId.Denot g.row.D-SolvableId.Denot
+store g = store_of (given g)
 
 -- the first so many candidates have variables
 pub invariant_of-self : goal.invariant_of-self
 invariant_of-self g c =
+    let inside = c.self.inside in
     let got = c.in_err-lists.ensures.err in
-    after_variables c.self.invariant g.met.D.SolvableId.Eq.laws.refl (take got.0 (flat_map (λ l. l.items) c.args.candidates.now)) got.1
+    after_variables (given g) g.D.SolvableId.Set.IdSet.has inside.variables inside.loaded inside.queue inside.trail inside.cache c.load_lists.new.cache c.in_err-lists.ensures.later
+    c.self.invariant g.met.D.SolvableId.Eq.laws.refl (take got.0 (sorted_of (given g inside.cache.provider) c.args.requirement)) c.load_lists.new.variables got.1
 
 -- all of them have
 pub invariant_of-self-in_err-reply : goal.invariant_of-self-in_err-reply
 invariant_of-self-in_err-reply g c =
-    after_variables c.self.invariant g.met.D.SolvableId.Eq.laws.refl (flat_map (λ l. l.items) c.args.candidates.now) c.in_ok-lists.ensures.ok
+    let inside = c.self.inside in
+    after_variables (given g) g.D.SolvableId.Set.IdSet.has inside.variables inside.loaded inside.queue inside.trail inside.cache c.load_lists.new.cache c.in_ok-lists.ensures.later
+    c.self.invariant g.met.D.SolvableId.Eq.laws.refl (sorted_of (given g inside.cache.provider) c.args.requirement) c.load_lists.new.variables c.in_ok-lists.ensures.ok
 
 pub invariant_of-self-in_err-insert : goal.invariant_of-self-in_err-insert
 invariant_of-self-in_err-insert g c =
-    after_refused c.self.invariant g.met.D.SolvableId.Eq.laws.refl (flat_map (λ l. l.items) c.args.candidates.now) c.insert.new.self refl c.in_err-insert.ensures.err.1
-    c.in_ok-lists.ensures.ok
+    let inside = c.self.inside in
+    let new = c.load_lists.new.cache in
+    subst (λ kept. IsConsistent (store_with (given g) inside.queue inside.trail new.provider c.load_lists.new.variables kept) kept new) (sym c.in_err-insert.ensures.err.1)
+    (after_variables (given g) g.D.SolvableId.Set.IdSet.has inside.variables inside.loaded inside.queue inside.trail inside.cache new c.in_ok-lists.ensures.later
+    c.self.invariant g.met.D.SolvableId.Eq.laws.refl (sorted_of (given g inside.cache.provider) c.args.requirement) c.load_lists.new.variables c.in_ok-lists.ensures.ok)
 
--- each candidate has one row
+-- and their lists are kept
 pub invariant_of-self-2 : goal.invariant_of-self-2
 invariant_of-self-2 g c =
+    let inside = c.self.inside in
     let r = c.args.requirement in
-    let loaded = c.self.inside.loaded in
-    let was = sym c.self.view_is in
-    let interned = interned_variable g.D.SolvableId.PartialEq.eq c.intern_lists.new.variables in
-    let candidates = c.args.candidates.now in
-    let rows : length (flat_map (λ l. l) (items_of c.in_ok-lists.lists)) ≡ length (flat_map (λ l. l.items) candidates) =
-    ap (λ ls. length (flat_map (λ l. l) ls)) c.in_ok-lists.ensures.lists
-    ∙ ap length (flat_map-map (λ l. l) (λ l. map interned l.items) candidates)
-    ∙ length-mapped (λ l. l.items) interned candidates in
-    let new : lookup (same_requirement r) (lists_kept loaded) ≡ None = subst (λ kept. lookup (same_requirement r) kept.loaded ≡ None) was c.requires.new in
-    after_load c.self.invariant g.met.D.SolvableId.Eq.laws.refl r (λ l. l.items) candidates new
-    (subst (λ kept. length candidates ≡ length (sets_of (g.D.Interner.universe kept.provider) r)) was c.requires.one_a_set) c.in_ok-lists.ensures.ok
-    (ap lists_kept c.in_ok-insert.ensures.ok ∙ insert-kept loaded r c.in_ok-lists.lists new ∙ ap (λ ls. lists_kept loaded ++ (r, ls) ∷ []) c.in_ok-lists.ensures.lists)
-    (subst AreFew (sym c.in_ok-insert.ensures.ok) (few-more loaded r c.in_ok-lists.lists c.self.invariant.few (rw rows c.requires.few)))
+    let fresh : lookup (same_requirement r) (lists_kept inside.loaded) ≡ None =
+    subst (λ kept. lookup (same_requirement r) kept.loaded ≡ None) (sym c.self.view_is) c.requires.new in
+    after_load (given g) g.D.SolvableId.Set.IdSet.has inside.variables inside.loaded inside.queue inside.trail inside.cache c.load_lists.new.cache c.in_ok-lists.ensures.later
+    c.self.invariant g.met.D.SolvableId.Eq.laws.refl r (sorted_of_set (given g inside.cache.provider)) c.load_lists.new.variables c.in_ok-lists.lists c.insert.new.self
+    fresh c.in_ok-lists.ensures.ok c.in_ok-lists.ensures.lists c.in_ok-lists.ensures.few c.in_ok-lists.ensures.asked c.in_ok-insert.ensures.ok
 
 pub returns-clause-lists : goal.returns-clause-lists
-returns-clause-lists g c = items-cloned c.in_ok-lists.lists.items c.in_ok-reply.reply.items c.in_ok-reply.ensures.cases.0 ∙ c.in_ok-lists.ensures.lists
+returns-clause-lists g c =
+    let inside = c.self.inside in
+    let r = c.args.requirement in
+    let p = given g inside.cache.provider in
+    subst (λ kept. items_of c.in_ok-reply.reply ≡ variables_loaded (store g kept) r) c.self.view_is
+    (items-cloned c.in_ok-lists.lists.items c.in_ok-reply.reply.items c.in_ok-reply.ensures.cases.0 ∙ c.in_ok-lists.ensures.lists
+    ∙ ap (λ os. map (λ v. map (interned_variable g.D.SolvableId.PartialEq.eq os) (sorted_of_set p v)) (sets_of p.universe r)) c.in_ok-lists.ensures.ok)
 
 pub returns-clause-ok : goal.returns-clause-ok
 returns-clause-ok g c =
     let inside = c.self.inside in
     let r = c.args.requirement in
-    let new : lookup (same_requirement r) (lists_kept inside.loaded) ≡ None =
+    let new = c.load_lists.new.cache in
+    let lists = items_of c.in_ok-reply.reply in
+    let fresh : lookup (same_requirement r) (lists_kept inside.loaded) ≡ None =
     subst (λ kept. lookup (same_requirement r) kept.loaded ≡ None) (sym c.self.view_is) c.requires.new in
-    let loaded : lists_kept c.insert.new.self ≡ lists_kept inside.loaded ++ (r, items_of c.in_ok-reply.reply) ∷ [] =
-    ap lists_kept c.in_ok-insert.ensures.ok ∙ insert-kept inside.loaded r c.in_ok-lists.lists new
+    let loaded : lists_kept c.insert.new.self ≡ lists_kept inside.loaded ++ (r, lists) ∷ [] =
+    ap lists_kept c.in_ok-insert.ensures.ok ∙ insert-kept inside.loaded r c.in_ok-lists.lists fresh
     ∙ ap (λ ls. lists_kept inside.loaded ++ (r, ls) ∷ []) (sym (items-cloned c.in_ok-lists.lists.items c.in_ok-reply.reply.items c.in_ok-reply.ensures.cases.0)) in
-    rw (← c.self.view_is)
-    (ap (λ vs. record { provider = inside.provider; origins = vs; loaded = lists_kept c.insert.new.self; requires = inside.queue; trail = inside.trail }) c.in_ok-lists.ensures.ok
-    ∙ ap (λ ls. record { provider = inside.provider; origins = with_variables g.D.SolvableId.PartialEq.eq inside.variables (flat_map (λ l. l.items) c.args.candidates.now); loaded = ls; requires = inside.queue; trail = inside.trail }) loaded)
+    let Made : Kept g.row.D.Denot g.row.D-NameId.Denot g.row.D-SolvableId.Denot → Type 0 = λ kept.
+    ◌≡◌ {A = Kept g.row.D.Denot g.row.D-NameId.Denot g.row.D-SolvableId.Denot}
+    (record { provider = new.provider; origins = c.load_lists.new.variables; loaded = lists_kept c.insert.new.self; requires = inside.queue; trail = inside.trail })
+    (record kept { origins = origins_loaded (store g kept) r; loaded = kept.loaded ++ (r, lists) ∷ [] }) in
+    subst Made c.self.view_is
+    (ap (λ q. record { provider = q; origins = c.load_lists.new.variables; loaded = lists_kept c.insert.new.self; requires = inside.queue; trail = inside.trail }) c.in_ok-lists.ensures.later.provider
+    ∙ ap (λ os. record { provider = inside.cache.provider; origins = os; loaded = lists_kept c.insert.new.self; requires = inside.queue; trail = inside.trail }) c.in_ok-lists.ensures.ok
+    ∙ ap (λ ls. record { provider = inside.cache.provider; origins = origins_loaded (store_with (given g) inside.queue inside.trail inside.cache.provider inside.variables inside.loaded) r; loaded = ls; requires = inside.queue; trail = inside.trail }) loaded)
+
+pub returns-clause-fit : goal.returns-clause-fit
+returns-clause-fit g c =
+    let inside = c.self.inside in
+    let r = c.args.requirement in
+    subst (λ kept. lacks_ids (store g kept) (Load r) ≡ false) c.self.view_is
+    (lacks_nothing (store_with (given g) inside.queue inside.trail inside.cache.provider inside.variables inside.loaded) r c.in_ok-lists.ensures.names_fit
+    c.in_ok-lists.ensures.few c.in_ok-lists.ensures.fit)
+
+pub returns-in_err-lists-clause-refused : goal.returns-in_err-lists-clause-refused
+returns-in_err-lists-clause-refused g c =
+    let inside = c.self.inside in
+    let r = c.args.requirement in
+    let e = c.in_err-lists.field-0.0 in
+    let fresh : lookup (same_requirement r) (lists_kept inside.loaded) ≡ None =
+    subst (λ kept. lookup (same_requirement r) kept.loaded ≡ None) (sym c.self.view_is) c.requires.new in
+    handed_on _ c.from_residual.result e c.from_residual.ensures.1
+    (subst (λ kept. may_be_refused (store g kept) (Load r) e ≡ true) c.self.view_is
+    (load_refused (store_with (given g) inside.queue inside.trail inside.cache.provider inside.variables inside.loaded) r inside.cache c.load_lists.new.cache
+    g.met.D.NameId.SameValue.same c.self.invariant.asked fresh e c.in_err-lists.ensures.refused))

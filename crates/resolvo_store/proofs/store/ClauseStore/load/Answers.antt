@@ -1,7 +1,7 @@
 use Rattle.std.proofs.Common.{◌≡◌, ◌∙◌, sym, ap, subst, Some, ℕ, List}
 use Rattle.std.specs.Prelude.{option_map}
 use Rattle.resolvo_store.specs.Command.{Load, LoadedAs}
-use Rattle.resolvo_store.specs.Store.{Kept, store_of, provided, lists_of}
+use Rattle.resolvo_store.specs.Store.{Kept, store_of, gathered, lists_of}
 use Rattle.resolvo_store.specs.Step.{IsAnswered}
 use Rattle.resolvo_store.proofs.ListLemmas.{items-cloned, items_of}
 use Rattle.resolvo_store.proofs.LoadingLemmas.{step-known, loaded-again}
@@ -10,7 +10,7 @@ use Rattle.resolvo_store.proofs.store.ClauseStore.load.Goals.{in-Some+in_ok-list
 
 pub returns-clause-step : goal.returns-clause-step
 returns-clause-step g c =
-    let store = store_of (provided g.D.NameId.PartialEq.eq g.D.SolvableId.PartialEq.eq g.D.NameId.Scores.IdMap.is_too_large g.D.SolvableId.Slots.IdMap.is_too_large g.D.Interner.universe g.D.DependencyProvider.answers) in
+    let store = store_of (gathered g.D.NameId.PartialEq.eq g.D.SolvableId.PartialEq.eq g.D.NameId.Slots.IdMap.is_too_large g.D.SolvableId.Slots.IdMap.is_too_large g.D.SolvableId.Set.IdSet.is_too_large g.D.NameId.SolverId.are_many g.D.Interner.universe g.D.DependencyProvider.answers) in
     let old = store c.args.self.now in
     let r = c.args.requirement in
     let Answered : List (List ℕ) → Kept g.row.D.Denot g.row.D-NameId.Denot g.row.D-SolvableId.Denot → Type 0 =

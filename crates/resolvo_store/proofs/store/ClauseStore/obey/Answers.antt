@@ -1,13 +1,13 @@
-use Rattle.resolvo_store.specs.Command.{reply_of, answer_of, Variable, Load, Requires, Assign, UndoUntil, Decide}
+use Rattle.resolvo_store.specs.Command.{reply_of, answer_of, Variable, Load, Requires, Assign, UndoUntil}
 use Rattle.resolvo_store.proofs.SoundLaws.{IsSound-step}
-use Rattle.resolvo_store.specs.Store.{Store, Kept, store_of, provided}
+use Rattle.resolvo_store.specs.Store.{Store, Kept, store_of, gathered}
 use Rattle.resolvo_store.proofs.RunLemmas.{refused_same}
 use Rattle.resolvo_store.proofs.store.ClauseStore.obey.Given.{Over}
 use Rattle.resolvo_store.proofs.store.ClauseStore.obey.Goals as goal
 
 -- the abstract store
 abbrev store : (g : Over) → Kept g.row.D.Denot g.row.D-NameId.Denot g.row.D-SolvableId.Denot → Store g.row.D-NameId.Denot g.row.D-SolvableId.Denot
-store g = store_of (provided g.D.NameId.PartialEq.eq g.D.SolvableId.PartialEq.eq g.D.NameId.Scores.IdMap.is_too_large g.D.SolvableId.Slots.IdMap.is_too_large g.D.Interner.universe g.D.DependencyProvider.answers)
+store g = store_of (gathered g.D.NameId.PartialEq.eq g.D.SolvableId.PartialEq.eq g.D.NameId.Slots.IdMap.is_too_large g.D.SolvableId.Slots.IdMap.is_too_large g.D.SolvableId.Set.IdSet.is_too_large g.D.NameId.SolverId.are_many g.D.Interner.universe g.D.DependencyProvider.answers)
 
 pub returns-in-Variable-clause-sound : goal.returns-in-Variable-clause-sound
 returns-in-Variable-clause-sound g c = IsSound-step (Variable c.in-Variable.solvable) (answer_of c.variable.result) g.met.D.SolvableId.Eq.laws.refl c.self.invariant.sound (rw (← c.self.view_is) at c.variable.ensures.step)
