@@ -8,8 +8,12 @@ pub enum Stops {
     Never,
     /// At the first question alone, with 7.
     AtFirst,
+    /// At the second question alone, with 7.
+    AtSecond,
     /// At each question but the first, with 7.
     AfterFirst,
+    /// At the first question, and from there on at every other one, with its number.
+    EveryOther,
     /// At each question, with its number.
     Always,
 }
@@ -20,7 +24,9 @@ impl Stops {
         match self {
             Stops::Never => None,
             Stops::AtFirst => (number == 0).then_some(7),
+            Stops::AtSecond => (number == 1).then_some(7),
             Stops::AfterFirst => (number > 0).then_some(7),
+            Stops::EveryOther => (number % 2 == 0).then_some(number),
             Stops::Always => Some(number),
         }
     }
