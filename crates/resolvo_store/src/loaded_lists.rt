@@ -67,7 +67,7 @@ fn intern_lists<D: DependencyProvider + Drop>(
         lacks_variables D.SolvableId.eq D.SolvableId.Slots.is_too_large variables.old (flat_map (listed cache.now) ids.items))) }
 {
     let alloc = *ids.allocator();
-    let mut made = Vec::new(alloc);
+    let mut made = Vec::with_capacity(alloc, ids.len())?;
     let mut rows = 0;
     for id in &ids {
         let candidates = cache.list(*id);

@@ -187,8 +187,10 @@ fn numbers(alloc: Global, span: Span) -> Result<Vec<SolvableId>, StoreError>
     ensures ok { IfOk result (λ found. found.items ≡ numbers span.first (span.last + 1 - span.first)) }
     ensures err { IfErr result (λ e. e ≡ OutOfMemory) }
 {
-    let mut found = Vec::new(alloc);
-    for i in span.first.to_index()..span.last.to_index() + 1 {
+    let first = span.first.to_index();
+    let end = span.last.to_index() + 1;
+    let mut found = Vec::with_capacity(alloc, end.saturating_sub(first))?;
+    for i in first..end {
         found.push(SolvableId::from_index(i))?;
     }
     Ok(found)
@@ -201,7 +203,7 @@ fn solvable_at(solvables: &[SolvableId], place: Option<usize>) -> Option<Solvabl
     solvables.get(place?).copied()
 }
 
-/// The solvables whose versions are in the range, or, if `inverse`, the others.
+/// The solvables whose versions are in the range, or, if `inverse`, the others. They get the room that they need.
 fn within(
     alloc: Global,
     pool: &Pool<VersionRange>,
@@ -212,12 +214,23 @@ fn within(
     ensures ok { IfOk result (λ found. found.items ≡ filtered (λ s. is_within range (version_at pool.now.solvables s)) inverse candidates.now) }
     ensures err { IfErr result (λ e. e ≡ OutOfMemory) }
 {
-    let mut found = Vec::new(alloc);
+    let count = candidates
+        .iter()
+        .filter(|solvable| holds(pool, range, **solvable) != inverse)
+        .count();
+    let mut found = Vec::with_capacity(alloc, count)?;
     for solvable in candidates {
-        let version = version_at(pool, *solvable);
-        if (range.low <= version && version < range.high) != inverse {
+        if holds(pool, range, *solvable) != inverse {
             found.push(*solvable)?;
         }
     }
     Ok(found)
+}
+
+/// Whether a solvable's version is in the range.
+fn holds(pool: &Pool<VersionRange>, range: VersionRange, solvable: SolvableId) -> bool
+    ensures { result ≡ is_within range (version_at pool.now.solvables solvable) }
+{
+    let version = version_at(pool, solvable);
+    range.low <= version && version < range.high
 }

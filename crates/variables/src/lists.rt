@@ -26,7 +26,7 @@ pub fn intern_list<N: Copy, S: SolverId<A>, A: Allocator + Copy>(
     ensures front { take (length variables.old) variables.new ≡ variables.old }
     ensures longer { length variables.old ≤ length variables.new }
 {
-    let mut list = Vec::new(alloc);
+    let mut list = Vec::with_capacity(alloc, solvables.len())?;
     for solvable in solvables {
         let variable = variables.intern_solvable(*solvable)?;
         list.push(variable)?;

@@ -10,6 +10,7 @@ use Rattle.typed_ids.specs.Refusals.{IsGrowthRefusal}
 use Rattle.variables.specs.Variables.{interned_variable, with_variable, with_variables, lacks_variables, IsPartlyInterned}
 use Rattle.variables.proofs.InterningLemmas.{lists_in_turn, lists-more, lists-in-turn, lacks_for_list, split-at, partly_more, wholly, front_of_part, refusal_wider, handed_on, list_any-fails, none_large}
 use Rattle.solver_cache.specs.Cache.{listed}
+use Rattle.solver_cache.proofs.CacheLemmas.{on_err}
 use Rattle.resolvo_store.proofs.loaded_lists.intern_lists.Given.{Over}
 use Rattle.resolvo_store.proofs.loaded_lists.intern_lists.Goals as goal
 
@@ -57,9 +58,14 @@ loop-id-preserved g c =
       interned = after ∙ sym (fold-append (with_variable same) first ts (list id)) ∙ ap (with_variables same first) (sym joined);
     }
 
+-- ---- where the room for the lists is refused
+
+pub returns-in_err-made-clause-err : goal.returns-in_err-made-clause-err
+returns-in_err-made-clause-err g c = on_err _ c.from_residual.result (0, refl)
+
 -- ---- where rows are refused
 
-part-rows : (g : Over) (c : goal.After-drop-ids g) → IsPartlyInterned g.D.SolvableId.PartialEq.eq c.args.variables.now (flat_map (listed c.args.cache.now) c.args.ids.items) c.loop-id.variables
+part-rows : (g : Over) (c : goal.After-drop-ids-in_err-rows g) → IsPartlyInterned g.D.SolvableId.PartialEq.eq c.args.variables.now (flat_map (listed c.args.cache.now) c.args.ids.items) c.loop-id.variables
 part-rows g c =
     let i = c.loop-id.id-index in
     let id = c.id-item.result in
@@ -68,7 +74,7 @@ part-rows g c =
     c.list-candidates.ensures c.loop-id.invariant.interned (0, refl)
 
 pub returns-in_err-rows-clause-err : goal.returns-in_err-rows-clause-err
-returns-in_err-rows-clause-err g c = handed_on _ c.from_residual.result c.in_err-rows.field-0.0 c.from_residual.ensures.1 (part-rows g c)
+returns-in_err-rows-clause-err g c = handed_on _ c.from_residual-in_err-rows.result c.in_err-rows.field-0.0 c.from_residual-in_err-rows.ensures.1 (part-rows g c)
 
 pub returns-in_err-rows-clause-front : goal.returns-in_err-rows-clause-front
 returns-in_err-rows-clause-front g c =
@@ -90,7 +96,7 @@ returns-in_err-rows-clause-refused g c =
     let long : length all ≡ length ts + (length own + length behind) =
     ap length split ∙ length-append ts (own ++ behind) ∙ ap (λ n. length ts + n) (length-append own behind) in
     let out : leb (2 ^ 40) (length all) ≡ true = grind (arith, nat_tests, long, c.in_err-rows.ensures.err.1, c.loop-id.invariant.counted) in
-    handed_on _ c.from_residual.result c.in_err-rows.field-0.0 c.from_residual.ensures.1
+    handed_on _ c.from_residual-in_err-rows.result c.in_err-rows.field-0.0 c.from_residual-in_err-rows.ensures.1
     (subst (IsGrowthRefusal (leb (2 ^ 40) (length all) || lacks)) (sym c.in_err-rows.ensures.err.0) (ap (λ b. b || lacks) out))
 
 -- ---- where a variable is refused

@@ -8,7 +8,7 @@ loop-i-preserved c =
     let found = c.loop-i.found.items in
     let i = c.loop-i.i in
     let end = c.args.span.last + 1 in
-    let within : i < end = subst (λ n. i < n + 1) c.to_index-i-end.ensures.value c.loop-i-test.true in
+    let within : i < end = subst (λ n. i < n + 1) c.to_index-end.ensures.value c.loop-i-test.true in
     let one_more : c.push.new.self.items ≡ found ++ i ∷ [] = c.in_ok-push.ensures.items ∙ ap (λ n. found ++ n ∷ []) c.from_index.ensures in
     ap (λ l. l ++ numbers (i + 1) (end - (i + 1))) one_more
     ∙ append_assoc found (i ∷ []) (numbers (i + 1) (end - (i + 1)))

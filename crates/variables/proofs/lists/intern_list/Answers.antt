@@ -42,7 +42,7 @@ part-variable g c = (c.loop-solvable.solvable-index, c.in_err-variable.ensures.e
 
 pub returns-in_err-variable-clause-err : goal.returns-in_err-variable-clause-err
 returns-in_err-variable-clause-err g c =
-    handed_on _ c.from_residual.result c.in_err-variable.field-0.0 c.from_residual.ensures.1 (part-variable g c)
+    handed_on _ c.from_residual-in_err-variable.result c.in_err-variable.field-0.0 c.from_residual-in_err-variable.ensures.1 (part-variable g c)
 
 pub returns-in_err-variable-clause-front : goal.returns-in_err-variable-clause-front
 returns-in_err-variable-clause-front g c = front_of_part g.S.PartialEq.eq c.args.variables.now c.args.solvables.now c.intern_solvable.new.self (part-variable g c)
@@ -63,7 +63,7 @@ returns-in_err-variable-clause-refused g c =
     let split : ss ≡ done ++ x ∷ rest =
     sym (take-append-drop i ss) ∙ ap (λ l. done ++ l) (drop_more ss i x c.loop-solvable-test.true ∙ ap (λ y. y ∷ rest) (sym c.solvable-item.is)) in
     let e = c.in_err-variable.field-0.0 in
-    handed_on _ c.from_residual.result e c.from_residual.ensures.1
+    handed_on _ c.from_residual-in_err-variable.result e c.from_residual-in_err-variable.ensures.1
     (refusal_wider _ _ e
     (λ out. subst (λ l. lacks_variables same large first l ≡ true) (sym split)
     (lacks_for_one same large first done x rest (subst (λ os. lacks_variable same large os x ≡ true) c.loop-solvable.invariant.done out)))
