@@ -13,7 +13,8 @@ use std::cell::Cell;
 use typed_ids::{ConditionId, StoreError, StringId, VersionSetId, VersionSetUnionId};
 
 /// Another provider, whose answers it gives. It counts the questions, hints what it is told to, locks and excludes the
-/// one that it is told to, and stops when it is told to. For a package without candidates and without a favored one it answers that there isn't such a package.
+/// one that it is told to, and stops when it is told to. For a package without candidates and without a favored one it
+/// answers that there isn't such a package.
 #[derive(Drop)]
 pub struct Asking<D: DependencyProvider> {
     inner: D,

@@ -1,6 +1,6 @@
 //! What the tests ask of a cache. What they share is generic in it, since a proof over a type parameter is much shorter
 //! than one over the cache's own type.
-use asking_providers::{Asking, Counting, Counts};
+use asking_providers::{Counting, Counts};
 use providers::{Candidates, Dependencies, DependencyProvider, Interner, Requirement};
 use solver_cache::{CacheError, SolverCache};
 use std::alloc::Allocator;
@@ -63,7 +63,8 @@ pub(crate) trait Asks<N, S> {
     fn counts(&self) -> Counts;
 }
 
-impl<D: DependencyProvider + Drop> Asks<D::NameId, D::SolvableId> for SolverCache<Asking<D>> {
+impl<D: DependencyProvider<Cancel = u32> + Counting + Drop> Asks<D::NameId, D::SolvableId>
+    for SolverCache<D> {
     fn ask(&mut self, ids: &Ids<D::NameId, D::SolvableId>, question: Question) -> Seen {
         match question {
             Question::Candidates(place) | Question::Extras(place) => match ids.names.get(place) {
@@ -125,8 +126,8 @@ fn unanswered(error: CacheError<u32>) -> Seen {
     }
 }
 
-fn candidates<D: DependencyProvider + Drop>(
-    cache: &mut SolverCache<Asking<D>>,
+fn candidates<D: DependencyProvider<Cancel = u32> + Drop>(
+    cache: &mut SolverCache<D>,
     ids: &[D::SolvableId],
     name: D::NameId,
     question: Question,
@@ -143,8 +144,8 @@ fn candidates<D: DependencyProvider + Drop>(
     }
 }
 
-fn matching<D: DependencyProvider + Drop>(
-    cache: &mut SolverCache<Asking<D>>,
+fn matching<D: DependencyProvider<Cancel = u32> + Drop>(
+    cache: &mut SolverCache<D>,
     ids: &[D::SolvableId],
     set: VersionSetId,
 ) -> Seen {
@@ -157,8 +158,8 @@ fn matching<D: DependencyProvider + Drop>(
     }
 }
 
-fn non_matching<D: DependencyProvider + Drop>(
-    cache: &mut SolverCache<Asking<D>>,
+fn non_matching<D: DependencyProvider<Cancel = u32> + Drop>(
+    cache: &mut SolverCache<D>,
     ids: &[D::SolvableId],
     set: VersionSetId,
 ) -> Seen {
@@ -171,8 +172,8 @@ fn non_matching<D: DependencyProvider + Drop>(
     }
 }
 
-fn sorted<D: DependencyProvider + Drop>(
-    cache: &mut SolverCache<Asking<D>>,
+fn sorted<D: DependencyProvider<Cancel = u32> + Drop>(
+    cache: &mut SolverCache<D>,
     ids: &[D::SolvableId],
     set: VersionSetId,
 ) -> Seen {
@@ -185,8 +186,8 @@ fn sorted<D: DependencyProvider + Drop>(
     }
 }
 
-fn single<D: DependencyProvider + Drop>(
-    cache: &mut SolverCache<Asking<D>>,
+fn single<D: DependencyProvider<Cancel = u32> + Drop>(
+    cache: &mut SolverCache<D>,
     ids: &[D::SolvableId],
     set: VersionSetId,
 ) -> Seen {
@@ -199,8 +200,8 @@ fn single<D: DependencyProvider + Drop>(
     }
 }
 
-fn union_of<D: DependencyProvider + Drop>(
-    cache: &mut SolverCache<Asking<D>>,
+fn union_of<D: DependencyProvider<Cancel = u32> + Drop>(
+    cache: &mut SolverCache<D>,
     ids: &[D::SolvableId],
     union: VersionSetUnionId,
 ) -> Seen {
@@ -213,8 +214,8 @@ fn union_of<D: DependencyProvider + Drop>(
     }
 }
 
-fn needs<D: DependencyProvider + Drop>(
-    cache: &mut SolverCache<Asking<D>>,
+fn needs<D: DependencyProvider<Cancel = u32> + Drop>(
+    cache: &mut SolverCache<D>,
     solvable: D::SolvableId,
 ) -> Seen {
     if !cache.provider().knows_solvable(solvable) {

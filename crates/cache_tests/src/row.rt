@@ -25,7 +25,7 @@ pub(crate) const SORTED: Step = (
     Seen::Solvables(2, [Some(1), Some(0), None, None]),
 );
 /// The same, where solvable 0 is favored.
-const FAVORED: Step = (
+pub(crate) const FAVORED: Step = (
     Question::Sorted(0),
     Seen::Solvables(2, [Some(0), Some(1), None, None]),
 );

@@ -1,6 +1,6 @@
 //! What the tests ask of a store. What they share is generic in it, since a proof over a type parameter is much shorter
 //! than one over the store's own type.
-use asking_providers::{Asking, Counting, Counts};
+use asking_providers::{Counting, Counts};
 use providers::{DependencyProvider, Interner};
 use resolvo_store::{ClauseStore, Command, Reply};
 use std::alloc::Allocator;
@@ -42,7 +42,7 @@ pub(crate) trait Obeys<S> {
     fn counts(&self) -> Counts;
 }
 
-impl<D: DependencyProvider + Drop> Obeys<D::SolvableId> for ClauseStore<Asking<D>> {
+impl<D: DependencyProvider + Counting + Drop> Obeys<D::SolvableId> for ClauseStore<D> {
     fn obey(&mut self, command: &Command<D::SolvableId>) -> Seen {
         let reply = self.step(command);
         let seen = seen_of(&reply);

@@ -1,7 +1,7 @@
 //! New stores that are given commands in turn, or in one run. What is seen is compared once, behind all that is owned.
 use crate::examples::{Step, dense_provider};
 use crate::obeys::{Obeys, Seen, Unwanted};
-use asking_providers::{Asking, Counts, Stops};
+use asking_providers::{Counting, Counts, Stops};
 use providers::{DependencyProvider, Interner};
 use resolvo_store::{ClauseStore, Command};
 use std::alloc::Allocator;
@@ -52,9 +52,9 @@ pub(crate) fn first_unwanted<S, T: Obeys<S>>(store: &mut T, steps: &[Step<S>]) -
 }
 
 /// What is seen of a new store over the provider.
-fn play_new<D: DependencyProvider + Drop, P: Play<D::SolvableId>>(
+fn play_new<D: DependencyProvider + Counting + Drop, P: Play<D::SolvableId>>(
     alloc: D::Alloc,
-    provider: Asking<D>,
+    provider: D,
     play: &P,
 ) -> Result<P::Told, StoreError> {
     let mut store = ClauseStore::new(alloc, provider)?;
