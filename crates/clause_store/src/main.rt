@@ -4,11 +4,6 @@
 //! where a read or a write failed, and 3 where memory ran out.
 #![tactic(auto)]
 
-#[cfg(test)]
-mod device_tests;
-#[cfg(test)]
-mod tests;
-
 ghost use Rattle.std.specs.Prelude.{◌≡◌};
 ghost use Rattle.std.specs.Process.{exit_status};
 ghost use Rattle.script_text.specs.Status.{status_of};

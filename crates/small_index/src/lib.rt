@@ -9,14 +9,12 @@
 //! A range is from its first number to below its last one. Empty lines are skipped.
 //!
 //! [`read`] makes a [`SmallIndex`] of the text. `index` is the part to read: it has the two traits of a provider, and is
-//! proved to answer what `specs/Index` says of its value. What `read` makes of a text is tested.
+//! proved to answer what `specs/Index` says of its value. What `read` makes of a text is tested, in `index_tests`.
 #![tactic(auto)]
 
 mod index;
 mod range;
 mod reading;
-#[cfg(test)]
-mod tests;
 
 pub use index::SmallIndex;
 pub use range::VersionRange;

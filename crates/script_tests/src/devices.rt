@@ -1,11 +1,12 @@
 //! Readers and writers that fail, and what they got.
-use crate::tests::{REFUSALS, REFUSALS_ANSWER};
+use crate::answers::{REFUSALS, REFUSALS_ANSWER};
 use script_text::read_within;
 use scripts::{ScriptFault, script, status};
 use std::alloc::Global;
 use std::io;
 use std::io::{Error, ErrorKind, Read, Write};
 use std::test::Fail;
+use test_checks::is_same;
 
 /// Gives its text byte by byte, with an interruption before each, and then fails.
 #[derive(Drop)]
@@ -50,9 +51,8 @@ fn answered_by(alloc: Global, kind: ErrorKind) -> (usize, u8) {
 /// one for which memory was refused.
 #[test]
 fn a_reader_fails(rt: HostRuntime) -> Result<(), Fail> {
-    assert_eq!(&rt; answered_by(rt.alloc(), ErrorKind::BrokenPipe), (0, 2));
-    assert_eq!(&rt; answered_by(rt.alloc(), ErrorKind::OutOfMemory), (0, 3));
-    Ok(())
+    is_same(answered_by(rt.alloc(), ErrorKind::BrokenPipe), (0, 2))?;
+    is_same(answered_by(rt.alloc(), ErrorKind::OutOfMemory), (0, 3))
 }
 
 /// Gives its text byte by byte.
@@ -85,8 +85,7 @@ fn read_in(alloc: Global, reads: u64) -> Result<usize, ScriptFault> {
 #[test]
 fn reads_are_counted(rt: HostRuntime) -> Result<(), Fail> {
     let answers = (read_in(rt.alloc(), 5), read_in(rt.alloc(), 6));
-    assert_eq!(&rt; answers, (Err(ScriptFault::Device), Ok(5)));
-    Ok(())
+    is_same(answers, (Err(ScriptFault::Device), Ok(5)))
 }
 
 /// Takes bytes, three at a time. Where it has no room left a write fails, and a flush too.
@@ -120,13 +119,12 @@ impl Write for Full {
     }
 }
 
-/// A script and its answer, over a writer with so much room: the exit status, how many bytes it took, whether the answer
-/// begins with them; how often it was flushed, and how many bytes it had by then.
-fn written(
-    alloc: Global,
-    (text, answer): (&[u8], &[u8]),
-    room: usize,
-) -> ((u8, usize, bool), (usize, usize)) {
+/// What is seen of a writer: the exit status, how many bytes it took, whether the answer begins with them; how often it
+/// was flushed, and how many bytes it had by then.
+type Written = ((u8, usize, bool), (usize, usize));
+
+/// What is seen of a writer with so much room, to which a script is answered.
+fn written(alloc: Global, (text, answer): (&[u8], &[u8]), room: usize) -> Written {
     let mut reader = text;
     let mut writer = Full {
         taken: Vec::new(alloc),
@@ -140,26 +138,31 @@ fn written(
     (taken, (writer.flushes, writer.flushed))
 }
 
+/// Over a writer with each of these rooms the script is answered so.
+fn are_written(
+    alloc: Global,
+    answered: (&[u8], &[u8]),
+    wanted: &[(usize, Written)],
+) -> Result<(), Fail> {
+    for (room, seen) in wanted {
+        is_same(written(alloc, answered, *room), *seen)?;
+    }
+    Ok(())
+}
+
 /// What a writer took before it failed is a beginning of the answer. A whole answer is flushed once, at its end.
 #[test]
 fn a_writer_fails(rt: HostRuntime) -> Result<(), Fail> {
-    let refusals = (REFUSALS, REFUSALS_ANSWER);
-    for room in [0, 1, 10, 99] {
-        assert_eq!(&rt;
-            written(rt.alloc(), refusals, room),
-            ((2, room, true), (0, 0))
-        );
-    }
     let length = REFUSALS_ANSWER.len();
-    assert_eq!(&rt;
-        written(rt.alloc(), refusals, length),
-        ((2, length, true), (1, length))
-    );
-    assert_eq!(&rt;
-        written(rt.alloc(), refusals, 1000),
-        ((0, length, true), (1, length))
-    );
-    Ok(())
+    let wanted = [
+        (0, ((2, 0, true), (0, 0))),
+        (1, ((2, 1, true), (0, 0))),
+        (10, ((2, 10, true), (0, 0))),
+        (99, ((2, 99, true), (0, 0))),
+        (length, ((2, length, true), (1, length))),
+        (1000, ((0, length, true), (1, length))),
+    ];
+    are_written(rt.alloc(), (REFUSALS, REFUSALS_ANSWER), &wanted)
 }
 
 /// A script with an unreadable line, and its answer of thirty bytes.
@@ -170,22 +173,11 @@ const UNREADABLE_ANSWER: &[u8] = b"no decision\nline 3 unreadable\n";
 /// The line that names an unreadable one is written and flushed as others are.
 #[test]
 fn an_unreadable_line_is_written(rt: HostRuntime) -> Result<(), Fail> {
-    let unreadable = (UNREADABLE, UNREADABLE_ANSWER);
-    assert_eq!(&rt;
-        written(rt.alloc(), unreadable, 12),
-        ((2, 12, true), (0, 0))
-    );
-    assert_eq!(&rt;
-        written(rt.alloc(), unreadable, 29),
-        ((2, 29, true), (0, 0))
-    );
-    assert_eq!(&rt;
-        written(rt.alloc(), unreadable, 30),
-        ((2, 30, true), (1, 30))
-    );
-    assert_eq!(&rt;
-        written(rt.alloc(), unreadable, 31),
-        ((1, 30, true), (1, 30))
-    );
-    Ok(())
+    let wanted = [
+        (12, ((2, 12, true), (0, 0))),
+        (29, ((2, 29, true), (0, 0))),
+        (30, ((2, 30, true), (1, 30))),
+        (31, ((1, 30, true), (1, 30))),
+    ];
+    are_written(rt.alloc(), (UNREADABLE, UNREADABLE_ANSWER), &wanted)
 }

@@ -3,8 +3,8 @@ use providers::{Interner, Requirement};
 use script_packages::{Packages, read_catalogue};
 use scripts::{ScriptFault, script, status};
 use std::alloc::Global;
-use std::process::Abort;
 use std::test::Fail;
+use test_checks::is_same;
 use typed_ids::{ConditionId, SolvableId, StoreError, StringId, VersionSetId, VersionSetUnionId};
 
 /// A script, what it is answered, and the exit status.
@@ -31,13 +31,21 @@ fn answered(alloc: Global, text: &[u8]) -> (Vec<u8>, Result<(), ScriptFault>) {
     (answer, ended)
 }
 
-/// Each script is answered so.
-fn are_answered(rt: &(impl Abort + AllocGlobal), rows: &[Row]) {
-    for row in rows {
-        let (answer, ended) = answered(rt.alloc(), row.script);
-        assert!(rt; answer.as_slice() == row.answer);
-        assert_eq!(rt; status(&ended), row.status);
+/// Whether the script is answered so, and its exit status.
+fn is_answered(alloc: Global, row: &Row) -> (bool, u8) {
+    let (answer, ended) = answered(alloc, row.script);
+    let is_wanted = answer.as_slice() == row.answer;
+    drop(answer);
+    (is_wanted, status(&ended))
+}
+
+/// Each script is answered so. A failure names the place of the script.
+fn are_answered(rt: &impl AllocGlobal, rows: &[Row]) -> Result<(), Fail> {
+    for (i, row) in rows.iter().enumerate() {
+        let (is_wanted, status) = is_answered(rt.alloc(), row);
+        is_same((i, is_wanted, status), (i, true, row.status))?;
     }
+    Ok(())
 }
 
 /// Refusals, a clause that is falsified, and what takes that back.
@@ -86,8 +94,7 @@ fn scripts_are_answered(rt: HostRuntime) -> Result<(), Fail> {
             1,
         ),
     ];
-    are_answered(&rt, &rows);
-    Ok(())
+    are_answered(&rt, &rows)
 }
 
 /// Numbers and ids at the ends of their ranges.
@@ -127,8 +134,7 @@ fn numbers_have_ranges(rt: HostRuntime) -> Result<(), Fail> {
         given(b"begin\nload 0\n", b"line 2 unreadable\n", 1),
         given(b"begin\nundo-until 4294967295\n", b"undone\n", 0),
     ];
-    are_answered(&rt, &rows);
-    Ok(())
+    are_answered(&rt, &rows)
 }
 
 /// The order of preference, names and version sets that are said twice, a name without a package, and a conflict.
@@ -146,8 +152,7 @@ fn catalogues_are_listed(rt: HostRuntime) -> Result<(), Fail> {
             0,
         ),
     ];
-    are_answered(&rt, &rows);
-    Ok(())
+    are_answered(&rt, &rows)
 }
 
 /// The favored version comes first, where the version set holds it.
@@ -170,8 +175,7 @@ fn favored_versions_come_first(rt: HostRuntime) -> Result<(), Fail> {
             0,
         ),
     ];
-    are_answered(&rt, &rows);
-    Ok(())
+    are_answered(&rt, &rows)
 }
 
 /// A union has a list for each of its version sets, and counts what is open in all lists of a set.
@@ -196,8 +200,7 @@ fn unions_are_loaded(rt: HostRuntime) -> Result<(), Fail> {
             0,
         ),
     ];
-    are_answered(&rt, &rows);
-    Ok(())
+    are_answered(&rt, &rows)
 }
 
 /// Appends the texts of the first version set and of the first union, where both are known; answers whether they are.
@@ -226,30 +229,25 @@ fn merged(packages: &Packages, out: &mut String) -> Result<bool, StoreError> {
     Ok(true)
 }
 
-fn have_requirement_texts(
-    rt: &(impl Abort + AllocGlobal),
-    packages: &Packages,
-) -> Result<(), Fail> {
+fn have_requirement_texts(rt: &impl AllocGlobal, packages: &Packages) -> Result<(), Fail> {
     let mut set = String::new(rt.alloc());
     let mut union = String::new(rt.alloc());
     let are_known = texts(packages, &mut set, &mut union);
     let are_right = set.as_str() == "a >=1, <3" && union.as_str() == "a >=1, <3 | a >=1, <3";
     drop(set);
     drop(union);
-    assert_eq!(rt; (are_known?, are_right), (true, true));
-    Ok(())
+    is_same((are_known?, are_right), (true, true))
 }
 
-fn have_merged_text(rt: &(impl Abort + AllocGlobal), packages: &Packages) -> Result<(), Fail> {
+fn have_merged_text(rt: &impl AllocGlobal, packages: &Packages) -> Result<(), Fail> {
     let mut text = String::new(rt.alloc());
     let are_known = merged(packages, &mut text);
     let is_right = text.as_str() == "a a 1 | a 2";
     drop(text);
-    assert_eq!(rt; (are_known?, is_right), (true, true));
-    Ok(())
+    is_same((are_known?, is_right), (true, true))
 }
 
-fn have_texts(rt: &(impl Abort + AllocGlobal), packages: &Packages) -> Result<(), Fail> {
+fn have_texts(rt: &impl AllocGlobal, packages: &Packages) -> Result<(), Fail> {
     have_requirement_texts(rt, packages)?;
     have_merged_text(rt, packages)
 }
@@ -263,7 +261,7 @@ fn requirements_and_solvables_have_texts(rt: HostRuntime) -> Result<(), Fail> {
             drop(catalogue);
             ended
         }
-        _ => panic!(&rt; "the catalogue has a begin"),
+        _ => Err(Fail::new("the catalogue has a begin")),
     }
 }
 
@@ -286,10 +284,9 @@ fn strings_and_conditions_stand_once(rt: HostRuntime) -> Result<(), Fail> {
         Ok(Some(catalogue)) => {
             let known = known(&catalogue.packages);
             drop(catalogue);
-            assert_eq!(rt; known, [true, false, true, false]);
-            Ok(())
+            is_same(known, [true, false, true, false])
         }
-        _ => panic!(&rt; "the catalogue has a begin"),
+        _ => Err(Fail::new("the catalogue has a begin")),
     }
 }
 
@@ -336,8 +333,7 @@ fn catalogues_have_unions_conditions_and_strings(rt: HostRuntime) -> Result<(), 
         given(b"string\n", b"line 1 unreadable\n", 1),
         given(b"string a b\n", b"line 1 unreadable\n", 1),
     ];
-    are_answered(&rt, &rows);
-    Ok(())
+    are_answered(&rt, &rows)
 }
 
 /// A comment of 2^20 bytes is skipped, and as many commands are answered as there are.
@@ -352,6 +348,5 @@ fn long_scripts_are_answered(rt: HostRuntime) -> Result<(), Fail> {
     let count = answer.len();
     drop(answer);
     drop(text);
-    assert_eq!(&rt; (count, ended), (120000, Ok(())));
-    Ok(())
+    is_same((count, ended), (120000, Ok(())))
 }

@@ -1,11 +1,11 @@
 //! Tests of what a text is read as.
 ghost use Rattle.std.specs.Prelude.{◌<◌, ◌^◌};
 
-use crate::{IndexFault, SmallIndex, read};
 use resolvo_ids::{ConditionId, DenseIndex, SolvableId, StoreError, VersionSetId};
 use resolvo_pool::{
     ConditionalRequirement, Dependencies, DependencyProvider, Interner, Requirement,
 };
+use small_index::{IndexFault, SmallIndex, read};
 use std::alloc::Global;
 use std::test::Fail;
 use test_checks::{is_same, sees};
