@@ -7,3 +7,4 @@ pub use Rattle.decisions.specs.Tracker
 pub use Rattle.decisions.specs.Trail
 pub use Rattle.variables.specs.Forgetting
 pub use Rattle.variables.specs.Variables
+pub use Rattle.clauses.specs.Clauses

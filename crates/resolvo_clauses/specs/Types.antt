@@ -6,3 +6,6 @@ pub use Rattle.decisions.specs.declared.decision_tracker.DecisionTracker
 pub use Rattle.decisions.specs.declared.literal.Literal
 pub use Rattle.variables.specs.declared.variable_map.VariableMap
 pub use Rattle.variables.specs.declared.variable_origin.VariableOrigin
+pub use Rattle.clauses.specs.declared.clause.Clause
+pub use Rattle.clauses.specs.declared.disjunction.Disjunction
+pub use Rattle.clauses.specs.declared.watched_literals.WatchedLiterals

@@ -1,13 +1,15 @@
-//! Variables, literals and the trail of decisions: the door to two rooms.
+//! Variables, literals, clauses and the trail of decisions: the door to three rooms.
 //!
 //! | room | what it holds |
 //! |---|---|
 //! | `decisions` | literals, decisions, and the trail of decisions |
 //! | `variables` | what each variable stands for, and the variables of solvables |
+//! | `clauses` | the kinds of clauses, their literals, and the two that a clause watches |
 //!
 //! A clause names a definition of a room as `Rattle.resolvo_clauses.specs.TOPIC`, and a type with its variants as
 //! `Rattle.resolvo_clauses.specs.Types.NAME`.
 #![tactic(auto)]
 
+pub use clauses::{Clause, Disjunction, WatchedLiterals};
 pub use decisions::{AddFault, Decision, DecisionMap, DecisionTracker, Literal};
 pub use variables::{VariableMap, VariableOrigin};

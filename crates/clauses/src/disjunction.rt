@@ -1,0 +1,14 @@
+//! Disjunctions, under which a requirement is asked for.
+use decisions::Literal;
+use std::alloc::Allocator;
+use typed_ids::ConditionId;
+
+/// The literals of which one is true exactly where a part of a condition isn't met, and the condition.
+#[derive(Drop)]
+#[derive_where(Debug, PartialEq, Eq)]
+pub struct Disjunction<A: Allocator> {
+    /// The literals.
+    pub literals: Vec<Literal, A>,
+    /// The condition that they come of.
+    pub condition: ConditionId,
+}
