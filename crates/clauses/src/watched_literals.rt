@@ -37,8 +37,8 @@ impl WatchedLiterals {
         tracker: &DecisionTracker<A>,
     ) -> (Option<Self>, bool, Clause<N>)
         ensures clause { result.2 ≡ Constrains parent forbidden set }
-        ensures watches { (k : Kept) → option_map (λ w. w.watched_literals) result.0 ≡ first_watches k (val tracker.now) result.2 }
-        ensures conflict { (k : Kept) → result.1 ≡ is_conflict k (val tracker.now) result.2 }
+        ensures watches { (k : Kept) → option_map (λ w. w.watched_literals) result.0 ≡ first_watches k (val tracker.now.entries) result.2 }
+        ensures conflict { (k : Kept) → result.1 ≡ is_conflict k (val tracker.now.entries) result.2 }
     {
         let conflict = is_conflict(tracker, parent, forbidden);
         let watches = Self::pair(negative(parent), negative(forbidden));
@@ -57,8 +57,8 @@ impl WatchedLiterals {
         tracker: &DecisionTracker<A>,
     ) -> (Option<Self>, bool, Clause<N>)
         ensures clause { result.2 ≡ ConstrainsParent parent aux set }
-        ensures watches { (k : Kept) → option_map (λ w. w.watched_literals) result.0 ≡ first_watches k (val tracker.now) result.2 }
-        ensures conflict { (k : Kept) → result.1 ≡ is_conflict k (val tracker.now) result.2 }
+        ensures watches { (k : Kept) → option_map (λ w. w.watched_literals) result.0 ≡ first_watches k (val tracker.now.entries) result.2 }
+        ensures conflict { (k : Kept) → result.1 ≡ is_conflict k (val tracker.now.entries) result.2 }
     {
         let conflict = is_conflict(tracker, parent, aux);
         let watches = Self::pair(negative(parent), negative(aux));
@@ -168,7 +168,7 @@ fn is_conflict<A: Allocator + Copy>(
     parent: VariableId,
     forbidden: VariableId,
 ) -> bool
-    ensures { result ≡ (known_true (val tracker.now forbidden) && not (known_false (val tracker.now parent))) }
+    ensures { result ≡ (known_true (val tracker.now.entries forbidden) && not (known_false (val tracker.now.entries parent))) }
 {
     tracker.assigned_value(forbidden) == Some(true) && tracker.assigned_value(parent) != Some(false)
 }

@@ -1,2 +1,3 @@
+pub mod FloorLaws
 pub mod TrackerLemmas
 pub mod TrailLemmas

@@ -1,17 +1,18 @@
 -- What a tracker's fields show after a decision is added or taken back.
-use Rattle.std.specs.Prelude.{◌≡◌, ◌≢◌, ℕ, ◌-◌, ◌==◌, if◌then◌else◌, Bool, true, false, refl}
+use Rattle.std.specs.Prelude.{◌≡◌, ◌≢◌, ℕ, ◌-◌, ◌≤◌, min, ◌==◌, if◌then◌else◌, Bool, true, false, refl}
 use Rattle.std.specs.Prelude.{List, [], ◌∷◌, ◌++◌, map, length, take, Option, Some, None, option_map}
+use Rattle.std.specs.List.{find}
 use Rattle.std.specs.Option.{option_map_or}
-use Rattle.std.proofs.Common.{ap, ◌∙◌, sym}
+use Rattle.std.proofs.Common.{ap, ◌∙◌, sym, arith}
 use Rattle.std.proofs.lemmas.Bool.{eqb-true, eqb-false}
-use Rattle.std.proofs.lemmas.List.{map-append}
+use Rattle.std.proofs.lemmas.List.{map-append, length-map}
 use Rattle.typed_ids.specs.TotalMaps.{IsUpdate}
 use Rattle.decisions.specs.Decisions.{decision_in, values_in, level_in}
-use Rattle.decisions.specs.Tracker.{trail_of, IsTracked}
-use Rattle.decisions.specs.Trail.{Entry, val, level_of, HasLevel, IsTrail}
+use Rattle.decisions.specs.Tracker.{entries_of, IsTracked}
+use Rattle.decisions.specs.Trail.{Entry, Trail, val, level_of, clause_of, HasLevel, IsTrail, IsWithin, undo_last}
 use Rattle.decisions.specs.declared.decision.Decision.{Decision}
 use Rattle.decisions.proofs.TrailLemmas.{none_by_variable, val-push, take-push}
-use Rattle.decisions.proofs.TrailLemmas.{IsOnce-pop, IsTrail-push, IsTrail-pop}
+use Rattle.decisions.proofs.TrailLemmas.{IsOnce-pop, IsTrail-push, IsTrail-pop, same_trail}
 
 -- what a decision map holds
 abbrev MapItems : Type 0
@@ -21,11 +22,40 @@ MapItems = List (Option (Bool × ℕ))
 abbrev entry : MapItems → Decision → Entry
 entry decisions d = record { decision = d; level = level_in decisions d.variable }
 
+-- as many entries as decisions
+pub length-entries_of : (decisions : MapItems) (ds : List Decision) → length (entries_of decisions ds) ≡ length ds
+length-entries_of decisions ds = length-map ds (entry decisions)
+
+-- the trail that a tracker shows
+abbrev pub trail_of : MapItems → List Decision → ℕ → ℕ → Trail
+trail_of decisions ds place floor = record { entries = entries_of decisions ds; place = place; floor = floor }
+
+-- the place and the floor are within the entries
+pub IsWithin-trail_of : (decisions : MapItems) (ds : List Decision) (place floor : ℕ) → place ≤ length ds
+    → floor ≤ length ds → IsWithin (trail_of decisions ds place floor)
+IsWithin-trail_of decisions ds place floor p f = record {
+  place = omega (arith, length-entries_of decisions ds);
+  floor = omega (arith, length-entries_of decisions ds);
+}
+
+-- the clause of the first decision, or of a later one
+clause_by_test : (d : Decision) (b : Bool) (rest : Option ℕ) (found : Option Decision)
+    → rest ≡ option_map (λ (d : Decision). d.derived_from) found
+    → (if b then Some d.derived_from else rest) ≡ option_map (λ (d : Decision). d.derived_from) (if b then Some d else found)
+clause_by_test d true rest found h = refl
+clause_by_test d false rest found h = h
+
+-- the clause of a variable is that of the first decision about it
+pub clause_of-entries_of : (decisions : MapItems) (ds : List Decision) (x : ℕ)
+    → clause_of (entries_of decisions ds) x ≡ option_map (λ (d : Decision). d.derived_from) (find (λ d. d.variable == x) ds)
+clause_of-entries_of decisions [] x = refl
+clause_of-entries_of decisions (d ∷ ds) x = clause_by_test d (d.variable == x) _ _ (clause_of-entries_of decisions ds x)
+
 -- the decisions of the trail
-pub map-trail_of : (decisions : MapItems) (ds : List Decision)
-    → map (λ (e : Entry). e.decision) (trail_of decisions ds) ≡ ds
-map-trail_of decisions [] = refl
-map-trail_of decisions (d ∷ ds) = ap (λ (xs : List Decision). d ∷ xs) (map-trail_of decisions ds)
+pub map-entries_of : (decisions : MapItems) (ds : List Decision)
+    → map (λ (e : Entry). e.decision) (entries_of decisions ds) ≡ ds
+map-entries_of decisions [] = refl
+map-entries_of decisions (d ∷ ds) = ap (λ (xs : List Decision). d ∷ xs) (map-entries_of decisions ds)
 
 -- a variable without a value has level 0
 level_without : (decision : Option (Bool × ℕ)) → option_map (λ d. d.0) decision ≡ None
@@ -41,50 +71,50 @@ level_by_test decisions v x false rest e outside = outside refl
 
 -- the level that a trail gives is that of the map, if that is so where the trail has no entry
 level_of-entries : (decisions : MapItems) (ds : List Decision) (x : ℕ)
-    → (val (trail_of decisions ds) x ≡ None → 0 ≡ level_in decisions x)
-    → level_of (trail_of decisions ds) x ≡ level_in decisions x
+    → (val (entries_of decisions ds) x ≡ None → 0 ≡ level_in decisions x)
+    → level_of (entries_of decisions ds) x ≡ level_in decisions x
 level_of-entries decisions [] x outside = outside refl
 level_of-entries decisions (d ∷ ds) x outside =
     let rest = λ (e : (d.variable == x) ≡ false). level_of-entries decisions ds x (λ none. outside (rw e none)) in
     level_by_test decisions d.variable x (d.variable == x) _ refl rest
 
 -- the level of a variable
-pub level_of-trail_of : (decisions : MapItems) (ds : List Decision) (x : ℕ) → IsTracked decisions ds
-    → level_of (trail_of decisions ds) x ≡ level_in decisions x
-level_of-trail_of decisions ds x tracked =
+pub level_of-entries_of : (decisions : MapItems) (ds : List Decision) (x : ℕ) → IsTracked decisions ds
+    → level_of (entries_of decisions ds) x ≡ level_in decisions x
+level_of-entries_of decisions ds x tracked =
     level_of-entries decisions ds x (λ none. level_without (decision_in decisions x) (tracked.values x ∙ none))
 
 -- a change of the map at a variable without an entry leaves the entries
-trail_of-update : (old new : MapItems) (v : ℕ) (ds : List Decision)
-    → ((x : ℕ) → x ≢ v → decision_in new x ≡ decision_in old x) → val (trail_of old ds) v ≡ None
-    → trail_of new ds ≡ trail_of old ds
-trail_of-update old new v [] same none = refl
-trail_of-update old new v (d ∷ ds) same none =
-    let apart = none_by_variable d.variable v d.value (val (trail_of old ds) v) none in
-    rw (same d.variable apart.0, trail_of-update old new v ds same apart.1) refl
+entries_of-update : (old new : MapItems) (v : ℕ) (ds : List Decision)
+    → ((x : ℕ) → x ≢ v → decision_in new x ≡ decision_in old x) → val (entries_of old ds) v ≡ None
+    → entries_of new ds ≡ entries_of old ds
+entries_of-update old new v [] same none = refl
+entries_of-update old new v (d ∷ ds) same none =
+    let apart = none_by_variable d.variable v d.value (val (entries_of old ds) v) none in
+    rw (same d.variable apart.0, entries_of-update old new v ds same apart.1) refl
 
 -- ---- a decision is added
 
 module _ (old new : MapItems) (ds : List Decision) (d : Decision) (level : ℕ)
-    (tracked : IsTracked old ds) (undecided : val (trail_of old ds) d.variable ≡ None)
+    (tracked : IsTracked old ds) (undecided : val (entries_of old ds) d.variable ≡ None)
     (set : IsUpdate (decision_in old) d.variable (Some (d.value, level)) (decision_in new)) where
   -- the trail has its entry at the end
-  pub trail_of-push : trail_of new (ds ++ d ∷ []) ≡ trail_of old ds ++ record { decision = d; level = level } ∷ []
-  trail_of-push =
-      let unchanged = trail_of-update old new d.variable ds set.1 undecided in
+  pub entries_of-push : entries_of new (ds ++ d ∷ []) ≡ entries_of old ds ++ record { decision = d; level = level } ∷ []
+  entries_of-push =
+      let unchanged = entries_of-update old new d.variable ds set.1 undecided in
       rw (map-append (entry new) ds (d ∷ []), unchanged, set.0) refl
 
   -- the values with it
   values-push : (x : ℕ) (b : Bool) → (d.variable == x) ≡ b
-      → values_in new x ≡ (if b then Some d.value else val (trail_of old ds) x)
+      → values_in new x ≡ (if b then Some d.value else val (entries_of old ds) x)
   values-push x true e = rw (sym (eqb-true _ _ e), set.0) refl
   values-push x false e = ap (option_map (λ p. p.0)) (set.1 x (λ same. eqb-false _ _ e (sym same))) ∙ tracked.values x
 
   -- the tracker is in order
   pub IsTracked-push : HasLevel (record { decision = d; level = level }) → IsTracked new (ds ++ d ∷ [])
   IsTracked-push in_range = record {
-    values = λ x. values-push x (d.variable == x) refl ∙ sym (rw trail_of-push (val-push _ _ x undecided));
-    trail = rw trail_of-push (IsTrail-push _ _ tracked.trail undecided in_range);
+    values = λ x. values-push x (d.variable == x) refl ∙ sym (rw entries_of-push (val-push _ _ x undecided));
+    trail = rw entries_of-push (IsTrail-push _ _ tracked.trail undecided in_range);
   }
 
 -- ---- the newest decision is taken back
@@ -93,35 +123,43 @@ module _ (old new : MapItems) (ds : List Decision) (d : Decision)
     (tracked : IsTracked old (ds ++ d ∷ []))
     (reset : IsUpdate (decision_in old) d.variable None (decision_in new)) where
   -- the trail had its entry at the end
-  split : trail_of old (ds ++ d ∷ []) ≡ trail_of old ds ++ entry old d ∷ []
+  split : entries_of old (ds ++ d ∷ []) ≡ entries_of old ds ++ entry old d ∷ []
   split = map-append (entry old) ds (d ∷ [])
 
   -- and was in order
-  was_trail : IsTrail (trail_of old ds ++ entry old d ∷ [])
+  was_trail : IsTrail (entries_of old ds ++ entry old d ∷ [])
   was_trail = rw split at tracked.trail
 
   -- no other entry is of its variable
-  undecided : val (trail_of old ds) d.variable ≡ None
-  undecided = (IsOnce-pop (trail_of old ds) (entry old d) was_trail.once).1
+  undecided : val (entries_of old ds) d.variable ≡ None
+  undecided = (IsOnce-pop (entries_of old ds) (entry old d) was_trail.once).1
 
   -- the other entries stay
-  unchanged : trail_of new ds ≡ trail_of old ds
-  unchanged = trail_of-update old new d.variable ds reset.1 undecided
+  unchanged : entries_of new ds ≡ entries_of old ds
+  unchanged = entries_of-update old new d.variable ds reset.1 undecided
 
   -- the trail is what it was, without the newest entry
-  pub trail_of-pop : trail_of new ds ≡ take (length (trail_of old (ds ++ d ∷ [])) - 1) (trail_of old (ds ++ d ∷ []))
-  trail_of-pop = rw (split, take-push (trail_of old ds) (entry old d)) unchanged
+  pub entries_of-pop : entries_of new ds ≡ take (length (entries_of old (ds ++ d ∷ [])) - 1) (entries_of old (ds ++ d ∷ []))
+  entries_of-pop = rw (split, take-push (entries_of old ds) (entry old d)) unchanged
+
+  -- with the place and the floor it is what it was, without that entry
+  pub undo_last-trail_of : (place floor p f : ℕ) → p ≡ min place (length ds) → f ≡ min floor (length ds)
+      → trail_of new ds p f ≡ undo_last (trail_of old (ds ++ d ∷ []) place floor)
+  undo_last-trail_of place floor p f is_place is_floor =
+      let left = ap length entries_of-pop in
+      let count = length-entries_of new ds in
+      same_trail entries_of-pop (omega (arith, left, count)) (omega (arith, left, count))
 
   -- the values without it
-  values-pop : (x : ℕ) (b : Bool) → (d.variable == x) ≡ b → values_in new x ≡ val (trail_of old ds) x
+  values-pop : (x : ℕ) (b : Bool) → (d.variable == x) ≡ b → values_in new x ≡ val (entries_of old ds) x
   values-pop x true e = rw (sym (eqb-true _ _ e), reset.0) (sym undecided)
   values-pop x false e =
-      let before = rw (split, val-push (trail_of old ds) (entry old d) x undecided, e) at (tracked.values x) in
+      let before = rw (split, val-push (entries_of old ds) (entry old d) x undecided, e) at (tracked.values x) in
       ap (option_map (λ p. p.0)) (reset.1 x (λ same. eqb-false _ _ e (sym same))) ∙ before
 
   -- the tracker is in order
   pub IsTracked-pop : IsTracked new ds
   IsTracked-pop = record {
     values = λ x. values-pop x (d.variable == x) refl ∙ ap (λ es. val es x) (sym unchanged);
-    trail = rw unchanged (IsTrail-pop (trail_of old ds) (entry old d) was_trail);
+    trail = rw unchanged (IsTrail-pop (entries_of old ds) (entry old d) was_trail);
   }

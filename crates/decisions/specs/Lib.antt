@@ -1,4 +1,5 @@
 pub mod Decisions
+pub mod Floor
 pub mod LiteralIndex
 pub mod Literals
 pub mod Tracker

@@ -11,12 +11,10 @@ use typed_ids::{DenseIndex, SameValue, VariableId};
 /// How many literals there are: two for each of the 2^31 - 1 variables.
 const COUNT: usize = 4294967294;
 
-/// A variable or its negation, kept as its index plus one: the two literals of a variable have neighboring indexes, the
-/// positive one first.
+/// A variable or its negation, kept as its index plus one, which its `Debug` text shows: the two literals of a variable
+/// have neighboring indexes, the positive one first.
 #[derive(Clone, Copy, Debug, PartialEq, Eq)]
-pub struct Literal {
-    raw: u32,
-}
+pub struct Literal(u32);
 
 impl Model for Literal {
     ghost use Rattle.std.specs.Prelude.{◌-◌, ◌+◌, ◌<◌, ◌≤◌, ◌^◌, ℕ};
@@ -26,13 +24,13 @@ impl Model for Literal {
 
     ghost Value = { Lit };
 
-    ghost view = { λ a. literal_at (a.raw - 1) };
+    ghost view = { λ a. literal_at (a.0 - 1) };
 
-    ghost invariant = { λ a. (1 ≤ a.raw) × (a.raw < 2 ^ 32 - 1) };
+    ghost invariant = { λ a. (1 ≤ a.0) × (a.0 < 2 ^ 32 - 1) };
 
-    ghost inverse = { λ l. record { raw = literal_index l + 1 } };
+    ghost inverse = { λ l. record { 0 = literal_index l + 1 } };
 
-    ghost inverse_ok = { λ a h. ap (λ (n : ℕ). record { raw = n }) (literal_index-literal_at_raw a.raw h.0) };
+    ghost inverse_ok = { λ a h. ap (λ (n : ℕ). record { 0 = n }) (literal_index-literal_at_raw a.0 h.0) };
 }
 
 impl Literal {
@@ -41,9 +39,7 @@ impl Literal {
         ensures { result ≡ (if negate then Neg variable else Pos variable) }
     {
         let index = 2 * variable.to_index() as u32;
-        Literal {
-            raw: if negate { index + 2 } else { index + 1 },
-        }
+        Literal(if negate { index + 2 } else { index + 1 })
     }
 
     /// The literal of the same variable with the other sign.
@@ -57,14 +53,14 @@ impl Literal {
     pub fn satisfying_value(self) -> bool
         ensures { result ≡ satisfying_value self }
     {
-        self.raw % 2 == 1
+        self.0 % 2 == 1
     }
 
     /// Its variable.
     pub fn variable(self) -> VariableId
         ensures { result ≡ variable_of self }
     {
-        VariableId::from_index(((self.raw - 1) / 2) as usize)
+        VariableId::from_index(((self.0 - 1) / 2) as usize)
     }
 
     /// Whether the decisions make the literal true or false, `None` while its variable is undecided.
@@ -98,13 +94,11 @@ impl DenseIndex for Literal {
     }
 
     fn from_index(index: usize) -> Literal {
-        Literal {
-            raw: index as u32 + 1,
-        }
+        Literal(index as u32 + 1)
     }
 
     fn to_index(self) -> usize {
-        (self.raw - 1) as usize
+        (self.0 - 1) as usize
     }
 }
 

@@ -12,7 +12,7 @@ use Rattle.providers.specs.declared.requirement.Requirement.{Requirement}
 use Rattle.providers.specs.Provider.{knows_requirement, sets_of}
 use Rattle.variables.specs.declared.variable_origin.VariableOrigin.{VariableOrigin}
 use Rattle.variables.specs.Variables.{with_variable, with_variables, interned_variable}
-use Rattle.decisions.specs.Trail.{Entry, val, kept_until, AddsEntry}
+use Rattle.decisions.specs.Trail.{Entry, Trail, val, kept_until, AddsEntry}
 use Rattle.decisions.specs.declared.decision_tracker.AddFault.{AddFault}
 use Rattle.decisions.proofs.TrailLemmas.{IsTrail-push}
 use Rattle.resolvo_queue.specs.declared.requires_clause.RequiresClause.{RequiresClause}
@@ -31,11 +31,11 @@ either (Ok x) p q = inl p
 either (Err e) p q = inr q
 
 -- an entry was added to the trail, or the trail stays
-added_or_same : (known : Option Bool) (old new : List Entry) (e : Entry) (answer : Result Bool AddFault) → AddsEntry known old e answer new
-    → ((known ≡ None) × (new ≡ old ++ e ∷ [])) ⊎ (new ≡ old)
-added_or_same (Some b) old new e answer h = inr h.1
-added_or_same None old new e (Ok added) h = inl (refl, h.1)
-added_or_same None old new e (Err fault) h = inr h.1
+added_or_same : (known : Option Bool) (old new : Trail) (e : Entry) (answer : Result Bool AddFault) → AddsEntry known old e answer new
+    → ((known ≡ None) × (new.entries ≡ old.entries ++ e ∷ [])) ⊎ (new.entries ≡ old.entries)
+added_or_same (Some b) old new e answer h = inr (ap (λ t. t.entries) h.1)
+added_or_same None old new e (Ok added) h = inl (refl, ap (λ t. t.entries) h.1)
+added_or_same None old new e (Err fault) h = inr (ap (λ t. t.entries) h.1)
 
 module _ {D N S A H : Type 0} {st : Store N S} {loaded : List (Requirement × Vec (Vec ℕ A) A)} {cache : Cache D N S A H} (is : IsConsistent st loaded cache) where
   -- another trail
@@ -47,11 +47,13 @@ module _ {D N S A H : Type 0} {st : Store N S} {loaded : List (Requirement × Ve
   after_undo level kept = with_trail (subst (λ es. IsSound (record st { trail = es })) (sym kept) (IsSound-kept_until st is.sound level))
 
   -- after an assignment
-  pub after_entry : (e : Entry) {es : List Entry} (answer : Result Bool AddFault) → e.decision.variable < length st.origins → e.decision.derived_from < length st.requires
-      → (1 ≤ e.level) × (e.level < 2 ^ 31) → AddsEntry (val st.trail e.decision.variable) st.trail e answer es
-      → IsConsistent (record st { trail = es }) loaded cache
-  after_entry e {es} answer variable clause level adds =
-      with_trail (elim (added_or_same (val st.trail e.decision.variable) st.trail es e answer adds) [
+  pub after_entry : (e : Entry) (old new : Trail) (answer : Result Bool AddFault) → old.entries ≡ st.trail
+      → e.decision.variable < length st.origins → e.decision.derived_from < length st.requires
+      → (1 ≤ e.level) × (e.level < 2 ^ 31) → AddsEntry (val old.entries e.decision.variable) old e answer new
+      → IsConsistent (record st { trail = new.entries }) loaded cache
+  after_entry e old new answer is_trail variable clause level adds =
+      with_trail (elim (subst (λ es. ((val es e.decision.variable ≡ None) × (new.entries ≡ es ++ e ∷ [])) ⊎ (new.entries ≡ es)) is_trail
+      (added_or_same (val old.entries e.decision.variable) old new e answer adds)) [
         | inl more ↦ subst (λ fs. IsSound (record st { trail = fs })) (sym more.1)
             (IsSound-trail st is.sound (st.trail ++ e ∷ []) (IsTrail-push st.trail e is.sound.trail more.0 level)
             (All-push (IsAssigned st) st.trail e is.sound.assigned (record { variable = variable; clause = clause })))

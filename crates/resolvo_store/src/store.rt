@@ -59,7 +59,7 @@ impl<D: DependencyProvider> Model for ClauseStore<D> {
       origins = a.variables;
       loaded = lists_kept a.loaded;
       requires = a.queue;
-      trail = a.trail;
+      trail = a.trail.entries;
     } };
 
     ghost invariant = { λ a. IsConsistent (store_of (gathered D.NameId.eq D.SolvableId.eq D.NameId.Slots.is_too_large D.SolvableId.Slots.is_too_large
@@ -68,7 +68,7 @@ impl<D: DependencyProvider> Model for ClauseStore<D> {
           origins = a.variables;
           loaded = lists_kept a.loaded;
           requires = a.queue;
-          trail = a.trail;
+          trail = a.trail.entries;
         })) a.loaded a.cache };
 }
 

@@ -16,8 +16,8 @@ pub returns-clause-none : goal.returns-clause-none
 returns-clause-none g c =
     let inside = c.self.inside in
     rw (← c.self.view_is)
-    (subst (λ rows. (c.next_decision.result ≡ None) ↔ All (λ r. is_eligible (val inside.trail) rows r ≡ false) (scan inside.queue)) (rows-kept (g.D.Interner.universe inside.cache.provider) inside.loaded)
-    (subst (λ q. (c.next_decision.result ≡ None) ↔ All (λ r. is_eligible (val inside.trail) (loaded_rows (g.D.Interner.universe q) inside.loaded) r ≡ false) (scan inside.queue)) c.provider.ensures.provider
+    (subst (λ rows. (c.next_decision.result ≡ None) ↔ All (λ r. is_eligible (val inside.trail.entries) rows r ≡ false) (scan inside.queue)) (rows-kept (g.D.Interner.universe inside.cache.provider) inside.loaded)
+    (subst (λ q. (c.next_decision.result ≡ None) ↔ All (λ r. is_eligible (val inside.trail.entries) (loaded_rows (g.D.Interner.universe q) inside.loaded) r ≡ false) (scan inside.queue)) c.provider.ensures.provider
     (subst (λ v. (c.next_decision.result ≡ None) ↔ All (λ r. is_eligible v (loaded_rows (g.D.Interner.universe c.provider.result.now) inside.loaded) r ≡ false) (scan inside.queue)) c.map.ensures.values c.next_decision.ensures.none)))
 
 pub returns-clause-unbeaten : goal.returns-clause-unbeaten
