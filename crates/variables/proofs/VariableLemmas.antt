@@ -1,12 +1,12 @@
 -- The variables of solvables, while origins come and go at the end of the list.
-use Rattle.std.proofs.Common.{◌≡◌, ◌≢◌, ℕ, ◌+◌, ◌<◌, ◌==◌, Bool, true, false, cond, IsSome, List, [], ◌∷◌, ◌++◌, length, Option, None, Some, refl, arith, rules, sym, ◌∙◌, ap, subst}
+use Rattle.std.proofs.Common.{◌≡◌, ◌≢◌, ℕ, zero, suc, ◌+◌, ◌<◌, ◌≤◌, ◌==◌, Bool, true, false, cond, IsSome, List, [], ◌∷◌, ◌++◌, length, take, slice_get, Option, None, Some, ◌⊎◌, inl, inr, refl, arith, rules, sym, ◌∙◌, ap, subst}
 use Rattle.std.specs.List.{position_from}
 use Rattle.std.specs.Prelude.{is_some, unwrap_or}
 use Rattle.typed_ids.specs.TotalMaps.{IsUpdate, SameValues}
 use Rattle.variables.specs.declared.variable_origin.VariableOrigin.{VariableOrigin}
-use Rattle.variables.specs.declared.variable_origin.VariableOrigin.TheVariants.{Solvable}
+use Rattle.variables.specs.declared.variable_origin.VariableOrigin.TheVariants.{Root, Solvable}
 use Rattle.variables.specs.Forgetting.{forgotten}
-use Rattle.variables.specs.Variables.{is_solvable, solvable_of, variable_of_solvable, with_variable, interned_variable, IsRootFirst, IsVariableMap}
+use Rattle.variables.specs.Variables.{is_solvable, solvable_of, key_of, variable_of_solvable, with_variable, interned_variable, IsRootFirst, AreSolvablesDistinct, IsVariableMap}
 
 -- the first of two that is there
 abbrev pub or_else : Option ℕ → Option ℕ → Option ℕ
@@ -39,12 +39,61 @@ module _ {X : Type 0} (test : X → Bool) where
       elim (test y) as (λ b. cond b (Some n) (position_from test (n + 1) (xs ++ x ∷ [])) ≡ or_else (cond b (Some n) (position_from test (n + 1) xs)) (cond (test x) (Some m) None))
       [ true ↦ refl | false ↦ position-append x (n + 1) m xs (omega arith) ]
 
+  -- what stands at a position passes the test
+  pub position_at : (n v : ℕ) (xs : List X) → position_from test n xs ≡ Some v → (k : ℕ) × (x : X) × (v ≡ n + k) × (slice_get xs k ≡ Some x) × (test x ≡ true)
+  position_at n v [] h = (let no : ⊥ = cc in absurd no)
+  position_at n v (x ∷ xs) h =
+      (elim (test x) as (λ b. test x ≡ b → cond b (Some n) (position_from test (n + 1) xs) ≡ Some v → (k : ℕ) × (y : X) × (v ≡ n + k) × (slice_get (x ∷ xs) k ≡ Some y) × (test y ≡ true)) [
+        | true ↦ λ t e. (let same : n ≡ v = search rules in (0, x, omega arith, refl, t))
+        | false ↦ λ t e. (let rest = position_at (n + 1) v xs e in (suc rest.0, rest.1, omega (arith, rest.2), rest.3, rest.4))
+      ]) refl h
+
+  -- a position among the first so many is the position in these
+  pub position-take : (n k v : ℕ) (xs : List X) → position_from test n xs ≡ Some v → v < n + k → position_from test n (take k xs) ≡ Some v
+  position-take n zero v xs h within = (let no : ⊥ = omega (arith, (position_at n v xs h).2, within) in absurd no)
+  position-take n (suc k) v [] h within = h
+  position-take n (suc k) v (x ∷ xs) h within =
+      (elim (test x) as (λ b. cond b (Some n) (position_from test (n + 1) xs) ≡ Some v → cond b (Some n) (position_from test (n + 1) (take k xs)) ≡ Some v)
+      [ true ↦ λ e. e | false ↦ λ e. position-take (n + 1) k v xs e (omega (arith, within)) ]) h
+
+-- ---- elements by place
+
+-- an element of a list with one more at its end
+pub slice_get-last : {X : Type 0} (xs : List X) (x y : X) (v : ℕ) → slice_get (xs ++ x ∷ []) v ≡ Some y → (slice_get xs v ≡ Some y) ⊎ ((v ≡ length xs) × (x ≡ y))
+slice_get-last [] x y zero h = inr (refl, (let e : x ≡ y = cc in e))
+slice_get-last [] x y (suc v) h = (let no : ⊥ = cc in absurd no)
+slice_get-last (z ∷ xs) x y zero h = inl h
+slice_get-last (z ∷ xs) x y (suc v) h = elim (slice_get-last xs x y v h) [ inl e ↦ inl e | inr e ↦ inr (omega (arith, e.0), e.1) ]
+
+-- an element of the first so many of a list
+pub slice_get-take : {X : Type 0} (k v : ℕ) (xs : List X) (x : X) → slice_get (take k xs) v ≡ Some x → (v < k) × (slice_get xs v ≡ Some x)
+slice_get-take zero v xs x h = (let no : ⊥ = cc in absurd no)
+slice_get-take (suc k) v [] x h = (let no : ⊥ = cc in absurd no)
+slice_get-take (suc k) zero (y ∷ xs) x h = (omega arith, h)
+slice_get-take (suc k) (suc v) (y ∷ xs) x h = (let rest = slice_get-take k v xs x h in (omega (arith, rest.0), rest.1))
+
 -- ---- the root
+
+-- it is no solvable
+pub distinct-root : {N S : Type 0} (same : S → S → Bool) → AreSolvablesDistinct {N = N} same (Root ∷ [])
+distinct-root same zero s h = (let no : ⊥ = cc in absurd no)
+distinct-root same (suc v) s h = (let no : ⊥ = cc in absurd no)
 
 -- it stays first while origins are added
 pub root-append : {N S : Type 0} (os : List (VariableOrigin N S)) (o : VariableOrigin N S) → IsRootFirst os → IsRootFirst (os ++ o ∷ [])
 root-append [] o h = cc
 root-append (p ∷ os) o h = h
+
+-- it stays first while there is one at least
+pub root-take : {N S : Type 0} (k : ℕ) (os : List (VariableOrigin N S)) → 1 ≤ k → IsRootFirst os → IsRootFirst (take k os)
+root-take zero os some h = (let no : ⊥ = omega (arith, some) in absurd no)
+root-take (suc k) [] some h = h
+root-take (suc k) (o ∷ os) some h = h
+
+-- what is neither the root nor a solvable is no solvable
+pub no_solvable : {N S : Type 0} (o : VariableOrigin N S) → key_of o ≡ None → solvable_of o ≡ None
+no_solvable (Solvable s) h = (let no : ⊥ = cc in absurd no)
+no_solvable _ h = refl
 
 -- ---- a solvable that has no variable yet
 
@@ -64,7 +113,7 @@ module _ {N S : Type 0} (same : S → S → Bool) (x : S) (os : List (VariableOr
 -- the same values at each solvable belong to the same variables
 pub IsVariableMap-same : {N S : Type 0} (same : S → S → Bool) (f g : S → Option ℕ) (os : List (VariableOrigin N S)) → SameValues f g
     → IsVariableMap same f os → IsVariableMap same g os
-IsVariableMap-same same f g os e m = record { agrees = λ s. e s ∙ m.agrees s; few = m.few; root_first = m.root_first }
+IsVariableMap-same same f g os e m = record { agrees = λ s. e s ∙ m.agrees s; few = m.few; root_first = m.root_first; distinct = m.distinct }
 
 -- ---- forgetting
 
@@ -109,7 +158,46 @@ module _ {N S : Type 0} (same : S → S → Bool) where
       by_place (Some q) h true = forgotten-other m q (let below : q < 0 + length os = position_within (is_solvable same s) 0 q os h in λ g. (let no : ⊥ = omega arith in no))
       by_place (Some q) h false = refl
 
+  -- the first so many of distinct ones
+  pub distinct-take : (k : ℕ) (os : List (VariableOrigin N S)) → AreSolvablesDistinct same os → AreSolvablesDistinct same (take k os)
+  distinct-take k os distinct v s h =
+      let at = slice_get-take k v os (Solvable s) h in
+      position-take (is_solvable same s) 0 k v os (distinct v s at.1) (omega (arith, at.0))
+
   module _ (reflexive : (x : S) → same x x ≡ true) (is_sameness : (a b : S) → same a b ≡ true → a ≡ b) where
+    -- a solvable stands at the place of its variable
+    pub stands_there : (s : S) (v : ℕ) (os : List (VariableOrigin N S)) → variable_of_solvable same os s ≡ Some v → slice_get os v ≡ Some (Solvable s)
+    stands_there s v os h =
+        let at = position_at (is_solvable same s) 0 v os h in
+        let place : v ≡ at.0 = omega (arith, at.2) in
+        ap (slice_get os) place ∙ at.3 ∙ ap (λ o. Some o) (this at.1 at.4)
+      where
+        this : (o : VariableOrigin N S) → is_solvable same s o ≡ true → o ≡ Solvable s
+        this (Solvable t) t_is = ap (λ u. Solvable u) (is_sameness t s t_is)
+        this _ t_is = cc
+
+    -- distinct ones, and one more that is a solvable only if it is a new one
+    distinct-append : (o : VariableOrigin N S) (os : List (VariableOrigin N S)) → ((x : S) → solvable_of o ≡ Some x → variable_of_solvable same os x ≡ None)
+        → AreSolvablesDistinct same os → AreSolvablesDistinct same (os ++ o ∷ [])
+    distinct-append o os new distinct v s h =
+        let place = position-append (is_solvable same s) o 0 (length os) os (omega arith) in
+        elim (slice_get-last os o (Solvable s) v h) [
+          | inl e ↦ place ∙ ap (λ p. or_else p (cond (is_solvable same s o) (Some (length os)) None)) (distinct v s e)
+          | inr e ↦ place ∙ ap (λ p. or_else p (cond (is_solvable same s o) (Some (length os)) None)) (new s (ap solvable_of e.1))
+              ∙ ap (λ b. cond b (Some (length os)) None) (ap (is_solvable same s) e.1 ∙ reflexive s) ∙ ap (λ n. Some n) (sym e.0)
+        ]
+
+    -- and one more that is a solvable without a variable, or no solvable
+    pub distinct-new : (x : S) (os : List (VariableOrigin N S)) → variable_of_solvable same os x ≡ None → AreSolvablesDistinct same os
+        → AreSolvablesDistinct same (os ++ Solvable x ∷ [])
+    distinct-new x os absent =
+        distinct-append (Solvable x) os (λ (y : S) (e : Some x ≡ Some y). (let this : x ≡ y = cc in ap (variable_of_solvable same os) (sym this) ∙ absent))
+
+    pub distinct-other : (o : VariableOrigin N S) (os : List (VariableOrigin N S)) → solvable_of o ≡ None → AreSolvablesDistinct same os
+        → AreSolvablesDistinct same (os ++ o ∷ [])
+    distinct-other o os other =
+        distinct-append o os (λ (x : S) (e : solvable_of o ≡ Some x). (let no : None ≡ Some x = sym other ∙ e in let wrong : ⊥ = cc in absurd wrong))
+
     -- a map that has each solvable's variable still has it once a new solvable got the next one
     pub agrees-with_variable : (x : S) (m : ℕ) (os : List (VariableOrigin N S)) (f g h : S → Option ℕ) → m ≡ length os
         → ((s : S) → f s ≡ variable_of_solvable same os s) → SameValues f g

@@ -1,14 +1,16 @@
 //! The variables of a store: what each stands for, and the variable of each solvable.
-ghost use Rattle.std.specs.Prelude.{◌≡◌, ◌<◌, ◌≤◌, ◌+◌, ◌^◌, [], ◌∷◌, ◌++◌, length, take, false, IsTrue, IsSome, IfSome, IsOk, IfOk, OnOk, OnErr, IfErr};
+ghost use Rattle.std.specs.Prelude.{◌≡◌, ◌<◌, ◌≤◌, ◌+◌, ◌^◌, [], ◌∷◌, ◌++◌, length, take, slice_get, false, IsTrue, IsSome, IfSome, IsOk, IfOk, OnOk, OnErr, IfErr};
 ghost use Rattle.typed_ids.specs.Refusals.{IsGrowthRefusal};
+ghost use Rattle.typed_ids.specs.WithRoot.{root_or};
 ghost use Rattle.typed_ids.specs.declared.error.StoreError.TheVariants.{OutOfMemory, IdSpace};
 
 use crate::forget::forget_rest;
 use crate::variable_origin::VariableOrigin;
 use id_maps::{IdMap, Slot, SolverId};
+use providers::Requirement;
 use std::alloc::Allocator;
 use std::marker::Model;
-use typed_ids::{DenseIndex, StoreError, VariableId};
+use typed_ids::{DenseIndex, SolvableIdOrRoot, StoreError, VariableId, VersionSetId};
 
 /// The variables. A contract sees the list of their origins: a variable is its place in it.
 #[derive(Drop)]
@@ -32,6 +34,7 @@ impl<N: Copy, S: SolverId<A>, A: Allocator + Copy> Model for VariableMap<N, S, A
 
 impl<N: Copy, S: SolverId<A>, A: Allocator + Copy> VariableMap<N, S, A> {
     ghost use Rattle.variables.specs.Variables.{variable_of_solvable, interned_variable, with_variable, lacks_variable, IsRootFirst};
+    ghost use Rattle.variables.specs.Variables.{variable_of_key, interned_key, with_key, are_variables_out, solvable_of, key_of};
 
     /// The root's variable alone.
     pub fn new(alloc: A) -> Result<Self, StoreError>
@@ -55,9 +58,19 @@ impl<N: Copy, S: SolverId<A>, A: Allocator + Copy> VariableMap<N, S, A> {
         self.origins.len()
     }
 
+    /// What the variable stands for.
+    pub fn origin(&self, variable: VariableId) -> VariableOrigin<N, S>
+        requires { variable < length self.now }
+        ensures origin { slice_get self.now variable ≡ Some result }
+        ensures distinct { IfSome (solvable_of result) (λ s. variable_of_solvable S.eq self.now s ≡ Some variable) }
+    {
+        self.origins[variable.to_index()]
+    }
+
     /// The variable of the solvable, if it has one.
     pub fn lookup_solvable(&self, solvable: S) -> Option<VariableId>
         ensures variable { result ≡ variable_of_solvable S.eq self.now solvable }
+        ensures origin { IfSome result (λ v. slice_get self.now v ≡ Some (VariableOrigin.Solvable solvable)) }
         ensures not_large { IfSome result (λ v. S.Slots.is_too_large solvable ≡ false) }
     {
         let index = self.slots.get(solvable).number()?;
@@ -88,11 +101,104 @@ impl<N: Copy, S: SolverId<A>, A: Allocator + Copy> VariableMap<N, S, A> {
         Ok(VariableId::from_index(index))
     }
 
+    /// The variable of the root, or that of the solvable as [`VariableMap::intern_solvable`] answers it.
+    pub fn intern_solvable_or_root(
+        &mut self,
+        key: SolvableIdOrRoot<S>,
+    ) -> Result<VariableId, StoreError>
+        ensures variable { IfOk result (λ v. v ≡ interned_key S.eq self.old key) }
+        ensures ok { OnOk result (self.new ≡ with_key S.eq self.old key) }
+        ensures known { IsSome (variable_of_key S.eq self.old key) → IsOk result }
+        ensures ids_out { IsTrue (root_or false (lacks_variable S.eq S.Slots.is_too_large self.old) key) → result ≡ Err IdSpace }
+        ensures err { OnErr result (self.new ≡ self.old) }
+        ensures refused { IfErr result (IsGrowthRefusal (root_or false (lacks_variable S.eq S.Slots.is_too_large self.old) key)) }
+        ensures fits { OnOk result (root_or false (lacks_variable S.eq S.Slots.is_too_large self.old) key ≡ false) }
+        ensures not_large { OnOk result (root_or false S.Slots.is_too_large key ≡ false) }
+    {
+        match key {
+            SolvableIdOrRoot::Root => Ok(VariableId::root()),
+            SolvableIdOrRoot::Solvable(solvable) => self.intern_solvable(solvable),
+        }
+    }
+
+    /// A new variable that helps to say that at most one of the package's solvables is part of the solution.
+    pub fn alloc_forbid_multiple_variable(&mut self, name: N) -> Result<VariableId, StoreError>
+        ensures variable { IfOk result (λ v. v ≡ length self.old) }
+        ensures ok { OnOk result (self.new ≡ self.old ++ VariableOrigin.ForbidMultiple name ∷ []) }
+        ensures ids_out { IsTrue (are_variables_out (length self.old)) → result ≡ Err IdSpace }
+        ensures err { OnErr result (self.new ≡ self.old) }
+        ensures refused { IfErr result (IsGrowthRefusal (are_variables_out (length self.old))) }
+        ensures fits { OnOk result (are_variables_out (length self.old) ≡ false) }
+    {
+        self.alloc(VariableOrigin::ForbidMultiple(name))
+    }
+
+    /// A new variable for that some solvable of the package is part of the solution.
+    pub fn alloc_at_least_one_variable(&mut self, name: N) -> Result<VariableId, StoreError>
+        ensures variable { IfOk result (λ v. v ≡ length self.old) }
+        ensures ok { OnOk result (self.new ≡ self.old ++ VariableOrigin.AtLeastOne name ∷ []) }
+        ensures ids_out { IsTrue (are_variables_out (length self.old)) → result ≡ Err IdSpace }
+        ensures err { OnErr result (self.new ≡ self.old) }
+        ensures refused { IfErr result (IsGrowthRefusal (are_variables_out (length self.old))) }
+        ensures fits { OnOk result (are_variables_out (length self.old) ≡ false) }
+    {
+        self.alloc(VariableOrigin::AtLeastOne(name))
+    }
+
+    /// A new variable for that a solvable outside the version set is part of the solution.
+    pub fn alloc_constrains_violation_variable(
+        &mut self,
+        set: VersionSetId,
+    ) -> Result<VariableId, StoreError>
+        ensures variable { IfOk result (λ v. v ≡ length self.old) }
+        ensures ok { OnOk result (self.new ≡ self.old ++ VariableOrigin.ConstrainsViolation set ∷ []) }
+        ensures ids_out { IsTrue (are_variables_out (length self.old)) → result ≡ Err IdSpace }
+        ensures err { OnErr result (self.new ≡ self.old) }
+        ensures refused { IfErr result (IsGrowthRefusal (are_variables_out (length self.old))) }
+        ensures fits { OnOk result (are_variables_out (length self.old) ≡ false) }
+    {
+        self.alloc(VariableOrigin::ConstrainsViolation(set))
+    }
+
+    /// A new variable that stands for the requirement's candidates.
+    pub fn alloc_requires_gate_variable(
+        &mut self,
+        requirement: Requirement,
+    ) -> Result<VariableId, StoreError>
+        ensures variable { IfOk result (λ v. v ≡ length self.old) }
+        ensures ok { OnOk result (self.new ≡ self.old ++ VariableOrigin.RequiresGate requirement ∷ []) }
+        ensures ids_out { IsTrue (are_variables_out (length self.old)) → result ≡ Err IdSpace }
+        ensures err { OnErr result (self.new ≡ self.old) }
+        ensures refused { IfErr result (IsGrowthRefusal (are_variables_out (length self.old))) }
+        ensures fits { OnOk result (are_variables_out (length self.old) ≡ false) }
+    {
+        self.alloc(VariableOrigin::RequiresGate(requirement))
+    }
+
     /// Forgets the variables from index `count` on. Takes no memory; linear in what it forgets.
     pub fn forget_from(&mut self, count: usize)
         requires { (1 ≤ count) × (count ≤ length self.old) }
         ensures { self.new ≡ take count self.old }
     {
         forget_rest(&mut self.origins, &mut self.slots, count);
+    }
+
+    /// A new variable of this origin, at the end.
+    fn alloc(&mut self, origin: VariableOrigin<N, S>) -> Result<VariableId, StoreError>
+        requires { key_of origin ≡ None }
+        ensures variable { IfOk result (λ v. v ≡ length self.old) }
+        ensures ok { OnOk result (self.new ≡ self.old ++ origin ∷ []) }
+        ensures ids_out { IsTrue (are_variables_out (length self.old)) → result ≡ Err IdSpace }
+        ensures err { OnErr result (self.new ≡ self.old) }
+        ensures refused { IfErr result (IsGrowthRefusal (are_variables_out (length self.old))) }
+        ensures fits { OnOk result (are_variables_out (length self.old) ≡ false) }
+    {
+        let index = self.origins.len();
+        if VariableId::in_range(index) {
+            self.origins.push(origin)?;
+            Ok(VariableId::from_index(index))
+        } else {
+            Err(StoreError::IdSpace)
+        }
     }
 }

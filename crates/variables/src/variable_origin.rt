@@ -2,7 +2,7 @@
 ghost use Rattle.std.specs.Prelude.{◌≡◌};
 
 use providers::Requirement;
-use typed_ids::VersionSetId;
+use typed_ids::{SolvableIdOrRoot, VersionSetId};
 
 /// What a variable stands for.
 #[derive(Clone, Copy, Debug)]
@@ -22,7 +22,7 @@ pub enum VariableOrigin<N, S> {
 }
 
 impl<N: Copy, S: Copy> VariableOrigin<N, S> {
-    ghost use Rattle.variables.specs.Variables.{solvable_of};
+    ghost use Rattle.variables.specs.Variables.{solvable_of, key_of};
 
     /// The solvable, if it stands for one.
     pub fn as_solvable(&self) -> Option<S>
@@ -31,6 +31,20 @@ impl<N: Copy, S: Copy> VariableOrigin<N, S> {
         match self {
             VariableOrigin::Solvable(solvable) => Some(*solvable),
             VariableOrigin::Root => None,
+            VariableOrigin::ForbidMultiple(_) => None,
+            VariableOrigin::AtLeastOne(_) => None,
+            VariableOrigin::ConstrainsViolation(_) => None,
+            VariableOrigin::RequiresGate(_) => None,
+        }
+    }
+
+    /// The root or the solvable, if it stands for one of these.
+    pub fn as_solvable_or_root(&self) -> Option<SolvableIdOrRoot<S>>
+        ensures { result ≡ key_of self.now }
+    {
+        match self {
+            VariableOrigin::Root => Some(SolvableIdOrRoot::Root),
+            VariableOrigin::Solvable(solvable) => Some(SolvableIdOrRoot::Solvable(*solvable)),
             VariableOrigin::ForbidMultiple(_) => None,
             VariableOrigin::AtLeastOne(_) => None,
             VariableOrigin::ConstrainsViolation(_) => None,
