@@ -1,6 +1,7 @@
 -- The literals of each kind of clause, the two that a new one watches, and whether it is a conflict.
-use Rattle.std.specs.Prelude.{ℕ, Bool, true, false, not, ◌&&◌, ◌==◌, if◌then◌else◌, List, [], ◌∷◌, ◌++◌, map, flat_map, find, length, slice_get, Option, Some, None, unwrap_or}
+use Rattle.std.specs.Prelude.{ℕ, ◌-◌, Bool, true, false, not, ◌&&◌, ◌==◌, if◌then◌else◌, List, [], ◌∷◌, ◌++◌, map, flat_map, find, length, slice_get, Option, Some, None, unwrap_or}
 use Rattle.std.specs.List.{list_all}
+use Rattle.std.specs.Option.{option_map_or}
 use Rattle.decisions.specs.Literals.{Lit, Pos, Neg, Values, known_true, known_false, is_false_literal}
 use Rattle.providers.specs.declared.requirement.Requirement.{Requirement}
 use Rattle.clauses.specs.declared.clause.Clause.{Clause}
@@ -20,9 +21,13 @@ abbrev pub condition_literals : Kept → Option ℕ → List Lit
 condition_literals k None = []
 condition_literals k (Some d) = unwrap_or (slice_get k.disjunctions d) []
 
+-- literals, and then those of candidates in lists
+abbrev pub asked_literals : List Lit → List (List ℕ) → List Lit
+asked_literals literals lists = literals ++ flat_map (map Pos) lists
+
 -- the literals of a requires clause but its parent's: those of its disjunction, and then its candidates
 abbrev pub other_literals : Kept → Option ℕ → Requirement → List Lit
-other_literals k d r = condition_literals k d ++ flat_map (map Pos) (k.lists r)
+other_literals k d r = asked_literals (condition_literals k d) (k.lists r)
 
 -- the literals of a learnt clause
 abbrev pub learnt_literals : Kept → ℕ → List Lit
@@ -40,6 +45,17 @@ literals_of k (Lock locked other) = Neg other ∷ Neg 0 ∷ []
 literals_of k (Learnt id) = learnt_literals k id
 literals_of k (Excluded a reason) = Neg a ∷ []
 literals_of k (AnyOf selected other) = Pos selected ∷ Neg other ∷ []
+
+-- the literals of a clause that are kept by an id
+abbrev pub stored_literals : {N : Type 0} → Kept → Clause N → List Lit
+stored_literals k (Requires parent d r) = condition_literals k d
+stored_literals k (Learnt id) = learnt_literals k id
+stored_literals k _ = []
+
+-- the lists of a clause's candidates
+abbrev pub stored_lists : {N : Type 0} → Kept → Clause N → List (List ℕ)
+stored_lists k (Requires parent d r) = k.lists r
+stored_lists k _ = []
 
 -- whether the kind has two literals
 abbrev pub is_binary : {N : Type 0} → Clause N → Bool
@@ -100,3 +116,13 @@ is_conflict k val (Requires parent d r) = is_met_by_parent val parent (other_lit
 is_conflict k val (Constrains a b v) = known_true (val b) && not (known_false (val a))
 is_conflict k val (ConstrainsParent a aux v) = known_true (val aux) && not (known_false (val a))
 is_conflict k val _ = false
+
+-- whether it is the watch beside the one at the index
+abbrev pub is_other_watch : List Lit → ℕ → Lit → Bool
+is_other_watch watches index l = option_map_or (same_literal l) (slice_get watches (1 - index)) false
+
+-- what a clause may watch in place of the watch at the index: its first literal that isn't the other watch and isn't false;
+-- none for a binary clause
+abbrev pub next_unwatched : {N : Type 0} → Kept → Values → Clause N → List Lit → ℕ → Option Lit
+next_unwatched k val clause watches index =
+    if is_binary clause then None else find (λ l. not (is_other_watch watches index l) && not (is_false_literal val l)) (literals_of k clause)

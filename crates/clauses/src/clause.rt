@@ -1,10 +1,23 @@
 //! The kinds of clauses.
-ghost use Rattle.std.specs.Prelude.{◌≡◌};
-ghost use Rattle.clauses.specs.Clauses.{is_binary};
+ghost use Rattle.std.specs.Prelude.{◌≡◌, ◌++◌, Bool, map, find, option_to_list, IfOk, IfErr};
+ghost use Rattle.std.specs.Map.{lookup};
+ghost use Rattle.providers.specs.Requirement.{same_requirement};
+ghost use Rattle.providers.specs.declared.requirement.Requirement.{Requirement};
+ghost use Rattle.typed_ids.specs.declared.error.StoreError.TheVariants.{OutOfMemory};
+ghost use Rattle.decisions.specs.Literals.{Lit};
+ghost use Rattle.clauses.specs.Clauses.{Kept, is_binary, literals_of, asked_literals, stored_literals, stored_lists};
+ghost use Rattle.clauses.specs.Stored.{kept_in, lists_found};
+ghost use Rattle.clauses.specs.Walks.{IsFirstTrue, literals_in};
 
+use crate::disjunction::Disjunction;
+use crate::literal_walk::{LiteralWalk, negative, positive};
 use decisions::Literal;
-use providers::Requirement;
-use typed_ids::{DisjunctionId, LearntClauseId, StringId, VariableId, VersionSetId};
+use id_storage::Arena;
+use providers::{Requirement, RequirementMap};
+use std::alloc::Allocator;
+use typed_ids::{
+    DenseIndex, DisjunctionId, LearntClauseId, StoreError, StringId, VariableId, VersionSetId,
+};
 
 /// A clause: one of its literals has to be true. `N` are the names of packages.
 #[derive(Clone, Copy, Debug)]
@@ -51,5 +64,119 @@ impl<N> Clause<N> {
             | Clause::Learnt(_)
             | Clause::Excluded(_, _) => false,
         }
+    }
+
+    /// The clause's literals, in order, by the learnt clauses, the lists of candidates by requirements and the
+    /// disjunctions that clauses refer to. What isn't kept there has no literals.
+    pub fn literals<A: Allocator + Copy>(
+        &self,
+        alloc: A,
+        learnt: &Arena<LearntClauseId, Vec<Literal, A>, A>,
+        lists: &RequirementMap<Vec<Vec<VariableId, A>, A>, A>,
+        disjunctions: &Arena<DisjunctionId, Disjunction<A>, A>,
+    ) -> Result<Vec<Literal, A>, StoreError>
+        ensures ok { IfOk result (λ literals. literals.items ≡ literals_of (kept_in learnt.now lists.now disjunctions.now) self.now) }
+        ensures memory { IfErr result (λ e. e ≡ OutOfMemory) }
+    {
+        self.walk(learnt, lists, disjunctions).collect(alloc)
+    }
+
+    /// The first of the clause's literals that passes the test. Asks the test up to there, and takes no memory. The
+    /// stores are those of [`Clause::literals`].
+    pub fn find_literal<A: Allocator + Copy, F: Fn(Literal) -> bool>(
+        &self,
+        learnt: &Arena<LearntClauseId, Vec<Literal, A>, A>,
+        lists: &RequirementMap<Vec<Vec<VariableId, A>, A>, A>,
+        disjunctions: &Arena<DisjunctionId, Disjunction<A>, A>,
+        test: F,
+    ) -> Option<Literal>
+        requires { F.IsAlwaysCallable test }
+        ensures first { IsFirstTrue (λ l b. F.post test l b) (literals_of (kept_in learnt.now lists.now disjunctions.now) self.now) result }
+        ensures tested { (passes : Lit → Bool) → ((l : Lit) (b : Bool) → F.post test l b → b ≡ passes l) →
+            result ≡ find passes (literals_of (kept_in learnt.now lists.now disjunctions.now) self.now) }
+    {
+        self.walk(learnt, lists, disjunctions).find(test)
+    }
+
+    /// Where the clause's literals are.
+    fn walk<'a, A: Allocator + Copy>(
+        &self,
+        learnt: &'a Arena<LearntClauseId, Vec<Literal, A>, A>,
+        lists: &'a RequirementMap<Vec<Vec<VariableId, A>, A>, A>,
+        disjunctions: &'a Arena<DisjunctionId, Disjunction<A>, A>,
+    ) -> LiteralWalk<'a, A>
+        ensures { literals_in result ≡ literals_of (kept_in learnt.now lists.now disjunctions.now) self.now }
+    {
+        let (first, second) = self.own_literals();
+        LiteralWalk {
+            first,
+            second,
+            kept: self.stored_literals(learnt, disjunctions),
+            candidates: &[],
+            lists: self.stored_lists(lists),
+        }
+    }
+
+    /// The literals that the clause has itself.
+    fn own_literals(&self) -> (Option<Literal>, Option<Literal>)
+        ensures { (k : Kept) → literals_of k self.now ≡ option_to_list result.0 ++ (option_to_list result.1 ++ asked_literals (stored_literals k self.now) (stored_lists k self.now)) }
+    {
+        match self {
+            Clause::InstallRoot => (Some(positive(VariableId::root())), None),
+            Clause::Requires(parent, _, _) => (Some(negative(*parent)), None),
+            Clause::ForbidMultipleInstances(candidate, literal, _) => {
+                (Some(negative(*candidate)), Some(*literal))
+            }
+            Clause::Constrains(parent, forbidden, _) => {
+                (Some(negative(*parent)), Some(negative(*forbidden)))
+            }
+            Clause::ConstrainsExcluded(candidate, aux, _) => {
+                (Some(negative(*candidate)), Some(positive(*aux)))
+            }
+            Clause::ConstrainsParent(parent, aux, _) => {
+                (Some(negative(*parent)), Some(negative(*aux)))
+            }
+            Clause::Lock(_, other) => (Some(negative(*other)), Some(negative(VariableId::root()))),
+            Clause::Learnt(_) => (None, None),
+            Clause::Excluded(candidate, _) => (Some(negative(*candidate)), None),
+            Clause::AnyOf(selected, other) => {
+                (Some(positive(*selected)), Some(negative(*other)))
+            }
+        }
+    }
+
+    /// The literals that are kept for the clause.
+    fn stored_literals<'a, A: Allocator>(
+        &self,
+        learnt: &'a Arena<LearntClauseId, Vec<Literal, A>, A>,
+        disjunctions: &'a Arena<DisjunctionId, Disjunction<A>, A>,
+    ) -> &'a [Literal]
+        ensures { (k : Kept) → k.learnt ≡ map (λ c. c.items) learnt.now → k.disjunctions ≡ map (λ d. d.literals.items) disjunctions.now →
+            result.now ≡ stored_literals k self.now }
+    {
+        match self {
+            Clause::Requires(_, Some(id), _) if id.to_index() < disjunctions.len() => {
+                return &disjunctions[*id].literals;
+            }
+            Clause::Learnt(id) if id.to_index() < learnt.len() => return &learnt[*id],
+            _ => {}
+        }
+        &[]
+    }
+
+    /// The lists of candidates that are kept for the clause.
+    fn stored_lists<'a, A: Allocator + Copy>(
+        &self,
+        lists: &'a RequirementMap<Vec<Vec<VariableId, A>, A>, A>,
+    ) -> &'a [Vec<VariableId, A>]
+        ensures { (k : Kept) → ((r : Requirement) → k.lists r ≡ lists_found (lookup (same_requirement r) lists.now)) →
+            map (λ list. list.items) result.now ≡ stored_lists k self.now }
+    {
+        if let Clause::Requires(_, _, requirement) = self {
+            if let Some(lists) = lists.get(*requirement) {
+                return lists.as_slice();
+            }
+        }
+        &[]
     }
 }

@@ -1,14 +1,22 @@
 //! The two literals that a clause watches.
-ghost use Rattle.std.specs.Prelude.{◌≡◌, ◌<◌, ◌&&◌, not, length, None, option_map};
-ghost use Rattle.decisions.specs.Literals.{Pos, Neg, Values, known_true, known_false};
+ghost use Rattle.std.specs.Prelude.{◌≡◌, ◌<◌, ◌&&◌, not, [], ◌∷◌, map, length, None, option_map};
+ghost use Rattle.decisions.specs.Decisions.{values_in};
+ghost use Rattle.decisions.specs.Literals.{Neg, Values, known_true, known_false, is_false_literal};
 ghost use Rattle.decisions.specs.Trail.{val};
-ghost use Rattle.clauses.specs.Clauses.{Kept, watch_pair, watch_ends, first_watches, is_conflict};
-ghost use Rattle.clauses.specs.declared.clause.Clause.TheVariants.{InstallRoot, ForbidMultipleInstances, Constrains, ConstrainsExcluded, ConstrainsParent, Lock, Learnt, Excluded, AnyOf};
+ghost use Rattle.clauses.specs.Clauses.{Kept, condition_literals, asked_literals, same_literal, watch_pair, watch_beside, watch_ends};
+ghost use Rattle.clauses.specs.Clauses.{first_not_false, first_watches, is_met_by_parent, is_conflict, next_unwatched};
+ghost use Rattle.clauses.specs.Stored.{kept_in};
+ghost use Rattle.clauses.specs.Walks.{literals_in};
+ghost use Rattle.clauses.specs.declared.clause.Clause.TheVariants.{InstallRoot, Requires, ForbidMultipleInstances, Constrains, ConstrainsExcluded, ConstrainsParent, Lock, Learnt, Excluded, AnyOf};
 
 use crate::clause::Clause;
-use decisions::{DecisionTracker, Literal};
+use crate::disjunction::Disjunction;
+use crate::literal_walk::{LiteralWalk, negative, positive};
+use decisions::{DecisionMap, DecisionTracker, Literal};
+use id_storage::Arena;
+use providers::{Requirement, RequirementMap};
 use std::alloc::Allocator;
-use typed_ids::{LearntClauseId, StringId, VariableId, VersionSetId};
+use typed_ids::{DisjunctionId, LearntClauseId, SameValue, StringId, VariableId, VersionSetId};
 
 /// The two literals that a clause watches: while neither is false, nothing follows from the clause.
 ///
@@ -27,6 +35,57 @@ impl WatchedLiterals {
         ensures watches { result.0 ≡ None }
     {
         (None, Clause::InstallRoot)
+    }
+
+    /// The clause that the parent requires one of the candidates, unless one of the disjunction's literals is true, and
+    /// whether it is a conflict. Without a disjunction there are no such literals.
+    pub fn requires_clause<N, A: Allocator + Copy>(
+        parent: VariableId,
+        requirement: Requirement,
+        candidates: &[VariableId],
+        disjunction: Option<DisjunctionId>,
+        literals: &[Literal],
+        tracker: &DecisionTracker<A>,
+    ) -> (Option<Self>, bool, Clause<N>)
+        ensures clause { result.2 ≡ Requires parent disjunction requirement }
+        ensures watches { option_map (λ w. w.watched_literals) result.0
+            ≡ watch_beside (Neg parent) (first_not_false (val tracker.now.entries) (asked_literals literals.now (candidates.now ∷ []))) }
+        ensures conflict { result.1 ≡ is_met_by_parent (val tracker.now.entries) parent (asked_literals literals.now (candidates.now ∷ [])) }
+    {
+        let others = LiteralWalk {
+            first: None,
+            second: None,
+            kept: literals,
+            candidates,
+            lists: &[],
+        };
+        Self::requires_others(parent, requirement, disjunction, &others, tracker)
+    }
+
+    /// The same clause, of candidates that are kept in lists.
+    pub fn requires_of_lists<N, A: Allocator + Copy>(
+        parent: VariableId,
+        requirement: Requirement,
+        lists: &[Vec<VariableId, A>],
+        disjunction: Option<DisjunctionId>,
+        literals: &[Literal],
+        tracker: &DecisionTracker<A>,
+    ) -> (Option<Self>, bool, Clause<N>)
+        ensures clause { result.2 ≡ Requires parent disjunction requirement }
+        ensures watches { option_map (λ w. w.watched_literals) result.0
+            ≡ watch_beside (Neg parent) (first_not_false (val tracker.now.entries) (asked_literals literals.now (map (λ list. list.items) lists.now))) }
+        ensures conflict { result.1 ≡ is_met_by_parent (val tracker.now.entries) parent (asked_literals literals.now (map (λ list. list.items) lists.now)) }
+        ensures kept { (k : Kept) → condition_literals k disjunction ≡ literals.now → k.lists requirement ≡ map (λ list. list.items) lists.now →
+            (option_map (λ w. w.watched_literals) result.0 ≡ first_watches k (val tracker.now.entries) result.2) × (result.1 ≡ is_conflict k (val tracker.now.entries) result.2) }
+    {
+        let others = LiteralWalk {
+            first: None,
+            second: None,
+            kept: literals,
+            candidates: &[],
+            lists,
+        };
+        Self::requires_others(parent, requirement, disjunction, &others, tracker)
     }
 
     /// The clause that the parent forbids the other solvable, and whether it is a conflict.
@@ -137,6 +196,65 @@ impl WatchedLiterals {
         (watches, Clause::AnyOf(selected, other))
     }
 
+    /// The clause that the parent requires one of the other literals.
+    fn requires_others<N, A: Allocator + Copy>(
+        parent: VariableId,
+        requirement: Requirement,
+        disjunction: Option<DisjunctionId>,
+        others: &LiteralWalk<A>,
+        tracker: &DecisionTracker<A>,
+    ) -> (Option<Self>, bool, Clause<N>)
+        ensures clause { result.2 ≡ Requires parent disjunction requirement }
+        ensures watches { option_map (λ w. w.watched_literals) result.0
+            ≡ watch_beside (Neg parent) (first_not_false (val tracker.now.entries) (literals_in others.now)) }
+        ensures conflict { result.1 ≡ is_met_by_parent (val tracker.now.entries) parent (literals_in others.now) }
+    {
+        let map = tracker.map();
+        let first = others.find(|_| true);
+        let other = others.find(|literal| !is_false(map, literal));
+        let value = tracker.assigned_value(parent);
+        let conflict = is_met_by_parent(other.is_some(), first.is_some(), value);
+        let watches = Self::beside(negative(parent), other.or(first));
+        (
+            watches,
+            conflict,
+            Clause::Requires(parent, disjunction, requirement),
+        )
+    }
+
+    /// What the clause may watch in place of the watch at this index, 0 or 1: its first literal that isn't the other watch
+    /// and isn't false. A binary clause has none. Takes no memory. The stores are those of [`Clause::literals`].
+    pub fn next_unwatched_literal<N, A: Allocator + Copy>(
+        &self,
+        clause: &Clause<N>,
+        learnt: &Arena<LearntClauseId, Vec<Literal, A>, A>,
+        lists: &RequirementMap<Vec<Vec<VariableId, A>, A>, A>,
+        disjunctions: &Arena<DisjunctionId, Disjunction<A>, A>,
+        map: &DecisionMap<A>,
+        index: usize,
+    ) -> Option<Literal>
+        requires { index < 2 }
+        ensures { result ≡ next_unwatched (kept_in learnt.now lists.now disjunctions.now) (values_in map.now) clause.now self.now.watched_literals index }
+    {
+        if clause.is_binary() {
+            return None;
+        }
+        let other = self.watched_literals[1 - index];
+        clause.find_literal(learnt, lists, disjunctions, |literal| {
+            may_replace(map, other, literal)
+        })
+    }
+
+    /// A literal beside another, if there is one.
+    fn beside(literal: Literal, other: Option<Literal>) -> Option<Self>
+        ensures { option_map (λ w. w.watched_literals) result ≡ watch_beside literal other }
+    {
+        match other {
+            Some(other) => Self::pair(literal, other),
+            None => None,
+        }
+    }
+
     /// Two literals as watches, if they are different ones.
     fn pair(first: Literal, second: Literal) -> Option<Self>
         ensures { option_map (λ w. w.watched_literals) result ≡ watch_pair first second }
@@ -150,16 +268,32 @@ impl WatchedLiterals {
     }
 }
 
-fn positive(variable: VariableId) -> Literal
-    ensures { result ≡ Pos variable }
-{
-    Literal::new(variable, false)
+impl SameValue for WatchedLiterals {
+    ghost use Rattle.std.proofs.Common.{ap};
+    ghost use Rattle.clauses.specs.SameLaws.{same_literals};
+
+    ghost same = { λ a b h. ap (λ literals. record { watched_literals = literals }) (same_literals a.watched_literals b.watched_literals h) };
 }
 
-fn negative(variable: VariableId) -> Literal
-    ensures { result ≡ Neg variable }
+fn is_false<A: Allocator + Copy>(map: &DecisionMap<A>, literal: Literal) -> bool
+    ensures { result ≡ is_false_literal (values_in map.now) literal }
 {
-    Literal::new(variable, true)
+    literal.eval(map) == Some(false)
+}
+
+/// Whether it is another literal than the other watch, and isn't false.
+fn may_replace<A: Allocator + Copy>(map: &DecisionMap<A>, other: Literal, literal: Literal) -> bool
+    ensures { result ≡ (not (same_literal literal other) && not (is_false_literal (values_in map.now) literal)) }
+{
+    literal != other && !is_false(map, literal)
+}
+
+/// Whether a clause is a conflict but for its parent, by whether some other literal isn't false, whether there is any, and
+/// the parent's value.
+fn is_met_by_parent(has_other: bool, has_first: bool, parent: Option<bool>) -> bool
+    ensures { result ≡ (not has_other && (has_first && not (known_false parent))) }
+{
+    !has_other && has_first && parent != Some(false)
 }
 
 /// Whether the second one is true, and the first one, which isn't false, forbids that.

@@ -1,10 +1,14 @@
 -- The definitions of the rooms, by topic.
 pub mod Types
 pub use Rattle.decisions.specs.Decisions
+pub use Rattle.decisions.specs.Floor
 pub use Rattle.decisions.specs.LiteralIndex
 pub use Rattle.decisions.specs.Literals
 pub use Rattle.decisions.specs.Tracker
 pub use Rattle.decisions.specs.Trail
 pub use Rattle.variables.specs.Forgetting
 pub use Rattle.variables.specs.Variables
+pub use Rattle.variable_info.specs.VariableTexts
 pub use Rattle.clauses.specs.Clauses
+pub use Rattle.clauses.specs.ClauseTexts
+pub use Rattle.clauses.specs.Stored

@@ -1,9 +1,10 @@
-//! Variables, literals, clauses and the trail of decisions: the door to three rooms.
+//! Variables, literals, clauses and the trail of decisions: the door to four rooms.
 //!
 //! | room | what it holds |
 //! |---|---|
 //! | `decisions` | literals, decisions, and the trail of decisions |
 //! | `variables` | what each variable stands for, and the variables of solvables |
+//! | `variable_info` | the literals of a variable, what it stands for, and its text |
 //! | `clauses` | the kinds of clauses, their literals, and the two that a clause watches |
 //!
 //! A clause names a definition of a room as `Rattle.resolvo_clauses.specs.TOPIC`, and a type with its variants as
@@ -12,4 +13,5 @@
 
 pub use clauses::{Clause, Disjunction, WatchedLiterals};
 pub use decisions::{AddFault, Decision, DecisionMap, DecisionTracker, Literal};
+pub use variable_info::VariableInfo;
 pub use variables::{VariableMap, VariableOrigin};

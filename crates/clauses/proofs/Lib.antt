@@ -1,0 +1,3 @@
+pub mod CallerLaws
+pub mod WalkLemmas
+pub mod WatchLemmas
