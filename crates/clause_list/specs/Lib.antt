@@ -1,0 +1,2 @@
+pub mod ClauseList
+pub mod ClauseListView

@@ -1,0 +1,8 @@
+//! The list of all clauses of a store, each with what it watches, and the literals of the learnt ones.
+//!
+//! A clause's id is its place in the list. What the calls make of the list is said in `specs/ClauseList`.
+#![tactic(auto)]
+
+mod clause_list;
+
+pub use clause_list::ClauseList;
