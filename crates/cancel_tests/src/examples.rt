@@ -1,14 +1,13 @@
 //! The provider of the tests, commands, and the replies that are wanted.
-use crate::obeys::{Row, Seen};
+use crate::obeys::{Asked, Row, Seen};
 use asking_providers::{Asking, Counts, Listing, Stops};
 use plain_providers::{Lists, Package, VersionRange};
 use providers::{HintDependenciesAvailable, Requirement};
-use resolvo_store::Command;
 use std::alloc::{AllocError, Allocator};
-use typed_ids::{DenseIndex, NameId, StoreError, VariableId, VersionSetId, VersionSetUnionId};
+use typed_ids::{NameId, StoreError, VersionSetId, VersionSetUnionId};
 
 /// A command, and the reply that is wanted.
-pub(crate) type Step<S> = (Command<S>, Seen);
+pub(crate) type Step<S> = (Asked<S>, Seen);
 
 fn package(name: u32, version: u32) -> Package {
     Package {
@@ -90,23 +89,23 @@ pub(crate) fn two(first: usize, second: usize) -> Row {
 
 /// The variable of a solvable is this one.
 pub(crate) fn variable<S>(solvable: S, place: usize) -> Step<S> {
-    (Command::Variable(solvable), Seen::Variable(place))
+    (Asked::Variable(solvable), Seen::Variable(place))
 }
 
 /// The version set is loaded, and has this list.
 pub(crate) fn loads<S>(set: u32, list: Row) -> Step<S> {
-    (Command::Load(single(set)), Seen::Loaded(1, [list, NONE]))
+    (Asked::Load(single(set)), Seen::Loaded(1, [list, NONE]))
 }
 
 /// Union 0 is loaded, and has these lists.
 pub(crate) fn loads_union<S>(lists: [Row; 2]) -> Step<S> {
-    (Command::Load(union(0)), Seen::Loaded(2, lists))
+    (Asked::Load(union(0)), Seen::Loaded(2, lists))
 }
 
 /// The load of the requirement is stopped.
 pub(crate) fn stops<S>(requirement: Requirement) -> Step<S> {
     (
-        Command::Load(requirement),
+        Asked::Load(requirement),
         Seen::Refused(StoreError::Cancelled),
     )
 }
@@ -114,16 +113,12 @@ pub(crate) fn stops<S>(requirement: Requirement) -> Step<S> {
 /// The requirement isn't loaded: no clause of it is taken.
 pub(crate) fn is_not_loaded<S>(requirement: Requirement) -> Step<S> {
     (
-        root_requires(requirement),
+        Asked::Requires(requirement),
         Seen::Refused(StoreError::NotLoaded),
     )
 }
 
 /// The requirement is loaded: the clause of it gets this place.
 pub(crate) fn is_loaded<S>(requirement: Requirement, clause: usize) -> Step<S> {
-    (root_requires(requirement), Seen::Clause(clause))
-}
-
-fn root_requires<S>(requirement: Requirement) -> Command<S> {
-    Command::Requires(VariableId::from_index(0), requirement, None)
+    (Asked::Requires(requirement), Seen::Clause(clause))
 }

@@ -1,7 +1,7 @@
 //! What the tests ask of a store. What they share is generic in it, since a proof over a type parameter is much shorter
 //! than one over the store's own type.
 use asking_providers::{Counting, Counts};
-use providers::{DependencyProvider, Interner};
+use providers::{DependencyProvider, Interner, Requirement};
 use resolvo_store::{ClauseStore, Command, Reply};
 use std::alloc::Allocator;
 use typed_ids::{DenseIndex, StoreError, VariableId};
@@ -24,17 +24,26 @@ pub(crate) enum Seen {
     Other,
 }
 
+/// A command that the tests give. It owns nothing.
+#[derive(Clone, Copy)]
+pub(crate) enum Asked<S> {
+    Variable(S),
+    Load(Requirement),
+    /// The root requires this.
+    Requires(Requirement),
+}
+
 /// The place of the first unwanted reply, with the reply.
 pub(crate) type Unwanted = Option<(usize, Seen)>;
 
-/// A store over a provider with solvables `S`.
-pub(crate) trait Obeys<S> {
-    fn obey(&mut self, command: &Command<S>) -> Seen;
+/// A store over a provider with names `N` and solvables `S`.
+pub(crate) trait Obeys<N, S, A: Allocator> {
+    fn obey(&mut self, asked: Asked<S>) -> Seen;
 
     /// The first reply to a run of the commands that isn't as wanted.
     fn run_unwanted(
         &mut self,
-        commands: &[Command<S>],
+        commands: &[Command<N, S, A>],
         wanted: &[Seen],
     ) -> Result<Unwanted, StoreError>;
 
@@ -42,9 +51,18 @@ pub(crate) trait Obeys<S> {
     fn counts(&self) -> Counts;
 }
 
-impl<D: DependencyProvider + Counting + Drop> Obeys<D::SolvableId> for ClauseStore<D> {
-    fn obey(&mut self, command: &Command<D::SolvableId>) -> Seen {
-        let reply = self.step(command);
+impl<D: DependencyProvider + Counting + Drop> Obeys<D::NameId, D::SolvableId, D::Alloc>
+    for ClauseStore<D> {
+    fn obey(&mut self, asked: Asked<D::SolvableId>) -> Seen {
+        let reply = self.step(&match asked {
+            Asked::Variable(solvable) => Command::Variable(solvable),
+            Asked::Load(requirement) => Command::Load(requirement),
+            Asked::Requires(requirement) => Command::Requires(
+                VariableId::root(),
+                requirement,
+                None,
+            ),
+        });
         let seen = seen_of(&reply);
         drop(reply);
         seen
@@ -52,7 +70,7 @@ impl<D: DependencyProvider + Counting + Drop> Obeys<D::SolvableId> for ClauseSto
 
     fn run_unwanted(
         &mut self,
-        commands: &[Command<D::SolvableId>],
+        commands: &[Command<D::NameId, D::SolvableId, D::Alloc>],
         wanted: &[Seen],
     ) -> Result<Unwanted, StoreError> {
         let replies = self.run(commands)?;

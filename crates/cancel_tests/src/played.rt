@@ -4,33 +4,33 @@ use crate::obeys::{Obeys, Seen, Unwanted};
 use asking_providers::{Counting, Counts, Stops};
 use providers::{DependencyProvider, Interner};
 use resolvo_store::{ClauseStore, Command};
-use std::alloc::Allocator;
+use std::alloc::{Allocator, Global};
 use std::test::Fail;
 use test_checks::sees;
-use typed_ids::{SolvableId, StoreError};
+use typed_ids::{NameId, SolvableId, StoreError};
 
 /// What a test does with a new store. One function owns the stores of all tests, since its proof is long.
-pub(crate) trait Play<S> {
+pub(crate) trait Play<N, S, A: Allocator> {
     /// What is seen of the store.
     type Told;
 
-    fn play<T: Obeys<S>>(&self, store: &mut T) -> Self::Told;
+    fn play<T: Obeys<N, S, A>>(&self, store: &mut T) -> Self::Told;
 }
 
 /// Commands, and the replies that are wanted.
 #[derive(Drop)]
-enum Script<'s, S> {
+enum Script<'s, N, S, A: Allocator> {
     /// Given in turn.
     Steps(&'s [Step<S>]),
     /// Given in one run.
-    Run(&'s [Command<S>], &'s [Seen]),
+    Run(&'s [Command<N, S, A>], &'s [Seen]),
 }
 
-impl<S> Play<S> for Script<'_, S> {
+impl<N, S: Copy, A: Allocator> Play<N, S, A> for Script<'_, N, S, A> {
     /// The first unwanted reply, unless a run is refused whole, and how often the provider was asked.
     type Told = (Result<Unwanted, StoreError>, Counts);
 
-    fn play<T: Obeys<S>>(&self, store: &mut T) -> (Result<Unwanted, StoreError>, Counts) {
+    fn play<T: Obeys<N, S, A>>(&self, store: &mut T) -> (Result<Unwanted, StoreError>, Counts) {
         let unwanted = match self {
             Script::Steps(steps) => Ok(first_unwanted(store, steps)),
             Script::Run(commands, wanted) => store.run_unwanted(commands, wanted),
@@ -40,10 +40,13 @@ impl<S> Play<S> for Script<'_, S> {
 }
 
 /// The first reply that isn't as wanted.
-pub(crate) fn first_unwanted<S, T: Obeys<S>>(store: &mut T, steps: &[Step<S>]) -> Unwanted {
+pub(crate) fn first_unwanted<N, S: Copy, A: Allocator, T: Obeys<N, S, A>>(
+    store: &mut T,
+    steps: &[Step<S>],
+) -> Unwanted {
     let mut unwanted = None;
-    for (i, (command, wanted)) in steps.iter().enumerate() {
-        let seen = store.obey(command);
+    for (i, (asked, wanted)) in steps.iter().enumerate() {
+        let seen = store.obey(*asked);
         if unwanted.is_none() && seen != *wanted {
             unwanted = Some((i, seen));
         }
@@ -52,7 +55,7 @@ pub(crate) fn first_unwanted<S, T: Obeys<S>>(store: &mut T, steps: &[Step<S>]) -
 }
 
 /// What is seen of a new store over the provider.
-fn play_new<D: DependencyProvider + Counting + Drop, P: Play<D::SolvableId>>(
+fn play_new<D: DependencyProvider + Counting + Drop, P: Play<D::NameId, D::SolvableId, D::Alloc>>(
     alloc: D::Alloc,
     provider: D,
     play: &P,
@@ -64,7 +67,7 @@ fn play_new<D: DependencyProvider + Counting + Drop, P: Play<D::SolvableId>>(
 }
 
 /// The same over a few packages with dense ids.
-pub(crate) fn dense_play<A: Allocator + Copy, P: Play<SolvableId>>(
+pub(crate) fn dense_play<A: Allocator + Copy, P: Play<NameId, SolvableId, A>>(
     alloc: A,
     stops: Stops,
     play: &P,
@@ -88,7 +91,7 @@ pub(crate) fn dense_gives(
 pub(crate) fn dense_run_gives(
     rt: &impl AllocGlobal,
     stops: Stops,
-    commands: &[Command<SolvableId>],
+    commands: &[Command<NameId, SolvableId, Global>],
     replies: &[Seen],
     wanted: Counts,
 ) -> Result<(), Fail> {

@@ -3,12 +3,11 @@
 use crate::examples::{
     Step, counts, is_loaded, is_not_loaded, loads, loads_union, one, single, two, union, variable,
 };
-use crate::obeys::{Obeys, Seen, Unwanted};
+use crate::obeys::{Asked, Obeys, Seen, Unwanted};
 use crate::played::{Play, dense_gives, dense_play, first_unwanted};
 use asking_providers::{Counts, Stops};
 use refusing::Refusing;
-use resolvo_store::Command;
-use std::alloc::Global;
+use std::alloc::{Allocator, Global};
 use std::test::Fail;
 use test_checks::{is_same, sees};
 use typed_ids::{SolvableId, StoreError};
@@ -35,13 +34,13 @@ struct Refusal {
     is_met: bool,
 }
 
-impl<S: Copy> Play<S> for Trial<'_, S> {
+impl<N, S: Copy, A: Allocator> Play<N, S, A> for Trial<'_, S> {
     type Told = Refusal;
 
-    fn play<T: Obeys<S>>(&self, store: &mut T) -> Refusal {
+    fn play<T: Obeys<N, S, A>>(&self, store: &mut T) -> Refusal {
         let before = first_unwanted(store, self.before);
         self.heap.arm(self.number);
-        let reply = store.obey(&Command::Load(union(0)));
+        let reply = store.obey(Asked::Load(union(0)));
         let is_met = !self.heap.is_armed();
         self.heap.arm(0);
         let asked = store.counts();

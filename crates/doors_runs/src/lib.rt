@@ -3,4 +3,8 @@
 #![tactic(auto)]
 
 #[cfg(test)]
+mod clause_commands;
+#[cfg(test)]
 mod tests;
+#[cfg(test)]
+mod wanted;

@@ -1,78 +1,19 @@
 //! The library as a program uses it. What is done to a store is done through `&mut`, and the answers are copied out of it
 //! before it is dropped: so the proofs stay short.
+use crate::wanted::{Chosen, Compared, Wanted, compared};
 use doors_tests::{Release, SearchEnd, Shelf, Since, ask, give, require, rule_out, search};
-use resolvo_ids::{ClauseId, DenseIndex, NameId, SolvableId, StoreError, VariableId, VersionSetId};
-use resolvo_pool::{DependencyProvider, Requirement};
-use resolvo_queue::QueueDecision;
-use resolvo_store::{ClauseStore, Command, Reply};
-use std::alloc::Allocator;
+use resolvo_clauses::{Literal, VariableOrigin};
+use resolvo_ids::{
+    ClauseId, DenseIndex, NameId, SolvableId, StoreError, StringId, VariableId, VersionSetId,
+};
+use resolvo_pool::{DependencyProvider, Interner, Requirement};
+use resolvo_store::{ClauseStore, Command, HelperOrigin, Reply};
+use std::alloc::{Allocator, Global};
 use std::test::Fail;
 use test_checks::is_same;
 
-/// A reply that is wanted, in plain numbers.
-#[derive(Clone, Copy)]
-enum Wanted {
-    /// So many candidates, in one list.
-    Loaded(usize),
-    /// The clause is added, and is no conflict.
-    Clause(usize),
-    Assigned,
-    Undone,
-    Decided(Chosen),
-    NoDecision,
-}
-
-/// A candidate that is to be decided, the clause that wants it, and how many candidates there are.
-#[derive(Clone, Copy)]
-struct Chosen {
-    candidate: usize,
-    clause: usize,
-    count: usize,
-}
-
-/// Whether the reply is the wanted one.
-fn is_wanted<A: Allocator>(reply: &Reply<A>, wanted: Wanted) -> bool {
-    match (reply, wanted) {
-        (Reply::Loaded(lists), Wanted::Loaded(count)) => are_candidates(lists, count),
-        (Reply::Clause(given, conflict), Wanted::Clause(index)) => {
-            given.to_index() == index && !*conflict
-        }
-        (Reply::Assigned, Wanted::Assigned) => true,
-        (Reply::Undone(_), Wanted::Undone) => true,
-        (Reply::Decided(decision), Wanted::Decided(chosen)) => is_chosen(*decision, chosen),
-        (Reply::NoDecision, Wanted::NoDecision) => true,
-        _ => false,
-    }
-}
-
-fn are_candidates<A: Allocator>(lists: &[Vec<VariableId, A>], count: usize) -> bool {
-    match lists {
-        [list] => list.len() == count,
-        _ => false,
-    }
-}
-
-fn is_chosen(decision: QueueDecision, chosen: Chosen) -> bool {
-    decision.candidate.to_index() == chosen.candidate
-        && decision.clause_id.to_index() == chosen.clause
-        && decision.candidate_count == chosen.count
-}
-
-/// How many replies there are, and the place of the first that isn't as wanted.
-type Compared = (usize, Option<usize>);
-
-fn compared<A: Allocator>(replies: &[Reply<A>], wanted: &[Wanted]) -> Compared {
-    for (i, reply) in replies.iter().enumerate() {
-        match wanted.get(i) {
-            Some(wanted) if is_wanted(reply, *wanted) => {}
-            _ => return (replies.len(), Some(i)),
-        }
-    }
-    (replies.len(), None)
-}
-
 /// Package 0 in versions 1 and 2, package 1 in version 1, and all releases of packages 0, 1 and 2.
-fn shelf<A: Allocator + Copy>(alloc: A) -> Result<Shelf<A>, StoreError> {
+pub(crate) fn shelf<A: Allocator + Copy>(alloc: A) -> Result<Shelf<A>, StoreError> {
     let releases = vec![in alloc; release(0, 1), release(0, 2), release(1, 1)]?;
     let sets = vec![in alloc; all_of(0), all_of(1), all_of(2)]?;
     Ok(Shelf { releases, sets })
@@ -92,16 +33,16 @@ fn all_of(name: u32) -> Since {
     }
 }
 
-fn single(set: u32) -> Requirement {
+pub(crate) fn single(set: u32) -> Requirement {
     Requirement::Single(VersionSetId(set))
 }
 
-fn variable(index: u16) -> VariableId {
+pub(crate) fn variable(index: u16) -> VariableId {
     VariableId::from_index(index as usize)
 }
 
 /// Both packages are required; a decision is asked for, taken, undone, and asked for again.
-fn commands() -> [Command<SolvableId>; 11] {
+fn commands() -> [Command<NameId, SolvableId, Global>; 11] {
     let root = VariableId::root();
     let first = ClauseId::from_index(0);
     [
@@ -146,23 +87,25 @@ const WANTED: [Wanted; 11] = [
 ];
 
 /// What a new store answers to the commands, compared with what is wanted.
-fn played<D: DependencyProvider + Drop>(
+pub(crate) fn played<D: DependencyProvider + Drop>(
     alloc: D::Alloc,
     provider: D,
-    commands: &[Command<D::SolvableId>],
+    commands: &[Command<D::NameId, D::SolvableId, D::Alloc>],
+    wanted: &[Wanted],
 ) -> Result<Compared, StoreError> {
     let mut store = ClauseStore::new(alloc, provider)?;
-    let compared = answered(&mut store, commands);
+    let compared = answered(&mut store, commands, wanted);
     drop(store);
     compared
 }
 
 fn answered<D: DependencyProvider + Drop>(
     store: &mut ClauseStore<D>,
-    commands: &[Command<D::SolvableId>],
+    commands: &[Command<D::NameId, D::SolvableId, D::Alloc>],
+    wanted: &[Wanted],
 ) -> Result<Compared, StoreError> {
     let replies = store.run(commands)?;
-    let compared = compared(&replies, &WANTED);
+    let compared = compared(&replies, wanted);
     drop(replies);
     Ok(compared)
 }
@@ -170,7 +113,8 @@ fn answered<D: DependencyProvider + Drop>(
 #[test]
 fn a_run_is_answered_line_by_line(rt: HostRuntime) -> Result<(), Fail> {
     let shelf = shelf(rt.alloc())?;
-    is_same(played(rt.alloc(), shelf, &commands()), Ok((11, None)))
+    let compared = played(rt.alloc(), shelf, &commands(), &WANTED);
+    is_same(compared, Ok((11, None)))
 }
 
 /// What is seen of a search: how it ended, and the values of the three candidates.
@@ -305,4 +249,65 @@ fn asking_names_a_decision_or_a_falsified_clause(rt: HostRuntime) -> Result<(), 
         Err(ClauseId::from_index(0)),
     ];
     is_same(questioned(rt.alloc(), shelf), Ok(wanted))
+}
+
+/// What is read of a store: whether its newest variable stands for some solvable of the package, and the variable of the
+/// one literal of its newest clause, with whether the literal is negated.
+type Read = (bool, Option<(VariableId, bool)>);
+
+/// What is read of a store that is given a helper variable, and a clause that excludes it.
+fn read<D: DependencyProvider + Drop>(
+    store: &mut ClauseStore<D>,
+    name: D::NameId,
+) -> Result<Read, StoreError> {
+    let Reply::Variable(helper) = store.obey(&Command::Helper(HelperOrigin::AtLeastOne(name)))?
+    else {
+        return Ok((false, None));
+    };
+    let Reply::Clause(clause, _) = store.obey(&Command::Exclude(helper, StringId(0)))? else {
+        return Ok((false, None));
+    };
+    let literal = match store.literals(clause)? {
+        Some(literals) => {
+            let literal = one_literal(&literals);
+            drop(literals);
+            literal
+        }
+        None => None,
+    };
+    Ok((stands_for(store.origin(helper), name), literal))
+}
+
+fn one_literal(literals: &[Literal]) -> Option<(VariableId, bool)> {
+    match literals {
+        [literal] => Some((literal.variable(), !literal.satisfying_value())),
+        _ => None,
+    }
+}
+
+/// Whether the variable stands for some solvable of the package.
+fn stands_for<N: PartialEq + Copy, S: Copy>(origin: Option<VariableOrigin<N, S>>, name: N) -> bool {
+    match origin {
+        Some(VariableOrigin::AtLeastOne(package)) => package == name,
+        _ => false,
+    }
+}
+
+/// What is read of a new store.
+fn read_new<D: DependencyProvider + Drop>(
+    alloc: D::Alloc,
+    provider: D,
+    name: D::NameId,
+) -> Result<Read, StoreError> {
+    let mut store = ClauseStore::new(alloc, provider)?;
+    let seen = read(&mut store, name);
+    drop(store);
+    seen
+}
+
+#[test]
+fn helpers_and_clauses_are_read(rt: HostRuntime) -> Result<(), Fail> {
+    let shelf = shelf(rt.alloc())?;
+    let wanted = (true, Some((variable(1), true)));
+    is_same(read_new(rt.alloc(), shelf, NameId::from_raw(0)), Ok(wanted))
 }

@@ -139,7 +139,7 @@ closed false f e g = refl
 
 module _ {N S : Type 0} where
   -- a command that isn't refused is answered by its outcome
-  pub answered_by_outcome : (old new : Store N S) (c : Command S) (reply : Reply) → Step old c reply new → (IsRefused reply → ⊥)
+  pub answered_by_outcome : (old new : Store N S) (c : Command N S) (reply : Reply) → Step old c reply new → (IsRefused reply → ⊥)
       → (reply ≡ (outcome old c).reply) × (new ≡ (outcome old c).store)
   answered_by_outcome old new c reply step answered = by_refusal (first_refusal old c) step
     where

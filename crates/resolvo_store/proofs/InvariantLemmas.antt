@@ -11,19 +11,22 @@ use Rattle.std.proofs.lemmas.List.Elements.{All-push}
 use Rattle.providers.specs.declared.requirement.Requirement.{Requirement}
 use Rattle.providers.specs.Provider.{knows_requirement, sets_of}
 use Rattle.variables.specs.declared.variable_origin.VariableOrigin.{VariableOrigin}
-use Rattle.variables.specs.Variables.{with_variable, with_variables, interned_variable}
-use Rattle.decisions.specs.Trail.{Entry, Trail, val, kept_until, AddsEntry}
+use Rattle.variables.specs.Variables.{with_variables, interned_variable}
+use Rattle.decisions.specs.Trail.{Entry, Trail, val, pushed, AddsEntry}
 use Rattle.decisions.specs.declared.decision_tracker.AddFault.{AddFault}
-use Rattle.decisions.proofs.TrailLemmas.{IsTrail-push}
+use Rattle.decisions.specs.Literals.{Lit}
+use Rattle.clauses.specs.declared.clause.Clause.{Clause}
+use Rattle.clauses.specs.declared.clause.Clause.TheVariants as Kind
+use Rattle.clause_list.specs.ClauseList.{Clauses}
 use Rattle.resolvo_queue.specs.declared.requires_clause.RequiresClause.{RequiresClause}
 use Rattle.resolvo_store.specs.Lists.{lists_kept, AreAsked, IsConsistent}
-use Rattle.resolvo_store.specs.Sound.{IsSound, IsAssigned}
+use Rattle.resolvo_store.specs.Sound.{IsSound, IsPlain}
 use Rattle.resolvo_store.specs.Store.{Store, Provider, store_of, lists_of}
 use Rattle.resolvo_store.proofs.ListLemmas.{items_of, insert-kept, few-more, length-mapped}
 use Rattle.solver_cache.specs.Cache.{Cache, is_set_asked}
 use Rattle.solver_cache.specs.Questions.{IsLater}
 use Rattle.solver_cache.proofs.CacheLemmas.{asked_later}
-use Rattle.resolvo_store.proofs.SoundLaws.{IsSound-trail, IsSound-kept_until, IsSound-requires, IsSound-with_variables, IsSound-interned}
+use Rattle.resolvo_store.proofs.SoundLaws.{IsSound-pushed, IsSound-plain, IsSound-requires, IsSound-with_variables, IsSound-interned}
 
 -- what comes of success, or of failure
 either : {T E P Q : Type 0} (result : Result T E) → OnOk result P → OnErr result Q → P ⊎ Q
@@ -32,78 +35,126 @@ either (Err e) p q = inr q
 
 -- an entry was added to the trail, or the trail stays
 added_or_same : (known : Option Bool) (old new : Trail) (e : Entry) (answer : Result Bool AddFault) → AddsEntry known old e answer new
-    → ((known ≡ None) × (new.entries ≡ old.entries ++ e ∷ [])) ⊎ (new.entries ≡ old.entries)
-added_or_same (Some b) old new e answer h = inr (ap (λ t. t.entries) h.1)
-added_or_same None old new e (Ok added) h = inl (refl, ap (λ t. t.entries) h.1)
-added_or_same None old new e (Err fault) h = inr (ap (λ t. t.entries) h.1)
+    → ((known ≡ None) × (new ≡ pushed old e)) ⊎ (new ≡ old)
+added_or_same (Some b) old new e answer h = inr h.1
+added_or_same None old new e (Ok added) h = inl (refl, h.1)
+added_or_same None old new e (Err fault) h = inr h.1
 
 module _ {D N S A H : Type 0} {st : Store N S} {loaded : List (Requirement × Vec (Vec ℕ A) A)} {cache : Cache D N S A H} (is : IsConsistent st loaded cache) where
-  -- another trail
-  with_trail : {es : List Entry} → IsSound (record st { trail = es }) → IsConsistent (record st { trail = es }) loaded cache
-  with_trail sound = record { few = is.few; known = is.known; sound = sound; asked = is.asked }
+  -- a store of which no more is seen by its trail
+  abbrev with_trail : Trail → Store N S
+  with_trail t = record st { trail = t.entries; place = t.place }
 
-  -- after an undo
-  pub after_undo : (level : ℕ) {es : List Entry} → es ≡ kept_until level st.trail → IsConsistent (record st { trail = es }) loaded cache
-  after_undo level kept = with_trail (subst (λ es. IsSound (record st { trail = es })) (sym kept) (IsSound-kept_until st is.sound level))
+  abbrev Consistent : Trail → Type 0
+  Consistent t = IsConsistent (with_trail t) loaded cache
+
+  -- another trail
+  pub after_trail : (t : Trail) {new : Trail} → IsSound (with_trail t) → new ≡ t → Consistent new
+  after_trail t sound same = subst Consistent (sym same) (record { few = is.few; known = is.known; sound = sound; asked = is.asked })
 
   -- after an assignment
-  pub after_entry : (e : Entry) (old new : Trail) (answer : Result Bool AddFault) → old.entries ≡ st.trail
-      → e.decision.variable < length st.origins → e.decision.derived_from < length st.requires
-      → (1 ≤ e.level) × (e.level < 2 ^ 31) → AddsEntry (val old.entries e.decision.variable) old e answer new
-      → IsConsistent (record st { trail = new.entries }) loaded cache
-  after_entry e old new answer is_trail variable clause level adds =
-      with_trail (elim (subst (λ es. ((val es e.decision.variable ≡ None) × (new.entries ≡ es ++ e ∷ [])) ⊎ (new.entries ≡ es)) is_trail
-      (added_or_same (val old.entries e.decision.variable) old new e answer adds)) [
-        | inl more ↦ subst (λ fs. IsSound (record st { trail = fs })) (sym more.1)
-            (IsSound-trail st is.sound (st.trail ++ e ∷ []) (IsTrail-push st.trail e is.sound.trail more.0 level)
-            (All-push (IsAssigned st) st.trail e is.sound.assigned (record { variable = variable; clause = clause })))
-        | inr same ↦ subst (λ fs. IsSound (record st { trail = fs })) (sym same) is.sound
-      ])
+  pub after_entry : (floor : ℕ) (e : Entry) (new : Trail) (answer : Result Bool AddFault) → e.decision.variable < length st.origins → e.decision.derived_from < length st.clauses
+      → (1 ≤ e.level) × (e.level < 2 ^ 31) → AddsEntry (val st.trail e.decision.variable) (record { entries = st.trail; place = st.place; floor = floor }) e answer new
+      → Consistent new
+  after_entry floor e new answer variable clause level adds =
+      let old : Trail = record { entries = st.trail; place = st.place; floor = floor } in
+      elim (added_or_same (val st.trail e.decision.variable) old new e answer adds) [
+        | inl more ↦ after_trail (pushed old e) (IsSound-pushed st is.sound e more.0 (record { variable = variable; clause = clause }) level) more.1
+        | inr same ↦ after_trail old is.sound same
+      ]
 
-  -- after a solvable's variable was asked for
-  pub after_variable : {T E : Type 0} → ((x : S) → st.provider.same_solvable x x ≡ true) → (s : S) {os : List (VariableOrigin N S)} (result : Result T E)
-      → OnOk result (os ≡ with_variable st.provider.same_solvable st.origins s) → OnErr result (os ≡ st.origins)
+  -- after variables were asked for
+  pub after_origins : {T E : Type 0} (more : List (VariableOrigin N S)) {os : List (VariableOrigin N S)} (result : Result T E)
+      → IsSound (record st { origins = more }) → OnOk result (os ≡ more) → OnErr result (os ≡ st.origins)
       → IsConsistent (record st { origins = os }) loaded cache
-  after_variable reflexive s {os} result ok err = record {
+  after_origins more {os} result longer ok err = record {
     few = is.few;
     known = is.known;
     asked = is.asked;
     sound = elim (either result ok err) [
-      | inl more ↦ subst (λ vs. IsSound (record st { origins = vs })) (sym more) (IsSound-with_variables st is.sound reflexive (s ∷ []))
+      | inl grown ↦ subst (λ vs. IsSound (record st { origins = vs })) (sym grown) longer
       | inr same ↦ subst (λ vs. IsSound (record st { origins = vs })) (sym same) is.sound
     ];
   }
 
-  -- after a clause was to be registered
-  pub after_clause : {T E : Type 0} (c : RequiresClause) {cs : List RequiresClause} (result : Result T E)
-      → knows_requirement st.provider.universe c.requirement ≡ true → c.parent < length st.origins → IsSome (lists_of st c.requirement) → c.clause_id ≡ length st.requires
-      → OnOk result (cs ≡ st.requires ++ c ∷ []) → OnErr result (cs ≡ st.requires)
-      → IsConsistent (record st { requires = cs }) loaded cache
-  after_clause c {cs} result known parent found id ok err = elim (either result ok err) [
-    | inl more ↦ subst (λ ds. IsConsistent (record st { requires = ds }) loaded cache) (sym more) (record {
-      few = is.few;
-      known = All-push (λ d. knows_requirement st.provider.universe d.requirement ≡ true) st.requires c is.known known;
-      sound = IsSound-requires st is.sound c id parent found;
-      asked = is.asked;
-    })
-    | inr same ↦ subst (λ ds. IsConsistent (record st { requires = ds }) loaded cache) (sym same) is
-  ]
+  -- a store of which no more is seen by its list of clauses
+  abbrev with_clauses : Clauses N → Store N S
+  with_clauses cs = record st { clauses = cs.clauses; watches = cs.watches; learnt = cs.learnt }
+
+  -- after a clause was to be added that isn't registered
+  pub after_plain : {T E : Type 0} (c : Clause N) (watch : Option (List Lit)) (learnt : List (List Lit)) {cs : Clauses N} (result : Result T E) → IsPlain c
+      → OnOk result (cs ≡ record { clauses = st.clauses ++ c ∷ []; watches = st.watches ++ watch ∷ []; learnt = learnt })
+      → OnErr result (cs ≡ record { clauses = st.clauses; watches = st.watches; learnt = st.learnt })
+      → IsConsistent (with_clauses cs) loaded cache
+  after_plain c watch learnt {cs} result plain ok err = record {
+    few = is.few;
+    known = is.known;
+    asked = is.asked;
+    sound = elim (either result ok err) [
+      | inl more ↦ subst (λ ds. IsSound (with_clauses ds)) (sym more) (IsSound-plain st is.sound c watch learnt plain)
+      | inr same ↦ subst (λ ds. IsSound (with_clauses ds)) (sym same) is.sound
+    ];
+  }
+
+  -- after the list and the queue were left as they were, or were given back what was added
+  pub after_none : {cs : Clauses N} {requires : List RequiresClause} → cs ≡ record { clauses = st.clauses; watches = st.watches; learnt = st.learnt } → requires ≡ st.requires
+      → IsConsistent (record (with_clauses cs) { requires = requires }) loaded cache
+  after_none {cs} {requires} same left =
+      subst (λ ds. IsConsistent (record (with_clauses ds) { requires = requires }) loaded cache) (sym same)
+      (subst (λ rs. IsConsistent (record st { requires = rs }) loaded cache) (sym left) is)
+
+  -- after a requires clause was added and registered
+  pub after_requires : (parent : ℕ) (disjunction : Option ℕ) (r : Requirement) (watch : Option (List Lit)) {cs : Clauses N} {requires : List RequiresClause}
+      → knows_requirement st.provider.universe r ≡ true → parent < length st.origins → IsSome (lists_of st r)
+      → cs ≡ record { clauses = st.clauses ++ Kind.Requires parent disjunction r ∷ []; watches = st.watches ++ watch ∷ []; learnt = st.learnt }
+      → requires ≡ st.requires ++ record { parent = parent; requirement = r; clause_id = length st.clauses } ∷ []
+      → IsConsistent (record (with_clauses cs) { requires = requires }) loaded cache
+  after_requires parent disjunction r watch {cs} {requires} known variable found added registered =
+      subst (λ ds. IsConsistent (record (with_clauses ds) { requires = requires }) loaded cache) (sym added)
+      (subst (λ rs. IsConsistent (record st { clauses = st.clauses ++ Kind.Requires parent disjunction r ∷ []; watches = st.watches ++ watch ∷ []; requires = rs }) loaded cache) (sym registered) (record {
+        few = is.few;
+        known = All-push (λ d. knows_requirement st.provider.universe d.requirement ≡ true) st.requires (record { parent = parent; requirement = r; clause_id = length st.clauses }) is.known known;
+        sound = IsSound-requires st is.sound parent disjunction r watch variable found;
+        asked = is.asked;
+      }))
+
+  -- after a requires clause was to be added and registered
+  pub after_registered : {T E : Type 0} (parent : ℕ) (disjunction : Option ℕ) (r : Requirement) (c : Clause N) (watch : Option (List Lit)) {cs : Clauses N} {requires : List RequiresClause}
+      (result : Result T E) → knows_requirement st.provider.universe r ≡ true → parent < length st.origins → IsSome (lists_of st r) → c ≡ Kind.Requires parent disjunction r
+      → OnOk result (cs ≡ record { clauses = st.clauses ++ c ∷ []; watches = st.watches ++ watch ∷ []; learnt = st.learnt })
+      → OnOk result (requires ≡ st.requires ++ record { parent = parent; requirement = r; clause_id = length st.clauses } ∷ [])
+      → OnErr result (cs ≡ record { clauses = st.clauses; watches = st.watches; learnt = st.learnt }) → OnErr result (requires ≡ st.requires)
+      → IsConsistent (record (with_clauses cs) { requires = requires }) loaded cache
+  after_registered parent disjunction r c watch (Ok x) known variable found kind added registered unadded unregistered =
+      after_requires parent disjunction r watch known variable found
+      (added ∙ ap (λ d. record { clauses = st.clauses ++ d ∷ []; watches = st.watches ++ watch ∷ []; learnt = st.learnt }) kind) registered
+  after_registered parent disjunction r c watch (Err e) known variable found kind added registered unadded unregistered = after_none unadded unregistered
 
 -- a store of these variables and lists
-abbrev pub store_with : {D N S A : Type 0} → (D → Provider N S) → List RequiresClause → List Entry → D → List (VariableOrigin N S)
+abbrev pub store_with : {D N S A : Type 0} → (D → Provider N S) → Clauses N → List RequiresClause → Trail → D → List (VariableOrigin N S)
     → List (Requirement × Vec (Vec ℕ A) A) → Store N S
-store_with provided requires trail provider os kept =
-    store_of provided (record { provider = provider; origins = os; loaded = lists_kept kept; requires = requires; trail = trail })
+store_with provided clauses requires trail provider os kept =
+    store_of provided (record {
+      provider = provider;
+      origins = os;
+      loaded = lists_kept kept;
+      learnt = clauses.learnt;
+      clauses = clauses.clauses;
+      watches = clauses.watches;
+      requires = requires;
+      trail = trail.entries;
+      place = trail.place;
+    })
 
 -- after a load, of what was kept before it: the provider is the cache's
 module _ {D N S A H : Type 0} (provided : D → Provider N S) (has : H → S → Bool) (origins : List (VariableOrigin N S))
-    (loaded : List (Requirement × Vec (Vec ℕ A) A)) (requires : List RequiresClause) (trail : List Entry) (old new : Cache D N S A H)
+    (loaded : List (Requirement × Vec (Vec ℕ A) A)) (clauses : Clauses N) (requires : List RequiresClause) (trail : Trail) (old new : Cache D N S A H)
     (later : IsLater has old new) where
   abbrev same_solvable : S → S → Bool
   same_solvable = (provided old.provider).same_solvable
 
   abbrev with_all : D → List (VariableOrigin N S) → List (Requirement × Vec (Vec ℕ A) A) → Store N S
-  with_all = store_with provided requires trail
+  with_all = store_with provided clauses requires trail
 
   module _ (is : IsConsistent (with_all old.provider origins loaded) loaded old) (reflexive : (x : S) → same_solvable x x ≡ true) where
     -- after solvables got variables, or the first so many of them did

@@ -1,5 +1,5 @@
+pub mod AddingLemmas
 pub mod CallerLaws
-pub mod ConflictLemmas
 pub mod InvariantLemmas
 pub mod ListLemmas
 pub mod LoadingLemmas

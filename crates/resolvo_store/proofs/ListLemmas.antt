@@ -14,6 +14,9 @@ use Rattle.providers.specs.RequirementMap.{with_entry}
 use Rattle.providers.specs.declared.requirement.Requirement.{Requirement}
 use Rattle.providers.specs.Requirement.{same_requirement}
 use Rattle.providers.specs.Provider.{Universe, sets_of}
+use Rattle.decisions.specs.Literals.{Lit}
+use Rattle.clauses.specs.Stored.{kept_in, lists_found}
+use Rattle.clauses.specs.declared.disjunction.Disjunction.{Disjunction}
 use Rattle.resolvo_queue.specs.Rows.{Row, rows, lists_or_none, loaded_rows, AreFew}
 use Rattle.resolvo_store.specs.Lists.{lists_kept}
 
@@ -35,11 +38,25 @@ module _ {A : Type 0} where
   none_or_items None = refl
   none_or_items (Some lists) = refl
 
+  found_or_none : (o : Option (Vec (Vec ℕ A) A)) → lists_found o ≡ unwrap_or (option_map items_of o) []
+  found_or_none None = refl
+  found_or_none (Some lists) = refl
+
   -- the rows of each requirement are those of the abstract store
   pub rows-kept : {N S : Type 0} (universe : Universe N S) (loaded : List (Requirement × Vec (Vec ℕ A) A))
       → ◌≡◌ {A = Requirement → List Row} (loaded_rows universe loaded)
       (λ r. rows (sets_of universe r) (unwrap_or (lookup (same_requirement r) (lists_kept loaded)) []))
   rows-kept universe loaded = fun_ext (λ r. ap (rows (sets_of universe r)) (none_or_items (lookup (same_requirement r) loaded) ∙ ap (λ o. unwrap_or o []) (sym (lookup-kept loaded r))))
+
+  -- what clauses refer to by ids is that of the abstract store, which keeps no disjunctions
+  pub literals-kept : (learnt : List (Vec Lit A)) (own : List (List Lit)) (loaded : List (Requirement × Vec (Vec ℕ A) A)) (disjunctions : List (Disjunction A))
+      → map (λ l. l.items) learnt ≡ own → disjunctions ≡ []
+      → kept_in learnt loaded disjunctions ≡ record { learnt = own; lists = λ r. unwrap_or (lookup (same_requirement r) (lists_kept loaded)) []; disjunctions = [] }
+  literals-kept learnt own loaded disjunctions same none =
+      ap (λ ls. record { learnt = ls; lists = λ r. lists_found (lookup (same_requirement r) loaded); disjunctions = map (λ d. d.literals.items) disjunctions }) same
+      ∙ ap (λ ds. record { learnt = own; lists = λ r. lists_found (lookup (same_requirement r) loaded); disjunctions = map (λ d. d.literals.items) ds }) none
+      ∙ ap (λ lists. record { learnt = own; lists = lists; disjunctions = [] })
+      (fun_ext (λ r. found_or_none (lookup (same_requirement r) loaded) ∙ ap (λ o. unwrap_or o []) (sym (lookup-kept loaded r))))
 
   -- what was found of the lists
   pub items-copied : (o : Option (Bor (Vec (Vec ℕ A) A))) → option_map (λ l. items_of l.now) o ≡ option_map items_of (option_copied o)

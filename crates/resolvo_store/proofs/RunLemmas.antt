@@ -10,7 +10,7 @@ use Rattle.resolvo_store.specs.Step.{IsAnswered, Step, Run}
 
 module _ {N S : Type 0} where
   -- a run goes on by a step
-  pub run_more : (old mid new : Store N S) (cs : List (Command S)) (replies : List Reply) (c : Command S) (reply : Reply)
+  pub run_more : (old mid new : Store N S) (cs : List (Command N S)) (replies : List Reply) (c : Command N S) (reply : Reply)
       → Run old cs replies mid → Step mid c reply new → Run old (cs ++ c ∷ []) (replies ++ reply ∷ []) new
   run_more old mid new [] [] c reply ran step = (new, subst (λ st. Step st c reply new) ran step, refl)
   run_more old mid new (d ∷ cs) (r ∷ rs) c reply ran step = (ran.0, ran.1, run_more ran.0 mid new cs rs c reply ran.2 step)
@@ -18,7 +18,7 @@ module _ {N S : Type 0} where
   run_more old mid new (d ∷ cs) [] c reply ran step = absurd ran
 
   -- a refused command changes nothing
-  pub refused_same : {A : Type 0} (old new : Store N S) (c : Command S) (result : Result (ProgramReply A) StoreError) → Step old c (answer_of result) new
+  pub refused_same : {A : Type 0} (old new : Store N S) (c : Command N S) (result : Result (ProgramReply A) StoreError) → Step old c (answer_of result) new
       → OnErr result (new ≡ old)
   refused_same old new c (Ok reply) step = tt
   refused_same old new c (Err e) step = by_refusal (first_refusal old c) step

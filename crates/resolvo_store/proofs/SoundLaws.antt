@@ -1,13 +1,14 @@
 -- What is true of a store stays true: a new store is sound, and steps and runs lead from sound stores to sound ones.
-use Rattle.std.proofs.Common.{◌≡◌, ℕ, ◌<◌, ◌≤◌, Bool, true, false, cond, List, [], ◌∷◌, ◌++◌, length, length-append, map, Option, None, Some, IsSome, refl, arith, sym, ◌∙◌, ap, subst, zero, suc, ◌⊎◌, inl, inr}
-use Rattle.std.specs.Prelude.{◌^◌, ◌==◌, nat_lt, ⊤, slice_get, All, is_some, is_none, unwrap_or, find, option_map, flat_map, MatchOption, ◌||◌}
+use Rattle.std.proofs.Common.{◌≡◌, ℕ, ◌+◌, ◌<◌, ◌≤◌, Bool, true, false, cond, List, [], ◌∷◌, ◌++◌, length, length-append, map, Option, None, Some, IsSome, refl, arith, sym, ◌∙◌, ap, subst, zero, suc, ◌⊎◌, inl, inr}
+use Rattle.std.specs.Prelude.{◌^◌, ◌-◌, min, ◌==◌, nat_lt, ⊤, take, slice_get, All, is_some, is_none, unwrap_or, find, option_map, flat_map, MatchOption, ◌||◌}
 use Rattle.std.specs.Cmp.{IsEquivalence}
 use Rattle.std.specs.List.{IsDistinct, list_any, list_all}
 use Rattle.std.specs.Map.{lookup}
 use Rattle.std.proofs.lemmas.Bool.Decides.{nat_tests}
 use Rattle.std.proofs.lemmas.Bool.{eqb-true}
-use Rattle.std.proofs.lemmas.List.{length-map, map-append}
-use Rattle.std.proofs.lemmas.List.Elements.{All-nil, All-cons, All-head, All-tail, All-push, All-weaker, All-map}
+use Rattle.std.proofs.lemmas.List.{length-map, map-append, append-nil}
+use Rattle.std.proofs.lemmas.List.Elements.{All-nil, All-cons, All-head, All-tail, All-push, All-take, All-append, All-weaker, All-map}
+use Rattle.std.proofs.lemmas.Option.{slice_get_within}
 use Rattle.std.proofs.lemmas.Map.Keys.{IsDistinct-push}
 use Rattle.typed_ids.specs.declared.error.StoreError.{StoreError}
 use Rattle.providers.specs.declared.requirement.Requirement.{Requirement}
@@ -19,15 +20,21 @@ use Rattle.variables.specs.declared.variable_origin.VariableOrigin.TheVariants.{
 use Rattle.variables.specs.Variables.{IsRootFirst, is_solvable, variable_of_solvable, interned_variable, with_variable, with_variables}
 use Rattle.variables.proofs.VariableLemmas.{or_else, position_within, position-append, root-append}
 use Rattle.variables.proofs.InterningLemmas.{variable-kept, kept-all, variable-with_variable, longer-all}
-use Rattle.decisions.specs.Trail.{Entry, val, kept_until, IsOnce, IsTrail, HasLevel}
+use Rattle.decisions.specs.Trail.{Entry, val, propagated, kept_until, IsOnce, IsTrail, HasLevel}
 use Rattle.decisions.proofs.TrailLemmas.{IsTrail-push}
 use Rattle.resolvo_queue.specs.declared.requires_clause.RequiresClause.{RequiresClause}
-use Rattle.resolvo_store.specs.Command.{Command, Variable, Load, Requires, Assign, UndoUntil, Decide, Reply, Refused}
-use Rattle.resolvo_store.specs.Store.{Store, Provider, new_store, values, lists_of, candidates_of}
+use Rattle.resolvo_store.specs.declared.helper_origin.HelperOrigin.{HelperOrigin}
+use Rattle.resolvo_store.specs.declared.helper_origin.HelperOrigin.TheVariants as Helps
+use Rattle.decisions.specs.Literals.{Lit}
+use Rattle.clauses.specs.Clauses.{first_watches}
+use Rattle.clauses.specs.declared.clause.Clause.{Clause}
+use Rattle.clauses.specs.declared.clause.Clause.TheVariants as Kind
+use Rattle.resolvo_store.specs.Command.{Command, Variable, Helper, Load, Requires, Root, Constrains, ConstrainsExcluded, ConstrainsParent, Lock, Exclude, AnyOf, Learnt, Assign, UndoLast, UndoUntil, Unpropagated, Decide, Reply, Refused}
+use Rattle.resolvo_store.specs.Store.{Store, Provider, new_store, values, lists_of, kept_literals, candidates_of}
 use Rattle.resolvo_store.specs.Refusals.{refusals, first_refusal}
-use Rattle.resolvo_store.specs.Outcome.{outcome, assigned, load}
+use Rattle.resolvo_store.specs.Outcome.{outcome, assigned, load, without_newest, helper_origin, cut_back, hands_next, adds_clause, with_learnt}
 use Rattle.resolvo_store.specs.Step.{IsAnswered, Step, Run}
-use Rattle.resolvo_store.specs.Sound.{IsSound, IsVariable, IsLoaded, IsRegistered, IsAssigned, HasOneVariableEach}
+use Rattle.resolvo_store.specs.Sound.{IsSound, IsPlain, requires_from, IsVariable, IsLoaded, IsRegistered, IsAssigned, HasOneVariableEach}
 
 -- ---- lists
 
@@ -92,6 +99,16 @@ module _ {X : Type 0} where
   found-push r (f ∷ es) e h =
       (elim (same_requirement r f.0) as (λ b. IsSome (cond b (Some f.1) (lookup (same_requirement r) es)) → IsSome (cond b (Some f.1) (lookup (same_requirement r) (es ++ e ∷ []))))
       [ true ↦ λ k. k | false ↦ λ k. found-push r es e k ]) h
+
+-- ---- clauses
+
+-- the requires clauses among these and one more
+requires_from-push : {N : Type 0} (id last : ℕ) (cs : List (Clause N)) (c : Clause N) → last ≡ id + length cs
+    → requires_from id (cs ++ c ∷ []) ≡ requires_from id cs ++ requires_from last (c ∷ [])
+requires_from-push id last [] c e = ap (λ n. requires_from n (c ∷ [])) (let same : id ≡ last = omega (arith, e) in same)
+requires_from-push id last (Kind.Requires parent disjunction r ∷ cs) c e =
+    ap (λ rs. record { parent = parent; requirement = r; clause_id = id } ∷ rs) (requires_from-push (id + 1) last cs c (omega (arith, e)))
+requires_from-push id last (d ∷ cs) c e = requires_from-push (id + 1) last cs c (omega (arith, e))
 
 none_loaded : IsDistinct same_requirement []
 unfolding IsDistinct
@@ -182,6 +199,19 @@ IsOnce-kept_until l (e ∷ es) once =
       | false ↦ (val-kept_until l es e.decision.variable once.0, IsOnce-kept_until l es once.1)
     ]
 
+-- the same of the first so many entries
+val-take : (n : ℕ) (es : List Entry) (x : ℕ) → val es x ≡ None → val (take n es) x ≡ None
+val-take zero es x none = refl
+val-take (suc n) [] x none = refl
+val-take (suc n) (e ∷ es) x none =
+    (elim (e.decision.variable == x) as (λ t. cond t (Some e.decision.value) (val es x) ≡ None → cond t (Some e.decision.value) (val (take n es) x) ≡ None)
+    [ true ↦ λ h. h | false ↦ λ h. val-take n es x h ]) none
+
+IsOnce-take : (n : ℕ) (es : List Entry) → IsOnce es → IsOnce (take n es)
+IsOnce-take zero es once = tt
+IsOnce-take (suc n) [] once = tt
+IsOnce-take (suc n) (e ∷ es) once = (val-take n es e.decision.variable once.0, IsOnce-take n es once.1)
+
 -- ---- refusals
 
 -- no test of a refusal holds
@@ -221,8 +251,10 @@ module _ {N S : Type 0} (st : Store N S) (sound : IsSound st) where
           one_a_set = k.one_a_set;
           variables = All-weaker (All (IsVariable st)) (All (IsVariable new)) (λ l all. All-weaker (IsVariable st) (IsVariable new) more l all) e.1 k.variables;
         }) st.loaded sound.loaded;
-        clause_ids = sound.clause_ids;
+        registered = sound.registered;
+        watched = sound.watched;
         clauses = All-weaker (IsRegistered st) (IsRegistered new) (λ c k. record { parent = more c.parent k.parent; loaded = k.loaded }) st.requires sound.clauses;
+        place = sound.place;
         trail = sound.trail;
         assigned = All-weaker (IsAssigned st) (IsAssigned new) (λ e k. record { variable = more e.decision.variable k.variable; clause = k.clause }) st.trail sound.assigned;
       }
@@ -238,47 +270,78 @@ module _ {N S : Type 0} (st : Store N S) (sound : IsSound st) where
         one_variable_each = sound.one_variable_each;
         loaded_once = rw map-append (IsDistinct-push same_requirement-equivalence (map (λ e. e.0) st.loaded) r sound.loaded_once (not_among r st.loaded fresh));
         loaded = All-push (IsLoaded new) st.loaded (r, lists) (All-weaker (IsLoaded st) (IsLoaded new) same st.loaded sound.loaded) (same (r, lists) is);
-        clause_ids = sound.clause_ids;
+        registered = sound.registered;
+        watched = sound.watched;
         clauses = All-weaker (IsRegistered st) (IsRegistered new)
             (λ c k. record { parent = k.parent; loaded = found-push c.requirement st.loaded (r, lists) k.loaded }) st.requires sound.clauses;
+        place = sound.place;
         trail = sound.trail;
         assigned = All-weaker (IsAssigned st) (IsAssigned new) (λ e k. record { variable = k.variable; clause = k.clause }) st.trail sound.assigned;
       }
 
-  -- one clause more
-  pub IsSound-requires : (c : RequiresClause) → c.clause_id ≡ length st.requires → IsVariable st c.parent → IsSome (lists_of st c.requirement)
-      → IsSound (record st { requires = st.requires ++ c ∷ [] })
-  IsSound-requires c id parent found =
-      let new : Store N S = record st { requires = st.requires ++ c ∷ [] } in
+  -- one clause more, with what it watches: registered, if it is a requires clause
+  pub IsSound-clause : (c : Clause N) (watch : Option (List Lit)) (learnt : List (List Lit)) (more : List RequiresClause)
+      → more ≡ requires_from (length st.clauses) (c ∷ []) → All (IsRegistered st) more
+      → IsSound (record st { clauses = st.clauses ++ c ∷ []; watches = st.watches ++ watch ∷ []; learnt = learnt; requires = st.requires ++ more })
+  IsSound-clause c watch learnt more are all =
+      let new : Store N S = record st { clauses = st.clauses ++ c ∷ []; watches = st.watches ++ watch ∷ []; learnt = learnt; requires = st.requires ++ more } in
       let same : (d : RequiresClause) → IsRegistered st d → IsRegistered new d = λ d k. record { parent = k.parent; loaded = k.loaded } in
       record {
         root_first = sound.root_first;
         one_variable_each = sound.one_variable_each;
         loaded_once = sound.loaded_once;
         loaded = All-weaker (IsLoaded st) (IsLoaded new) (λ e k. record { one_a_set = k.one_a_set; variables = k.variables }) st.loaded sound.loaded;
-        clause_ids = λ place d e. slice_get-push_cases (d.clause_id ≡ place) st.requires c place d e (sound.clause_ids place d)
-            (λ k l. ap (λ x. x.clause_id) (sym l) ∙ id ∙ sym k);
-        clauses = All-push (IsRegistered new) st.requires c (All-weaker (IsRegistered st) (IsRegistered new) same st.requires sound.clauses)
-            (record { parent = parent; loaded = found });
+        registered = ap (λ rs. rs ++ more) sound.registered ∙ ap (λ rs. requires_from 0 st.clauses ++ rs) are ∙ sym (requires_from-push 0 (length st.clauses) st.clauses c (omega arith));
+        watched = length-append st.watches (watch ∷ []) ∙ ap (λ n. n + 1) sound.watched ∙ sym (length-append st.clauses (c ∷ []));
+        clauses = All-append (IsRegistered new) st.requires more (All-weaker (IsRegistered st) (IsRegistered new) same st.requires sound.clauses)
+            (All-weaker (IsRegistered st) (IsRegistered new) same more all);
+        place = sound.place;
         trail = sound.trail;
         assigned = All-weaker (IsAssigned st) (IsAssigned new)
-            (λ e k. record { variable = k.variable; clause = omega (arith, k.clause, length-append st.requires (c ∷ [])) }) st.trail sound.assigned;
+            (λ e k. record { variable = k.variable; clause = omega (arith, k.clause, length-append st.clauses (c ∷ [])) }) st.trail sound.assigned;
       }
 
-  -- another trail
-  pub IsSound-trail : (es : List Entry) → IsTrail es → All (IsAssigned st) es → IsSound (record st { trail = es })
-  IsSound-trail es trail all =
-      let new : Store N S = record st { trail = es } in
+  -- one that isn't
+  pub IsSound-plain : (c : Clause N) (watch : Option (List Lit)) (learnt : List (List Lit)) → IsPlain c
+      → IsSound (record st { clauses = st.clauses ++ c ∷ []; watches = st.watches ++ watch ∷ []; learnt = learnt })
+  IsSound-plain c watch learnt plain =
+      subst (λ rs. IsSound (record st { clauses = st.clauses ++ c ∷ []; watches = st.watches ++ watch ∷ []; learnt = learnt; requires = rs })) (append-nil st.requires)
+      (IsSound-clause c watch learnt [] (sym (plain.unregistered (length st.clauses))) (All-nil (IsRegistered st)))
+
+  -- one that is
+  pub IsSound-requires : (parent : ℕ) (disjunction : Option ℕ) (r : Requirement) (watch : Option (List Lit)) → IsVariable st parent → IsSome (lists_of st r)
+      → IsSound (record st {
+        clauses = st.clauses ++ Kind.Requires parent disjunction r ∷ [];
+        watches = st.watches ++ watch ∷ [];
+        requires = st.requires ++ record { parent = parent; requirement = r; clause_id = length st.clauses } ∷ [];
+      })
+  IsSound-requires parent disjunction r watch known found =
+      IsSound-clause (Kind.Requires parent disjunction r) watch st.learnt (record { parent = parent; requirement = r; clause_id = length st.clauses } ∷ []) refl
+      (All-cons (IsRegistered st) (record { parent = parent; requirement = r; clause_id = length st.clauses }) [] (record { parent = known; loaded = found }) (All-nil (IsRegistered st)))
+
+  -- another trail, and a place within it
+  pub IsSound-trail : (es : List Entry) (place : ℕ) → IsTrail es → All (IsAssigned st) es → place ≤ length es
+      → IsSound (record st { trail = es; place = place })
+  IsSound-trail es place trail all within =
+      let new : Store N S = record st { trail = es; place = place } in
       record {
         root_first = sound.root_first;
         one_variable_each = sound.one_variable_each;
         loaded_once = sound.loaded_once;
         loaded = All-weaker (IsLoaded st) (IsLoaded new) (λ e k. record { one_a_set = k.one_a_set; variables = k.variables }) st.loaded sound.loaded;
-        clause_ids = sound.clause_ids;
+        registered = sound.registered;
+        watched = sound.watched;
         clauses = All-weaker (IsRegistered st) (IsRegistered new) (λ c k. record { parent = k.parent; loaded = k.loaded }) st.requires sound.clauses;
+        place = within;
         trail = trail;
         assigned = All-weaker (IsAssigned st) (IsAssigned new) (λ e k. record { variable = k.variable; clause = k.clause }) es all;
       }
+
+  -- one entry more
+  pub IsSound-pushed : (e : Entry) → values st e.decision.variable ≡ None → IsAssigned st e → HasLevel e → IsSound (record st { trail = st.trail ++ e ∷ [] })
+  IsSound-pushed e free is level =
+      IsSound-trail (st.trail ++ e ∷ []) st.place (IsTrail-push st.trail e sound.trail free level) (All-push (IsAssigned st) st.trail e sound.assigned is)
+      (omega (arith, sound.place, length-append st.trail (e ∷ [])))
 
   -- one entry more, or none where the variable has a value
   pub IsSound-assigned : (e : Entry) → IsAssigned st e → HasLevel e → IsSound (record st { trail = assigned (values st e.decision.variable) st.trail e })
@@ -286,13 +349,60 @@ module _ {N S : Type 0} (st : Store N S) (sound : IsSound st) where
     where
       by_value : (o : Option Bool) → values st e.decision.variable ≡ o → IsSound (record st { trail = assigned o st.trail e })
       by_value (Some known) h = sound
-      by_value None h = IsSound-trail (st.trail ++ e ∷ []) (IsTrail-push st.trail e sound.trail h level) (All-push (IsAssigned st) st.trail e sound.assigned is)
+      by_value None h = IsSound-pushed e h is level
 
-  pub IsSound-kept_until : (l : ℕ) → IsSound (record st { trail = kept_until l st.trail })
+  -- fewer entries
+  IsSound-cut_back : (kept : List Entry) → IsTrail kept → All (IsAssigned st) kept → IsSound (cut_back st kept)
+  IsSound-cut_back kept trail all = IsSound-trail kept (min st.place (length kept)) trail all (omega arith)
+
+  pub IsSound-kept_until : (l : ℕ) → IsSound (cut_back st (kept_until l st.trail))
   IsSound-kept_until l =
-      IsSound-trail (kept_until l st.trail)
+      IsSound-cut_back (kept_until l st.trail)
       (record { once = IsOnce-kept_until l st.trail sound.trail.once; levels = All-kept_until HasLevel l st.trail sound.trail.levels })
       (All-kept_until (IsAssigned st) l st.trail sound.assigned)
+
+  pub IsSound-without_newest : IsSound (cut_back st (without_newest st.trail))
+  IsSound-without_newest =
+      let n : ℕ = length st.trail - 1 in
+      IsSound-cut_back (take n st.trail)
+      (record { once = IsOnce-take n st.trail sound.trail.once; levels = All-take HasLevel n st.trail sound.trail.levels })
+      (All-take (IsAssigned st) n st.trail sound.assigned)
+
+  -- one entry more was handed out, if there is one
+  pub IsSound-hands_next : IsSound (hands_next st (slice_get st.trail st.place)).store
+  IsSound-hands_next = by_entry (slice_get st.trail st.place) refl
+    where
+      by_entry : (o : Option Entry) → slice_get st.trail st.place ≡ o → IsSound (hands_next st o).store
+      by_entry None h = sound
+      by_entry (Some e) h =
+          let within : st.place < length st.trail = slice_get_within st.trail st.place e h in
+          IsSound-trail st.trail (st.place + 1) sound.trail sound.assigned (omega (arith, within))
+
+  -- the same, as a tracker's trail tells it
+  pub IsSound-propagated : (floor : ℕ) → let t = propagated (record { entries = st.trail; place = st.place; floor = floor }) in
+      IsSound (record st { trail = t.entries; place = t.place })
+  IsSound-propagated floor = by_entry (slice_get st.trail st.place) IsSound-hands_next
+    where
+      by_entry : (o : Option Entry) → IsSound (hands_next st o).store → IsSound (record st { place = cond (is_some o) (st.place + 1) st.place })
+      by_entry None h = h
+      by_entry (Some e) h = h
+
+  -- one helper variable more
+  pub IsSound-helper : (origin : HelperOrigin N) → IsSound (record st { origins = st.origins ++ helper_origin origin ∷ [] })
+  IsSound-helper origin =
+      let same = st.provider.same_solvable in
+      IsSound-origins (st.origins ++ helper_origin origin ∷ []) (omega (arith, length-append st.origins (helper_origin origin ∷ []))) (record {
+        root_first = root-append st.origins (helper_origin origin) sound.root_first;
+        one_each = λ v t e.
+            slice_get-push_cases (variable_of_solvable same (st.origins ++ helper_origin origin ∷ []) t ≡ Some v) st.origins (helper_origin origin) v (Solvable t) e
+            (λ k. variable-kept same t (helper_origin origin) v st.origins (sound.one_variable_each v t k))
+            (λ k l. absurd (no_solvable origin t l));
+      })
+    where
+      no_solvable : (o : HelperOrigin N) (t : S) → ◌≡◌ {A = VariableOrigin N S} (helper_origin o) (Solvable t) → ⊥
+      no_solvable (Helps.AtLeastOne n) t e = cc
+      no_solvable (Helps.ConstrainsViolation v) t e = cc
+      no_solvable (Helps.RequiresGate r) t e = cc
 
 module _ {N S : Type 0} (st : Store N S) (sound : IsSound st) (reflexive : (s : S) → st.provider.same_solvable s s ≡ true) where
   here : AreVariables st.provider.same_solvable st.origins
@@ -323,10 +433,14 @@ module _ {N S : Type 0} (st : Store N S) (sound : IsSound st) (reflexive : (s : 
             (λ c k. All-map (IsVariable grown) interned (members c) k) cs within);
       })
 
+  IsSound-added : (c : Clause N) → IsPlain c → IsSound (adds_clause st c).store
+  IsSound-added c plain = IsSound-plain st sound c (first_watches (kept_literals st) (values st) c) st.learnt plain
+
   -- ---- a command that nothing refuses
 
-  pub IsSound-outcome : (c : Command S) → first_refusal st c ≡ None → IsSound (outcome st c).store
+  pub IsSound-outcome : (c : Command N S) → first_refusal st c ≡ None → IsSound (outcome st c).store
   IsSound-outcome (Variable s) none = IsSound-with_variables (s ∷ [])
+  IsSound-outcome (Helper origin) none = IsSound-helper st sound origin
   IsSound-outcome (Load r) none = by_lists (lists_of st r) refl
     where
       by_lists : (o : Option (List (List ℕ))) → lists_of st r ≡ o → IsSound (load st r o).store
@@ -335,16 +449,29 @@ module _ {N S : Type 0} (st : Store N S) (sound : IsSound st) (reflexive : (s : 
   IsSound-outcome (Requires parent r disjunction) none =
       let tests = none_applies (refusals st (Requires parent r disjunction)) none in
       let known : parent < length st.origins = grind (arith, nat_tests, tests.0) in
-      IsSound-requires st sound (record { parent = parent; requirement = r; clause_id = length st.requires }) refl known (is_there (lists_of st r) tests.1.0)
+      let c : Clause N = Kind.Requires parent disjunction r in
+      IsSound-requires st sound parent disjunction r (first_watches (kept_literals st) (values st) c) known (is_there (lists_of st r) tests.1.0)
+  IsSound-outcome Root none = IsSound-added Kind.InstallRoot (record { unregistered = λ id. refl })
+  IsSound-outcome (Constrains parent forbidden v) none = IsSound-added (Kind.Constrains parent forbidden v) (record { unregistered = λ id. refl })
+  IsSound-outcome (ConstrainsExcluded candidate aux v) none = IsSound-added (Kind.ConstrainsExcluded candidate aux v) (record { unregistered = λ id. refl })
+  IsSound-outcome (ConstrainsParent parent aux v) none = IsSound-added (Kind.ConstrainsParent parent aux v) (record { unregistered = λ id. refl })
+  IsSound-outcome (Lock locked other) none = IsSound-added (Kind.Lock locked other) (record { unregistered = λ id. refl })
+  IsSound-outcome (Exclude v reason) none = IsSound-added (Kind.Excluded v reason) (record { unregistered = λ id. refl })
+  IsSound-outcome (AnyOf selected other) none = IsSound-added (Kind.AnyOf selected other) (record { unregistered = λ id. refl })
+  IsSound-outcome (Learnt ls) none =
+      let c : Clause N = Kind.Learnt (length st.learnt) in
+      IsSound-plain st sound c (first_watches (kept_literals (with_learnt st ls)) (values st) c) (st.learnt ++ ls ∷ []) (record { unregistered = λ id. refl })
   IsSound-outcome (Assign v value clause level) none =
       let tests = none_applies (refusals st (Assign v value clause level)) none in
       let known : v < length st.origins = grind (arith, nat_tests, tests.0) in
-      let registered : clause < length st.requires = grind (arith, nat_tests, tests.0) in
+      let registered : clause < length st.clauses = grind (arith, nat_tests, tests.0) in
       let low : 1 ≤ level = grind (arith, nat_tests, tests.1.0) in
       let high : level < 2 ^ 31 = grind (arith, nat_tests, tests.1.0) in
       IsSound-assigned st sound (record { decision = record { variable = v; value = value; derived_from = clause }; level = level })
       (record { variable = known; clause = registered }) (low, high)
+  IsSound-outcome UndoLast none = IsSound-without_newest st sound
   IsSound-outcome (UndoUntil level) none = IsSound-kept_until st sound level
+  IsSound-outcome Unpropagated none = IsSound-hands_next st sound
   IsSound-outcome Decide none = sound
 
 -- ---- new stores, steps and runs
@@ -360,14 +487,16 @@ module _ {N S : Type 0} where
     one_variable_each = one_variable p;
     loaded_once = none_loaded;
     loaded = All-nil (IsLoaded (new_store p));
-    clause_ids = λ place clause e. cc;
+    registered = refl;
+    watched = refl;
     clauses = All-nil (IsRegistered (new_store p));
+    place = omega arith;
     trail = record { once = tt; levels = All-nil HasLevel };
     assigned = All-nil (IsAssigned (new_store p));
   }
 
   -- a step leaves the store, or leads to the outcome of a command that nothing refuses
-  pub step_store : (old new : Store N S) (c : Command S) (reply : Reply) → Step old c reply new
+  pub step_store : (old new : Store N S) (c : Command N S) (reply : Reply) → Step old c reply new
       → (new ≡ old) ⊎ ((first_refusal old c ≡ None) × (new ≡ (outcome old c).store))
   step_store old new c reply step = by_refusal (first_refusal old c) step
     where
@@ -380,29 +509,34 @@ module _ {N S : Type 0} where
       by_refusal None h = elim (by_reply reply h) [ inl same ↦ inl same | inr done ↦ inr (refl, done) ]
       by_refusal (Some e) h = inl h.1
 
-  pub IsSound-step : {old new : Store N S} (c : Command S) (reply : Reply) → ((s : S) → old.provider.same_solvable s s ≡ true)
+  pub IsSound-step : {old new : Store N S} (c : Command N S) (reply : Reply) → ((s : S) → old.provider.same_solvable s s ≡ true)
       → IsSound old → Step old c reply new → IsSound new
   IsSound-step {old} {new} c reply reflexive sound step = elim (step_store old new c reply step) [
     | inl same ↦ subst (λ st. IsSound st) (sym same) sound
     | inr done ↦ subst (λ st. IsSound st) (sym done.1) (IsSound-outcome old sound reflexive c done.0)
   ]
 
-  outcome_provider : (st : Store N S) (c : Command S) → (outcome st c).store.provider ≡ st.provider
+  outcome_provider : (st : Store N S) (c : Command N S) → (outcome st c).store.provider ≡ st.provider
   outcome_provider st (Load r) = by_lists (lists_of st r)
     where
       by_lists : (o : Option (List (List ℕ))) → (load st r o).store.provider ≡ st.provider
       by_lists (Some lists) = refl
       by_lists None = refl
+  outcome_provider st Unpropagated = by_entry (slice_get st.trail st.place)
+    where
+      by_entry : (o : Option Entry) → (hands_next st o).store.provider ≡ st.provider
+      by_entry None = refl
+      by_entry (Some e) = refl
   outcome_provider st _ = refl
 
   -- a step leaves the provider
-  pub step_provider : (old new : Store N S) (c : Command S) (reply : Reply) → Step old c reply new → new.provider ≡ old.provider
+  pub step_provider : (old new : Store N S) (c : Command N S) (reply : Reply) → Step old c reply new → new.provider ≡ old.provider
   step_provider old new c reply step = elim (step_store old new c reply step) [
     | inl same ↦ ap (λ st. st.provider) same
     | inr done ↦ ap (λ st. st.provider) done.1 ∙ outcome_provider old c
   ]
 
-  run_sound : (old new : Store N S) (cs : List (Command S)) (replies : List Reply) → ((s : S) → old.provider.same_solvable s s ≡ true)
+  run_sound : (old new : Store N S) (cs : List (Command N S)) (replies : List Reply) → ((s : S) → old.provider.same_solvable s s ≡ true)
       → IsSound old → Run old cs replies new → IsSound new
   run_sound old new [] [] reflexive sound ran = subst (λ st. IsSound st) (sym ran) sound
   run_sound old new (c ∷ cs) (reply ∷ replies) reflexive sound ran =
@@ -411,6 +545,6 @@ module _ {N S : Type 0} where
   run_sound old new [] (reply ∷ replies) reflexive sound ran = absurd ran
   run_sound old new (c ∷ cs) [] reflexive sound ran = absurd ran
 
-  pub IsSound-run : {old new : Store N S} (cs : List (Command S)) (replies : List Reply) → ((s : S) → old.provider.same_solvable s s ≡ true)
+  pub IsSound-run : {old new : Store N S} (cs : List (Command N S)) (replies : List Reply) → ((s : S) → old.provider.same_solvable s s ≡ true)
       → IsSound old → Run old cs replies new → IsSound new
   IsSound-run {old} {new} cs replies reflexive sound ran = run_sound old new cs replies reflexive sound ran

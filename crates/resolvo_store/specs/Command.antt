@@ -1,21 +1,36 @@
--- Commands and replies, with lists where the program has vectors. S are the solvables.
+-- Commands and replies, with lists where the program has vectors. N are the names, S the solvables.
 use Rattle.std.specs.Prelude.{ℕ, Bool, List, map, Option, Result, Ok, Err, ⊤}
 use Rattle.typed_ids.specs.declared.error.StoreError.{StoreError}
+use Rattle.typed_ids.specs.declared.string_id.StringId.{StringId}
+use Rattle.typed_ids.specs.declared.version_set_id.VersionSetId.{VersionSetId}
 use Rattle.providers.specs.declared.requirement.Requirement.{Requirement}
+use Rattle.decisions.specs.Literals.{Lit}
 use Rattle.decisions.specs.declared.decision.Decision.{Decision}
 use Rattle.resolvo_queue.specs.declared.queue_decision.QueueDecision.{QueueDecision}
 use Rattle.resolvo_store.specs.declared.command.Command.{Command as ProgramCommand}
+use Rattle.resolvo_store.specs.declared.helper_origin.HelperOrigin.{HelperOrigin}
 use Rattle.resolvo_store.specs.declared.command.Command.TheVariants as In
 use Rattle.resolvo_store.specs.declared.reply.Reply.{Reply as ProgramReply}
 use Rattle.resolvo_store.specs.declared.reply.Reply.TheVariants as Out
 
-pub data Command (S : Type 0) : Type 0 where
-  Variable : (s : S) → Command S
-  Load : (r : Requirement) → Command S
-  Requires : (parent : ℕ) (r : Requirement) (disjunction : Option ℕ) → Command S
-  Assign : (variable : ℕ) (value : Bool) (clause level : ℕ) → Command S
-  UndoUntil : (level : ℕ) → Command S
-  Decide : Command S
+pub data Command (N S : Type 0) : Type 0 where
+  Variable : (s : S) → Command N S
+  Helper : (origin : HelperOrigin N) → Command N S
+  Load : (r : Requirement) → Command N S
+  Requires : (parent : ℕ) (r : Requirement) (disjunction : Option ℕ) → Command N S
+  Root : Command N S
+  Constrains : (parent forbidden : ℕ) (set : VersionSetId) → Command N S
+  ConstrainsExcluded : (candidate aux : ℕ) (set : VersionSetId) → Command N S
+  ConstrainsParent : (parent aux : ℕ) (set : VersionSetId) → Command N S
+  Lock : (locked other : ℕ) → Command N S
+  Exclude : (variable : ℕ) (reason : StringId) → Command N S
+  AnyOf : (selected other : ℕ) → Command N S
+  Learnt : (literals : List Lit) → Command N S
+  Assign : (variable : ℕ) (value : Bool) (clause level : ℕ) → Command N S
+  UndoLast : Command N S
+  UndoUntil : (level : ℕ) → Command N S
+  Unpropagated : Command N S
+  Decide : Command N S
 
 pub data Reply : Type 0 where
   VariableIs : (variable : ℕ) → Reply
@@ -25,6 +40,7 @@ pub data Reply : Type 0 where
   Already : Reply
   Clash : Reply
   Undone : (last : Option (Decision × ℕ)) → Reply
+  Next : (decision : Option Decision) → Reply
   Decided : (q : QueueDecision) → Reply
   NoDecision : Reply
   Falsified : (clause : ℕ) → Reply
@@ -35,12 +51,23 @@ IsRefused (Refused e) = ⊤
 IsRefused _ = ⊥
 
 -- the program's command
-abbrev pub command_of : {S : Type 0} → ProgramCommand S → Command S
+abbrev pub command_of : {N S A : Type 0} → ProgramCommand N S A → Command N S
 command_of (In.Variable s) = Variable s
+command_of (In.Helper origin) = Helper origin
 command_of (In.Load r) = Load r
 command_of (In.Requires parent r disjunction) = Requires parent r disjunction
+command_of In.Root = Root
+command_of (In.Constrains parent forbidden set) = Constrains parent forbidden set
+command_of (In.ConstrainsExcluded candidate aux set) = ConstrainsExcluded candidate aux set
+command_of (In.ConstrainsParent parent aux set) = ConstrainsParent parent aux set
+command_of (In.Lock locked other) = Lock locked other
+command_of (In.Exclude variable reason) = Exclude variable reason
+command_of (In.AnyOf selected other) = AnyOf selected other
+command_of (In.Learnt literals) = Learnt literals.items
 command_of (In.Assign variable value clause level) = Assign variable value clause level
+command_of In.UndoLast = UndoLast
 command_of (In.UndoUntil level) = UndoUntil level
+command_of In.Unpropagated = Unpropagated
 command_of In.Decide = Decide
 
 -- the program's reply
@@ -52,6 +79,7 @@ reply_of Out.Assigned = Assigned
 reply_of Out.Already = Already
 reply_of Out.Clash = Clash
 reply_of (Out.Undone last) = Undone last
+reply_of (Out.Next decision) = Next decision
 reply_of (Out.Decided q) = Decided q
 reply_of Out.NoDecision = NoDecision
 reply_of (Out.Falsified clause) = Falsified clause

@@ -1,31 +1,29 @@
 -- What each command replies, and the store that it leaves, where nothing is refused.
-use Rattle.std.specs.Prelude.{ℕ, Bool, not, ◌&&◌, List, [], ◌∷◌, ◌++◌, map, length, Option, Some, None, if◌then◌else◌}
-use Rattle.std.specs.List.{list_all}
+use Rattle.std.specs.Prelude.{ℕ, ◌+◌, ◌-◌, min, Bool, List, [], ◌∷◌, ◌++◌, map, option_map, length, take, slice_get, Option, Some, None, if◌then◌else◌}
 use Rattle.std.specs.Bool.{beq}
 use Rattle.providers.specs.declared.requirement.Requirement.{Requirement}
 use Rattle.providers.specs.Provider.{sets_of}
 use Rattle.variables.specs.declared.variable_origin.VariableOrigin.{VariableOrigin}
-use Rattle.decisions.specs.Literals.{Values, known_false}
+use Rattle.variables.specs.declared.variable_origin.VariableOrigin.TheVariants.{AtLeastOne, ConstrainsViolation, RequiresGate}
 use Rattle.variables.specs.Variables.{with_variable, interned_variable, with_variables}
-use Rattle.decisions.specs.Trail.{Entry, kept_until}
+use Rattle.decisions.specs.declared.decision.Decision.{Decision}
+use Rattle.decisions.specs.Literals.{Lit}
+use Rattle.decisions.specs.Trail.{Entry, newest, top_level, kept_until}
+use Rattle.clauses.specs.declared.clause.Clause.{Clause}
+use Rattle.clauses.specs.declared.clause.Clause.TheVariants as Kind
+use Rattle.clauses.specs.Clauses.{first_watches, is_conflict}
+use Rattle.resolvo_store.specs.declared.helper_origin.HelperOrigin.{HelperOrigin}
+use Rattle.resolvo_store.specs.declared.helper_origin.HelperOrigin.TheVariants as Helps
 use Rattle.resolvo_queue.specs.declared.requires_clause.RequiresClause.{RequiresClause}
-use Rattle.resolvo_queue.specs.Rows.{Row}
 use Rattle.resolvo_queue.specs.Scan.{first_falsified, is_eligible}
 use Rattle.resolvo_queue.specs.Pick.{Offer, eligible, pick, decided}
-use Rattle.resolvo_store.specs.Command.{Command, Variable, Load, Requires, Assign, UndoUntil, Decide, Reply, VariableIs, LoadedAs, ClauseIs, Assigned, Already, Clash, Undone, Decided, NoDecision, Falsified}
-use Rattle.resolvo_store.specs.Store.{Store, values, lists_of, rows_of, score_of, candidates_of, all_candidates}
+use Rattle.resolvo_store.specs.Command.{Command, Variable, Helper, Load, Requires, Root, Constrains, ConstrainsExcluded, ConstrainsParent, Lock, Exclude, AnyOf, Learnt, Assign, UndoLast, UndoUntil, Unpropagated, Decide, Reply, VariableIs, LoadedAs, ClauseIs, Assigned, Already, Clash, Undone, Next, Decided, NoDecision, Falsified}
+use Rattle.resolvo_store.specs.Store.{Store, values, lists_of, kept_literals, rows_of, score_of, candidates_of, all_candidates}
 
 -- a reply, and the store after it
 pub record Outcome (N S : Type 0) : Type 0 where
   pub reply : Reply
   pub store : Store N S
-
--- whether a new requires clause can't be met any more but by its parent, which isn't false yet: it has rows, and all
--- their variables are false
-abbrev pub is_conflict : Values → ℕ → List Row → Bool
-is_conflict val parent [] = Bool.false
-is_conflict val parent (row ∷ rest) =
-    list_all (λ r. known_false (val r.variable)) (row ∷ rest) && not (known_false (val parent))
 
 -- the reply to an assignment, by what is known of the variable
 abbrev pub assign_reply : Option Bool → Bool → Reply
@@ -36,6 +34,14 @@ assign_reply (Some known) value = if beq known value then Already else Clash
 abbrev pub assigned : Option Bool → List Entry → Entry → List Entry
 assigned None trail entry = trail ++ entry ∷ []
 assigned (Some known) trail entry = trail
+
+-- the entries before the newest
+abbrev pub without_newest : List Entry → List Entry
+without_newest trail = take (length trail - 1) trail
+
+-- what UndoLast takes back, and the level of the entry before it
+abbrev pub undone : List Entry → Option (Decision × ℕ)
+undone trail = option_map (λ e. (e.decision, top_level (without_newest trail))) (newest trail)
 
 -- the answer of a Decide: the first falsified clause, else the picked one, else none
 abbrev pub decision : Option RequiresClause → Option Offer → Reply
@@ -62,6 +68,37 @@ module _ {N S : Type 0} where
     store = record st { origins = origins_loaded st r; loaded = st.loaded ++ (r, variables_loaded st r) ∷ [] };
   }
 
+  -- what a helper variable stands for
+  abbrev pub helper_origin : HelperOrigin N → VariableOrigin N S
+  helper_origin (Helps.AtLeastOne n) = AtLeastOne n
+  helper_origin (Helps.ConstrainsViolation v) = ConstrainsViolation v
+  helper_origin (Helps.RequiresGate r) = RequiresGate r
+
+  -- a new clause's reply, and the store that has it with its first watches
+  abbrev pub adds_clause : Store N S → Clause N → Outcome N S
+  adds_clause st c = record {
+    reply = ClauseIs (length st.clauses) (is_conflict (kept_literals st) (values st) c);
+    store = record st { clauses = st.clauses ++ c ∷ []; watches = st.watches ++ first_watches (kept_literals st) (values st) c ∷ [] };
+  }
+
+  -- the store that has registered a requires clause under the next clause id
+  abbrev pub with_registered : Store N S → ℕ → Requirement → Store N S
+  with_registered st parent r =
+      record st { requires = st.requires ++ record { parent = parent; requirement = r; clause_id = length st.clauses } ∷ [] }
+
+  -- the store that keeps the literals of one learnt clause more
+  abbrev pub with_learnt : Store N S → List Lit → Store N S
+  with_learnt st ls = record st { learnt = st.learnt ++ ls ∷ [] }
+
+  -- the store with its trail cut back to these entries, and the place within them
+  abbrev pub cut_back : Store N S → List Entry → Store N S
+  cut_back st kept = record st { trail = kept; place = min st.place (length kept) }
+
+  -- the next entry that the search is handed, and the store once it was
+  abbrev pub hands_next : Store N S → Option Entry → Outcome N S
+  hands_next st None = record { reply = Next None; store = st }
+  hands_next st (Some e) = record { reply = Next (Some e.decision); store = record st { place = st.place + 1 } }
+
   -- the first falsified clause of the scan
   abbrev pub falsified_clause : Store N S → Option RequiresClause
   falsified_clause st = first_falsified (values st) (rows_of st) st.requires
@@ -79,18 +116,25 @@ module _ {N S : Type 0} where
   picked st = pick (offers st)
 
   -- the reply and the store after a command that nothing refuses
-  abbrev pub outcome : Store N S → Command S → Outcome N S
+  abbrev pub outcome : Store N S → Command N S → Outcome N S
   outcome st (Variable s) = record {
     reply = VariableIs (interned_variable st.provider.same_solvable st.origins s);
     store = record st { origins = with_variable st.provider.same_solvable st.origins s };
   }
-  outcome st (Load r) = load st r (lists_of st r)
-  outcome st (Requires parent r disjunction) = record {
-    reply = ClauseIs (length st.requires) (is_conflict (values st) parent (rows_of st r));
-    store = record st {
-      requires = st.requires ++ record { parent = parent; requirement = r; clause_id = length st.requires } ∷ [];
-    };
+  outcome st (Helper origin) = record {
+    reply = VariableIs (length st.origins);
+    store = record st { origins = st.origins ++ helper_origin origin ∷ [] };
   }
+  outcome st (Load r) = load st r (lists_of st r)
+  outcome st (Requires parent r disjunction) = adds_clause (with_registered st parent r) (Kind.Requires parent disjunction r)
+  outcome st Root = adds_clause st Kind.InstallRoot
+  outcome st (Constrains parent forbidden v) = adds_clause st (Kind.Constrains parent forbidden v)
+  outcome st (ConstrainsExcluded candidate aux v) = adds_clause st (Kind.ConstrainsExcluded candidate aux v)
+  outcome st (ConstrainsParent parent aux v) = adds_clause st (Kind.ConstrainsParent parent aux v)
+  outcome st (Lock locked other) = adds_clause st (Kind.Lock locked other)
+  outcome st (Exclude v reason) = adds_clause st (Kind.Excluded v reason)
+  outcome st (AnyOf selected other) = adds_clause st (Kind.AnyOf selected other)
+  outcome st (Learnt ls) = adds_clause (with_learnt st ls) (Kind.Learnt (length st.learnt))
   outcome st (Assign v value clause level) = record {
     reply = assign_reply (values st v) value;
     store = record st {
@@ -98,5 +142,7 @@ module _ {N S : Type 0} where
           (record { decision = record { variable = v; value = value; derived_from = clause }; level = level });
     };
   }
-  outcome st (UndoUntil level) = record { reply = Undone None; store = record st { trail = kept_until level st.trail } }
+  outcome st UndoLast = record { reply = Undone (undone st.trail); store = cut_back st (without_newest st.trail) }
+  outcome st (UndoUntil level) = record { reply = Undone None; store = cut_back st (kept_until level st.trail) }
+  outcome st Unpropagated = hands_next st (slice_get st.trail st.place)
   outcome st Decide = record { reply = decision (falsified_clause st) (picked st); store = st }

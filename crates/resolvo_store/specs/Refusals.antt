@@ -1,11 +1,20 @@
 -- The refusals that a caller can foresee: for each command the tests, in order, with what each answers.
-use Rattle.std.specs.Prelude.{ℕ, ◌-◌, ◌^◌, Bool, not, ◌&&◌, nat_lt, nat_le, List, [], ◌∷◌, length, find, Option, is_none, option_map}
+use Rattle.std.specs.Prelude.{ℕ, ◌-◌, ◌^◌, ◌==◌, Bool, true, not, ◌&&◌, ◌||◌, nat_lt, nat_le, List, [], ◌∷◌, length, find, Option, is_none, option_map}
+use Rattle.std.specs.List.{list_all}
 use Rattle.typed_ids.specs.declared.error.StoreError.{StoreError}
-use Rattle.typed_ids.specs.declared.error.StoreError.TheVariants.{IdSpace, UnknownId, LevelOutOfRange, NotLoaded, TooManyClauses}
+use Rattle.typed_ids.specs.declared.error.StoreError.TheVariants.{IdSpace, UnknownId, LevelOutOfRange, NotLoaded, BadLearnt, EmptyTrail, TooManyClauses}
 use Rattle.providers.specs.Provider.{knows_requirement}
-use Rattle.variables.specs.Variables.{lacks_variable}
-use Rattle.resolvo_store.specs.Command.{Command, Variable, Load, Requires, Assign, UndoUntil, Decide}
+use Rattle.variables.specs.Variables.{lacks_variable, are_variables_out}
+use Rattle.decisions.specs.Literals.{Lit, variable_of}
+use Rattle.clauses.specs.Clauses.{watch_ends}
+use Rattle.resolvo_store.specs.declared.helper_origin.HelperOrigin.{HelperOrigin}
+use Rattle.resolvo_store.specs.declared.helper_origin.HelperOrigin.TheVariants as Helps
+use Rattle.resolvo_store.specs.Command.{Command, Variable, Helper, Load, Requires, Root, Constrains, ConstrainsExcluded, ConstrainsParent, Lock, Exclude, AnyOf, Learnt, Assign, UndoLast, UndoUntil, Unpropagated, Decide}
 use Rattle.resolvo_store.specs.Store.{Store, lists_of}
+
+-- no literal, or two or more of which the first is the last
+abbrev pub is_bad_learnt : List Lit → Bool
+is_bad_learnt ls = is_none (watch_ends ls) && not (length ls == 1)
 
 abbrev pub is_level : ℕ → Bool
 is_level level = nat_lt 0 level && nat_lt level (2 ^ 31)
@@ -14,25 +23,65 @@ module _ {N S : Type 0} where
   abbrev pub knows_variable : Store N S → ℕ → Bool
   knows_variable st v = nat_lt v (length st.origins)
 
+  abbrev pub knows_literal : Store N S → Lit → Bool
+  knows_literal st l = knows_variable st (variable_of l)
+
   abbrev pub knows_clause : Store N S → ℕ → Bool
-  knows_clause st c = nat_lt c (length st.requires)
+  knows_clause st c = nat_lt c (length st.clauses)
+
+  -- what a helper variable is to stand for is known
+  abbrev pub knows_helper : Store N S → HelperOrigin N → Bool
+  knows_helper st (Helps.AtLeastOne n) = st.provider.universe.knows_name n
+  knows_helper st (Helps.ConstrainsViolation v) = st.provider.universe.knows_set v
+  knows_helper st (Helps.RequiresGate r) = knows_requirement st.provider.universe r
+
+  -- no clause id is left
+  abbrev pub are_clauses_out : Store N S → Bool
+  are_clauses_out st = nat_le (2 ^ 32 - 1) (length st.clauses)
+
+  -- or none for the literals of a learnt clause
+  abbrev pub is_learnt_out : Store N S → Bool
+  is_learnt_out st = are_clauses_out st || nat_le (2 ^ 32) (length st.learnt)
+
+  abbrev pub knows_pair : Store N S → ℕ → ℕ → Bool
+  knows_pair st a b = knows_variable st a && knows_variable st b
+
+  -- of a command that adds a clause, by whether all that it names is known
+  abbrev pub clause_refusals : Store N S → Bool → List (Bool × StoreError)
+  clause_refusals st known = (not known, UnknownId) ∷ (are_clauses_out st, IdSpace) ∷ []
 
   -- the refusals of a command, each with whether it applies
-  abbrev pub refusals : Store N S → Command S → List (Bool × StoreError)
+  abbrev pub refusals : Store N S → Command N S → List (Bool × StoreError)
   refusals st (Variable s) =
       (not (st.provider.universe.knows_solvable s), UnknownId) ∷
       (lacks_variable st.provider.same_solvable st.provider.is_large_solvable st.origins s, IdSpace) ∷ []
+  refusals st (Helper origin) =
+      (not (knows_helper st origin), UnknownId) ∷ (are_variables_out (length st.origins), IdSpace) ∷ []
   refusals st (Load r) = (not (knows_requirement st.provider.universe r), UnknownId) ∷ []
   refusals st (Requires parent r disjunction) =
       (not (knows_variable st parent && (knows_requirement st.provider.universe r && is_none disjunction)), UnknownId) ∷
       (is_none (lists_of st r), NotLoaded) ∷
-      (nat_le (2 ^ 32 - 1) (length st.requires), TooManyClauses) ∷ []
+      (nat_le (2 ^ 32 - 1) (length st.requires), TooManyClauses) ∷
+      (are_clauses_out st, IdSpace) ∷ []
+  refusals st Root = clause_refusals st true
+  refusals st (Constrains parent forbidden v) = clause_refusals st (knows_pair st parent forbidden && st.provider.universe.knows_set v)
+  refusals st (ConstrainsExcluded candidate aux v) = clause_refusals st (knows_pair st candidate aux && st.provider.universe.knows_set v)
+  refusals st (ConstrainsParent parent aux v) = clause_refusals st (knows_pair st parent aux && st.provider.universe.knows_set v)
+  refusals st (Lock locked other) = clause_refusals st (knows_pair st locked other)
+  refusals st (Exclude v reason) = clause_refusals st (knows_variable st v && st.provider.universe.knows_string reason)
+  refusals st (AnyOf selected other) = clause_refusals st (knows_pair st selected other)
+  refusals st (Learnt ls) =
+      (not (list_all (knows_literal st) ls), UnknownId) ∷
+      (is_bad_learnt ls, BadLearnt) ∷
+      (is_learnt_out st, IdSpace) ∷ []
   refusals st (Assign v value clause level) =
       (not (knows_variable st v && knows_clause st clause), UnknownId) ∷
       (not (is_level level), LevelOutOfRange) ∷ []
+  refusals st UndoLast = (length st.trail == 0, EmptyTrail) ∷ []
   refusals st (UndoUntil level) = []
+  refusals st Unpropagated = []
   refusals st Decide = []
 
   -- the first that applies
-  abbrev pub first_refusal : Store N S → Command S → Option StoreError
+  abbrev pub first_refusal : Store N S → Command N S → Option StoreError
   first_refusal st c = option_map (λ (r : Bool × StoreError). r.1) (find (λ (r : Bool × StoreError). r.0) (refusals st c))

@@ -1,8 +1,11 @@
--- Lists of lists of variables that compare equal hold the same variables.
+-- Lists of lists of variables that compare equal hold the same variables, and lists of literals the same literals.
 use Rattle.std.specs.Prelude.{◌≡◌, ℕ, Bool, true, false, ◌&&◌, List, [], ◌∷◌, map, refl}
+use Rattle.std.specs.declared.vec.Vec.{Vec}
 use Rattle.std.specs.Cmp.Lexicographic.{pointwise, pointwise_decides}
 use Rattle.std.proofs.Common.{rules, sym, true≢false}
 use Rattle.typed_ids.specs.contracts.variable_id.VariableIdPartialEq.TheImpl.{eq-value}
+use Rattle.decisions.specs.Literals.{Lit}
+use Rattle.decisions.specs.contracts.literal.LiteralPartialEq.TheImpl as Literal
 
 first : (s t : Bool) → (s && t) ≡ true → s ≡ true
 first true t h = refl
@@ -27,3 +30,14 @@ same_lists items (x ∷ a) [] h = absurd (true≢false (sym h))
 same_lists items (x ∷ a) (y ∷ b) h =
     λ i. (pointwise_decides decides (items x) (items y)).0 (first (pointwise equal (items x) (items y)) _ h) i
     ∷ same_lists items a b (second (pointwise equal (items x) (items y)) _ h) i
+
+-- `==` of literals
+abbrev pub equal_literals : Lit → Lit → Bool
+equal_literals = Literal.eq-value.it
+
+decides_literals : (x y : Lit) → (equal_literals x y ≡ true → x ≡ y) × (x ≡ y → equal_literals x y ≡ true)
+decides_literals x y = (λ e. search rules, λ e. search rules)
+
+-- vectors of equal literals hold the same ones
+pub same_literals : {A : Type 0} (a b : Vec Lit A) → pointwise equal_literals a.items b.items ≡ true → a.items ≡ b.items
+same_literals a b h = (pointwise_decides decides_literals a.items b.items).0 h

@@ -1,5 +1,5 @@
 -- What is true of each store that commands can make of a new one. N are the names, S the solvables.
-use Rattle.std.specs.Prelude.{◌≡◌, ℕ, ◌<◌, List, map, length, slice_get, All, IsSome, Some}
+use Rattle.std.specs.Prelude.{◌≡◌, ℕ, ◌+◌, ◌<◌, ◌≤◌, List, [], ◌∷◌, map, length, slice_get, All, IsSome, Some}
 use Rattle.std.specs.List.{IsDistinct}
 use Rattle.providers.specs.declared.requirement.Requirement.{Requirement}
 use Rattle.providers.specs.Requirement.{same_requirement}
@@ -7,26 +7,35 @@ use Rattle.providers.specs.Provider.{sets_of}
 use Rattle.variables.specs.declared.variable_origin.VariableOrigin.TheVariants.{Solvable}
 use Rattle.variables.specs.Variables.{IsRootFirst, variable_of_solvable}
 use Rattle.decisions.specs.Trail.{Entry, IsTrail}
+use Rattle.clauses.specs.declared.clause.Clause.{Clause}
+use Rattle.clauses.specs.declared.clause.Clause.TheVariants as Kind
 use Rattle.resolvo_queue.specs.declared.requires_clause.RequiresClause.{RequiresClause}
 use Rattle.resolvo_store.specs.Store.{Store, lists_of}
+
+-- the requires clauses among these, the first of which has this id
+abbrev pub requires_from : {N : Type 0} → ℕ → List (Clause N) → List RequiresClause
+requires_from id [] = []
+requires_from id (Kind.Requires parent disjunction r ∷ cs) =
+    record { parent = parent; requirement = r; clause_id = id } ∷ requires_from (id + 1) cs
+requires_from id (c ∷ cs) = requires_from (id + 1) cs
+
+-- a clause that isn't registered for decisions
+pub record IsPlain {N : Type 0} (c : Clause N) : Type 0 where
+  pub unregistered : (id : ℕ) → requires_from id (c ∷ []) ≡ []
 
 module _ {N S : Type 0} (st : Store N S) where
   -- a variable of the store
   abbrev pub IsVariable : ℕ → Type 0
   IsVariable variable = variable < length st.origins
 
-  -- the id of a registered clause
+  -- the id of a clause
   abbrev pub IsClause : ℕ → Type 0
-  IsClause clause = clause < length st.requires
+  IsClause clause = clause < length st.clauses
 
   -- no solvable has two variables: each variable of a solvable is the one that the solvable is found to have
   abbrev pub HasOneVariableEach : Type 0
   HasOneVariableEach = (variable : ℕ) (solvable : S) → slice_get st.origins variable ≡ Some (Solvable solvable) →
       variable_of_solvable st.provider.same_solvable st.origins solvable ≡ Some variable
-
-  -- each clause's id is its place among the clauses
-  abbrev pub HasPlacesForIds : Type 0
-  HasPlacesForIds = (place : ℕ) (clause : RequiresClause) → slice_get st.requires place ≡ Some clause → clause.clause_id ≡ place
 
   -- what is kept for a loaded requirement: a list for each of its version sets, and the lists are of variables
   pub record IsLoaded (entry : Requirement × List (List ℕ)) : Type 0 where
@@ -49,8 +58,12 @@ module _ {N S : Type 0} (st : Store N S) where
     -- each requirement is loaded once
     pub loaded_once : IsDistinct same_requirement (map (λ e. e.0) st.loaded)
     pub loaded : All IsLoaded st.loaded
-    pub clause_ids : HasPlacesForIds
+    -- the registered clauses are the requires clauses of the list, under their ids
+    pub registered : st.requires ≡ requires_from 0 st.clauses
     pub clauses : All IsRegistered st.requires
+    -- for each clause there is what it watches
+    pub watched : length st.watches ≡ length st.clauses
+    pub place : st.place ≤ length st.trail
     -- each variable is on the trail at most once, and levels are in range
     pub trail : IsTrail st.trail
     pub assigned : All IsAssigned st.trail

@@ -9,6 +9,8 @@ use Rattle.variables.specs.declared.variable_origin.VariableOrigin.{VariableOrig
 use Rattle.variables.specs.declared.variable_origin.VariableOrigin.TheVariants.{Root}
 use Rattle.decisions.specs.Literals.{Lit, Values}
 use Rattle.decisions.specs.Trail.{Entry, val}
+use Rattle.clauses.specs.Clauses.{Kept as KeptLiterals}
+use Rattle.clauses.specs.declared.clause.Clause.{Clause}
 use Rattle.resolvo_queue.specs.declared.requires_clause.RequiresClause.{RequiresClause}
 use Rattle.resolvo_queue.specs.Rows.{Row, rows}
 pub use Rattle.solver_cache.specs.Functions.{Provider, gathered}
@@ -25,10 +27,18 @@ pub record Store (N S : Type 0) : Type 0 where
   pub origins : List (VariableOrigin N S)
   -- the requirements that were loaded, with the lists of their candidates' variables, one list a version set
   pub loaded : List (Requirement × List (List ℕ))
+  -- the literals of the learnt clauses
+  pub learnt : List (List Lit)
+  -- all clauses: a clause's id is its place
+  pub clauses : List (Clause N)
+  -- the two literals that each clause watches, or none
+  pub watches : List (Option (List Lit))
   -- the requires clauses in the order of registration
   pub requires : List RequiresClause
   -- the trail, the oldest entry first
   pub trail : List Entry
+  -- how many entries of the trail the search was handed to propagate
+  pub place : ℕ
   pub scores : N → ℕ
   pub trackers : N → Tracker
   -- the clauses that watch each literal, front first
@@ -39,8 +49,12 @@ pub record Kept (D N S : Type 0) : Type 0 where
   pub provider : D
   pub origins : List (VariableOrigin N S)
   pub loaded : List (Requirement × List (List ℕ))
+  pub learnt : List (List Lit)
+  pub clauses : List (Clause N)
+  pub watches : List (Option (List Lit))
   pub requires : List RequiresClause
   pub trail : List Entry
+  pub place : ℕ
 
 -- the abstract store of what is kept. No command changes scores, trackers or watch lists yet.
 abbrev pub store_of : {D N S : Type 0} → (D → Provider N S) → Kept D N S → Store N S
@@ -48,8 +62,12 @@ store_of provided kept = record {
   provider = provided kept.provider;
   origins = kept.origins;
   loaded = kept.loaded;
+  learnt = kept.learnt;
+  clauses = kept.clauses;
+  watches = kept.watches;
   requires = kept.requires;
   trail = kept.trail;
+  place = kept.place;
   scores = λ n. 0;
   trackers = λ n. record { tracked = []; helpers = [] };
   watchers = λ l. [];
@@ -61,8 +79,12 @@ new_store provider = record {
   provider = provider;
   origins = Root ∷ [];
   loaded = [];
+  learnt = [];
+  clauses = [];
+  watches = [];
   requires = [];
   trail = [];
+  place = 0;
   scores = λ n. 0;
   trackers = λ n. record { tracked = []; helpers = [] };
   watchers = λ l. [];
@@ -76,6 +98,10 @@ module _ {N S : Type 0} (st : Store N S) where
   -- the lists of a requirement, if it was loaded
   abbrev pub lists_of : Requirement → Option (List (List ℕ))
   lists_of r = lookup (same_requirement r) st.loaded
+
+  -- what the literals of its clauses are read from; no disjunction is kept yet
+  abbrev pub kept_literals : KeptLiterals
+  kept_literals = record { learnt = st.learnt; lists = λ r. unwrap_or (lists_of r) []; disjunctions = [] }
 
   -- the rows of a requirement, none if it wasn't loaded
   abbrev pub rows_of : Requirement → List Row

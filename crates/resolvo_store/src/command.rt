@@ -1,30 +1,85 @@
 //! What a store is asked.
-use providers::Requirement;
-use typed_ids::{ClauseId, DisjunctionId, SameValue, VariableId};
+ghost use Rattle.std.specs.Prelude.{◌≡◌, true};
 
-/// A command. `S` are the provider's solvables.
+use crate::helper_origin::HelperOrigin;
+use decisions::Literal;
+use providers::Requirement;
+use std::alloc::Allocator;
+use typed_ids::{ClauseId, DisjunctionId, SameValue, StringId, VariableId, VersionSetId};
+
+/// A command. `N` are the provider's names, `S` its solvables; a learnt clause's literals are of the allocator `A`.
 ///
 /// A command that names an id which the store or its provider doesn't know is refused, and so is each command where the
 /// list of refusals in docs/BEHAVIOUR.md says so. A refused command changes nothing.
-#[derive(Clone, Copy, Debug, PartialEq, Eq)]
-pub enum Command<S> {
+#[derive(Drop)]
+#[derive_where(Debug, PartialEq, Eq; N, S)]
+pub enum Command<N, S, A: Allocator> {
     /// Asks for the variable of a solvable, which is made where there is none.
     Variable(S),
+    /// Makes a new variable that stands for this.
+    Helper(HelperOrigin<N>),
     /// Loads the candidates of a requirement, best first, and gives each a variable. They are loaded once.
     Load(Requirement),
     /// Adds the clause that the parent variable, if true, requires one of the requirement's candidates, under the
     /// condition that all literals of the disjunction are false.
     Requires(VariableId, Requirement, Option<DisjunctionId>),
+    /// Adds the clause that the root is true.
+    Root,
+    /// Adds the clause that the first variable, if true, forbids the second one, which the version set doesn't hold.
+    Constrains(VariableId, VariableId, VersionSetId),
+    /// Adds the clause that the first variable, a candidate outside the version set, if true makes the second one true,
+    /// which stands for all of them.
+    ConstrainsExcluded(VariableId, VariableId, VersionSetId),
+    /// Adds the clause that the first variable, if true, forbids the second one, which stands for all candidates outside
+    /// the version set.
+    ConstrainsParent(VariableId, VariableId, VersionSetId),
+    /// Adds the clause that, the first variable being locked, the second one isn't true where the root is.
+    Lock(VariableId, VariableId),
+    /// Adds the clause that the variable isn't true, for the reason that the string says.
+    Exclude(VariableId, StringId),
+    /// Adds the clause that the first variable is true where the second one is.
+    AnyOf(VariableId, VariableId),
+    /// Adds a learnt clause with these literals.
+    Learnt(Vec<Literal, A>),
     /// Gives a variable a value, derived from the clause, at the level.
     Assign(VariableId, bool, ClauseId, u32),
+    /// Takes back the newest assignment.
+    UndoLast,
     /// Takes back the assignments at the end of the trail whose levels are above this one.
     UndoUntil(u32),
+    /// Asks for the next assignment to propagate: the oldest one that wasn't handed out yet.
+    Unpropagated,
     /// Asks which candidate to decide next.
     Decide,
 }
 
-impl<S: SameValue> SameValue for Command<S> {
+/// A command as the abstract store obeys it, of which `==` speaks: how much room its lists have tells none from another.
+pub trait AbstractCommand: Eq {
+    ghost use Rattle.resolvo_store.specs.Command.{Command};
+
+    /// The provider's names.
+    type NameId;
+
+    /// The provider's solvables.
+    type SolvableId;
+
+    /// What the command says.
+    ghost command: { Self → Command Self.NameId Self.SolvableId };
+
+    /// Commands that compare equal say the same. (That a command equals itself is a law of `Eq`.)
+    ghost same_command: { (a b : Self) → Self.eq a b ≡ true → command a ≡ command b };
+}
+
+impl<N: SameValue, S: SameValue, A: Allocator> AbstractCommand for Command<N, S, A> {
+    ghost use Rattle.resolvo_store.specs.Command.{command_of};
+    ghost use Rattle.resolvo_store.specs.ReplyLaws.{same_literals};
     ghost use Rattle.std.proofs.Common.{rules};
 
-    ghost same = { λ a b h. Prim.search rules };
+    type NameId = N;
+
+    type SolvableId = S;
+
+    ghost command = { command_of };
+
+    ghost same_command = { λ a b h. Prim.search (rules, same_literals) };
 }

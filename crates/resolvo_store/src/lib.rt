@@ -18,12 +18,13 @@
 
 mod abstract_store;
 mod command;
-mod conflict;
+mod helper_origin;
 mod loaded_lists;
 mod reply;
 mod store;
 
 pub use abstract_store::AbstractStore;
-pub use command::Command;
+pub use command::{AbstractCommand, Command};
+pub use helper_origin::HelperOrigin;
 pub use reply::{AbstractReply, Reply};
 pub use store::ClauseStore;

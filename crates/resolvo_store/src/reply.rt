@@ -10,12 +10,12 @@ use typed_ids::{ClauseId, StoreError, VariableId};
 #[derive(Drop)]
 #[derive_where(Debug, PartialEq, Eq)]
 pub enum Reply<A: Allocator> {
-    /// The solvable's variable.
+    /// The solvable's variable, or the new one.
     Variable(VariableId),
     /// The variables of the requirement's candidates, best first, one list a version set.
     Loaded(Vec<Vec<VariableId, A>, A>),
-    /// The clause was added under this id; whether it is a conflict: it has candidates, all are false already, and its
-    /// parent isn't false yet.
+    /// The clause was added under this id; whether it is a conflict: what its parent asks for is false already, and the
+    /// parent isn't. Kinds without a parent are none.
     Clause(ClauseId, bool),
     /// The variable had no value, and has this one now.
     Assigned,
@@ -23,8 +23,11 @@ pub enum Reply<A: Allocator> {
     Already,
     /// The variable has the other value.
     Clash,
-    /// The assignments were taken back.
+    /// The assignments were taken back; of the newest alone, what it was, and the level of the one before it (0 if there
+    /// is none).
     Undone(Option<(Decision, u32)>),
+    /// The next assignment to propagate, if there is one.
+    Next(Option<Decision>),
     /// This candidate is to be decided next.
     Decided(QueueDecision),
     /// No clause wants a decision.

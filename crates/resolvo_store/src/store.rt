@@ -3,25 +3,30 @@
 //! [`ClauseStore::step`] hands a command to the method that obeys it. The methods are in a file for each group of
 //! commands:
 //!
-//! - `store/loading.rt`: `Variable` and `Load`, which make variables and load requirements;
-//! - `store/registering.rt`: `Requires`, which adds clauses;
-//! - `store/assigning.rt`: `Assign` and `UndoUntil`, which change the trail;
-//! - `store/deciding.rt`: `Decide`, which changes nothing, and its two halves as calls of their own.
+//! - `store/loading.rt`: `Variable`, `Helper` and `Load`, which make variables and load requirements;
+//! - `store/adding.rt`: the commands that add clauses of the other kinds;
+//! - `store/registering.rt`: `Requires`, which adds a clause and registers it for decisions;
+//! - `store/assigning.rt`: `Assign`, `UndoLast`, `UndoUntil` and `Unpropagated`, which change the trail;
+//! - `store/deciding.rt`: `Decide`, which changes nothing, and its two halves as calls of their own;
+//! - `store/reading.rt`: no commands, but what is read beside the replies.
 //!
 //! Each method's contract is the step of its command. So a method takes back what it changed before it was refused:
-//! only a `Load` can be refused half way, and gives up the variables that it made.
+//! a `Load` gives up the variables that it made, and a `Requires` the clause.
 ghost use Rattle.std.specs.Prelude.{◌≡◌, map, length, vec_len, IfOk, IfErr, OnErr};
 ghost use Rattle.typed_ids.specs.declared.error.StoreError.TheVariants.{OutOfMemory};
 ghost use Rattle.decisions.specs.Trail.{val};
 
+mod adding;
 mod assigning;
 mod deciding;
 mod loading;
+mod reading;
 mod registering;
 
 use crate::abstract_store::AbstractStore;
 use crate::command::Command;
 use crate::reply::Reply;
+use clause_list::ClauseList;
 use decisions::DecisionTracker;
 use id_maps::{IdMap, IdSet, SolverId};
 use providers::{DependencyProvider, RequirementMap};
@@ -42,6 +47,8 @@ pub struct ClauseStore<D: DependencyProvider> {
     variables: VariableMap<D::NameId, D::SolvableId, D::Alloc>,
     /// The candidates' variables of each loaded requirement, best first, one list a version set.
     loaded: RequirementMap<Vec<Vec<VariableId, D::Alloc>, D::Alloc>, D::Alloc>,
+    /// All clauses. Those of the kind `Requires` are in the queue too, under their ids.
+    clauses: ClauseList<D::NameId, D::Alloc>,
     queue: DecideQueue<D::Alloc>,
     trail: DecisionTracker<D::Alloc>,
     alloc: D::Alloc,
@@ -58,8 +65,12 @@ impl<D: DependencyProvider> Model for ClauseStore<D> {
       provider = a.cache.provider;
       origins = a.variables;
       loaded = lists_kept a.loaded;
+      learnt = a.clauses.learnt;
+      clauses = a.clauses.clauses;
+      watches = a.clauses.watches;
       requires = a.queue;
       trail = a.trail.entries;
+      place = a.trail.place;
     } };
 
     ghost invariant = { λ a. IsConsistent (store_of (gathered D.NameId.eq D.SolvableId.eq D.NameId.Slots.is_too_large D.SolvableId.Slots.is_too_large
@@ -67,8 +78,12 @@ impl<D: DependencyProvider> Model for ClauseStore<D> {
           provider = a.cache.provider;
           origins = a.variables;
           loaded = lists_kept a.loaded;
+          learnt = a.clauses.learnt;
+          clauses = a.clauses.clauses;
+          watches = a.clauses.watches;
           requires = a.queue;
           trail = a.trail.entries;
+          place = a.trail.place;
         })) a.loaded a.cache };
 }
 
@@ -91,6 +106,7 @@ impl<D: DependencyProvider + Drop> ClauseStore<D> {
             cache: SolverCache::new(alloc, provider),
             variables,
             loaded: RequirementMap::new(alloc),
+            clauses: ClauseList::new(alloc),
             queue: DecideQueue::new(alloc),
             trail: DecisionTracker::new(alloc),
             alloc,
@@ -105,7 +121,7 @@ impl<D: DependencyProvider + Drop> ClauseStore<D> {
     }
 
     /// Obeys a command, and answers it.
-    pub fn step(&mut self, command: &Command<D::SolvableId>) -> Reply<D::Alloc>
+    pub fn step(&mut self, command: &Command<D::NameId, D::SolvableId, D::Alloc>) -> Reply<D::Alloc>
         ensures step { Step (⟦<D as AbstractStore>⟧.store self.old) (command_of command.now)
             (reply_of result) (⟦<D as AbstractStore>⟧.store self.new) }
         ensures refused { IsRefused (reply_of result) →
@@ -122,7 +138,10 @@ impl<D: DependencyProvider + Drop> ClauseStore<D> {
 
     /// Obeys a command: its reply, or the refusal, which changes nothing. [`ClauseStore::step`] is the same with the
     /// refusal among the replies.
-    pub fn obey(&mut self, command: &Command<D::SolvableId>) -> Result<Reply<D::Alloc>, StoreError>
+    pub fn obey(
+        &mut self,
+        command: &Command<D::NameId, D::SolvableId, D::Alloc>,
+    ) -> Result<Reply<D::Alloc>, StoreError>
         ensures step { Step (⟦<D as AbstractStore>⟧.store self.old) (command_of command.now)
             (answer_of result) (⟦<D as AbstractStore>⟧.store self.new) }
         ensures ok { IfOk result (λ reply. IsRefused (reply_of reply) → ⊥) }
@@ -133,16 +152,33 @@ impl<D: DependencyProvider + Drop> ClauseStore<D> {
     {
         // What is true of each store is true of this one: a look at a field tells it.
         let _cache = &self.cache;
-        match *command {
-            Command::Variable(solvable) => self.variable(solvable),
-            Command::Load(requirement) => self.load(requirement),
+        match command {
+            Command::Variable(solvable) => self.variable(*solvable),
+            Command::Helper(origin) => self.helper(*origin),
+            Command::Load(requirement) => self.load(*requirement),
             Command::Requires(parent, requirement, disjunction) => {
-                self.requires_clause(parent, requirement, disjunction)
+                self.requires_clause(*parent, *requirement, *disjunction)
             }
+            Command::Root => self.root(),
+            Command::Constrains(parent, forbidden, set) => {
+                self.constrains(*parent, *forbidden, *set)
+            }
+            Command::ConstrainsExcluded(candidate, aux, set) => {
+                self.constrains_excluded(*candidate, *aux, *set)
+            }
+            Command::ConstrainsParent(parent, aux, set) => {
+                self.constrains_parent(*parent, *aux, *set)
+            }
+            Command::Lock(locked, other) => self.lock(*locked, *other),
+            Command::Exclude(variable, reason) => self.exclude(*variable, *reason),
+            Command::AnyOf(selected, other) => self.any_of(*selected, *other),
+            Command::Learnt(literals) => self.learnt(literals),
             Command::Assign(variable, value, clause, level) => {
-                self.assign(variable, value, clause, level)
+                self.assign(*variable, *value, *clause, *level)
             }
-            Command::UndoUntil(level) => Ok(self.undo_until(level)),
+            Command::UndoLast => self.undo_last(),
+            Command::UndoUntil(level) => Ok(self.undo_until(*level)),
+            Command::Unpropagated => Ok(self.unpropagated()),
             Command::Decide => Ok(self.decide()),
         }
     }
@@ -151,7 +187,7 @@ impl<D: DependencyProvider + Drop> ClauseStore<D> {
     /// was obeyed. Any later refusal is a reply, and the commands after it are obeyed.
     pub fn run(
         &mut self,
-        commands: &[Command<D::SolvableId>],
+        commands: &[Command<D::NameId, D::SolvableId, D::Alloc>],
     ) -> Result<Vec<Reply<D::Alloc>, D::Alloc>, StoreError>
         ensures ok { IfOk result (λ replies. Run (⟦<D as AbstractStore>⟧.store self.old) (map command_of commands.now)
             (map reply_of replies.items) (⟦<D as AbstractStore>⟧.store self.new)) }

@@ -9,13 +9,13 @@ use typed_ids::{ConditionId, SolvableId, StoreError, StringId, VersionSetId, Ver
 
 /// A script, what it is answered, and the exit status.
 #[derive(Clone, Copy)]
-struct Row {
+pub(crate) struct Row {
     script: &'static [u8],
     answer: &'static [u8],
     status: u8,
 }
 
-const fn given(script: &'static [u8], answer: &'static [u8], status: u8) -> Row {
+pub(crate) const fn given(script: &'static [u8], answer: &'static [u8], status: u8) -> Row {
     Row {
         script,
         answer,
@@ -32,7 +32,7 @@ fn answered(alloc: Global, text: &[u8]) -> (Vec<u8>, Result<(), ScriptFault>) {
 }
 
 /// Whether the script is answered so, and its exit status.
-fn is_answered(alloc: Global, row: &Row) -> (bool, u8) {
+pub(crate) fn is_answered(alloc: Global, row: &Row) -> (bool, u8) {
     let (answer, ended) = answered(alloc, row.script);
     let is_wanted = answer.as_slice() == row.answer;
     drop(answer);
@@ -40,7 +40,7 @@ fn is_answered(alloc: Global, row: &Row) -> (bool, u8) {
 }
 
 /// Each script is answered so. A failure names the place of the script.
-fn are_answered(rt: &impl AllocGlobal, rows: &[Row]) -> Result<(), Fail> {
+pub(crate) fn are_answered(rt: &impl AllocGlobal, rows: &[Row]) -> Result<(), Fail> {
     for (i, row) in rows.iter().enumerate() {
         let (is_wanted, status) = is_answered(rt.alloc(), row);
         is_same((i, is_wanted, status), (i, true, row.status))?;

@@ -1,7 +1,12 @@
-//! Tests of scripts: what they are answered, and what comes of readers and writers that fail.
+//! Tests of scripts: what they are answered, of the trail and of clauses too, and what comes of readers and writers that
+//! fail.
 #![tactic(auto)]
 
 #[cfg(test)]
 mod answers;
 #[cfg(test)]
+mod clause_lines;
+#[cfg(test)]
 mod devices;
+#[cfg(test)]
+mod trail;

@@ -1,2 +1,3 @@
+pub mod LiteralLemmas
 pub mod ScriptLemmas
 pub mod TranscriptLemmas

@@ -1,5 +1,5 @@
 -- From the parts of a script to the whole.
-use Rattle.std.proofs.Common.{◌≡◌, ℕ, ◌^◌, List, [], ◌++◌, Option, None, Some, Result, Ok, Err, IfSome, refl, sym, subst, inl, inr, ◌∙◌, append-nil}
+use Rattle.std.proofs.Common.{◌≡◌, ℕ, List, [], ◌++◌, Option, None, Some, Result, Ok, Err, IfSome, refl, sym, subst, inl, inr, ◌∙◌, append-nil}
 use Rattle.resolvo_store.specs.Store.{new_store}
 use Rattle.script_text.specs.declared.fault.ScriptFault.{ScriptFault}
 use Rattle.script_text.specs.declared.fault.ScriptFault.TheVariants.{Unreadable, Device, Memory}
@@ -8,7 +8,7 @@ use Rattle.script_packages.specs.Listing.{nothing_listed}
 use Rattle.script_packages.specs.CatalogueEnds.{CommandsBegin, CatalogueFault}
 use Rattle.script_text.specs.Lines.{lines as lines_of}
 use Rattle.script_text.specs.Output.{Writes}
-use Rattle.scripts.specs.ScriptStore.{provider_of}
+use Rattle.scripts.specs.ScriptStore.{numbers, provider_of}
 use Rattle.scripts.specs.Scripts.{ScriptAnswered, faulty_text}
 use Rattle.scripts.specs.Transcript.{Answered, IfRead}
 use Rattle.scripts.proofs.TranscriptLemmas.{Writes-trans, Writes-wait, Writes-on}
@@ -16,7 +16,7 @@ use Rattle.scripts.proofs.TranscriptLemmas.{Writes-trans, Writes-wait, Writes-on
 -- the commands are answered, and so the script is
 pub commands_answered : {T : Type 0} (r : Result T ScriptFault) (lines : List (List ℕ)) (packages : Packages) (before : ℕ) (left : List (List ℕ))
     (held held' : Option (List ℕ)) (w w' : List ℕ) → CommandsBegin nothing_listed 0 lines before left packages
-    → IfRead r (λ faulty. (text : List ℕ) × Answered (2 ^ 32) (λ n. n) (new_store (provider_of packages)) before left text faulty × Writes held w held' w' text)
+    → IfRead r (λ faulty. (text : List ℕ) × Answered numbers (new_store (provider_of packages)) before left text faulty × Writes held w held' w' text)
     → IfRead r (λ faulty. (text : List ℕ) × ScriptAnswered lines text faulty × Writes held w held' w' text)
 commands_answered (Ok t) lines packages before left held held' w w' begun h = (h.0, inr (packages, before, left, begun, h.1), h.2)
 commands_answered (Err (Unreadable number)) lines packages before left held held' w w' begun h = (h.0, inr (packages, before, left, begun, h.1), h.2)

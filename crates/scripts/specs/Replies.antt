@@ -3,7 +3,7 @@ use Rattle.std.specs.Prelude.{ℕ, Bool, List, [], ◌∷◌, ◌++◌, Option, 
 use Rattle.typed_ids.specs.Refusals.{code_of}
 use Rattle.decisions.specs.declared.decision.Decision.{Decision}
 use Rattle.resolvo_queue.specs.declared.queue_decision.QueueDecision.{QueueDecision}
-use Rattle.resolvo_store.specs.Command.{Reply, VariableIs, LoadedAs, ClauseIs, Assigned, Already, Clash, Undone, Decided, NoDecision, Falsified, Refused}
+use Rattle.resolvo_store.specs.Command.{Reply, VariableIs, LoadedAs, ClauseIs, Assigned, Already, Clash, Undone, Next, Decided, NoDecision, Falsified, Refused}
 
 -- a name, and a number directly after it
 abbrev pub field : List ℕ → ℕ → List ℕ
@@ -29,10 +29,17 @@ conflict_text conflict = if conflict then codes " conflict" else []
 abbrev pub truth_text : Bool → List ℕ
 truth_text value = if value then codes " true" else codes " false"
 
+-- a variable, its value, and the clause that gave it, each after a blank
+abbrev pub assignment_text : Decision → List ℕ
+assignment_text d = field (codes " ") d.variable ++ (truth_text d.value ++ field (codes " ") d.derived_from)
+
 abbrev pub undone_text : Option (Decision × ℕ) → List ℕ
 undone_text None = codes "undone"
-undone_text (Some (d, level)) = codes "undone" ++ (field (codes " ") d.variable ++
-    (truth_text d.value ++ (field (codes " ") d.derived_from ++ field (codes " ") level)))
+undone_text (Some (d, level)) = codes "undone" ++ (assignment_text d ++ field (codes " ") level)
+
+abbrev pub next_text : Option Decision → List ℕ
+next_text None = codes "next none"
+next_text (Some d) = codes "next" ++ assignment_text d
 
 abbrev pub decision_text : QueueDecision → List ℕ
 decision_text d =
@@ -48,6 +55,7 @@ reply_words Assigned = codes "assigned"
 reply_words Already = codes "already"
 reply_words Clash = codes "clash"
 reply_words (Undone last) = undone_text last
+reply_words (Next decision) = next_text decision
 reply_words (Decided d) = decision_text d
 reply_words NoDecision = codes "no decision"
 reply_words (Falsified c) = field (codes "falsified ") c

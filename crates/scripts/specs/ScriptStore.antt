@@ -5,6 +5,11 @@ use Rattle.variables.specs.declared.variable_origin.VariableOrigin.TheVariants.{
 use Rattle.script_packages.specs.declared.packages.Packages.{Packages}
 use Rattle.script_packages.specs.Packages.{same_id}
 use Rattle.script_packages.specs.PackageAnswers.{universe_of, answers_of}
+use Rattle.scripts.specs.Commands.{Ids, ids_at}
+
+-- names and solvables are their numbers of 32 bits
+abbrev pub numbers : Ids ℕ ℕ
+numbers = ids_at (2 ^ 32) (λ n. n) (2 ^ 32) (λ n. n)
 
 -- maps keep no id of such a number
 abbrev pub is_large : ℕ → Bool
@@ -16,4 +21,14 @@ provider_of p = gathered same_id same_id is_large is_large is_large Bool.false u
 
 -- what a new store over a provider keeps
 abbrev pub new_kept : {D N S : Type 0} → D → Kept D N S
-new_kept provider = record { provider = provider; origins = Root ∷ []; loaded = []; requires = []; trail = [] }
+new_kept provider = record {
+  provider = provider;
+  origins = Root ∷ [];
+  loaded = [];
+  learnt = [];
+  clauses = [];
+  watches = [];
+  requires = [];
+  trail = [];
+  place = 0;
+}

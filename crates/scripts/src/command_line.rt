@@ -1,31 +1,60 @@
 //! Command lines.
 ghost use Rattle.std.specs.Prelude.{◌≡◌, option_map};
-ghost use Rattle.script_text.specs.Words.{words};
 ghost use Rattle.script_packages.specs.Ids.{truth_of};
-ghost use Rattle.scripts.specs.Commands.{command_said, variable_command, load_command, requires_command, assign_command, undo_command, decide_command, only_word, command_meant};
+ghost use Rattle.script_text.specs.Words.{words};
+ghost use Rattle.resolvo_store.specs.Command.{command_of};
+ghost use Rattle.scripts.specs.Commands.{ids_at, only_word, pair_of, pair_and_set_of, helper_origin_of};
+ghost use Rattle.scripts.specs.Commands.{command_said, plain_command, seldom_command, between_command, bare_command};
+ghost use Rattle.scripts.specs.Commands.{variable_command, helper_command, load_command, requires_command, assign_command};
+ghost use Rattle.scripts.specs.Commands.{undo_command, exclude_command, learnt_command};
+ghost use Rattle.scripts.specs.Transcript.{IsRead};
 
-use resolvo_store::Command;
+use crate::literal_words::{are_literals, literals};
+use resolvo_store::{Command, HelperOrigin};
 use script_packages::{id, requirement};
-use script_text::{Line, Statement, is_word, next_word};
-use typed_ids::DenseIndex;
+use script_text::{LineFault, Statement, is_word, next_word};
+use std::alloc::Allocator;
+use typed_ids::{DenseIndex, VariableId, VersionSetId};
 
-/// The command of a line after `begin`, by what the line says. A number names the solvable of this index.
-pub fn command_line<S: DenseIndex>(said: Line<Statement<'_>>) -> Line<Command<S>>
-    ensures { result ≡ command_meant S.limit S.id_at said.entry }
+/// The command that a statement after `begin` gives. A number names the package, or the solvable, of this index. Only a
+/// `learnt` line takes memory.
+pub fn command<N: DenseIndex, S: DenseIndex, A: Allocator>(
+    alloc: A,
+    said: Statement<'_>,
+) -> Result<Command<N, S, A>, LineFault>
+    ensures { IsRead (command_said (ids_at N.limit N.id_at S.limit S.id_at) said.entry.keyword.now (words said.entry.rest.now)) result }
 {
-    match said {
-        Line::Skipped => Line::Skipped,
-        Line::Unreadable => Line::Unreadable,
-        Line::Says(said) => match command(said) {
-            Some(command) => Line::Says(command),
-            None => Line::Unreadable,
-        },
+    if is_word(said.keyword, b"learnt") {
+        learnt(alloc, said.rest)
+    } else {
+        plain_command(said).ok_or(LineFault::Unreadable)
     }
 }
 
-/// The command that a statement gives.
-fn command<S: DenseIndex>(said: Statement<'_>) -> Option<Command<S>>
-    ensures { result ≡ command_said S.limit S.id_at said.entry.keyword.now (words said.entry.rest.now) }
+/// `learnt LIT ..`
+#[tactic(auto, using(crate::proofs::LiteralLemmas::some_learnt, crate::proofs::LiteralLemmas::none_learnt))]
+fn learnt<N, S, A: Allocator>(alloc: A, text: &[u8]) -> Result<Command<N, S, A>, LineFault>
+    ensures { IsRead (learnt_command (words text.now)) result }
+{
+    match literals(alloc, text) {
+        Ok(literals) => Ok(Command::Learnt(literals)),
+        // Where each word is a literal, memory was refused.
+        Err(_) => {
+            if are_literals(text) {
+                Err(LineFault::Memory)
+            } else {
+                Err(LineFault::Unreadable)
+            }
+        }
+    }
+}
+
+/// The command that a statement gives, if it isn't a `learnt` one.
+fn plain_command<N: DenseIndex, S: DenseIndex, A: Allocator>(
+    said: Statement<'_>,
+) -> Option<Command<N, S, A>>
+    ensures { option_map command_of result
+        ≡ plain_command (ids_at N.limit N.id_at S.limit S.id_at) said.entry.keyword.now (words said.entry.rest.now) }
 {
     if is_word(said.keyword, b"assign") {
         assign(said.rest)
@@ -33,12 +62,58 @@ fn command<S: DenseIndex>(said: Statement<'_>) -> Option<Command<S>>
         requires_clause(said.rest)
     } else if is_word(said.keyword, b"load") {
         load(said.rest)
-    } else if is_word(said.keyword, b"variable") {
-        variable(said.rest)
+    } else if is_word(said.keyword, b"decide") {
+        bare_command(said.rest, Command::Decide)
+    } else if is_word(said.keyword, b"unpropagated") {
+        bare_command(said.rest, Command::Unpropagated)
     } else if is_word(said.keyword, b"undo-until") {
         undo_until(said.rest)
-    } else if is_word(said.keyword, b"decide") {
-        decide(said.rest)
+    } else {
+        seldom_command(said)
+    }
+}
+
+/// The command that a statement gives, if it is one that is said seldom.
+fn seldom_command<N: DenseIndex, S: DenseIndex, A: Allocator>(
+    said: Statement<'_>,
+) -> Option<Command<N, S, A>>
+    ensures { option_map command_of result
+        ≡ seldom_command (ids_at N.limit N.id_at S.limit S.id_at) said.entry.keyword.now (words said.entry.rest.now) }
+{
+    if is_word(said.keyword, b"variable") {
+        variable(said.rest)
+    } else if is_word(said.keyword, b"undo-last") {
+        bare_command(said.rest, Command::UndoLast)
+    } else if is_word(said.keyword, b"helper") {
+        helper(said.rest)
+    } else if is_word(said.keyword, b"exclude") {
+        exclude(said.rest)
+    } else if is_word(said.keyword, b"root") {
+        bare_command(said.rest, Command::Root)
+    } else {
+        between_command(said)
+    }
+}
+
+/// The command that a statement gives, if it is a clause between two variables.
+fn between_command<N, S, A: Allocator>(said: Statement<'_>) -> Option<Command<N, S, A>>
+    ensures { option_map command_of result ≡ between_command said.entry.keyword.now (words said.entry.rest.now) }
+{
+    if is_word(said.keyword, b"constrains") {
+        let (parent, forbidden, set) = pair_and_set(said.rest)?;
+        Some(Command::Constrains(parent, forbidden, set))
+    } else if is_word(said.keyword, b"constrains-excluded") {
+        let (candidate, aux, set) = pair_and_set(said.rest)?;
+        Some(Command::ConstrainsExcluded(candidate, aux, set))
+    } else if is_word(said.keyword, b"constrains-parent") {
+        let (parent, aux, set) = pair_and_set(said.rest)?;
+        Some(Command::ConstrainsParent(parent, aux, set))
+    } else if is_word(said.keyword, b"lock") {
+        let (locked, other) = pair(said.rest)?;
+        Some(Command::Lock(locked, other))
+    } else if is_word(said.keyword, b"any-of") {
+        let (selected, other) = pair(said.rest)?;
+        Some(Command::AnyOf(selected, other))
     } else {
         None
     }
@@ -55,25 +130,92 @@ fn only_word(text: &[u8]) -> Option<&[u8]>
     }
 }
 
+/// `V V`
+fn pair(text: &[u8]) -> Option<(VariableId, VariableId)>
+    ensures { result ≡ pair_of (words text.now) }
+{
+    let (first, text) = next_word(text)?;
+    let (second, text) = next_word(text)?;
+    match next_word(text) {
+        Some(_) => None,
+        None => Some((id(first)?, id(second)?)),
+    }
+}
+
+/// `V V SET`
+fn pair_and_set(text: &[u8]) -> Option<(VariableId, VariableId, VersionSetId)>
+    ensures { result ≡ pair_and_set_of (words text.now) }
+{
+    let (first, text) = next_word(text)?;
+    let (second, text) = next_word(text)?;
+    let (set, text) = next_word(text)?;
+    match next_word(text) {
+        Some(_) => None,
+        None => Some((id(first)?, id(second)?, id(set)?)),
+    }
+}
+
+/// A command that is said without words.
+fn bare_command<N: Copy, S: Copy, A: Allocator>(
+    text: &[u8],
+    command: Command<N, S, A>,
+) -> Option<Command<N, S, A>>
+    ensures { option_map command_of result ≡ bare_command (command_of command) (words text.now) }
+{
+    match next_word(text) {
+        Some(_) => None,
+        None => Some(command),
+    }
+}
+
 /// `variable SOLVABLE`
-fn variable<S: DenseIndex>(text: &[u8]) -> Option<Command<S>>
-    ensures { result ≡ variable_command S.limit S.id_at (words text.now) }
+fn variable<N: DenseIndex, S: DenseIndex, A: Allocator>(text: &[u8]) -> Option<Command<N, S, A>>
+    ensures { option_map command_of result
+        ≡ variable_command (ids_at N.limit N.id_at S.limit S.id_at) (words text.now) }
 {
     let solvable = id(only_word(text)?)?;
     Some(Command::Variable(solvable))
 }
 
+/// `helper any-of NAMEID`, `helper violation SET` or `helper gate R`
+fn helper<N: DenseIndex, S: DenseIndex, A: Allocator>(text: &[u8]) -> Option<Command<N, S, A>>
+    ensures { option_map command_of result
+        ≡ helper_command (ids_at N.limit N.id_at S.limit S.id_at) (words text.now) }
+{
+    let (kind, text) = next_word(text)?;
+    let (word, text) = next_word(text)?;
+    match next_word(text) {
+        Some(_) => None,
+        None => Some(Command::Helper(helper_origin(kind, word)?)),
+    }
+}
+
+/// What a helper variable is to stand for.
+fn helper_origin<N: DenseIndex>(kind: &[u8], word: &[u8]) -> Option<HelperOrigin<N>>
+    ensures { result ≡ helper_origin_of N.limit N.id_at kind.now word.now }
+{
+    if is_word(kind, b"any-of") {
+        Some(HelperOrigin::AtLeastOne(id(word)?))
+    } else if is_word(kind, b"violation") {
+        Some(HelperOrigin::ConstrainsViolation(id(word)?))
+    } else if is_word(kind, b"gate") {
+        Some(HelperOrigin::RequiresGate(requirement(word)?))
+    } else {
+        None
+    }
+}
+
 /// `load R`
-fn load<S>(text: &[u8]) -> Option<Command<S>>
-    ensures { result ≡ load_command (words text.now) }
+fn load<N, S, A: Allocator>(text: &[u8]) -> Option<Command<N, S, A>>
+    ensures { option_map command_of result ≡ load_command (words text.now) }
 {
     let loaded = requirement(only_word(text)?)?;
     Some(Command::Load(loaded))
 }
 
 /// `requires PARENT R` or `requires PARENT R DISJUNCTION`
-fn requires_clause<S>(text: &[u8]) -> Option<Command<S>>
-    ensures { result ≡ requires_command (words text.now) }
+fn requires_clause<N, S, A: Allocator>(text: &[u8]) -> Option<Command<N, S, A>>
+    ensures { option_map command_of result ≡ requires_command (words text.now) }
 {
     let (parent, text) = next_word(text)?;
     let (required, text) = next_word(text)?;
@@ -89,9 +231,21 @@ fn requires_clause<S>(text: &[u8]) -> Option<Command<S>>
     }
 }
 
+/// `exclude V STRING`
+fn exclude<N, S, A: Allocator>(text: &[u8]) -> Option<Command<N, S, A>>
+    ensures { option_map command_of result ≡ exclude_command (words text.now) }
+{
+    let (variable, text) = next_word(text)?;
+    let (reason, text) = next_word(text)?;
+    match next_word(text) {
+        Some(_) => None,
+        None => Some(Command::Exclude(id(variable)?, id(reason)?)),
+    }
+}
+
 /// `assign V BOOL CLAUSE LEVEL`
-fn assign<S>(text: &[u8]) -> Option<Command<S>>
-    ensures { result ≡ assign_command (words text.now) }
+fn assign<N, S, A: Allocator>(text: &[u8]) -> Option<Command<N, S, A>>
+    ensures { option_map command_of result ≡ assign_command (words text.now) }
 {
     let (variable, text) = next_word(text)?;
     let (value, text) = next_word(text)?;
@@ -107,21 +261,11 @@ fn assign<S>(text: &[u8]) -> Option<Command<S>>
 }
 
 /// `undo-until LEVEL`
-fn undo_until<S>(text: &[u8]) -> Option<Command<S>>
-    ensures { result ≡ undo_command (words text.now) }
+fn undo_until<N, S, A: Allocator>(text: &[u8]) -> Option<Command<N, S, A>>
+    ensures { option_map command_of result ≡ undo_command (words text.now) }
 {
     let level = id(only_word(text)?)?;
     Some(Command::UndoUntil(level))
-}
-
-/// `decide`
-fn decide<S>(text: &[u8]) -> Option<Command<S>>
-    ensures { result ≡ decide_command (words text.now) }
-{
-    match next_word(text) {
-        Some(_) => None,
-        None => Some(Command::Decide),
-    }
 }
 
 /// `true` or `false`

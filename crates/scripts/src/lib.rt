@@ -7,6 +7,7 @@
 #![tactic(auto)]
 
 mod command_line;
+mod literal_words;
 mod reply_line;
 mod transcript;
 

@@ -1,7 +1,7 @@
 //! Reply lines.
 ghost use Rattle.std.specs.Prelude.{◌≡◌, ◌++◌, OnOk, codes, decimal, map};
 ghost use Rattle.resolvo_store.specs.Command.{reply_of};
-ghost use Rattle.scripts.specs.Replies.{field, reply_words, reply_text, list_text, others_text, lists_text, conflict_text, decision_text, undone_text, truth_text, unreadable_text};
+ghost use Rattle.scripts.specs.Replies.{field, reply_words, reply_text, list_text, others_text, lists_text, conflict_text, decision_text, undone_text, next_text, assignment_text, truth_text, unreadable_text};
 
 use decisions::Decision;
 use itoa::Buffer;
@@ -29,6 +29,7 @@ fn push_words<A: Allocator>(text: &mut Vec<u8>, reply: &Reply<A>) -> Result<(), 
         Reply::Already => text.extend_from_slice(b"already"),
         Reply::Clash => text.extend_from_slice(b"clash"),
         Reply::Undone(last) => push_undone(text, *last),
+        Reply::Next(decision) => push_next(text, *decision),
         Reply::Decided(decision) => push_decision(text, decision),
         Reply::NoDecision => text.extend_from_slice(b"no decision"),
         Reply::Falsified(clause) => push_field(text, b"falsified ", clause.to_index()),
@@ -101,12 +102,31 @@ fn push_undone(text: &mut Vec<u8>, last: Option<(Decision, u32)>) -> Result<(), 
 {
     text.extend_from_slice(b"undone")?;
     if let Some((decision, level)) = last {
-        push_field(text, b" ", decision.variable.to_index())?;
-        push_truth(text, decision.value)?;
-        push_field(text, b" ", decision.derived_from.to_index())?;
+        push_assignment(text, decision)?;
         push_field(text, b" ", level as usize)?;
     }
     Ok(())
+}
+
+fn push_next(text: &mut Vec<u8>, decision: Option<Decision>) -> Result<(), AllocError>
+    ensures { OnOk result (text.new.items ≡ text.old.items ++ next_text decision) }
+{
+    match decision {
+        None => text.extend_from_slice(b"next none"),
+        Some(decision) => {
+            text.extend_from_slice(b"next")?;
+            push_assignment(text, decision)
+        }
+    }
+}
+
+/// A variable, its value, and the clause that gave it, each after a blank.
+fn push_assignment(text: &mut Vec<u8>, decision: Decision) -> Result<(), AllocError>
+    ensures { OnOk result (text.new.items ≡ text.old.items ++ assignment_text decision) }
+{
+    push_field(text, b" ", decision.variable.to_index())?;
+    push_truth(text, decision.value)?;
+    push_field(text, b" ", decision.derived_from.to_index())
 }
 
 fn push_decision(text: &mut Vec<u8>, decision: &QueueDecision) -> Result<(), AllocError>

@@ -3,12 +3,12 @@ ghost use Rattle.std.specs.Prelude.{◌≡◌, ℕ, List, [], ◌++◌, ◌+◌,
 ghost use Rattle.script_text.specs.declared.fault.ScriptFault.TheVariants.{Device, Memory};
 ghost use Rattle.script_text.specs.Lines.{lines as lines_of};
 ghost use Rattle.script_text.specs.Output.{Writes};
-ghost use Rattle.scripts.specs.Commands.{command_meant};
+ghost use Rattle.scripts.specs.Commands.{ids_at, command_meant};
 ghost use Rattle.scripts.specs.ScriptStore.{new_kept};
 ghost use Rattle.scripts.specs.Scripts.{ScriptAnswered, faulty_text};
 ghost use Rattle.scripts.specs.Transcript.{ObeysLine, Answered, HasCommand, IfRead};
 
-use crate::command_line::command_line;
+use crate::command_line::command;
 use crate::reply_line::{push_reply, push_unreadable};
 use providers::DependencyProvider;
 use resolvo_store::{AbstractStore, ClauseStore};
@@ -77,7 +77,10 @@ fn obey_text<W: Write>(
 }
 
 /// Obeys the commands of these lines in turn, with so many before them, over the packages of the provider.
-fn obey_commands<D: DependencyProvider<SolvableId: DenseIndex> + Drop, W: Write>(
+fn obey_commands<
+    D: DependencyProvider<NameId: DenseIndex, SolvableId: DenseIndex> + Drop,
+    W: Write,
+>(
     alloc: D::Alloc,
     provider: D,
     lines: &[u8],
@@ -87,11 +90,11 @@ fn obey_commands<D: DependencyProvider<SolvableId: DenseIndex> + Drop, W: Write>
 ) -> Result<(), ScriptFault>
     requires { before + length lines.now < 2 ^ 64 }
     ensures { IfRead result (λ faulty. (text : List ℕ)
-        × Answered D.SolvableId.limit D.SolvableId.id_at (⟦<D as AbstractStore>⟧.store (new_kept provider)) before (lines_of lines.now) text faulty
+        × Answered (ids_at D.NameId.limit D.NameId.id_at D.SolvableId.limit D.SolvableId.id_at) (⟦<D as AbstractStore>⟧.store (new_kept provider)) before (lines_of lines.now) text faulty
         × Writes (W.contents writer.old) waiting.old.items (W.contents writer.new) waiting.new.items text) }
 {
     let mut store = store_over(alloc, provider)?;
-    let ended = obey_lines(&mut store, lines, before, waiting, writer);
+    let ended = obey_lines(alloc, &mut store, lines, before, waiting, writer);
     drop(store);
     ended
 }
@@ -108,7 +111,8 @@ fn store_over<D: DependencyProvider + Drop>(
 }
 
 /// Obeys the lines in turn, with so many before them.
-fn obey_lines<D: DependencyProvider<SolvableId: DenseIndex> + Drop, W: Write>(
+fn obey_lines<D: DependencyProvider<NameId: DenseIndex, SolvableId: DenseIndex> + Drop, W: Write>(
+    alloc: D::Alloc,
     store: &mut ClauseStore<D>,
     lines: &[u8],
     before: u64,
@@ -117,16 +121,16 @@ fn obey_lines<D: DependencyProvider<SolvableId: DenseIndex> + Drop, W: Write>(
 ) -> Result<(), ScriptFault>
     requires { before + length lines.now < 2 ^ 64 }
     ensures read { IfRead result (λ faulty. (text : List ℕ)
-        × Answered D.SolvableId.limit D.SolvableId.id_at (⟦<D as AbstractStore>⟧.store store.old) before (lines_of lines.now) text faulty
+        × Answered (ids_at D.NameId.limit D.NameId.id_at D.SolvableId.limit D.SolvableId.id_at) (⟦<D as AbstractStore>⟧.store store.old) before (lines_of lines.now) text faulty
         × Writes (W.contents writer.old) waiting.old.items (W.contents writer.new) waiting.new.items text) }
-    ensures memory { result ≡ Err Memory → HasCommand D.SolvableId.limit D.SolvableId.id_at (lines_of lines.now) }
+    ensures memory { result ≡ Err Memory → HasCommand (ids_at D.NameId.limit D.NameId.id_at D.SolvableId.limit D.SolvableId.id_at) (lines_of lines.now) }
 {
     let mut number = before;
     let mut rest = lines;
     while let Some((said, others)) = next_statement(rest) {
         number += 1;
         rest = others;
-        match obey_line(store, said, waiting) {
+        match obey_line(alloc, store, said, waiting) {
             Ok(()) => {}
             Err(fault) => return Err(fault.at(number)),
         }
@@ -136,21 +140,25 @@ fn obey_lines<D: DependencyProvider<SolvableId: DenseIndex> + Drop, W: Write>(
 }
 
 /// Obeys a line that says this, and puts the line of the reply after what waits.
-fn obey_line<D: DependencyProvider<SolvableId: DenseIndex> + Drop>(
+fn obey_line<D: DependencyProvider<NameId: DenseIndex, SolvableId: DenseIndex> + Drop>(
+    alloc: D::Alloc,
     store: &mut ClauseStore<D>,
     said: Line<Statement<'_>>,
     waiting: &mut Vec<u8>,
 ) -> Result<(), LineFault>
-    ensures { ObeysLine (⟦<D as AbstractStore>⟧.store store.old) (command_meant D.SolvableId.limit D.SolvableId.id_at said.entry)
+    ensures { ObeysLine (⟦<D as AbstractStore>⟧.store store.old) (command_meant (ids_at D.NameId.limit D.NameId.id_at D.SolvableId.limit D.SolvableId.id_at) said.entry)
         waiting.old.items result waiting.new.items (⟦<D as AbstractStore>⟧.store store.new) }
 {
-    match command_line(said) {
+    match said {
         Line::Skipped => Ok(()),
         Line::Unreadable => Err(LineFault::Unreadable),
-        Line::Says(command) => {
-            let reply = store.step(&command);
-            push_reply(waiting, &reply)?;
-            Ok(())
-        }
+        Line::Says(said) => match command(alloc, said) {
+            Ok(command) => {
+                let reply = store.step(&command);
+                push_reply(waiting, &reply)?;
+                Ok(())
+            }
+            Err(fault) => Err(fault),
+        },
     }
 }

@@ -1,3 +1,4 @@
+pub mod ClauseLaws
 pub mod ExampleProofs
 pub mod LoadLaws
 pub mod PlayLaws

@@ -1,29 +1,28 @@
 -- What is computed is a run.
 use Rattle.std.proofs.Common.{◌≡◌, ℕ, Bool, true, false, cond, ◌&&◌, ◌||◌, arith, List, [], ◌∷◌, Option, Some, None, refl, ap}
 use Rattle.std.specs.Bool.{beq}
-use Rattle.std.specs.Prelude.{◌^◌, nat_le, length, is_none, MatchOption}
+use Rattle.std.specs.Prelude.{◌^◌, nat_le, length, slice_get, is_none, MatchOption}
 use Rattle.typed_ids.specs.declared.error.StoreError.{StoreError}
 use Rattle.typed_ids.specs.declared.error.StoreError.TheVariants.{IdSpace}
 use Rattle.variables.specs.Variables.{lacks_variables}
+use Rattle.decisions.specs.Trail.{Entry}
 use Rattle.resolvo_queue.specs.declared.requires_clause.RequiresClause.{RequiresClause}
 use Rattle.resolvo_queue.specs.Pick.{Offer}
-use Rattle.resolvo_store.specs.Command.{Command, Variable, Load, Requires, Assign, UndoUntil, Decide, Reply, Already, Clash, Refused, IsRefused}
+use Rattle.resolvo_store.specs.Command.{Command, Load, Assign, Unpropagated, Decide, Reply, Already, Clash, Refused, IsRefused}
 use Rattle.resolvo_store.specs.Store.{Store, values, lists_of, all_candidates}
 use Rattle.resolvo_store.specs.Refusals.{first_refusal}
-use Rattle.resolvo_store.specs.Outcome.{outcome, load, assign_reply, decision, falsified_clause, picked}
+use Rattle.resolvo_store.specs.Outcome.{outcome, load, hands_next, assign_reply, decision, falsified_clause, picked}
 use Rattle.resolvo_store.specs.Step.{IsAnswered, Step, lacks_ids, may_use_up_answers}
 use Rattle.store_callers.specs.Play.{answered, answer, PlayIsRun}
 
 module _ {N S : Type 0} where
   -- no outcome is a refusal
-  not_refused : (st : Store N S) (c : Command S) → IsRefused (outcome st c).reply → ⊥
-  not_refused st (Variable s) h = h
+  not_refused : (st : Store N S) (c : Command N S) → IsRefused (outcome st c).reply → ⊥
   not_refused st (Load r) h = by_lists (lists_of st r) h
     where
       by_lists : (o : Option (List (List ℕ))) → IsRefused (load st r o).reply → ⊥
       by_lists (Some lists) h = h
       by_lists None h = h
-  not_refused st (Requires parent r disjunction) h = h
   not_refused st (Assign v value clause level) h = by_value (values st v) h
     where
       by_test : (b : Bool) → IsRefused (cond b Already Clash) → ⊥
@@ -33,23 +32,28 @@ module _ {N S : Type 0} where
       by_value : (o : Option Bool) → IsRefused (assign_reply o value) → ⊥
       by_value None h = h
       by_value (Some known) h = by_test (beq known value) h
-  not_refused st (UndoUntil level) h = h
+  not_refused st Unpropagated h = by_entry (slice_get st.trail st.place) h
+    where
+      by_entry : (o : Option Entry) → IsRefused (hands_next st o).reply → ⊥
+      by_entry (Some e) h = h
+      by_entry None h = h
   not_refused st Decide h = by_answer (falsified_clause st) (picked st) h
     where
       by_answer : (f : Option RequiresClause) (o : Option Offer) → IsRefused (decision f o) → ⊥
       by_answer (Some c) o h = h
       by_answer None (Some o) h = h
       by_answer None None h = h
+  not_refused st _ h = h
 
   -- where no ids are lacking, a command is answered by its outcome
-  outcome_answers : (st : Store N S) (c : Command S) → lacks_ids st c ≡ false → IsAnswered st c (outcome st c).reply (outcome st c).store
+  outcome_answers : (st : Store N S) (c : Command N S) → lacks_ids st c ≡ false → IsAnswered st c (outcome st c).reply (outcome st c).store
   outcome_answers st c few = by_reply (outcome st c).reply (not_refused st c) refl
     where
       by_reply : (reply : Reply) → (IsRefused reply → ⊥) → reply ≡ (outcome st c).reply → IsAnswered st c reply (outcome st c).store
       by_reply (Refused e) n is = absurd (n tt)
       by_reply _ n is = (few, is, refl)
 
-  answer_is_step : (st : Store N S) (c : Command S) → Step st c (answer st c).reply (answer st c).store
+  answer_is_step : (st : Store N S) (c : Command N S) → Step st c (answer st c).reply (answer st c).store
   answer_is_step st c = go (first_refusal st c)
     where
       by_ids : (b : Bool) → lacks_ids st c ≡ b →

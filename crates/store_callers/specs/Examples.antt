@@ -1,19 +1,30 @@
 -- Worked examples: what the abstract store replies to some lists of commands, computed.
-use Rattle.std.specs.Prelude.{◌≡◌, ℕ, Bool, true, false, ◌==◌, if◌then◌else◌, List, [], ◌∷◌, Some, None}
-use Rattle.typed_ids.specs.declared.error.StoreError.TheVariants.{UnknownId, LevelOutOfRange, NotLoaded}
+use Rattle.std.specs.Prelude.{◌≡◌, ℕ, Bool, true, false, ◌==◌, if◌then◌else◌, List, [], ◌∷◌, map, Option, Some, None}
+use Rattle.typed_ids.specs.declared.error.StoreError.TheVariants.{UnknownId, LevelOutOfRange, NotLoaded, BadLearnt, EmptyTrail}
+use Rattle.typed_ids.specs.declared.string_id.StringId.{StringId}
+use Rattle.typed_ids.specs.declared.version_set_id.VersionSetId.{VersionSetId}
 use Rattle.providers.specs.declared.requirement.Requirement.{Requirement}
 use Rattle.providers.specs.declared.requirement.Requirement.TheVariants.{Single, Union}
-use Rattle.decisions.specs.Literals.{Values}
+use Rattle.decisions.specs.Literals.{Lit, Pos, Neg, Values}
+use Rattle.decisions.specs.declared.decision.Decision.{Decision}
+use Rattle.clauses.specs.Clauses.{literals_of}
 use Rattle.resolvo_queue.specs.Rows.{Row, frontier}
 use Rattle.resolvo_queue.specs.Pick.{Offer, pick}
-use Rattle.resolvo_store.specs.Command.{Command, Variable, Load, Requires, Assign, UndoUntil, Decide, Reply, VariableIs, LoadedAs, ClauseIs, Assigned, Already, Clash, Undone, Decided, NoDecision, Falsified, Refused}
-use Rattle.resolvo_store.specs.Store.{new_store}
-use Rattle.store_callers.specs.Play.{play}
+use Rattle.resolvo_store.specs.declared.helper_origin.HelperOrigin.TheVariants as Helps
+use Rattle.resolvo_store.specs.Command.{Command, Variable, Helper, Load, Requires, Root, Constrains, ConstrainsExcluded, ConstrainsParent, Lock, Exclude, AnyOf, Learnt, Assign, UndoLast, UndoUntil, Unpropagated, Decide, Reply, VariableIs, LoadedAs, ClauseIs, Assigned, Already, Clash, Undone, Next, Decided, NoDecision, Falsified, Refused}
+use Rattle.resolvo_store.specs.Store.{new_store, kept_literals}
+use Rattle.store_callers.specs.Play.{play, store_after}
 use Rattle.store_callers.specs.Script.{Packages, Solvable, Range, provider_of}
 
 -- over these packages a new store gives these replies to these commands
-abbrev pub Gives : Packages → List (Command ℕ) → List Reply → Type 0
+abbrev pub Gives : Packages → List (Command ℕ ℕ) → List Reply → Type 0
 Gives c commands replies = play (new_store (provider_of c)) commands ≡ replies
+
+-- over these packages a new store has clauses of these literals after these commands, which watch these
+abbrev pub Leaves : Packages → List (Command ℕ ℕ) → List (List Lit) → List (Option (List Lit)) → Type 0
+Leaves c commands literals watches =
+    let st = store_after (new_store (provider_of c)) commands in
+    (map (literals_of (kept_literals st)) st.clauses ≡ literals) × (st.watches ≡ watches)
 
 -- a solvable of a name, in a version
 abbrev pub solvable : ℕ → ℕ → Solvable
@@ -22,9 +33,15 @@ solvable name version = record { name = name; version = version }
 abbrev pub range : ℕ → ℕ → ℕ → Range
 range name low high = record { name = name; low = low; high = high }
 
+abbrev pub set : ℕ → VersionSetId
+set v = record { 0 = v }
+
+abbrev pub string : ℕ → StringId
+string i = record { 0 = i }
+
 -- the requirement of one version set, and that of a union
 abbrev pub single : ℕ → Requirement
-single v = Single (record { 0 = v })
+single v = Single (set v)
 
 abbrev pub union : ℕ → Requirement
 union u = Union (record { 0 = u })
@@ -34,11 +51,22 @@ abbrev pub decides : ℕ → ℕ → ℕ → ℕ → Reply
 decides candidate parent clause count =
     Decided (record { candidate = candidate; required_by = parent; clause_id = clause; package_activity = 0; candidate_count = count })
 
+abbrev pub assigns : ℕ → Bool → ℕ → Decision
+assigns variable value clause = record { variable = variable; value = value; derived_from = clause }
+
+-- this assignment is handed out
+abbrev pub hands : ℕ → Bool → ℕ → Reply
+hands variable value clause = Next (Some (assigns variable value clause))
+
+-- this assignment is taken back, and the one before it is of the level
+abbrev pub takes_back : ℕ → Bool → ℕ → ℕ → Reply
+takes_back variable value clause level = Undone (Some (assigns variable value clause, level))
+
 -- ---- two packages: a decision is asked for, taken, undone, and asked for again; then their union is loaded
 
 abbrev pub TwoPackages : Type 0
 TwoPackages =
-    Gives (record { solvables = solvable 0 1 ∷ solvable 0 2 ∷ solvable 1 1 ∷ []; sets = range 0 1 3 ∷ range 1 1 2 ∷ []; unions = (0 ∷ 1 ∷ []) ∷ [] })
+    Gives (record { solvables = solvable 0 1 ∷ solvable 0 2 ∷ solvable 1 1 ∷ []; sets = range 0 1 3 ∷ range 1 1 2 ∷ []; unions = (0 ∷ 1 ∷ []) ∷ []; strings = 0 })
     (Load (single 0) ∷ Load (single 1) ∷ Requires 0 (single 0) None ∷ Requires 0 (single 1) None ∷ Decide ∷
     Assign 0 true 0 1 ∷ Decide ∷ Assign 1 true 0 2 ∷ Decide ∷ UndoUntil 1 ∷ Decide ∷ Load (union 0) ∷ [])
     (LoadedAs ((1 ∷ 2 ∷ []) ∷ []) ∷ LoadedAs ((3 ∷ []) ∷ []) ∷ ClauseIs 0 false ∷ ClauseIs 1 false ∷ NoDecision ∷
@@ -49,7 +77,7 @@ TwoPackages =
 
 abbrev pub OnePackage : Type 0
 OnePackage =
-    Gives (record { solvables = solvable 0 1 ∷ solvable 0 2 ∷ []; sets = range 0 1 3 ∷ []; unions = [] })
+    Gives (record { solvables = solvable 0 1 ∷ solvable 0 2 ∷ []; sets = range 0 1 3 ∷ []; unions = []; strings = 0 })
     (Requires 0 (single 0) None ∷ Load (single 0) ∷ Load (union 0) ∷ Requires 0 (single 0) (Some 0) ∷ Requires 0 (single 0) None ∷
     Assign 0 true 0 0 ∷ Assign 0 true 0 1 ∷ Assign 1 false 0 1 ∷ Assign 2 false 0 1 ∷ Decide ∷ UndoUntil 0 ∷ Decide ∷ [])
     (Refused NotLoaded ∷ LoadedAs ((1 ∷ 2 ∷ []) ∷ []) ∷ Refused UnknownId ∷ Refused UnknownId ∷ ClauseIs 0 false ∷
@@ -59,7 +87,7 @@ OnePackage =
 
 abbrev pub MetAndUndone : Type 0
 MetAndUndone =
-    Gives (record { solvables = solvable 0 1 ∷ []; sets = range 0 1 2 ∷ []; unions = [] })
+    Gives (record { solvables = solvable 0 1 ∷ []; sets = range 0 1 2 ∷ []; unions = []; strings = 0 })
     (Load (single 0) ∷ Requires 0 (single 0) None ∷ Assign 0 true 0 1 ∷ Assign 1 true 0 2 ∷ Decide ∷ UndoUntil 1 ∷ Decide ∷ [])
     (LoadedAs ((1 ∷ []) ∷ []) ∷ ClauseIs 0 false ∷ Assigned ∷ Assigned ∷ NoDecision ∷ Undone None ∷ decides 1 0 0 1 ∷ [])
 
@@ -67,13 +95,13 @@ MetAndUndone =
 
 abbrev pub FalseCandidate : Type 0
 FalseCandidate =
-    Gives (record { solvables = solvable 0 1 ∷ []; sets = range 0 1 2 ∷ []; unions = [] })
+    Gives (record { solvables = solvable 0 1 ∷ []; sets = range 0 1 2 ∷ []; unions = []; strings = 0 })
     (Load (single 0) ∷ Requires 0 (single 0) None ∷ Assign 0 true 0 1 ∷ Assign 1 false 0 1 ∷ Decide ∷ [])
     (LoadedAs ((1 ∷ []) ∷ []) ∷ ClauseIs 0 false ∷ Assigned ∷ Assigned ∷ Falsified 0 ∷ [])
 
 abbrev pub NoCandidates : Type 0
 NoCandidates =
-    Gives (record { solvables = []; sets = range 0 1 2 ∷ []; unions = [] })
+    Gives (record { solvables = []; sets = range 0 1 2 ∷ []; unions = []; strings = 0 })
     (Load (single 0) ∷ Requires 0 (single 0) None ∷ Assign 0 true 0 1 ∷ Decide ∷ [])
     (LoadedAs ([] ∷ []) ∷ ClauseIs 0 false ∷ Assigned ∷ Falsified 0 ∷ [])
 
@@ -82,7 +110,7 @@ NoCandidates =
 
 abbrev pub FirstFalsifiedOfScan : Type 0
 FirstFalsifiedOfScan =
-    Gives (record { solvables = solvable 0 1 ∷ solvable 1 1 ∷ solvable 2 1 ∷ []; sets = range 2 1 2 ∷ range 3 1 2 ∷ []; unions = [] })
+    Gives (record { solvables = solvable 0 1 ∷ solvable 1 1 ∷ solvable 2 1 ∷ []; sets = range 2 1 2 ∷ range 3 1 2 ∷ []; unions = []; strings = 0 })
     (Variable 0 ∷ Variable 1 ∷ Load (single 0) ∷ Load (single 1) ∷
     Requires 1 (single 0) None ∷ Requires 2 (single 1) None ∷ Requires 1 (single 1) None ∷
     Assign 1 true 0 1 ∷ Assign 2 true 0 1 ∷ Decide ∷ [])
@@ -93,7 +121,7 @@ FirstFalsifiedOfScan =
 
 abbrev pub ConflictFlag : Type 0
 ConflictFlag =
-    Gives (record { solvables = solvable 0 1 ∷ solvable 1 1 ∷ []; sets = range 1 1 2 ∷ []; unions = [] })
+    Gives (record { solvables = solvable 0 1 ∷ solvable 1 1 ∷ []; sets = range 1 1 2 ∷ []; unions = []; strings = 0 })
     (Variable 0 ∷ Load (single 0) ∷ Requires 1 (single 0) None ∷ Assign 2 false 0 1 ∷ Requires 1 (single 0) None ∷
     Assign 1 false 0 1 ∷ Requires 1 (single 0) None ∷ Assign 1 false 0 2 ∷ Assign 1 true 0 2 ∷ [])
     (VariableIs 1 ∷ LoadedAs ((2 ∷ []) ∷ []) ∷ ClauseIs 0 false ∷ Assigned ∷ ClauseIs 1 true ∷
@@ -103,7 +131,7 @@ ConflictFlag =
 
 abbrev pub SetTwice : Type 0
 SetTwice =
-    Gives (record { solvables = solvable 0 1 ∷ solvable 0 2 ∷ []; sets = range 0 1 3 ∷ []; unions = (0 ∷ 0 ∷ []) ∷ [] })
+    Gives (record { solvables = solvable 0 1 ∷ solvable 0 2 ∷ []; sets = range 0 1 3 ∷ []; unions = (0 ∷ 0 ∷ []) ∷ []; strings = 0 })
     (Load (union 0) ∷ Requires 0 (union 0) None ∷ Assign 0 true 0 1 ∷ Decide ∷ Assign 1 false 0 1 ∷ Decide ∷ [])
     (LoadedAs ((1 ∷ 2 ∷ []) ∷ (1 ∷ 2 ∷ []) ∷ []) ∷ ClauseIs 0 false ∷ Assigned ∷ decides 1 0 0 4 ∷ Assigned ∷ decides 2 0 0 2 ∷ [])
 
@@ -116,11 +144,108 @@ TwoPackagesInOne =
       solvables = solvable 0 1 ∷ solvable 0 2 ∷ solvable 1 1 ∷ [];
       sets = range 0 1 3 ∷ range 1 1 2 ∷ [];
       unions = (1 ∷ 0 ∷ []) ∷ [];
+      strings = 0;
     })
     (Load (union 0) ∷ Load (union 1) ∷ Requires 0 (union 0) None ∷ Assign 0 true 0 1 ∷ Decide ∷ Assign 1 false 0 1 ∷ Decide ∷
     Requires 0 (union 0) None ∷ Assign 2 false 0 1 ∷ Assign 3 false 0 1 ∷ Requires 0 (union 0) None ∷ Decide ∷ [])
     (LoadedAs ((1 ∷ []) ∷ (2 ∷ 3 ∷ []) ∷ []) ∷ Refused UnknownId ∷ ClauseIs 0 false ∷ Assigned ∷ decides 1 0 0 1 ∷ Assigned ∷ decides 2 0 0 2 ∷
     ClauseIs 1 false ∷ Assigned ∷ Assigned ∷ ClauseIs 2 true ∷ Falsified 0 ∷ [])
+
+-- ---- a clause for the root has the first id: met and undone, falsified for both reasons, and a set that is named twice
+
+abbrev pub MetAfterRoot : Type 0
+MetAfterRoot =
+    Gives (record { solvables = solvable 0 1 ∷ []; sets = range 0 1 2 ∷ []; unions = []; strings = 0 })
+    (Root ∷ Load (single 0) ∷ Requires 0 (single 0) None ∷ Assign 0 true 0 1 ∷ Assign 1 true 1 2 ∷ Decide ∷ UndoUntil 1 ∷ Decide ∷ [])
+    (ClauseIs 0 false ∷ LoadedAs ((1 ∷ []) ∷ []) ∷ ClauseIs 1 false ∷ Assigned ∷ Assigned ∷ NoDecision ∷ Undone None ∷ decides 1 0 1 1 ∷ [])
+
+abbrev pub FalsifiedAfterRoot : Type 0
+FalsifiedAfterRoot =
+    Gives (record { solvables = solvable 0 1 ∷ []; sets = range 0 1 2 ∷ []; unions = []; strings = 0 })
+    (Root ∷ Load (single 0) ∷ Requires 0 (single 0) None ∷ Assign 0 true 0 1 ∷ Assign 1 false 1 1 ∷ Decide ∷ [])
+    (ClauseIs 0 false ∷ LoadedAs ((1 ∷ []) ∷ []) ∷ ClauseIs 1 false ∷ Assigned ∷ Assigned ∷ Falsified 1 ∷ [])
+
+abbrev pub NoCandidatesAfterRoot : Type 0
+NoCandidatesAfterRoot =
+    Gives (record { solvables = []; sets = range 0 1 2 ∷ []; unions = []; strings = 0 })
+    (Root ∷ Load (single 0) ∷ Requires 0 (single 0) None ∷ Assign 0 true 0 1 ∷ Decide ∷ [])
+    (ClauseIs 0 false ∷ LoadedAs ([] ∷ []) ∷ ClauseIs 1 false ∷ Assigned ∷ Falsified 1 ∷ [])
+
+abbrev pub SetTwiceAfterRoot : Type 0
+SetTwiceAfterRoot =
+    Gives (record { solvables = solvable 0 1 ∷ solvable 0 2 ∷ []; sets = range 0 1 3 ∷ []; unions = (0 ∷ 0 ∷ []) ∷ []; strings = 0 })
+    (Root ∷ Load (union 0) ∷ Requires 0 (union 0) None ∷ Assign 0 true 0 1 ∷ Decide ∷ Assign 1 false 1 1 ∷ Decide ∷ [])
+    (ClauseIs 0 false ∷ LoadedAs ((1 ∷ 2 ∷ []) ∷ (1 ∷ 2 ∷ []) ∷ []) ∷ ClauseIs 1 false ∷ Assigned ∷ decides 1 0 1 4 ∷ Assigned ∷ decides 2 0 1 2 ∷ [])
+
+-- ---- the trail: assignments are handed out from the oldest on, and taken back from the newest on
+
+abbrev pub three_versions : Packages
+three_versions =
+    record { solvables = solvable 0 1 ∷ solvable 0 2 ∷ solvable 0 3 ∷ []; sets = range 0 1 4 ∷ []; unions = []; strings = 1 }
+
+abbrev pub HandedAndTakenBack : Type 0
+HandedAndTakenBack =
+    Gives three_versions
+    (Root ∷ Variable 0 ∷ Variable 1 ∷ Variable 2 ∷ Assign 1 true 0 1 ∷ Assign 2 true 0 2 ∷ Assign 3 false 0 2 ∷
+    Assign 3 false 0 5 ∷ Assign 3 true 0 2 ∷ Assign 1 true 0 0 ∷
+    Unpropagated ∷ UndoLast ∷ Unpropagated ∷ UndoLast ∷ UndoLast ∷ UndoLast ∷ [])
+    (ClauseIs 0 false ∷ VariableIs 1 ∷ VariableIs 2 ∷ VariableIs 3 ∷ Assigned ∷ Assigned ∷ Assigned ∷
+    Already ∷ Clash ∷ Refused LevelOutOfRange ∷
+    hands 1 true 0 ∷ takes_back 3 false 0 2 ∷ hands 2 true 0 ∷ takes_back 2 true 0 1 ∷ takes_back 1 true 0 0 ∷ Refused EmptyTrail ∷ [])
+
+-- ---- what stands in the place of an assignment that was handed out and taken back is handed out again
+
+abbrev pub HandedAgain : Type 0
+HandedAgain =
+    Gives three_versions
+    (Root ∷ Variable 0 ∷ Variable 1 ∷ Assign 0 true 0 1 ∷ Assign 1 true 0 1 ∷ Assign 2 true 0 2 ∷
+    Unpropagated ∷ Unpropagated ∷ Unpropagated ∷ Unpropagated ∷ UndoLast ∷ UndoLast ∷ Unpropagated ∷
+    Assign 2 false 0 2 ∷ Unpropagated ∷ UndoUntil 1 ∷ Assign 1 false 0 3 ∷ Unpropagated ∷ Unpropagated ∷ [])
+    (ClauseIs 0 false ∷ VariableIs 1 ∷ VariableIs 2 ∷ Assigned ∷ Assigned ∷ Assigned ∷
+    hands 0 true 0 ∷ hands 1 true 0 ∷ hands 2 true 0 ∷ Next None ∷ takes_back 2 true 0 1 ∷ takes_back 1 true 0 1 ∷ Next None ∷
+    Assigned ∷ hands 2 false 0 ∷ Undone None ∷ Assigned ∷ hands 1 false 0 ∷ Next None ∷ [])
+
+-- ---- helper variables, learnt clauses and strings, with what is refused of them
+
+abbrev pub HelpersAndLearnt : Type 0
+HelpersAndLearnt =
+    Gives (record { solvables = solvable 0 1 ∷ []; sets = range 0 1 2 ∷ []; unions = []; strings = 1 })
+    (Helper (Helps.AtLeastOne 0) ∷ Helper (Helps.ConstrainsViolation (set 0)) ∷ Helper (Helps.RequiresGate (single 0)) ∷
+    Learnt [] ∷ Learnt (Pos 1 ∷ []) ∷ Learnt (Pos 1 ∷ Neg 2 ∷ Pos 1 ∷ []) ∷ Exclude 1 (string 0) ∷ Exclude 1 (string 1) ∷ [])
+    (VariableIs 1 ∷ VariableIs 2 ∷ VariableIs 3 ∷
+    Refused BadLearnt ∷ ClauseIs 0 false ∷ Refused BadLearnt ∷ ClauseIs 1 false ∷ Refused UnknownId ∷ [])
+
+-- ---- the conflict flag of the kinds with two solvables: the second one is true, and the first one isn't false; the other
+-- kinds have none
+
+abbrev pub FlagsOfPairs : Type 0
+FlagsOfPairs =
+    Gives three_versions
+    (Root ∷ Variable 0 ∷ Variable 1 ∷ Constrains 1 2 (set 0) ∷ ConstrainsParent 1 2 (set 0) ∷
+    Assign 2 true 0 1 ∷ Constrains 1 2 (set 0) ∷ ConstrainsParent 1 2 (set 0) ∷ ConstrainsExcluded 1 2 (set 0) ∷ ConstrainsExcluded 2 1 (set 0) ∷
+    Assign 1 false 0 1 ∷ Constrains 1 2 (set 0) ∷ ConstrainsParent 1 2 (set 0) ∷ ConstrainsExcluded 2 1 (set 0) ∷
+    Assign 0 true 0 1 ∷ Constrains 0 2 (set 0) ∷ ConstrainsParent 0 2 (set 0) ∷
+    Lock 1 2 ∷ AnyOf 1 2 ∷ Exclude 2 (string 0) ∷ Learnt (Pos 1 ∷ []) ∷ [])
+    (ClauseIs 0 false ∷ VariableIs 1 ∷ VariableIs 2 ∷ ClauseIs 1 false ∷ ClauseIs 2 false ∷
+    Assigned ∷ ClauseIs 3 true ∷ ClauseIs 4 true ∷ ClauseIs 5 false ∷ ClauseIs 6 false ∷
+    Assigned ∷ ClauseIs 7 false ∷ ClauseIs 8 false ∷ ClauseIs 9 false ∷
+    Assigned ∷ ClauseIs 10 true ∷ ClauseIs 11 true ∷
+    ClauseIs 12 false ∷ ClauseIs 13 false ∷ ClauseIs 14 false ∷ ClauseIs 15 false ∷ [])
+
+-- ---- the literals of each kind, and what a new one watches: a lock's name the other solvable and the root
+
+abbrev pub LiteralsOfKinds : Type 0
+LiteralsOfKinds =
+    Leaves three_versions
+    (Load (single 0) ∷ Root ∷ Requires 0 (single 0) None ∷ Assign 1 false 0 1 ∷ Requires 0 (single 0) None ∷
+    Constrains 1 2 (set 0) ∷ ConstrainsExcluded 1 2 (set 0) ∷ ConstrainsParent 1 2 (set 0) ∷ Lock 1 2 ∷ Exclude 1 (string 0) ∷ AnyOf 1 2 ∷
+    Learnt (Pos 1 ∷ Neg 2 ∷ Pos 3 ∷ []) ∷ Learnt (Neg 3 ∷ []) ∷ Constrains 1 1 (set 0) ∷ [])
+    ((Pos 0 ∷ []) ∷ (Neg 0 ∷ Pos 1 ∷ Pos 2 ∷ Pos 3 ∷ []) ∷ (Neg 0 ∷ Pos 1 ∷ Pos 2 ∷ Pos 3 ∷ []) ∷
+    (Neg 1 ∷ Neg 2 ∷ []) ∷ (Neg 1 ∷ Pos 2 ∷ []) ∷ (Neg 1 ∷ Neg 2 ∷ []) ∷ (Neg 2 ∷ Neg 0 ∷ []) ∷ (Neg 1 ∷ []) ∷ (Pos 1 ∷ Neg 2 ∷ []) ∷
+    (Pos 1 ∷ Neg 2 ∷ Pos 3 ∷ []) ∷ (Neg 3 ∷ []) ∷ (Neg 1 ∷ Neg 1 ∷ []) ∷ [])
+    (None ∷ Some (Neg 0 ∷ Pos 1 ∷ []) ∷ Some (Neg 0 ∷ Pos 2 ∷ []) ∷
+    Some (Neg 1 ∷ Neg 2 ∷ []) ∷ Some (Neg 1 ∷ Pos 2 ∷ []) ∷ Some (Neg 1 ∷ Neg 2 ∷ []) ∷ Some (Neg 0 ∷ Neg 2 ∷ []) ∷ None ∷ Some (Pos 1 ∷ Neg 2 ∷ []) ∷
+    Some (Pos 1 ∷ Pos 3 ∷ []) ∷ None ∷ None ∷ [])
 
 -- ---- parts of the rule that the commands can't show yet
 
@@ -130,18 +255,18 @@ values_of [] v = None
 values_of (x ∷ xs) v = if x.0 == v then Some x.1 else values_of xs v
 
 abbrev pub row : ℕ → ℕ → Row
-row set variable = record { set = record { 0 = set }; variable = variable }
+row v variable = record { set = set v; variable = variable }
 
 -- a frontier counts the undecided rows of its own version set, each as often as it stands there
 abbrev pub CountOfOneSet : Type 0
 CountOfOneSet =
     frontier (values_of ((1, false) ∷ [])) (row 0 1 ∷ row 1 2 ∷ row 1 3 ∷ row 0 2 ∷ row 1 3 ∷ [])
-    ≡ Some (record { variable = 2; set = record { 0 = 1 }; count = 3 })
+    ≡ Some (record { variable = 2; set = set 1; count = 3 })
 
 abbrev pub offer_of : ℕ → ℕ → ℕ → ℕ → Offer
 offer_of parent clause score count = record {
   clause = record { parent = parent; requirement = single 0; clause_id = clause };
-  frontier = record { variable = 9; set = record { 0 = 0 }; count = count };
+  frontier = record { variable = 9; set = set 0; count = count };
   score = score;
 }
 
@@ -173,6 +298,15 @@ pub record Examples : Type 0 where
   pub conflict_flag : ConflictFlag
   pub set_twice : SetTwice
   pub two_packages_in_one : TwoPackagesInOne
+  pub met_after_root : MetAfterRoot
+  pub falsified_after_root : FalsifiedAfterRoot
+  pub no_candidates_after_root : NoCandidatesAfterRoot
+  pub set_twice_after_root : SetTwiceAfterRoot
+  pub handed_and_taken_back : HandedAndTakenBack
+  pub handed_again : HandedAgain
+  pub helpers_and_learnt : HelpersAndLearnt
+  pub flags_of_pairs : FlagsOfPairs
+  pub literals_of_kinds : LiteralsOfKinds
   pub count_of_one_set : CountOfOneSet
   pub better_offer : BetterOffer
   pub equal_count : EqualCount

@@ -10,23 +10,23 @@ use Rattle.resolvo_store.specs.Step.{Run, lacks_ids}
 
 module _ {N S : Type 0} where
   -- the reply to a command and the store after it, by the first refusal that applies
-  abbrev pub answered : Store N S → Command S → Option StoreError → Outcome N S
+  abbrev pub answered : Store N S → Command N S → Option StoreError → Outcome N S
   answered st c (Some e) = record { reply = Refused e; store = st }
   answered st c None = if lacks_ids st c then record { reply = Refused IdSpace; store = st } else outcome st c
 
-  abbrev pub answer : Store N S → Command S → Outcome N S
+  abbrev pub answer : Store N S → Command N S → Outcome N S
   answer st c = answered st c (first_refusal st c)
 
   -- the replies to commands in turn
-  abbrev pub play : Store N S → List (Command S) → List Reply
+  abbrev pub play : Store N S → List (Command N S) → List Reply
   play st [] = []
   play st (c ∷ cs) = let o = answer st c in o.reply ∷ play o.store cs
 
   -- the store after them
-  abbrev pub store_after : Store N S → List (Command S) → Store N S
+  abbrev pub store_after : Store N S → List (Command N S) → Store N S
   store_after st [] = st
   store_after st (c ∷ cs) = let o = answer st c in store_after o.store cs
 
 -- what is computed is a run
 abbrev pub PlayIsRun : Type 0 → Type 0 → Type 0
-PlayIsRun N S = (st : Store N S) (cs : List (Command S)) → Run st cs (play st cs) (store_after st cs)
+PlayIsRun N S = (st : Store N S) (cs : List (Command N S)) → Run st cs (play st cs) (store_after st cs)

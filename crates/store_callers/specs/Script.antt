@@ -21,6 +21,8 @@ pub record Packages : Type 0 where
   pub sets : List Range
   -- the version sets of each union, by number
   pub unions : List (List ℕ)
+  -- how many strings there are
+  pub strings : ℕ
 
 module _ (c : Packages) where
   -- the solvables of a name, by number
@@ -55,7 +57,7 @@ module _ (c : Packages) where
     is_large_hint = λ s. false;
     are_names_many = false;
     universe = record {
-      knows_string = λ s. false;
+      knows_string = λ s. nat_lt s.0 c.strings;
       knows_name = λ n. true;
       knows_solvable = λ s. nat_lt s (length c.solvables);
       knows_set = λ v. nat_lt v.0 (length c.sets);

@@ -1,6 +1,6 @@
 //! Callers that know nothing of the provider but its trait, and nothing of the store but its contracts.
-ghost use Rattle.std.specs.Prelude.{◌≡◌, ◌≢◌, ℕ, true, List, length, Some, None, IfSome};
-ghost use Rattle.typed_ids.specs.declared.error.StoreError.TheVariants.{UnknownId};
+ghost use Rattle.std.specs.Prelude.{◌≡◌, ◌≢◌, ℕ, true, List, [], length, Some, None, IfSome};
+ghost use Rattle.typed_ids.specs.declared.error.StoreError.TheVariants.{UnknownId, EmptyTrail};
 ghost use Rattle.providers.specs.Provider.{sets_of};
 ghost use Rattle.resolvo_queue.specs.Pick.{DecidesUnbeaten};
 ghost use Rattle.resolvo_store.specs.Command.{reply_of, LoadedAs, Refused, IsRefused};
@@ -14,7 +14,7 @@ use resolvo_store::{AbstractStore, ClauseStore, Command, Reply};
 /// A command that is refused, whatever it is and why, changes nothing.
 pub fn obey<D: DependencyProvider + Drop>(
     store: &mut ClauseStore<D>,
-    command: &Command<D::SolvableId>,
+    command: &Command<D::NameId, D::SolvableId, D::Alloc>,
 ) -> Reply<D::Alloc>
     ensures { IsRefused (reply_of result) → ⟦<D as AbstractStore>⟧.store store.new ≡ ⟦<D as AbstractStore>⟧.store store.old }
 {
@@ -49,6 +49,15 @@ pub fn ask<D: DependencyProvider + Drop>(store: &mut ClauseStore<D>) -> Reply<D:
     ensures { ⟦<D as AbstractStore>⟧.store store.new ≡ ⟦<D as AbstractStore>⟧.store store.old }
 {
     store.step(&Command::Decide)
+}
+
+/// Where nothing is assigned there is nothing to take back, also where memory is short.
+pub fn undo_nothing<D: DependencyProvider + Drop>(store: &mut ClauseStore<D>) -> Reply<D::Alloc>
+    requires { (⟦<D as AbstractStore>⟧.store store.old).trail ≡ [] }
+    ensures reply { reply_of result ≡ Refused EmptyTrail }
+    ensures same { ⟦<D as AbstractStore>⟧.store store.new ≡ ⟦<D as AbstractStore>⟧.store store.old }
+{
+    store.step(&Command::UndoLast)
 }
 
 /// Where nothing is falsified, the next decision is one that no eligible clause beats.

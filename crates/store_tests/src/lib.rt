@@ -5,7 +5,11 @@
 #[cfg(test)]
 mod ample;
 #[cfg(test)]
+mod given;
+#[cfg(test)]
 mod obeys;
+#[cfg(test)]
+mod plays;
 #[cfg(test)]
 mod refused;
 #[cfg(test)]

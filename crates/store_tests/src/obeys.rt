@@ -1,6 +1,8 @@
 //! What the tests ask of a store. What they share is generic in it, since a proof over a type parameter is much shorter
 //! than one over the store's own type.
-use crate::script::variable;
+use crate::given::{GivenLiteral, literal_of};
+use crate::script::{clause, variable};
+use decisions::Literal;
 use providers::{DependencyProvider, Interner};
 use resolvo_queue::QueueDecision;
 use resolvo_store::{ClauseStore, Command, Reply};
@@ -17,23 +19,26 @@ pub(crate) struct Seen {
     pub(crate) decision: Option<QueueDecision>,
 }
 
-/// A store over a provider with solvables `S`.
-pub(crate) trait Obeys<S, A: Allocator> {
-    fn obey(&mut self, command: &Command<S>) -> Reply<A>;
+/// A store over a provider with names `N` and solvables `S`.
+pub(crate) trait Obeys<N, S, A: Allocator> {
+    fn obey(&mut self, command: &Command<N, S, A>) -> Reply<A>;
 
-    fn obey_all(&mut self, commands: &[Command<S>]) -> Result<Vec<Reply<A>, A>, StoreError>;
+    fn obey_all(&mut self, commands: &[Command<N, S, A>]) -> Result<Vec<Reply<A>, A>, StoreError>;
 
     fn seen(&self) -> Seen;
+
+    /// Whether the clause has these literals.
+    fn has_literals(&self, place: u16, wanted: &[GivenLiteral]) -> Result<bool, StoreError>;
 }
 
-impl<D: DependencyProvider + Drop> Obeys<D::SolvableId, D::Alloc> for ClauseStore<D> {
-    fn obey(&mut self, command: &Command<D::SolvableId>) -> Reply<D::Alloc> {
+impl<D: DependencyProvider + Drop> Obeys<D::NameId, D::SolvableId, D::Alloc> for ClauseStore<D> {
+    fn obey(&mut self, command: &Command<D::NameId, D::SolvableId, D::Alloc>) -> Reply<D::Alloc> {
         self.step(command)
     }
 
     fn obey_all(
         &mut self,
-        commands: &[Command<D::SolvableId>],
+        commands: &[Command<D::NameId, D::SolvableId, D::Alloc>],
     ) -> Result<Vec<Reply<D::Alloc>, D::Alloc>, StoreError> {
         self.run(commands)
     }
@@ -55,4 +60,26 @@ impl<D: DependencyProvider + Drop> Obeys<D::SolvableId, D::Alloc> for ClauseStor
             decision,
         }
     }
+
+    fn has_literals(&self, place: u16, wanted: &[GivenLiteral]) -> Result<bool, StoreError> {
+        match self.literals(clause(place))? {
+            Some(literals) => {
+                let has_them = are_literals(&literals, wanted);
+                drop(literals);
+                Ok(has_them)
+            }
+            None => Ok(false),
+        }
+    }
+}
+
+/// Whether these are the literals.
+fn are_literals(literals: &[Literal], wanted: &[GivenLiteral]) -> bool {
+    for (i, literal) in literals.iter().enumerate() {
+        match wanted.get(i) {
+            Some(wanted) if *literal == literal_of(*wanted) => {}
+            _ => return false,
+        }
+    }
+    literals.len() == wanted.len()
 }

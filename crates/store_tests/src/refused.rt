@@ -1,24 +1,22 @@
 //! Memory refused at each request in turn, of each list of commands. Beside the store to which a request is refused there
-//! is a twin in ample memory, to which the refused command isn't given: the store must tell the same as its twin.
+//! is a twin in ample memory, to which the refused command isn't given: the store must tell the same as its twin. In
+//! steps both are then given the command once more, in a run they aren't.
 use crate::obeys::Obeys;
-use crate::script::{
-    Example, clause, each_command, lists_of, one_package_commands, set_twice_commands,
-    two_packages_commands, variable,
-};
-use crate::stores::Way;
-use plain_providers::{SparseLists, SparseSolvable};
+use crate::script::{Example, clause, lists_of, play_of, variable};
+use crate::stores::{Way, dense_commands, sparse_commands};
+use plain_providers::{SparseLists, SparseName, SparseSolvable};
 use providers::{DependencyProvider, Interner};
 use refusing::Refusing;
 use resolvo_store::{ClauseStore, Command, Reply};
 use std::alloc::{Allocator, Global};
 use std::test::Fail;
 use test_checks::is_same;
-use typed_ids::{SolvableId, StoreError};
+use typed_ids::{NameId, SolvableId, StoreError};
 
 /// Commands that are given to a store in some way, to which a request is refused.
 #[derive(Drop)]
-struct Trial<'t, S> {
-    commands: &'t [Command<S>],
+struct Trial<'t, N, S, A: Allocator> {
+    commands: &'t [Command<N, S, A>],
     way: Way,
     heap: &'t Refusing<Global>,
     /// The number of the request, from the first command on.
@@ -45,9 +43,9 @@ fn is_refused<A: Allocator>(reply: &Reply<A>) -> bool {
 }
 
 /// Whether the store answers the command so.
-fn answers<S, A: Allocator, T: Obeys<S, A>>(
+fn answers<N, S, A: Allocator, T: Obeys<N, S, A>>(
     store: &mut T,
-    command: &Command<S>,
+    command: &Command<N, S, A>,
     wanted: &Reply<A>,
 ) -> bool {
     let reply = store.obey(command);
@@ -57,10 +55,10 @@ fn answers<S, A: Allocator, T: Obeys<S, A>>(
 }
 
 /// Whether the store and its twin obey the command alike.
-fn obey_alike<S, A: Allocator, T: Obeys<S, A>>(
+fn obey_alike<N, S, A: Allocator, T: Obeys<N, S, A>>(
     store: &mut T,
     twin: &mut T,
-    command: &Command<S>,
+    command: &Command<N, S, A>,
 ) -> bool {
     let reply = store.obey(command);
     let is_same = answers(twin, command, &reply);
@@ -68,11 +66,14 @@ fn obey_alike<S, A: Allocator, T: Obeys<S, A>>(
     is_same && store.seen() == twin.seen()
 }
 
-/// Whether the store and its twin know the same variables and clauses, of the first four: an assignment at level 0 is
+/// Whether the store and its twin know the same variables and clauses, of the first twelve: an assignment at level 0 is
 /// refused, but first for what isn't known.
-fn know_alike<S: Copy, A: Allocator, T: Obeys<S, A>>(store: &mut T, twin: &mut T) -> bool {
+fn know_alike<N: Copy, S: Copy, A: Allocator, T: Obeys<N, S, A>>(
+    store: &mut T,
+    twin: &mut T,
+) -> bool {
     let mut is_alike = true;
-    for i in 0..4u16 {
+    for i in 0..12u16 {
         let of_variable = Command::Assign(variable(i), true, clause(0), 0);
         let of_clause = Command::Assign(variable(0), true, clause(i), 0);
         is_alike = is_alike
@@ -83,10 +84,10 @@ fn know_alike<S: Copy, A: Allocator, T: Obeys<S, A>>(store: &mut T, twin: &mut T
 }
 
 /// Whether the store and its twin tell the same of themselves, also what they have loaded of these commands.
-fn tell_alike<S: Copy, A: Allocator, T: Obeys<S, A>>(
+fn tell_alike<N: Copy, S: Copy, A: Allocator, T: Obeys<N, S, A>>(
     store: &mut T,
     twin: &mut T,
-    commands: &[Command<S>],
+    commands: &[Command<N, S, A>],
 ) -> bool {
     let mut is_alike = know_alike(store, twin) && store.seen() == twin.seen();
     for command in commands {
@@ -97,11 +98,12 @@ fn tell_alike<S: Copy, A: Allocator, T: Obeys<S, A>>(
     is_alike
 }
 
-/// The commands by steps. A refused one leaves the store as it was: as its twin, to which it isn't given.
-fn steps_beside<S: Copy, A: Allocator, T: Obeys<S, A>>(
+/// The commands by steps. A refused one leaves the store as it was: as its twin, to which it isn't given. The next try
+/// succeeds.
+fn steps_beside<N: Copy, S: Copy, A: Allocator, T: Obeys<N, S, A>>(
     store: &mut T,
     twin: &mut T,
-    commands: &[Command<S>],
+    commands: &[Command<N, S, A>],
 ) -> (usize, bool) {
     let mut refused: usize = 0;
     let mut agrees = true;
@@ -109,7 +111,7 @@ fn steps_beside<S: Copy, A: Allocator, T: Obeys<S, A>>(
         let reply = store.obey(command);
         let is_alike = if is_refused(&reply) {
             refused = refused.saturating_add(1);
-            tell_alike(store, twin, &commands[..i])
+            tell_alike(store, twin, &commands[..i]) && obey_alike(store, twin, command)
         } else {
             answers(twin, command, &reply) && store.seen() == twin.seen()
         };
@@ -120,9 +122,9 @@ fn steps_beside<S: Copy, A: Allocator, T: Obeys<S, A>>(
 }
 
 /// The replies of a run beside the twin's.
-fn replies_beside<S, A: Allocator, T: Obeys<S, A>>(
+fn replies_beside<N, S, A: Allocator, T: Obeys<N, S, A>>(
     twin: &mut T,
-    commands: &[Command<S>],
+    commands: &[Command<N, S, A>],
     replies: &[Reply<A>],
 ) -> (usize, bool) {
     let mut refused: usize = 0;
@@ -138,10 +140,10 @@ fn replies_beside<S, A: Allocator, T: Obeys<S, A>>(
 }
 
 /// How many commands are answered, how many are refused, and whether the store agrees with its twin so far.
-fn given<S: Copy, A: Allocator, T: Obeys<S, A>>(
+fn given<N: Copy, S: Copy, A: Allocator, T: Obeys<N, S, A>>(
     store: &mut T,
     twin: &mut T,
-    commands: &[Command<S>],
+    commands: &[Command<N, S, A>],
     way: Way,
 ) -> (usize, usize, bool) {
     match way {
@@ -162,10 +164,10 @@ fn given<S: Copy, A: Allocator, T: Obeys<S, A>>(
 }
 
 /// What is seen of a store beside its twin: where all that was answered is the same, so is what they tell at the end.
-fn compared<S: Copy, A: Allocator, T: Obeys<S, A>>(
+fn compared<N: Copy, S: Copy, A: Allocator, T: Obeys<N, S, A>>(
     store: &mut T,
     twin: &mut T,
-    trial: &Trial<'_, S>,
+    trial: &Trial<'_, N, S, A>,
 ) -> Agreement {
     trial.heap.arm(trial.number);
     let (answered, refused, agrees) = given(store, twin, trial.commands, trial.way);
@@ -186,7 +188,7 @@ fn new_beside<D: DependencyProvider + Drop>(
     heap: D::Alloc,
     ample: D::Alloc,
     (provider, other): (D, D),
-    trial: &Trial<'_, D::SolvableId>,
+    trial: &Trial<'_, D::NameId, D::SolvableId, D::Alloc>,
 ) -> Result<Agreement, StoreError> {
     let mut store = ClauseStore::new(heap, provider)?;
     let seen = new_twin_beside(&mut store, ample, other, trial);
@@ -198,7 +200,7 @@ fn new_twin_beside<D: DependencyProvider + Drop>(
     store: &mut ClauseStore<D>,
     ample: D::Alloc,
     provider: D,
-    trial: &Trial<'_, D::SolvableId>,
+    trial: &Trial<'_, D::NameId, D::SolvableId, D::Alloc>,
 ) -> Result<Agreement, StoreError> {
     let mut twin = ClauseStore::new(ample, provider)?;
     let seen = compared(store, &mut twin, trial);
@@ -210,7 +212,7 @@ fn dense_beside<A: Allocator + Copy>(
     heap: A,
     ample: A,
     example: Example,
-    trial: &Trial<'_, SolvableId>,
+    trial: &Trial<'_, NameId, SolvableId, A>,
 ) -> Result<Agreement, StoreError> {
     let provider = lists_of(heap, example)?;
     let other = lists_of(ample, example)?;
@@ -222,7 +224,7 @@ fn sparse_beside<A: Allocator + Copy>(
     heap: A,
     ample: A,
     example: Example,
-    trial: &Trial<'_, SparseSolvable>,
+    trial: &Trial<'_, SparseName, SparseSolvable, A>,
 ) -> Result<Agreement, StoreError> {
     let provider = SparseLists(lists_of(heap, example)?);
     let other = SparseLists(lists_of(ample, example)?);
@@ -233,9 +235,9 @@ fn sparse_beside<A: Allocator + Copy>(
 /// room for the replies: it is refused whole.
 fn is_as_wanted(
     seen: Result<Agreement, StoreError>,
+    example: Example,
     way: Way,
     number: u64,
-    count: usize,
 ) -> Result<bool, Fail> {
     let is_met = seen?.is_met;
     let wanted = Agreement {
@@ -243,7 +245,7 @@ fn is_as_wanted(
         is_met,
         answered: match way {
             Way::Run if number == 1 => 0,
-            _ => count,
+            _ => play_of(example).steps.len(),
         },
         refused: usize::from(is_met),
         agrees: true,
@@ -252,17 +254,12 @@ fn is_as_wanted(
     Ok(is_met)
 }
 
-/// Each request is refused in turn: there are more than ten, and fewer than a thousand.
-fn dense_refused(
-    rt: &impl AllocGlobal,
-    example: Example,
-    commands: &[Command<SolvableId>],
-    way: Way,
-) -> Result<(), Fail> {
+/// Each request is refused in turn: there are more than two, and fewer than a thousand.
+fn dense_refused(rt: &impl AllocGlobal, example: Example, way: Way) -> Result<(), Fail> {
     for number in 1..1000u64 {
-        let seen = dense_seen(rt, example, commands, way, number);
-        if !is_as_wanted(seen, way, number, commands.len())? {
-            return is_same(number > 10, true);
+        let seen = dense_seen(rt, example, way, number);
+        if !is_as_wanted(seen, example, way, number)? {
+            return is_same(number > 3, true);
         }
     }
     Err(Fail::new("each store met a refusal"))
@@ -271,35 +268,42 @@ fn dense_refused(
 fn dense_seen(
     rt: &impl AllocGlobal,
     example: Example,
-    commands: &[Command<SolvableId>],
     way: Way,
     number: u64,
 ) -> Result<Agreement, StoreError> {
     let heap = Refusing::new(rt.alloc());
     let ample = Refusing::new(rt.alloc());
-    let trial = Trial {
-        commands,
-        way,
-        heap: &heap,
-        number,
-    };
-    let seen = dense_beside(&heap, &ample, example, &trial);
-    drop(trial);
+    let seen = dense_trial(&heap, &ample, example, way, number);
     drop(ample);
     drop(heap);
     seen
 }
 
-fn sparse_refused(
-    rt: &impl AllocGlobal,
+fn dense_trial(
+    heap: &Refusing<Global>,
+    ample: &Refusing<Global>,
     example: Example,
-    commands: &[Command<SparseSolvable>],
     way: Way,
-) -> Result<(), Fail> {
+    number: u64,
+) -> Result<Agreement, StoreError> {
+    let commands = dense_commands(ample, example)?;
+    let trial = Trial {
+        commands: &commands,
+        way,
+        heap,
+        number,
+    };
+    let seen = dense_beside(heap, ample, example, &trial);
+    drop(trial);
+    drop(commands);
+    seen
+}
+
+fn sparse_refused(rt: &impl AllocGlobal, example: Example, way: Way) -> Result<(), Fail> {
     for number in 1..1000u64 {
-        let seen = sparse_seen(rt, example, commands, way, number);
-        if !is_as_wanted(seen, way, number, commands.len())? {
-            return is_same(number > 10, true);
+        let seen = sparse_seen(rt, example, way, number);
+        if !is_as_wanted(seen, example, way, number)? {
+            return is_same(number > 3, true);
         }
     }
     Err(Fail::new("each store met a refusal"))
@@ -308,55 +312,74 @@ fn sparse_refused(
 fn sparse_seen(
     rt: &impl AllocGlobal,
     example: Example,
-    commands: &[Command<SparseSolvable>],
     way: Way,
     number: u64,
 ) -> Result<Agreement, StoreError> {
     let heap = Refusing::new(rt.alloc());
     let ample = Refusing::new(rt.alloc());
-    let trial = Trial {
-        commands,
-        way,
-        heap: &heap,
-        number,
-    };
-    let seen = sparse_beside(&heap, &ample, example, &trial);
-    drop(trial);
+    let seen = sparse_trial(&heap, &ample, example, way, number);
     drop(ample);
     drop(heap);
     seen
 }
 
+fn sparse_trial(
+    heap: &Refusing<Global>,
+    ample: &Refusing<Global>,
+    example: Example,
+    way: Way,
+    number: u64,
+) -> Result<Agreement, StoreError> {
+    let commands = sparse_commands(ample, example)?;
+    let trial = Trial {
+        commands: &commands,
+        way,
+        heap,
+        number,
+    };
+    let seen = sparse_beside(heap, ample, example, &trial);
+    drop(trial);
+    drop(commands);
+    seen
+}
+
 #[test]
 fn two_packages_are_refused(rt: HostRuntime) -> Result<(), Fail> {
-    let commands = two_packages_commands();
-    dense_refused(&rt, Example::TwoPackages, &commands, Way::Steps)?;
-    dense_refused(&rt, Example::TwoPackages, &commands, Way::Run)
+    dense_refused(&rt, Example::TwoPackages, Way::Steps)?;
+    dense_refused(&rt, Example::TwoPackages, Way::Run)
 }
 
 #[test]
 fn one_package_is_refused(rt: HostRuntime) -> Result<(), Fail> {
-    let commands = one_package_commands();
-    dense_refused(&rt, Example::OnePackage, &commands, Way::Steps)?;
-    dense_refused(&rt, Example::OnePackage, &commands, Way::Run)
+    dense_refused(&rt, Example::OnePackage, Way::Steps)?;
+    dense_refused(&rt, Example::OnePackage, Way::Run)
 }
 
 #[test]
 fn a_union_of_one_set_twice_is_refused(rt: HostRuntime) -> Result<(), Fail> {
-    let commands = set_twice_commands();
-    dense_refused(&rt, Example::SetTwice, &commands, Way::Steps)?;
-    sparse_refused(&rt, Example::SetTwice, &set_twice_commands(), Way::Run)
+    dense_refused(&rt, Example::SetTwice, Way::Steps)?;
+    sparse_refused(&rt, Example::SetTwice, Way::Run)
+}
+
+#[test]
+fn a_trail_is_refused(rt: HostRuntime) -> Result<(), Fail> {
+    dense_refused(&rt, Example::Trail, Way::Steps)?;
+    sparse_refused(&rt, Example::Trail, Way::Run)
+}
+
+#[test]
+fn helpers_and_clauses_are_refused(rt: HostRuntime) -> Result<(), Fail> {
+    dense_refused(&rt, Example::Helpers, Way::Run)?;
+    sparse_refused(&rt, Example::Helpers, Way::Steps)
 }
 
 #[test]
 fn each_command_is_refused(rt: HostRuntime) -> Result<(), Fail> {
-    let commands = each_command(SolvableId::from_raw(0));
-    dense_refused(&rt, Example::EachCommand, &commands, Way::Steps)?;
-    dense_refused(&rt, Example::EachCommand, &commands, Way::Run)
+    dense_refused(&rt, Example::EachCommand, Way::Steps)?;
+    dense_refused(&rt, Example::EachCommand, Way::Run)
 }
 
 #[test]
 fn each_command_over_sparse_ids_is_refused(rt: HostRuntime) -> Result<(), Fail> {
-    let commands = each_command(SparseSolvable::from_raw(0));
-    sparse_refused(&rt, Example::EachCommand, &commands, Way::Steps)
+    sparse_refused(&rt, Example::EachCommand, Way::Steps)
 }

@@ -1,22 +1,59 @@
 //! The examples of the tests: the lists of a provider, commands, and the replies that are wanted.
-use crate::wanted::{Wanted, WantedDecision, WantedPlay};
+ghost use Rattle.std.specs.Prelude.{◌≤◌, length};
+
+use crate::given::{Given, GivenLiteral, Helper, Kind};
+use crate::plays::{
+    FALSIFIED_AFTER_ROOT, HANDED_AND_TAKEN_BACK, HELPERS, MET_AFTER_ROOT, NO_CANDIDATES_AFTER_ROOT,
+    SET_TWICE_AFTER_ROOT, UNKNOWN,
+};
+use crate::wanted::{Wanted, WantedDecision};
 use plain_providers::{Lists, Package, VersionRange};
 use providers::Requirement;
-use resolvo_store::Command;
 use std::alloc::{AllocError, Allocator};
 use typed_ids::{
-    ClauseId, DenseIndex, DisjunctionId, NameId, StoreError, VariableId, VersionSetId,
-    VersionSetUnionId,
+    ClauseId, DenseIndex, NameId, StoreError, VariableId, VersionSetId, VersionSetUnionId,
 };
 
-/// An example: the lists of a provider, a list of commands, and the replies that are wanted.
+/// An example: the lists of a provider, commands, and the replies that are wanted.
 #[derive(Clone, Copy)]
 pub(crate) enum Example {
     TwoPackages,
     OnePackage,
     SetTwice,
+    /// Assignments that are handed out and taken back, and others in their place.
+    Trail,
+    /// Assignments that are taken back to the last one.
+    HandedAndTakenBack,
+    /// A clause that is met, falsified or counted twice, beside a root clause.
+    MetAfterRoot,
+    SetTwiceAfterRoot,
+    FalsifiedAfterRoot,
+    NoCandidatesAfterRoot,
+    /// Helper variables, learnt clauses and strings.
+    Helpers,
+    /// The lowest level and the highest one, and those beyond them.
+    Levels,
+    /// Ids that aren't known.
+    Unknown,
     /// Each command over one package.
     EachCommand,
+}
+
+/// A command, and the reply that is wanted.
+pub(crate) type Step = (Given, Wanted);
+
+/// Commands with the replies that are wanted, and what is wanted beside them.
+#[derive(Clone, Copy)]
+pub(crate) struct Play {
+    /// How many candidates the provider lists of package 0.
+    pub(crate) candidates: usize,
+    pub(crate) steps: &'static [Step],
+    /// The value that the root variable then has.
+    pub(crate) root: Option<bool>,
+    /// The clause that is then falsified.
+    pub(crate) falsified: Option<u16>,
+    /// The literals of the clauses.
+    pub(crate) clauses: &'static [&'static [GivenLiteral]],
 }
 
 /// The example's lists.
@@ -29,19 +66,40 @@ pub(crate) fn lists_of<A: Allocator + Copy>(
 
 fn try_lists_of<A: Allocator + Copy>(alloc: A, example: Example) -> Result<Lists<A>, AllocError> {
     match example {
-        Example::TwoPackages => with_union(alloc, two_packages(alloc)?, 0, 1),
-        Example::OnePackage | Example::EachCommand => one_package(alloc),
-        Example::SetTwice => with_union(alloc, one_package(alloc)?, 0, 0),
+        Example::TwoPackages | Example::Trail => with_union(alloc, two_packages(alloc)?, 0, 1),
+        Example::SetTwice | Example::SetTwiceAfterRoot => {
+            with_union(alloc, two_versions(alloc)?, 0, 0)
+        }
+        Example::HandedAndTakenBack => {
+            let packages = [package(0, 1), package(0, 2), package(0, 3)];
+            one_package(alloc, &packages, 4)
+        },
+        Example::MetAfterRoot | Example::FalsifiedAfterRoot | Example::Helpers => {
+            one_package(alloc, &[package(0, 1)], 2)
+        }
+        Example::NoCandidatesAfterRoot => one_package(alloc, &[], 2),
+        Example::OnePackage | Example::Levels | Example::Unknown | Example::EachCommand => {
+            two_versions(alloc)
+        }
     }
 }
 
-/// What is wanted of a store that is given the example's commands.
-pub(crate) fn wanted_of(example: Example) -> WantedPlay {
+/// What a store is given in the example, and what is wanted of it.
+pub(crate) fn play_of(example: Example) -> Play {
     match example {
-        Example::TwoPackages => TWO_PACKAGES_WANTED,
-        Example::OnePackage => ONE_PACKAGE_WANTED,
-        Example::SetTwice => SET_TWICE_WANTED,
-        Example::EachCommand => EACH_WANTED,
+        Example::TwoPackages => TWO_PACKAGES,
+        Example::OnePackage => ONE_PACKAGE,
+        Example::SetTwice => SET_TWICE,
+        Example::Trail => TRAIL,
+        Example::HandedAndTakenBack => HANDED_AND_TAKEN_BACK,
+        Example::MetAfterRoot => MET_AFTER_ROOT,
+        Example::SetTwiceAfterRoot => SET_TWICE_AFTER_ROOT,
+        Example::FalsifiedAfterRoot => FALSIFIED_AFTER_ROOT,
+        Example::NoCandidatesAfterRoot => NO_CANDIDATES_AFTER_ROOT,
+        Example::Helpers => HELPERS,
+        Example::Levels => LEVELS,
+        Example::Unknown => UNKNOWN,
+        Example::EachCommand => EACH_COMMAND,
     }
 }
 
@@ -55,10 +113,6 @@ pub(crate) fn clause(index: u16) -> ClauseId {
 
 pub(crate) fn single(set: u32) -> Requirement {
     Requirement::Single(VersionSetId(set))
-}
-
-fn union(index: u32) -> Requirement {
-    Requirement::Union(VersionSetUnionId(index))
 }
 
 fn package(name: u32, version: u32) -> Package {
@@ -102,61 +156,21 @@ fn two_packages<A: Allocator + Copy>(alloc: A) -> Result<Lists<A>, AllocError> {
     })
 }
 
-/// A decision is asked for, taken, undone, and asked for again; then the union is loaded.
-pub(crate) fn two_packages_commands<S>() -> [Command<S>; 12] {
-    [
-        Command::Load(single(0)),
-        Command::Load(single(1)),
-        Command::Requires(variable(0), single(0), None),
-        Command::Requires(variable(0), single(1), None),
-        Command::Decide,
-        Command::Assign(variable(0), true, clause(0), 1),
-        Command::Decide,
-        Command::Assign(variable(1), true, clause(0), 2),
-        Command::Decide,
-        Command::UndoUntil(1),
-        Command::Decide,
-        Command::Load(union(0)),
-    ]
+/// Package 0 in versions 1 and 2, and a version set of all of them.
+fn two_versions<A: Allocator + Copy>(alloc: A) -> Result<Lists<A>, AllocError> {
+    one_package(alloc, &[package(0, 1), package(0, 2)], 3)
 }
 
-pub(crate) const TWO_PACKAGES_WANTED: WantedPlay = WantedPlay {
-    replies: &[
-        Wanted::Loaded(&[&[1, 2]]),
-        Wanted::Loaded(&[&[3]]),
-        Wanted::Clause(0),
-        Wanted::Clause(1),
-        Wanted::NoDecision,
-        Wanted::Assigned,
-        Wanted::Decided(WantedDecision {
-            candidate: 1,
-            parent: 0,
-            clause: 0,
-            count: 2,
-        }),
-        Wanted::Assigned,
-        Wanted::Decided(WantedDecision {
-            candidate: 3,
-            parent: 0,
-            clause: 1,
-            count: 1,
-        }),
-        Wanted::Undone,
-        Wanted::Decided(WantedDecision {
-            candidate: 1,
-            parent: 0,
-            clause: 0,
-            count: 2,
-        }),
-        Wanted::Loaded(&[&[1, 2], &[3]]),
-    ],
-    root: Some(true),
-};
-
-/// Package 0 in versions 1 and 2, and a version set of all of them.
-fn one_package<A: Allocator + Copy>(alloc: A) -> Result<Lists<A>, AllocError> {
-    let packages = vec![in alloc; package(0, 1), package(0, 2)]?;
-    let ranges = vec![in alloc; range(0, 1, 3)]?;
+/// These packages, and the version set of package 0 from version 1 to below `high`.
+fn one_package<A: Allocator + Copy>(
+    alloc: A,
+    packages: &[Package],
+    high: u32,
+) -> Result<Lists<A>, AllocError>
+    requires { length packages.now ≤ 3 }
+{
+    let packages = Vec::from_slice(alloc, packages)?;
+    let ranges = vec![in alloc; range(0, 1, high)]?;
     Ok(Lists {
         packages,
         ranges,
@@ -165,102 +179,230 @@ fn one_package<A: Allocator + Copy>(alloc: A) -> Result<Lists<A>, AllocError> {
     })
 }
 
-/// Refusals, and a clause that becomes falsified.
-pub(crate) fn one_package_commands<S>() -> [Command<S>; 12] {
-    let disjunction = DisjunctionId::from_index(0);
-    [
-        Command::Requires(variable(0), single(0), None),
-        Command::Load(single(0)),
-        Command::Load(union(0)),
-        Command::Requires(variable(0), single(0), Some(disjunction)),
-        Command::Requires(variable(0), single(0), None),
-        Command::Assign(variable(0), true, clause(0), 0),
-        Command::Assign(variable(0), true, clause(0), 1),
-        Command::Assign(variable(1), false, clause(0), 1),
-        Command::Assign(variable(2), false, clause(0), 1),
-        Command::Decide,
-        Command::UndoUntil(0),
-        Command::Decide,
-    ]
-}
+/// The requirement of version set 0, that of version set 1, and that of union 0.
+pub(crate) const FIRST: Requirement = Requirement::Single(VersionSetId(0));
 
-const ONE_PACKAGE_WANTED: WantedPlay = WantedPlay {
-    replies: &[
-        Wanted::Refused(StoreError::NotLoaded),
-        Wanted::Loaded(&[&[1, 2]]),
-        Wanted::Refused(StoreError::UnknownId),
-        Wanted::Refused(StoreError::UnknownId),
-        Wanted::Clause(0),
-        Wanted::Refused(StoreError::LevelOutOfRange),
-        Wanted::Assigned,
-        Wanted::Assigned,
-        Wanted::Assigned,
-        Wanted::Falsified(0),
-        Wanted::Undone,
-        Wanted::NoDecision,
+pub(crate) const SECOND: Requirement = Requirement::Single(VersionSetId(1));
+
+pub(crate) const UNION: Requirement = Requirement::Union(VersionSetUnionId(0));
+
+pub(crate) const UNKNOWN_ID: Wanted = Wanted::Refused(StoreError::UnknownId);
+
+const NOT_LOADED: Wanted = Wanted::Refused(StoreError::NotLoaded);
+
+pub(crate) const BAD_LEVEL: Wanted = Wanted::Refused(StoreError::LevelOutOfRange);
+
+pub(crate) const BAD_LEARNT: Wanted = Wanted::Refused(StoreError::BadLearnt);
+
+pub(crate) const EMPTY_TRAIL: Wanted = Wanted::Refused(StoreError::EmptyTrail);
+
+/// A decision is asked for, taken, undone, and asked for again; then the union is loaded.
+const TWO_PACKAGES: Play = Play {
+    candidates: 2,
+    steps: &[
+        (Given::Load(FIRST), Wanted::Loaded(&[&[1, 2]])),
+        (Given::Load(SECOND), Wanted::Loaded(&[&[3]])),
+        (Given::Add(Kind::Requires(0, FIRST)), Wanted::Clause(0)),
+        (Given::Add(Kind::Requires(0, SECOND)), Wanted::Clause(1)),
+        (Given::Decide, Wanted::NoDecision),
+        (Given::Assign(0, true, 0, 1), Wanted::Assigned),
+        (Given::Decide, Wanted::Decided(FIRST_OF_TWO)),
+        (Given::Assign(1, true, 0, 2), Wanted::Assigned),
+        (Given::Decide, Wanted::Decided(THIRD_ALONE)),
+        (Given::UndoUntil(1), Wanted::Undone),
+        (Given::Decide, Wanted::Decided(FIRST_OF_TWO)),
+        (Given::Load(UNION), Wanted::Loaded(&[&[1, 2], &[3]])),
+    ],
+    root: Some(true),
+    falsified: None,
+    clauses: &[
+        &[(0, true), (1, false), (2, false)],
+        &[(0, true), (3, false)],
+    ],
+};
+
+const FIRST_OF_TWO: WantedDecision = WantedDecision {
+    candidate: 1,
+    parent: 0,
+    clause: 0,
+    count: 2,
+};
+
+const THIRD_ALONE: WantedDecision = WantedDecision {
+    candidate: 3,
+    parent: 0,
+    clause: 1,
+    count: 1,
+};
+
+/// Refusals, and a clause that becomes falsified.
+const ONE_PACKAGE: Play = Play {
+    candidates: 2,
+    steps: &[
+        (Given::Add(Kind::Requires(0, FIRST)), NOT_LOADED),
+        (Given::Load(FIRST), Wanted::Loaded(&[&[1, 2]])),
+        (Given::Load(UNION), UNKNOWN_ID),
+        (Given::Add(Kind::RequiresUnder(0, FIRST, 0)), UNKNOWN_ID),
+        (Given::Add(Kind::Requires(0, FIRST)), Wanted::Clause(0)),
+        (Given::Assign(0, true, 0, 0), BAD_LEVEL),
+        (Given::Assign(0, true, 0, 1), Wanted::Assigned),
+        (Given::Assign(1, false, 0, 1), Wanted::Assigned),
+        (Given::Assign(2, false, 0, 1), Wanted::Assigned),
+        (Given::Decide, Wanted::Falsified(0)),
+        (Given::Add(Kind::Requires(0, FIRST)), Wanted::Conflict(1)),
+        (Given::UndoUntil(0), Wanted::Undone),
+        (Given::Decide, Wanted::NoDecision),
     ],
     root: None,
+    falsified: None,
+    clauses: &[
+        &[(0, true), (1, false), (2, false)],
+        &[(0, true), (1, false), (2, false)],
+    ],
 };
 
 /// The union's decision, also once a candidate is false.
-pub(crate) fn set_twice_commands<S>() -> [Command<S>; 6] {
-    [
-        Command::Load(union(0)),
-        Command::Requires(variable(0), union(0), None),
-        Command::Assign(variable(0), true, clause(0), 1),
-        Command::Decide,
-        Command::Assign(variable(1), false, clause(0), 1),
-        Command::Decide,
-    ]
-}
-
-const SET_TWICE_WANTED: WantedPlay = WantedPlay {
-    replies: &[
-        Wanted::Loaded(&[&[1, 2], &[1, 2]]),
-        Wanted::Clause(0),
-        Wanted::Assigned,
-        Wanted::Decided(WantedDecision {
-            candidate: 1,
-            parent: 0,
-            clause: 0,
-            count: 4,
-        }),
-        Wanted::Assigned,
-        Wanted::Decided(WantedDecision {
-            candidate: 2,
-            parent: 0,
-            clause: 0,
-            count: 2,
-        }),
+const SET_TWICE: Play = Play {
+    candidates: 2,
+    steps: &[
+        (Given::Load(UNION), Wanted::Loaded(&[&[1, 2], &[1, 2]])),
+        (Given::Add(Kind::Requires(0, UNION)), Wanted::Clause(0)),
+        (Given::Assign(0, true, 0, 1), Wanted::Assigned),
+        (Given::Decide, Wanted::Decided(FIRST_OF_FOUR)),
+        (Given::Assign(1, false, 0, 1), Wanted::Assigned),
+        (Given::Decide, Wanted::Decided(SECOND_OF_TWO)),
     ],
     root: Some(true),
+    falsified: None,
+    clauses: &[&[(0, true), (1, false), (2, false), (1, false), (2, false)]],
 };
 
-/// Each command that succeeds over one package, but for an undo; a requirement is loaded twice.
-pub(crate) fn each_command<S>(solvable: S) -> [Command<S>; 6] {
-    [
-        Command::Variable(solvable),
-        Command::Load(single(0)),
-        Command::Load(single(0)),
-        Command::Requires(variable(0), single(0), None),
-        Command::Assign(variable(0), true, clause(0), 3),
-        Command::Decide,
-    ]
-}
+const FIRST_OF_FOUR: WantedDecision = WantedDecision {
+    candidate: 1,
+    parent: 0,
+    clause: 0,
+    count: 4,
+};
 
-const EACH_WANTED: WantedPlay = WantedPlay {
-    replies: &[
-        Wanted::Variable(1),
-        Wanted::Loaded(&[&[2, 1]]),
-        Wanted::Loaded(&[&[2, 1]]),
-        Wanted::Clause(0),
-        Wanted::Assigned,
-        Wanted::Decided(WantedDecision {
-            candidate: 2,
-            parent: 0,
-            clause: 0,
-            count: 2,
-        }),
+const SECOND_OF_TWO: WantedDecision = WantedDecision {
+    candidate: 2,
+    parent: 0,
+    clause: 0,
+    count: 2,
+};
+
+/// Assignments are handed out from the oldest on, and taken back from the newest on; one that stands in the place of
+/// another, which was handed out, is handed out again.
+const TRAIL: Play = Play {
+    candidates: 2,
+    steps: &[
+        (Given::Add(Kind::Root), Wanted::Clause(0)),
+        (Given::Variable(0), Wanted::Variable(1)),
+        (Given::Variable(1), Wanted::Variable(2)),
+        (Given::Variable(2), Wanted::Variable(3)),
+        (Given::Assign(1, true, 0, 1), Wanted::Assigned),
+        (Given::Assign(2, true, 0, 2), Wanted::Assigned),
+        (Given::Assign(3, false, 0, 2), Wanted::Assigned),
+        (Given::Assign(3, false, 0, 5), Wanted::Already),
+        (Given::Assign(3, true, 0, 2), Wanted::Clash),
+        (Given::Assign(1, true, 0, 0), BAD_LEVEL),
+        (Given::Unpropagated, Wanted::Next(Some((1, true, 0)))),
+        (Given::UndoLast, Wanted::TakenBack((3, false, 0), 2)),
+        (Given::Unpropagated, Wanted::Next(Some((2, true, 0)))),
+        (Given::Unpropagated, Wanted::Next(None)),
+        (Given::UndoLast, Wanted::TakenBack((2, true, 0), 1)),
+        (Given::Assign(3, true, 0, 2), Wanted::Assigned),
+        (Given::Unpropagated, Wanted::Next(Some((3, true, 0)))),
+        (Given::UndoUntil(1), Wanted::Undone),
+        (Given::Assign(2, false, 0, 1), Wanted::Assigned),
+        (Given::Unpropagated, Wanted::Next(Some((2, false, 0)))),
+        (Given::UndoLast, Wanted::TakenBack((2, false, 0), 1)),
+        (Given::UndoLast, Wanted::TakenBack((1, true, 0), 0)),
+        (Given::UndoLast, EMPTY_TRAIL),
+    ],
+    root: None,
+    falsified: None,
+    clauses: &[&[(0, false)]],
+};
+
+/// The levels at both ends of the range, and beyond them.
+const LEVELS: Play = Play {
+    candidates: 2,
+    steps: &[
+        (Given::Add(Kind::Root), Wanted::Clause(0)),
+        (Given::Assign(0, true, 0, 0), BAD_LEVEL),
+        (Given::Assign(0, true, 0, 2147483648), BAD_LEVEL),
+        (Given::Assign(0, true, 0, 4294967295), BAD_LEVEL),
+        (Given::Assign(0, true, 0, 1), Wanted::Assigned),
+        (Given::UndoUntil(0), Wanted::Undone),
+        (Given::Assign(0, true, 0, 2147483647), Wanted::Assigned),
+        (Given::UndoUntil(4294967295), Wanted::Undone),
+        (Given::UndoUntil(2147483647), Wanted::Undone),
+        (Given::Assign(0, true, 0, 2), Wanted::Already),
+        (Given::UndoUntil(2147483646), Wanted::Undone),
+        (Given::Assign(0, false, 0, 1), Wanted::Assigned),
+    ],
+    root: Some(false),
+    falsified: None,
+    clauses: &[&[(0, false)]],
+};
+
+/// Each command that succeeds over one package; a requirement is loaded twice.
+const EACH_COMMAND: Play = Play {
+    candidates: 2,
+    steps: &[
+        (Given::Variable(0), Wanted::Variable(1)),
+        (Given::Load(FIRST), Wanted::Loaded(&[&[2, 1]])),
+        (Given::Helper(Helper::AtLeastOne), Wanted::Variable(3)),
+        (Given::Load(FIRST), Wanted::Loaded(&[&[2, 1]])),
+        (
+            Given::Helper(Helper::ConstrainsViolation(0)),
+            Wanted::Variable(4),
+        ),
+        (
+            Given::Helper(Helper::RequiresGate(FIRST)),
+            Wanted::Variable(5),
+        ),
+        (Given::Add(Kind::Requires(0, FIRST)), Wanted::Clause(0)),
+        (Given::Add(Kind::Root), Wanted::Clause(1)),
+        (Given::Add(Kind::Constrains(2, 1, 0)), Wanted::Clause(2)),
+        (
+            Given::Add(Kind::ConstrainsExcluded(1, 4, 0)),
+            Wanted::Clause(3),
+        ),
+        (
+            Given::Add(Kind::ConstrainsParent(2, 4, 0)),
+            Wanted::Clause(4),
+        ),
+        (Given::Add(Kind::Lock(2, 1)), Wanted::Clause(5)),
+        (Given::Add(Kind::Exclude(1, 0)), Wanted::Clause(6)),
+        (Given::Add(Kind::AnyOf(3, 1)), Wanted::Clause(7)),
+        (
+            Given::Add(Kind::Learnt(&[(1, true), (5, false)])),
+            Wanted::Clause(8),
+        ),
+        (Given::Assign(0, true, 1, 3), Wanted::Assigned),
+        (Given::Unpropagated, Wanted::Next(Some((0, true, 1)))),
+        (Given::Assign(4, true, 3, 4), Wanted::Assigned),
+        (
+            Given::Add(Kind::ConstrainsParent(2, 4, 0)),
+            Wanted::Conflict(9),
+        ),
+        (Given::UndoLast, Wanted::TakenBack((4, true, 3), 3)),
+        (Given::Decide, Wanted::Decided(SECOND_OF_TWO)),
     ],
     root: Some(true),
+    falsified: None,
+    clauses: &[
+        &[(0, true), (2, false), (1, false)],
+        &[(0, false)],
+        &[(2, true), (1, true)],
+        &[(1, true), (4, false)],
+        &[(2, true), (4, true)],
+        &[(1, true), (0, true)],
+        &[(1, true)],
+        &[(3, false), (1, true)],
+        &[(1, true), (5, false)],
+        &[(2, true), (4, true)],
+    ],
 };

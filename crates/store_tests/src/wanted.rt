@@ -1,6 +1,7 @@
 //! The replies that are wanted, in plain numbers, and what compares a reply with one in place. They own nothing, so
 //! that a list of them is a constant.
-use crate::script::{clause, variable};
+use crate::script::{Step, clause, variable};
+use decisions::Decision;
 use resolvo_queue::QueueDecision;
 use resolvo_store::Reply;
 use std::alloc::Allocator;
@@ -14,21 +15,25 @@ pub(crate) enum Wanted {
     Loaded(&'static [&'static [u16]]),
     /// The clause is added, and is no conflict.
     Clause(u16),
+    /// The clause is added, and is a conflict.
+    Conflict(u16),
     Assigned,
-    /// All assignments are taken back.
+    Already,
+    Clash,
+    /// Assignments are taken back.
     Undone,
+    /// This assignment is taken back, and the one before it is of the level.
+    TakenBack(WantedAssignment, u32),
+    /// This assignment is handed out, if there is one.
+    Next(Option<WantedAssignment>),
     Decided(WantedDecision),
     NoDecision,
     Falsified(u16),
     Refused(StoreError),
 }
 
-/// The replies to a list of commands that are wanted, and the value that the root variable then has.
-#[derive(Clone, Copy)]
-pub(crate) struct WantedPlay {
-    pub(crate) replies: &'static [Wanted],
-    pub(crate) root: Option<bool>,
-}
+/// A variable, its value, and the clause that gave it.
+pub(crate) type WantedAssignment = (u16, bool, u16);
 
 /// A decision that is wanted, where no package has a score.
 #[derive(Clone, Copy)]
@@ -40,13 +45,10 @@ pub(crate) struct WantedDecision {
 }
 
 /// The number of the first reply that isn't the wanted one.
-pub(crate) fn first_unwanted<A: Allocator>(
-    replies: &[Reply<A>],
-    wanted: &[Wanted],
-) -> Option<usize> {
+pub(crate) fn first_unwanted<A: Allocator>(replies: &[Reply<A>], steps: &[Step]) -> Option<usize> {
     for (i, reply) in replies.iter().enumerate() {
-        match wanted.get(i) {
-            Some(wanted) if is_wanted(reply, wanted) => {}
+        match steps.get(i) {
+            Some((_, wanted)) if is_wanted(reply, wanted) => {}
             _ => return Some(i),
         }
     }
@@ -61,13 +63,33 @@ fn is_wanted<A: Allocator>(reply: &Reply<A>, wanted: &Wanted) -> bool {
         (Reply::Clause(given, conflict), Wanted::Clause(index)) => {
             *given == clause(*index) && !*conflict
         }
+        (Reply::Clause(given, conflict), Wanted::Conflict(index)) => {
+            *given == clause(*index) && *conflict
+        }
         (Reply::Assigned, Wanted::Assigned) => true,
+        (Reply::Already, Wanted::Already) => true,
+        (Reply::Clash, Wanted::Clash) => true,
         (Reply::Undone(last), Wanted::Undone) => last.is_none(),
+        (Reply::Undone(last), Wanted::TakenBack(wanted, level)) => {
+            *last == Some((assignment(*wanted), *level))
+        }
+        (Reply::Next(given), Wanted::Next(wanted)) => *given == next(*wanted),
         (Reply::Decided(given), Wanted::Decided(decision)) => is_decision(*given, *decision),
         (Reply::NoDecision, Wanted::NoDecision) => true,
         (Reply::Falsified(given), Wanted::Falsified(index)) => *given == clause(*index),
         (Reply::Refused(given), Wanted::Refused(error)) => *given == *error,
         _ => false,
+    }
+}
+
+fn assignment((place, value, reason): WantedAssignment) -> Decision {
+    Decision::new(variable(place), value, clause(reason))
+}
+
+fn next(wanted: Option<WantedAssignment>) -> Option<Decision> {
+    match wanted {
+        Some(wanted) => Some(assignment(wanted)),
+        None => None,
     }
 }
 

@@ -1,4 +1,4 @@
-//! The commands that change the trail: `Assign` and `UndoUntil`.
+//! The commands that change the trail: `Assign`, `UndoLast`, `UndoUntil` and `Unpropagated`.
 ghost use Rattle.std.specs.Prelude.{◌≡◌, IfOk};
 
 use crate::abstract_store::AbstractStore;
@@ -9,7 +9,7 @@ use providers::DependencyProvider;
 use typed_ids::{ClauseId, DenseIndex, StoreError, VariableId};
 
 impl<D: DependencyProvider + Drop> ClauseStore<D> {
-    ghost use Rattle.resolvo_store.specs.Command.{Assign, UndoUntil, answer_of, reply_of, IsRefused};
+    ghost use Rattle.resolvo_store.specs.Command.{Assign, UndoLast, UndoUntil, Unpropagated, answer_of, reply_of, IsRefused};
     ghost use Rattle.resolvo_store.specs.Step.{Step};
 
     /// Gives a variable a value.
@@ -25,7 +25,9 @@ impl<D: DependencyProvider + Drop> ClauseStore<D> {
         ensures answered { IfOk result (λ reply. IsRefused (reply_of reply) → ⊥) }
         ensures provider { self.new.provider ≡ self.old.provider }
     {
-        if variable.to_index() >= self.variables.count() || clause.to_index() >= self.queue.len() {
+        if variable.to_index() >= self.variables.count()
+            || clause.to_index() >= self.clauses.len()
+        {
             return Err(StoreError::UnknownId);
         }
         if !DecisionTracker::<D::Alloc>::level_in_range(level) {
@@ -40,6 +42,20 @@ impl<D: DependencyProvider + Drop> ClauseStore<D> {
         }
     }
 
+    /// Takes the newest assignment back.
+    pub(super) fn undo_last(&mut self) -> Result<Reply<D::Alloc>, StoreError>
+        ensures step { Step (⟦<D as AbstractStore>⟧.store self.old) UndoLast
+            (answer_of result) (⟦<D as AbstractStore>⟧.store self.new) }
+        ensures answered { IfOk result (λ reply. IsRefused (reply_of reply) → ⊥) }
+        ensures provider { self.new.provider ≡ self.old.provider }
+    {
+        if self.trail.assignments().is_empty() {
+            return Err(StoreError::EmptyTrail);
+        }
+        let last = self.trail.undo_last();
+        Ok(Reply::Undone(Some(last)))
+    }
+
     /// Takes assignments back.
     pub(super) fn undo_until(&mut self, level: u32) -> Reply<D::Alloc>
         ensures step { Step (⟦<D as AbstractStore>⟧.store self.old) (UndoUntil level)
@@ -49,5 +65,15 @@ impl<D: DependencyProvider + Drop> ClauseStore<D> {
     {
         self.trail.undo_until(level);
         Reply::Undone(None)
+    }
+
+    /// Hands out the next assignment to propagate.
+    pub(super) fn unpropagated(&mut self) -> Reply<D::Alloc>
+        ensures step { Step (⟦<D as AbstractStore>⟧.store self.old) Unpropagated
+            (reply_of result) (⟦<D as AbstractStore>⟧.store self.new) }
+        ensures answered { IsRefused (reply_of result) → ⊥ }
+        ensures provider { self.new.provider ≡ self.old.provider }
+    {
+        Reply::Next(self.trail.next_unpropagated())
     }
 }

@@ -1,8 +1,9 @@
-//! The commands that bring solvables: `Variable` and `Load`.
+//! The commands that bring variables: `Variable`, `Helper` and `Load`.
 ghost use Rattle.std.specs.Prelude.{◌≡◌, ◌∷◌, ◌++◌, [], None, true, false, map, option_map, length, take, IfOk, OnOk, OnErr, IfErr};
 ghost use Rattle.providers.specs.Provider.{knows_requirement};
 
 use crate::abstract_store::AbstractStore;
+use crate::helper_origin::{HelperOrigin, alloc_helper};
 use crate::loaded_lists::load_lists;
 use crate::reply::Reply;
 use crate::store::ClauseStore;
@@ -11,7 +12,8 @@ use typed_ids::StoreError;
 use variables::VariableLists;
 
 impl<D: DependencyProvider + Drop> ClauseStore<D> {
-    ghost use Rattle.resolvo_store.specs.Command.{Variable, Load, answer_of, LoadedAs, Refused, reply_of, IsRefused};
+    ghost use Rattle.resolvo_store.specs.Command.{Variable, Helper, Load, answer_of, LoadedAs, Refused, reply_of, IsRefused};
+    ghost use Rattle.resolvo_store.specs.Refusals.{knows_helper};
     ghost use Rattle.resolvo_store.specs.Store.{lists_of};
     ghost use Rattle.resolvo_store.specs.Step.{Step, IsAnswered, lacks_ids, may_be_refused};
     ghost use Rattle.resolvo_store.specs.Outcome.{origins_loaded, variables_loaded};
@@ -31,6 +33,34 @@ impl<D: DependencyProvider + Drop> ClauseStore<D> {
         }
         let variable = self.variables.intern_solvable(solvable)?;
         Ok(Reply::Variable(variable))
+    }
+
+    /// A new variable that stands for this.
+    pub(super) fn helper(
+        &mut self,
+        origin: HelperOrigin<D::NameId>,
+    ) -> Result<Reply<D::Alloc>, StoreError>
+        ensures step { Step (⟦<D as AbstractStore>⟧.store self.old) (Helper origin)
+            (answer_of result) (⟦<D as AbstractStore>⟧.store self.new) }
+        ensures answered { IfOk result (λ reply. IsRefused (reply_of reply) → ⊥) }
+        ensures provider { self.new.provider ≡ self.old.provider }
+    {
+        if !self.knows_helper(origin) {
+            return Err(StoreError::UnknownId);
+        }
+        let variable = alloc_helper(&mut self.variables, origin)?;
+        Ok(Reply::Variable(variable))
+    }
+
+    /// Whether the provider knows what a helper variable is to stand for.
+    fn knows_helper(&self, origin: HelperOrigin<D::NameId>) -> bool
+        ensures { result ≡ knows_helper (⟦<D as AbstractStore>⟧.store self.now) origin }
+    {
+        match origin {
+            HelperOrigin::AtLeastOne(name) => self.cache.provider().knows_name(name),
+            HelperOrigin::ConstrainsViolation(set) => self.cache.provider().knows_version_set(set),
+            HelperOrigin::RequiresGate(requirement) => self.knows_requirement(requirement),
+        }
     }
 
     /// The candidates' variables of a requirement, loaded where they aren't yet.

@@ -1,23 +1,30 @@
 //! The command that adds requires clauses.
-ghost use Rattle.std.specs.Prelude.{◌≡◌, ◌<◌, ◌-◌, ◌^◌, [], ◌∷◌, ◌++◌, length, true, false, nat_le, if◌then◌else◌, option_map, IsSome, IfOk, OnOk, OnErr, IfErr};
-ghost use Rattle.typed_ids.specs.declared.error.StoreError.TheVariants.{OutOfMemory, TooManyClauses};
+ghost use Rattle.std.specs.Prelude.{◌≡◌, ◌-◌, ◌^◌, ◌∷◌, ◌++◌, [], length, false, nat_le, ◌&&◌, is_none, is_some, unwrap_or, map, Err, IsTrue, IfOk, OnOk, OnErr, IfErr};
+ghost use Rattle.typed_ids.specs.Refusals.{IsGrowthRefusal};
+ghost use Rattle.typed_ids.specs.declared.error.StoreError.TheVariants.{IdSpace};
+ghost use Rattle.clauses.specs.Clauses.{first_watches, is_conflict};
+ghost use Rattle.clauses.specs.declared.clause.Clause.TheVariants as Kind;
+ghost use Rattle.clause_list.specs.ClauseList.{literals_watched, is_full, with_clause};
+ghost use Rattle.resolvo_store.specs.Command.{ClauseIs, reply_of};
 
 use crate::abstract_store::AbstractStore;
-use crate::conflict::is_conflict;
 use crate::reply::Reply;
 use crate::store::ClauseStore;
+use clause_list::ClauseList;
+use clauses::{Clause, WatchedLiterals};
 use providers::{DependencyProvider, Interner, Requirement};
-use typed_ids::{ClauseId, DenseIndex, DisjunctionId, StoreError, VariableId};
+use resolvo_queue::DecideQueue;
+use std::alloc::Allocator;
+use typed_ids::{DisjunctionId, StoreError, VariableId};
 
 impl<D: DependencyProvider + Drop> ClauseStore<D> {
-    ghost use Rattle.providers.specs.Provider.{knows_requirement, sets_of};
-    ghost use Rattle.resolvo_queue.specs.Rows.{rows};
-    ghost use Rattle.resolvo_store.specs.Command.{Requires, answer_of, reply_of, IsRefused};
-    ghost use Rattle.resolvo_store.specs.Store.{lists_of, values};
-    ghost use Rattle.resolvo_store.specs.Outcome.{is_conflict};
+    ghost use Rattle.providers.specs.Provider.{knows_requirement};
+    ghost use Rattle.resolvo_store.specs.Command.{Requires, answer_of, IsRefused};
+    ghost use Rattle.resolvo_store.specs.Refusals.{knows_variable};
+    ghost use Rattle.resolvo_store.specs.Store.{lists_of, values, kept_literals};
     ghost use Rattle.resolvo_store.specs.Step.{Step};
 
-    /// Adds a requires clause.
+    /// Adds a requires clause, and registers it.
     pub(super) fn requires_clause(
         &mut self,
         parent: VariableId,
@@ -29,17 +36,46 @@ impl<D: DependencyProvider + Drop> ClauseStore<D> {
         ensures answered { IfOk result (λ reply. IsRefused (reply_of reply) → ⊥) }
         ensures provider { self.new.provider ≡ self.old.provider }
     {
-        if parent.to_index() >= self.variables.count()
-            || !self.knows_requirement(requirement)
-            || disjunction.is_some()
-        {
+        if !self.knows_required(parent, requirement, &disjunction) {
             return Err(StoreError::UnknownId);
         }
-        let Some(conflict) = self.conflict(parent, requirement) else {
+        if !self.is_loaded(requirement) {
             return Err(StoreError::NotLoaded);
-        };
-        let clause = self.register(parent, requirement)?;
-        Ok(Reply::Clause(clause, conflict))
+        }
+        if self.is_queue_full() {
+            return Err(StoreError::TooManyClauses);
+        }
+        let (watches, conflict, clause) = self.clause_of(parent, requirement, disjunction);
+        register(
+            &mut self.clauses,
+            &mut self.queue,
+            parent,
+            requirement,
+            clause,
+            watches,
+            conflict,
+        )
+    }
+
+    /// Whether all that a requires clause names is known. No disjunction is kept yet.
+    fn knows_required(
+        &self,
+        parent: VariableId,
+        requirement: Requirement,
+        disjunction: &Option<DisjunctionId>,
+    ) -> bool
+        ensures { result ≡ (knows_variable (⟦<D as AbstractStore>⟧.store self.now) parent
+            && (knows_requirement (D.universe self.now.provider) requirement && is_none disjunction.now)) }
+    {
+        self.knows_variable(parent)
+            && (self.knows_requirement(requirement) && disjunction.is_none())
+    }
+
+    /// Whether as many clauses are registered as there may be.
+    fn is_queue_full(&self) -> bool
+        ensures { result ≡ nat_le (2 ^ 32 - 1) (length self.now.requires) }
+    {
+        self.queue.is_full()
     }
 
     /// Whether the provider knows the requirement's version set, or its union.
@@ -52,41 +88,73 @@ impl<D: DependencyProvider + Drop> ClauseStore<D> {
         }
     }
 
-    /// Whether a clause of this parent and requirement would be a conflict; none where the requirement isn't loaded.
-    fn conflict(&self, parent: VariableId, requirement: Requirement) -> Option<bool>
-        requires { knows_requirement (D.universe self.now.provider) requirement ≡ true }
-        ensures { result ≡ option_map (λ lists. is_conflict (values (⟦<D as AbstractStore>⟧.store self.now)) parent
-            (rows (sets_of (D.universe self.now.provider) requirement) lists)) (lists_of (⟦<D as AbstractStore>⟧.store self.now) requirement) }
+    fn is_loaded(&self, requirement: Requirement) -> bool
+        ensures { result ≡ is_some (lists_of (⟦<D as AbstractStore>⟧.store self.now) requirement) }
     {
-        let lists = self.lists(requirement)?;
-        let sets = requirement.version_sets(self.cache.provider());
-        Some(is_conflict(self.trail.map(), parent, sets.as_slice(), lists))
+        self.lists(requirement).is_some()
     }
 
-    /// Registers a clause under the next id.
-    fn register(
-        &mut self,
+    /// The candidates' variables of a requirement, no list if it isn't loaded.
+    fn candidates(&self, requirement: Requirement) -> &[Vec<VariableId, D::Alloc>]
+        ensures { map (λ l. l.items) result.now ≡ unwrap_or (lists_of (⟦<D as AbstractStore>⟧.store self.now) requirement) [] }
+    {
+        match self.lists(requirement) {
+            Some(lists) => lists.as_slice(),
+            None => &[],
+        }
+    }
+
+    /// A requires clause, with what it watches at first and whether it is a conflict.
+    fn clause_of(
+        &self,
         parent: VariableId,
         requirement: Requirement,
-    ) -> Result<ClauseId, StoreError>
-        requires known { knows_requirement (D.universe self.old.provider) requirement ≡ true }
-        requires parent { parent < length self.old.origins }
-        requires loaded { IsSome (lists_of (⟦<D as AbstractStore>⟧.store self.old) requirement) }
-        ensures clause { IfOk result (λ clause. clause ≡ length self.old.requires) }
-        ensures ok { OnOk result (self.new ≡ record self.old {
-          requires = self.old.requires ++
-              (record { parent = parent; requirement = requirement; clause_id = length self.old.requires }) ∷ [];
-        }) }
-        ensures err { OnErr result (self.new ≡ self.old) }
-        ensures refused { IfErr result (λ e. e ≡
-            (if nat_le (2 ^ 32 - 1) (length self.old.requires) then TooManyClauses else OutOfMemory)) }
-        ensures full { OnOk result (nat_le (2 ^ 32 - 1) (length self.old.requires) ≡ false) }
+        disjunction: Option<DisjunctionId>,
+    ) -> (Option<WatchedLiterals>, bool, Clause<D::NameId>)
+        ensures clause { result.2 ≡ Kind.Requires parent disjunction requirement }
+        ensures watches { let st = ⟦<D as AbstractStore>⟧.store self.now in
+            literals_watched result.0 ≡ first_watches (kept_literals st) (values st) result.2 }
+        ensures conflict { let st = ⟦<D as AbstractStore>⟧.store self.now in
+            result.1 ≡ is_conflict (kept_literals st) (values st) result.2 }
     {
-        if self.queue.is_full() {
-            return Err(StoreError::TooManyClauses);
-        }
-        let clause = ClauseId::from_index(self.queue.len());
-        self.queue.register_clause(parent, requirement, clause)?;
-        Ok(clause)
+        let lists = self.candidates(requirement);
+        WatchedLiterals::requires_of_lists(
+            parent,
+            requirement,
+            lists,
+            disjunction,
+            &[],
+            &self.trail,
+        )
     }
+}
+
+/// Adds the clause, and registers it under its id; the reply says whether it is a conflict. Where the queue has no room
+/// for it, the list gives it up.
+#[tactic(auto, using(crate::proofs::AddingLemmas::taken_back))]
+fn register<N: Copy, A: Allocator + Copy>(
+    clauses: &mut ClauseList<N, A>,
+    queue: &mut DecideQueue<A>,
+    parent: VariableId,
+    requirement: Requirement,
+    clause: Clause<N>,
+    watches: Option<WatchedLiterals>,
+    conflict: bool,
+) -> Result<Reply<A>, StoreError>
+    requires { nat_le (2 ^ 32 - 1) (length queue.old) ≡ false }
+    ensures reply { IfOk result (λ reply. reply_of reply ≡ ClauseIs (length clauses.old.clauses) conflict) }
+    ensures added { OnOk result (clauses.new ≡ with_clause clauses.old clause (literals_watched watches)) }
+    ensures registered { OnOk result (queue.new ≡ queue.old ++
+        (record { parent = parent; requirement = requirement; clause_id = length clauses.old.clauses }) ∷ []) }
+    ensures unadded { OnErr result (clauses.new ≡ clauses.old) }
+    ensures unregistered { OnErr result (queue.new ≡ queue.old) }
+    ensures refused { IfErr result (IsGrowthRefusal (is_full clauses.old)) }
+    ensures ids_out { IsTrue (is_full clauses.old) → result ≡ Err IdSpace }
+{
+    let id = clauses.add(clause, watches)?;
+    if let Err(error) = queue.register_clause(parent, requirement, id) {
+        clauses.take_back();
+        return Err(error);
+    }
+    Ok(Reply::Clause(id, conflict))
 }

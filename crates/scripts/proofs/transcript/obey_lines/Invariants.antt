@@ -1,6 +1,7 @@
 use Rattle.std.proofs.Common.{◌+◌, ◌≤◌, length}
 use Rattle.resolvo_store.specs.Store.{Store, Kept, store_of, gathered}
 use Rattle.script_text.specs.Lines.{lines as lines_of}
+use Rattle.scripts.specs.Commands.{Ids, ids_at}
 use Rattle.scripts.specs.Transcript.{HasCommand}
 use Rattle.scripts.proofs.TranscriptLemmas.{SoFar}
 use Rattle.scripts.proofs.transcript.obey_lines.Given as goal
@@ -9,12 +10,16 @@ use Rattle.scripts.proofs.transcript.obey_lines.Given as goal
 abbrev pub store : (g : goal.Over) → Kept g.row.D.Denot g.row.D-NameId.Denot g.row.D-SolvableId.Denot → Store g.row.D-NameId.Denot g.row.D-SolvableId.Denot
 store g = store_of (gathered g.D.NameId.PartialEq.eq g.D.SolvableId.PartialEq.eq g.D.NameId.Slots.IdMap.is_too_large g.D.SolvableId.Slots.IdMap.is_too_large g.D.SolvableId.Set.IdSet.is_too_large g.D.NameId.SolverId.are_many g.D.Interner.universe g.D.DependencyProvider.answers)
 
+-- what numbers stand for
+abbrev pub named : (g : goal.Over) → Ids g.row.D-NameId.Denot g.row.D-SolvableId.Denot
+named g = ids_at g.D.NameId.DenseIndex.limit g.D.NameId.DenseIndex.id_at g.D.SolvableId.DenseIndex.limit g.D.SolvableId.DenseIndex.id_at
+
 abbrev pub invariant-loop-said : goal.invariant-loop-said
 invariant-loop-said g l = record {
   fits : l.number + length l.rest ≤ l.before + length l.lines;
-  so_far : SoFar g.D.SolvableId.DenseIndex.limit g.D.SolvableId.DenseIndex.id_at (store g l.fn.store) l.before (lines_of l.lines) (g.W.Write.contents l.fn.writer) l.fn.waiting.items
+  so_far : SoFar (named g) (store g l.fn.store) l.before (lines_of l.lines) (g.W.Write.contents l.fn.writer) l.fn.waiting.items
       (store g l.store) l.number (lines_of l.rest) (g.W.Write.contents l.writer) l.waiting.items;
-  command : HasCommand g.D.SolvableId.DenseIndex.limit g.D.SolvableId.DenseIndex.id_at (lines_of l.rest) → HasCommand g.D.SolvableId.DenseIndex.limit g.D.SolvableId.DenseIndex.id_at (lines_of l.lines);
+  command : HasCommand (named g) (lines_of l.rest) → HasCommand (named g) (lines_of l.lines);
 }
 
 abbrev pub decreases-loop-said : goal.decreases-loop-said

@@ -30,22 +30,22 @@ pub invariant_of-self : goal.invariant_of-self
 invariant_of-self g c =
     let inside = c.self.inside in
     let got = c.in_err-lists.ensures.err in
-    after_variables (given g) g.D.SolvableId.Set.IdSet.has inside.variables inside.loaded inside.queue inside.trail.entries inside.cache c.load_lists.new.cache c.in_err-lists.ensures.later
+    after_variables (given g) g.D.SolvableId.Set.IdSet.has inside.variables inside.loaded inside.clauses inside.queue inside.trail inside.cache c.load_lists.new.cache c.in_err-lists.ensures.later
     c.self.invariant g.met.D.SolvableId.Eq.laws.refl (take got.0 (sorted_of (given g inside.cache.provider) c.args.requirement)) c.load_lists.new.variables got.1
 
 -- all of them have
 pub invariant_of-self-in_err-reply : goal.invariant_of-self-in_err-reply
 invariant_of-self-in_err-reply g c =
     let inside = c.self.inside in
-    after_variables (given g) g.D.SolvableId.Set.IdSet.has inside.variables inside.loaded inside.queue inside.trail.entries inside.cache c.load_lists.new.cache c.in_ok-lists.ensures.later
+    after_variables (given g) g.D.SolvableId.Set.IdSet.has inside.variables inside.loaded inside.clauses inside.queue inside.trail inside.cache c.load_lists.new.cache c.in_ok-lists.ensures.later
     c.self.invariant g.met.D.SolvableId.Eq.laws.refl (sorted_of (given g inside.cache.provider) c.args.requirement) c.load_lists.new.variables c.in_ok-lists.ensures.ok
 
 pub invariant_of-self-in_err-insert : goal.invariant_of-self-in_err-insert
 invariant_of-self-in_err-insert g c =
     let inside = c.self.inside in
     let new = c.load_lists.new.cache in
-    subst (λ kept. IsConsistent (store_with (given g) inside.queue inside.trail.entries new.provider c.load_lists.new.variables kept) kept new) (sym c.in_err-insert.ensures.err.1)
-    (after_variables (given g) g.D.SolvableId.Set.IdSet.has inside.variables inside.loaded inside.queue inside.trail.entries inside.cache new c.in_ok-lists.ensures.later
+    subst (λ kept. IsConsistent (store_with (given g) inside.clauses inside.queue inside.trail new.provider c.load_lists.new.variables kept) kept new) (sym c.in_err-insert.ensures.err.1)
+    (after_variables (given g) g.D.SolvableId.Set.IdSet.has inside.variables inside.loaded inside.clauses inside.queue inside.trail inside.cache new c.in_ok-lists.ensures.later
     c.self.invariant g.met.D.SolvableId.Eq.laws.refl (sorted_of (given g inside.cache.provider) c.args.requirement) c.load_lists.new.variables c.in_ok-lists.ensures.ok)
 
 -- and their lists are kept
@@ -55,7 +55,7 @@ invariant_of-self-2 g c =
     let r = c.args.requirement in
     let fresh : lookup (same_requirement r) (lists_kept inside.loaded) ≡ None =
     subst (λ kept. lookup (same_requirement r) kept.loaded ≡ None) (sym c.self.view_is) c.requires.new in
-    after_load (given g) g.D.SolvableId.Set.IdSet.has inside.variables inside.loaded inside.queue inside.trail.entries inside.cache c.load_lists.new.cache c.in_ok-lists.ensures.later
+    after_load (given g) g.D.SolvableId.Set.IdSet.has inside.variables inside.loaded inside.clauses inside.queue inside.trail inside.cache c.load_lists.new.cache c.in_ok-lists.ensures.later
     c.self.invariant g.met.D.SolvableId.Eq.laws.refl r (sorted_of_set (given g inside.cache.provider)) c.load_lists.new.variables c.in_ok-lists.lists c.insert.new.self
     fresh c.in_ok-lists.ensures.ok c.in_ok-lists.ensures.lists c.in_ok-lists.ensures.few c.in_ok-lists.ensures.asked c.in_ok-insert.ensures.ok
 
@@ -81,19 +81,19 @@ returns-clause-ok g c =
     ∙ ap (λ ls. lists_kept inside.loaded ++ (r, ls) ∷ []) (sym (items-cloned c.in_ok-lists.lists.items c.in_ok-reply.reply.items c.in_ok-reply.ensures.cases.0)) in
     let Made : Kept g.row.D.Denot g.row.D-NameId.Denot g.row.D-SolvableId.Denot → Type 0 = λ kept.
     ◌≡◌ {A = Kept g.row.D.Denot g.row.D-NameId.Denot g.row.D-SolvableId.Denot}
-    (record { provider = new.provider; origins = c.load_lists.new.variables; loaded = lists_kept c.insert.new.self; requires = inside.queue; trail = inside.trail.entries })
+    (record { provider = new.provider; origins = c.load_lists.new.variables; loaded = lists_kept c.insert.new.self; learnt = inside.clauses.learnt; clauses = inside.clauses.clauses; watches = inside.clauses.watches; requires = inside.queue; trail = inside.trail.entries; place = inside.trail.place })
     (record kept { origins = origins_loaded (store g kept) r; loaded = kept.loaded ++ (r, lists) ∷ [] }) in
     subst Made c.self.view_is
-    (ap (λ q. record { provider = q; origins = c.load_lists.new.variables; loaded = lists_kept c.insert.new.self; requires = inside.queue; trail = inside.trail.entries }) c.in_ok-lists.ensures.later.provider
-    ∙ ap (λ os. record { provider = inside.cache.provider; origins = os; loaded = lists_kept c.insert.new.self; requires = inside.queue; trail = inside.trail.entries }) c.in_ok-lists.ensures.ok
-    ∙ ap (λ ls. record { provider = inside.cache.provider; origins = origins_loaded (store_with (given g) inside.queue inside.trail.entries inside.cache.provider inside.variables inside.loaded) r; loaded = ls; requires = inside.queue; trail = inside.trail.entries }) loaded)
+    (ap (λ q. record { provider = q; origins = c.load_lists.new.variables; loaded = lists_kept c.insert.new.self; learnt = inside.clauses.learnt; clauses = inside.clauses.clauses; watches = inside.clauses.watches; requires = inside.queue; trail = inside.trail.entries; place = inside.trail.place }) c.in_ok-lists.ensures.later.provider
+    ∙ ap (λ os. record { provider = inside.cache.provider; origins = os; loaded = lists_kept c.insert.new.self; learnt = inside.clauses.learnt; clauses = inside.clauses.clauses; watches = inside.clauses.watches; requires = inside.queue; trail = inside.trail.entries; place = inside.trail.place }) c.in_ok-lists.ensures.ok
+    ∙ ap (λ ls. record { provider = inside.cache.provider; origins = origins_loaded (store_with (given g) inside.clauses inside.queue inside.trail inside.cache.provider inside.variables inside.loaded) r; loaded = ls; learnt = inside.clauses.learnt; clauses = inside.clauses.clauses; watches = inside.clauses.watches; requires = inside.queue; trail = inside.trail.entries; place = inside.trail.place }) loaded)
 
 pub returns-clause-fit : goal.returns-clause-fit
 returns-clause-fit g c =
     let inside = c.self.inside in
     let r = c.args.requirement in
     subst (λ kept. lacks_ids (store g kept) (Load r) ≡ false) c.self.view_is
-    (lacks_nothing (store_with (given g) inside.queue inside.trail.entries inside.cache.provider inside.variables inside.loaded) r c.in_ok-lists.ensures.names_fit
+    (lacks_nothing (store_with (given g) inside.clauses inside.queue inside.trail inside.cache.provider inside.variables inside.loaded) r c.in_ok-lists.ensures.names_fit
     c.in_ok-lists.ensures.few c.in_ok-lists.ensures.fit)
 
 pub returns-in_err-lists-clause-refused : goal.returns-in_err-lists-clause-refused
@@ -105,5 +105,5 @@ returns-in_err-lists-clause-refused g c =
     subst (λ kept. lookup (same_requirement r) kept.loaded ≡ None) (sym c.self.view_is) c.requires.new in
     handed_on _ c.from_residual.result e c.from_residual.ensures.1
     (subst (λ kept. may_be_refused (store g kept) (Load r) e ≡ true) c.self.view_is
-    (load_refused (store_with (given g) inside.queue inside.trail.entries inside.cache.provider inside.variables inside.loaded) r inside.cache c.load_lists.new.cache
+    (load_refused (store_with (given g) inside.clauses inside.queue inside.trail inside.cache.provider inside.variables inside.loaded) r inside.cache c.load_lists.new.cache
     g.met.D.NameId.SameValue.same c.self.invariant.asked fresh e c.in_err-lists.ensures.refused))

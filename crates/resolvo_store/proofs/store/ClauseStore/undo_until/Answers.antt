@@ -1,6 +1,8 @@
-use Rattle.std.proofs.Common.{ap}
-use Rattle.resolvo_store.proofs.InvariantLemmas.{after_undo}
+use Rattle.decisions.specs.Trail.{undo_until}
+use Rattle.resolvo_store.proofs.InvariantLemmas.{after_trail}
+use Rattle.resolvo_store.proofs.SoundLaws.{IsSound-kept_until}
 use Rattle.resolvo_store.proofs.store.ClauseStore.undo_until.Goals as goal
 
 pub invariant_of-self : goal.invariant_of-self
-invariant_of-self g c = after_undo c.self.invariant c.args.level (ap (λ t. t.entries) c.undo_until.ensures.kept)
+invariant_of-self g c =
+    after_trail c.self.invariant (undo_until c.args.level c.self.inside.trail) (IsSound-kept_until _ c.self.invariant.sound c.args.level) c.undo_until.ensures.kept

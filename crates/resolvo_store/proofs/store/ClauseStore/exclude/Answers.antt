@@ -1,0 +1,32 @@
+use Rattle.std.proofs.Common.{sym, subst, refl, ◌∙◌, ap, false}
+use Rattle.clauses.specs.Clauses.{first_watches, is_conflict}
+use Rattle.clause_list.specs.ClauseList.{literals_watched}
+use Rattle.resolvo_store.specs.Sound.{IsPlain}
+use Rattle.resolvo_store.specs.Command.{Exclude}
+use Rattle.resolvo_store.specs.Outcome.{adds_clause}
+use Rattle.resolvo_store.specs.Store.{Provider, store_of, gathered, kept_literals, values}
+use Rattle.resolvo_store.proofs.AddingLemmas.{step_added, first_if_known}
+use Rattle.resolvo_store.proofs.InvariantLemmas.{after_plain, store_with}
+use Rattle.resolvo_store.proofs.store.ClauseStore.exclude.Given.{Over}
+use Rattle.resolvo_store.proofs.store.ClauseStore.exclude.Goals as goal
+
+-- the provider's functions
+abbrev given : (g : Over) → g.row.D.Denot → Provider g.row.D-NameId.Denot g.row.D-SolvableId.Denot
+given g = gathered g.D.NameId.PartialEq.eq g.D.SolvableId.PartialEq.eq g.D.NameId.Slots.IdMap.is_too_large g.D.SolvableId.Slots.IdMap.is_too_large
+    g.D.SolvableId.Set.IdSet.is_too_large g.D.NameId.SolverId.are_many g.D.Interner.universe g.D.DependencyProvider.answers
+
+pub invariant_of-self : goal.invariant_of-self
+invariant_of-self g c =
+    let made = c.exclude-watches.result in
+    after_plain c.self.invariant made.1 (literals_watched made.0) c.self.inside.clauses.learnt c.add_clause.result (subst IsPlain (sym c.exclude-watches.ensures.clause) (record { unregistered = λ id. refl }))
+    c.add_clause.ensures.ok c.add_clause.ensures.err
+
+pub returns-clause-step : goal.returns-clause-step
+returns-clause-step g c =
+    let inside = c.self.inside in
+    let st = store_with (given g) inside.clauses inside.queue inside.trail inside.cache.provider inside.variables inside.loaded in
+    let made = c.exclude-watches.result in
+    step_added (given g) (Exclude c.args.variable c.args.reason) made.1 (literals_watched made.0) false c.add_clause.result c.add_clause.new.clauses c.self.view_is
+    (first_if_known (store_of (given g) c.args.self.now) _ (sym c.knows_excluded.ensures ∙ c.if-not-knows_excluded.false)) refl refl (ap (adds_clause st) c.exclude-watches.ensures.clause)
+    (ap literals_watched c.exclude-watches.ensures.watches ∙ ap (first_watches (kept_literals st) (values st)) (sym c.exclude-watches.ensures.clause)) (ap (is_conflict (kept_literals st) (values st)) (sym c.exclude-watches.ensures.clause))
+    c.add_clause.ensures.reply c.add_clause.ensures.ok c.add_clause.ensures.err c.add_clause.ensures.refused c.add_clause.ensures.ids_out

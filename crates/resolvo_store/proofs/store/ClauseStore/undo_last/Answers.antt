@@ -1,0 +1,8 @@
+use Rattle.decisions.specs.Trail.{undo_last}
+use Rattle.resolvo_store.proofs.InvariantLemmas.{after_trail}
+use Rattle.resolvo_store.proofs.SoundLaws.{IsSound-without_newest}
+use Rattle.resolvo_store.proofs.store.ClauseStore.undo_last.Goals as goal
+
+pub invariant_of-self : goal.invariant_of-self
+invariant_of-self g c =
+    after_trail c.self.invariant (undo_last c.self.inside.trail) (IsSound-without_newest _ c.self.invariant.sound) c.undo_last-last.ensures.trail

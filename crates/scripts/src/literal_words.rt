@@ -1,0 +1,52 @@
+//! Words that stand for literals.
+ghost use Rattle.std.specs.Prelude.{◌≡◌, [], IfOk, IfErr, None};
+ghost use Rattle.script_text.specs.declared.fault.LineFault.TheVariants.{Unreadable};
+ghost use Rattle.script_text.specs.Words.{words};
+ghost use Rattle.scripts.specs.Commands.{literal_of, are_literals, with_literals};
+
+use decisions::Literal;
+use script_packages::id;
+use script_text::{LineFault, next_word};
+use std::alloc::Allocator;
+
+/// The literals in the text, in turn. An unreadable word is found where there is memory for those before it.
+pub(crate) fn literals<A: Allocator>(alloc: A, text: &[u8]) -> Result<Vec<Literal, A>, LineFault>
+    ensures ok { IfOk result (λ literals. with_literals [] (words text.now) ≡ Some literals.items) }
+    ensures unreadable { IfErr result (λ e. e ≡ Unreadable → with_literals [] (words text.now) ≡ None) }
+{
+    let mut literals = Vec::new(alloc);
+    let mut rest = text;
+    while let Some((word, others)) = next_word(rest) {
+        match literal(word) {
+            Some(literal) => literals.push(literal)?,
+            None => return Err(LineFault::Unreadable),
+        }
+        rest = others;
+    }
+    Ok(literals)
+}
+
+/// Whether each word of the text stands for a literal.
+pub(crate) fn are_literals(text: &[u8]) -> bool
+    ensures { result ≡ are_literals (words text.now) }
+{
+    let mut rest = text;
+    while let Some((word, others)) = next_word(rest) {
+        if literal(word).is_none() {
+            return false;
+        }
+        rest = others;
+    }
+    true
+}
+
+/// A literal: `+` or `-`, and the number of its variable directly after it.
+fn literal(word: &[u8]) -> Option<Literal>
+    ensures { result ≡ literal_of word.now }
+{
+    match word {
+        [b'+', variable @ ..] => Some(Literal::new(id(variable)?, false)),
+        [b'-', variable @ ..] => Some(Literal::new(id(variable)?, true)),
+        _ => None,
+    }
+}

@@ -1,0 +1,50 @@
+//! Callers that read what they have added: clauses by their literals, and helper variables by what they stand for.
+ghost use Rattle.std.specs.Prelude.{◌≡◌, ◌<◌, ℕ, Bool, [], ◌∷◌, length, Some, IsSome, IfOk, IfSome};
+ghost use Rattle.decisions.specs.Literals.{Neg};
+ghost use Rattle.resolvo_store.specs.Command.{reply_of, ClauseIs};
+ghost use Rattle.resolvo_store.specs.Outcome.{helper_origin};
+
+use decisions::Literal;
+use providers::{DependencyProvider, Interner};
+use resolvo_store::{AbstractStore, ClauseStore, Command, HelperOrigin, Reply};
+use typed_ids::{StoreError, StringId, VariableId};
+use variables::VariableOrigin;
+
+/// A clause that is added gets the next id, and is known from then on: its id is a place in the list of clauses.
+pub fn add<D: DependencyProvider + Drop>(
+    store: &mut ClauseStore<D>,
+    command: &Command<D::NameId, D::SolvableId, D::Alloc>,
+) -> Reply<D::Alloc>
+    ensures next { (clause : ℕ) (conflict : Bool) → reply_of result ≡ ClauseIs clause conflict → clause ≡ length (⟦<D as AbstractStore>⟧.store store.old).clauses }
+    ensures known { (clause : ℕ) (conflict : Bool) → reply_of result ≡ ClauseIs clause conflict → clause < length (⟦<D as AbstractStore>⟧.store store.new).clauses }
+{
+    store.step(command)
+}
+
+/// The literals of the clause that excludes a solvable: it isn't true.
+pub fn exclude<D: DependencyProvider + Drop>(
+    store: &mut ClauseStore<D>,
+    variable: VariableId,
+    reason: StringId,
+) -> Result<Option<Vec<Literal, D::Alloc>>, StoreError>
+    ensures known { IfOk result (λ found. IsSome found) }
+    ensures literals { IfOk result (λ found. IfSome found (λ literals. literals.items ≡ Neg variable ∷ [])) }
+{
+    match store.obey(&Command::Exclude(variable, reason))? {
+        Reply::Clause(clause, _) => store.literals(clause),
+        _ => unreachable!(),
+    }
+}
+
+/// What a new helper variable stands for: what it was asked to.
+pub fn stands_for<D: DependencyProvider + Drop>(
+    store: &mut ClauseStore<D>,
+    origin: HelperOrigin<D::NameId>,
+) -> Result<Option<VariableOrigin<D::NameId, D::SolvableId>>, StoreError>
+    ensures { IfOk result (λ found. found ≡ Some (helper_origin origin)) }
+{
+    match store.obey(&Command::Helper(origin))? {
+        Reply::Variable(variable) => Ok(store.origin(variable)),
+        _ => unreachable!(),
+    }
+}

@@ -1,0 +1,155 @@
+//! Commands that are given, in plain numbers, and what makes commands of them. They own nothing, so that a list of them is
+//! a constant.
+use crate::script::{Step, clause, variable};
+use decisions::Literal;
+use providers::Requirement;
+use resolvo_store::{Command, HelperOrigin};
+use std::alloc::Allocator;
+use typed_ids::{DenseIndex, DisjunctionId, StoreError, StringId, VersionSetId};
+
+/// A command that is given. Variables and clauses are told by their places.
+#[derive(Clone, Copy)]
+pub(crate) enum Given {
+    /// The variable of the first solvable, of the second or of the third.
+    Variable(u16),
+    Helper(Helper),
+    Load(Requirement),
+    /// A clause that is added.
+    Add(Kind),
+    Assign(u16, bool, u16, u32),
+    UndoLast,
+    UndoUntil(u32),
+    Unpropagated,
+    Decide,
+}
+
+/// What a helper variable stands for.
+#[derive(Clone, Copy)]
+pub(crate) enum Helper {
+    /// Some solvable of package 0.
+    AtLeastOne,
+    ConstrainsViolation(u32),
+    RequiresGate(Requirement),
+}
+
+/// A clause that is added.
+#[derive(Clone, Copy)]
+pub(crate) enum Kind {
+    Requires(u16, Requirement),
+    /// The same under a disjunction.
+    RequiresUnder(u16, Requirement, u16),
+    Root,
+    Constrains(u16, u16, u32),
+    ConstrainsExcluded(u16, u16, u32),
+    ConstrainsParent(u16, u16, u32),
+    Lock(u16, u16),
+    Exclude(u16, u32),
+    AnyOf(u16, u16),
+    Learnt(&'static [GivenLiteral]),
+}
+
+/// A variable, and whether it is negated.
+pub(crate) type GivenLiteral = (u16, bool);
+
+/// The ids of package 0 and of three solvables.
+#[derive(Clone, Copy)]
+pub(crate) struct Known<N, S> {
+    pub(crate) name: N,
+    pub(crate) solvables: [S; 3],
+}
+
+/// The commands of these steps, in order.
+pub(crate) fn commands_of<N: Copy, S: Copy, A: Allocator + Copy>(
+    alloc: A,
+    known: Known<N, S>,
+    steps: &[Step],
+) -> Result<Vec<Command<N, S, A>, A>, StoreError> {
+    let mut commands = Vec::new(alloc);
+    for (given, _) in steps {
+        commands.push(command_of(alloc, known, *given)?)?;
+    }
+    Ok(commands)
+}
+
+fn command_of<N: Copy, S: Copy, A: Allocator + Copy>(
+    alloc: A,
+    known: Known<N, S>,
+    given: Given,
+) -> Result<Command<N, S, A>, StoreError> {
+    match given {
+        Given::Variable(place) => Ok(Command::Variable(solvable_at(known.solvables, place))),
+        Given::Helper(helper) => Ok(Command::Helper(helper_of(known.name, helper))),
+        Given::Load(requirement) => Ok(Command::Load(requirement)),
+        Given::Add(given) => added(alloc, given),
+        Given::Assign(place, value, reason, level) => Ok(Command::Assign(
+            variable(place),
+            value,
+            clause(reason),
+            level,
+        )),
+        Given::UndoLast => Ok(Command::UndoLast),
+        Given::UndoUntil(level) => Ok(Command::UndoUntil(level)),
+        Given::Unpropagated => Ok(Command::Unpropagated),
+        Given::Decide => Ok(Command::Decide),
+    }
+}
+
+fn solvable_at<S: Copy>(solvables: [S; 3], place: u16) -> S {
+    let [first, second, third] = solvables;
+    match place {
+        0 => first,
+        1 => second,
+        _ => third,
+    }
+}
+
+fn helper_of<N: Copy>(name: N, helper: Helper) -> HelperOrigin<N> {
+    match helper {
+        Helper::AtLeastOne => HelperOrigin::AtLeastOne(name),
+        Helper::ConstrainsViolation(set) => { HelperOrigin::ConstrainsViolation(VersionSetId(set)) }
+        Helper::RequiresGate(requirement) => HelperOrigin::RequiresGate(requirement),
+    }
+}
+
+/// The command that adds the clause.
+fn added<N, S, A: Allocator + Copy>(alloc: A, given: Kind) -> Result<Command<N, S, A>, StoreError> {
+    let command = match given {
+        Kind::Requires(parent, requirement) => {
+            Command::Requires(variable(parent), requirement, None)
+        }
+        Kind::RequiresUnder(parent, requirement, place) => {
+            let disjunction = DisjunctionId::from_index(place as usize);
+            Command::Requires(variable(parent), requirement, Some(disjunction))
+        }
+        Kind::Root => Command::Root,
+        Kind::Constrains(parent, forbidden, set) => {
+            Command::Constrains(variable(parent), variable(forbidden), VersionSetId(set))
+        }
+        Kind::ConstrainsExcluded(candidate, aux, set) => {
+            Command::ConstrainsExcluded(variable(candidate), variable(aux), VersionSetId(set))
+        }
+        Kind::ConstrainsParent(parent, aux, set) => {
+            Command::ConstrainsParent(variable(parent), variable(aux), VersionSetId(set))
+        }
+        Kind::Lock(locked, other) => Command::Lock(variable(locked), variable(other)),
+        Kind::Exclude(place, reason) => Command::Exclude(variable(place), StringId(reason)),
+        Kind::AnyOf(selected, other) => Command::AnyOf(variable(selected), variable(other)),
+        Kind::Learnt(literals) => Command::Learnt(literals_of(alloc, literals)?),
+    };
+    Ok(command)
+}
+
+fn literals_of<A: Allocator>(
+    alloc: A,
+    given: &[GivenLiteral],
+) -> Result<Vec<Literal, A>, StoreError> {
+    let mut literals = Vec::new(alloc);
+    for literal in given {
+        literals.push(literal_of(*literal))?;
+    }
+    Ok(literals)
+}
+
+pub(crate) fn literal_of((place, is_negated): GivenLiteral) -> Literal {
+    Literal::new(variable(place), is_negated)
+}
