@@ -7,6 +7,7 @@ use crate::examples::{
 use crate::obeys::Seen;
 use crate::played::{dense_gives, dense_run_gives};
 use asking_providers::Stops;
+use resolvo_store::Command;
 use std::test::Fail;
 use typed_ids::{SolvableId, StoreError};
 
@@ -41,14 +42,19 @@ fn a_package_that_was_asked_for_is_not_stopped(rt: HostRuntime) -> Result<(), Fa
 // The commands after a refused one are obeyed.
 #[test]
 fn a_run_goes_on_after_a_stopped_load(rt: HostRuntime) -> Result<(), Fail> {
-    let loads = [single(0), single(2), single(1), union(0)];
+    let commands = [
+        Command::Load(single(0)),
+        Command::Load(single(2)),
+        Command::Load(single(1)),
+        Command::Load(union(0)),
+    ];
     let wanted = [
         Seen::Loaded(1, [two(1, 2), NONE]),
         Seen::Refused(StoreError::Cancelled),
         Seen::Loaded(1, [two(3, 1), NONE]),
         Seen::Refused(StoreError::Cancelled),
     ];
-    dense_run_gives(&rt, Stops::AfterFirst, loads, &wanted, counts(1, 3))
+    dense_run_gives(&rt, Stops::AfterFirst, &commands, &wanted, counts(1, 3))
 }
 
 // The provider hands over 0 at the first question, and 2 at the third.
