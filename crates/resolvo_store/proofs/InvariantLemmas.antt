@@ -15,6 +15,7 @@ use Rattle.variables.specs.Variables.{with_variables, interned_variable}
 use Rattle.decisions.specs.Trail.{Entry, Trail, val, pushed, AddsEntry}
 use Rattle.decisions.specs.declared.decision_tracker.AddFault.{AddFault}
 use Rattle.decisions.specs.Literals.{Lit}
+use Rattle.clauses.specs.ClauseTexts.{IsKnownClause}
 use Rattle.clauses.specs.declared.clause.Clause.{Clause}
 use Rattle.clauses.specs.declared.clause.Clause.TheVariants as Kind
 use Rattle.clause_list.specs.ClauseList.{Clauses}
@@ -26,6 +27,7 @@ use Rattle.resolvo_store.proofs.ListLemmas.{items_of, insert-kept, few-more, len
 use Rattle.solver_cache.specs.Cache.{Cache, is_set_asked}
 use Rattle.solver_cache.specs.Questions.{IsLater}
 use Rattle.solver_cache.proofs.CacheLemmas.{asked_later}
+use Rattle.resolvo_store.proofs.KnownLemmas.{IsKnownSolvable, IsLawful}
 use Rattle.resolvo_store.proofs.SoundLaws.{IsSound-pushed, IsSound-plain, IsSound-requires, IsSound-with_variables, IsSound-interned}
 
 -- what comes of success, or of failure
@@ -82,16 +84,18 @@ module _ {D N S A H : Type 0} {st : Store N S} {loaded : List (Requirement × Ve
   with_clauses cs = record st { clauses = cs.clauses; watches = cs.watches; learnt = cs.learnt }
 
   -- after a clause was to be added that isn't registered
-  pub after_plain : {T E : Type 0} (c : Clause N) (watch : Option (List Lit)) (learnt : List (List Lit)) {cs : Clauses N} (result : Result T E) → IsPlain c
+  pub after_plain : {T E : Type 0} (c kind : Clause N) (watch : Option (List Lit)) (learnt : List (List Lit)) {cs : Clauses N} (result : Result T E)
+      → c ≡ kind → IsKnownClause st.provider.universe st.origins kind → IsPlain kind
       → OnOk result (cs ≡ record { clauses = st.clauses ++ c ∷ []; watches = st.watches ++ watch ∷ []; learnt = learnt })
       → OnErr result (cs ≡ record { clauses = st.clauses; watches = st.watches; learnt = st.learnt })
       → IsConsistent (with_clauses cs) loaded cache
-  after_plain c watch learnt {cs} result plain ok err = record {
+  after_plain c kind watch learnt {cs} result same_kind known plain ok err = record {
     few = is.few;
     known = is.known;
     asked = is.asked;
     sound = elim (either result ok err) [
-      | inl more ↦ subst (λ ds. IsSound (with_clauses ds)) (sym more) (IsSound-plain st is.sound c watch learnt plain)
+      | inl more ↦ subst (λ ds. IsSound (with_clauses ds)) (sym more) (subst (λ d. IsSound (record st { clauses = st.clauses ++ d ∷ []; watches = st.watches ++ watch ∷ []; learnt = learnt })) (sym same_kind)
+          (IsSound-plain st is.sound kind watch learnt known plain))
       | inr same ↦ subst (λ ds. IsSound (with_clauses ds)) (sym same) is.sound
     ];
   }
@@ -114,7 +118,7 @@ module _ {D N S A H : Type 0} {st : Store N S} {loaded : List (Requirement × Ve
       (subst (λ rs. IsConsistent (record st { clauses = st.clauses ++ Kind.Requires parent disjunction r ∷ []; watches = st.watches ++ watch ∷ []; requires = rs }) loaded cache) (sym registered) (record {
         few = is.few;
         known = All-push (λ d. knows_requirement st.provider.universe d.requirement ≡ true) st.requires (record { parent = parent; requirement = r; clause_id = length st.clauses }) is.known known;
-        sound = IsSound-requires st is.sound parent disjunction r watch variable found;
+        sound = IsSound-requires st is.sound parent disjunction r watch known variable found;
         asked = is.asked;
       }))
 
@@ -156,19 +160,20 @@ module _ {D N S A H : Type 0} (provided : D → Provider N S) (has : H → S →
   abbrev with_all : D → List (VariableOrigin N S) → List (Requirement × Vec (Vec ℕ A) A) → Store N S
   with_all = store_with provided clauses requires trail
 
-  module _ (is : IsConsistent (with_all old.provider origins loaded) loaded old) (reflexive : (x : S) → same_solvable x x ≡ true) where
+  module _ (is : IsConsistent (with_all old.provider origins loaded) loaded old) (lawful : IsLawful (provided old.provider)) where
     -- after solvables got variables, or the first so many of them did
-    pub after_variables : (ss : List S) (os : List (VariableOrigin N S)) → os ≡ with_variables same_solvable origins ss
-        → IsConsistent (with_all new.provider os loaded) loaded new
-    after_variables ss os got = subst (λ q. IsConsistent (with_all q os loaded) loaded new) (sym later.provider) (record {
+    pub after_variables : (ss : List S) (os : List (VariableOrigin N S)) → All (IsKnownSolvable (provided old.provider).universe) ss
+        → os ≡ with_variables same_solvable origins ss → IsConsistent (with_all new.provider os loaded) loaded new
+    after_variables ss os known got = subst (λ q. IsConsistent (with_all q os loaded) loaded new) (sym later.provider) (record {
       few = is.few;
       known = is.known;
-      sound = subst (λ vs. IsSound (with_all old.provider vs loaded)) (sym got) (IsSound-with_variables (with_all old.provider origins loaded) is.sound reflexive ss);
+      sound = subst (λ vs. IsSound (with_all old.provider vs loaded)) (sym got) (IsSound-with_variables (with_all old.provider origins loaded) is.sound lawful ss known);
       asked = λ k d lt i v below. asked_later has (provided old.provider) _ old new later (is.asked k d lt i v below);
     })
 
     -- after the candidates of a requirement got variables, and these were kept
     pub after_load : (r : Requirement) (best : VersionSetId → List S) (os : List (VariableOrigin N S)) (lists : Vec (Vec ℕ A) A) (kept : List (Requirement × Vec (Vec ℕ A) A))
+        → All (IsKnownSolvable (provided old.provider).universe) (flat_map best (sets_of (provided old.provider).universe r))
         → lookup (same_requirement r) (lists_kept loaded) ≡ None
         → os ≡ with_variables same_solvable origins (flat_map best (sets_of (provided old.provider).universe r))
         → map (λ l. l.items) lists.items ≡ map (λ v. map (interned_variable same_solvable os) (best v)) (sets_of (provided old.provider).universe r)
@@ -176,7 +181,7 @@ module _ {D N S A H : Type 0} (provided : D → Provider N S) (has : H → S →
         → All (λ v. is_set_asked (provided old.provider) new v ≡ true) (sets_of (provided old.provider).universe r)
         → kept ≡ with_entry loaded r lists
         → IsConsistent (with_all new.provider os kept) kept new
-    after_load r best os lists kept fresh got made few asked keeps =
+    after_load r best os lists kept solvables fresh got made few asked keeps =
         let sets = sets_of (provided old.provider).universe r in
         let st = with_all old.provider origins loaded in
         let own : List (VariableOrigin N S) → List (List ℕ) = λ vs. map (λ v. map (interned_variable same_solvable vs) (best v)) sets in
@@ -187,7 +192,7 @@ module _ {D N S A H : Type 0} (provided : D → Provider N S) (has : H → S →
         ∙ length-mapped best (interned_variable same_solvable os) sets in
         let sound : IsSound (record st { origins = os; loaded = lists_kept loaded ++ (r, own os) ∷ [] }) =
         subst (λ vs. IsSound (record st { origins = vs; loaded = lists_kept loaded ++ (r, own vs) ∷ [] })) (sym got)
-        (IsSound-interned st is.sound reflexive r best sets fresh refl) in
+        (IsSound-interned st is.sound lawful r best sets solvables fresh refl) in
         subst (λ ks. IsConsistent (with_all new.provider os ks) ks new) (sym keeps)
         (subst (λ q. IsConsistent (with_all q os (with_entry loaded r lists)) (with_entry loaded r lists) new) (sym later.provider) (record {
           few = few-more loaded r lists is.few (rw rows few);

@@ -1,7 +1,9 @@
 pub mod AddingLemmas
 pub mod CallerLaws
 pub mod InvariantLemmas
+pub mod KnownLemmas
 pub mod ListLemmas
 pub mod LoadingLemmas
 pub mod RunLemmas
 pub mod SoundLaws
+pub mod SoundSteps

@@ -1,8 +1,8 @@
--- What is true of a store stays true: a new store is sound, and steps and runs lead from sound stores to sound ones.
-use Rattle.std.proofs.Common.{◌≡◌, ℕ, ◌+◌, ◌<◌, ◌≤◌, Bool, true, false, cond, List, [], ◌∷◌, ◌++◌, length, length-append, map, Option, None, Some, IsSome, refl, arith, sym, ◌∙◌, ap, subst, zero, suc, ◌⊎◌, inl, inr}
-use Rattle.std.specs.Prelude.{◌^◌, ◌-◌, min, ◌==◌, nat_lt, ⊤, take, slice_get, All, is_some, is_none, unwrap_or, find, option_map, flat_map, MatchOption, ◌||◌}
+-- What is true of a store stays true where it has more in it, or less.
+use Rattle.std.proofs.Common.{◌≡◌, ℕ, ◌+◌, ◌<◌, ◌≤◌, Bool, true, false, cond, List, [], ◌∷◌, ◌++◌, length, length-append, map, Option, None, Some, IsSome, refl, arith, sym, ◌∙◌, ap, subst, zero, suc}
+use Rattle.std.specs.Prelude.{◌-◌, min, ◌==◌, nat_lt, take, slice_get, All, is_some, unwrap_or, flat_map, ◌||◌}
 use Rattle.std.specs.Cmp.{IsEquivalence}
-use Rattle.std.specs.List.{IsDistinct, list_any, list_all}
+use Rattle.std.specs.List.{list_any, list_all}
 use Rattle.std.specs.Map.{lookup}
 use Rattle.std.proofs.lemmas.Bool.Decides.{nat_tests}
 use Rattle.std.proofs.lemmas.Bool.{eqb-true}
@@ -10,11 +10,10 @@ use Rattle.std.proofs.lemmas.List.{length-map, map-append, append-nil}
 use Rattle.std.proofs.lemmas.List.Elements.{All-nil, All-cons, All-head, All-tail, All-push, All-take, All-append, All-weaker, All-map}
 use Rattle.std.proofs.lemmas.Option.{slice_get_within}
 use Rattle.std.proofs.lemmas.Map.Keys.{IsDistinct-push}
-use Rattle.typed_ids.specs.declared.error.StoreError.{StoreError}
 use Rattle.providers.specs.declared.requirement.Requirement.{Requirement}
 use Rattle.providers.specs.declared.requirement.Requirement.TheVariants.{Single, Union}
 use Rattle.providers.specs.Requirement.{same_requirement}
-use Rattle.providers.specs.Provider.{sets_of}
+use Rattle.providers.specs.Provider.{knows_requirement, sets_of}
 use Rattle.variables.specs.declared.variable_origin.VariableOrigin.{VariableOrigin}
 use Rattle.variables.specs.declared.variable_origin.VariableOrigin.TheVariants.{Solvable}
 use Rattle.variables.specs.Variables.{IsRootFirst, is_solvable, variable_of_solvable, interned_variable, with_variable, with_variables}
@@ -27,14 +26,14 @@ use Rattle.resolvo_store.specs.declared.helper_origin.HelperOrigin.{HelperOrigin
 use Rattle.resolvo_store.specs.declared.helper_origin.HelperOrigin.TheVariants as Helps
 use Rattle.decisions.specs.Literals.{Lit}
 use Rattle.clauses.specs.Clauses.{first_watches}
+use Rattle.clauses.specs.ClauseTexts.{IsKnownClause}
 use Rattle.clauses.specs.declared.clause.Clause.{Clause}
 use Rattle.clauses.specs.declared.clause.Clause.TheVariants as Kind
-use Rattle.resolvo_store.specs.Command.{Command, Variable, Helper, Load, Requires, Root, Constrains, ConstrainsExcluded, ConstrainsParent, Lock, Exclude, AnyOf, Learnt, Assign, UndoLast, UndoUntil, Unpropagated, Decide, Reply, Refused}
-use Rattle.resolvo_store.specs.Store.{Store, Provider, new_store, values, lists_of, kept_literals, candidates_of}
-use Rattle.resolvo_store.specs.Refusals.{refusals, first_refusal}
-use Rattle.resolvo_store.specs.Outcome.{outcome, assigned, load, without_newest, helper_origin, cut_back, hands_next, adds_clause, with_learnt}
-use Rattle.resolvo_store.specs.Step.{IsAnswered, Step, Run}
-use Rattle.resolvo_store.specs.Sound.{IsSound, IsPlain, requires_from, IsVariable, IsLoaded, IsRegistered, IsAssigned, HasOneVariableEach}
+use Rattle.resolvo_store.specs.Store.{Store, values, lists_of, kept_literals}
+use Rattle.resolvo_store.specs.Refusals.{knows_helper}
+use Rattle.resolvo_store.specs.Outcome.{assigned, without_newest, helper_origin, cut_back, hands_next, adds_clause}
+use Rattle.resolvo_store.specs.Sound.{IsSound, IsPlain, requires_from, IsVariable, IsLoaded, IsRegistered, IsAssigned}
+use Rattle.resolvo_store.proofs.KnownLemmas.{IsKnownOrigin, IsKnownSolvable, IsLawful, variable_known, clause_kept, known-with_variables}
 
 -- ---- lists
 
@@ -109,10 +108,6 @@ requires_from-push id last [] c e = ap (λ n. requires_from n (c ∷ [])) (let s
 requires_from-push id last (Kind.Requires parent disjunction r ∷ cs) c e =
     ap (λ rs. record { parent = parent; requirement = r; clause_id = id } ∷ rs) (requires_from-push (id + 1) last cs c (omega (arith, e)))
 requires_from-push id last (d ∷ cs) c e = requires_from-push (id + 1) last cs c (omega (arith, e))
-
-none_loaded : IsDistinct same_requirement []
-unfolding IsDistinct
-none_loaded = tt
 
 -- ---- variables
 
@@ -212,40 +207,21 @@ IsOnce-take zero es once = tt
 IsOnce-take (suc n) [] once = tt
 IsOnce-take (suc n) (e ∷ es) once = (val-take n es e.decision.variable once.0, IsOnce-take n es once.1)
 
--- ---- refusals
-
--- no test of a refusal holds
-abbrev NoneApplies : List (Bool × StoreError) → Type 0
-NoneApplies [] = ⊤
-NoneApplies (r ∷ rs) = (r.0 ≡ false) × NoneApplies rs
-
-none_applies : (rs : List (Bool × StoreError)) → option_map (λ (r : Bool × StoreError). r.1) (find (λ (r : Bool × StoreError). r.0) rs) ≡ None → NoneApplies rs
-none_applies [] none = tt
-none_applies (r ∷ rs) none =
-    let split = by_test r.0 (find (λ (x : Bool × StoreError). x.0) rs) none in
-    (split.0, none_applies rs split.1)
-  where
-    by_test : (b : Bool) (o : Option (Bool × StoreError)) → option_map (λ (x : Bool × StoreError). x.1) (cond b (Some r) o) ≡ None
-        → (b ≡ false) × (option_map (λ (x : Bool × StoreError). x.1) o ≡ None)
-    by_test true o h = cc
-    by_test false o h = (refl, h)
-
-is_there : {X : Type 0} (o : Option X) → is_none o ≡ false → IsSome o
-is_there None h = let no : true ≡ false = h in cc
-is_there (Some x) h = refl
-
 -- ---- a store with more in it, or less
 
 module _ {N S : Type 0} (st : Store N S) (sound : IsSound st) where
   -- more variables
   pub IsSound-origins : (os : List (VariableOrigin N S)) → length st.origins ≤ length os → AreVariables st.provider.same_solvable os
-      → IsSound (record st { origins = os })
-  IsSound-origins os longer are =
+      → All (IsKnownOrigin st.provider.universe) os → IsSound (record st { origins = os })
+  IsSound-origins os longer are known =
       let new : Store N S = record st { origins = os } in
       let more : (v : ℕ) → IsVariable st v → IsVariable new v = λ v k. omega (arith, k, longer) in
       record {
         root_first = are.root_first;
+        origins_known = known;
         one_variable_each = are.one_each;
+        clauses_known = All-weaker (IsKnownClause st.provider.universe st.origins) (IsKnownClause st.provider.universe os)
+            (clause_kept st.provider.universe st.origins os longer known) st.clauses sound.clauses_known;
         loaded_once = sound.loaded_once;
         loaded = All-weaker (IsLoaded st) (IsLoaded new) (λ e k. record {
           one_a_set = k.one_a_set;
@@ -267,6 +243,8 @@ module _ {N S : Type 0} (st : Store N S) (sound : IsSound st) where
       let same : (e : Requirement × List (List ℕ)) → IsLoaded st e → IsLoaded new e = λ e k. record { one_a_set = k.one_a_set; variables = k.variables } in
       record {
         root_first = sound.root_first;
+        origins_known = sound.origins_known;
+        clauses_known = sound.clauses_known;
         one_variable_each = sound.one_variable_each;
         loaded_once = rw map-append (IsDistinct-push same_requirement-equivalence (map (λ e. e.0) st.loaded) r sound.loaded_once (not_among r st.loaded fresh));
         loaded = All-push (IsLoaded new) st.loaded (r, lists) (All-weaker (IsLoaded st) (IsLoaded new) same st.loaded sound.loaded) (same (r, lists) is);
@@ -281,13 +259,15 @@ module _ {N S : Type 0} (st : Store N S) (sound : IsSound st) where
 
   -- one clause more, with what it watches: registered, if it is a requires clause
   pub IsSound-clause : (c : Clause N) (watch : Option (List Lit)) (learnt : List (List Lit)) (more : List RequiresClause)
-      → more ≡ requires_from (length st.clauses) (c ∷ []) → All (IsRegistered st) more
+      → IsKnownClause st.provider.universe st.origins c → more ≡ requires_from (length st.clauses) (c ∷ []) → All (IsRegistered st) more
       → IsSound (record st { clauses = st.clauses ++ c ∷ []; watches = st.watches ++ watch ∷ []; learnt = learnt; requires = st.requires ++ more })
-  IsSound-clause c watch learnt more are all =
+  IsSound-clause c watch learnt more known are all =
       let new : Store N S = record st { clauses = st.clauses ++ c ∷ []; watches = st.watches ++ watch ∷ []; learnt = learnt; requires = st.requires ++ more } in
       let same : (d : RequiresClause) → IsRegistered st d → IsRegistered new d = λ d k. record { parent = k.parent; loaded = k.loaded } in
       record {
         root_first = sound.root_first;
+        origins_known = sound.origins_known;
+        clauses_known = All-push (IsKnownClause st.provider.universe st.origins) st.clauses c sound.clauses_known known;
         one_variable_each = sound.one_variable_each;
         loaded_once = sound.loaded_once;
         loaded = All-weaker (IsLoaded st) (IsLoaded new) (λ e k. record { one_a_set = k.one_a_set; variables = k.variables }) st.loaded sound.loaded;
@@ -302,22 +282,28 @@ module _ {N S : Type 0} (st : Store N S) (sound : IsSound st) where
       }
 
   -- one that isn't
-  pub IsSound-plain : (c : Clause N) (watch : Option (List Lit)) (learnt : List (List Lit)) → IsPlain c
+  pub IsSound-plain : (c : Clause N) (watch : Option (List Lit)) (learnt : List (List Lit)) → IsKnownClause st.provider.universe st.origins c → IsPlain c
       → IsSound (record st { clauses = st.clauses ++ c ∷ []; watches = st.watches ++ watch ∷ []; learnt = learnt })
-  IsSound-plain c watch learnt plain =
+  IsSound-plain c watch learnt known plain =
       subst (λ rs. IsSound (record st { clauses = st.clauses ++ c ∷ []; watches = st.watches ++ watch ∷ []; learnt = learnt; requires = rs })) (append-nil st.requires)
-      (IsSound-clause c watch learnt [] (sym (plain.unregistered (length st.clauses))) (All-nil (IsRegistered st)))
+      (IsSound-clause c watch learnt [] known (sym (plain.unregistered (length st.clauses))) (All-nil (IsRegistered st)))
 
   -- one that is
-  pub IsSound-requires : (parent : ℕ) (disjunction : Option ℕ) (r : Requirement) (watch : Option (List Lit)) → IsVariable st parent → IsSome (lists_of st r)
+  pub IsSound-requires : (parent : ℕ) (disjunction : Option ℕ) (r : Requirement) (watch : Option (List Lit)) → knows_requirement st.provider.universe r ≡ true
+      → IsVariable st parent → IsSome (lists_of st r)
       → IsSound (record st {
         clauses = st.clauses ++ Kind.Requires parent disjunction r ∷ [];
         watches = st.watches ++ watch ∷ [];
         requires = st.requires ++ record { parent = parent; requirement = r; clause_id = length st.clauses } ∷ [];
       })
-  IsSound-requires parent disjunction r watch known found =
-      IsSound-clause (Kind.Requires parent disjunction r) watch st.learnt (record { parent = parent; requirement = r; clause_id = length st.clauses } ∷ []) refl
+  IsSound-requires parent disjunction r watch requirement known found =
+      IsSound-clause (Kind.Requires parent disjunction r) watch st.learnt (record { parent = parent; requirement = r; clause_id = length st.clauses } ∷ [])
+      (variable_known st.provider.universe st.origins sound.origins_known parent known, requirement) refl
       (All-cons (IsRegistered st) (record { parent = parent; requirement = r; clause_id = length st.clauses }) [] (record { parent = known; loaded = found }) (All-nil (IsRegistered st)))
+
+  -- with what it watches at first
+  pub IsSound-added : (c : Clause N) → IsKnownClause st.provider.universe st.origins c → IsPlain c → IsSound (adds_clause st c).store
+  IsSound-added c known plain = IsSound-plain c (first_watches (kept_literals st) (values st) c) st.learnt known plain
 
   -- another trail, and a place within it
   pub IsSound-trail : (es : List Entry) (place : ℕ) → IsTrail es → All (IsAssigned st) es → place ≤ length es
@@ -326,6 +312,8 @@ module _ {N S : Type 0} (st : Store N S) (sound : IsSound st) where
       let new : Store N S = record st { trail = es; place = place } in
       record {
         root_first = sound.root_first;
+        origins_known = sound.origins_known;
+        clauses_known = sound.clauses_known;
         one_variable_each = sound.one_variable_each;
         loaded_once = sound.loaded_once;
         loaded = All-weaker (IsLoaded st) (IsLoaded new) (λ e k. record { one_a_set = k.one_a_set; variables = k.variables }) st.loaded sound.loaded;
@@ -388,8 +376,8 @@ module _ {N S : Type 0} (st : Store N S) (sound : IsSound st) where
       by_entry (Some e) h = h
 
   -- one helper variable more
-  pub IsSound-helper : (origin : HelperOrigin N) → IsSound (record st { origins = st.origins ++ helper_origin origin ∷ [] })
-  IsSound-helper origin =
+  pub IsSound-helper : (origin : HelperOrigin N) → knows_helper st origin ≡ true → IsSound (record st { origins = st.origins ++ helper_origin origin ∷ [] })
+  IsSound-helper origin known =
       let same = st.provider.same_solvable in
       IsSound-origins (st.origins ++ helper_origin origin ∷ []) (omega (arith, length-append st.origins (helper_origin origin ∷ []))) (record {
         root_first = root-append st.origins (helper_origin origin) sound.root_first;
@@ -398,153 +386,49 @@ module _ {N S : Type 0} (st : Store N S) (sound : IsSound st) where
             (λ k. variable-kept same t (helper_origin origin) v st.origins (sound.one_variable_each v t k))
             (λ k l. absurd (no_solvable origin t l));
       })
+      (All-push (IsKnownOrigin st.provider.universe) st.origins (helper_origin origin) sound.origins_known (known_origin origin known))
     where
       no_solvable : (o : HelperOrigin N) (t : S) → ◌≡◌ {A = VariableOrigin N S} (helper_origin o) (Solvable t) → ⊥
       no_solvable (Helps.AtLeastOne n) t e = cc
       no_solvable (Helps.ConstrainsViolation v) t e = cc
       no_solvable (Helps.RequiresGate r) t e = cc
 
-module _ {N S : Type 0} (st : Store N S) (sound : IsSound st) (reflexive : (s : S) → st.provider.same_solvable s s ≡ true) where
+      known_origin : (o : HelperOrigin N) → knows_helper st o ≡ true → IsKnownOrigin st.provider.universe (helper_origin o)
+      known_origin (Helps.AtLeastOne n) k = k
+      known_origin (Helps.ConstrainsViolation v) k = k
+      known_origin (Helps.RequiresGate r) k = k
+
+module _ {N S : Type 0} (st : Store N S) (sound : IsSound st) (lawful : IsLawful st.provider) where
   here : AreVariables st.provider.same_solvable st.origins
   here = record { root_first = sound.root_first; one_each = sound.one_variable_each }
 
-  pub IsSound-with_variables : (ss : List S) → IsSound (record st { origins = with_variables st.provider.same_solvable st.origins ss })
-  IsSound-with_variables ss =
+  pub IsSound-with_variables : (ss : List S) → All (IsKnownSolvable st.provider.universe) ss
+      → IsSound (record st { origins = with_variables st.provider.same_solvable st.origins ss })
+  IsSound-with_variables ss known =
       IsSound-origins st sound (with_variables st.provider.same_solvable st.origins ss) (longer-all st.provider.same_solvable st.origins ss)
-      (AreVariables-with_all st.provider.same_solvable reflexive st.origins ss here)
+      (AreVariables-with_all st.provider.same_solvable lawful.reflexive st.origins ss here)
+      (known-with_variables st.provider.universe st.provider.same_solvable st.origins ss known sound.origins_known)
+
+  pub IsSound-with_variable : (s : S) → IsKnownSolvable st.provider.universe s → IsSound (record st { origins = with_variable st.provider.same_solvable st.origins s })
+  IsSound-with_variable s known =
+      IsSound-with_variables (s ∷ []) (All-cons (IsKnownSolvable st.provider.universe) s [] known (All-nil (IsKnownSolvable st.provider.universe)))
 
   -- lists of solvables got variables, and these are kept for a requirement
-  pub IsSound-interned : (r : Requirement) {C : Type 0} (members : C → List S) (cs : List C) → lists_of st r ≡ None
-      → length cs ≡ length (sets_of st.provider.universe r)
+  pub IsSound-interned : (r : Requirement) {C : Type 0} (members : C → List S) (cs : List C) → All (IsKnownSolvable st.provider.universe) (flat_map members cs)
+      → lists_of st r ≡ None → length cs ≡ length (sets_of st.provider.universe r)
       → IsSound (record st {
         origins = with_variables st.provider.same_solvable st.origins (flat_map members cs);
         loaded = st.loaded ++ (r, map (λ c. map (interned_variable st.provider.same_solvable (with_variables st.provider.same_solvable st.origins (flat_map members cs))) (members c)) cs) ∷ [];
       })
-  IsSound-interned r members cs fresh one_each =
+  IsSound-interned r members cs known fresh one_each =
       let same = st.provider.same_solvable in
       let os : List (VariableOrigin N S) = with_variables same st.origins (flat_map members cs) in
       let interned : S → ℕ = interned_variable same os in
       let grown : Store N S = record st { origins = os } in
-      let within = All-lists (λ s. interned s < length os) members cs (interned_all same reflexive st.origins (flat_map members cs)) in
-      IsSound-loaded grown (IsSound-with_variables (flat_map members cs)) r (map (λ c. map interned (members c)) cs) fresh (record {
+      let within = All-lists (λ s. interned s < length os) members cs (interned_all same lawful.reflexive st.origins (flat_map members cs)) in
+      IsSound-loaded grown (IsSound-with_variables (flat_map members cs) known) r (map (λ c. map interned (members c)) cs) fresh (record {
         one_a_set = length-map cs (λ c. map interned (members c)) ∙ one_each;
         variables = All-map (All (IsVariable grown)) (λ c. map interned (members c)) cs
             (All-weaker (λ c. All (λ s. interned s < length os) (members c)) (λ c. All (IsVariable grown) (map interned (members c)))
             (λ c k. All-map (IsVariable grown) interned (members c) k) cs within);
       })
-
-  IsSound-added : (c : Clause N) → IsPlain c → IsSound (adds_clause st c).store
-  IsSound-added c plain = IsSound-plain st sound c (first_watches (kept_literals st) (values st) c) st.learnt plain
-
-  -- ---- a command that nothing refuses
-
-  pub IsSound-outcome : (c : Command N S) → first_refusal st c ≡ None → IsSound (outcome st c).store
-  IsSound-outcome (Variable s) none = IsSound-with_variables (s ∷ [])
-  IsSound-outcome (Helper origin) none = IsSound-helper st sound origin
-  IsSound-outcome (Load r) none = by_lists (lists_of st r) refl
-    where
-      by_lists : (o : Option (List (List ℕ))) → lists_of st r ≡ o → IsSound (load st r o).store
-      by_lists (Some lists) h = sound
-      by_lists None h = IsSound-interned r (candidates_of st) (sets_of st.provider.universe r) h refl
-  IsSound-outcome (Requires parent r disjunction) none =
-      let tests = none_applies (refusals st (Requires parent r disjunction)) none in
-      let known : parent < length st.origins = grind (arith, nat_tests, tests.0) in
-      let c : Clause N = Kind.Requires parent disjunction r in
-      IsSound-requires st sound parent disjunction r (first_watches (kept_literals st) (values st) c) known (is_there (lists_of st r) tests.1.0)
-  IsSound-outcome Root none = IsSound-added Kind.InstallRoot (record { unregistered = λ id. refl })
-  IsSound-outcome (Constrains parent forbidden v) none = IsSound-added (Kind.Constrains parent forbidden v) (record { unregistered = λ id. refl })
-  IsSound-outcome (ConstrainsExcluded candidate aux v) none = IsSound-added (Kind.ConstrainsExcluded candidate aux v) (record { unregistered = λ id. refl })
-  IsSound-outcome (ConstrainsParent parent aux v) none = IsSound-added (Kind.ConstrainsParent parent aux v) (record { unregistered = λ id. refl })
-  IsSound-outcome (Lock locked other) none = IsSound-added (Kind.Lock locked other) (record { unregistered = λ id. refl })
-  IsSound-outcome (Exclude v reason) none = IsSound-added (Kind.Excluded v reason) (record { unregistered = λ id. refl })
-  IsSound-outcome (AnyOf selected other) none = IsSound-added (Kind.AnyOf selected other) (record { unregistered = λ id. refl })
-  IsSound-outcome (Learnt ls) none =
-      let c : Clause N = Kind.Learnt (length st.learnt) in
-      IsSound-plain st sound c (first_watches (kept_literals (with_learnt st ls)) (values st) c) (st.learnt ++ ls ∷ []) (record { unregistered = λ id. refl })
-  IsSound-outcome (Assign v value clause level) none =
-      let tests = none_applies (refusals st (Assign v value clause level)) none in
-      let known : v < length st.origins = grind (arith, nat_tests, tests.0) in
-      let registered : clause < length st.clauses = grind (arith, nat_tests, tests.0) in
-      let low : 1 ≤ level = grind (arith, nat_tests, tests.1.0) in
-      let high : level < 2 ^ 31 = grind (arith, nat_tests, tests.1.0) in
-      IsSound-assigned st sound (record { decision = record { variable = v; value = value; derived_from = clause }; level = level })
-      (record { variable = known; clause = registered }) (low, high)
-  IsSound-outcome UndoLast none = IsSound-without_newest st sound
-  IsSound-outcome (UndoUntil level) none = IsSound-kept_until st sound level
-  IsSound-outcome Unpropagated none = IsSound-hands_next st sound
-  IsSound-outcome Decide none = sound
-
--- ---- new stores, steps and runs
-
-module _ {N S : Type 0} where
-  one_variable : (p : Provider N S) → HasOneVariableEach (new_store p)
-  one_variable p zero s e = cc
-  one_variable p (suc v) s e = cc
-
-  pub IsSound-new_store : (p : Provider N S) → IsSound (new_store p)
-  IsSound-new_store p = record {
-    root_first = refl;
-    one_variable_each = one_variable p;
-    loaded_once = none_loaded;
-    loaded = All-nil (IsLoaded (new_store p));
-    registered = refl;
-    watched = refl;
-    clauses = All-nil (IsRegistered (new_store p));
-    place = omega arith;
-    trail = record { once = tt; levels = All-nil HasLevel };
-    assigned = All-nil (IsAssigned (new_store p));
-  }
-
-  -- a step leaves the store, or leads to the outcome of a command that nothing refuses
-  pub step_store : (old new : Store N S) (c : Command N S) (reply : Reply) → Step old c reply new
-      → (new ≡ old) ⊎ ((first_refusal old c ≡ None) × (new ≡ (outcome old c).store))
-  step_store old new c reply step = by_refusal (first_refusal old c) step
-    where
-      by_reply : (r : Reply) → IsAnswered old c r new → (new ≡ old) ⊎ (new ≡ (outcome old c).store)
-      by_reply (Refused e) h = inl h.1
-      by_reply _ h = inr h.2
-
-      by_refusal : (x : Option StoreError) → MatchOption x (IsAnswered old c reply new) (λ e. (reply ≡ Refused e) × (new ≡ old))
-          → (new ≡ old) ⊎ ((x ≡ None) × (new ≡ (outcome old c).store))
-      by_refusal None h = elim (by_reply reply h) [ inl same ↦ inl same | inr done ↦ inr (refl, done) ]
-      by_refusal (Some e) h = inl h.1
-
-  pub IsSound-step : {old new : Store N S} (c : Command N S) (reply : Reply) → ((s : S) → old.provider.same_solvable s s ≡ true)
-      → IsSound old → Step old c reply new → IsSound new
-  IsSound-step {old} {new} c reply reflexive sound step = elim (step_store old new c reply step) [
-    | inl same ↦ subst (λ st. IsSound st) (sym same) sound
-    | inr done ↦ subst (λ st. IsSound st) (sym done.1) (IsSound-outcome old sound reflexive c done.0)
-  ]
-
-  outcome_provider : (st : Store N S) (c : Command N S) → (outcome st c).store.provider ≡ st.provider
-  outcome_provider st (Load r) = by_lists (lists_of st r)
-    where
-      by_lists : (o : Option (List (List ℕ))) → (load st r o).store.provider ≡ st.provider
-      by_lists (Some lists) = refl
-      by_lists None = refl
-  outcome_provider st Unpropagated = by_entry (slice_get st.trail st.place)
-    where
-      by_entry : (o : Option Entry) → (hands_next st o).store.provider ≡ st.provider
-      by_entry None = refl
-      by_entry (Some e) = refl
-  outcome_provider st _ = refl
-
-  -- a step leaves the provider
-  pub step_provider : (old new : Store N S) (c : Command N S) (reply : Reply) → Step old c reply new → new.provider ≡ old.provider
-  step_provider old new c reply step = elim (step_store old new c reply step) [
-    | inl same ↦ ap (λ st. st.provider) same
-    | inr done ↦ ap (λ st. st.provider) done.1 ∙ outcome_provider old c
-  ]
-
-  run_sound : (old new : Store N S) (cs : List (Command N S)) (replies : List Reply) → ((s : S) → old.provider.same_solvable s s ≡ true)
-      → IsSound old → Run old cs replies new → IsSound new
-  run_sound old new [] [] reflexive sound ran = subst (λ st. IsSound st) (sym ran) sound
-  run_sound old new (c ∷ cs) (reply ∷ replies) reflexive sound ran =
-      let same : (s : S) → ran.0.provider.same_solvable s s ≡ true = λ s. ap (λ p. p.same_solvable s s) (step_provider old ran.0 c reply ran.1) ∙ reflexive s in
-      run_sound ran.0 new cs replies same (IsSound-step c reply reflexive sound ran.1) ran.2
-  run_sound old new [] (reply ∷ replies) reflexive sound ran = absurd ran
-  run_sound old new (c ∷ cs) [] reflexive sound ran = absurd ran
-
-  pub IsSound-run : {old new : Store N S} (cs : List (Command N S)) (replies : List Reply) → ((s : S) → old.provider.same_solvable s s ≡ true)
-      → IsSound old → Run old cs replies new → IsSound new
-  IsSound-run {old} {new} cs replies reflexive sound ran = run_sound old new cs replies reflexive sound ran

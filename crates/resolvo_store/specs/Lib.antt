@@ -4,6 +4,7 @@ pub mod LoadRefusals
 pub mod Outcome
 pub mod Refusals
 pub mod ReplyLaws
+pub mod ReplyTexts
 pub mod Solved
 pub mod Sound
 pub mod Step

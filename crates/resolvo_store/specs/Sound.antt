@@ -1,14 +1,16 @@
 -- What is true of each store that commands can make of a new one. N are the names, S the solvables.
-use Rattle.std.specs.Prelude.{◌≡◌, ℕ, ◌+◌, ◌<◌, ◌≤◌, List, [], ◌∷◌, map, length, slice_get, All, IsSome, Some}
+use Rattle.std.specs.Prelude.{◌≡◌, ℕ, true, ◌+◌, ◌<◌, ◌≤◌, List, [], ◌∷◌, map, length, slice_get, All, IsSome, Some}
 use Rattle.std.specs.List.{IsDistinct}
 use Rattle.providers.specs.declared.requirement.Requirement.{Requirement}
 use Rattle.providers.specs.Requirement.{same_requirement}
 use Rattle.providers.specs.Provider.{sets_of}
 use Rattle.variables.specs.declared.variable_origin.VariableOrigin.TheVariants.{Solvable}
 use Rattle.variables.specs.Variables.{IsRootFirst, variable_of_solvable}
+use Rattle.variable_info.specs.VariableTexts.{knows_origin}
 use Rattle.decisions.specs.Trail.{Entry, IsTrail}
 use Rattle.clauses.specs.declared.clause.Clause.{Clause}
 use Rattle.clauses.specs.declared.clause.Clause.TheVariants as Kind
+use Rattle.clauses.specs.ClauseTexts.{IsKnownClause}
 use Rattle.resolvo_queue.specs.declared.requires_clause.RequiresClause.{RequiresClause}
 use Rattle.resolvo_store.specs.Store.{Store, lists_of}
 
@@ -54,6 +56,8 @@ module _ {N S : Type 0} (st : Store N S) where
 
   pub record IsSound : Type 0 where
     pub root_first : IsRootFirst st.origins
+    -- what variables stand for is known to the provider
+    pub origins_known : All (λ o. knows_origin st.provider.universe o ≡ true) st.origins
     pub one_variable_each : HasOneVariableEach
     -- each requirement is loaded once
     pub loaded_once : IsDistinct same_requirement (map (λ e. e.0) st.loaded)
@@ -61,6 +65,8 @@ module _ {N S : Type 0} (st : Store N S) where
     -- the registered clauses are the requires clauses of the list, under their ids
     pub registered : st.requires ≡ requires_from 0 st.clauses
     pub clauses : All IsRegistered st.requires
+    -- the variables of clauses are the store's, and what else clauses name is known to the provider
+    pub clauses_known : All (IsKnownClause st.provider.universe st.origins) st.clauses
     -- for each clause there is what it watches
     pub watched : length st.watches ≡ length st.clauses
     pub place : st.place ≤ length st.trail

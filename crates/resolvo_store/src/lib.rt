@@ -11,7 +11,8 @@
 //! - `specs/Store.antt`: the abstract store;
 //! - `specs/Refusals.antt`: the refusals that a caller can foresee, in the order in which they are tested;
 //! - `specs/Outcome.antt`: the reply to a command that nothing refuses, and the store after it;
-//! - `specs/Step.antt`: a step, which adds the refusals for want of memory or of ids, and a run, one step after another.
+//! - `specs/Step.antt`: a step, which adds the refusals for want of memory or of ids, and a run, one step after another;
+//! - `specs/ReplyTexts.antt`: the texts of replies.
 //!
 //! What `step` answers and leaves is a step of the abstract store, and what `run` answers and leaves is a run.
 #![tactic(auto)]
@@ -21,6 +22,7 @@ mod command;
 mod helper_origin;
 mod loaded_lists;
 mod reply;
+mod reply_text;
 mod store;
 
 pub use abstract_store::AbstractStore;

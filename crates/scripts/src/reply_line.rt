@@ -1,7 +1,8 @@
 //! Reply lines.
 ghost use Rattle.std.specs.Prelude.{◌≡◌, ◌++◌, OnOk, codes, decimal, map};
 ghost use Rattle.resolvo_store.specs.Command.{reply_of};
-ghost use Rattle.scripts.specs.Replies.{field, reply_words, reply_text, list_text, others_text, lists_text, conflict_text, decision_text, undone_text, next_text, assignment_text, truth_text, unreadable_text};
+ghost use Rattle.resolvo_store.specs.ReplyTexts.{field, reply_words, list_text, others_text, lists_text, conflict_text, decision_text, undone_text, next_text, assignment_text, truth_text};
+ghost use Rattle.scripts.specs.Replies.{reply_text, unreadable_text};
 
 use decisions::Decision;
 use itoa::Buffer;

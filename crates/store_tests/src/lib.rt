@@ -5,6 +5,8 @@
 #[cfg(test)]
 mod ample;
 #[cfg(test)]
+mod clause_text;
+#[cfg(test)]
 mod given;
 #[cfg(test)]
 mod obeys;

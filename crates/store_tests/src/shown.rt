@@ -1,10 +1,12 @@
-//! The debug texts of commands.
+//! The debug texts of commands, and the texts of replies.
 use crate::script::{clause, single, variable};
-use resolvo_store::{Command, HelperOrigin};
+use decisions::Decision;
+use resolvo_queue::QueueDecision;
+use resolvo_store::{Command, HelperOrigin, Reply};
 use std::alloc::Global;
 use std::process::Abort;
 use std::test::Fail;
-use typed_ids::{NameId, SolvableId};
+use typed_ids::{NameId, SolvableId, StoreError, VariableId};
 
 /// A command of dense ids.
 type Shown = Command<NameId, SolvableId, Global>;
@@ -39,4 +41,56 @@ fn commands_show_their_operands(rt: HostRuntime) -> Result<(), Fail> {
     )?;
     shows(&rt, Command::UndoUntil(7), "UndoUntil(7)")?;
     shows(&rt, Command::Decide, "Decide")
+}
+
+/// The reply's text is this one.
+fn says(rt: &(impl Abort + AllocGlobal), reply: Reply<Global>, text: &str) -> Result<(), Fail> {
+    let said = format!(in rt.alloc(); "{reply}")?;
+    assert_eq!(rt; said.as_str(), text);
+    Ok(())
+}
+
+/// A list of two variables, and one of none.
+fn lists(alloc: Global) -> Result<Vec<Vec<VariableId>>, StoreError> {
+    let mut lists = Vec::new(alloc);
+    lists.push(vec![in alloc; variable(1), variable(20)]?)?;
+    lists.push(Vec::new(alloc))?;
+    Ok(lists)
+}
+
+#[test]
+fn replies_say_variables_and_clauses(rt: HostRuntime) -> Result<(), Fail> {
+    says(&rt, Reply::Variable(variable(2)), "variable 2")?;
+    says(&rt, Reply::Loaded(lists(rt.alloc())?), "loaded 1,20 -")?;
+    says(&rt, Reply::Clause(clause(0), false), "clause 0")?;
+    says(&rt, Reply::Clause(clause(2), true), "clause 2 conflict")?;
+    says(&rt, Reply::Falsified(clause(1)), "falsified 1")
+}
+
+#[test]
+fn replies_say_assignments(rt: HostRuntime) -> Result<(), Fail> {
+    says(&rt, Reply::Assigned, "assigned")?;
+    says(&rt, Reply::Already, "already")?;
+    says(&rt, Reply::Clash, "clash")?;
+    let last = Decision::new(variable(3), false, clause(0));
+    says(&rt, Reply::Undone(Some((last, 2))), "undone 3 false 0 2")?;
+    says(&rt, Reply::Undone(None), "undone")?;
+    let next = Decision::new(variable(1), true, clause(0));
+    says(&rt, Reply::Next(Some(next)), "next 1 true 0")?;
+    says(&rt, Reply::Next(None), "next none")
+}
+
+#[test]
+fn replies_say_decisions_and_refusals(rt: HostRuntime) -> Result<(), Fail> {
+    let decision = QueueDecision {
+        candidate: variable(3),
+        required_by: variable(0),
+        clause_id: clause(2),
+        package_activity: 5,
+        candidate_count: 1,
+    };
+    let wanted = "decided 3 by 0 clause 2 score 5 count 1";
+    says(&rt, Reply::Decided(decision), wanted)?;
+    says(&rt, Reply::NoDecision, "no decision")?;
+    says(&rt, Reply::Refused(StoreError::UnknownId), "refused 3")
 }

@@ -1,13 +1,15 @@
 //! What a search or a report reads of a store beside the replies.
-ghost use Rattle.std.specs.Prelude.{◌≡◌, slice_get, option_map, IfOk, IfErr};
-ghost use Rattle.typed_ids.specs.declared.error.StoreError.TheVariants.{OutOfMemory};
+ghost use Rattle.std.specs.Prelude.{◌≡◌, if◌then◌else◌, is_some, slice_get, option_map, IsSomeAnd, IfOk, OnOk, OnErr, IfErr};
+ghost use Rattle.typed_ids.specs.declared.error.StoreError.TheVariants.{OutOfMemory, UnknownId};
+ghost use Rattle.providers.specs.Texts.{IsAppended, IsSameText};
 ghost use Rattle.clauses.specs.Clauses.{literals_of};
+ghost use Rattle.clauses.specs.ClauseTexts.{clause_text};
 
 use crate::abstract_store::AbstractStore;
 use crate::store::ClauseStore;
 use decisions::Literal;
 use id_storage::Arena;
-use providers::DependencyProvider;
+use providers::{DependencyProvider, Interner};
 use typed_ids::{ClauseId, StoreError, VariableId};
 use variables::VariableOrigin;
 
@@ -37,5 +39,25 @@ impl<D: DependencyProvider + Drop> ClauseStore<D> {
         let disjunctions = Arena::new(self.alloc);
         let literals = clause.literals(self.alloc, learnt, &self.loaded, &disjunctions)?;
         Ok(Some(literals))
+    }
+
+    /// Appends the text of a clause: its kind, and in brackets what it is made of, over the provider's texts. A clause that
+    /// the store doesn't have is refused `UnknownId`, and nothing is asked of the provider then. After a refusal `out` is
+    /// as it was.
+    pub fn display_clause(
+        &self,
+        clause: ClauseId,
+        out: &mut String<D::Alloc>,
+    ) -> Result<(), StoreError>
+        ensures ok { OnOk result (IsSomeAnd (slice_get (⟦<D as AbstractStore>⟧.store self.now).clauses clause) (λ c. IsAppended out.old out.new
+            (clause_text (D.universe self.now.provider) (D.texts self.now.provider) (⟦<D as AbstractStore>⟧.store self.now).origins c))) }
+        ensures err { OnErr result (IsSameText out.old out.new) }
+        ensures refused { IfErr result (λ e. e ≡
+            (if is_some (slice_get (⟦<D as AbstractStore>⟧.store self.now).clauses clause) then OutOfMemory else UnknownId)) }
+    {
+        let Some(clause) = self.clauses.get(clause) else {
+            return Err(StoreError::UnknownId);
+        };
+        clause.display(&self.variables, self.cache.provider(), out)
     }
 }

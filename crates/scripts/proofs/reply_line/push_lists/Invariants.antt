@@ -1,5 +1,5 @@
 use Rattle.std.proofs.Common.{◌≡◌, ◌++◌, drop, map}
-use Rattle.scripts.specs.Replies.{lists_text}
+use Rattle.resolvo_store.specs.ReplyTexts.{lists_text}
 use Rattle.scripts.proofs.reply_line.push_lists.Given as goal
 
 abbrev pub invariant-loop-list : goal.invariant-loop-list

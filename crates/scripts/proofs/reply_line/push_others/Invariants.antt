@@ -1,5 +1,5 @@
 use Rattle.std.proofs.Common.{◌≡◌, ◌++◌, drop}
-use Rattle.scripts.specs.Replies.{others_text}
+use Rattle.resolvo_store.specs.ReplyTexts.{others_text}
 use Rattle.scripts.proofs.reply_line.push_others.Given as goal
 
 abbrev pub invariant-loop-variable : goal.invariant-loop-variable

@@ -1,11 +1,14 @@
-use Rattle.std.proofs.Common.{sym, subst, refl, ◌∙◌, ap}
+use Rattle.std.proofs.Common.{◌≡◌, true, sym, subst, refl, ◌∙◌, ap}
+use Rattle.std.specs.Prelude.{◌&&◌}
+use Rattle.clauses.specs.declared.clause.Clause.TheVariants as Kind
 use Rattle.clause_list.specs.ClauseList.{literals_watched}
-use Rattle.resolvo_store.specs.Sound.{IsPlain}
 use Rattle.resolvo_store.specs.Command.{ConstrainsParent}
+use Rattle.resolvo_store.specs.Refusals.{knows_pair}
 use Rattle.resolvo_store.specs.Outcome.{adds_clause}
 use Rattle.resolvo_store.specs.Store.{Provider, store_of, gathered, kept_literals}
 use Rattle.resolvo_store.proofs.AddingLemmas.{step_added, first_if_known}
 use Rattle.resolvo_store.proofs.InvariantLemmas.{after_plain, store_with}
+use Rattle.resolvo_store.proofs.KnownLemmas.{known_three}
 use Rattle.resolvo_store.proofs.store.ClauseStore.constrains_parent.Given.{Over}
 use Rattle.resolvo_store.proofs.store.ClauseStore.constrains_parent.Goals as goal
 
@@ -17,8 +20,9 @@ given g = gathered g.D.NameId.PartialEq.eq g.D.SolvableId.PartialEq.eq g.D.NameI
 pub invariant_of-self : goal.invariant_of-self
 invariant_of-self g c =
     let made = c.constrains_parent-watches.result in
-    after_plain c.self.invariant made.2 (literals_watched made.0) c.self.inside.clauses.learnt c.add_clause.result (subst IsPlain (sym c.constrains_parent-watches.ensures.clause) (record { unregistered = λ id. refl }))
-    c.add_clause.ensures.ok c.add_clause.ensures.err
+    let test = subst (λ k. let s = store_of (given g) k in (knows_pair s c.args.parent c.args.aux && s.provider.universe.knows_set c.args.set) ≡ true) (sym c.self.view_is) (sym c.knows_between.ensures ∙ c.if-not-knows_between.false) in
+    after_plain c.self.invariant made.2 (Kind.ConstrainsParent c.args.parent c.args.aux c.args.set) (literals_watched made.0) c.self.inside.clauses.learnt c.add_clause.result c.constrains_parent-watches.ensures.clause
+    (known_three (g.D.Interner.universe c.self.inside.cache.provider) c.self.inside.variables c.self.invariant.sound.origins_known c.args.parent c.args.aux _ test) (record { unregistered = λ id. refl }) c.add_clause.ensures.ok c.add_clause.ensures.err
 
 pub returns-clause-step : goal.returns-clause-step
 returns-clause-step g c =

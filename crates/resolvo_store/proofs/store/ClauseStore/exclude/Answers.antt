@@ -1,12 +1,15 @@
-use Rattle.std.proofs.Common.{sym, subst, refl, ◌∙◌, ap, false}
+use Rattle.std.proofs.Common.{◌≡◌, true, sym, subst, refl, ◌∙◌, ap, false}
+use Rattle.std.specs.Prelude.{◌&&◌}
 use Rattle.clauses.specs.Clauses.{first_watches, is_conflict}
+use Rattle.clauses.specs.declared.clause.Clause.TheVariants as Kind
 use Rattle.clause_list.specs.ClauseList.{literals_watched}
-use Rattle.resolvo_store.specs.Sound.{IsPlain}
 use Rattle.resolvo_store.specs.Command.{Exclude}
+use Rattle.resolvo_store.specs.Refusals.{knows_variable}
 use Rattle.resolvo_store.specs.Outcome.{adds_clause}
 use Rattle.resolvo_store.specs.Store.{Provider, store_of, gathered, kept_literals, values}
 use Rattle.resolvo_store.proofs.AddingLemmas.{step_added, first_if_known}
 use Rattle.resolvo_store.proofs.InvariantLemmas.{after_plain, store_with}
+use Rattle.resolvo_store.proofs.KnownLemmas.{known_excluded}
 use Rattle.resolvo_store.proofs.store.ClauseStore.exclude.Given.{Over}
 use Rattle.resolvo_store.proofs.store.ClauseStore.exclude.Goals as goal
 
@@ -18,8 +21,9 @@ given g = gathered g.D.NameId.PartialEq.eq g.D.SolvableId.PartialEq.eq g.D.NameI
 pub invariant_of-self : goal.invariant_of-self
 invariant_of-self g c =
     let made = c.exclude-watches.result in
-    after_plain c.self.invariant made.1 (literals_watched made.0) c.self.inside.clauses.learnt c.add_clause.result (subst IsPlain (sym c.exclude-watches.ensures.clause) (record { unregistered = λ id. refl }))
-    c.add_clause.ensures.ok c.add_clause.ensures.err
+    let test = subst (λ k. let s = store_of (given g) k in (knows_variable s c.args.variable && s.provider.universe.knows_string c.args.reason) ≡ true) (sym c.self.view_is) (sym c.knows_excluded.ensures ∙ c.if-not-knows_excluded.false) in
+    after_plain c.self.invariant made.1 (Kind.Excluded c.args.variable c.args.reason) (literals_watched made.0) c.self.inside.clauses.learnt c.add_clause.result c.exclude-watches.ensures.clause
+    (known_excluded (g.D.Interner.universe c.self.inside.cache.provider) c.self.inside.variables c.self.invariant.sound.origins_known c.args.variable _ test) (record { unregistered = λ id. refl }) c.add_clause.ensures.ok c.add_clause.ensures.err
 
 pub returns-clause-step : goal.returns-clause-step
 returns-clause-step g c =

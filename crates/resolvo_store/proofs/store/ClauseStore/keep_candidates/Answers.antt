@@ -1,5 +1,8 @@
 use Rattle.std.proofs.Common.{◌≡◌, ◌∷◌, ◌++◌, [], ◌∙◌, sym, ap, subst, None, map, take, true, false}
 use Rattle.std.specs.Map.{lookup}
+use Rattle.std.specs.Prelude.{All}
+use Rattle.std.proofs.lemmas.List.Elements.{All-take}
+use Rattle.providers.specs.declared.requirement.Requirement.{Requirement}
 use Rattle.providers.specs.Requirement.{same_requirement}
 use Rattle.providers.specs.Provider.{sets_of}
 use Rattle.variables.specs.Variables.{interned_variable}
@@ -11,6 +14,7 @@ use Rattle.resolvo_store.specs.Outcome.{origins_loaded, variables_loaded}
 use Rattle.resolvo_store.specs.Step.{lacks_ids, may_be_refused}
 use Rattle.resolvo_store.specs.Store.{Store, Provider, Kept, store_of, gathered}
 use Rattle.resolvo_store.proofs.InvariantLemmas.{after_variables, after_load, store_with}
+use Rattle.resolvo_store.proofs.KnownLemmas.{IsLawful, IsKnownSolvable, all_known}
 use Rattle.resolvo_store.proofs.ListLemmas.{insert-kept, items_of, items-cloned}
 use Rattle.resolvo_store.proofs.LoadingLemmas.{lacks_nothing, load_refused}
 use Rattle.resolvo_store.proofs.store.ClauseStore.keep_candidates.Given.{Over}
@@ -21,9 +25,22 @@ abbrev given : (g : Over) → g.row.D.Denot → Provider g.row.D-NameId.Denot g.
 given g = gathered g.D.NameId.PartialEq.eq g.D.SolvableId.PartialEq.eq g.D.NameId.Slots.IdMap.is_too_large g.D.SolvableId.Slots.IdMap.is_too_large
     g.D.SolvableId.Set.IdSet.is_too_large g.D.NameId.SolverId.are_many g.D.Interner.universe g.D.DependencyProvider.answers
 
+-- its laws
+abbrev lawful : (g : Over) (p : g.row.D.Denot) → IsLawful (given g p)
+lawful g p = record {
+  reflexive = g.met.D.SolvableId.Eq.laws.refl;
+  same = g.met.D.SolvableId.SameValue.same;
+  candidates = g.met.D.DependencyProvider.candidates_known p;
+  order = g.met.D.DependencyProvider.order_permutes p;
+}
+
 -- the abstract store
 abbrev store : (g : Over) → Kept g.row.D.Denot g.row.D-NameId.Denot g.row.D-SolvableId.Denot → Store g.row.D-NameId.Denot g.row.D-SolvableId.Denot
 store g = store_of (given g)
+
+-- the candidates of a requirement are known
+candidates_known : (g : Over) (p : g.row.D.Denot) (r : Requirement) → All (IsKnownSolvable (g.D.Interner.universe p)) (sorted_of (given g p) r)
+candidates_known g p r = all_known (given g p) (lawful g p) (sets_of (g.D.Interner.universe p) r)
 
 -- the first so many candidates have variables
 pub invariant_of-self : goal.invariant_of-self
@@ -31,14 +48,16 @@ invariant_of-self g c =
     let inside = c.self.inside in
     let got = c.in_err-lists.ensures.err in
     after_variables (given g) g.D.SolvableId.Set.IdSet.has inside.variables inside.loaded inside.clauses inside.queue inside.trail inside.cache c.load_lists.new.cache c.in_err-lists.ensures.later
-    c.self.invariant g.met.D.SolvableId.Eq.laws.refl (take got.0 (sorted_of (given g inside.cache.provider) c.args.requirement)) c.load_lists.new.variables got.1
+    c.self.invariant (lawful g inside.cache.provider) (take got.0 (sorted_of (given g inside.cache.provider) c.args.requirement)) c.load_lists.new.variables
+    (All-take (IsKnownSolvable (g.D.Interner.universe inside.cache.provider)) got.0 _ (candidates_known g inside.cache.provider c.args.requirement)) got.1
 
 -- all of them have
 pub invariant_of-self-in_err-reply : goal.invariant_of-self-in_err-reply
 invariant_of-self-in_err-reply g c =
     let inside = c.self.inside in
     after_variables (given g) g.D.SolvableId.Set.IdSet.has inside.variables inside.loaded inside.clauses inside.queue inside.trail inside.cache c.load_lists.new.cache c.in_ok-lists.ensures.later
-    c.self.invariant g.met.D.SolvableId.Eq.laws.refl (sorted_of (given g inside.cache.provider) c.args.requirement) c.load_lists.new.variables c.in_ok-lists.ensures.ok
+    c.self.invariant (lawful g inside.cache.provider) (sorted_of (given g inside.cache.provider) c.args.requirement) c.load_lists.new.variables
+    (candidates_known g inside.cache.provider c.args.requirement) c.in_ok-lists.ensures.ok
 
 pub invariant_of-self-in_err-insert : goal.invariant_of-self-in_err-insert
 invariant_of-self-in_err-insert g c =
@@ -46,7 +65,8 @@ invariant_of-self-in_err-insert g c =
     let new = c.load_lists.new.cache in
     subst (λ kept. IsConsistent (store_with (given g) inside.clauses inside.queue inside.trail new.provider c.load_lists.new.variables kept) kept new) (sym c.in_err-insert.ensures.err.1)
     (after_variables (given g) g.D.SolvableId.Set.IdSet.has inside.variables inside.loaded inside.clauses inside.queue inside.trail inside.cache new c.in_ok-lists.ensures.later
-    c.self.invariant g.met.D.SolvableId.Eq.laws.refl (sorted_of (given g inside.cache.provider) c.args.requirement) c.load_lists.new.variables c.in_ok-lists.ensures.ok)
+    c.self.invariant (lawful g inside.cache.provider) (sorted_of (given g inside.cache.provider) c.args.requirement) c.load_lists.new.variables
+    (candidates_known g inside.cache.provider c.args.requirement) c.in_ok-lists.ensures.ok)
 
 -- and their lists are kept
 pub invariant_of-self-2 : goal.invariant_of-self-2
@@ -56,8 +76,8 @@ invariant_of-self-2 g c =
     let fresh : lookup (same_requirement r) (lists_kept inside.loaded) ≡ None =
     subst (λ kept. lookup (same_requirement r) kept.loaded ≡ None) (sym c.self.view_is) c.requires.new in
     after_load (given g) g.D.SolvableId.Set.IdSet.has inside.variables inside.loaded inside.clauses inside.queue inside.trail inside.cache c.load_lists.new.cache c.in_ok-lists.ensures.later
-    c.self.invariant g.met.D.SolvableId.Eq.laws.refl r (sorted_of_set (given g inside.cache.provider)) c.load_lists.new.variables c.in_ok-lists.lists c.insert.new.self
-    fresh c.in_ok-lists.ensures.ok c.in_ok-lists.ensures.lists c.in_ok-lists.ensures.few c.in_ok-lists.ensures.asked c.in_ok-insert.ensures.ok
+    c.self.invariant (lawful g inside.cache.provider) r (sorted_of_set (given g inside.cache.provider)) c.load_lists.new.variables c.in_ok-lists.lists c.insert.new.self
+    (candidates_known g inside.cache.provider r) fresh c.in_ok-lists.ensures.ok c.in_ok-lists.ensures.lists c.in_ok-lists.ensures.few c.in_ok-lists.ensures.asked c.in_ok-insert.ensures.ok
 
 pub returns-clause-lists : goal.returns-clause-lists
 returns-clause-lists g c =

@@ -18,7 +18,7 @@ learn_clause-requires g c = not_empty c.args.literals.now (sym c.is_bad_learnt.e
 pub invariant_of-self : goal.invariant_of-self
 invariant_of-self g c =
     let learnt = c.self.inside.clauses.learnt in
-    after_plain c.self.invariant (Kind.Learnt (length learnt)) (watch_ends c.args.literals.now) (learnt ++ c.args.literals.now ∷ []) c.learn_clause.result (record { unregistered = λ id. refl })
+    after_plain c.self.invariant (Kind.Learnt (length learnt)) (Kind.Learnt (length learnt)) (watch_ends c.args.literals.now) (learnt ++ c.args.literals.now ∷ []) c.learn_clause.result refl tt (record { unregistered = λ id. refl })
     c.learn_clause.ensures.ok c.learn_clause.ensures.err
 
 pub returns-clause-step : goal.returns-clause-step

@@ -1,12 +1,14 @@
-use Rattle.std.proofs.Common.{sym, subst, refl, ◌∙◌, ap, false}
+use Rattle.std.proofs.Common.{◌≡◌, true, sym, subst, refl, ◌∙◌, ap, false}
 use Rattle.clauses.specs.Clauses.{is_conflict}
+use Rattle.clauses.specs.declared.clause.Clause.TheVariants as Kind
 use Rattle.clause_list.specs.ClauseList.{literals_watched}
-use Rattle.resolvo_store.specs.Sound.{IsPlain}
 use Rattle.resolvo_store.specs.Command.{Lock}
+use Rattle.resolvo_store.specs.Refusals.{knows_pair}
 use Rattle.resolvo_store.specs.Outcome.{adds_clause}
 use Rattle.resolvo_store.specs.Store.{Provider, store_of, gathered, kept_literals, values}
 use Rattle.resolvo_store.proofs.AddingLemmas.{step_added, first_if_known}
 use Rattle.resolvo_store.proofs.InvariantLemmas.{after_plain, store_with}
+use Rattle.resolvo_store.proofs.KnownLemmas.{known_two}
 use Rattle.resolvo_store.proofs.store.ClauseStore.lock.Given.{Over}
 use Rattle.resolvo_store.proofs.store.ClauseStore.lock.Goals as goal
 
@@ -18,8 +20,9 @@ given g = gathered g.D.NameId.PartialEq.eq g.D.SolvableId.PartialEq.eq g.D.NameI
 pub invariant_of-self : goal.invariant_of-self
 invariant_of-self g c =
     let made = c.lock-watches.result in
-    after_plain c.self.invariant made.1 (literals_watched made.0) c.self.inside.clauses.learnt c.add_clause.result (subst IsPlain (sym c.lock-watches.ensures.clause) (record { unregistered = λ id. refl }))
-    c.add_clause.ensures.ok c.add_clause.ensures.err
+    let test = subst (λ k. let s = store_of (given g) k in (knows_pair s c.args.locked c.args.other) ≡ true) (sym c.self.view_is) (sym c.knows_pair.ensures ∙ c.if-not-knows_pair.false) in
+    after_plain c.self.invariant made.1 (Kind.Lock c.args.locked c.args.other) (literals_watched made.0) c.self.inside.clauses.learnt c.add_clause.result c.lock-watches.ensures.clause
+    (known_two (g.D.Interner.universe c.self.inside.cache.provider) c.self.inside.variables c.self.invariant.sound.origins_known c.args.locked c.args.other test) (record { unregistered = λ id. refl }) c.add_clause.ensures.ok c.add_clause.ensures.err
 
 pub returns-clause-step : goal.returns-clause-step
 returns-clause-step g c =

@@ -1,5 +1,5 @@
 use Rattle.std.proofs.Common.{rules}
-use Rattle.resolvo_store.proofs.SoundLaws.{IsSound-new_store}
+use Rattle.resolvo_store.proofs.SoundSteps.{IsSound-new_store}
 use Rattle.resolvo_store.proofs.store.ClauseStore.new.Goals as goal
 
 pub invariant_of-result : goal.invariant_of-result

@@ -1,79 +1,94 @@
 use Rattle.std.proofs.Common.{subst}
 use Rattle.resolvo_store.specs.Command.{reply_of, answer_of, Variable, Helper, Load, Requires, Root, Constrains, ConstrainsExcluded, ConstrainsParent, Lock, Exclude, AnyOf, Learnt, Assign, UndoLast, UndoUntil, Unpropagated}
 use Rattle.resolvo_store.specs.Sound.{IsSound}
-use Rattle.resolvo_store.specs.Store.{Store, Kept, store_of, gathered}
+use Rattle.resolvo_store.specs.Store.{Store, Provider, Kept, store_of, gathered}
+use Rattle.resolvo_store.proofs.KnownLemmas.{IsLawful}
 use Rattle.resolvo_store.proofs.RunLemmas.{refused_same}
-use Rattle.resolvo_store.proofs.SoundLaws.{IsSound-step}
+use Rattle.resolvo_store.proofs.SoundSteps.{IsSound-step}
 use Rattle.resolvo_store.proofs.store.ClauseStore.obey.Given.{Over}
 use Rattle.resolvo_store.proofs.store.ClauseStore.obey.Goals as goal
 
+-- the provider's functions
+abbrev given : (g : Over) → g.row.D.Denot → Provider g.row.D-NameId.Denot g.row.D-SolvableId.Denot
+given g = gathered g.D.NameId.PartialEq.eq g.D.SolvableId.PartialEq.eq g.D.NameId.Slots.IdMap.is_too_large g.D.SolvableId.Slots.IdMap.is_too_large
+    g.D.SolvableId.Set.IdSet.is_too_large g.D.NameId.SolverId.are_many g.D.Interner.universe g.D.DependencyProvider.answers
+
+-- its laws
+abbrev lawful : (g : Over) (p : g.row.D.Denot) → IsLawful (given g p)
+lawful g p = record {
+  reflexive = g.met.D.SolvableId.Eq.laws.refl;
+  same = g.met.D.SolvableId.SameValue.same;
+  candidates = g.met.D.DependencyProvider.candidates_known p;
+  order = g.met.D.DependencyProvider.order_permutes p;
+}
+
 -- the abstract store
 abbrev store : (g : Over) → Kept g.row.D.Denot g.row.D-NameId.Denot g.row.D-SolvableId.Denot → Store g.row.D-NameId.Denot g.row.D-SolvableId.Denot
-store g = store_of (gathered g.D.NameId.PartialEq.eq g.D.SolvableId.PartialEq.eq g.D.NameId.Slots.IdMap.is_too_large g.D.SolvableId.Slots.IdMap.is_too_large g.D.SolvableId.Set.IdSet.is_too_large g.D.NameId.SolverId.are_many g.D.Interner.universe g.D.DependencyProvider.answers)
+store g = store_of (given g)
 
 pub returns-in-Variable-clause-sound : goal.returns-in-Variable-clause-sound
 returns-in-Variable-clause-sound g c =
-    IsSound-step (Variable c.in-Variable.solvable) (answer_of c.variable.result) g.met.D.SolvableId.Eq.laws.refl (subst (λ k. IsSound (store g k)) c.self.view_is c.self.invariant.sound) c.variable.ensures.step
+    IsSound-step (Variable c.in-Variable.solvable) (answer_of c.variable.result) (lawful g c.args.self.now.provider) (subst (λ k. IsSound (store g k)) c.self.view_is c.self.invariant.sound) c.variable.ensures.step
 
 pub returns-in-Helper-clause-sound : goal.returns-in-Helper-clause-sound
 returns-in-Helper-clause-sound g c =
-    IsSound-step (Helper c.in-Helper.origin) (answer_of c.helper.result) g.met.D.SolvableId.Eq.laws.refl (subst (λ k. IsSound (store g k)) c.self.view_is c.self.invariant.sound) c.helper.ensures.step
+    IsSound-step (Helper c.in-Helper.origin) (answer_of c.helper.result) (lawful g c.args.self.now.provider) (subst (λ k. IsSound (store g k)) c.self.view_is c.self.invariant.sound) c.helper.ensures.step
 
 pub returns-in-Load-clause-sound : goal.returns-in-Load-clause-sound
 returns-in-Load-clause-sound g c =
-    IsSound-step (Load c.in-Load.requirement) (answer_of c.load.result) g.met.D.SolvableId.Eq.laws.refl (subst (λ k. IsSound (store g k)) c.self.view_is c.self.invariant.sound) c.load.ensures.step
+    IsSound-step (Load c.in-Load.requirement) (answer_of c.load.result) (lawful g c.args.self.now.provider) (subst (λ k. IsSound (store g k)) c.self.view_is c.self.invariant.sound) c.load.ensures.step
 
 pub returns-in-Requires-clause-sound : goal.returns-in-Requires-clause-sound
 returns-in-Requires-clause-sound g c =
-    IsSound-step (Requires c.in-Requires.parent c.in-Requires.requirement c.in-Requires.disjunction) (answer_of c.requires_clause.result) g.met.D.SolvableId.Eq.laws.refl (subst (λ k. IsSound (store g k)) c.self.view_is c.self.invariant.sound) c.requires_clause.ensures.step
+    IsSound-step (Requires c.in-Requires.parent c.in-Requires.requirement c.in-Requires.disjunction) (answer_of c.requires_clause.result) (lawful g c.args.self.now.provider) (subst (λ k. IsSound (store g k)) c.self.view_is c.self.invariant.sound) c.requires_clause.ensures.step
 
 pub returns-in-Root-clause-sound : goal.returns-in-Root-clause-sound
 returns-in-Root-clause-sound g c =
-    IsSound-step Root (answer_of c.root.result) g.met.D.SolvableId.Eq.laws.refl (subst (λ k. IsSound (store g k)) c.self.view_is c.self.invariant.sound) c.root.ensures.step
+    IsSound-step Root (answer_of c.root.result) (lawful g c.args.self.now.provider) (subst (λ k. IsSound (store g k)) c.self.view_is c.self.invariant.sound) c.root.ensures.step
 
 pub returns-in-Constrains-clause-sound : goal.returns-in-Constrains-clause-sound
 returns-in-Constrains-clause-sound g c =
-    IsSound-step (Constrains c.in-Constrains.parent c.in-Constrains.forbidden c.in-Constrains.set) (answer_of c.constrains.result) g.met.D.SolvableId.Eq.laws.refl (subst (λ k. IsSound (store g k)) c.self.view_is c.self.invariant.sound) c.constrains.ensures.step
+    IsSound-step (Constrains c.in-Constrains.parent c.in-Constrains.forbidden c.in-Constrains.set) (answer_of c.constrains.result) (lawful g c.args.self.now.provider) (subst (λ k. IsSound (store g k)) c.self.view_is c.self.invariant.sound) c.constrains.ensures.step
 
 pub returns-in-ConstrainsExcluded-clause-sound : goal.returns-in-ConstrainsExcluded-clause-sound
 returns-in-ConstrainsExcluded-clause-sound g c =
-    IsSound-step (ConstrainsExcluded c.in-ConstrainsExcluded.candidate c.in-ConstrainsExcluded.aux c.in-ConstrainsExcluded.set) (answer_of c.constrains_excluded.result) g.met.D.SolvableId.Eq.laws.refl (subst (λ k. IsSound (store g k)) c.self.view_is c.self.invariant.sound) c.constrains_excluded.ensures.step
+    IsSound-step (ConstrainsExcluded c.in-ConstrainsExcluded.candidate c.in-ConstrainsExcluded.aux c.in-ConstrainsExcluded.set) (answer_of c.constrains_excluded.result) (lawful g c.args.self.now.provider) (subst (λ k. IsSound (store g k)) c.self.view_is c.self.invariant.sound) c.constrains_excluded.ensures.step
 
 pub returns-in-ConstrainsParent-clause-sound : goal.returns-in-ConstrainsParent-clause-sound
 returns-in-ConstrainsParent-clause-sound g c =
-    IsSound-step (ConstrainsParent c.in-ConstrainsParent.parent c.in-ConstrainsParent.aux c.in-ConstrainsParent.set) (answer_of c.constrains_parent.result) g.met.D.SolvableId.Eq.laws.refl (subst (λ k. IsSound (store g k)) c.self.view_is c.self.invariant.sound) c.constrains_parent.ensures.step
+    IsSound-step (ConstrainsParent c.in-ConstrainsParent.parent c.in-ConstrainsParent.aux c.in-ConstrainsParent.set) (answer_of c.constrains_parent.result) (lawful g c.args.self.now.provider) (subst (λ k. IsSound (store g k)) c.self.view_is c.self.invariant.sound) c.constrains_parent.ensures.step
 
 pub returns-in-Lock-clause-sound : goal.returns-in-Lock-clause-sound
 returns-in-Lock-clause-sound g c =
-    IsSound-step (Lock c.in-Lock.locked c.in-Lock.other) (answer_of c.lock.result) g.met.D.SolvableId.Eq.laws.refl (subst (λ k. IsSound (store g k)) c.self.view_is c.self.invariant.sound) c.lock.ensures.step
+    IsSound-step (Lock c.in-Lock.locked c.in-Lock.other) (answer_of c.lock.result) (lawful g c.args.self.now.provider) (subst (λ k. IsSound (store g k)) c.self.view_is c.self.invariant.sound) c.lock.ensures.step
 
 pub returns-in-Exclude-clause-sound : goal.returns-in-Exclude-clause-sound
 returns-in-Exclude-clause-sound g c =
-    IsSound-step (Exclude c.in-Exclude.variable c.in-Exclude.reason) (answer_of c.exclude.result) g.met.D.SolvableId.Eq.laws.refl (subst (λ k. IsSound (store g k)) c.self.view_is c.self.invariant.sound) c.exclude.ensures.step
+    IsSound-step (Exclude c.in-Exclude.variable c.in-Exclude.reason) (answer_of c.exclude.result) (lawful g c.args.self.now.provider) (subst (λ k. IsSound (store g k)) c.self.view_is c.self.invariant.sound) c.exclude.ensures.step
 
 pub returns-in-AnyOf-clause-sound : goal.returns-in-AnyOf-clause-sound
 returns-in-AnyOf-clause-sound g c =
-    IsSound-step (AnyOf c.in-AnyOf.selected c.in-AnyOf.other) (answer_of c.any_of.result) g.met.D.SolvableId.Eq.laws.refl (subst (λ k. IsSound (store g k)) c.self.view_is c.self.invariant.sound) c.any_of.ensures.step
+    IsSound-step (AnyOf c.in-AnyOf.selected c.in-AnyOf.other) (answer_of c.any_of.result) (lawful g c.args.self.now.provider) (subst (λ k. IsSound (store g k)) c.self.view_is c.self.invariant.sound) c.any_of.ensures.step
 
 pub returns-in-Learnt-clause-sound : goal.returns-in-Learnt-clause-sound
 returns-in-Learnt-clause-sound g c =
-    IsSound-step (Learnt c.deref.result.now) (answer_of c.learnt.result) g.met.D.SolvableId.Eq.laws.refl (subst (λ k. IsSound (store g k)) c.self.view_is c.self.invariant.sound) c.learnt.ensures.step
+    IsSound-step (Learnt c.deref.result.now) (answer_of c.learnt.result) (lawful g c.args.self.now.provider) (subst (λ k. IsSound (store g k)) c.self.view_is c.self.invariant.sound) c.learnt.ensures.step
 
 pub returns-in-Assign-clause-sound : goal.returns-in-Assign-clause-sound
 returns-in-Assign-clause-sound g c =
-    IsSound-step (Assign c.in-Assign.variable c.in-Assign.value c.in-Assign.clause c.in-Assign.level) (answer_of c.assign.result) g.met.D.SolvableId.Eq.laws.refl (subst (λ k. IsSound (store g k)) c.self.view_is c.self.invariant.sound) c.assign.ensures.step
+    IsSound-step (Assign c.in-Assign.variable c.in-Assign.value c.in-Assign.clause c.in-Assign.level) (answer_of c.assign.result) (lawful g c.args.self.now.provider) (subst (λ k. IsSound (store g k)) c.self.view_is c.self.invariant.sound) c.assign.ensures.step
 
 pub returns-in-UndoLast-clause-sound : goal.returns-in-UndoLast-clause-sound
 returns-in-UndoLast-clause-sound g c =
-    IsSound-step UndoLast (answer_of c.undo_last.result) g.met.D.SolvableId.Eq.laws.refl (subst (λ k. IsSound (store g k)) c.self.view_is c.self.invariant.sound) c.undo_last.ensures.step
+    IsSound-step UndoLast (answer_of c.undo_last.result) (lawful g c.args.self.now.provider) (subst (λ k. IsSound (store g k)) c.self.view_is c.self.invariant.sound) c.undo_last.ensures.step
 
 pub returns-in-UndoUntil-clause-sound : goal.returns-in-UndoUntil-clause-sound
 returns-in-UndoUntil-clause-sound g c =
-    IsSound-step (UndoUntil c.in-UndoUntil.level) (reply_of c.undo_until.result) g.met.D.SolvableId.Eq.laws.refl (subst (λ k. IsSound (store g k)) c.self.view_is c.self.invariant.sound) c.undo_until.ensures.step
+    IsSound-step (UndoUntil c.in-UndoUntil.level) (reply_of c.undo_until.result) (lawful g c.args.self.now.provider) (subst (λ k. IsSound (store g k)) c.self.view_is c.self.invariant.sound) c.undo_until.ensures.step
 
 pub returns-in-Unpropagated-clause-sound : goal.returns-in-Unpropagated-clause-sound
 returns-in-Unpropagated-clause-sound g c =
-    IsSound-step Unpropagated (reply_of c.unpropagated.result) g.met.D.SolvableId.Eq.laws.refl (subst (λ k. IsSound (store g k)) c.self.view_is c.self.invariant.sound) c.unpropagated.ensures.step
+    IsSound-step Unpropagated (reply_of c.unpropagated.result) (lawful g c.args.self.now.provider) (subst (λ k. IsSound (store g k)) c.self.view_is c.self.invariant.sound) c.unpropagated.ensures.step
 
 pub returns-in-Variable-clause-err : goal.returns-in-Variable-clause-err
 returns-in-Variable-clause-err g c = refused_same (store g c.args.self.now) (store g c.variable.new.self) (Variable c.in-Variable.solvable) c.variable.result c.variable.ensures.step

@@ -1,7 +1,7 @@
-use Rattle.std.proofs.Common.{sym, subst, refl, ◌∙◌, ap, true, false}
+use Rattle.std.proofs.Common.{sym, refl, ◌∙◌, ap, true, false}
 use Rattle.clauses.specs.Clauses.{first_watches, is_conflict}
+use Rattle.clauses.specs.declared.clause.Clause.TheVariants as Kind
 use Rattle.clause_list.specs.ClauseList.{literals_watched}
-use Rattle.resolvo_store.specs.Sound.{IsPlain}
 use Rattle.resolvo_store.specs.Command.{Root}
 use Rattle.resolvo_store.specs.Outcome.{adds_clause}
 use Rattle.resolvo_store.specs.Store.{Provider, store_of, gathered, kept_literals, values}
@@ -18,7 +18,7 @@ given g = gathered g.D.NameId.PartialEq.eq g.D.SolvableId.PartialEq.eq g.D.NameI
 pub invariant_of-self : goal.invariant_of-self
 invariant_of-self g c =
     let made = c.root-watches.result in
-    after_plain c.self.invariant made.1 (literals_watched made.0) c.self.inside.clauses.learnt c.add_clause.result (subst IsPlain (sym c.root-watches.ensures.clause) (record { unregistered = λ id. refl }))
+    after_plain c.self.invariant made.1 Kind.InstallRoot (literals_watched made.0) c.self.inside.clauses.learnt c.add_clause.result c.root-watches.ensures.clause tt (record { unregistered = λ id. refl })
     c.add_clause.ensures.ok c.add_clause.ensures.err
 
 pub returns-clause-step : goal.returns-clause-step

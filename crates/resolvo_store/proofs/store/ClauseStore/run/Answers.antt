@@ -2,10 +2,27 @@ use Rattle.std.proofs.Common.{◌∙◌, ◌+◌, ap, map, subst, arith, rules, 
 use Rattle.std.proofs.lemmas.List.{take_more, take_all, map-append}
 use Rattle.resolvo_store.specs.Command.{command_of, reply_of}
 use Rattle.resolvo_store.specs.Step.{Run}
+use Rattle.resolvo_store.specs.Store.{Provider, gathered}
+use Rattle.resolvo_store.proofs.KnownLemmas.{IsLawful}
 use Rattle.resolvo_store.proofs.RunLemmas.{run_more}
-use Rattle.resolvo_store.proofs.SoundLaws.{IsSound-run}
+use Rattle.resolvo_store.proofs.SoundSteps.{IsSound-run}
 use Rattle.resolvo_store.proofs.store.ClauseStore.run.Invariants.{store}
+use Rattle.resolvo_store.proofs.store.ClauseStore.run.Given.{Over}
 use Rattle.resolvo_store.proofs.store.ClauseStore.run.Goals as goal
+
+-- the provider's functions
+abbrev given : (g : Over) → g.row.D.Denot → Provider g.row.D-NameId.Denot g.row.D-SolvableId.Denot
+given g = gathered g.D.NameId.PartialEq.eq g.D.SolvableId.PartialEq.eq g.D.NameId.Slots.IdMap.is_too_large g.D.SolvableId.Slots.IdMap.is_too_large
+    g.D.SolvableId.Set.IdSet.is_too_large g.D.NameId.SolverId.are_many g.D.Interner.universe g.D.DependencyProvider.answers
+
+-- its laws
+abbrev lawful : (g : Over) (p : g.row.D.Denot) → IsLawful (given g p)
+lawful g p = record {
+  reflexive = g.met.D.SolvableId.Eq.laws.refl;
+  same = g.met.D.SolvableId.SameValue.same;
+  candidates = g.met.D.DependencyProvider.candidates_known p;
+  order = g.met.D.DependencyProvider.order_permutes p;
+}
 
 pub loop-command-preserved : goal.loop-command-preserved
 loop-command-preserved g c = record {
@@ -26,5 +43,5 @@ returns-clause-one_each g c = omega (arith, c.loop-command.invariant.len, c.loop
 
 pub returns-clause-sound : goal.returns-clause-sound
 returns-clause-sound g c =
-    IsSound-run (map command_of (take c.loop-command.command-index c.args.commands.now)) (map reply_of c.loop-command.replies.items) g.met.D.SolvableId.Eq.laws.refl c.self.invariant.sound
+    IsSound-run (map command_of (take c.loop-command.command-index c.args.commands.now)) (map reply_of c.loop-command.replies.items) (lawful g c.self.inside.cache.provider) c.self.invariant.sound
     (rw (← c.self.view_is) at c.loop-command.invariant.ran)

@@ -1,0 +1,141 @@
+-- What stores name is known: what variables stand for, and what clauses name. N are the names, S the solvables.
+use Rattle.std.proofs.Common.{◌≡◌, ℕ, ◌+◌, ◌<◌, ◌≤◌, arith, Bool, true, false, List, [], ◌∷◌, ◌++◌, length, Option, None, Some, refl, subst, zero, suc}
+use Rattle.std.specs.Prelude.{All, ◌&&◌, is_some, if◌then◌else◌, flat_map, nat_lt}
+use Rattle.std.specs.List.{position_from, remove}
+use Rattle.std.specs.List.Sorted.{IsPermutation}
+use Rattle.std.proofs.lemmas.Bool.Decides.{nat_tests}
+use Rattle.std.proofs.lemmas.List.Elements.{All-nil, All-cons, All-head, All-tail, All-push, All-append, All-take, All-drop, All-filter}
+use Rattle.std.proofs.lemmas.List.Sorted.{All-permutation}
+use Rattle.typed_ids.specs.declared.version_set_id.VersionSetId.{VersionSetId}
+use Rattle.providers.specs.Provider.{Universe, matching, sorted, favored_first, from_place}
+use Rattle.variables.specs.declared.variable_origin.VariableOrigin.{VariableOrigin}
+use Rattle.variables.specs.declared.variable_origin.VariableOrigin.TheVariants.{Solvable}
+use Rattle.variables.specs.Variables.{variable_of_solvable, with_variable, with_variables}
+use Rattle.variable_info.specs.VariableTexts.{knows_origin}
+use Rattle.clauses.specs.ClauseTexts.{IsKnown, IsKnownClause}
+use Rattle.clauses.specs.declared.clause.Clause.{Clause}
+use Rattle.clauses.specs.declared.clause.Clause.TheVariants as Kind
+use Rattle.resolvo_store.specs.Store.{Provider}
+use Rattle.resolvo_store.proofs.AddingLemmas.{both}
+
+module _ {N S : Type 0} (universe : Universe N S) where
+  -- what the origin names is known
+  abbrev pub IsKnownOrigin : VariableOrigin N S → Type 0
+  IsKnownOrigin o = knows_origin universe o ≡ true
+
+  abbrev pub IsKnownSolvable : S → Type 0
+  IsKnownSolvable s = universe.knows_solvable s ≡ true
+
+  -- ---- variables
+
+  -- a variable among known origins is known
+  pub variable_known : (os : List (VariableOrigin N S)) → All IsKnownOrigin os → (v : ℕ) → v < length os → IsKnown universe os v
+  variable_known [] all v within = absurd (omega (arith, within))
+  variable_known (o ∷ os) all zero within = All-head IsKnownOrigin o os all
+  variable_known (o ∷ os) all (suc v) within = variable_known os (All-tail IsKnownOrigin o os all) v (omega (arith, within))
+
+  -- a known one is among them
+  known_within : (os : List (VariableOrigin N S)) (v : ℕ) → IsKnown universe os v → v < length os
+  known_within [] zero known = (let no : false ≡ true = known in cc)
+  known_within [] (suc v) known = (let no : false ≡ true = known in cc)
+  known_within (o ∷ os) zero known = omega arith
+  known_within (o ∷ os) (suc v) known = omega (arith, known_within os v known)
+
+  module _ (same : S → S → Bool) where
+    known-with : (os : List (VariableOrigin N S)) (s : S) → IsKnownSolvable s → All IsKnownOrigin os → All IsKnownOrigin (with_variable same os s)
+    known-with os s known all =
+        elim (is_some (variable_of_solvable same os s)) as (λ b. All IsKnownOrigin (if b then os else os ++ Solvable s ∷ []))
+        [ true ↦ all | false ↦ All-push IsKnownOrigin os (Solvable s) all known ]
+
+    -- once known solvables have variables, what variables stand for is known still
+    pub known-with_variables : (os : List (VariableOrigin N S)) (ss : List S) → All IsKnownSolvable ss → All IsKnownOrigin os → All IsKnownOrigin (with_variables same os ss)
+    known-with_variables os [] known all = all
+    known-with_variables os (s ∷ ss) known all =
+        known-with_variables (with_variable same os s) ss (All-tail IsKnownSolvable s ss known) (known-with os s (All-head IsKnownSolvable s ss known) all)
+
+  -- ---- clauses
+
+  module _ (os more : List (VariableOrigin N S)) (longer : length os ≤ length more) (all : All IsKnownOrigin more) where
+    kept : (v : ℕ) → IsKnown universe os v → IsKnown universe more v
+    kept v known = variable_known more all v (omega (arith, known_within os v known, longer))
+
+    -- what a clause names is known still where there are more variables
+    pub clause_kept : (c : Clause N) → IsKnownClause universe os c → IsKnownClause universe more c
+    clause_kept Kind.InstallRoot k = k
+    clause_kept (Kind.Requires parent d r) k = (kept parent k.0, k.1)
+    clause_kept (Kind.ForbidMultipleInstances a l n) k = (kept a k.0, kept _ k.1, k.2)
+    clause_kept (Kind.Constrains a b v) k = (kept a k.0, kept b k.1, k.2)
+    clause_kept (Kind.ConstrainsExcluded a aux v) k = (kept a k.0, kept aux k.1, k.2)
+    clause_kept (Kind.ConstrainsParent a aux v) k = (kept a k.0, kept aux k.1, k.2)
+    clause_kept (Kind.Lock locked other) k = (kept locked k.0, kept other k.1)
+    clause_kept (Kind.Learnt id) k = k
+    clause_kept (Kind.Excluded a reason) k = (kept a k.0, k.1)
+    clause_kept (Kind.AnyOf selected other) k = (kept selected k.0, kept other k.1)
+
+  -- by the tests of a command that adds a clause
+  module _ (os : List (VariableOrigin N S)) (all : All IsKnownOrigin os) where
+    pub known_one : (v : ℕ) → nat_lt v (length os) ≡ true → IsKnown universe os v
+    known_one v test = variable_known os all v (let within : v < length os = grind (arith, nat_tests, test) in within)
+
+    pub known_two : (v w : ℕ) → (nat_lt v (length os) && nat_lt w (length os)) ≡ true → IsKnown universe os v × IsKnown universe os w
+    known_two v w test =
+        let tests = both (nat_lt v (length os)) (nat_lt w (length os)) test in
+        (known_one v tests.0, known_one w tests.1)
+
+    pub known_three : (v w : ℕ) (third : Bool) → ((nat_lt v (length os) && nat_lt w (length os)) && third) ≡ true
+        → IsKnown universe os v × IsKnown universe os w × (third ≡ true)
+    known_three v w third test =
+        let tests = both (nat_lt v (length os) && nat_lt w (length os)) third test in
+        let two = known_two v w tests.0 in
+        (two.0, two.1, tests.1)
+
+    pub known_excluded : (v : ℕ) (second : Bool) → (nat_lt v (length os) && second) ≡ true → IsKnown universe os v × (second ≡ true)
+    known_excluded v second test =
+        let tests = both (nat_lt v (length os)) second test in
+        (known_one v tests.0, tests.1)
+
+-- ---- candidates
+
+-- what passes a test somewhere in a list is like all of the list
+found_is : {X : Type 0} (P : X → Type 0) (test : X → Bool) (x : X) → ((y : X) → test y ≡ true → y ≡ x) → (i p : ℕ) (xs : List X)
+    → position_from test i xs ≡ Some p → All P xs → P x
+found_is P test x only i p [] found all = (let no : ◌≡◌ {A = Option ℕ} None (Some p) = found in cc)
+found_is P test x only i p (y ∷ ys) found all =
+    (elim (test y) as (λ b. test y ≡ b → (if b then Some i else position_from test (i + 1) ys) ≡ Some p → P x) [
+      | true ↦ λ t f. subst P (only y t) (All-head P y ys all)
+      | false ↦ λ t f. found_is P test x only (i + 1) p ys f (All-tail P y ys all)
+    ]) refl found
+
+-- the laws of a provider and its ids by which its candidates are known
+pub record IsLawful {N S : Type 0} (p : Provider N S) : Type 0 where
+  pub reflexive : (s : S) → p.same_solvable s s ≡ true
+  pub same : (s t : S) → p.same_solvable s t ≡ true → s ≡ t
+  pub candidates : (n : N) → All (IsKnownSolvable p.universe) (p.answers.candidates n)
+  pub order : (list : List S) → IsPermutation list (p.answers.order list)
+
+module _ {N S : Type 0} (p : Provider N S) (is : IsLawful p) where
+  abbrev Known : S → Type 0
+  Known = IsKnownSolvable p.universe
+
+  favored_known : (o : Option S) (list : List S) → All Known list → All Known (favored_first p.same_solvable o list)
+  favored_known None list all = all
+  favored_known (Some s) list all = by_place (position_from (λ t. p.same_solvable t s) 0 list) refl
+    where
+      by_place : (o : Option ℕ) → position_from (λ t. p.same_solvable t s) 0 list ≡ o → All Known (from_place s list o)
+      by_place None found = all
+      by_place (Some place) found =
+          All-cons Known s (remove list place) (found_is Known (λ t. p.same_solvable t s) s (λ t h. is.same t s h) 0 place list found all)
+          (All-append Known _ _ (All-take Known place list all) (All-drop Known (suc place) list all))
+
+  -- the candidates of a version set are known
+  pub sorted_known : (v : VersionSetId) → All Known (sorted p.universe p.answers p.same_solvable v)
+  sorted_known v =
+      let name = p.universe.set_name v in
+      favored_known (p.answers.favored name) (p.answers.order (matching p.universe p.answers v))
+      (All-permutation Known (matching p.universe p.answers v) _ (is.order (matching p.universe p.answers v))
+      (All-filter _ Known (p.answers.candidates name) (is.candidates name)))
+
+  -- so are those of several, one after the other
+  pub all_known : (vs : List VersionSetId) → All Known (flat_map (sorted p.universe p.answers p.same_solvable) vs)
+  all_known [] = All-nil Known
+  all_known (v ∷ vs) = All-append Known (sorted p.universe p.answers p.same_solvable v) _ (sorted_known v) (all_known vs)

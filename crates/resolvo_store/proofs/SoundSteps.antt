@@ -1,0 +1,188 @@
+-- Steps and runs lead from sound stores to sound ones, and a new store is sound.
+use Rattle.std.proofs.Common.{◌≡◌, ℕ, ◌<◌, ◌≤◌, Bool, true, false, cond, List, [], ◌∷◌, ◌++◌, length, Option, None, Some, IsSome, refl, arith, sym, ◌∙◌, ap, subst, zero, suc, ◌⊎◌, inl, inr}
+use Rattle.std.specs.Prelude.{◌^◌, ⊤, slice_get, is_none, find, option_map, MatchOption, ◌&&◌, not}
+use Rattle.std.specs.List.{IsDistinct}
+use Rattle.std.proofs.lemmas.Bool.Decides.{nat_tests}
+use Rattle.std.proofs.lemmas.List.Elements.{All-nil, All-cons}
+use Rattle.typed_ids.specs.declared.error.StoreError.{StoreError}
+use Rattle.providers.specs.Requirement.{same_requirement}
+use Rattle.providers.specs.Provider.{Universe, knows_requirement, sets_of}
+use Rattle.variables.specs.declared.variable_origin.VariableOrigin.TheVariants.{Root as RootOrigin}
+use Rattle.decisions.specs.Trail.{Entry, HasLevel}
+use Rattle.clauses.specs.Clauses.{first_watches}
+use Rattle.clauses.specs.ClauseTexts.{IsKnownClause}
+use Rattle.clauses.specs.declared.clause.Clause.{Clause}
+use Rattle.clauses.specs.declared.clause.Clause.TheVariants as Kind
+use Rattle.resolvo_store.specs.Command.{Command, Variable, Helper, Load, Requires, Root, Constrains, ConstrainsExcluded, ConstrainsParent, Lock, Exclude, AnyOf, Learnt, Assign, UndoLast, UndoUntil, Unpropagated, Decide, Reply, Refused}
+use Rattle.resolvo_store.specs.Store.{Store, Provider, new_store, values, lists_of, kept_literals, candidates_of}
+use Rattle.resolvo_store.specs.Refusals.{knows_variable, refusals, first_refusal}
+use Rattle.resolvo_store.specs.Outcome.{outcome, assigned, load, hands_next, with_learnt}
+use Rattle.resolvo_store.specs.Step.{IsAnswered, Step, Run}
+use Rattle.resolvo_store.specs.Sound.{IsSound, IsLoaded, IsRegistered, IsAssigned, HasOneVariableEach}
+use Rattle.resolvo_store.proofs.AddingLemmas.{both}
+use Rattle.resolvo_store.proofs.SoundLaws.{IsSound-with_variable, IsSound-interned, IsSound-added, IsSound-helper, IsSound-requires, IsSound-plain, IsSound-assigned, IsSound-without_newest, IsSound-kept_until, IsSound-hands_next}
+use Rattle.resolvo_store.proofs.KnownLemmas.{IsKnownOrigin, IsLawful, known_two, known_three, known_excluded, all_known}
+
+-- ---- refusals
+
+-- no test of a refusal holds
+abbrev NoneApplies : List (Bool × StoreError) → Type 0
+NoneApplies [] = ⊤
+NoneApplies (r ∷ rs) = (r.0 ≡ false) × NoneApplies rs
+
+none_applies : (rs : List (Bool × StoreError)) → option_map (λ (r : Bool × StoreError). r.1) (find (λ (r : Bool × StoreError). r.0) rs) ≡ None → NoneApplies rs
+none_applies [] none = tt
+none_applies (r ∷ rs) none =
+    let split = by_test r.0 (find (λ (x : Bool × StoreError). x.0) rs) none in
+    (split.0, none_applies rs split.1)
+  where
+    by_test : (b : Bool) (o : Option (Bool × StoreError)) → option_map (λ (x : Bool × StoreError). x.1) (cond b (Some r) o) ≡ None
+        → (b ≡ false) × (option_map (λ (x : Bool × StoreError). x.1) o ≡ None)
+    by_test true o h = cc
+    by_test false o h = (refl, h)
+
+-- a test whose failure is refused holds
+passed : (b : Bool) → not b ≡ false → b ≡ true
+passed true h = refl
+passed false h = (let no : true ≡ false = h in cc)
+
+is_there : {X : Type 0} (o : Option X) → is_none o ≡ false → IsSome o
+is_there None h = let no : true ≡ false = h in cc
+is_there (Some x) h = refl
+
+module _ {N S : Type 0} (st : Store N S) (sound : IsSound st) (lawful : IsLawful st.provider) where
+  -- ---- a command that nothing refuses
+
+  -- its first test holds, by which all that it names is known
+  abbrev test_of : (c : Command N S) → first_refusal st c ≡ None → NoneApplies (refusals st c)
+  test_of c none = none_applies (refusals st c) none
+
+  abbrev universe : Universe N S
+  universe = st.provider.universe
+
+  pub IsSound-outcome : (c : Command N S) → first_refusal st c ≡ None → IsSound (outcome st c).store
+  IsSound-outcome (Variable s) none = IsSound-with_variable st sound lawful s (passed _ (test_of (Variable s) none).0)
+  IsSound-outcome (Helper origin) none = IsSound-helper st sound origin (passed _ (test_of (Helper origin) none).0)
+  IsSound-outcome (Load r) none = by_lists (lists_of st r) refl
+    where
+      by_lists : (o : Option (List (List ℕ))) → lists_of st r ≡ o → IsSound (load st r o).store
+      by_lists (Some lists) h = sound
+      by_lists None h = IsSound-interned st sound lawful r (candidates_of st) (sets_of universe r) (all_known st.provider lawful (sets_of universe r)) h refl
+  IsSound-outcome (Requires parent r disjunction) none =
+      let tests = test_of (Requires parent r disjunction) none in
+      let known : parent < length st.origins = grind (arith, nat_tests, tests.0) in
+      let named = both (knows_variable st parent) (knows_requirement universe r && is_none disjunction) (passed _ tests.0) in
+      let requirement = both (knows_requirement universe r) (is_none disjunction) named.1 in
+      let c : Clause N = Kind.Requires parent disjunction r in
+      IsSound-requires st sound parent disjunction r (first_watches (kept_literals st) (values st) c) requirement.0 known (is_there (lists_of st r) tests.1.0)
+  IsSound-outcome Root none = IsSound-added st sound Kind.InstallRoot tt (record { unregistered = λ id. refl })
+  IsSound-outcome (Constrains parent forbidden v) none =
+      let known = known_three universe st.origins sound.origins_known parent forbidden _ (passed _ (test_of (Constrains parent forbidden v) none).0) in
+      IsSound-added st sound (Kind.Constrains parent forbidden v) known (record { unregistered = λ id. refl })
+  IsSound-outcome (ConstrainsExcluded candidate aux v) none =
+      let known = known_three universe st.origins sound.origins_known candidate aux _ (passed _ (test_of (ConstrainsExcluded candidate aux v) none).0) in
+      IsSound-added st sound (Kind.ConstrainsExcluded candidate aux v) known (record { unregistered = λ id. refl })
+  IsSound-outcome (ConstrainsParent parent aux v) none =
+      let known = known_three universe st.origins sound.origins_known parent aux _ (passed _ (test_of (ConstrainsParent parent aux v) none).0) in
+      IsSound-added st sound (Kind.ConstrainsParent parent aux v) known (record { unregistered = λ id. refl })
+  IsSound-outcome (Lock locked other) none =
+      let known = known_two universe st.origins sound.origins_known locked other (passed _ (test_of (Lock locked other) none).0) in
+      IsSound-added st sound (Kind.Lock locked other) known (record { unregistered = λ id. refl })
+  IsSound-outcome (Exclude v reason) none =
+      let known = known_excluded universe st.origins sound.origins_known v _ (passed _ (test_of (Exclude v reason) none).0) in
+      IsSound-added st sound (Kind.Excluded v reason) known (record { unregistered = λ id. refl })
+  IsSound-outcome (AnyOf selected other) none =
+      let known = known_two universe st.origins sound.origins_known selected other (passed _ (test_of (AnyOf selected other) none).0) in
+      IsSound-added st sound (Kind.AnyOf selected other) known (record { unregistered = λ id. refl })
+  IsSound-outcome (Learnt ls) none =
+      let c : Clause N = Kind.Learnt (length st.learnt) in
+      IsSound-plain st sound c (first_watches (kept_literals (with_learnt st ls)) (values st) c) (st.learnt ++ ls ∷ []) tt (record { unregistered = λ id. refl })
+  IsSound-outcome (Assign v value clause level) none =
+      let tests = test_of (Assign v value clause level) none in
+      let known : v < length st.origins = grind (arith, nat_tests, tests.0) in
+      let registered : clause < length st.clauses = grind (arith, nat_tests, tests.0) in
+      let low : 1 ≤ level = grind (arith, nat_tests, tests.1.0) in
+      let high : level < 2 ^ 31 = grind (arith, nat_tests, tests.1.0) in
+      IsSound-assigned st sound (record { decision = record { variable = v; value = value; derived_from = clause }; level = level })
+      (record { variable = known; clause = registered }) (low, high)
+  IsSound-outcome UndoLast none = IsSound-without_newest st sound
+  IsSound-outcome (UndoUntil level) none = IsSound-kept_until st sound level
+  IsSound-outcome Unpropagated none = IsSound-hands_next st sound
+  IsSound-outcome Decide none = sound
+
+-- ---- new stores, steps and runs
+
+none_loaded : IsDistinct same_requirement []
+unfolding IsDistinct
+none_loaded = tt
+
+module _ {N S : Type 0} where
+  one_variable : (p : Provider N S) → HasOneVariableEach (new_store p)
+  one_variable p zero s e = cc
+  one_variable p (suc v) s e = cc
+
+  pub IsSound-new_store : (p : Provider N S) → IsSound (new_store p)
+  IsSound-new_store p = record {
+    root_first = refl;
+    origins_known = All-cons (IsKnownOrigin p.universe) RootOrigin [] refl (All-nil (IsKnownOrigin p.universe));
+    clauses_known = All-nil (IsKnownClause p.universe (RootOrigin ∷ []));
+    one_variable_each = one_variable p;
+    loaded_once = none_loaded;
+    loaded = All-nil (IsLoaded (new_store p));
+    registered = refl;
+    watched = refl;
+    clauses = All-nil (IsRegistered (new_store p));
+    place = omega arith;
+    trail = record { once = tt; levels = All-nil HasLevel };
+    assigned = All-nil (IsAssigned (new_store p));
+  }
+
+  -- a step leaves the store, or leads to the outcome of a command that nothing refuses
+  pub step_store : (old new : Store N S) (c : Command N S) (reply : Reply) → Step old c reply new
+      → (new ≡ old) ⊎ ((first_refusal old c ≡ None) × (new ≡ (outcome old c).store))
+  step_store old new c reply step = by_refusal (first_refusal old c) step
+    where
+      by_reply : (r : Reply) → IsAnswered old c r new → (new ≡ old) ⊎ (new ≡ (outcome old c).store)
+      by_reply (Refused e) h = inl h.1
+      by_reply _ h = inr h.2
+
+      by_refusal : (x : Option StoreError) → MatchOption x (IsAnswered old c reply new) (λ e. (reply ≡ Refused e) × (new ≡ old))
+          → (new ≡ old) ⊎ ((x ≡ None) × (new ≡ (outcome old c).store))
+      by_refusal None h = elim (by_reply reply h) [ inl same ↦ inl same | inr done ↦ inr (refl, done) ]
+      by_refusal (Some e) h = inl h.1
+
+  pub IsSound-step : {old new : Store N S} (c : Command N S) (reply : Reply) → IsLawful old.provider → IsSound old → Step old c reply new → IsSound new
+  IsSound-step {old} {new} c reply lawful sound step = elim (step_store old new c reply step) [
+    | inl same ↦ subst (λ st. IsSound st) (sym same) sound
+    | inr done ↦ subst (λ st. IsSound st) (sym done.1) (IsSound-outcome old sound lawful c done.0)
+  ]
+
+  outcome_provider : (st : Store N S) (c : Command N S) → (outcome st c).store.provider ≡ st.provider
+  outcome_provider st (Load r) = by_lists (lists_of st r)
+    where
+      by_lists : (o : Option (List (List ℕ))) → (load st r o).store.provider ≡ st.provider
+      by_lists (Some lists) = refl
+      by_lists None = refl
+  outcome_provider st Unpropagated = by_entry (slice_get st.trail st.place)
+    where
+      by_entry : (o : Option Entry) → (hands_next st o).store.provider ≡ st.provider
+      by_entry None = refl
+      by_entry (Some e) = refl
+  outcome_provider st _ = refl
+
+  -- a step leaves the provider
+  pub step_provider : (old new : Store N S) (c : Command N S) (reply : Reply) → Step old c reply new → new.provider ≡ old.provider
+  step_provider old new c reply step = elim (step_store old new c reply step) [
+    | inl same ↦ ap (λ st. st.provider) same
+    | inr done ↦ ap (λ st. st.provider) done.1 ∙ outcome_provider old c
+  ]
+
+  run_sound : (old new : Store N S) (cs : List (Command N S)) (replies : List Reply) → IsLawful old.provider → IsSound old → Run old cs replies new → IsSound new
+  run_sound old new [] [] lawful sound ran = subst (λ st. IsSound st) (sym ran) sound
+  run_sound old new (c ∷ cs) (reply ∷ replies) lawful sound ran =
+      run_sound ran.0 new cs replies (subst (λ p. IsLawful p) (sym (step_provider old ran.0 c reply ran.1)) lawful) (IsSound-step c reply lawful sound ran.1) ran.2
+  run_sound old new [] (reply ∷ replies) lawful sound ran = absurd ran
+  run_sound old new (c ∷ cs) [] lawful sound ran = absurd ran
+
+  pub IsSound-run : {old new : Store N S} (cs : List (Command N S)) (replies : List Reply) → IsLawful old.provider → IsSound old → Run old cs replies new → IsSound new
+  IsSound-run {old} {new} cs replies lawful sound ran = run_sound old new cs replies lawful sound ran

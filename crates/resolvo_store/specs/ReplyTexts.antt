@@ -1,0 +1,61 @@
+-- The texts of replies, as their bytes.
+use Rattle.std.specs.Prelude.{ℕ, Bool, List, [], ◌∷◌, ◌++◌, flat_map, Option, None, Some, if◌then◌else◌, codes, decimal}
+use Rattle.typed_ids.specs.Refusals.{code_of}
+use Rattle.decisions.specs.declared.decision.Decision.{Decision}
+use Rattle.resolvo_queue.specs.declared.queue_decision.QueueDecision.{QueueDecision}
+use Rattle.resolvo_store.specs.Command.{Reply, VariableIs, LoadedAs, ClauseIs, Assigned, Already, Clash, Undone, Next, Decided, NoDecision, Falsified, Refused}
+
+-- a name, and a number directly after it
+abbrev pub field : List ℕ → ℕ → List ℕ
+field name n = name ++ decimal n
+
+-- each member after a comma
+abbrev pub others_text : List ℕ → List ℕ
+others_text vs = flat_map (field (codes ",")) vs
+
+-- the members of a list, joined by commas, or - for none
+abbrev pub list_text : List ℕ → List ℕ
+list_text [] = codes "-"
+list_text (v ∷ vs) = decimal v ++ others_text vs
+
+-- each list after a blank
+abbrev pub lists_text : List (List ℕ) → List ℕ
+lists_text ls = flat_map (λ l. codes " " ++ list_text l) ls
+
+abbrev pub conflict_text : Bool → List ℕ
+conflict_text conflict = if conflict then codes " conflict" else []
+
+abbrev pub truth_text : Bool → List ℕ
+truth_text value = if value then codes " true" else codes " false"
+
+-- a variable, its value, and the clause that gave it, each after a blank
+abbrev pub assignment_text : Decision → List ℕ
+assignment_text d = field (codes " ") d.variable ++ (truth_text d.value ++ field (codes " ") d.derived_from)
+
+abbrev pub undone_text : Option (Decision × ℕ) → List ℕ
+undone_text None = codes "undone"
+undone_text (Some (d, level)) = codes "undone" ++ (assignment_text d ++ field (codes " ") level)
+
+abbrev pub next_text : Option Decision → List ℕ
+next_text None = codes "next none"
+next_text (Some d) = codes "next" ++ assignment_text d
+
+abbrev pub decision_text : QueueDecision → List ℕ
+decision_text d =
+    field (codes "decided ") d.candidate ++ (field (codes " by ") d.required_by ++ (field (codes " clause ") d.clause_id ++
+    (field (codes " score ") d.package_activity ++ field (codes " count ") d.candidate_count)))
+
+-- the words of a reply
+abbrev pub reply_words : Reply → List ℕ
+reply_words (VariableIs v) = field (codes "variable ") v
+reply_words (LoadedAs lists) = codes "loaded" ++ lists_text lists
+reply_words (ClauseIs c conflict) = field (codes "clause ") c ++ conflict_text conflict
+reply_words Assigned = codes "assigned"
+reply_words Already = codes "already"
+reply_words Clash = codes "clash"
+reply_words (Undone last) = undone_text last
+reply_words (Next decision) = next_text decision
+reply_words (Decided d) = decision_text d
+reply_words NoDecision = codes "no decision"
+reply_words (Falsified c) = field (codes "falsified ") c
+reply_words (Refused e) = field (codes "refused ") (code_of e)
