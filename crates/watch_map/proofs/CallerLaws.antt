@@ -1,0 +1,82 @@
+-- The laws for callers hold.
+use Rattle.std.proofs.Common.{◌≡◌, ◌≢◌, ℕ, zero, suc, true, false, nat_eq, List, [], ◌∷◌, ◌++◌, Option, Some, None, length, sym, ap, refl, subst, ◌∙◌, arith}
+use Rattle.std.specs.List.{IsDistinct}
+use Rattle.decisions.specs.LiteralIndex.{literal_index}
+use Rattle.id_storage.specs.Mapping.{value_at}
+use Rattle.clauses.specs.declared.watched_literals.WatchedLiterals.{WatchedLiterals}
+use Rattle.watch_map.specs.Laws.{SameRecordsBelong, RecordsGrow, RecordsSkip, RoomIsForFewer, CursorsDivide, ClausesAreMetOnce, CursorsOutliveRoom}
+use Rattle.watch_map.specs.Watching.{is_clause_in, before}
+use Rattle.watch_map.specs.WatchLists.{Ring, Watches, record_of, literals_in, watched_by, watchers, HasRoom, RingHasRoom, literal_of, clause_of}
+use Rattle.watch_map.specs.WatchCalls.{passed, rest}
+use Rattle.watch_map.proofs.WatchingLaws.{split, exact_same, distinct_head, distinct_tail}
+
+-- ---- records
+
+pub same_records_belong : SameRecordsBelong
+unfolding watchers
+same_records_belong map old new same watched = (
+  record { exact = exact_same (watched_by old) (watched_by new) (watchers map old) (watchers map new) (λ c. ap literals_in (same c)) (λ l. refl) watched.exact },
+  λ l. refl,
+)
+
+record_at_end : (watches : Watches) (watched : WatchedLiterals) → record_of (watches ++ Some watched ∷ []) (length watches) ≡ Some watched
+record_at_end [] watched = refl
+record_at_end (w ∷ watches) watched = record_at_end watches watched
+
+record_elsewhere : (watches : Watches) (watched : WatchedLiterals) (clause : ℕ) → clause ≢ length watches →
+    record_of (watches ++ Some watched ∷ []) clause ≡ record_of watches clause
+record_elsewhere [] watched zero ne = absurd (ne refl)
+record_elsewhere [] watched (suc clause) ne = refl
+record_elsewhere (w ∷ watches) watched zero ne = refl
+record_elsewhere (w ∷ watches) watched (suc clause) ne = record_elsewhere watches watched clause (λ e. ne (ap suc e))
+
+nothing_at_end : (watches : Watches) → watched_by watches (length watches) ≡ []
+nothing_at_end [] = refl
+nothing_at_end (w ∷ watches) = nothing_at_end watches
+
+pub records_grow : RecordsGrow
+records_grow watches watched = (nothing_at_end watches, (record_at_end watches watched, record_elsewhere watches watched))
+
+pub records_skip : RecordsSkip
+records_skip [] zero = refl
+records_skip [] (suc clause) = refl
+records_skip (w ∷ watches) zero = refl
+records_skip (w ∷ watches) (suc clause) = records_skip watches clause
+
+-- ---- room
+
+pub room_is_for_fewer : RoomIsForFewer
+unfolding HasRoom
+room_is_for_fewer map l n k le = go (value_at map (literal_index l))
+  where
+    go : (row : Option Ring) → RingHasRoom n row → RingHasRoom k row
+    go None r = r
+    go (Some row) r = omega (arith, le, r)
+
+-- ---- cursors
+
+pub cursors_divide : CursorsDivide
+cursors_divide cursor map watches stands = split (clause_of cursor) (watchers map watches (literal_of cursor)) stands.member
+
+pub clauses_are_met_once : ClausesAreMetOnce
+clauses_are_met_once cursor map watches stands clause h =
+    go (passed cursor map watches) (subst (IsDistinct nat_eq) (cursors_divide cursor map watches stands) (stands.watched.exact.once (literal_of cursor)))
+  where
+    go : (front : List ℕ) → IsDistinct nat_eq (front ++ clause_of cursor ∷ rest cursor map watches) → clause ≢ clause_of cursor
+    go [] once k =
+        let inside : is_clause_in (clause_of cursor) (rest cursor map watches) ≡ true = subst (λ c. is_clause_in c (rest cursor map watches) ≡ true) k h in
+        let outside : is_clause_in (clause_of cursor) (rest cursor map watches) ≡ false = distinct_head (clause_of cursor) (rest cursor map watches) once in
+        let z : true ≡ false = sym inside ∙ outside in cc
+    go (x ∷ front) once k = go front (distinct_tail x (front ++ clause_of cursor ∷ rest cursor map watches) once) k
+
+pub cursors_outlive_room : CursorsOutliveRoom
+cursors_outlive_room cursor old new watches same stands = record {
+  watched = (same watches stands.watched).0;
+  member = subst (λ xs. is_clause_in (clause_of cursor) xs ≡ true) (sym list) stands.member;
+  within = stands.within;
+  watch = stands.watch;
+  placed = subst (λ xs. cursor.place ≡ length (before (clause_of cursor) xs)) (sym list) stands.placed;
+}
+  where
+    list : watchers new watches (literal_of cursor) ≡ watchers old watches (literal_of cursor)
+    list = (same watches stands.watched).1 (literal_of cursor)

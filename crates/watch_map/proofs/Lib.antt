@@ -1,0 +1,7 @@
+mod CountLaws
+mod CursorLaws
+mod ItemLaws
+mod RingLaws
+mod UpdateLaws
+mod WatchingLaws
+pub mod CallerLaws

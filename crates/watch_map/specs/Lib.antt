@@ -1,0 +1,4 @@
+pub mod Laws
+pub mod WatchCalls
+pub mod WatchLists
+pub mod Watching
