@@ -1,8 +1,8 @@
-//! Measures the storage that is kept by ids, each call beside the same loop over a plain `Vec` or, where names are
-//! looked for, a `HashMap`, in one run.
+//! Measures the storage that is kept by ids, the trail, and what replaces a watch, each call beside the same loop over
+//! plain `Vec`s or, where names are looked for, a `HashMap`, in one run.
 //!
 //! Without an argument it prints nothing and ends. With one it prints a line for each call and each number of values:
-//! nanoseconds a call, of the storage and of what stands beside it.
+//! nanoseconds a call, of ours and of what stands beside it.
 #![tactic(auto)]
 
 mod arena;
@@ -14,6 +14,8 @@ mod order;
 mod pool;
 mod report;
 mod total_map;
+mod trail;
+mod watches;
 mod work;
 
 use fault::Fault;
@@ -46,5 +48,7 @@ fn measure_each(rt: &(impl Print + Clock + AllocGlobal), size: u32) -> Result<()
     arena::measure(rt, size)?;
     indexed_set::measure(rt, size)?;
     total_map::measure(rt, size)?;
-    pool::measure(rt, size)
+    pool::measure(rt, size)?;
+    trail::measure(rt, size)?;
+    watches::measure(rt, size)
 }

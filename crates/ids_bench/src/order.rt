@@ -1,6 +1,6 @@
 //! The ids that the loops go through.
 use std::alloc::{AllocError, Global};
-use typed_ids::NameId;
+use typed_ids::{DenseIndex, NameId};
 
 /// How many calls a measured loop makes, about.
 const CALLS: u32 = 20_000_000;
@@ -20,10 +20,13 @@ pub(crate) fn ascending(alloc: Global, size: u32) -> Result<Vec<NameId>, AllocEr
 }
 
 /// The ids below the size, each once, in an order that jumps about (for sizes that 7919 doesn't divide).
-pub(crate) fn ids(alloc: Global, size: u32) -> Result<Vec<NameId>, AllocError> {
+pub(crate) fn ids<I: DenseIndex>(alloc: Global, size: u32) -> Result<Vec<I>, AllocError> {
     let mut ids = Vec::new(alloc);
     for i in 0..size {
-        ids.push(NameId::from_raw(jumped(i, size)))?;
+        let index = jumped(i, size) as usize;
+        if I::in_range(index) {
+            ids.push(I::from_index(index))?;
+        }
     }
     Ok(ids)
 }
