@@ -1,1 +1,2 @@
 pub mod CallerLaws
+mod ListLaws

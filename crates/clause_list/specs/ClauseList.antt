@@ -1,37 +1,71 @@
 -- The clauses of a store, what each of them watches, and the literals of the learnt ones. N are the names of packages.
-use Rattle.std.specs.Prelude.{◌≡◌, ◌-◌, ◌≤◌, ◌^◌, Bool, ◌||◌, List, [], ◌∷◌, ◌++◌, length, take, Option, option_map}
+use Rattle.std.specs.Prelude.{◌≡◌, ℕ, ◌-◌, ◌<◌, ◌≤◌, ◌^◌, Bool, false, not, ◌&&◌, ◌||◌, if◌then◌else◌, List, [], ◌∷◌, ◌++◌, map, length, slice_set, slice_index_or, Option, option_map, unwrap_or}
 use Rattle.typed_ids.specs.Refusals.{are_ids_out}
 use Rattle.decisions.specs.Literals.{Lit}
-use Rattle.clauses.specs.Clauses.{watch_ends}
+use Rattle.clauses.specs.Clauses.{same_literal, watch_ends}
 use Rattle.clauses.specs.declared.clause.Clause.{Clause}
 use Rattle.clauses.specs.declared.clause.Clause.TheVariants.{Learnt}
 use Rattle.clauses.specs.declared.watched_literals.WatchedLiterals.{WatchedLiterals}
+use Rattle.watch_map.specs.Watching.{is_literal_in, IsExact, started, moved}
+use Rattle.watch_map.specs.WatchLists.{WatchLists, Watches, literals_in, watchers}
+use Rattle.watch_map.specs.WatchCalls.{HaveRoom}
 
 pub record Clauses (N : Type 0) : Type 0 where
   -- the clauses: the id of each is its place
   pub clauses : List (Clause N)
-  -- the two literals that each of them watches, if it watches some
-  pub watches : List (Option (List Lit))
+  -- the two literals that each of them watches, or none
+  pub watches : List (List Lit)
   -- the literals of the learnt ones
   pub learnt : List (List Lit)
+  -- for each literal the clauses that watch it, front first
+  pub watchers : Lit → List ℕ
+
+-- what a list of clauses keeps
+pub record Kept (N : Type 0) : Type 0 where
+  pub clauses : List (Clause N)
+  -- a record for each clause that watches something
+  pub records : Watches
+  pub learnt : List (List Lit)
+  pub lists : WatchLists
+  -- for how many clauses, and for how many records, there is room in all
+  pub clause_room : ℕ
+  pub record_room : ℕ
 
 -- the literals that are watched
 abbrev pub literals_watched : Option WatchedLiterals → Option (List Lit)
 literals_watched watches = option_map (λ w. w.watched_literals) watches
 
--- a list without its last element
-abbrev pub without_last : {X : Type 0} → List X → List X
-without_last xs = take (length xs - 1) xs
+-- two literals, or none
+abbrev pub two_or_none : Option (List Lit) → List Lit
+two_or_none watched = unwrap_or watched []
+
+-- these literals with another in the place of one
+abbrev pub rewatched : Lit → Lit → List Lit → List Lit
+rewatched from to literals = map (λ l. if same_literal l from then to else l) literals
 
 module _ {N : Type 0} where
+  -- the clauses that are kept
+  abbrev pub contents : Kept N → Clauses N
+  contents kept = record {
+    clauses = kept.clauses;
+    watches = map literals_in kept.records;
+    learnt = kept.learnt;
+    watchers = watchers kept.lists kept.records;
+  }
+
   -- no clauses
   abbrev pub no_clauses : Clauses N
-  no_clauses = record { clauses = []; watches = []; learnt = [] }
+  no_clauses = record { clauses = []; watches = []; learnt = []; watchers = λ l. [] }
 
-  -- as many watches as clauses, and not more clauses than ids
+  -- the literals that a clause watches
+  abbrev pub watched_by : Clauses N → ℕ → List Lit
+  watched_by cs clause = slice_index_or cs.watches clause []
+
+  -- as many watches as clauses, not more clauses than ids, and exact lists
   pub record IsClauseList (cs : Clauses N) : Type 0 where
     pub paired : length cs.watches ≡ length cs.clauses
     pub few : length cs.clauses ≤ 2 ^ 32 - 1
+    pub exact : IsExact (watched_by cs) cs.watchers
 
   -- no id is left for a clause
   abbrev pub is_full : Clauses N → Bool
@@ -43,8 +77,11 @@ module _ {N : Type 0} where
 
   -- one more clause at the end, with what it watches
   abbrev pub with_clause : Clauses N → Clause N → Option (List Lit) → Clauses N
-  with_clause cs clause watched =
-      record cs { clauses = cs.clauses ++ clause ∷ []; watches = cs.watches ++ watched ∷ [] }
+  with_clause cs clause watched = record cs {
+    clauses = cs.clauses ++ clause ∷ [];
+    watches = cs.watches ++ two_or_none watched ∷ [];
+    watchers = started (length cs.clauses) (two_or_none watched) cs.watchers;
+  }
 
   -- one more learnt clause, with its literals: it watches the first and the last of them
   abbrev pub with_learnt : Clauses N → List Lit → Clauses N
@@ -52,6 +89,20 @@ module _ {N : Type 0} where
       let more = with_clause cs (Learnt (length cs.learnt)) (watch_ends literals) in
       record more { learnt = cs.learnt ++ literals ∷ [] }
 
-  -- without the newest clause and what it watches; the literals of learnt clauses stay
-  abbrev pub without_newest : Clauses N → Clauses N
-  without_newest cs = record cs { clauses = without_last cs.clauses; watches = without_last cs.watches }
+  -- the clause watches the one literal, and not the other
+  abbrev pub can_rewatch : Clauses N → ℕ → Lit → Lit → Bool
+  can_rewatch cs clause from to = is_literal_in from (watched_by cs clause) && not (is_literal_in to (watched_by cs clause))
+
+  -- the clause watches another literal in the place of one
+  abbrev pub with_rewatched : Clauses N → ℕ → Lit → Lit → Clauses N
+  with_rewatched cs clause from to = record cs {
+    watches = slice_set cs.watches clause (rewatched from to (watched_by cs clause));
+    watchers = moved clause from to cs.watchers;
+  }
+
+  -- there is an id and room for one more clause that watches these
+  pub record HasRoom (kept : Kept N) (watched : List Lit) : Type 0 where
+    pub id : is_full (contents kept) ≡ false
+    pub clause : length kept.clauses < kept.clause_room
+    pub watch : length kept.clauses < kept.record_room
+    pub lists : HaveRoom kept.lists watched

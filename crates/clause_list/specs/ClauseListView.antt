@@ -1,12 +1,15 @@
 -- What is seen of a list of clauses.
-use Rattle.std.specs.Prelude.{map}
+use Rattle.std.specs.Prelude.{map, vec_capacity}
 use Rattle.clause_list.specs.declared.clause_list.ClauseList.TheInside.{Inside}
-use Rattle.clause_list.specs.ClauseList.{Clauses, literals_watched}
+use Rattle.clause_list.specs.ClauseList.{Kept}
 
--- the values of its three lists
-abbrev pub clauses_in : {N A : Type 0} → Inside N A → Clauses N
-clauses_in a = record {
+-- the values of its four lists, and the room in two of them
+abbrev pub kept_in : {N A : Type 0} → Inside N A → Kept N
+kept_in a = record {
   clauses = a.clauses.items;
-  watches = map literals_watched a.watches.items;
+  records = a.watches.items;
   learnt = map (λ literals. literals.items) a.learnt;
+  lists = a.map;
+  clause_room = vec_capacity a.clauses;
+  record_room = vec_capacity a.watches;
 }

@@ -1,2 +1,3 @@
 pub mod ClauseList
 pub mod ClauseListView
+pub mod Walks

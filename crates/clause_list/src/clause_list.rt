@@ -4,24 +4,27 @@
 //! hold them, so that a walk over watches doesn't read the clauses. The literals of learnt clauses are in an arena, since
 //! their number isn't fixed; those of the other kinds follow from the record.
 //!
-//! Clauses are added at the end, where each gets the next id. The newest can be taken back: for a caller that adds a
-//! clause in more than one place, and is refused the later one.
-ghost use Rattle.std.specs.Prelude.{◌≡◌, ◌<◌, ◌↔◌, [], length, map, slice_get, slice_index_or, None, option_map};
-ghost use Rattle.std.specs.Prelude.{IsTrue, IfOk, OnOk, OnErr, IfErr};
-ghost use Rattle.typed_ids.specs.declared.error.StoreError.TheVariants.{IdSpace};
+//! Clauses are added at the end, where each gets the next id, and watches its literals from then on. For a caller that
+//! adds a clause in more than one place, the room for it can be made before: then adding it isn't refused.
+ghost use Rattle.std.specs.Prelude.{◌≡◌, ◌<◌, ◌↔◌, [], length, map, slice_get, slice_index_or, false, if◌then◌else◌, option_map};
+ghost use Rattle.std.specs.Prelude.{IsTrue, IfOk, OnOk, OnErr, IfErr, Err};
+ghost use Rattle.typed_ids.specs.declared.error.StoreError.TheVariants.{IdSpace, OutOfMemory, BadWatch};
 ghost use Rattle.typed_ids.specs.Refusals.{IsGrowthRefusal};
-ghost use Rattle.clause_list.specs.ClauseList.{literals_watched, no_clauses, IsClauseList, is_full, is_learnt_full};
-ghost use Rattle.clause_list.specs.ClauseList.{with_clause, with_learnt, without_newest};
+ghost use Rattle.watch_map.specs.Watching.{AreTwoOrNone};
+ghost use Rattle.clause_list.specs.ClauseList.{literals_watched, two_or_none, no_clauses, IsClauseList, is_full, is_learnt_full};
+ghost use Rattle.clause_list.specs.ClauseList.{contents, with_clause, with_learnt, with_rewatched, can_rewatch, HasRoom};
 
+use crate::walks;
 use clauses::{Clause, WatchedLiterals};
 use decisions::Literal;
 use id_storage::Arena;
 use std::alloc::Allocator;
 use std::marker::Model;
 use typed_ids::{ClauseId, DenseIndex, LearntClauseId, StoreError};
+use watch_map::WatchMap;
 
-/// All clauses of a store, with what each of them watches, and the literals of the learnt ones. `N` are the names of
-/// packages.
+/// All clauses of a store, with what each of them watches, the clauses that watch each literal, and the literals of the
+/// learnt ones. `N` are the names of packages.
 ///
 /// Where names are ids of 32 bits, a clause's record has 24 bytes, beside 12 for what it watches.
 #[derive(Drop)]
@@ -29,75 +32,123 @@ pub struct ClauseList<N: Copy, A: Allocator + Copy> {
     clauses: Vec<Clause<N>, A>,
     /// What each clause watches.
     watches: Vec<Option<WatchedLiterals>, A>,
+    /// The clauses that watch each literal.
+    map: WatchMap<A>,
     learnt: Arena<LearntClauseId, Vec<Literal, A>, A>,
 }
 
-/// The clauses, what each of them watches, and the literals of the learnt ones.
+/// The clauses, what each of them watches, the clauses that watch each literal, and the literals of the learnt ones; and
+/// the room for more.
 impl<N: Copy, A: Allocator + Copy> Model for ClauseList<N, A> {
-    ghost use Rattle.clause_list.specs.ClauseList.{Clauses, IsClauseList};
+    ghost use Rattle.clause_list.specs.ClauseList.{Kept, contents, IsClauseList};
+    ghost use Rattle.clause_list.specs.ClauseListView.{kept_in};
+    ghost use Rattle.watch_map.specs.WatchLists.{AreWatched};
 
-    ghost Value = { Clauses N };
+    ghost Value = { Kept N };
 
-    ghost use Rattle.clause_list.specs.ClauseListView.{clauses_in};
+    ghost view = { kept_in };
 
-    ghost view = { clauses_in };
-
-    ghost invariant = { λ a. IsClauseList (clauses_in a) };
+    ghost invariant = { λ a. IsClauseList (contents (kept_in a)) × AreWatched a.map a.watches.items };
 }
 
 impl<N: Copy, A: Allocator + Copy> ClauseList<N, A> {
-    /// The list without clauses. Takes no memory.
-    pub fn new(alloc: A) -> Self
-        ensures { result ≡ no_clauses }
+    /// The list without clauses. Takes memory for the slots of the first literals.
+    pub fn new(alloc: A) -> Result<Self, StoreError>
+        ensures ok { IfOk result (λ list. contents list ≡ no_clauses) }
+        ensures err { IfErr result (λ e. e ≡ OutOfMemory) }
     {
-        ClauseList {
+        Ok(ClauseList {
             clauses: Vec::new(alloc),
             watches: Vec::new(alloc),
+            map: WatchMap::new(alloc)?,
             learnt: Arena::new(alloc),
-        }
+        })
     }
 
     /// How many clauses there are.
     pub fn len(&self) -> usize
-        ensures value { result ≡ length self.now.clauses }
-        ensures list { IsClauseList self.now }
+        ensures value { result ≡ length (contents self.now).clauses }
+        ensures list { IsClauseList (contents self.now) }
     {
         self.clauses.len()
     }
 
     /// Whether there are no clauses.
     pub fn is_empty(&self) -> bool
-        ensures { IsTrue result ↔ (self.now.clauses ≡ []) }
+        ensures { IsTrue result ↔ ((contents self.now).clauses ≡ []) }
     {
         self.clauses.is_empty()
     }
 
     /// Whether there are as many clauses as there may be.
     pub fn is_full(&self) -> bool
-        ensures { result ≡ is_full self.now }
+        ensures { result ≡ is_full (contents self.now) }
     {
         !ClauseId::in_range(self.clauses.len())
     }
 
     /// The clause of this id, if there is one.
     pub fn get(&self, id: ClauseId) -> Option<Clause<N>>
-        ensures { result ≡ slice_get self.now.clauses id }
+        ensures { result ≡ slice_get (contents self.now).clauses id }
     {
         self.clauses.get(id.to_index()).copied()
     }
 
     /// What the clause watches, if there is one of this id and it watches something.
     pub fn watches(&self, id: ClauseId) -> Option<&WatchedLiterals>
-        ensures { option_map (λ w. w.now.watched_literals) result ≡ slice_index_or self.now.watches id None }
+        ensures { two_or_none (option_map (λ w. w.now.watched_literals) result) ≡ slice_index_or (contents self.now).watches id [] }
     {
         self.watches.get(id.to_index())?.as_ref()
     }
 
+    /// The clauses that watch the literal, front first. Takes memory for them.
+    pub fn watchers(&self, literal: Literal) -> Result<Vec<ClauseId, A>, StoreError>
+        ensures ok { IfOk result (λ found. found.items ≡ (contents self.now).watchers literal) }
+        ensures memory { IfErr result (λ e. e ≡ OutOfMemory) }
+    {
+        let alloc = *self.clauses.allocator();
+        walks::watchers(alloc, &self.map, self.watches.as_slice(), literal)
+    }
+
     /// The literals of the learnt clauses, by the ids that these have.
     pub fn learnt(&self) -> &Arena<LearntClauseId, Vec<Literal, A>, A>
-        ensures { map (λ literals. literals.items) result.now ≡ self.now.learnt }
+        ensures { map (λ literals. literals.items) result.now ≡ (contents self.now).learnt }
     {
         &self.learnt
+    }
+
+    /// Makes room for one more clause that watches this: then [`ClauseList::push_reserved`] may add it.
+    pub fn make_room(&mut self, watches: &Option<WatchedLiterals>) -> Result<(), StoreError>
+        ensures same { contents self.new ≡ contents self.old }
+        ensures room { OnOk result (HasRoom self.new (two_or_none (literals_watched watches.now))) }
+        ensures refused { IfErr result (IsGrowthRefusal (is_full (contents self.old))) }
+        ensures ids_out { IsTrue (is_full (contents self.old)) → result ≡ Err IdSpace }
+    {
+        if self.is_full() {
+            return Err(StoreError::IdSpace);
+        }
+        self.clauses.reserve(1)?;
+        self.watches.reserve(1)?;
+        if let Some(watched) = watches {
+            let [first, second] = watched.watched_literals;
+            self.map.make_room(first)?;
+            self.map.make_room(second)?;
+        }
+        Ok(())
+    }
+
+    /// Adds a clause for which there is room, with what it watches, and answers its id. Takes no memory.
+    pub fn push_reserved(&mut self, clause: Clause<N>, watches: Option<WatchedLiterals>) -> ClauseId
+        requires room { HasRoom self.old (two_or_none (literals_watched watches)) }
+        requires two { AreTwoOrNone (two_or_none (literals_watched watches)) }
+        ensures id { result ≡ length (contents self.old).clauses }
+        ensures added { contents self.new ≡ with_clause (contents self.old) clause (literals_watched watches) }
+    {
+        let id = ClauseId::from_index(self.clauses.len());
+        let watches = walks::started(&mut self.map, watches, id);
+        self.clauses.push_reserved(clause);
+        self.watches.push_reserved(watches);
+        id
     }
 
     /// Adds a clause with what it watches, and answers its id. Takes memory where there is no room left.
@@ -106,53 +157,48 @@ impl<N: Copy, A: Allocator + Copy> ClauseList<N, A> {
         clause: Clause<N>,
         watches: Option<WatchedLiterals>,
     ) -> Result<ClauseId, StoreError>
-        ensures id { IfOk result (λ id. id ≡ length self.old.clauses) }
-        ensures ok { OnOk result (self.new ≡ with_clause self.old clause (literals_watched watches)) }
-        ensures err { OnErr result (self.new ≡ self.old) }
-        ensures refused { IfErr result (IsGrowthRefusal (is_full self.old)) }
-        ensures ids_out { IsTrue (is_full self.old) → result ≡ Err IdSpace }
+        requires { AreTwoOrNone (two_or_none (literals_watched watches)) }
+        ensures id { IfOk result (λ id. id ≡ length (contents self.old).clauses) }
+        ensures ok { OnOk result (contents self.new ≡ with_clause (contents self.old) clause (literals_watched watches)) }
+        ensures err { OnErr result (contents self.new ≡ contents self.old) }
+        ensures refused { IfErr result (IsGrowthRefusal (is_full (contents self.old))) }
+        ensures ids_out { IsTrue (is_full (contents self.old)) → result ≡ Err IdSpace }
     {
-        if self.is_full() {
-            return Err(StoreError::IdSpace);
-        }
-        self.clauses.reserve(1)?;
-        self.watches.reserve(1)?;
-        let id = ClauseId::from_index(self.clauses.len());
-        self.clauses.push_reserved(clause);
-        self.watches.push_reserved(watches);
-        Ok(id)
+        self.make_room(&watches)?;
+        Ok(self.push_reserved(clause, watches))
     }
 
     /// Adds a learnt clause with these literals, of which there is one at least, and answers its id. Takes memory for a
     /// copy of the literals, and where there is no room left; all of it before anything changes.
     pub fn learn(&mut self, literals: &[Literal]) -> Result<ClauseId, StoreError>
         requires { 0 < length literals.now }
-        ensures id { IfOk result (λ id. id ≡ length self.old.clauses) }
-        ensures ok { OnOk result (self.new ≡ with_learnt self.old literals.now) }
-        ensures err { OnErr result (self.new ≡ self.old) }
-        ensures refused { IfErr result (IsGrowthRefusal (is_learnt_full self.old)) }
-        ensures ids_out { IsTrue (is_learnt_full self.old) → result ≡ Err IdSpace }
+        ensures id { IfOk result (λ id. id ≡ length (contents self.old).clauses) }
+        ensures ok { OnOk result (contents self.new ≡ with_learnt (contents self.old) literals.now) }
+        ensures err { OnErr result (contents self.new ≡ contents self.old) }
+        ensures refused { IfErr result (IsGrowthRefusal (is_learnt_full (contents self.old))) }
+        ensures ids_out { IsTrue (is_learnt_full (contents self.old)) → result ≡ Err IdSpace }
     {
         if self.is_full() || !LearntClauseId::in_range(self.learnt.len()) {
             return Err(StoreError::IdSpace);
         }
-        self.clauses.reserve(1)?;
-        self.watches.reserve(1)?;
         let kept = Vec::from_slice(*self.clauses.allocator(), literals)?;
-        let learnt_id = self.learnt.alloc(kept)?;
-        let (watched, learnt) = WatchedLiterals::learnt(learnt_id, literals);
-        let id = ClauseId::from_index(self.clauses.len());
-        self.clauses.push_reserved(learnt);
-        self.watches.push_reserved(watched);
-        Ok(id)
+        let learnt_id = LearntClauseId::from_index(self.learnt.len());
+        let (watches, clause) = WatchedLiterals::learnt(learnt_id, literals);
+        self.make_room(&watches)?;
+        self.learnt.alloc(kept)?;
+        Ok(self.push_reserved(clause, watches))
     }
 
-    /// Takes back the newest clause and what it watches, if there is a clause. The literals of a learnt one stay, and no
-    /// later clause gets their id. Takes no memory.
-    pub fn take_back(&mut self)
-        ensures { self.new ≡ without_newest self.old }
+    /// Lets a clause watch another literal in the place of one that it watches: it leaves the list of the one, whose
+    /// others keep their order, and goes to the front of the other's. Refused `BadWatch` where the clause doesn't watch the
+    /// one, or watches the other. Goes through the list of the one up to the clause; takes memory where there is no room in
+    /// that of the other.
+    pub fn rewatch(&mut self, id: ClauseId, from: Literal, to: Literal) -> Result<(), StoreError>
+        ensures ok { OnOk result (contents self.new ≡ with_rewatched (contents self.old) id from to) }
+        ensures err { OnErr result (contents self.new ≡ contents self.old) }
+        ensures refused { IfErr result (λ e. e ≡ (if can_rewatch (contents self.old) id from to then OutOfMemory else BadWatch)) }
+        ensures can { OnOk result (IsTrue (can_rewatch (contents self.old) id from to)) }
     {
-        self.clauses.pop();
-        self.watches.pop();
+        walks::rewatch(&mut self.map, self.watches.as_mut_slice(), id, from, to)
     }
 }

@@ -1,19 +1,21 @@
-//! Each call once, in ample memory.
-use crate::seen::{Kind, Row, Seen, clause_id, lock, look_at, negative, positive, variable};
+//! Clauses that are added, in ample memory.
+use crate::seen::{
+    Kind, NONE, Row, Seen, Watchers, clause_id, lock, look_at, negations, negative, positive,
+    variable,
+};
 use clause_list::ClauseList;
-use clauses::{Clause, WatchedLiterals};
-use std::alloc::Allocator;
+use clauses::Clause;
+use refusing::Refusing;
+use std::alloc::{Allocator, Global};
 use std::test::Fail;
 use test_checks::is_same;
 use typed_ids::{ClauseId, NameId, StoreError, StringId};
 
-/// What is seen of a list with a clause of each kind, once the newest is taken back, and once another one is learnt.
+/// What is seen of a list with clauses that are added, and learnt ones.
 #[derive(Clone, Copy, Debug, PartialEq, Eq)]
 struct Told {
     ids: [ClauseId; 5],
     all: Seen,
-    taken_back: Seen,
-    again: Seen,
 }
 
 #[test]
@@ -22,20 +24,55 @@ fn clauses_are_kept_in_order(rt: HostRuntime) -> Result<(), Fail> {
 }
 
 fn wanted() -> Told {
+    let root = Row {
+        kind: Kind::Root,
+        watched: None,
+    };
+    let excluded = Row {
+        kind: Kind::Excluded(variable(3), StringId(7)),
+        watched: None,
+    };
     Told {
         ids: [
             clause_id(0),
             clause_id(1),
             clause_id(2),
             clause_id(3),
-            clause_id(3),
+            clause_id(4),
         ],
-        all: list_with(1, Some(learnt())),
-        taken_back: list_with(1, None),
-        again: list_with(2, Some(learnt_alone())),
+        all: Seen {
+            len: 5,
+            is_empty: false,
+            is_full: false,
+            learnt: 2,
+            rows: [
+                Some(root),
+                Some(locked()),
+                Some(excluded),
+                Some(learnt()),
+                Some(learnt_alone()),
+                None,
+                None,
+            ],
+            watchers: [
+                Watchers([Some(1), None, None, None]),
+                Watchers([Some(3), None, None, None]),
+                Watchers([Some(1), None, None, None]),
+                NONE,
+                Watchers([Some(3), None, None, None]),
+            ],
+        },
     }
 }
 
+fn locked() -> Row {
+    Row {
+        kind: Kind::Lock(variable(1), variable(2)),
+        watched: Some([negative(0), negative(2)]),
+    }
+}
+
+/// A learnt clause watches its first and its last literal.
 fn learnt() -> Row {
     let literals = [Some(negative(1)), Some(positive(2)), Some(negative(3))];
     Row {
@@ -52,60 +89,89 @@ fn learnt_alone() -> Row {
     }
 }
 
-/// A list with so many lists of literals, and perhaps one clause more than the three that aren't learnt.
-fn list_with(learnt: usize, last: Option<Row>) -> Seen {
-    let root = Row {
-        kind: Kind::Root,
-        watched: None,
-    };
-    let locked = Row {
-        kind: Kind::Lock(variable(1), variable(2)),
-        watched: Some([negative(0), negative(2)]),
-    };
-    let excluded = Row {
-        kind: Kind::Excluded(variable(3), StringId(7)),
-        watched: None,
-    };
-    Seen {
-        len: if last.is_some() { 4 } else { 3 },
-        is_empty: false,
-        is_full: false,
-        learnt,
-        rows: [
-            Some(root),
-            Some(locked),
-            Some(excluded),
-            last,
-            None,
-            None,
-            None,
-        ],
-    }
-}
-
 fn told_by_new<A: Allocator + Copy>(heap: A) -> Result<Told, StoreError> {
-    let mut list = ClauseList::new(heap);
+    let mut list = ClauseList::new(heap)?;
     let told = calls_of(&mut list);
     drop(list);
     told
 }
 
 fn calls_of<A: Allocator + Copy>(list: &mut ClauseList<NameId, A>) -> Result<Told, StoreError> {
-    let (watches, clause) = WatchedLiterals::root();
-    let root = list.add(clause, watches)?;
-    let (watches, clause) = lock();
-    let lock = list.add(clause, watches)?;
-    let (watches, clause) = WatchedLiterals::exclude(variable(3), StringId(7));
-    let excluded = list.add(clause, watches)?;
+    let root = list.add(Clause::InstallRoot, None)?;
+    let locked = list.add(lock(), Some(negations(0, 2)))?;
+    let excluded = list.add(Clause::Excluded(variable(3), StringId(7)), None)?;
     let learnt = list.learn(&[negative(1), positive(2), negative(3)])?;
-    let all = look_at(list);
-    list.take_back();
-    let taken_back = look_at(list);
-    let unit = list.learn(&[positive(4)])?;
+    let alone = list.learn(&[positive(4)])?;
     Ok(Told {
-        ids: [root, lock, excluded, learnt, unit],
-        all,
-        taken_back,
-        again: look_at(list),
+        ids: [root, locked, excluded, learnt, alone],
+        all: look_at(list)?,
+    })
+}
+
+/// What is seen of a list with room for a clause, and once the clause is there.
+#[derive(Clone, Copy, Debug, PartialEq, Eq)]
+struct Pushed {
+    with_room: Seen,
+    id: ClauseId,
+    /// Whether no memory was asked for since the room was made.
+    is_unasked: bool,
+    with_clause: Seen,
+}
+
+/// Room adds nothing to a list. With it made before, a clause is added where no memory is left.
+#[test]
+fn room_that_was_made_suffices(rt: HostRuntime) -> Result<(), Fail> {
+    let heap = Refusing::new(rt.alloc());
+    let seen = pushed_into_new(&heap);
+    drop(heap);
+    let wanted = Pushed {
+        with_room: list_with(None),
+        id: clause_id(0),
+        is_unasked: true,
+        with_clause: list_with(Some(locked())),
+    };
+    is_same(seen, Ok(wanted))
+}
+
+/// A list with the clause for a locked solvable, or without clauses.
+fn list_with(clause: Option<Row>) -> Seen {
+    let place = match clause {
+        Some(_) => Some(0),
+        None => None,
+    };
+    let watchers = Watchers([place, None, None, None]);
+    Seen {
+        len: if place.is_some() { 1 } else { 0 },
+        is_empty: place.is_none(),
+        is_full: false,
+        learnt: 0,
+        rows: [clause, None, None, None, None, None, None],
+        watchers: [watchers, NONE, watchers, NONE, NONE],
+    }
+}
+
+fn pushed_into_new(heap: &Refusing<Global>) -> Result<Pushed, StoreError> {
+    let mut list = ClauseList::new(heap)?;
+    let pushed = pushed_into(heap, &mut list);
+    drop(list);
+    pushed
+}
+
+fn pushed_into(
+    heap: &Refusing<Global>,
+    list: &mut ClauseList<NameId, &Refusing<Global>>,
+) -> Result<Pushed, StoreError> {
+    let watches = Some(negations(0, 2));
+    list.make_room(&watches)?;
+    let with_room = look_at(list)?;
+    heap.arm(1);
+    let id = list.push_reserved(lock(), watches);
+    let is_unasked = heap.is_armed();
+    heap.arm(0);
+    Ok(Pushed {
+        with_room,
+        id,
+        is_unasked,
+        with_clause: look_at(list)?,
     })
 }

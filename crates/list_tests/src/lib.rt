@@ -4,6 +4,8 @@
 #[cfg(test)]
 mod ample;
 #[cfg(test)]
+mod moved;
+#[cfg(test)]
 mod refused;
 #[cfg(test)]
 mod seen;

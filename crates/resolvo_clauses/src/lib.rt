@@ -1,4 +1,4 @@
-//! Variables, literals, clauses and the trail of decisions: the door to four rooms.
+//! Variables, literals, clauses, their watch lists and the trail of decisions: the door to five rooms.
 //!
 //! | room | what it holds |
 //! |---|---|
@@ -6,6 +6,7 @@
 //! | `variables` | what each variable stands for, and the variables of solvables |
 //! | `variable_info` | the literals of a variable, what it stands for, and its text |
 //! | `clauses` | the kinds of clauses, their literals, and the two that a clause watches |
+//! | `watch_map` | for each literal the clauses that watch it, and a walk over them |
 //!
 //! A clause names a definition of a room as `Rattle.resolvo_clauses.specs.TOPIC`, and a type with its variants as
 //! `Rattle.resolvo_clauses.specs.Types.NAME`.
@@ -15,3 +16,4 @@ pub use clauses::{Clause, Disjunction, WatchedLiterals};
 pub use decisions::{AddFault, Decision, DecisionMap, DecisionTracker, Literal};
 pub use variable_info::VariableInfo;
 pub use variables::{VariableMap, VariableOrigin};
+pub use watch_map::{WatchMap, WatchMapCursor};

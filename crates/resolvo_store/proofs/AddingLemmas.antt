@@ -1,11 +1,10 @@
 -- Adding clauses: what the list of clauses answers makes a step.
-use Rattle.std.proofs.Common.{◌≡◌, ℕ, ◌<◌, ◌-◌, ◌^◌, Bool, true, false, cond, not, List, [], ◌∷◌, ◌++◌, length, take, Option, None, Some, Result, Ok, Err, refl, arith, sym, ◌∙◌, ap, subst, length-append}
+use Rattle.std.proofs.Common.{◌≡◌, ℕ, ◌<◌, ◌-◌, ◌^◌, Bool, true, false, cond, not, List, [], ◌∷◌, ◌++◌, length, Option, None, Some, Result, Ok, Err, refl, arith, sym, ◌∙◌, ap, subst}
 use Rattle.std.specs.List.{list_all}
 use Rattle.std.specs.Prelude.{IsTrue, ◌&&◌, is_some, is_none, nat_le, find, option_map, slice_get, unwrap_or, MatchOption, IfOk, OnOk, OnErr, IfErr, IsErrAnd}
-use Rattle.std.proofs.Math.Seq.{take-append_seam}
 use Rattle.typed_ids.specs.Refusals.{IsGrowthRefusal}
 use Rattle.typed_ids.specs.declared.error.StoreError.{StoreError}
-use Rattle.typed_ids.specs.declared.error.StoreError.TheVariants.{OutOfMemory, IdSpace, UnknownId, NotLoaded, BadLearnt, TooManyClauses}
+use Rattle.typed_ids.specs.declared.error.StoreError.TheVariants.{OutOfMemory, IdSpace, UnknownId, NotLoaded, BadWatch, BadLearnt, TooManyClauses}
 use Rattle.providers.specs.declared.requirement.Requirement.{Requirement}
 use Rattle.providers.specs.Provider.{knows_requirement}
 use Rattle.decisions.specs.Literals.{Lit}
@@ -13,12 +12,13 @@ use Rattle.resolvo_queue.specs.declared.requires_clause.RequiresClause.{Requires
 use Rattle.clauses.specs.Clauses.{first_watches, is_conflict, watch_ends}
 use Rattle.clauses.specs.declared.clause.Clause.{Clause}
 use Rattle.clauses.specs.declared.clause.Clause.TheVariants as Kind
-use Rattle.clause_list.specs.ClauseList.{Clauses, without_newest, without_last}
+use Rattle.watch_map.specs.Watching.{is_literal_in}
+use Rattle.clause_list.specs.ClauseList.{Clauses, two_or_none, with_clause as pushed, with_learnt as learnt_one}
 use Rattle.resolvo_store.specs.declared.reply.Reply.{Reply as ProgramReply}
-use Rattle.resolvo_store.specs.Command.{Command, Learnt, Requires, Reply, ClauseIs, Refused, reply_of, answer_of}
-use Rattle.resolvo_store.specs.Store.{Store, Provider, Kept, store_of, values, kept_literals, lists_of}
-use Rattle.resolvo_store.specs.Refusals.{first_refusal, are_clauses_out, is_learnt_out, clause_refusals, is_bad_learnt, knows_literal, knows_variable}
-use Rattle.resolvo_store.specs.Outcome.{outcome, adds_clause, with_learnt, with_registered}
+use Rattle.resolvo_store.specs.Command.{Command, Learnt, Requires, Rewatch, Watchers, Reply, ClauseIs, Done, WatchersAre, Refused, reply_of, answer_of}
+use Rattle.resolvo_store.specs.Store.{Store, Provider, Kept, store_of, values, kept_literals, clause_literals, watched_by, lists_of}
+use Rattle.resolvo_store.specs.Refusals.{first_refusal, are_clauses_out, is_learnt_out, clause_refusals, is_bad_learnt, may_rewatch, knows_clause, knows_literal, knows_variable}
+use Rattle.resolvo_store.specs.Outcome.{outcome, adds_clause, with_clause, with_learnt, with_registered, with_rewatched}
 use Rattle.resolvo_store.specs.Step.{Step, IsAnswered, lacks_ids, takes_no_memory}
 
 -- ---- growths
@@ -53,6 +53,11 @@ err_answer P (Err x) e h p = subst (λ y. P (Refused y)) (sym h) p
 pub both : (a b : Bool) → (a && b) ≡ true → (a ≡ true) × (b ≡ true)
 both true b h = (refl, h)
 both false b h = (let no : false ≡ true = h in cc)
+
+-- a test whose opposite holds doesn't
+pub failed : (b : Bool) → not b ≡ true → b ≡ false
+failed true h = (let no : false ≡ true = h in cc)
+failed false h = refl
 
 -- what is there isn't lacking
 pub not_none : {X : Type 0} (o : Option X) → is_some o ≡ true → is_none o ≡ false
@@ -99,6 +104,52 @@ module _ {N S : Type 0} (st : Store N S) where
       ∙ none_yet (is_none (lists_of st r)) NotLoaded ((full, TooManyClauses) ∷ (are_clauses_out st, IdSpace) ∷ []) (not_none (lists_of st r) loaded)
       ∙ none_yet full TooManyClauses ((are_clauses_out st, IdSpace) ∷ []) room ∙ ids_alone (are_clauses_out st)
 
+  -- a watch of a clause that has the literal
+  pub first_of_rewatch : (c : ℕ) (from to : Lit) → (knows_clause st c && (knows_literal st from && knows_literal st to)) ≡ true
+      → is_literal_in to (clause_literals st c) ≡ true
+      → first_refusal st (Rewatch c from to) ≡ cond (is_literal_in from (watched_by st c) && not (is_literal_in to (watched_by st c))) None (Some BadWatch)
+  first_of_rewatch c from to known has =
+      none_yet (not (knows_clause st c && (knows_literal st from && knows_literal st to))) UnknownId ((not (may_rewatch st c from to), BadWatch) ∷ []) (ap not known)
+      ∙ ap (λ b. first_of ((not (is_literal_in from (watched_by st c) && (not (is_literal_in to (watched_by st c)) && b)), BadWatch) ∷ [])) has
+      ∙ by_tests (is_literal_in from (watched_by st c)) (not (is_literal_in to (watched_by st c)))
+    where
+      by_tests : (a b : Bool) → first_of ((not (a && (b && true)), BadWatch) ∷ []) ≡ cond (a && b) None (Some BadWatch)
+      by_tests true true = refl
+      by_tests true false = refl
+      by_tests false b = refl
+
+  -- a watch was moved
+  pub step_rewatched : (c : ℕ) (from to : Lit) (can : Bool) {after : Store N S} → first_refusal st (Rewatch c from to) ≡ cond can None (Some BadWatch) → IsTrue can
+      → after ≡ with_rewatched st c from to → Step st (Rewatch c from to) Done after
+  step_rewatched c from to true {after} first holds made =
+      subst (λ o. MatchOption o (IsAnswered st (Rewatch c from to) Done after) (λ e. (Done ≡ Refused e) × (after ≡ st))) (sym first) (refl, refl, made)
+  step_rewatched c from to false first holds made = (let no : false ≡ true = holds in cc)
+
+  -- it wasn't
+  pub step_unmoved : (c : ℕ) (from to : Lit) (can : Bool) (e : StoreError) {after : Store N S} → first_refusal st (Rewatch c from to) ≡ cond can None (Some BadWatch)
+      → e ≡ cond can OutOfMemory BadWatch → after ≡ st → Step st (Rewatch c from to) (Refused e) after
+  step_unmoved c from to can e {after} first is same =
+      subst (λ x. Step st (Rewatch c from to) (Refused x) after) (sym is)
+      (subst (λ o. MatchOption o (IsAnswered st (Rewatch c from to) (Refused (cond can OutOfMemory BadWatch)) after) (λ x. (Refused (cond can OutOfMemory BadWatch) ≡ Refused x) × (after ≡ st))) (sym first) (by_can can))
+    where
+      by_can : (b : Bool) → MatchOption (cond b None (Some BadWatch)) (IsAnswered st (Rewatch c from to) (Refused (cond b OutOfMemory BadWatch)) after)
+          (λ x. (Refused (cond b OutOfMemory BadWatch) ≡ Refused x) × (after ≡ st))
+      by_can true = (refl, same)
+      by_can false = (refl, same)
+
+  -- who watches a literal was told
+  pub step_watchers : (l : Lit) (found : List ℕ) → knows_literal st l ≡ true → found ≡ st.watchers l → Step st (Watchers l) (WatchersAre found) st
+  step_watchers l found known is =
+      subst (λ o. MatchOption o (IsAnswered st (Watchers l) (WatchersAre found) st) (λ e. (WatchersAre found ≡ Refused e) × (st ≡ st)))
+      (sym (none_yet (not (knows_literal st l)) UnknownId [] (ap not known))) (refl, ap WatchersAre is, refl)
+
+  -- there was no memory to tell it
+  pub step_untold : (l : Lit) (e : StoreError) → knows_literal st l ≡ true → e ≡ OutOfMemory → Step st (Watchers l) (Refused e) st
+  step_untold l e known is =
+      subst (λ x. Step st (Watchers l) (Refused x) st) (sym is)
+      (subst (λ o. MatchOption o (IsAnswered st (Watchers l) (Refused OutOfMemory) st) (λ x. (Refused OutOfMemory ≡ Refused x) × (st ≡ st)))
+      (sym (none_yet (not (knows_literal st l)) UnknownId [] (ap not known))) (refl, refl))
+
   -- a clause was added
   pub step_clause : (c : Command N S) (id : ℕ) (conflict : Bool) {after : Store N S} → first_refusal st c ≡ None → lacks_ids st c ≡ false
       → ClauseIs id conflict ≡ (outcome st c).reply → after ≡ (outcome st c).store → Step st c (ClauseIs id conflict) after
@@ -118,8 +169,8 @@ module _ {N S : Type 0} (st : Store N S) where
 
 -- a clause with its watches
 pub with_made : {N S : Type 0} (st : Store N S) (clause : Clause N) {watch : Option (List Lit)} → watch ≡ first_watches (kept_literals st) (values st) clause
-    → record st { clauses = st.clauses ++ clause ∷ []; watches = st.watches ++ watch ∷ [] } ≡ (adds_clause st clause).store
-with_made st clause same = ap (λ x. record st { clauses = st.clauses ++ clause ∷ []; watches = st.watches ++ x ∷ [] }) same
+    → with_clause st clause (two_or_none watch) ≡ (adds_clause st clause).store
+with_made st clause same = ap (λ x. with_clause st clause (two_or_none x)) same
 
 -- ---- learnt clauses
 
@@ -152,26 +203,30 @@ module _ {D N S : Type 0} (provided : D → Provider N S) where
   abbrev store : Kept D N S → Store N S
   store = store_of provided
 
-  -- what is kept, with another list of clauses and another queue
-  abbrev with_both : Kept D N S → Clauses N → List RequiresClause → Kept D N S
-  with_both kept cs requires = record kept { clauses = cs.clauses; watches = cs.watches; learnt = cs.learnt; requires = requires }
+  -- the store of what is kept, with another list of clauses and another queue
+  abbrev with_both : Kept D N S → Clauses N → List RequiresClause → Store N S
+  with_both kept cs requires = record (store kept) { clauses = cs.clauses; watches = cs.watches; watchers = cs.watchers; learnt = cs.learnt; requires = requires }
+
+  -- the list of clauses in what is kept
+  abbrev clauses_kept : Kept D N S → Clauses N
+  clauses_kept kept = record { clauses = kept.clauses; watches = (store kept).watches; learnt = kept.learnt; watchers = (store kept).watchers }
 
   answered : {A : Type 0} (c : Command N S) (conflict out : Bool) (result : Result (ProgramReply A) StoreError) (kept : Kept D N S)
       (cs more : Clauses N) (requires registered : List RequiresClause)
       → first_refusal (store kept) c ≡ cond out (Some IdSpace) None → lacks_ids (store kept) c ≡ false → takes_no_memory (store kept) c ≡ false
-      → ClauseIs (length kept.clauses) conflict ≡ (outcome (store kept) c).reply → store (with_both kept more registered) ≡ (outcome (store kept) c).store
+      → ClauseIs (length kept.clauses) conflict ≡ (outcome (store kept) c).reply → with_both kept more registered ≡ (outcome (store kept) c).store
       → IfOk result (λ reply. reply_of reply ≡ ClauseIs (length kept.clauses) conflict) → OnOk result (cs ≡ more) → OnOk result (requires ≡ registered)
-      → OnErr result (cs ≡ record { clauses = kept.clauses; watches = kept.watches; learnt = kept.learnt }) → OnErr result (requires ≡ kept.requires)
+      → OnErr result (cs ≡ clauses_kept kept) → OnErr result (requires ≡ kept.requires)
       → IfErr result (IsGrowthRefusal out) → (IsTrue out → result ≡ Err IdSpace)
-      → Step (store kept) c (answer_of result) (store (with_both kept cs requires))
+      → Step (store kept) c (answer_of result) (with_both kept cs requires)
   answered c conflict out (Ok reply) kept cs more requires registered first lacks memory says makes said ok queued err left refused ids_out =
       let none : first_refusal (store kept) c ≡ None = first ∙ ap (λ b. cond b (Some IdSpace) None) (growth_fits out (Ok reply) ids_out) in
-      subst (λ r. Step (store kept) c r (store (with_both kept cs requires))) (sym said)
+      subst (λ r. Step (store kept) c r (with_both kept cs requires)) (sym said)
       (step_clause (store kept) c (length kept.clauses) conflict none lacks says
-      (ap (λ l. store (with_both kept l requires)) ok ∙ ap (λ q. store (with_both kept more q)) queued ∙ makes))
+      (ap (λ l. with_both kept l requires) ok ∙ ap (with_both kept more) queued ∙ makes))
   answered c conflict out (Err e) kept cs more requires registered first lacks memory says makes said ok queued err left refused ids_out =
       step_refused (store kept) c out e first memory (growth_refusal out e refused (λ h. cc (ids_out h)))
-      (ap (λ l. store (with_both kept l requires)) err ∙ ap (λ q. store (record kept { requires = q })) left)
+      (ap (λ l. with_both kept l requires) err ∙ ap (with_both kept (clauses_kept kept)) left)
 
   -- where the list is asked to add a clause that isn't registered
   pub step_added : {A : Type 0} (c : Command N S) (clause : Clause N) (watch : Option (List Lit)) (conflict : Bool) (result : Result (ProgramReply A) StoreError)
@@ -180,13 +235,13 @@ module _ {D N S : Type 0} (provided : D → Provider N S) where
       → adds_clause (store kept) clause ≡ outcome (store kept) c
       → watch ≡ first_watches (kept_literals (store kept)) (values (store kept)) clause → conflict ≡ is_conflict (kept_literals (store kept)) (values (store kept)) clause
       → IfOk result (λ reply. reply_of reply ≡ ClauseIs (length kept.clauses) conflict)
-      → OnOk result (cs ≡ record { clauses = kept.clauses ++ clause ∷ []; watches = kept.watches ++ watch ∷ []; learnt = kept.learnt })
-      → OnErr result (cs ≡ record { clauses = kept.clauses; watches = kept.watches; learnt = kept.learnt })
+      → OnOk result (cs ≡ pushed (clauses_kept kept) clause watch)
+      → OnErr result (cs ≡ clauses_kept kept)
       → IfErr result (IsGrowthRefusal (are_clauses_out (store kept))) → (IsTrue (are_clauses_out (store kept)) → result ≡ Err IdSpace)
-      → Step (store old) c (answer_of result) (store (with_both kept cs kept.requires))
+      → Step (store old) c (answer_of result) (with_both kept cs kept.requires)
   step_added c clause watch conflict result cs {kept} {old} is first lacks memory makes w k said ok err refused ids_out =
-      let more : Clauses N = record { clauses = kept.clauses ++ clause ∷ []; watches = kept.watches ++ watch ∷ []; learnt = kept.learnt } in
-      subst (λ o. Step (store o) c (answer_of result) (store (with_both kept cs kept.requires))) is
+      let more : Clauses N = pushed (clauses_kept kept) clause watch in
+      subst (λ o. Step (store o) c (answer_of result) (with_both kept cs kept.requires)) is
       (answered c conflict (are_clauses_out (store kept)) result kept cs more kept.requires kept.requires
       (subst (λ o. first_refusal (store o) c ≡ cond (are_clauses_out (store o)) (Some IdSpace) None) (sym is) first) lacks memory
       (ap (ClauseIs (length kept.clauses)) k ∙ ap (λ o. o.reply) makes)
@@ -196,17 +251,16 @@ module _ {D N S : Type 0} (provided : D → Provider N S) where
   pub step_learnt : {A : Type 0} (ls : List Lit) (result : Result (ProgramReply A) StoreError) (cs : Clauses N) {kept old : Kept D N S} (is : kept ≡ old)
       → first_refusal (store old) (Learnt ls) ≡ cond (is_learnt_out (store old)) (Some IdSpace) None
       → IfOk result (λ reply. reply_of reply ≡ ClauseIs (length kept.clauses) false)
-      → OnOk result (cs ≡ record { clauses = kept.clauses ++ Kind.Learnt (length kept.learnt) ∷ []; watches = kept.watches ++ watch_ends ls ∷ []; learnt = kept.learnt ++ ls ∷ [] })
-      → OnErr result (cs ≡ record { clauses = kept.clauses; watches = kept.watches; learnt = kept.learnt })
+      → OnOk result (cs ≡ learnt_one (clauses_kept kept) ls)
+      → OnErr result (cs ≡ clauses_kept kept)
       → IfErr result (IsGrowthRefusal (is_learnt_out (store kept))) → (IsTrue (is_learnt_out (store kept)) → result ≡ Err IdSpace)
-      → Step (store old) (Learnt ls) (answer_of result) (store (with_both kept cs kept.requires))
+      → Step (store old) (Learnt ls) (answer_of result) (with_both kept cs kept.requires)
   step_learnt ls result cs {kept} {old} is first said ok err refused ids_out =
-      let clauses : List (Clause N) = kept.clauses ++ Kind.Learnt (length kept.learnt) ∷ [] in
-      let more : Clauses N = record { clauses = clauses; watches = kept.watches ++ watch_ends ls ∷ []; learnt = kept.learnt ++ ls ∷ [] } in
-      subst (λ o. Step (store o) (Learnt ls) (answer_of result) (store (with_both kept cs kept.requires))) is
+      let more : Clauses N = learnt_one (clauses_kept kept) ls in
+      subst (λ o. Step (store o) (Learnt ls) (answer_of result) (with_both kept cs kept.requires)) is
       (answered (Learnt ls) false (is_learnt_out (store kept)) result kept cs more kept.requires kept.requires
       (subst (λ o. first_refusal (store o) (Learnt ls) ≡ cond (is_learnt_out (store o)) (Some IdSpace) None) (sym is) first) refl refl
-      refl (ap (λ x. record (with_learnt (store kept) ls) { clauses = clauses; watches = kept.watches ++ x ∷ [] }) (learnt_watches (store kept) ls))
+      refl (ap (λ x. with_clause (with_learnt (store kept) ls) (Kind.Learnt (length kept.learnt)) (two_or_none x)) (learnt_watches (store kept) ls))
       said ok (always result refl) err (always_err result refl) refused ids_out)
 
   -- where it is asked to add a requires clause, and the queue to register it
@@ -216,36 +270,22 @@ module _ {D N S : Type 0} (provided : D → Provider N S) where
       → first_refusal (store old) (Requires parent r disjunction) ≡ cond (are_clauses_out (store old)) (Some IdSpace) None
       → watch ≡ first_watches (kept_literals (store old)) (values (store old)) clause → conflict ≡ is_conflict (kept_literals (store old)) (values (store old)) clause
       → IfOk result (λ reply. reply_of reply ≡ ClauseIs (length kept.clauses) conflict)
-      → OnOk result (cs ≡ record { clauses = kept.clauses ++ clause ∷ []; watches = kept.watches ++ watch ∷ []; learnt = kept.learnt })
+      → OnOk result (cs ≡ pushed (clauses_kept kept) clause watch)
       → OnOk result (requires ≡ kept.requires ++ record { parent = parent; requirement = r; clause_id = length kept.clauses } ∷ [])
-      → OnErr result (cs ≡ record { clauses = kept.clauses; watches = kept.watches; learnt = kept.learnt }) → OnErr result (requires ≡ kept.requires)
+      → OnErr result (cs ≡ clauses_kept kept) → OnErr result (requires ≡ kept.requires)
       → IfErr result (IsGrowthRefusal (are_clauses_out (store kept))) → (IsTrue (are_clauses_out (store kept)) → result ≡ Err IdSpace)
-      → Step (store old) (Requires parent r disjunction) (answer_of result) (store (with_both kept cs requires))
+      → Step (store old) (Requires parent r disjunction) (answer_of result) (with_both kept cs requires)
   step_registered parent r disjunction {clause} watch conflict result cs requires {kept} {old} is kind first w k said ok queued err left refused ids_out =
       let c : Command N S = Requires parent r disjunction in
       let st : Store N S = with_registered (store kept) parent r in
-      let more : Clauses N = record { clauses = kept.clauses ++ clause ∷ []; watches = kept.watches ++ watch ∷ []; learnt = kept.learnt } in
+      let more : Clauses N = pushed (clauses_kept kept) clause watch in
       let at_kept : watch ≡ first_watches (kept_literals (store kept)) (values (store kept)) clause =
       subst (λ o. watch ≡ first_watches (kept_literals (store o)) (values (store o)) clause) (sym is) w in
       let conflicts : conflict ≡ is_conflict (kept_literals (store kept)) (values (store kept)) clause =
       subst (λ o. conflict ≡ is_conflict (kept_literals (store o)) (values (store o)) clause) (sym is) k in
-      subst (λ o. Step (store o) c (answer_of result) (store (with_both kept cs requires))) is
+      subst (λ o. Step (store o) c (answer_of result) (with_both kept cs requires)) is
       (answered c conflict (are_clauses_out (store kept)) result kept cs more requires
       (kept.requires ++ record { parent = parent; requirement = r; clause_id = length kept.clauses } ∷ [])
       (subst (λ o. first_refusal (store o) c ≡ cond (are_clauses_out (store o)) (Some IdSpace) None) (sym is) first) refl refl
       (ap (ClauseIs (length kept.clauses)) conflicts ∙ ap (λ x. (adds_clause st x).reply) kind)
       (with_made st clause at_kept ∙ ap (λ x. (adds_clause st x).store) kind) said ok queued err left refused ids_out)
-
--- ---- taken back
-
--- a list whose last element is dropped is as it was before that came
-dropped : {X : Type 0} (xs : List X) (x : X) → without_last (xs ++ x ∷ []) ≡ xs
-dropped xs x =
-    let short : length (xs ++ x ∷ []) - 1 ≡ length xs = omega (arith, length-append xs (x ∷ [])) in
-    ap (λ n. take n (xs ++ x ∷ [])) short ∙ take-append_seam xs (x ∷ [])
-
-pub taken_back : {N : Type 0} (cs : Clauses N) (clause : Clause N) (watch : Option (List Lit))
-    → without_newest (record cs { clauses = cs.clauses ++ clause ∷ []; watches = cs.watches ++ watch ∷ [] }) ≡ cs
-taken_back cs clause watch =
-    ap (λ xs. record cs { clauses = xs; watches = without_last (cs.watches ++ watch ∷ []) }) (dropped cs.clauses clause)
-    ∙ ap (λ xs. record cs { watches = xs }) (dropped cs.watches watch)

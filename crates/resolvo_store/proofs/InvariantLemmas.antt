@@ -1,6 +1,6 @@
 -- What a store keeps stays in order: what each call on a part of it leaves.
-use Rattle.std.proofs.Common.{◌≡◌, ℕ, ◌<◌, ◌≤◌, ◌^◌, Bool, true, List, [], ◌∷◌, ◌++◌, length, map, Option, None, Some, IsSome, Result, Ok, Err, refl, sym, subst, ap, ◌∙◌, ◌⊎◌, inl, inr}
-use Rattle.std.specs.Prelude.{flat_map, All, OnOk, OnErr}
+use Rattle.std.proofs.Common.{◌≡◌, ℕ, ◌<◌, ◌≤◌, ◌^◌, Bool, true, not, List, [], ◌∷◌, ◌++◌, length, map, Option, None, Some, IsSome, Result, Ok, Err, refl, sym, subst, ap, ◌∙◌, ◌⊎◌, inl, inr}
+use Rattle.std.specs.Prelude.{flat_map, All, IsTrue, OnOk, OnErr}
 use Rattle.std.specs.Map.{lookup}
 use Rattle.std.proofs.lemmas.List.Folds.{flat_map-map}
 use Rattle.typed_ids.specs.declared.version_set_id.VersionSetId.{VersionSetId}
@@ -18,17 +18,21 @@ use Rattle.decisions.specs.Literals.{Lit}
 use Rattle.clauses.specs.ClauseTexts.{IsKnownClause}
 use Rattle.clauses.specs.declared.clause.Clause.{Clause}
 use Rattle.clauses.specs.declared.clause.Clause.TheVariants as Kind
-use Rattle.clause_list.specs.ClauseList.{Clauses}
+use Rattle.clauses.specs.Clauses.{first_watches}
+use Rattle.watch_map.specs.Watching.{is_literal_in}
+use Rattle.clause_list.specs.ClauseList.{Clauses, two_or_none, can_rewatch, with_clause as list_added, with_learnt as learnt_one, with_rewatched as list_rewatched}
 use Rattle.resolvo_queue.specs.declared.requires_clause.RequiresClause.{RequiresClause}
 use Rattle.resolvo_store.specs.Lists.{lists_kept, AreAsked, IsConsistent}
 use Rattle.resolvo_store.specs.Sound.{IsSound, IsPlain}
-use Rattle.resolvo_store.specs.Store.{Store, Provider, store_of, lists_of}
+use Rattle.resolvo_store.specs.Store.{Store, Provider, Kept, store_of, values, lists_of, kept_literals, clause_literals, watched_by}
+use Rattle.resolvo_store.specs.Outcome.{with_clause, with_learnt}
+use Rattle.resolvo_store.proofs.AddingLemmas.{both, failed, learnt_watches}
 use Rattle.resolvo_store.proofs.ListLemmas.{items_of, insert-kept, few-more, length-mapped}
 use Rattle.solver_cache.specs.Cache.{Cache, is_set_asked}
 use Rattle.solver_cache.specs.Questions.{IsLater}
 use Rattle.solver_cache.proofs.CacheLemmas.{asked_later}
 use Rattle.resolvo_store.proofs.KnownLemmas.{IsKnownSolvable, IsLawful}
-use Rattle.resolvo_store.proofs.SoundLaws.{IsSound-pushed, IsSound-plain, IsSound-requires, IsSound-with_variables, IsSound-interned}
+use Rattle.resolvo_store.proofs.SoundLaws.{IsSound-pushed, IsSound-added, IsSound-learnt, IsSound-requires, IsSound-rewatched, IsSound-with_variables, IsSound-interned}
 
 -- what comes of success, or of failure
 either : {T E P Q : Type 0} (result : Result T E) → OnOk result P → OnErr result Q → P ⊎ Q
@@ -79,76 +83,86 @@ module _ {D N S A H : Type 0} {st : Store N S} {loaded : List (Requirement × Ve
     ];
   }
 
-  -- a store of which no more is seen by its list of clauses
-  abbrev with_clauses : Clauses N → Store N S
-  with_clauses cs = record st { clauses = cs.clauses; watches = cs.watches; learnt = cs.learnt }
+  -- the list of clauses of the store, and a store of which no more is seen by its list of clauses
+  abbrev clauses_now : Clauses N
+  clauses_now = record { clauses = st.clauses; watches = st.watches; learnt = st.learnt; watchers = st.watchers }
 
-  -- after a clause was to be added that isn't registered
-  pub after_plain : {T E : Type 0} (c kind : Clause N) (watch : Option (List Lit)) (learnt : List (List Lit)) {cs : Clauses N} (result : Result T E)
-      → c ≡ kind → IsKnownClause st.provider.universe st.origins kind → IsPlain kind
-      → OnOk result (cs ≡ record { clauses = st.clauses ++ c ∷ []; watches = st.watches ++ watch ∷ []; learnt = learnt })
-      → OnErr result (cs ≡ record { clauses = st.clauses; watches = st.watches; learnt = st.learnt })
-      → IsConsistent (with_clauses cs) loaded cache
-  after_plain c kind watch learnt {cs} result same_kind known plain ok err = record {
+  abbrev with_clauses : Clauses N → Store N S
+  with_clauses cs = record st { clauses = cs.clauses; watches = cs.watches; learnt = cs.learnt; watchers = cs.watchers }
+
+  -- after the list was asked to change
+  after_change : {T E : Type 0} (more : Clauses N) {cs : Clauses N} (result : Result T E) → IsSound (with_clauses more)
+      → OnOk result (cs ≡ more) → OnErr result (cs ≡ clauses_now) → IsConsistent (with_clauses cs) loaded cache
+  after_change more {cs} result changed ok err = record {
     few = is.few;
     known = is.known;
     asked = is.asked;
     sound = elim (either result ok err) [
-      | inl more ↦ subst (λ ds. IsSound (with_clauses ds)) (sym more) (subst (λ d. IsSound (record st { clauses = st.clauses ++ d ∷ []; watches = st.watches ++ watch ∷ []; learnt = learnt })) (sym same_kind)
-          (IsSound-plain st is.sound kind watch learnt known plain))
+      | inl grown ↦ subst (λ ds. IsSound (with_clauses ds)) (sym grown) changed
       | inr same ↦ subst (λ ds. IsSound (with_clauses ds)) (sym same) is.sound
     ];
   }
 
-  -- after the list and the queue were left as they were, or were given back what was added
-  pub after_none : {cs : Clauses N} {requires : List RequiresClause} → cs ≡ record { clauses = st.clauses; watches = st.watches; learnt = st.learnt } → requires ≡ st.requires
+  -- after a clause was to be added that isn't registered
+  pub after_plain : {T E : Type 0} (c kind : Clause N) (watch : Option (List Lit)) {cs : Clauses N} (result : Result T E)
+      → watch ≡ first_watches (kept_literals st) (values st) c → c ≡ kind → IsKnownClause st.provider.universe st.origins kind → IsPlain kind
+      → OnOk result (cs ≡ list_added clauses_now c watch) → OnErr result (cs ≡ clauses_now) → IsConsistent (with_clauses cs) loaded cache
+  after_plain c kind watch result watches same_kind known plain ok err =
+      after_change (list_added clauses_now c watch) result
+      (subst (λ w. IsSound (with_clauses (list_added clauses_now c w))) (sym watches)
+      (subst (λ d. IsSound (with_clauses (list_added clauses_now d (first_watches (kept_literals st) (values st) d)))) (sym same_kind) (IsSound-added st is.sound kind known plain))) ok err
+
+  -- after one was to be learnt
+  pub after_learnt : {T E : Type 0} (ls : List Lit) {cs : Clauses N} (result : Result T E)
+      → OnOk result (cs ≡ learnt_one clauses_now ls) → OnErr result (cs ≡ clauses_now) → IsConsistent (with_clauses cs) loaded cache
+  after_learnt ls result ok err =
+      after_change (learnt_one clauses_now ls) result
+      (subst (λ w. IsSound (with_clause (with_learnt st ls) (Kind.Learnt (length st.learnt)) (two_or_none w))) (sym (learnt_watches st ls)) (IsSound-learnt st is.sound ls)) ok err
+
+  -- after a watch was to be moved
+  pub after_rewatch : {T E : Type 0} (c : ℕ) (from to : Lit) {cs : Clauses N} (result : Result T E) → is_literal_in to (clause_literals st c) ≡ true
+      → OnOk result (IsTrue (can_rewatch clauses_now c from to)) → OnOk result (cs ≡ list_rewatched clauses_now c from to) → OnErr result (cs ≡ clauses_now)
+      → IsConsistent (with_clauses cs) loaded cache
+  after_rewatch {T = T} {E = E} c from to {cs} (Ok x) has can ok err =
+      let tests = both (is_literal_in from (watched_by st c)) (not (is_literal_in to (watched_by st c))) can in
+      after_change {T = T} {E = E} (list_rewatched clauses_now c from to) {cs = cs} (Ok x) (IsSound-rewatched st is.sound c from to tests.0 (failed (is_literal_in to (watched_by st c)) tests.1) has) ok err
+  after_rewatch {T = T} {E = E} c from to {cs} (Err e) has can ok err = after_change {T = T} {E = E} clauses_now {cs = cs} (Err e) is.sound ok err
+
+  -- after the list and the queue were left as they were
+  after_none : {cs : Clauses N} {requires : List RequiresClause} → cs ≡ clauses_now → requires ≡ st.requires
       → IsConsistent (record (with_clauses cs) { requires = requires }) loaded cache
   after_none {cs} {requires} same left =
       subst (λ ds. IsConsistent (record (with_clauses ds) { requires = requires }) loaded cache) (sym same)
       (subst (λ rs. IsConsistent (record st { requires = rs }) loaded cache) (sym left) is)
 
-  -- after a requires clause was added and registered
-  pub after_requires : (parent : ℕ) (disjunction : Option ℕ) (r : Requirement) (watch : Option (List Lit)) {cs : Clauses N} {requires : List RequiresClause}
-      → knows_requirement st.provider.universe r ≡ true → parent < length st.origins → IsSome (lists_of st r)
-      → cs ≡ record { clauses = st.clauses ++ Kind.Requires parent disjunction r ∷ []; watches = st.watches ++ watch ∷ []; learnt = st.learnt }
-      → requires ≡ st.requires ++ record { parent = parent; requirement = r; clause_id = length st.clauses } ∷ []
-      → IsConsistent (record (with_clauses cs) { requires = requires }) loaded cache
-  after_requires parent disjunction r watch {cs} {requires} known variable found added registered =
-      subst (λ ds. IsConsistent (record (with_clauses ds) { requires = requires }) loaded cache) (sym added)
-      (subst (λ rs. IsConsistent (record st { clauses = st.clauses ++ Kind.Requires parent disjunction r ∷ []; watches = st.watches ++ watch ∷ []; requires = rs }) loaded cache) (sym registered) (record {
-        few = is.few;
-        known = All-push (λ d. knows_requirement st.provider.universe d.requirement ≡ true) st.requires (record { parent = parent; requirement = r; clause_id = length st.clauses }) is.known known;
-        sound = IsSound-requires st is.sound parent disjunction r watch known variable found;
-        asked = is.asked;
-      }))
-
   -- after a requires clause was to be added and registered
   pub after_registered : {T E : Type 0} (parent : ℕ) (disjunction : Option ℕ) (r : Requirement) (c : Clause N) (watch : Option (List Lit)) {cs : Clauses N} {requires : List RequiresClause}
-      (result : Result T E) → knows_requirement st.provider.universe r ≡ true → parent < length st.origins → IsSome (lists_of st r) → c ≡ Kind.Requires parent disjunction r
-      → OnOk result (cs ≡ record { clauses = st.clauses ++ c ∷ []; watches = st.watches ++ watch ∷ []; learnt = st.learnt })
+      (result : Result T E) → knows_requirement st.provider.universe r ≡ true → parent < length st.origins → IsSome (lists_of st r)
+      → watch ≡ first_watches (kept_literals st) (values st) c → c ≡ Kind.Requires parent disjunction r
+      → OnOk result (cs ≡ list_added clauses_now c watch)
       → OnOk result (requires ≡ st.requires ++ record { parent = parent; requirement = r; clause_id = length st.clauses } ∷ [])
-      → OnErr result (cs ≡ record { clauses = st.clauses; watches = st.watches; learnt = st.learnt }) → OnErr result (requires ≡ st.requires)
+      → OnErr result (cs ≡ clauses_now) → OnErr result (requires ≡ st.requires)
       → IsConsistent (record (with_clauses cs) { requires = requires }) loaded cache
-  after_registered parent disjunction r c watch (Ok x) known variable found kind added registered unadded unregistered =
-      after_requires parent disjunction r watch known variable found
-      (added ∙ ap (λ d. record { clauses = st.clauses ++ d ∷ []; watches = st.watches ++ watch ∷ []; learnt = st.learnt }) kind) registered
-  after_registered parent disjunction r c watch (Err e) known variable found kind added registered unadded unregistered = after_none unadded unregistered
+  after_registered parent disjunction r c watch {cs} {requires} (Ok x) known variable found watches kind added registered unadded unregistered =
+      let one : RequiresClause = record { parent = parent; requirement = r; clause_id = length st.clauses } in
+      let more : List RequiresClause = st.requires ++ one ∷ [] in
+      let After : Clauses N → List RequiresClause → Type 0 = λ ds rs. IsConsistent (record (with_clauses ds) { requires = rs }) loaded cache in
+      subst (λ ds. After ds requires) (sym added) (subst (After (list_added clauses_now c watch)) (sym registered)
+      (subst (λ w. After (list_added clauses_now c w) more) (sym watches)
+      (subst (λ d. After (list_added clauses_now d (first_watches (kept_literals st) (values st) d)) more) (sym kind) (record {
+        few = is.few;
+        known = All-push (λ d. knows_requirement st.provider.universe d.requirement ≡ true) st.requires one is.known known;
+        sound = IsSound-requires st is.sound parent disjunction r known variable found;
+        asked = is.asked;
+      }))))
+  after_registered parent disjunction r c watch (Err e) known variable found watches kind added registered unadded unregistered = after_none unadded unregistered
 
 -- a store of these variables and lists
 abbrev pub store_with : {D N S A : Type 0} → (D → Provider N S) → Clauses N → List RequiresClause → Trail → D → List (VariableOrigin N S)
     → List (Requirement × Vec (Vec ℕ A) A) → Store N S
-store_with provided clauses requires trail provider os kept =
-    store_of provided (record {
-      provider = provider;
-      origins = os;
-      loaded = lists_kept kept;
-      learnt = clauses.learnt;
-      clauses = clauses.clauses;
-      watches = clauses.watches;
-      requires = requires;
-      trail = trail.entries;
-      place = trail.place;
-    })
+store_with {D = D} {N = N} {S = S} provided clauses requires trail provider os kept =
+    let none : Kept D N S = record { provider = provider; origins = os; loaded = lists_kept kept; learnt = clauses.learnt; clauses = clauses.clauses; records = []; lists = []; requires = requires; trail = trail.entries; place = trail.place } in
+    record (store_of provided none) { watches = clauses.watches; watchers = clauses.watchers }
 
 -- after a load, of what was kept before it: the provider is the cache's
 module _ {D N S A H : Type 0} (provided : D → Provider N S) (has : H → S → Bool) (origins : List (VariableOrigin N S))

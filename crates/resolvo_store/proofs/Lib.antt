@@ -7,3 +7,4 @@ pub mod LoadingLemmas
 pub mod RunLemmas
 pub mod SoundLaws
 pub mod SoundSteps
+pub mod WatchLaws

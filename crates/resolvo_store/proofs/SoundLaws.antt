@@ -6,7 +6,7 @@ use Rattle.std.specs.List.{list_any, list_all}
 use Rattle.std.specs.Map.{lookup}
 use Rattle.std.proofs.lemmas.Bool.Decides.{nat_tests}
 use Rattle.std.proofs.lemmas.Bool.{eqb-true}
-use Rattle.std.proofs.lemmas.List.{length-map, map-append, append-nil}
+use Rattle.std.proofs.lemmas.List.{length-map, length-set, map-append, append-nil}
 use Rattle.std.proofs.lemmas.List.Elements.{All-nil, All-cons, All-head, All-tail, All-push, All-take, All-append, All-weaker, All-map}
 use Rattle.std.proofs.lemmas.Option.{slice_get_within}
 use Rattle.std.proofs.lemmas.Map.Keys.{IsDistinct-push}
@@ -25,15 +25,19 @@ use Rattle.resolvo_queue.specs.declared.requires_clause.RequiresClause.{Requires
 use Rattle.resolvo_store.specs.declared.helper_origin.HelperOrigin.{HelperOrigin}
 use Rattle.resolvo_store.specs.declared.helper_origin.HelperOrigin.TheVariants as Helps
 use Rattle.decisions.specs.Literals.{Lit}
-use Rattle.clauses.specs.Clauses.{first_watches}
+use Rattle.clauses.specs.Clauses.{literals_of, learnt_literals, first_watches}
+use Rattle.watch_map.specs.Watching.{is_literal_in, IsExact, started}
+use Rattle.clause_list.specs.ClauseList.{two_or_none, rewatched}
+use Rattle.clause_list.proofs.CallerLaws.{watched_at, watching_within, exact_pushed, exact_rewatched}
 use Rattle.clauses.specs.ClauseTexts.{IsKnownClause}
 use Rattle.clauses.specs.declared.clause.Clause.{Clause}
 use Rattle.clauses.specs.declared.clause.Clause.TheVariants as Kind
-use Rattle.resolvo_store.specs.Store.{Store, values, lists_of, kept_literals}
+use Rattle.resolvo_store.specs.Store.{Store, values, lists_of, kept_literals, clause_literals, watched_by}
 use Rattle.resolvo_store.specs.Refusals.{knows_helper}
-use Rattle.resolvo_store.specs.Outcome.{assigned, without_newest, helper_origin, cut_back, hands_next, adds_clause}
+use Rattle.resolvo_store.specs.Outcome.{assigned, without_newest, helper_origin, cut_back, hands_next, adds_clause, with_learnt, with_registered, with_rewatched}
 use Rattle.resolvo_store.specs.Sound.{IsSound, IsPlain, requires_from, IsVariable, IsLoaded, IsRegistered, IsAssigned}
 use Rattle.resolvo_store.proofs.KnownLemmas.{IsKnownOrigin, IsKnownSolvable, IsLawful, variable_known, clause_kept, known-with_variables}
+use Rattle.resolvo_store.proofs.WatchLaws.{first_watches_own, theirs_grown, theirs_pushed, theirs_rewatched, found_before, lists_before, literals_learnt, literals_listed}
 
 -- ---- lists
 
@@ -229,6 +233,8 @@ module _ {N S : Type 0} (st : Store N S) (sound : IsSound st) where
         }) st.loaded sound.loaded;
         registered = sound.registered;
         watched = sound.watched;
+        own = sound.own;
+        exact = sound.exact;
         clauses = All-weaker (IsRegistered st) (IsRegistered new) (λ c k. record { parent = more c.parent k.parent; loaded = k.loaded }) st.requires sound.clauses;
         place = sound.place;
         trail = sound.trail;
@@ -250,6 +256,9 @@ module _ {N S : Type 0} (st : Store N S) (sound : IsSound st) where
         loaded = All-push (IsLoaded new) st.loaded (r, lists) (All-weaker (IsLoaded st) (IsLoaded new) same st.loaded sound.loaded) (same (r, lists) is);
         registered = sound.registered;
         watched = sound.watched;
+        own = theirs_grown (literals_of (kept_literals st)) (literals_of (kept_literals new))
+            (literals_listed (kept_literals st) (kept_literals new).lists (λ s l h. lists_before st.loaded (r, lists) s l h)) st.clauses st.watches sound.own;
+        exact = sound.exact;
         clauses = All-weaker (IsRegistered st) (IsRegistered new)
             (λ c k. record { parent = k.parent; loaded = found-push c.requirement st.loaded (r, lists) k.loaded }) st.requires sound.clauses;
         place = sound.place;
@@ -257,12 +266,20 @@ module _ {N S : Type 0} (st : Store N S) (sound : IsSound st) where
         assigned = All-weaker (IsAssigned st) (IsAssigned new) (λ e k. record { variable = k.variable; clause = k.clause }) st.trail sound.assigned;
       }
 
-  -- one clause more, with what it watches: registered, if it is a requires clause
-  pub IsSound-clause : (c : Clause N) (watch : Option (List Lit)) (learnt : List (List Lit)) (more : List RequiresClause)
+  -- the store with other learnt clauses
+  abbrev with_learnt_lists : List (List Lit) → Store N S
+  with_learnt_lists learnt = record st { learnt = learnt }
+
+  -- one clause more, with what it watches: registered, if it is a requires clause; learnt clauses keep their literals
+  pub IsSound-clause : (c : Clause N) (learnt : List (List Lit)) (more : List RequiresClause)
+      → ((id : ℕ) (l : Lit) → is_literal_in l (learnt_literals (kept_literals st) id) ≡ true → is_literal_in l (learnt_literals (kept_literals (with_learnt_lists learnt)) id) ≡ true)
       → IsKnownClause st.provider.universe st.origins c → more ≡ requires_from (length st.clauses) (c ∷ []) → All (IsRegistered st) more
-      → IsSound (record st { clauses = st.clauses ++ c ∷ []; watches = st.watches ++ watch ∷ []; learnt = learnt; requires = st.requires ++ more })
-  IsSound-clause c watch learnt more known are all =
-      let new : Store N S = record st { clauses = st.clauses ++ c ∷ []; watches = st.watches ++ watch ∷ []; learnt = learnt; requires = st.requires ++ more } in
+      → IsSound (adds_clause (record st { learnt = learnt; requires = st.requires ++ more }) c).store
+  IsSound-clause c learnt more keeps known are all =
+      let kept = kept_literals (with_learnt_lists learnt) in
+      let watch : List Lit = two_or_none (first_watches kept (values st) c) in
+      let theirs = first_watches_own kept (values st) c in
+      let new : Store N S = (adds_clause (record st { learnt = learnt; requires = st.requires ++ more }) c).store in
       let same : (d : RequiresClause) → IsRegistered st d → IsRegistered new d = λ d k. record { parent = k.parent; loaded = k.loaded } in
       record {
         root_first = sound.root_first;
@@ -273,6 +290,10 @@ module _ {N S : Type 0} (st : Store N S) (sound : IsSound st) where
         loaded = All-weaker (IsLoaded st) (IsLoaded new) (λ e k. record { one_a_set = k.one_a_set; variables = k.variables }) st.loaded sound.loaded;
         registered = ap (λ rs. rs ++ more) sound.registered ∙ ap (λ rs. requires_from 0 st.clauses ++ rs) are ∙ sym (requires_from-push 0 (length st.clauses) st.clauses c (omega arith));
         watched = length-append st.watches (watch ∷ []) ∙ ap (λ n. n + 1) sound.watched ∙ sym (length-append st.clauses (c ∷ []));
+        own = theirs_pushed (literals_of kept) st.clauses st.watches c watch sound.watched theirs.own
+            (theirs_grown (literals_of (kept_literals st)) (literals_of kept) (literals_learnt (kept_literals st) learnt keeps) st.clauses st.watches sound.own);
+        exact = subst (λ n. IsExact (watched_at (st.watches ++ watch ∷ [])) (started n watch st.watchers)) sound.watched
+            (exact_pushed st.watches st.watchers watch theirs.two sound.exact);
         clauses = All-append (IsRegistered new) st.requires more (All-weaker (IsRegistered st) (IsRegistered new) same st.requires sound.clauses)
             (All-weaker (IsRegistered st) (IsRegistered new) same more all);
         place = sound.place;
@@ -282,28 +303,49 @@ module _ {N S : Type 0} (st : Store N S) (sound : IsSound st) where
       }
 
   -- one that isn't
-  pub IsSound-plain : (c : Clause N) (watch : Option (List Lit)) (learnt : List (List Lit)) → IsKnownClause st.provider.universe st.origins c → IsPlain c
-      → IsSound (record st { clauses = st.clauses ++ c ∷ []; watches = st.watches ++ watch ∷ []; learnt = learnt })
-  IsSound-plain c watch learnt known plain =
-      subst (λ rs. IsSound (record st { clauses = st.clauses ++ c ∷ []; watches = st.watches ++ watch ∷ []; learnt = learnt; requires = rs })) (append-nil st.requires)
-      (IsSound-clause c watch learnt [] known (sym (plain.unregistered (length st.clauses))) (All-nil (IsRegistered st)))
+  IsSound-plain : (c : Clause N) (learnt : List (List Lit))
+      → ((id : ℕ) (l : Lit) → is_literal_in l (learnt_literals (kept_literals st) id) ≡ true → is_literal_in l (learnt_literals (kept_literals (with_learnt_lists learnt)) id) ≡ true)
+      → IsKnownClause st.provider.universe st.origins c → IsPlain c → IsSound (adds_clause (with_learnt_lists learnt) c).store
+  IsSound-plain c learnt keeps known plain =
+      subst (λ rs. IsSound (adds_clause (record st { learnt = learnt; requires = rs }) c).store) (append-nil st.requires)
+      (IsSound-clause c learnt [] keeps known (sym (plain.unregistered (length st.clauses))) (All-nil (IsRegistered st)))
+
+  pub IsSound-added : (c : Clause N) → IsKnownClause st.provider.universe st.origins c → IsPlain c → IsSound (adds_clause st c).store
+  IsSound-added c known plain = IsSound-plain c st.learnt (λ id l h. h) known plain
+
+  pub IsSound-learnt : (ls : List Lit) → IsSound (adds_clause (with_learnt st ls) (Kind.Learnt (length st.learnt))).store
+  IsSound-learnt ls =
+      IsSound-plain (Kind.Learnt (length st.learnt)) (st.learnt ++ ls ∷ []) (λ id l h. found_before st.learnt (ls ∷ []) id l h) tt (record { unregistered = λ id. refl })
 
   -- one that is
-  pub IsSound-requires : (parent : ℕ) (disjunction : Option ℕ) (r : Requirement) (watch : Option (List Lit)) → knows_requirement st.provider.universe r ≡ true
-      → IsVariable st parent → IsSome (lists_of st r)
-      → IsSound (record st {
-        clauses = st.clauses ++ Kind.Requires parent disjunction r ∷ [];
-        watches = st.watches ++ watch ∷ [];
-        requires = st.requires ++ record { parent = parent; requirement = r; clause_id = length st.clauses } ∷ [];
-      })
-  IsSound-requires parent disjunction r watch requirement known found =
-      IsSound-clause (Kind.Requires parent disjunction r) watch st.learnt (record { parent = parent; requirement = r; clause_id = length st.clauses } ∷ [])
+  pub IsSound-requires : (parent : ℕ) (disjunction : Option ℕ) (r : Requirement) → knows_requirement st.provider.universe r ≡ true
+      → IsVariable st parent → IsSome (lists_of st r) → IsSound (adds_clause (with_registered st parent r) (Kind.Requires parent disjunction r)).store
+  IsSound-requires parent disjunction r requirement known found =
+      IsSound-clause (Kind.Requires parent disjunction r) st.learnt (record { parent = parent; requirement = r; clause_id = length st.clauses } ∷ []) (λ id l h. h)
       (variable_known st.provider.universe st.origins sound.origins_known parent known, requirement) refl
       (All-cons (IsRegistered st) (record { parent = parent; requirement = r; clause_id = length st.clauses }) [] (record { parent = known; loaded = found }) (All-nil (IsRegistered st)))
 
-  -- with what it watches at first
-  pub IsSound-added : (c : Clause N) → IsKnownClause st.provider.universe st.origins c → IsPlain c → IsSound (adds_clause st c).store
-  IsSound-added c known plain = IsSound-plain c (first_watches (kept_literals st) (values st) c) st.learnt known plain
+  -- a watch moved
+  pub IsSound-rewatched : (c : ℕ) (from to : Lit) → is_literal_in from (watched_by st c) ≡ true → is_literal_in to (watched_by st c) ≡ false
+      → is_literal_in to (clause_literals st c) ≡ true → IsSound (with_rewatched st c from to)
+  IsSound-rewatched c from to watches other has =
+      let new : Store N S = with_rewatched st c from to in
+      record {
+        root_first = sound.root_first;
+        origins_known = sound.origins_known;
+        clauses_known = sound.clauses_known;
+        one_variable_each = sound.one_variable_each;
+        loaded_once = sound.loaded_once;
+        loaded = All-weaker (IsLoaded st) (IsLoaded new) (λ e k. record { one_a_set = k.one_a_set; variables = k.variables }) st.loaded sound.loaded;
+        registered = sound.registered;
+        watched = length-set st.watches c (rewatched from to (watched_by st c)) ∙ sound.watched;
+        own = theirs_rewatched (literals_of (kept_literals st)) st.clauses st.watches c from to (watching_within st.watches c from watches) has sound.own;
+        exact = exact_rewatched st.watches st.watchers c from to watches other sound.exact;
+        clauses = All-weaker (IsRegistered st) (IsRegistered new) (λ d k. record { parent = k.parent; loaded = k.loaded }) st.requires sound.clauses;
+        place = sound.place;
+        trail = sound.trail;
+        assigned = All-weaker (IsAssigned st) (IsAssigned new) (λ e k. record { variable = k.variable; clause = k.clause }) st.trail sound.assigned;
+      }
 
   -- another trail, and a place within it
   pub IsSound-trail : (es : List Entry) (place : ℕ) → IsTrail es → All (IsAssigned st) es → place ≤ length es
@@ -319,6 +361,8 @@ module _ {N S : Type 0} (st : Store N S) (sound : IsSound st) where
         loaded = All-weaker (IsLoaded st) (IsLoaded new) (λ e k. record { one_a_set = k.one_a_set; variables = k.variables }) st.loaded sound.loaded;
         registered = sound.registered;
         watched = sound.watched;
+        own = sound.own;
+        exact = sound.exact;
         clauses = All-weaker (IsRegistered st) (IsRegistered new) (λ c k. record { parent = k.parent; loaded = k.loaded }) st.requires sound.clauses;
         place = within;
         trail = trail;

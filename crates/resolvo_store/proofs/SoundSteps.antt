@@ -1,6 +1,6 @@
 -- Steps and runs lead from sound stores to sound ones, and a new store is sound.
-use Rattle.std.proofs.Common.{◌≡◌, ℕ, ◌<◌, ◌≤◌, Bool, true, false, cond, List, [], ◌∷◌, ◌++◌, length, Option, None, Some, IsSome, refl, arith, sym, ◌∙◌, ap, subst, zero, suc, ◌⊎◌, inl, inr}
-use Rattle.std.specs.Prelude.{◌^◌, ⊤, slice_get, is_none, find, option_map, MatchOption, ◌&&◌, not}
+use Rattle.std.proofs.Common.{◌≡◌, ℕ, ◌<◌, ◌≤◌, Bool, true, false, cond, List, [], ◌∷◌, length, Option, None, Some, IsSome, refl, arith, sym, ◌∙◌, ap, subst, zero, suc, ◌⊎◌, inl, inr}
+use Rattle.std.specs.Prelude.{◌^◌, ⊤, nat_eq, slice_get, is_none, find, option_map, MatchOption, ◌&&◌, not}
 use Rattle.std.specs.List.{IsDistinct}
 use Rattle.std.proofs.lemmas.Bool.Decides.{nat_tests}
 use Rattle.std.proofs.lemmas.List.Elements.{All-nil, All-cons}
@@ -9,18 +9,17 @@ use Rattle.providers.specs.Requirement.{same_requirement}
 use Rattle.providers.specs.Provider.{Universe, knows_requirement, sets_of}
 use Rattle.variables.specs.declared.variable_origin.VariableOrigin.TheVariants.{Root as RootOrigin}
 use Rattle.decisions.specs.Trail.{Entry, HasLevel}
-use Rattle.clauses.specs.Clauses.{first_watches}
+use Rattle.watch_map.specs.Watching.{is_literal_in}
 use Rattle.clauses.specs.ClauseTexts.{IsKnownClause}
-use Rattle.clauses.specs.declared.clause.Clause.{Clause}
 use Rattle.clauses.specs.declared.clause.Clause.TheVariants as Kind
-use Rattle.resolvo_store.specs.Command.{Command, Variable, Helper, Load, Requires, Root, Constrains, ConstrainsExcluded, ConstrainsParent, Lock, Exclude, AnyOf, Learnt, Assign, UndoLast, UndoUntil, Unpropagated, Decide, Reply, Refused}
-use Rattle.resolvo_store.specs.Store.{Store, Provider, new_store, values, lists_of, kept_literals, candidates_of}
-use Rattle.resolvo_store.specs.Refusals.{knows_variable, refusals, first_refusal}
-use Rattle.resolvo_store.specs.Outcome.{outcome, assigned, load, hands_next, with_learnt}
+use Rattle.resolvo_store.specs.Command.{Command, Variable, Helper, Load, Requires, Root, Constrains, ConstrainsExcluded, ConstrainsParent, Lock, Exclude, AnyOf, Learnt, Assign, UndoLast, UndoUntil, Unpropagated, Rewatch, Watchers, Decide, Reply, Refused}
+use Rattle.resolvo_store.specs.Store.{Store, Provider, new_store, lists_of, clause_literals, watched_by, candidates_of}
+use Rattle.resolvo_store.specs.Refusals.{knows_variable, may_rewatch, refusals, first_refusal}
+use Rattle.resolvo_store.specs.Outcome.{outcome, load, hands_next}
 use Rattle.resolvo_store.specs.Step.{IsAnswered, Step, Run}
 use Rattle.resolvo_store.specs.Sound.{IsSound, IsLoaded, IsRegistered, IsAssigned, HasOneVariableEach}
-use Rattle.resolvo_store.proofs.AddingLemmas.{both}
-use Rattle.resolvo_store.proofs.SoundLaws.{IsSound-with_variable, IsSound-interned, IsSound-added, IsSound-helper, IsSound-requires, IsSound-plain, IsSound-assigned, IsSound-without_newest, IsSound-kept_until, IsSound-hands_next}
+use Rattle.resolvo_store.proofs.AddingLemmas.{both, failed}
+use Rattle.resolvo_store.proofs.SoundLaws.{IsSound-with_variable, IsSound-interned, IsSound-added, IsSound-helper, IsSound-requires, IsSound-learnt, IsSound-rewatched, IsSound-assigned, IsSound-without_newest, IsSound-kept_until, IsSound-hands_next}
 use Rattle.resolvo_store.proofs.KnownLemmas.{IsKnownOrigin, IsLawful, known_two, known_three, known_excluded, all_known}
 
 -- ---- refusals
@@ -73,8 +72,7 @@ module _ {N S : Type 0} (st : Store N S) (sound : IsSound st) (lawful : IsLawful
       let known : parent < length st.origins = grind (arith, nat_tests, tests.0) in
       let named = both (knows_variable st parent) (knows_requirement universe r && is_none disjunction) (passed _ tests.0) in
       let requirement = both (knows_requirement universe r) (is_none disjunction) named.1 in
-      let c : Clause N = Kind.Requires parent disjunction r in
-      IsSound-requires st sound parent disjunction r (first_watches (kept_literals st) (values st) c) requirement.0 known (is_there (lists_of st r) tests.1.0)
+      IsSound-requires st sound parent disjunction r requirement.0 known (is_there (lists_of st r) tests.1.0)
   IsSound-outcome Root none = IsSound-added st sound Kind.InstallRoot tt (record { unregistered = λ id. refl })
   IsSound-outcome (Constrains parent forbidden v) none =
       let known = known_three universe st.origins sound.origins_known parent forbidden _ (passed _ (test_of (Constrains parent forbidden v) none).0) in
@@ -94,9 +92,7 @@ module _ {N S : Type 0} (st : Store N S) (sound : IsSound st) (lawful : IsLawful
   IsSound-outcome (AnyOf selected other) none =
       let known = known_two universe st.origins sound.origins_known selected other (passed _ (test_of (AnyOf selected other) none).0) in
       IsSound-added st sound (Kind.AnyOf selected other) known (record { unregistered = λ id. refl })
-  IsSound-outcome (Learnt ls) none =
-      let c : Clause N = Kind.Learnt (length st.learnt) in
-      IsSound-plain st sound c (first_watches (kept_literals (with_learnt st ls)) (values st) c) (st.learnt ++ ls ∷ []) tt (record { unregistered = λ id. refl })
+  IsSound-outcome (Learnt ls) none = IsSound-learnt st sound ls
   IsSound-outcome (Assign v value clause level) none =
       let tests = test_of (Assign v value clause level) none in
       let known : v < length st.origins = grind (arith, nat_tests, tests.0) in
@@ -108,9 +104,20 @@ module _ {N S : Type 0} (st : Store N S) (sound : IsSound st) (lawful : IsLawful
   IsSound-outcome UndoLast none = IsSound-without_newest st sound
   IsSound-outcome (UndoUntil level) none = IsSound-kept_until st sound level
   IsSound-outcome Unpropagated none = IsSound-hands_next st sound
+  IsSound-outcome (Rewatch c from to) none =
+      let tests = test_of (Rewatch c from to) none in
+      let may = passed (may_rewatch st c from to) tests.1.0 in
+      let watches = both (is_literal_in from (watched_by st c)) (not (is_literal_in to (watched_by st c)) && is_literal_in to (clause_literals st c)) may in
+      let other = both (not (is_literal_in to (watched_by st c))) (is_literal_in to (clause_literals st c)) watches.1 in
+      IsSound-rewatched st sound c from to watches.0 (failed (is_literal_in to (watched_by st c)) other.0) other.1
+  IsSound-outcome (Watchers l) none = sound
   IsSound-outcome Decide none = sound
 
 -- ---- new stores, steps and runs
+
+none_watch : IsDistinct nat_eq []
+unfolding IsDistinct
+none_watch = tt
 
 none_loaded : IsDistinct same_requirement []
 unfolding IsDistinct
@@ -131,6 +138,8 @@ module _ {N S : Type 0} where
     loaded = All-nil (IsLoaded (new_store p));
     registered = refl;
     watched = refl;
+    own = λ c l h. (let no : false ≡ true = h in cc);
+    exact = record { two = λ c. tt; once = λ l. none_watch; stands = λ l c. refl };
     clauses = All-nil (IsRegistered (new_store p));
     place = omega arith;
     trail = record { once = tt; levels = All-nil HasLevel };

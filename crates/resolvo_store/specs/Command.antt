@@ -30,6 +30,8 @@ pub data Command (N S : Type 0) : Type 0 where
   UndoLast : Command N S
   UndoUntil : (level : ℕ) → Command N S
   Unpropagated : Command N S
+  Rewatch : (clause : ℕ) (from to : Lit) → Command N S
+  Watchers : (literal : Lit) → Command N S
   Decide : Command N S
 
 pub data Reply : Type 0 where
@@ -41,6 +43,8 @@ pub data Reply : Type 0 where
   Clash : Reply
   Undone : (last : Option (Decision × ℕ)) → Reply
   Next : (decision : Option Decision) → Reply
+  Done : Reply
+  WatchersAre : (clauses : List ℕ) → Reply
   Decided : (q : QueueDecision) → Reply
   NoDecision : Reply
   Falsified : (clause : ℕ) → Reply
@@ -68,6 +72,8 @@ command_of (In.Assign variable value clause level) = Assign variable value claus
 command_of In.UndoLast = UndoLast
 command_of (In.UndoUntil level) = UndoUntil level
 command_of In.Unpropagated = Unpropagated
+command_of (In.Rewatch clause from to) = Rewatch clause from to
+command_of (In.Watchers literal) = Watchers literal
 command_of In.Decide = Decide
 
 -- the program's reply
@@ -80,6 +86,8 @@ reply_of Out.Already = Already
 reply_of Out.Clash = Clash
 reply_of (Out.Undone last) = Undone last
 reply_of (Out.Next decision) = Next decision
+reply_of Out.Done = Done
+reply_of (Out.Watchers clauses) = WatchersAre clauses.items
 reply_of (Out.Decided q) = Decided q
 reply_of Out.NoDecision = NoDecision
 reply_of (Out.Falsified clause) = Falsified clause

@@ -1,5 +1,5 @@
 -- What each command replies, and the store that it leaves, where nothing is refused.
-use Rattle.std.specs.Prelude.{ℕ, ◌+◌, ◌-◌, min, Bool, List, [], ◌∷◌, ◌++◌, map, option_map, length, take, slice_get, Option, Some, None, if◌then◌else◌}
+use Rattle.std.specs.Prelude.{ℕ, ◌+◌, ◌-◌, min, Bool, List, [], ◌∷◌, ◌++◌, map, option_map, length, take, slice_get, slice_set, Option, Some, None, if◌then◌else◌}
 use Rattle.std.specs.Bool.{beq}
 use Rattle.providers.specs.declared.requirement.Requirement.{Requirement}
 use Rattle.providers.specs.Provider.{sets_of}
@@ -12,13 +12,15 @@ use Rattle.decisions.specs.Trail.{Entry, newest, top_level, kept_until}
 use Rattle.clauses.specs.declared.clause.Clause.{Clause}
 use Rattle.clauses.specs.declared.clause.Clause.TheVariants as Kind
 use Rattle.clauses.specs.Clauses.{first_watches, is_conflict}
+use Rattle.watch_map.specs.Watching.{started, moved}
+use Rattle.clause_list.specs.ClauseList.{two_or_none, rewatched}
 use Rattle.resolvo_store.specs.declared.helper_origin.HelperOrigin.{HelperOrigin}
 use Rattle.resolvo_store.specs.declared.helper_origin.HelperOrigin.TheVariants as Helps
 use Rattle.resolvo_queue.specs.declared.requires_clause.RequiresClause.{RequiresClause}
 use Rattle.resolvo_queue.specs.Scan.{first_falsified, is_eligible}
 use Rattle.resolvo_queue.specs.Pick.{Offer, eligible, pick, decided}
-use Rattle.resolvo_store.specs.Command.{Command, Variable, Helper, Load, Requires, Root, Constrains, ConstrainsExcluded, ConstrainsParent, Lock, Exclude, AnyOf, Learnt, Assign, UndoLast, UndoUntil, Unpropagated, Decide, Reply, VariableIs, LoadedAs, ClauseIs, Assigned, Already, Clash, Undone, Next, Decided, NoDecision, Falsified}
-use Rattle.resolvo_store.specs.Store.{Store, values, lists_of, kept_literals, rows_of, score_of, candidates_of, all_candidates}
+use Rattle.resolvo_store.specs.Command.{Command, Variable, Helper, Load, Requires, Root, Constrains, ConstrainsExcluded, ConstrainsParent, Lock, Exclude, AnyOf, Learnt, Assign, UndoLast, UndoUntil, Unpropagated, Rewatch, Watchers, Decide, Reply, VariableIs, LoadedAs, ClauseIs, Assigned, Already, Clash, Undone, Next, Done, WatchersAre, Decided, NoDecision, Falsified}
+use Rattle.resolvo_store.specs.Store.{Store, values, lists_of, kept_literals, watched_by, rows_of, score_of, candidates_of, all_candidates}
 
 -- a reply, and the store after it
 pub record Outcome (N S : Type 0) : Type 0 where
@@ -74,11 +76,30 @@ module _ {N S : Type 0} where
   helper_origin (Helps.ConstrainsViolation v) = ConstrainsViolation v
   helper_origin (Helps.RequiresGate r) = RequiresGate r
 
+  -- what a new clause watches: two literals, or none
+  abbrev pub new_watches : Store N S → Clause N → List Lit
+  new_watches st c = two_or_none (first_watches (kept_literals st) (values st) c)
+
+  -- the store that has one more clause, which watches these and stands at the front of their lists
+  abbrev pub with_clause : Store N S → Clause N → List Lit → Store N S
+  with_clause st c watched = record st {
+    clauses = st.clauses ++ c ∷ [];
+    watches = st.watches ++ watched ∷ [];
+    watchers = started (length st.clauses) watched st.watchers;
+  }
+
   -- a new clause's reply, and the store that has it with its first watches
   abbrev pub adds_clause : Store N S → Clause N → Outcome N S
   adds_clause st c = record {
     reply = ClauseIs (length st.clauses) (is_conflict (kept_literals st) (values st) c);
-    store = record st { clauses = st.clauses ++ c ∷ []; watches = st.watches ++ first_watches (kept_literals st) (values st) c ∷ [] };
+    store = with_clause st c (new_watches st c);
+  }
+
+  -- the store in which a clause watches another literal in the place of one
+  abbrev pub with_rewatched : Store N S → ℕ → Lit → Lit → Store N S
+  with_rewatched st c from to = record st {
+    watches = slice_set st.watches c (rewatched from to (watched_by st c));
+    watchers = moved c from to st.watchers;
   }
 
   -- the store that has registered a requires clause under the next clause id
@@ -145,4 +166,6 @@ module _ {N S : Type 0} where
   outcome st UndoLast = record { reply = Undone (undone st.trail); store = cut_back st (without_newest st.trail) }
   outcome st (UndoUntil level) = record { reply = Undone None; store = cut_back st (kept_until level st.trail) }
   outcome st Unpropagated = hands_next st (slice_get st.trail st.place)
+  outcome st (Rewatch c from to) = record { reply = Done; store = with_rewatched st c from to }
+  outcome st (Watchers l) = record { reply = WatchersAre (st.watchers l); store = st }
   outcome st Decide = record { reply = decision (falsified_clause st) (picked st); store = st }

@@ -2,15 +2,16 @@
 use Rattle.std.specs.Prelude.{ℕ, ◌-◌, ◌^◌, ◌==◌, Bool, true, not, ◌&&◌, ◌||◌, nat_lt, nat_le, List, [], ◌∷◌, length, find, Option, is_none, option_map}
 use Rattle.std.specs.List.{list_all}
 use Rattle.typed_ids.specs.declared.error.StoreError.{StoreError}
-use Rattle.typed_ids.specs.declared.error.StoreError.TheVariants.{IdSpace, UnknownId, LevelOutOfRange, NotLoaded, BadLearnt, EmptyTrail, TooManyClauses}
+use Rattle.typed_ids.specs.declared.error.StoreError.TheVariants.{IdSpace, UnknownId, LevelOutOfRange, NotLoaded, BadWatch, BadLearnt, EmptyTrail, TooManyClauses}
 use Rattle.providers.specs.Provider.{knows_requirement}
 use Rattle.variables.specs.Variables.{lacks_variable, are_variables_out}
 use Rattle.decisions.specs.Literals.{Lit, variable_of}
 use Rattle.clauses.specs.Clauses.{watch_ends}
 use Rattle.resolvo_store.specs.declared.helper_origin.HelperOrigin.{HelperOrigin}
 use Rattle.resolvo_store.specs.declared.helper_origin.HelperOrigin.TheVariants as Helps
-use Rattle.resolvo_store.specs.Command.{Command, Variable, Helper, Load, Requires, Root, Constrains, ConstrainsExcluded, ConstrainsParent, Lock, Exclude, AnyOf, Learnt, Assign, UndoLast, UndoUntil, Unpropagated, Decide}
-use Rattle.resolvo_store.specs.Store.{Store, lists_of}
+use Rattle.resolvo_store.specs.Command.{Command, Variable, Helper, Load, Requires, Root, Constrains, ConstrainsExcluded, ConstrainsParent, Lock, Exclude, AnyOf, Learnt, Assign, UndoLast, UndoUntil, Unpropagated, Rewatch, Watchers, Decide}
+use Rattle.watch_map.specs.Watching.{is_literal_in}
+use Rattle.resolvo_store.specs.Store.{Store, lists_of, clause_literals, watched_by}
 
 -- no literal, or two or more of which the first is the last
 abbrev pub is_bad_learnt : List Lit → Bool
@@ -46,6 +47,11 @@ module _ {N S : Type 0} where
   abbrev pub knows_pair : Store N S → ℕ → ℕ → Bool
   knows_pair st a b = knows_variable st a && knows_variable st b
 
+  -- the clause watches the one literal, doesn't watch the other, and has it
+  abbrev pub may_rewatch : Store N S → ℕ → Lit → Lit → Bool
+  may_rewatch st c from to =
+      is_literal_in from (watched_by st c) && (not (is_literal_in to (watched_by st c)) && is_literal_in to (clause_literals st c))
+
   -- of a command that adds a clause, by whether all that it names is known
   abbrev pub clause_refusals : Store N S → Bool → List (Bool × StoreError)
   clause_refusals st known = (not known, UnknownId) ∷ (are_clauses_out st, IdSpace) ∷ []
@@ -80,6 +86,10 @@ module _ {N S : Type 0} where
   refusals st UndoLast = (length st.trail == 0, EmptyTrail) ∷ []
   refusals st (UndoUntil level) = []
   refusals st Unpropagated = []
+  refusals st (Rewatch c from to) =
+      (not (knows_clause st c && (knows_literal st from && knows_literal st to)), UnknownId) ∷
+      (not (may_rewatch st c from to), BadWatch) ∷ []
+  refusals st (Watchers l) = (not (knows_literal st l), UnknownId) ∷ []
   refusals st Decide = []
 
   -- the first that applies

@@ -1,9 +1,10 @@
--- Lists of lists of variables that compare equal hold the same variables, and lists of literals the same literals.
+-- Lists of lists of variables that compare equal hold the same variables; so with lists of clauses and of literals.
 use Rattle.std.specs.Prelude.{◌≡◌, ℕ, Bool, true, false, ◌&&◌, List, [], ◌∷◌, map, refl}
 use Rattle.std.specs.declared.vec.Vec.{Vec}
 use Rattle.std.specs.Cmp.Lexicographic.{pointwise, pointwise_decides}
 use Rattle.std.proofs.Common.{rules, sym, true≢false}
 use Rattle.typed_ids.specs.contracts.variable_id.VariableIdPartialEq.TheImpl.{eq-value}
+use Rattle.typed_ids.specs.contracts.clause_id.ClauseIdPartialEq.TheImpl as Clause
 use Rattle.decisions.specs.Literals.{Lit}
 use Rattle.decisions.specs.contracts.literal.LiteralPartialEq.TheImpl as Literal
 
@@ -30,6 +31,17 @@ same_lists items (x ∷ a) [] h = absurd (true≢false (sym h))
 same_lists items (x ∷ a) (y ∷ b) h =
     λ i. (pointwise_decides decides (items x) (items y)).0 (first (pointwise equal (items x) (items y)) _ h) i
     ∷ same_lists items a b (second (pointwise equal (items x) (items y)) _ h) i
+
+-- `==` of clause ids
+abbrev pub equal_clauses : ℕ → ℕ → Bool
+equal_clauses = Clause.eq-value.it
+
+decides_clauses : (x y : ℕ) → (equal_clauses x y ≡ true → x ≡ y) × (x ≡ y → equal_clauses x y ≡ true)
+decides_clauses x y = (λ e. search rules, λ e. search rules)
+
+-- vectors of equal clause ids hold the same ones
+pub same_clauses : {A : Type 0} (a b : Vec ℕ A) → pointwise equal_clauses a.items b.items ≡ true → a.items ≡ b.items
+same_clauses a b h = (pointwise_decides decides_clauses a.items b.items).0 h
 
 -- `==` of literals
 abbrev pub equal_literals : Lit → Lit → Bool

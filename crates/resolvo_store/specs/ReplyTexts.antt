@@ -3,7 +3,7 @@ use Rattle.std.specs.Prelude.{ℕ, Bool, List, [], ◌∷◌, ◌++◌, flat_map
 use Rattle.typed_ids.specs.Refusals.{code_of}
 use Rattle.decisions.specs.declared.decision.Decision.{Decision}
 use Rattle.resolvo_queue.specs.declared.queue_decision.QueueDecision.{QueueDecision}
-use Rattle.resolvo_store.specs.Command.{Reply, VariableIs, LoadedAs, ClauseIs, Assigned, Already, Clash, Undone, Next, Decided, NoDecision, Falsified, Refused}
+use Rattle.resolvo_store.specs.Command.{Reply, VariableIs, LoadedAs, ClauseIs, Assigned, Already, Clash, Undone, Next, Done, WatchersAre, Decided, NoDecision, Falsified, Refused}
 
 -- a name, and a number directly after it
 abbrev pub field : List ℕ → ℕ → List ℕ
@@ -40,6 +40,11 @@ abbrev pub next_text : Option Decision → List ℕ
 next_text None = codes "next none"
 next_text (Some d) = codes "next" ++ assignment_text d
 
+-- numbers, each after a blank, or - for none
+abbrev pub words_text : List ℕ → List ℕ
+words_text [] = codes " -"
+words_text (n ∷ ns) = flat_map (field (codes " ")) (n ∷ ns)
+
 abbrev pub decision_text : QueueDecision → List ℕ
 decision_text d =
     field (codes "decided ") d.candidate ++ (field (codes " by ") d.required_by ++ (field (codes " clause ") d.clause_id ++
@@ -55,6 +60,8 @@ reply_words Already = codes "already"
 reply_words Clash = codes "clash"
 reply_words (Undone last) = undone_text last
 reply_words (Next decision) = next_text decision
+reply_words Done = codes "done"
+reply_words (WatchersAre clauses) = codes "watchers" ++ words_text clauses
 reply_words (Decided d) = decision_text d
 reply_words NoDecision = codes "no decision"
 reply_words (Falsified c) = field (codes "falsified ") c

@@ -7,12 +7,14 @@ use Rattle.providers.specs.Provider.{sets_of}
 use Rattle.variables.specs.declared.variable_origin.VariableOrigin.TheVariants.{Solvable}
 use Rattle.variables.specs.Variables.{IsRootFirst, variable_of_solvable}
 use Rattle.variable_info.specs.VariableTexts.{knows_origin}
+use Rattle.decisions.specs.Literals.{Lit}
 use Rattle.decisions.specs.Trail.{Entry, IsTrail}
 use Rattle.clauses.specs.declared.clause.Clause.{Clause}
 use Rattle.clauses.specs.declared.clause.Clause.TheVariants as Kind
 use Rattle.clauses.specs.ClauseTexts.{IsKnownClause}
 use Rattle.resolvo_queue.specs.declared.requires_clause.RequiresClause.{RequiresClause}
-use Rattle.resolvo_store.specs.Store.{Store, lists_of}
+use Rattle.watch_map.specs.Watching.{is_literal_in, IsExact}
+use Rattle.resolvo_store.specs.Store.{Store, lists_of, clause_literals, watched_by}
 
 -- the requires clauses among these, the first of which has this id
 abbrev pub requires_from : {N : Type 0} → ℕ → List (Clause N) → List RequiresClause
@@ -54,6 +56,10 @@ module _ {N S : Type 0} (st : Store N S) where
     pub variable : IsVariable entry.decision.variable
     pub clause : IsClause entry.decision.derived_from
 
+  -- what a clause watches is among its literals
+  abbrev pub WatchOwn : Type 0
+  WatchOwn = (clause : ℕ) (l : Lit) → is_literal_in l (watched_by st clause) ≡ true → is_literal_in l (clause_literals st clause) ≡ true
+
   pub record IsSound : Type 0 where
     pub root_first : IsRootFirst st.origins
     -- what variables stand for is known to the provider
@@ -67,8 +73,11 @@ module _ {N S : Type 0} (st : Store N S) where
     pub clauses : All IsRegistered st.requires
     -- the variables of clauses are the store's, and what else clauses name is known to the provider
     pub clauses_known : All (IsKnownClause st.provider.universe st.origins) st.clauses
-    -- for each clause there is what it watches
+    -- for each clause there is what it watches: literals of its own
     pub watched : length st.watches ≡ length st.clauses
+    pub own : WatchOwn
+    -- each clause watches nothing or two different literals, and stands once in the list of each, and in no other list
+    pub exact : IsExact (watched_by st) st.watchers
     pub place : st.place ≤ length st.trail
     -- each variable is on the trail at most once, and levels are in range
     pub trail : IsTrail st.trail

@@ -1,5 +1,5 @@
 -- The abstract store, and what a clause store keeps of it. N are the names, S the solvables.
-use Rattle.std.specs.Prelude.{ℕ, List, [], ◌∷◌, flat_map, Option, unwrap_or}
+use Rattle.std.specs.Prelude.{ℕ, List, [], ◌∷◌, map, flat_map, slice_index_or, Option, option_map, slice_get, unwrap_or}
 use Rattle.std.specs.Map.{lookup}
 use Rattle.typed_ids.specs.declared.version_set_id.VersionSetId.{VersionSetId}
 use Rattle.providers.specs.declared.requirement.Requirement.{Requirement}
@@ -9,8 +9,9 @@ use Rattle.variables.specs.declared.variable_origin.VariableOrigin.{VariableOrig
 use Rattle.variables.specs.declared.variable_origin.VariableOrigin.TheVariants.{Root}
 use Rattle.decisions.specs.Literals.{Lit, Values}
 use Rattle.decisions.specs.Trail.{Entry, val}
-use Rattle.clauses.specs.Clauses.{Kept as KeptLiterals}
+use Rattle.clauses.specs.Clauses.{Kept as KeptLiterals, literals_of}
 use Rattle.clauses.specs.declared.clause.Clause.{Clause}
+use Rattle.watch_map.specs.WatchLists.{WatchLists, Watches, literals_in, watchers}
 use Rattle.resolvo_queue.specs.declared.requires_clause.RequiresClause.{RequiresClause}
 use Rattle.resolvo_queue.specs.Rows.{Row, rows}
 pub use Rattle.solver_cache.specs.Functions.{Provider, gathered}
@@ -32,7 +33,7 @@ pub record Store (N S : Type 0) : Type 0 where
   -- all clauses: a clause's id is its place
   pub clauses : List (Clause N)
   -- the two literals that each clause watches, or none
-  pub watches : List (Option (List Lit))
+  pub watches : List (List Lit)
   -- the requires clauses in the order of registration
   pub requires : List RequiresClause
   -- the trail, the oldest entry first
@@ -51,12 +52,14 @@ pub record Kept (D N S : Type 0) : Type 0 where
   pub loaded : List (Requirement × List (List ℕ))
   pub learnt : List (List Lit)
   pub clauses : List (Clause N)
-  pub watches : List (Option (List Lit))
+  -- a record for each clause that watches something, and the lists that belong to them
+  pub records : Watches
+  pub lists : WatchLists
   pub requires : List RequiresClause
   pub trail : List Entry
   pub place : ℕ
 
--- the abstract store of what is kept. No command changes scores, trackers or watch lists yet.
+-- the abstract store of what is kept. No command changes scores or trackers yet.
 abbrev pub store_of : {D N S : Type 0} → (D → Provider N S) → Kept D N S → Store N S
 store_of provided kept = record {
   provider = provided kept.provider;
@@ -64,13 +67,13 @@ store_of provided kept = record {
   loaded = kept.loaded;
   learnt = kept.learnt;
   clauses = kept.clauses;
-  watches = kept.watches;
+  watches = map literals_in kept.records;
   requires = kept.requires;
   trail = kept.trail;
   place = kept.place;
   scores = λ n. 0;
   trackers = λ n. record { tracked = []; helpers = [] };
-  watchers = λ l. [];
+  watchers = watchers kept.lists kept.records;
 }
 
 -- the store that has the root's variable and nothing else
@@ -102,6 +105,14 @@ module _ {N S : Type 0} (st : Store N S) where
   -- what the literals of its clauses are read from; no disjunction is kept yet
   abbrev pub kept_literals : KeptLiterals
   kept_literals = record { learnt = st.learnt; lists = λ r. unwrap_or (lists_of r) []; disjunctions = [] }
+
+  -- the literals of a clause, none of an unknown one
+  abbrev pub clause_literals : ℕ → List Lit
+  clause_literals c = unwrap_or (option_map (literals_of kept_literals) (slice_get st.clauses c)) []
+
+  -- the two literals that a clause watches, or none
+  abbrev pub watched_by : ℕ → List Lit
+  watched_by c = slice_index_or st.watches c []
 
   -- the rows of a requirement, none if it wasn't loaded
   abbrev pub rows_of : Requirement → List Row

@@ -49,6 +49,10 @@ pub enum Command<N, S, A: Allocator> {
     UndoUntil(u32),
     /// Asks for the next assignment to propagate: the oldest one that wasn't handed out yet.
     Unpropagated,
+    /// Lets the clause watch the second literal in the place of the first one.
+    Rewatch(ClauseId, Literal, Literal),
+    /// Asks which clauses watch the literal.
+    Watchers(Literal),
     /// Asks which candidate to decide next.
     Decide,
 }

@@ -28,6 +28,10 @@ pub enum Reply<A: Allocator> {
     Undone(Option<(Decision, u32)>),
     /// The next assignment to propagate, if there is one.
     Next(Option<Decision>),
+    /// It was done, and there is nothing to tell.
+    Done,
+    /// The clauses that watch the literal, front first.
+    Watchers(Vec<ClauseId, A>),
     /// This candidate is to be decided next.
     Decided(QueueDecision),
     /// No clause wants a decision.
@@ -51,10 +55,10 @@ pub trait AbstractReply: Eq {
 
 impl<A: Allocator> AbstractReply for Reply<A> {
     ghost use Rattle.resolvo_store.specs.Command.{reply_of};
-    ghost use Rattle.resolvo_store.specs.ReplyLaws.{same_lists};
+    ghost use Rattle.resolvo_store.specs.ReplyLaws.{same_lists, same_clauses};
     ghost use Rattle.std.proofs.Common.{rules};
 
     ghost reply = { reply_of };
 
-    ghost same_reply = { λ a b h. Prim.search (rules, same_lists) };
+    ghost same_reply = { λ a b h. Prim.search (rules, same_lists, same_clauses) };
 }

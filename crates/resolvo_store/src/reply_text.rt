@@ -1,7 +1,7 @@
 //! The texts of replies: what the program's lines have, without the line feed.
-ghost use Rattle.std.specs.Prelude.{◌≡◌, ◌++◌, codes, map, Some};
+ghost use Rattle.std.specs.Prelude.{◌≡◌, ◌++◌, codes, map, flat_map, Some};
 ghost use Rattle.std.specs.Fmt.{DisplaysOnOk};
-ghost use Rattle.resolvo_store.specs.ReplyTexts.{field, lists_text, list_text, others_text, conflict_text, truth_text, assignment_text, undone_text, next_text, decision_text};
+ghost use Rattle.resolvo_store.specs.ReplyTexts.{field, lists_text, list_text, others_text, conflict_text, truth_text, assignment_text, undone_text, next_text, words_text, decision_text};
 
 use crate::reply::Reply;
 use decisions::Decision;
@@ -27,6 +27,8 @@ impl<A: Allocator> fmt::Display for Reply<A> {
             Reply::Clash => f.write_str("clash"),
             Reply::Undone(last) => write_undone(f, *last),
             Reply::Next(decision) => write_next(f, *decision),
+            Reply::Done => f.write_str("done"),
+            Reply::Watchers(clauses) => write_watchers(f, clauses),
             Reply::Decided(decision) => write_decision(f, decision),
             Reply::NoDecision => f.write_str("no decision"),
             Reply::Falsified(clause) => write_field(f, "falsified ", clause.to_index()),
@@ -106,6 +108,27 @@ fn write_decision<W: fmt::Write>(f: &mut fmt::Formatter<W>, decision: &QueueDeci
     write_field(f, " clause ", decision.clause_id.to_index())?;
     let (score, count) = (decision.package_activity, decision.candidate_count);
     write!(f, " score {score} count {count}")
+}
+
+/// `watchers`, and a word for each clause, or `-` for none.
+fn write_watchers<W: fmt::Write>(f: &mut fmt::Formatter<W>, clauses: &[ClauseId]) -> fmt::Result
+    ensures { DisplaysOnOk W.write_str_gives f.old result (Some (codes "watchers" ++ words_text clauses.now)) f.new }
+{
+    f.write_str("watchers")?;
+    match clauses {
+        [] => f.write_str(" -"),
+        _ => write_clauses(f, clauses),
+    }
+}
+
+/// Each clause after a blank.
+fn write_clauses<W: fmt::Write>(f: &mut fmt::Formatter<W>, clauses: &[ClauseId]) -> fmt::Result
+    ensures { DisplaysOnOk W.write_str_gives f.old result (Some (flat_map (field (codes " ")) clauses.now)) f.new }
+{
+    for clause in clauses {
+        write_field(f, " ", clause.to_index())?;
+    }
+    Ok(())
 }
 
 /// `loaded`, and a word for each list.

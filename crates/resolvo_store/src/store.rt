@@ -7,11 +7,12 @@
 //! - `store/adding.rt`: the commands that add clauses of the other kinds;
 //! - `store/registering.rt`: `Requires`, which adds a clause and registers it for decisions;
 //! - `store/assigning.rt`: `Assign`, `UndoLast`, `UndoUntil` and `Unpropagated`, which change the trail;
+//! - `store/watching.rt`: `Rewatch` and `Watchers`, which move a watch and tell who watches;
 //! - `store/deciding.rt`: `Decide`, which changes nothing, and its two halves as calls of their own;
 //! - `store/reading.rt`: no commands, but what is read beside the replies.
 //!
-//! Each method's contract is the step of its command. So a method takes back what it changed before it was refused:
-//! a `Load` gives up the variables that it made, and a `Requires` the clause.
+//! Each method's contract is the step of its command. So a method takes back what it changed before it was refused, as a
+//! `Load` gives up the variables that it made; or it makes room first, as a `Requires` does before it registers its clause.
 ghost use Rattle.std.specs.Prelude.{◌≡◌, map, length, vec_len, IfOk, IfErr, OnErr};
 ghost use Rattle.typed_ids.specs.declared.error.StoreError.TheVariants.{OutOfMemory};
 ghost use Rattle.decisions.specs.Trail.{val};
@@ -22,6 +23,7 @@ mod deciding;
 mod loading;
 mod reading;
 mod registering;
+mod watching;
 
 use crate::abstract_store::AbstractStore;
 use crate::command::Command;
@@ -67,7 +69,8 @@ impl<D: DependencyProvider> Model for ClauseStore<D> {
       loaded = lists_kept a.loaded;
       learnt = a.clauses.learnt;
       clauses = a.clauses.clauses;
-      watches = a.clauses.watches;
+      records = a.clauses.records;
+      lists = a.clauses.lists;
       requires = a.queue;
       trail = a.trail.entries;
       place = a.trail.place;
@@ -80,7 +83,8 @@ impl<D: DependencyProvider> Model for ClauseStore<D> {
           loaded = lists_kept a.loaded;
           learnt = a.clauses.learnt;
           clauses = a.clauses.clauses;
-          watches = a.clauses.watches;
+          records = a.clauses.records;
+          lists = a.clauses.lists;
           requires = a.queue;
           trail = a.trail.entries;
           place = a.trail.place;
@@ -102,11 +106,12 @@ impl<D: DependencyProvider + Drop> ClauseStore<D> {
         ensures err { IfErr result (λ e. e ≡ OutOfMemory) }
     {
         let variables = VariableMap::new(alloc)?;
+        let clauses = ClauseList::new(alloc)?;
         Ok(ClauseStore {
             cache: SolverCache::new(alloc, provider),
             variables,
             loaded: RequirementMap::new(alloc),
-            clauses: ClauseList::new(alloc),
+            clauses,
             queue: DecideQueue::new(alloc),
             trail: DecisionTracker::new(alloc),
             alloc,
@@ -179,6 +184,8 @@ impl<D: DependencyProvider + Drop> ClauseStore<D> {
             Command::UndoLast => self.undo_last(),
             Command::UndoUntil(level) => Ok(self.undo_until(*level)),
             Command::Unpropagated => Ok(self.unpropagated()),
+            Command::Rewatch(clause, from, to) => self.rewatch(*clause, *from, *to),
+            Command::Watchers(literal) => self.watchers_of(*literal),
             Command::Decide => Ok(self.decide()),
         }
     }

@@ -86,7 +86,7 @@ fn lines_of_another_form_are_unreadable(rt: HostRuntime) -> Result<(), Fail> {
         b"begin\nunpropagated 1\n",
         b"begin\nundo-last 1\n",
         b"begin\ndisjunction 0\n",
-        b"begin\nwatchers +0\n",
+        b"begin\nwatchers 0\n",
         b"begin\nbump 0 1\n",
         b"begin\nsaturate 1\n",
     ];

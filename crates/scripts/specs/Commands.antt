@@ -5,7 +5,7 @@ use Rattle.std.specs.Str.{bytes_eq}
 use Rattle.typed_ids.specs.declared.string_id.StringId.{StringId}
 use Rattle.typed_ids.specs.declared.version_set_id.VersionSetId.{VersionSetId}
 use Rattle.decisions.specs.Literals.{Lit, Pos, Neg}
-use Rattle.resolvo_store.specs.Command.{Command, Variable, Helper, Load, Requires, Root, Constrains, ConstrainsExcluded, ConstrainsParent, Lock, Exclude, AnyOf, Learnt, Assign, UndoLast, UndoUntil, Unpropagated, Decide}
+use Rattle.resolvo_store.specs.Command.{Command, Variable, Helper, Load, Requires, Root, Constrains, ConstrainsExcluded, ConstrainsParent, Lock, Exclude, AnyOf, Learnt, Assign, UndoLast, UndoUntil, Unpropagated, Rewatch, Watchers, Decide}
 use Rattle.resolvo_store.specs.declared.helper_origin.HelperOrigin.{HelperOrigin}
 use Rattle.resolvo_store.specs.declared.helper_origin.HelperOrigin.TheVariants.{AtLeastOne, ConstrainsViolation, RequiresGate}
 use Rattle.script_packages.specs.Ids.{number_32, variable_of, clause_of, requirement_of, truth_of}
@@ -102,6 +102,15 @@ module _ {N S : Type 0} where
   abbrev pub learnt_command : List (List ℕ) → Option (Command N S)
   learnt_command ws = option_map (λ literals. Learnt literals) (with_literals [] ws)
 
+  abbrev pub rewatch_command : List (List ℕ) → Option (Command N S)
+  rewatch_command (c ∷ a ∷ b ∷ []) =
+      option_and_then (λ clause. option_and_then (λ from. option_map (λ to. Rewatch clause from to) (literal_of b)) (literal_of a)) (clause_of c)
+  rewatch_command _ = None
+
+  abbrev pub watchers_command : List (List ℕ) → Option (Command N S)
+  watchers_command (l ∷ []) = option_map (λ literal. Watchers literal) (literal_of l)
+  watchers_command _ = None
+
   -- the clauses between two variables
   abbrev pub between_command : List ℕ → List (List ℕ) → Option (Command N S)
   between_command keyword ws =
@@ -148,6 +157,8 @@ module _ {N S : Type 0} (ids : Ids N S) where
       else if bytes_eq keyword (codes "decide") then bare_command Decide ws
       else if bytes_eq keyword (codes "unpropagated") then bare_command Unpropagated ws
       else if bytes_eq keyword (codes "undo-until") then undo_command ws
+      else if bytes_eq keyword (codes "rewatch") then rewatch_command ws
+      else if bytes_eq keyword (codes "watchers") then watchers_command ws
       else seldom_command keyword ws
 
   -- the command of a line's words

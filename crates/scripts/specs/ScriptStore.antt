@@ -1,7 +1,6 @@
--- What a store over a script's packages knows of them, and what a new store keeps.
-use Rattle.std.specs.Prelude.{ℕ, ◌^◌, Bool, [], ◌∷◌, nat_le}
-use Rattle.resolvo_store.specs.Store.{Kept, Provider, gathered}
-use Rattle.variables.specs.declared.variable_origin.VariableOrigin.TheVariants.{Root}
+-- What a store over a script's packages knows of them.
+use Rattle.std.specs.Prelude.{ℕ, ◌^◌, Bool, nat_le}
+use Rattle.resolvo_store.specs.Store.{Provider, gathered}
 use Rattle.script_packages.specs.declared.packages.Packages.{Packages}
 use Rattle.script_packages.specs.Packages.{same_id}
 use Rattle.script_packages.specs.PackageAnswers.{universe_of, answers_of}
@@ -18,17 +17,3 @@ is_large n = nat_le (2 ^ 40) n
 -- what the abstract store knows of the packages
 abbrev pub provider_of : Packages → Provider ℕ ℕ
 provider_of p = gathered same_id same_id is_large is_large is_large Bool.false universe_of answers_of p
-
--- what a new store over a provider keeps
-abbrev pub new_kept : {D N S : Type 0} → D → Kept D N S
-new_kept provider = record {
-  provider = provider;
-  origins = Root ∷ [];
-  loaded = [];
-  learnt = [];
-  clauses = [];
-  watches = [];
-  requires = [];
-  trail = [];
-  place = 0;
-}

@@ -6,10 +6,10 @@ ghost use Rattle.resolvo_store.specs.Command.{command_of};
 ghost use Rattle.scripts.specs.Commands.{ids_at, only_word, pair_of, pair_and_set_of, helper_origin_of};
 ghost use Rattle.scripts.specs.Commands.{command_said, plain_command, seldom_command, between_command, bare_command};
 ghost use Rattle.scripts.specs.Commands.{variable_command, helper_command, load_command, requires_command, assign_command};
-ghost use Rattle.scripts.specs.Commands.{undo_command, exclude_command, learnt_command};
+ghost use Rattle.scripts.specs.Commands.{undo_command, exclude_command, learnt_command, rewatch_command, watchers_command};
 ghost use Rattle.scripts.specs.Transcript.{IsRead};
 
-use crate::literal_words::{are_literals, literals};
+use crate::literal_words::{are_literals, literal, literals};
 use resolvo_store::{Command, HelperOrigin};
 use script_packages::{id, requirement};
 use script_text::{LineFault, Statement, is_word, next_word};
@@ -68,6 +68,10 @@ fn plain_command<N: DenseIndex, S: DenseIndex, A: Allocator>(
         bare_command(said.rest, Command::Unpropagated)
     } else if is_word(said.keyword, b"undo-until") {
         undo_until(said.rest)
+    } else if is_word(said.keyword, b"rewatch") {
+        rewatch(said.rest)
+    } else if is_word(said.keyword, b"watchers") {
+        watchers(said.rest)
     } else {
         seldom_command(said)
     }
@@ -266,6 +270,27 @@ fn undo_until<N, S, A: Allocator>(text: &[u8]) -> Option<Command<N, S, A>>
 {
     let level = id(only_word(text)?)?;
     Some(Command::UndoUntil(level))
+}
+
+/// `rewatch CLAUSE LIT LIT`
+fn rewatch<N, S, A: Allocator>(text: &[u8]) -> Option<Command<N, S, A>>
+    ensures { option_map command_of result ≡ rewatch_command (words text.now) }
+{
+    let (clause, text) = next_word(text)?;
+    let (from, text) = next_word(text)?;
+    let (to, text) = next_word(text)?;
+    match next_word(text) {
+        Some(_) => None,
+        None => Some(Command::Rewatch(id(clause)?, literal(from)?, literal(to)?)),
+    }
+}
+
+/// `watchers LIT`
+fn watchers<N, S, A: Allocator>(text: &[u8]) -> Option<Command<N, S, A>>
+    ensures { option_map command_of result ≡ watchers_command (words text.now) }
+{
+    let watched = literal(only_word(text)?)?;
+    Some(Command::Watchers(watched))
 }
 
 /// `true` or `false`

@@ -41,7 +41,7 @@ pub(crate) fn are_literals(text: &[u8]) -> bool
 }
 
 /// A literal: `+` or `-`, and the number of its variable directly after it.
-fn literal(word: &[u8]) -> Option<Literal>
+pub(crate) fn literal(word: &[u8]) -> Option<Literal>
     ensures { result ≡ literal_of word.now }
 {
     match word {

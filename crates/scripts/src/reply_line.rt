@@ -1,7 +1,7 @@
 //! Reply lines.
-ghost use Rattle.std.specs.Prelude.{◌≡◌, ◌++◌, OnOk, codes, decimal, map};
+ghost use Rattle.std.specs.Prelude.{◌≡◌, ◌++◌, OnOk, codes, decimal, map, flat_map};
 ghost use Rattle.resolvo_store.specs.Command.{reply_of};
-ghost use Rattle.resolvo_store.specs.ReplyTexts.{field, reply_words, list_text, others_text, lists_text, conflict_text, decision_text, undone_text, next_text, assignment_text, truth_text};
+ghost use Rattle.resolvo_store.specs.ReplyTexts.{field, reply_words, list_text, others_text, lists_text, conflict_text, decision_text, undone_text, next_text, assignment_text, truth_text, words_text};
 ghost use Rattle.scripts.specs.Replies.{reply_text, unreadable_text};
 
 use decisions::Decision;
@@ -31,6 +31,8 @@ fn push_words<A: Allocator>(text: &mut Vec<u8>, reply: &Reply<A>) -> Result<(), 
         Reply::Clash => text.extend_from_slice(b"clash"),
         Reply::Undone(last) => push_undone(text, *last),
         Reply::Next(decision) => push_next(text, *decision),
+        Reply::Done => text.extend_from_slice(b"done"),
+        Reply::Watchers(clauses) => push_watchers(text, clauses),
         Reply::Decided(decision) => push_decision(text, decision),
         Reply::NoDecision => text.extend_from_slice(b"no decision"),
         Reply::Falsified(clause) => push_field(text, b"falsified ", clause.to_index()),
@@ -145,6 +147,27 @@ fn push_weight(text: &mut Vec<u8>, score: u64, count: usize) -> Result<(), Alloc
 {
     push_field(text, b" score ", score as usize)?;
     push_field(text, b" count ", count)
+}
+
+/// `watchers`, and each clause after a blank, or `-` for none.
+fn push_watchers(text: &mut Vec<u8>, clauses: &[ClauseId]) -> Result<(), AllocError>
+    ensures { OnOk result (text.new.items ≡ text.old.items ++ (codes "watchers" ++ words_text clauses.now)) }
+{
+    text.extend_from_slice(b"watchers")?;
+    match clauses {
+        [] => text.extend_from_slice(b" -"),
+        _ => push_clauses(text, clauses),
+    }
+}
+
+/// Each clause after a blank.
+fn push_clauses(text: &mut Vec<u8>, clauses: &[ClauseId]) -> Result<(), AllocError>
+    ensures { OnOk result (text.new.items ≡ text.old.items ++ flat_map (field (codes " ")) clauses.now) }
+{
+    for clause in clauses {
+        push_field(text, b" ", clause.to_index())?;
+    }
+    Ok(())
 }
 
 /// `loaded`, and a word for each list.

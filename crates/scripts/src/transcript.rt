@@ -4,7 +4,7 @@ ghost use Rattle.script_text.specs.declared.fault.ScriptFault.TheVariants.{Devic
 ghost use Rattle.script_text.specs.Lines.{lines as lines_of};
 ghost use Rattle.script_text.specs.Output.{Writes};
 ghost use Rattle.scripts.specs.Commands.{ids_at, command_meant};
-ghost use Rattle.scripts.specs.ScriptStore.{new_kept};
+ghost use Rattle.resolvo_store.specs.Store.{new_store};
 ghost use Rattle.scripts.specs.Scripts.{ScriptAnswered, faulty_text};
 ghost use Rattle.scripts.specs.Transcript.{ObeysLine, Answered, HasCommand, IfRead};
 
@@ -16,6 +16,7 @@ use script_packages::read_catalogue;
 use script_text::{
     Line, LineFault, ScriptFault, Statement, next_statement, read_whole, write_much, write_rest,
 };
+use solver_cache::ProviderFunctions;
 use std::alloc::Global;
 use std::io::{Read, Write};
 use typed_ids::DenseIndex;
@@ -90,7 +91,7 @@ fn obey_commands<
 ) -> Result<(), ScriptFault>
     requires { before + length lines.now < 2 ^ 64 }
     ensures { IfRead result (λ faulty. (text : List ℕ)
-        × Answered (ids_at D.NameId.limit D.NameId.id_at D.SolvableId.limit D.SolvableId.id_at) (⟦<D as AbstractStore>⟧.store (new_kept provider)) before (lines_of lines.now) text faulty
+        × Answered (ids_at D.NameId.limit D.NameId.id_at D.SolvableId.limit D.SolvableId.id_at) (new_store (⟦<D as ProviderFunctions>⟧.functions provider)) before (lines_of lines.now) text faulty
         × Writes (W.contents writer.old) waiting.old.items (W.contents writer.new) waiting.new.items text) }
 {
     let mut store = store_over(alloc, provider)?;
@@ -104,7 +105,7 @@ fn store_over<D: DependencyProvider + Drop>(
     alloc: D::Alloc,
     provider: D,
 ) -> Result<ClauseStore<D>, ScriptFault>
-    ensures ok { IfOk result (λ store. ⟦<D as AbstractStore>⟧.store store ≡ ⟦<D as AbstractStore>⟧.store (new_kept provider)) }
+    ensures ok { IfOk result (λ store. ⟦<D as AbstractStore>⟧.store store ≡ new_store (⟦<D as ProviderFunctions>⟧.functions provider)) }
     ensures err { IfErr result (λ e. e ≡ Memory) }
 {
     ClauseStore::new(alloc, provider).map_err(|_| ScriptFault::Memory)

@@ -1,15 +1,14 @@
 -- What is computed is a run.
-use Rattle.std.proofs.Common.{◌≡◌, ℕ, Bool, true, false, cond, ◌&&◌, ◌||◌, arith, List, [], ◌∷◌, Option, Some, None, refl, ap}
+use Rattle.std.proofs.Common.{◌≡◌, ℕ, Bool, true, false, cond, ◌||◌, List, [], ◌∷◌, Option, Some, None, refl, ap}
 use Rattle.std.specs.Bool.{beq}
-use Rattle.std.specs.Prelude.{◌^◌, nat_le, length, slice_get, is_none, MatchOption}
+use Rattle.std.specs.Prelude.{slice_get, MatchOption}
 use Rattle.typed_ids.specs.declared.error.StoreError.{StoreError}
 use Rattle.typed_ids.specs.declared.error.StoreError.TheVariants.{IdSpace}
-use Rattle.variables.specs.Variables.{lacks_variables}
 use Rattle.decisions.specs.Trail.{Entry}
 use Rattle.resolvo_queue.specs.declared.requires_clause.RequiresClause.{RequiresClause}
 use Rattle.resolvo_queue.specs.Pick.{Offer}
 use Rattle.resolvo_store.specs.Command.{Command, Load, Assign, Unpropagated, Decide, Reply, Already, Clash, Refused, IsRefused}
-use Rattle.resolvo_store.specs.Store.{Store, values, lists_of, all_candidates}
+use Rattle.resolvo_store.specs.Store.{Store, values, lists_of}
 use Rattle.resolvo_store.specs.Refusals.{first_refusal}
 use Rattle.resolvo_store.specs.Outcome.{outcome, load, hands_next, assign_reply, decision, falsified_clause, picked}
 use Rattle.resolvo_store.specs.Step.{IsAnswered, Step, lacks_ids, may_use_up_answers}

@@ -1,6 +1,6 @@
 -- Worked examples: what the abstract store replies to some lists of commands, computed.
-use Rattle.std.specs.Prelude.{◌≡◌, ℕ, Bool, true, false, ◌==◌, if◌then◌else◌, List, [], ◌∷◌, map, Option, Some, None}
-use Rattle.typed_ids.specs.declared.error.StoreError.TheVariants.{UnknownId, LevelOutOfRange, NotLoaded, BadLearnt, EmptyTrail}
+use Rattle.std.specs.Prelude.{◌≡◌, ℕ, Bool, true, false, ◌==◌, if◌then◌else◌, List, [], ◌∷◌, map, Some, None}
+use Rattle.typed_ids.specs.declared.error.StoreError.TheVariants.{UnknownId, LevelOutOfRange, NotLoaded, BadWatch, BadLearnt, EmptyTrail}
 use Rattle.typed_ids.specs.declared.string_id.StringId.{StringId}
 use Rattle.typed_ids.specs.declared.version_set_id.VersionSetId.{VersionSetId}
 use Rattle.providers.specs.declared.requirement.Requirement.{Requirement}
@@ -11,7 +11,7 @@ use Rattle.clauses.specs.Clauses.{literals_of}
 use Rattle.resolvo_queue.specs.Rows.{Row, frontier}
 use Rattle.resolvo_queue.specs.Pick.{Offer, pick}
 use Rattle.resolvo_store.specs.declared.helper_origin.HelperOrigin.TheVariants as Helps
-use Rattle.resolvo_store.specs.Command.{Command, Variable, Helper, Load, Requires, Root, Constrains, ConstrainsExcluded, ConstrainsParent, Lock, Exclude, AnyOf, Learnt, Assign, UndoLast, UndoUntil, Unpropagated, Decide, Reply, VariableIs, LoadedAs, ClauseIs, Assigned, Already, Clash, Undone, Next, Decided, NoDecision, Falsified, Refused}
+use Rattle.resolvo_store.specs.Command.{Command, Variable, Helper, Load, Requires, Root, Constrains, ConstrainsExcluded, ConstrainsParent, Lock, Exclude, AnyOf, Learnt, Assign, UndoLast, UndoUntil, Unpropagated, Rewatch, Watchers, Decide, Reply, VariableIs, LoadedAs, ClauseIs, Assigned, Already, Clash, Undone, Next, Done, WatchersAre, Decided, NoDecision, Falsified, Refused}
 use Rattle.resolvo_store.specs.Store.{new_store, kept_literals}
 use Rattle.store_callers.specs.Play.{play, store_after}
 use Rattle.store_callers.specs.Script.{Packages, Solvable, Range, provider_of}
@@ -20,8 +20,8 @@ use Rattle.store_callers.specs.Script.{Packages, Solvable, Range, provider_of}
 abbrev pub Gives : Packages → List (Command ℕ ℕ) → List Reply → Type 0
 Gives c commands replies = play (new_store (provider_of c)) commands ≡ replies
 
--- over these packages a new store has clauses of these literals after these commands, which watch these
-abbrev pub Leaves : Packages → List (Command ℕ ℕ) → List (List Lit) → List (Option (List Lit)) → Type 0
+-- over these packages a new store has clauses of these literals after these commands, which watch these, or nothing
+abbrev pub Leaves : Packages → List (Command ℕ ℕ) → List (List Lit) → List (List Lit) → Type 0
 Leaves c commands literals watches =
     let st = store_after (new_store (provider_of c)) commands in
     (map (literals_of (kept_literals st)) st.clauses ≡ literals) × (st.watches ≡ watches)
@@ -243,9 +243,68 @@ LiteralsOfKinds =
     ((Pos 0 ∷ []) ∷ (Neg 0 ∷ Pos 1 ∷ Pos 2 ∷ Pos 3 ∷ []) ∷ (Neg 0 ∷ Pos 1 ∷ Pos 2 ∷ Pos 3 ∷ []) ∷
     (Neg 1 ∷ Neg 2 ∷ []) ∷ (Neg 1 ∷ Pos 2 ∷ []) ∷ (Neg 1 ∷ Neg 2 ∷ []) ∷ (Neg 2 ∷ Neg 0 ∷ []) ∷ (Neg 1 ∷ []) ∷ (Pos 1 ∷ Neg 2 ∷ []) ∷
     (Pos 1 ∷ Neg 2 ∷ Pos 3 ∷ []) ∷ (Neg 3 ∷ []) ∷ (Neg 1 ∷ Neg 1 ∷ []) ∷ [])
-    (None ∷ Some (Neg 0 ∷ Pos 1 ∷ []) ∷ Some (Neg 0 ∷ Pos 2 ∷ []) ∷
-    Some (Neg 1 ∷ Neg 2 ∷ []) ∷ Some (Neg 1 ∷ Pos 2 ∷ []) ∷ Some (Neg 1 ∷ Neg 2 ∷ []) ∷ Some (Neg 0 ∷ Neg 2 ∷ []) ∷ None ∷ Some (Pos 1 ∷ Neg 2 ∷ []) ∷
-    Some (Pos 1 ∷ Pos 3 ∷ []) ∷ None ∷ None ∷ [])
+    ([] ∷ (Neg 0 ∷ Pos 1 ∷ []) ∷ (Neg 0 ∷ Pos 2 ∷ []) ∷
+    (Neg 1 ∷ Neg 2 ∷ []) ∷ (Neg 1 ∷ Pos 2 ∷ []) ∷ (Neg 1 ∷ Neg 2 ∷ []) ∷ (Neg 0 ∷ Neg 2 ∷ []) ∷ [] ∷ (Pos 1 ∷ Neg 2 ∷ []) ∷
+    (Pos 1 ∷ Pos 3 ∷ []) ∷ [] ∷ [] ∷ [])
+
+-- ---- a requires clause watches its parent and the first candidate that isn't false, or the first one where all are
+
+abbrev pub RequiresWatches : Type 0
+RequiresWatches =
+    Gives (record { solvables = solvable 0 1 ∷ solvable 1 1 ∷ solvable 1 2 ∷ []; sets = range 1 1 3 ∷ []; unions = []; strings = 0 })
+    (Root ∷ Variable 0 ∷ Load (single 0) ∷ Requires 1 (single 0) None ∷ Assign 2 false 0 1 ∷ Requires 1 (single 0) None ∷
+    Assign 3 false 0 1 ∷ Requires 1 (single 0) None ∷ Assign 1 false 0 1 ∷ Requires 1 (single 0) None ∷
+    Watchers (Pos 2) ∷ Watchers (Pos 3) ∷ Watchers (Neg 1) ∷ [])
+    (ClauseIs 0 false ∷ VariableIs 1 ∷ LoadedAs ((2 ∷ 3 ∷ []) ∷ []) ∷ ClauseIs 1 false ∷ Assigned ∷ ClauseIs 2 false ∷
+    Assigned ∷ ClauseIs 3 true ∷ Assigned ∷ ClauseIs 4 false ∷
+    WatchersAre (4 ∷ 3 ∷ 1 ∷ []) ∷ WatchersAre (2 ∷ []) ∷ WatchersAre (4 ∷ 3 ∷ 2 ∷ 1 ∷ []) ∷ [])
+
+-- ---- a clause of two literals watches both, and one that has a literal twice watches nothing
+
+abbrev pub two_versions : Packages
+two_versions = record { solvables = solvable 0 1 ∷ solvable 0 2 ∷ []; sets = range 0 1 3 ∷ []; unions = []; strings = 0 }
+
+abbrev pub PairWatches : Type 0
+PairWatches =
+    Gives two_versions
+    (Variable 0 ∷ Variable 1 ∷ Constrains 1 2 (set 0) ∷ Watchers (Neg 1) ∷ Watchers (Neg 2) ∷ Constrains 1 1 (set 0) ∷ Watchers (Neg 1) ∷
+    Assign 2 true 0 1 ∷ Constrains 1 2 (set 0) ∷ [])
+    (VariableIs 1 ∷ VariableIs 2 ∷ ClauseIs 0 false ∷ WatchersAre (0 ∷ []) ∷ WatchersAre (0 ∷ []) ∷ ClauseIs 1 false ∷ WatchersAre (0 ∷ []) ∷
+    Assigned ∷ ClauseIs 2 true ∷ [])
+
+-- ---- a clause that watches another literal leaves one list, and goes to the front of the other
+
+abbrev pub MovedWatches : Type 0
+MovedWatches =
+    Gives (record { solvables = solvable 0 1 ∷ solvable 0 2 ∷ solvable 0 3 ∷ solvable 0 4 ∷ []; sets = []; unions = []; strings = 0 })
+    (Variable 0 ∷ Variable 1 ∷ Variable 2 ∷ Variable 3 ∷
+    Learnt (Pos 1 ∷ Pos 2 ∷ Pos 3 ∷ []) ∷ Learnt (Pos 1 ∷ Pos 2 ∷ Pos 3 ∷ []) ∷ Learnt (Pos 1 ∷ Pos 2 ∷ Pos 4 ∷ []) ∷
+    Watchers (Pos 1) ∷ Rewatch 2 (Pos 1) (Pos 2) ∷ Rewatch 0 (Pos 1) (Pos 2) ∷ Watchers (Pos 1) ∷ Watchers (Pos 2) ∷
+    Rewatch 0 (Pos 1) (Pos 2) ∷ Rewatch 1 (Pos 1) (Pos 3) ∷ Rewatch 1 (Pos 1) (Neg 1) ∷ Watchers (Neg 1) ∷
+    Learnt (Pos 1 ∷ Pos 2 ∷ Pos 1 ∷ []) ∷ [])
+    (VariableIs 1 ∷ VariableIs 2 ∷ VariableIs 3 ∷ VariableIs 4 ∷
+    ClauseIs 0 false ∷ ClauseIs 1 false ∷ ClauseIs 2 false ∷
+    WatchersAre (2 ∷ 1 ∷ 0 ∷ []) ∷ Done ∷ Done ∷ WatchersAre (1 ∷ []) ∷ WatchersAre (0 ∷ 2 ∷ []) ∷
+    Refused BadWatch ∷ Refused BadWatch ∷ Refused BadWatch ∷ WatchersAre [] ∷
+    Refused BadLearnt ∷ [])
+
+-- ---- the two literals of a variable have lists of their own
+
+abbrev pub SignsApart : Type 0
+SignsApart =
+    Gives two_versions
+    (Root ∷ Variable 0 ∷ Variable 1 ∷ Assign 2 true 0 1 ∷ ConstrainsParent 1 2 (set 0) ∷
+    Assign 1 false 0 1 ∷ Constrains 1 2 (set 0) ∷ ConstrainsExcluded 1 2 (set 0) ∷ Watchers (Pos 2) ∷ Watchers (Neg 2) ∷ [])
+    (ClauseIs 0 false ∷ VariableIs 1 ∷ VariableIs 2 ∷ Assigned ∷ ClauseIs 1 true ∷
+    Assigned ∷ ClauseIs 2 false ∷ ClauseIs 3 false ∷ WatchersAre (3 ∷ []) ∷ WatchersAre (2 ∷ 1 ∷ []) ∷ [])
+
+-- ---- the clause for a locked solvable watches the root, but not that solvable, which none of its literals names
+
+abbrev pub LockWatches : Type 0
+LockWatches =
+    Gives two_versions
+    (Variable 0 ∷ Variable 1 ∷ Lock 1 2 ∷ Watchers (Neg 0) ∷ Rewatch 0 (Neg 0) (Neg 1) ∷ [])
+    (VariableIs 1 ∷ VariableIs 2 ∷ ClauseIs 0 false ∷ WatchersAre (0 ∷ []) ∷ Refused BadWatch ∷ [])
 
 -- ---- parts of the rule that the commands can't show yet
 
@@ -307,6 +366,11 @@ pub record Examples : Type 0 where
   pub helpers_and_learnt : HelpersAndLearnt
   pub flags_of_pairs : FlagsOfPairs
   pub literals_of_kinds : LiteralsOfKinds
+  pub requires_watches : RequiresWatches
+  pub pair_watches : PairWatches
+  pub moved_watches : MovedWatches
+  pub signs_apart : SignsApart
+  pub lock_watches : LockWatches
   pub count_of_one_set : CountOfOneSet
   pub better_offer : BetterOffer
   pub equal_count : EqualCount

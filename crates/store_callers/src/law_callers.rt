@@ -4,11 +4,13 @@
 ghost use Rattle.std.specs.Prelude.{◌≡◌, ◌≤◌, ℕ, length, [], None};
 ghost use Rattle.resolvo_store.specs.Command.{reply_of, NoDecision};
 ghost use Rattle.resolvo_store.specs.Solved.{IsSolved};
-ghost use Rattle.resolvo_store.specs.Store.{values};
+ghost use Rattle.resolvo_store.specs.Sound.{WatchOwn};
+ghost use Rattle.resolvo_store.specs.Store.{values, watched_by};
+ghost use Rattle.watch_map.specs.Watching.{IsExact};
 
 use providers::DependencyProvider;
 use resolvo_store::{AbstractStore, ClauseStore, Command, Reply};
-use typed_ids::VariableId;
+use typed_ids::{StoreError, VariableId};
 
 /// A variable that the store doesn't have has no value.
 pub fn value_of_unknown<D: DependencyProvider + Drop>(
@@ -34,4 +36,16 @@ pub fn search_is_done<D: DependencyProvider + Drop>(store: &mut ClauseStore<D>) 
     ensures { reply_of result ≡ NoDecision → IsSolved (⟦<D as AbstractStore>⟧.store store.new) }
 {
     store.step(&Command::Decide)
+}
+
+/// Obeys commands in turn. Whatever was refused, each literal's watch list then holds exactly the clauses that watch the
+/// literal, each once, and what a clause watches is its own.
+pub fn obey_watched<D: DependencyProvider + Drop>(
+    store: &mut ClauseStore<D>,
+    commands: &[Command<D::NameId, D::SolvableId, D::Alloc>],
+) -> Result<Vec<Reply<D::Alloc>, D::Alloc>, StoreError>
+    ensures exact { let st = ⟦<D as AbstractStore>⟧.store store.new in IsExact (watched_by st) st.watchers }
+    ensures own { WatchOwn (⟦<D as AbstractStore>⟧.store store.new) }
+{
+    store.run(commands)
 }

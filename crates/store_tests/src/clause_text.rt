@@ -1,16 +1,17 @@
 //! The texts of registered clauses, over the packages of a script's catalogue. What is shared is generic in the provider,
 //! and one function names the catalogue's.
 use crate::script::{clause, single, variable};
+use decisions::Literal;
 use providers::DependencyProvider;
-use resolvo_store::{ClauseStore, Command};
+use resolvo_store::{ClauseStore, Command, HelperOrigin};
 use script_packages::read_catalogue;
 use std::alloc::Global;
 use std::test::Fail;
 use test_checks::is_same;
-use typed_ids::{ClauseId, NameId, SolvableId, StoreError, VersionSetId};
+use typed_ids::{ClauseId, NameId, SolvableId, StoreError, StringId, VersionSetId};
 
-/// Package p in version 1, package a in versions 1 and 2, and the version set of a's.
-const CATALOGUE: &[u8] = b"package p 1\npackage a 1 2\nset a 1 3\nbegin\n";
+/// Package p in version 1, package a in versions 1 and 2, the version set of a's, and a string.
+const CATALOGUE: &[u8] = b"package p 1\npackage a 1 2\nset a 1 3\nstring old\nbegin\n";
 
 /// A command over the catalogue's packages.
 type Given = Command<NameId, SolvableId, Global>;
@@ -84,6 +85,24 @@ fn a_constrains_clause_has_its_text(rt: HostRuntime) -> Result<(), Fail> {
     ];
     let wanted = "is Constrains(a 1(VariableId(2)), a 2(VariableId(3)), >=1, <3)";
     tells(&rt, &commands, clause(0), (Ok(()), wanted))
+}
+
+#[test]
+fn an_excluded_clause_has_its_text(rt: HostRuntime) -> Result<(), Fail> {
+    let commands = [
+        Command::Helper(HelperOrigin::AtLeastOne(NameId::from_raw(1))),
+        Command::Exclude(variable(1), StringId(0)),
+    ];
+    let wanted = "is Excluded(any-of(a)(VariableId(2)), old)";
+    tells(&rt, &commands, clause(0), (Ok(()), wanted))
+}
+
+#[test]
+fn a_learnt_clause_has_its_text(rt: HostRuntime) -> Result<(), Fail> {
+    let literals = vec![in rt.alloc(); Literal::new(variable(0), true)]?;
+    let commands = [Command::Root, Command::Learnt(literals)];
+    let wanted = "is Learnt(LearntClauseId(0))";
+    tells(&rt, &commands, clause(1), (Ok(()), wanted))
 }
 
 #[test]

@@ -20,6 +20,10 @@ pub(crate) enum Given {
     UndoLast,
     UndoUntil(u32),
     Unpropagated,
+    /// A clause watches the second literal in the place of the first one.
+    Rewatch(u16, GivenLiteral, GivenLiteral),
+    /// The clauses that watch the literal are asked for.
+    Watchers(GivenLiteral),
     Decide,
 }
 
@@ -90,6 +94,12 @@ fn command_of<N: Copy, S: Copy, A: Allocator + Copy>(
         Given::UndoLast => Ok(Command::UndoLast),
         Given::UndoUntil(level) => Ok(Command::UndoUntil(level)),
         Given::Unpropagated => Ok(Command::Unpropagated),
+        Given::Rewatch(place, from, to) => Ok(Command::Rewatch(
+            clause(place),
+            literal_of(from),
+            literal_of(to),
+        )),
+        Given::Watchers(literal) => Ok(Command::Watchers(literal_of(literal))),
         Given::Decide => Ok(Command::Decide),
     }
 }

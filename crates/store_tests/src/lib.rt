@@ -23,4 +23,6 @@ mod stores;
 #[cfg(test)]
 mod wanted;
 #[cfg(test)]
+mod watches;
+#[cfg(test)]
 mod worked;

@@ -1,6 +1,7 @@
 //! Memory refused at each request in turn, of each list of commands. Beside the store to which a request is refused there
 //! is a twin in ample memory, to which the refused command isn't given: the store must tell the same as its twin. In
 //! steps both are then given the command once more, in a run they aren't.
+use crate::given::literal_of;
 use crate::obeys::Obeys;
 use crate::script::{Example, clause, lists_of, play_of, variable};
 use crate::stores::{Way, dense_commands, sparse_commands};
@@ -67,7 +68,7 @@ fn obey_alike<N, S, A: Allocator, T: Obeys<N, S, A>>(
 }
 
 /// Whether the store and its twin know the same variables and clauses, of the first twelve: an assignment at level 0 is
-/// refused, but first for what isn't known.
+/// refused, but first for what isn't known. And whether in both the same clauses watch the literals of these variables.
 fn know_alike<N: Copy, S: Copy, A: Allocator, T: Obeys<N, S, A>>(
     store: &mut T,
     twin: &mut T,
@@ -76,9 +77,13 @@ fn know_alike<N: Copy, S: Copy, A: Allocator, T: Obeys<N, S, A>>(
     for i in 0..12u16 {
         let of_variable = Command::Assign(variable(i), true, clause(0), 0);
         let of_clause = Command::Assign(variable(0), true, clause(i), 0);
+        let of_positive = Command::Watchers(literal_of((i, false)));
+        let of_negative = Command::Watchers(literal_of((i, true)));
         is_alike = is_alike
             && obey_alike(store, twin, &of_variable)
-            && obey_alike(store, twin, &of_clause);
+            && obey_alike(store, twin, &of_clause)
+            && obey_alike(store, twin, &of_positive)
+            && obey_alike(store, twin, &of_negative);
     }
     is_alike
 }
@@ -365,6 +370,12 @@ fn a_union_of_one_set_twice_is_refused(rt: HostRuntime) -> Result<(), Fail> {
 fn a_trail_is_refused(rt: HostRuntime) -> Result<(), Fail> {
     dense_refused(&rt, Example::Trail, Way::Steps)?;
     sparse_refused(&rt, Example::Trail, Way::Run)
+}
+
+#[test]
+fn watches_are_refused(rt: HostRuntime) -> Result<(), Fail> {
+    dense_refused(&rt, Example::MovedWatches, Way::Steps)?;
+    sparse_refused(&rt, Example::MovedWatches, Way::Run)
 }
 
 #[test]

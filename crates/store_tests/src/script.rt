@@ -7,6 +7,9 @@ use crate::plays::{
     SET_TWICE_AFTER_ROOT, UNKNOWN,
 };
 use crate::wanted::{Wanted, WantedDecision};
+use crate::watches::{
+    BAD_WATCHES, LOCK_WATCHES, MOVED_WATCHES, PAIR_WATCHES, REQUIRES_WATCHES, SIGNS_APART,
+};
 use plain_providers::{Lists, Package, VersionRange};
 use providers::Requirement;
 use std::alloc::{AllocError, Allocator};
@@ -35,6 +38,17 @@ pub(crate) enum Example {
     Levels,
     /// Ids that aren't known.
     Unknown,
+    /// What requires clauses watch while candidates become false.
+    RequiresWatches,
+    /// What a clause of two literals watches, and one of the same literal twice.
+    PairWatches,
+    /// Watches that are moved.
+    MovedWatches,
+    /// The two literals of one variable.
+    SignsApart,
+    LockWatches,
+    /// Watches that can't be moved, and ids that aren't known.
+    BadWatches,
     /// Each command over one package.
     EachCommand,
 }
@@ -67,10 +81,11 @@ pub(crate) fn lists_of<A: Allocator + Copy>(
 fn try_lists_of<A: Allocator + Copy>(alloc: A, example: Example) -> Result<Lists<A>, AllocError> {
     match example {
         Example::TwoPackages | Example::Trail => with_union(alloc, two_packages(alloc)?, 0, 1),
+        Example::RequiresWatches => two_packages(alloc),
         Example::SetTwice | Example::SetTwiceAfterRoot => {
             with_union(alloc, two_versions(alloc)?, 0, 0)
         }
-        Example::HandedAndTakenBack => {
+        Example::HandedAndTakenBack | Example::MovedWatches => {
             let packages = [package(0, 1), package(0, 2), package(0, 3)];
             one_package(alloc, &packages, 4)
         },
@@ -81,6 +96,8 @@ fn try_lists_of<A: Allocator + Copy>(alloc: A, example: Example) -> Result<Lists
         Example::OnePackage | Example::Levels | Example::Unknown | Example::EachCommand => {
             two_versions(alloc)
         }
+        Example::PairWatches | Example::SignsApart | Example::LockWatches | Example::BadWatches =>
+            two_versions(alloc),
     }
 }
 
@@ -99,6 +116,12 @@ pub(crate) fn play_of(example: Example) -> Play {
         Example::Helpers => HELPERS,
         Example::Levels => LEVELS,
         Example::Unknown => UNKNOWN,
+        Example::RequiresWatches => REQUIRES_WATCHES,
+        Example::PairWatches => PAIR_WATCHES,
+        Example::MovedWatches => MOVED_WATCHES,
+        Example::SignsApart => SIGNS_APART,
+        Example::LockWatches => LOCK_WATCHES,
+        Example::BadWatches => BAD_WATCHES,
         Example::EachCommand => EACH_COMMAND,
     }
 }
@@ -191,6 +214,8 @@ pub(crate) const UNKNOWN_ID: Wanted = Wanted::Refused(StoreError::UnknownId);
 const NOT_LOADED: Wanted = Wanted::Refused(StoreError::NotLoaded);
 
 pub(crate) const BAD_LEVEL: Wanted = Wanted::Refused(StoreError::LevelOutOfRange);
+
+pub(crate) const BAD_WATCH: Wanted = Wanted::Refused(StoreError::BadWatch);
 
 pub(crate) const BAD_LEARNT: Wanted = Wanted::Refused(StoreError::BadLearnt);
 
@@ -347,7 +372,8 @@ const LEVELS: Play = Play {
     clauses: &[&[(0, false)]],
 };
 
-/// Each command that succeeds over one package; a requirement is loaded twice.
+/// Each command that succeeds over one package; a requirement is loaded twice. A watch is moved to a literal that no
+/// clause watches yet, and one to a literal that a clause watches.
 const EACH_COMMAND: Play = Play {
     candidates: 2,
     steps: &[
@@ -378,9 +404,13 @@ const EACH_COMMAND: Play = Play {
         (Given::Add(Kind::Exclude(1, 0)), Wanted::Clause(6)),
         (Given::Add(Kind::AnyOf(3, 1)), Wanted::Clause(7)),
         (
-            Given::Add(Kind::Learnt(&[(1, true), (5, false)])),
+            Given::Add(Kind::Learnt(&[(1, true), (4, false), (5, false)])),
             Wanted::Clause(8),
         ),
+        (Given::Rewatch(0, (2, false), (1, false)), Wanted::Done),
+        (Given::Rewatch(8, (1, true), (4, false)), Wanted::Done),
+        (Given::Watchers((1, true)), Wanted::Watchers(&[7, 5, 3, 2])),
+        (Given::Watchers((4, false)), Wanted::Watchers(&[8, 3])),
         (Given::Assign(0, true, 1, 3), Wanted::Assigned),
         (Given::Unpropagated, Wanted::Next(Some((0, true, 1)))),
         (Given::Assign(4, true, 3, 4), Wanted::Assigned),
@@ -402,7 +432,7 @@ const EACH_COMMAND: Play = Play {
         &[(1, true), (0, true)],
         &[(1, true)],
         &[(3, false), (1, true)],
-        &[(1, true), (5, false)],
+        &[(1, true), (4, false), (5, false)],
         &[(2, true), (4, true)],
     ],
 };

@@ -1,6 +1,6 @@
 //! The debug texts of commands, and the texts of replies.
 use crate::script::{clause, single, variable};
-use decisions::Decision;
+use decisions::{Decision, Literal};
 use resolvo_queue::QueueDecision;
 use resolvo_store::{Command, HelperOrigin, Reply};
 use std::alloc::Global;
@@ -40,6 +40,16 @@ fn commands_show_their_operands(rt: HostRuntime) -> Result<(), Fail> {
         "Assign(VariableId(2), true, ClauseId(1), 2)",
     )?;
     shows(&rt, Command::UndoUntil(7), "UndoUntil(7)")?;
+    let (from, to) = (
+        Literal::new(variable(1), false),
+        Literal::new(variable(2), true),
+    );
+    shows(
+        &rt,
+        Command::Rewatch(clause(0), from, to),
+        "Rewatch(ClauseId(1), Literal(3), Literal(6))",
+    )?;
+    shows(&rt, Command::Watchers(from), "Watchers(Literal(3))")?;
     shows(&rt, Command::Decide, "Decide")
 }
 
@@ -78,6 +88,14 @@ fn replies_say_assignments(rt: HostRuntime) -> Result<(), Fail> {
     let next = Decision::new(variable(1), true, clause(0));
     says(&rt, Reply::Next(Some(next)), "next 1 true 0")?;
     says(&rt, Reply::Next(None), "next none")
+}
+
+#[test]
+fn replies_say_watchers(rt: HostRuntime) -> Result<(), Fail> {
+    says(&rt, Reply::Done, "done")?;
+    let watchers = vec![in rt.alloc(); clause(4), clause(3), clause(1)]?;
+    says(&rt, Reply::Watchers(watchers), "watchers 4 3 1")?;
+    says(&rt, Reply::Watchers(Vec::new(rt.alloc())), "watchers -")
 }
 
 #[test]

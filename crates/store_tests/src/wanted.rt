@@ -5,7 +5,7 @@ use decisions::Decision;
 use resolvo_queue::QueueDecision;
 use resolvo_store::Reply;
 use std::alloc::Allocator;
-use typed_ids::{StoreError, VariableId};
+use typed_ids::{ClauseId, StoreError, VariableId};
 
 /// A reply that is wanted.
 #[derive(Clone, Copy)]
@@ -26,6 +26,10 @@ pub(crate) enum Wanted {
     TakenBack(WantedAssignment, u32),
     /// This assignment is handed out, if there is one.
     Next(Option<WantedAssignment>),
+    /// It was done.
+    Done,
+    /// These clauses watch the literal, front first.
+    Watchers(&'static [u16]),
     Decided(WantedDecision),
     NoDecision,
     Falsified(u16),
@@ -74,6 +78,8 @@ fn is_wanted<A: Allocator>(reply: &Reply<A>, wanted: &Wanted) -> bool {
             *last == Some((assignment(*wanted), *level))
         }
         (Reply::Next(given), Wanted::Next(wanted)) => *given == next(*wanted),
+        (Reply::Done, Wanted::Done) => true,
+        (Reply::Watchers(given), Wanted::Watchers(indices)) => are_clauses(given, indices),
         (Reply::Decided(given), Wanted::Decided(decision)) => is_decision(*given, *decision),
         (Reply::NoDecision, Wanted::NoDecision) => true,
         (Reply::Falsified(given), Wanted::Falsified(index)) => *given == clause(*index),
@@ -118,6 +124,17 @@ fn is_list(given: &[VariableId], wanted: &[u16]) -> bool {
     for (i, given) in given.iter().enumerate() {
         match wanted.get(i) {
             Some(index) if *given == variable(*index) => {}
+            _ => return false,
+        }
+    }
+    given.len() == wanted.len()
+}
+
+/// Whether these are the wanted clauses.
+fn are_clauses(given: &[ClauseId], wanted: &[u16]) -> bool {
+    for (i, given) in given.iter().enumerate() {
+        match wanted.get(i) {
+            Some(index) if *given == clause(*index) => {}
             _ => return false,
         }
     }

@@ -98,3 +98,29 @@ fn small_examples_over_sparse_ids_are_answered_by_steps(rt: HostRuntime) -> Resu
     }
     Ok(())
 }
+
+/// What clauses watch, also once watches are moved, and what is refused of that.
+const WATCHES: [Example; 6] = [
+    Example::RequiresWatches,
+    Example::PairWatches,
+    Example::MovedWatches,
+    Example::SignsApart,
+    Example::LockWatches,
+    Example::BadWatches,
+];
+
+#[test]
+fn watches_are_told_by_a_run(rt: HostRuntime) -> Result<(), Fail> {
+    for example in WATCHES {
+        dense_gives(&rt, example, Way::Run)?;
+    }
+    Ok(())
+}
+
+#[test]
+fn watches_over_sparse_ids_are_told_by_steps(rt: HostRuntime) -> Result<(), Fail> {
+    for example in WATCHES {
+        sparse_gives(&rt, example, Way::Steps)?;
+    }
+    Ok(())
+}

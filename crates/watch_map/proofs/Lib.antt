@@ -3,5 +3,5 @@ mod CursorLaws
 mod ItemLaws
 mod RingLaws
 mod UpdateLaws
-mod WatchingLaws
+pub mod WatchingLaws
 pub mod CallerLaws

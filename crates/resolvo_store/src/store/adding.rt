@@ -3,7 +3,8 @@ ghost use Rattle.std.specs.Prelude.{◌≡◌, ◌<◌, ◌&&◌, false, length,
 ghost use Rattle.std.specs.List.{list_all};
 ghost use Rattle.typed_ids.specs.declared.error.StoreError.TheVariants.{IdSpace};
 ghost use Rattle.typed_ids.specs.Refusals.{IsGrowthRefusal};
-ghost use Rattle.clause_list.specs.ClauseList.{literals_watched, is_full, is_learnt_full, with_clause, with_learnt};
+ghost use Rattle.watch_map.specs.Watching.{AreTwoOrNone};
+ghost use Rattle.clause_list.specs.ClauseList.{contents, literals_watched, two_or_none, is_full, is_learnt_full, with_clause, with_learnt};
 ghost use Rattle.resolvo_store.specs.Command.{ClauseIs, reply_of};
 ghost use Rattle.resolvo_store.specs.Refusals.{is_bad_learnt};
 
@@ -226,11 +227,12 @@ fn add_clause<N: Copy, A: Allocator + Copy>(
     watches: Option<WatchedLiterals>,
     conflict: bool,
 ) -> Result<Reply<A>, StoreError>
-    ensures reply { IfOk result (λ reply. reply_of reply ≡ ClauseIs (length clauses.old.clauses) conflict) }
-    ensures ok { OnOk result (clauses.new ≡ with_clause clauses.old clause (literals_watched watches)) }
-    ensures err { OnErr result (clauses.new ≡ clauses.old) }
-    ensures refused { IfErr result (IsGrowthRefusal (is_full clauses.old)) }
-    ensures ids_out { IsTrue (is_full clauses.old) → result ≡ Err IdSpace }
+    requires { AreTwoOrNone (two_or_none (literals_watched watches)) }
+    ensures reply { IfOk result (λ reply. reply_of reply ≡ ClauseIs (length (contents clauses.old).clauses) conflict) }
+    ensures ok { OnOk result (contents clauses.new ≡ with_clause (contents clauses.old) clause (literals_watched watches)) }
+    ensures err { OnErr result (contents clauses.new ≡ contents clauses.old) }
+    ensures refused { IfErr result (IsGrowthRefusal (is_full (contents clauses.old))) }
+    ensures ids_out { IsTrue (is_full (contents clauses.old)) → result ≡ Err IdSpace }
 {
     let id = clauses.add(clause, watches)?;
     Ok(Reply::Clause(id, conflict))
@@ -242,11 +244,11 @@ fn learn_clause<N: Copy, A: Allocator + Copy>(
     literals: &[Literal],
 ) -> Result<Reply<A>, StoreError>
     requires { 0 < length literals.now }
-    ensures reply { IfOk result (λ reply. reply_of reply ≡ ClauseIs (length clauses.old.clauses) false) }
-    ensures ok { OnOk result (clauses.new ≡ with_learnt clauses.old literals.now) }
-    ensures err { OnErr result (clauses.new ≡ clauses.old) }
-    ensures refused { IfErr result (IsGrowthRefusal (is_learnt_full clauses.old)) }
-    ensures ids_out { IsTrue (is_learnt_full clauses.old) → result ≡ Err IdSpace }
+    ensures reply { IfOk result (λ reply. reply_of reply ≡ ClauseIs (length (contents clauses.old).clauses) false) }
+    ensures ok { OnOk result (contents clauses.new ≡ with_learnt (contents clauses.old) literals.now) }
+    ensures err { OnErr result (contents clauses.new ≡ contents clauses.old) }
+    ensures refused { IfErr result (IsGrowthRefusal (is_learnt_full (contents clauses.old))) }
+    ensures ids_out { IsTrue (is_learnt_full (contents clauses.old)) → result ≡ Err IdSpace }
 {
     let id = clauses.learn(literals)?;
     Ok(Reply::Clause(id, false))

@@ -1,7 +1,8 @@
 //! What a search or a report reads of a store beside the replies.
-ghost use Rattle.std.specs.Prelude.{◌≡◌, if◌then◌else◌, is_some, slice_get, option_map, IsSomeAnd, IfOk, OnOk, OnErr, IfErr};
+ghost use Rattle.std.specs.Prelude.{◌≡◌, [], if◌then◌else◌, is_some, slice_get, option_map, IsSomeAnd, IfOk, OnOk, OnErr, IfErr};
 ghost use Rattle.typed_ids.specs.declared.error.StoreError.TheVariants.{OutOfMemory, UnknownId};
 ghost use Rattle.providers.specs.Texts.{IsAppended, IsSameText};
+ghost use Rattle.watch_map.specs.Watching.{IsExact};
 ghost use Rattle.clauses.specs.Clauses.{literals_of};
 ghost use Rattle.clauses.specs.ClauseTexts.{clause_text};
 
@@ -14,7 +15,8 @@ use typed_ids::{ClauseId, StoreError, VariableId};
 use variables::VariableOrigin;
 
 impl<D: DependencyProvider + Drop> ClauseStore<D> {
-    ghost use Rattle.resolvo_store.specs.Store.{kept_literals};
+    ghost use Rattle.resolvo_store.specs.Store.{kept_literals, watched_by};
+    ghost use Rattle.resolvo_store.specs.Refusals.{knows_literal};
 
     /// What a variable stands for; none of an unknown one. Takes constant time.
     pub fn origin(&self, variable: VariableId) -> Option<VariableOrigin<D::NameId, D::SolvableId>>
@@ -24,6 +26,19 @@ impl<D: DependencyProvider + Drop> ClauseStore<D> {
             return None;
         }
         Some(self.variables.origin(variable))
+    }
+
+    /// The clauses that watch the literal, front first; none of an unknown variable. Takes memory for them.
+    pub fn watchers(&self, literal: Literal) -> Result<Vec<ClauseId, D::Alloc>, StoreError>
+        ensures ok { IfOk result (λ found. found.items ≡
+            (if knows_literal (⟦<D as AbstractStore>⟧.store self.now) literal then (⟦<D as AbstractStore>⟧.store self.now).watchers literal else [])) }
+        ensures exact { (let st = ⟦<D as AbstractStore>⟧.store self.now in IsExact (watched_by st) st.watchers) }
+        ensures memory { IfErr result (λ e. e ≡ OutOfMemory) }
+    {
+        if !self.knows_variable(literal.variable()) {
+            return Ok(Vec::new(self.alloc));
+        }
+        self.clauses.watchers(literal)
     }
 
     /// The literals of a clause, in order; none of an unknown one. Takes memory for them.

@@ -4,7 +4,8 @@ ghost use Rattle.typed_ids.specs.Refusals.{IsGrowthRefusal};
 ghost use Rattle.typed_ids.specs.declared.error.StoreError.TheVariants.{IdSpace};
 ghost use Rattle.clauses.specs.Clauses.{first_watches, is_conflict};
 ghost use Rattle.clauses.specs.declared.clause.Clause.TheVariants as Kind;
-ghost use Rattle.clause_list.specs.ClauseList.{literals_watched, is_full, with_clause};
+ghost use Rattle.watch_map.specs.Watching.{AreTwoOrNone};
+ghost use Rattle.clause_list.specs.ClauseList.{contents, literals_watched, two_or_none, is_full, with_clause};
 ghost use Rattle.resolvo_store.specs.Command.{ClauseIs, reply_of};
 
 use crate::abstract_store::AbstractStore;
@@ -15,7 +16,7 @@ use clauses::{Clause, WatchedLiterals};
 use providers::{DependencyProvider, Interner, Requirement};
 use resolvo_queue::DecideQueue;
 use std::alloc::Allocator;
-use typed_ids::{DisjunctionId, StoreError, VariableId};
+use typed_ids::{ClauseId, DenseIndex, DisjunctionId, StoreError, VariableId};
 
 impl<D: DependencyProvider + Drop> ClauseStore<D> {
     ghost use Rattle.providers.specs.Provider.{knows_requirement};
@@ -129,9 +130,8 @@ impl<D: DependencyProvider + Drop> ClauseStore<D> {
     }
 }
 
-/// Adds the clause, and registers it under its id; the reply says whether it is a conflict. Where the queue has no room
-/// for it, the list gives it up.
-#[tactic(auto, using(crate::proofs::AddingLemmas::taken_back))]
+/// Registers the clause under the next id, and adds it; the reply says whether it is a conflict. The room for it is made
+/// first.
 fn register<N: Copy, A: Allocator + Copy>(
     clauses: &mut ClauseList<N, A>,
     queue: &mut DecideQueue<A>,
@@ -141,20 +141,20 @@ fn register<N: Copy, A: Allocator + Copy>(
     watches: Option<WatchedLiterals>,
     conflict: bool,
 ) -> Result<Reply<A>, StoreError>
-    requires { nat_le (2 ^ 32 - 1) (length queue.old) ≡ false }
-    ensures reply { IfOk result (λ reply. reply_of reply ≡ ClauseIs (length clauses.old.clauses) conflict) }
-    ensures added { OnOk result (clauses.new ≡ with_clause clauses.old clause (literals_watched watches)) }
+    requires few { nat_le (2 ^ 32 - 1) (length queue.old) ≡ false }
+    requires two { AreTwoOrNone (two_or_none (literals_watched watches)) }
+    ensures reply { IfOk result (λ reply. reply_of reply ≡ ClauseIs (length (contents clauses.old).clauses) conflict) }
+    ensures added { OnOk result (contents clauses.new ≡ with_clause (contents clauses.old) clause (literals_watched watches)) }
     ensures registered { OnOk result (queue.new ≡ queue.old ++
-        (record { parent = parent; requirement = requirement; clause_id = length clauses.old.clauses }) ∷ []) }
-    ensures unadded { OnErr result (clauses.new ≡ clauses.old) }
+        (record { parent = parent; requirement = requirement; clause_id = length (contents clauses.old).clauses }) ∷ []) }
+    ensures unadded { OnErr result (contents clauses.new ≡ contents clauses.old) }
     ensures unregistered { OnErr result (queue.new ≡ queue.old) }
-    ensures refused { IfErr result (IsGrowthRefusal (is_full clauses.old)) }
-    ensures ids_out { IsTrue (is_full clauses.old) → result ≡ Err IdSpace }
+    ensures refused { IfErr result (IsGrowthRefusal (is_full (contents clauses.old))) }
+    ensures ids_out { IsTrue (is_full (contents clauses.old)) → result ≡ Err IdSpace }
 {
-    let id = clauses.add(clause, watches)?;
-    if let Err(error) = queue.register_clause(parent, requirement, id) {
-        clauses.take_back();
-        return Err(error);
-    }
+    clauses.make_room(&watches)?;
+    let next_id = ClauseId::from_index(clauses.len());
+    queue.register_clause(parent, requirement, next_id)?;
+    let id = clauses.push_reserved(clause, watches);
     Ok(Reply::Clause(id, conflict))
 }

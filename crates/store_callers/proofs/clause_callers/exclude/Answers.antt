@@ -1,5 +1,4 @@
-use Rattle.std.proofs.Common.{subst, ◌∷◌, []}
-use Rattle.decisions.specs.Literals.{Neg}
+use Rattle.std.proofs.Common.{subst}
 use Rattle.resolvo_store.specs.Command.{Exclude, reply_of}
 use Rattle.resolvo_store.specs.Step.{Step}
 use Rattle.resolvo_store.proofs.CallerLaws.{store_in}

@@ -1,9 +1,8 @@
-use Rattle.std.proofs.Common.{◌∙◌, ◌++◌, ◌∷◌, [], sym, refl, length}
-use Rattle.clauses.specs.Clauses.{watch_ends}
-use Rattle.clauses.specs.declared.clause.Clause.TheVariants as Kind
+use Rattle.std.proofs.Common.{◌∙◌, sym}
+use Rattle.clause_list.specs.ClauseList.{contents}
 use Rattle.resolvo_store.specs.Store.{Provider, store_of, gathered}
 use Rattle.resolvo_store.proofs.AddingLemmas.{step_learnt, first_of_learnt, not_empty}
-use Rattle.resolvo_store.proofs.InvariantLemmas.{after_plain}
+use Rattle.resolvo_store.proofs.InvariantLemmas.{after_learnt}
 use Rattle.resolvo_store.proofs.store.ClauseStore.learnt.Given.{Over}
 use Rattle.resolvo_store.proofs.store.ClauseStore.learnt.Goals as goal
 
@@ -16,13 +15,10 @@ pub learn_clause-requires : goal.learn_clause-requires
 learn_clause-requires g c = not_empty c.args.literals.now (sym c.is_bad_learnt.ensures ∙ c.if-is_bad_learnt.false)
 
 pub invariant_of-self : goal.invariant_of-self
-invariant_of-self g c =
-    let learnt = c.self.inside.clauses.learnt in
-    after_plain c.self.invariant (Kind.Learnt (length learnt)) (Kind.Learnt (length learnt)) (watch_ends c.args.literals.now) (learnt ++ c.args.literals.now ∷ []) c.learn_clause.result refl tt (record { unregistered = λ id. refl })
-    c.learn_clause.ensures.ok c.learn_clause.ensures.err
+invariant_of-self g c = after_learnt c.self.invariant c.args.literals.now c.learn_clause.result c.learn_clause.ensures.ok c.learn_clause.ensures.err
 
 pub returns-clause-step : goal.returns-clause-step
 returns-clause-step g c =
-    step_learnt (given g) c.args.literals.now c.learn_clause.result c.learn_clause.new.clauses c.self.view_is
+    step_learnt (given g) c.args.literals.now c.learn_clause.result (contents c.learn_clause.new.clauses) c.self.view_is
     (first_of_learnt (store_of (given g) c.args.self.now) c.args.literals.now (sym c.knows_literals.ensures ∙ c.if-not-knows_literals.false) (sym c.is_bad_learnt.ensures ∙ c.if-is_bad_learnt.false))
     c.learn_clause.ensures.reply c.learn_clause.ensures.ok c.learn_clause.ensures.err c.learn_clause.ensures.refused c.learn_clause.ensures.ids_out

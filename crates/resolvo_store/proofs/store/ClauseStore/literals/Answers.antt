@@ -1,5 +1,6 @@
 use Rattle.std.proofs.Common.{◌≡◌, ◌∙◌, sym, ap, subst, Some, slice_get, option_map}
 use Rattle.clauses.specs.Clauses.{literals_of}
+use Rattle.clause_list.specs.ClauseList.{contents}
 use Rattle.resolvo_store.specs.Store.{Kept, Provider, store_of, gathered, kept_literals}
 use Rattle.resolvo_store.proofs.InvariantLemmas.{store_with}
 use Rattle.resolvo_store.proofs.ListLemmas.{literals-kept}
@@ -14,7 +15,7 @@ given g = gathered g.D.NameId.PartialEq.eq g.D.SolvableId.PartialEq.eq g.D.NameI
 pub returns-clause-ok : goal.returns-clause-ok
 returns-clause-ok g c =
     let inside = c.self.inside in
-    let st = store_with (given g) inside.clauses inside.queue inside.trail inside.cache.provider inside.variables inside.loaded in
+    let st = store_with (given g) (contents inside.clauses) inside.queue inside.trail inside.cache.provider inside.variables inside.loaded in
     let found : slice_get inside.clauses.clauses c.args.clause ≡ Some c.in-Some.clause = sym c.get.ensures ∙ c.in-Some.is in
     let same = literals-kept c.learnt-learnt.result.now inside.clauses.learnt inside.loaded c.new-disjunctions.result c.learnt-learnt.ensures c.new-disjunctions.ensures in
     subst (λ (k : Kept g.row.D.Denot g.row.D-NameId.Denot g.row.D-SolvableId.Denot). Some c.in_ok-literals.literals.items ≡ option_map (literals_of (kept_literals (store_of (given g) k))) (slice_get k.clauses c.args.clause))

@@ -1,5 +1,5 @@
 use Rattle.std.proofs.Common.{subst}
-use Rattle.resolvo_store.specs.Command.{reply_of, answer_of, Variable, Helper, Load, Requires, Root, Constrains, ConstrainsExcluded, ConstrainsParent, Lock, Exclude, AnyOf, Learnt, Assign, UndoLast, UndoUntil, Unpropagated}
+use Rattle.resolvo_store.specs.Command.{reply_of, answer_of, Variable, Helper, Load, Requires, Root, Constrains, ConstrainsExcluded, ConstrainsParent, Lock, Exclude, AnyOf, Learnt, Assign, UndoLast, UndoUntil, Unpropagated, Rewatch}
 use Rattle.resolvo_store.specs.Sound.{IsSound}
 use Rattle.resolvo_store.specs.Store.{Store, Provider, Kept, store_of, gathered}
 use Rattle.resolvo_store.proofs.KnownLemmas.{IsLawful}
@@ -90,6 +90,10 @@ pub returns-in-Unpropagated-clause-sound : goal.returns-in-Unpropagated-clause-s
 returns-in-Unpropagated-clause-sound g c =
     IsSound-step Unpropagated (reply_of c.unpropagated.result) (lawful g c.args.self.now.provider) (subst (λ k. IsSound (store g k)) c.self.view_is c.self.invariant.sound) c.unpropagated.ensures.step
 
+pub returns-in-Rewatch-clause-sound : goal.returns-in-Rewatch-clause-sound
+returns-in-Rewatch-clause-sound g c =
+    IsSound-step (Rewatch c.in-Rewatch.clause c.in-Rewatch.from c.in-Rewatch.to) (answer_of c.rewatch.result) (lawful g c.args.self.now.provider) (subst (λ k. IsSound (store g k)) c.self.view_is c.self.invariant.sound) c.rewatch.ensures.step
+
 pub returns-in-Variable-clause-err : goal.returns-in-Variable-clause-err
 returns-in-Variable-clause-err g c = refused_same (store g c.args.self.now) (store g c.variable.new.self) (Variable c.in-Variable.solvable) c.variable.result c.variable.ensures.step
 
@@ -131,3 +135,6 @@ returns-in-Assign-clause-err g c = refused_same (store g c.args.self.now) (store
 
 pub returns-in-UndoLast-clause-err : goal.returns-in-UndoLast-clause-err
 returns-in-UndoLast-clause-err g c = refused_same (store g c.args.self.now) (store g c.undo_last.new.self) UndoLast c.undo_last.result c.undo_last.ensures.step
+
+pub returns-in-Rewatch-clause-err : goal.returns-in-Rewatch-clause-err
+returns-in-Rewatch-clause-err g c = refused_same (store g c.args.self.now) (store g c.rewatch.new.self) (Rewatch c.in-Rewatch.clause c.in-Rewatch.from c.in-Rewatch.to) c.rewatch.result c.rewatch.ensures.step

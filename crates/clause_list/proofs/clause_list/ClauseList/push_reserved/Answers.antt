@@ -1,0 +1,35 @@
+use Rattle.std.proofs.Common.{◌≡◌, ◌∙◌, sym, subst, map, List, ◌++◌, ◌∷◌, []}
+use Rattle.decisions.specs.Literals.{Lit}
+use Rattle.watch_map.specs.WatchLists.{AreWatched}
+use Rattle.clause_list.specs.ClauseList.{IsClauseList, Kept, contents, with_clause, literals_watched}
+use Rattle.clause_list.specs.Walks.{StartsAtEnd}
+use Rattle.clause_list.proofs.ListLaws.{contents_of, as_many_records, more_list, pushed_contents}
+use Rattle.clause_list.proofs.clause_list.ClauseList.push_reserved.Goals as goal
+
+pub invariant_of-self : goal.invariant_of-self
+invariant_of-self g c =
+    let inside = c.self.inside in
+    let ws = inside.watches.items in
+    let learnt : List (List Lit) = map (λ v. v.items) inside.learnt in
+    let new = c.started-watches.new.map in
+    let made = c.started-watches.result in
+    let e = as_many_records inside.clauses.items learnt ws inside.map c.self.invariant.0 in
+    let watched = (c.started-watches.ensures.starts ws c.self.invariant.1 (c.from_index-id.ensures ∙ c.len.ensures ∙ inside.clauses.ok.0 ∙ e)).0 in
+    subst (λ cs. IsClauseList (contents_of cs c.push_reserved-2.new.self.items learnt new) × AreWatched new c.push_reserved-2.new.self.items) (sym c.push_reserved.ensures.items)
+    (subst (λ rs. IsClauseList (contents_of (inside.clauses.items ++ c.args.clause ∷ []) rs learnt new) × AreWatched new rs) (sym c.push_reserved-2.ensures.items)
+    (more_list inside.clauses.items learnt ws inside.map new c.args.clause made c.self.invariant.0 (rw (← c.self.view_is) at c.requires.room.id) watched, watched))
+
+pub returns-clause-added : goal.returns-clause-added
+returns-clause-added g c =
+    let inside = c.self.inside in
+    let ws = inside.watches.items in
+    let learnt : List (List Lit) = map (λ v. v.items) inside.learnt in
+    let new = c.started-watches.new.map in
+    let made = c.started-watches.result in
+    let e = as_many_records inside.clauses.items learnt ws inside.map c.self.invariant.0 in
+    let id = c.from_index-id.ensures ∙ c.len.ensures ∙ inside.clauses.ok.0 in
+    let starts = subst (λ i. StartsAtEnd inside.map made i new) id c.started-watches.ensures.starts in
+    subst (λ cs. contents_of cs c.push_reserved-2.new.self.items learnt new ≡ with_clause (contents c.args.self.now) c.args.clause (literals_watched c.args.watches)) (sym c.push_reserved.ensures.items)
+    (subst (λ rs. contents_of (inside.clauses.items ++ c.args.clause ∷ []) rs learnt new ≡ with_clause (contents c.args.self.now) c.args.clause (literals_watched c.args.watches)) (sym c.push_reserved-2.ensures.items)
+    (subst (λ (k : Kept g.row.N.Denot). contents_of (inside.clauses.items ++ c.args.clause ∷ []) (ws ++ made ∷ []) learnt new ≡ with_clause (contents k) c.args.clause (literals_watched c.args.watches)) c.self.view_is
+    (pushed_contents inside.clauses.items ws learnt inside.map new c.args.clause c.args.watches made c.self.invariant.1 e c.started-watches.ensures.same starts)))

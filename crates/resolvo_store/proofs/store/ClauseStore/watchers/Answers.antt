@@ -1,0 +1,17 @@
+use Rattle.std.proofs.Common.{◌≡◌, ◌∙◌, sym, subst, ap, []}
+use Rattle.std.specs.Prelude.{IfOk, if◌then◌else◌}
+use Rattle.resolvo_store.specs.Refusals.{knows_variable}
+use Rattle.resolvo_store.specs.Store.{Kept, Provider, store_of, gathered}
+use Rattle.resolvo_store.proofs.store.ClauseStore.watchers.Given.{Over}
+use Rattle.resolvo_store.proofs.store.ClauseStore.watchers.Goals as goal
+
+-- the provider's functions
+abbrev given : (g : Over) → g.row.D.Denot → Provider g.row.D-NameId.Denot g.row.D-SolvableId.Denot
+given g = gathered g.D.NameId.PartialEq.eq g.D.SolvableId.PartialEq.eq g.D.NameId.Slots.IdMap.is_too_large g.D.SolvableId.Slots.IdMap.is_too_large
+    g.D.SolvableId.Set.IdSet.is_too_large g.D.NameId.SolverId.are_many g.D.Interner.universe g.D.DependencyProvider.answers
+
+pub returns-clause-ok : goal.returns-clause-ok
+returns-clause-ok g c =
+    let found = subst (λ (k : Kept g.row.D.Denot g.row.D-NameId.Denot g.row.D-SolvableId.Denot). IfOk c.watchers.result (λ v. v.items ≡ (store_of (given g) k).watchers c.args.literal)) c.self.view_is c.watchers.ensures.ok in
+    let known = ap (knows_variable (store_of (given g) c.args.self.now)) (sym c.variable.ensures) ∙ sym c.knows_variable.ensures ∙ c.if-not-knows_variable.false in
+    subst (λ b. IfOk c.watchers.result (λ v. v.items ≡ (if b then (store_of (given g) c.args.self.now).watchers c.args.literal else []))) (sym known) found

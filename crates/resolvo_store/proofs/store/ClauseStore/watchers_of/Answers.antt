@@ -1,0 +1,27 @@
+use Rattle.std.proofs.Common.{◌≡◌, ◌∙◌, sym, subst, ap}
+use Rattle.resolvo_store.specs.Command.{Watchers}
+use Rattle.resolvo_store.specs.Refusals.{knows_variable}
+use Rattle.resolvo_store.specs.Step.{Step}
+use Rattle.resolvo_store.specs.Store.{Kept, Provider, store_of, gathered}
+use Rattle.resolvo_store.proofs.AddingLemmas.{step_watchers, step_untold, err_answer}
+use Rattle.resolvo_store.proofs.store.ClauseStore.watchers_of.Given.{Over}
+use Rattle.resolvo_store.proofs.store.ClauseStore.watchers_of.Goals as goal
+
+-- the provider's functions
+abbrev given : (g : Over) → g.row.D.Denot → Provider g.row.D-NameId.Denot g.row.D-SolvableId.Denot
+given g = gathered g.D.NameId.PartialEq.eq g.D.SolvableId.PartialEq.eq g.D.NameId.Slots.IdMap.is_too_large g.D.SolvableId.Slots.IdMap.is_too_large
+    g.D.SolvableId.Set.IdSet.is_too_large g.D.NameId.SolverId.are_many g.D.Interner.universe g.D.DependencyProvider.answers
+
+pub returns-in_err-found-clause-step : goal.returns-in_err-found-clause-step
+returns-in_err-found-clause-step g c =
+    let st = store_of (given g) c.args.self.now in
+    let known = ap (knows_variable st) (sym c.variable.ensures) ∙ sym c.knows_variable.ensures ∙ c.if-not-knows_variable.false in
+    err_answer (λ reply. Step st (Watchers c.args.literal) reply st) c.from_residual.result c.in_err-found.field-0.0 c.from_residual.ensures.1
+    (step_untold st c.args.literal c.in_err-found.field-0.0 known c.in_err-found.ensures.memory)
+
+pub returns-clause-step : goal.returns-clause-step
+returns-clause-step g c =
+    let st = store_of (given g) c.args.self.now in
+    let known = ap (knows_variable st) (sym c.variable.ensures) ∙ sym c.knows_variable.ensures ∙ c.if-not-knows_variable.false in
+    step_watchers st c.args.literal c.in_ok-found.found.items known
+    (subst (λ (k : Kept g.row.D.Denot g.row.D-NameId.Denot g.row.D-SolvableId.Denot). c.in_ok-found.found.items ≡ (store_of (given g) k).watchers c.args.literal) c.self.view_is c.in_ok-found.ensures.ok)
