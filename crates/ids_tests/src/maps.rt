@@ -25,7 +25,7 @@ fn read<K: Copy, A: Allocator + Copy, M: IdMap<K, u64, A>>(map: &M, keys: [K; 3]
 
 /// Reads a map as it is made, once it is written at the first and the last of three keys, and once its values are
 /// halved.
-pub fn lived<K: Copy, A: Allocator + Copy, M: IdMap<K, u64, A>>(
+pub(crate) fn lived<K: Copy, A: Allocator + Copy, M: IdMap<K, u64, A>>(
     alloc: A,
     keys: [K; 3],
 ) -> Result<[[u64; 4]; 3], StoreError> {

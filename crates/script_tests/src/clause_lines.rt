@@ -56,7 +56,7 @@ fn clauses_between_variables_are_answered(rt: HostRuntime) -> Result<(), Fail> {
 /// A word of another form, too few words or too many.
 #[test]
 fn lines_of_another_form_are_unreadable(rt: HostRuntime) -> Result<(), Fail> {
-    let lines: [&[u8]; 32] = [
+    let lines: [&[u8]; 34] = [
         b"begin\nlearnt 1\n",
         b"begin\nlearnt +x\n",
         b"begin\nlearnt +\n",
@@ -87,6 +87,8 @@ fn lines_of_another_form_are_unreadable(rt: HostRuntime) -> Result<(), Fail> {
         b"begin\nundo-last 1\n",
         b"begin\ndisjunction 0\n",
         b"begin\nwatchers 0\n",
+        b"begin\nwatchers +2147483647\n",
+        b"begin\nrewatch 0 +0 -2147483647\n",
         b"begin\nbump 0 1\n",
         b"begin\nsaturate 1\n",
     ];
@@ -109,6 +111,11 @@ fn numbers_of_literals_and_names_have_ranges(rt: HostRuntime) -> Result<(), Fail
         given(b"begin\nhelper any-of 4294967295\n", b"refused 3\n", 0),
         given(b"begin\nexclude 0 4294967295\n", b"refused 3\n", 0),
         given(b"begin\nlearnt +00 -0\n", b"clause 0\n", 0),
+        given(
+            b"begin\nwatchers +2147483646\nwatchers -2147483646\nwatchers -0\nlearnt +0 -0\nrewatch 0 +0 -2147483646\n",
+            b"refused 3\nrefused 3\nwatchers -\nclause 0\nrefused 3\n",
+            0,
+        ),
     ];
     are_answered(&rt, &rows)
 }
