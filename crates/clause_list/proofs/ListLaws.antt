@@ -10,12 +10,12 @@ use Rattle.std.proofs.lemmas.List.{ext_get_or, length-map, length-set, map-appen
 use Rattle.typed_ids.specs.TotalMaps.{IsUpdate}
 use Rattle.decisions.specs.Literals.{Lit}
 use Rattle.clauses.specs.declared.clause.Clause.{Clause}
-use Rattle.clauses.specs.declared.watched_literals.WatchedLiterals.{WatchedLiterals}
+use Rattle.watch_map.specs.declared.watched_literals.WatchedLiterals.{WatchedLiterals}
 use Rattle.watch_map.specs.Watching.{is_literal_in, IsExact, started, moved}
 use Rattle.watch_map.specs.WatchLists.{WatchLists, Watches, literals_in, watched_by, watchers, AreWatched, Position, clause_of, literal_of, index_of}
 use Rattle.watch_map.specs.WatchCalls.{SameLists, Starts, StandsIn, Moves}
 use Rattle.watch_map.proofs.WatchingLaws.{exact_same}
-use Rattle.watch_map.proofs.CallerLaws.{same_records_belong, records_grow, records_skip}
+use Rattle.watch_map.proofs.CallerLaws.{same_records_belong, new_clauses_join, records_skip}
 use Rattle.clause_list.specs.ClauseList.{Clauses, IsClauseList, is_full, literals_watched, two_or_none, rewatched, with_clause, with_rewatched, can_rewatch}
 use Rattle.clause_list.specs.Walks.{StartsAtEnd, IsRewatched, may_rewatch}
 use Rattle.clause_list.proofs.CallerLaws.{watched_at, set_watches, watching_within, rewatched_is}
@@ -39,11 +39,7 @@ pub nothing_starts : (lists : WatchLists) (clause : ℕ) → StartsAtEnd lists N
 nothing_starts lists clause ws watched e = same_records_belong lists ws (ws ++ None ∷ []) (records_skip ws) watched
 
 pub something_starts : (old new : WatchLists) (w : WatchedLiterals) (clause : ℕ) → Starts old w clause new → StartsAtEnd old (Some w) clause new
-something_starts old new w clause starts ws watched e =
-    let grow = records_grow ws w in
-    let at_end = subst (λ i. Starts old w i new) e starts in
-    let both = at_end ws (ws ++ Some w ∷ []) watched grow.0 grow.1 in
-    (both.0, λ l. both.1 l ∙ ap (λ i. started i w.watched_literals (watchers old ws) l) (sym e))
+something_starts old new w clause starts ws watched = new_clauses_join old new ws w clause watched starts
 
 -- ---- a moved watch, in the records
 

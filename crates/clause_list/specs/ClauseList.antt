@@ -5,7 +5,7 @@ use Rattle.decisions.specs.Literals.{Lit}
 use Rattle.clauses.specs.Clauses.{same_literal, watch_ends}
 use Rattle.clauses.specs.declared.clause.Clause.{Clause}
 use Rattle.clauses.specs.declared.clause.Clause.TheVariants.{Learnt}
-use Rattle.clauses.specs.declared.watched_literals.WatchedLiterals.{WatchedLiterals}
+use Rattle.watch_map.specs.declared.watched_literals.WatchedLiterals.{WatchedLiterals}
 use Rattle.watch_map.specs.Watching.{is_literal_in, IsExact, started, moved}
 use Rattle.watch_map.specs.WatchLists.{WatchLists, Watches, literals_in, watchers}
 use Rattle.watch_map.specs.WatchCalls.{HaveRoom}

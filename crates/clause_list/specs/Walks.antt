@@ -2,7 +2,7 @@
 use Rattle.std.specs.Prelude.{◌≡◌, ℕ, Bool, not, ◌&&◌, [], ◌∷◌, ◌++◌, length, Option}
 use Rattle.typed_ids.specs.TotalMaps.{IsUpdate}
 use Rattle.decisions.specs.Literals.{Lit}
-use Rattle.clauses.specs.declared.watched_literals.WatchedLiterals.{WatchedLiterals}
+use Rattle.watch_map.specs.declared.watched_literals.WatchedLiterals.{WatchedLiterals}
 use Rattle.watch_map.specs.Watching.{is_literal_in, started, moved}
 use Rattle.watch_map.specs.WatchLists.{WatchLists, Watches, literals_in, watched_by, watchers, AreWatched}
 use Rattle.clause_list.specs.ClauseList.{rewatched}

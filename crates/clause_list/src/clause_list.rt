@@ -15,13 +15,13 @@ ghost use Rattle.clause_list.specs.ClauseList.{literals_watched, two_or_none, no
 ghost use Rattle.clause_list.specs.ClauseList.{contents, with_clause, with_learnt, with_rewatched, can_rewatch, HasRoom};
 
 use crate::walks;
-use clauses::{Clause, WatchedLiterals};
+use clauses::Clause;
 use decisions::Literal;
 use id_storage::Arena;
 use std::alloc::Allocator;
 use std::marker::Model;
 use typed_ids::{ClauseId, DenseIndex, LearntClauseId, StoreError};
-use watch_map::WatchMap;
+use watch_map::{WatchMap, WatchedLiterals};
 
 /// All clauses of a store, with what each of them watches, the clauses that watch each literal, and the literals of the
 /// learnt ones. `N` are the names of packages.

@@ -6,11 +6,10 @@ ghost use Rattle.watch_map.specs.WatchLists.{literals_in, watchers, AreWatched, 
 ghost use Rattle.watch_map.specs.WatchCalls.{SameLists, HaveRoom, StandsIn};
 ghost use Rattle.clause_list.specs.Walks.{StartsAtEnd, IsRewatched, may_rewatch};
 
-use clauses::WatchedLiterals;
 use decisions::Literal;
 use std::alloc::Allocator;
 use typed_ids::{ClauseId, DenseIndex, StoreError};
-use watch_map::{WatchMap, WatchMapCursor};
+use watch_map::{WatchMap, WatchMapCursor, WatchedLiterals};
 
 /// The clauses that watch the literal, front first.
 pub(crate) fn watchers<A: Allocator + Copy>(

@@ -1,3 +1,2 @@
 pub mod CallerLaws
 pub mod WalkLemmas
-pub mod WatchLemmas

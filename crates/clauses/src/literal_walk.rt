@@ -11,17 +11,17 @@ use typed_ids::{StoreError, VariableId};
 /// The places of a clause's literals, in order: two that it may have itself, those that are kept for it, and those of
 /// candidates, where what is kept are variables.
 #[derive(Drop)]
-pub(crate) struct LiteralWalk<'a, A: Allocator> {
-    pub(crate) first: Option<Literal>,
-    pub(crate) second: Option<Literal>,
-    pub(crate) kept: &'a [Literal],
-    pub(crate) candidates: &'a [VariableId],
-    pub(crate) lists: &'a [Vec<VariableId, A>],
+pub struct LiteralWalk<'a, A: Allocator> {
+    pub first: Option<Literal>,
+    pub second: Option<Literal>,
+    pub kept: &'a [Literal],
+    pub candidates: &'a [VariableId],
+    pub lists: &'a [Vec<VariableId, A>],
 }
 
 impl<'a, A: Allocator> LiteralWalk<'a, A> {
     /// The first literal that passes the test.
-    pub(crate) fn find<F: Fn(Literal) -> bool>(&self, test: F) -> Option<Literal>
+    pub fn find<F: Fn(Literal) -> bool>(&self, test: F) -> Option<Literal>
         requires { F.IsAlwaysCallable test }
         ensures first { IsFirstTrue (λ l b. F.post test l b) (literals_in self.now) result }
         ensures tested { (passes : Lit → Bool) → ((l : Lit) (b : Bool) → F.post test l b → b ≡ passes l) → result ≡ find passes (literals_in self.now) }
@@ -50,7 +50,7 @@ impl<'a, A: Allocator> LiteralWalk<'a, A> {
     }
 
     /// All the literals.
-    pub(crate) fn collect(&self, alloc: A) -> Result<Vec<Literal, A>, StoreError>
+    pub fn collect(&self, alloc: A) -> Result<Vec<Literal, A>, StoreError>
         ensures ok { IfOk result (λ literals. literals.items ≡ literals_in self.now) }
         ensures memory { IfErr result (λ e. e ≡ OutOfMemory) }
     {
@@ -68,13 +68,15 @@ impl<'a, A: Allocator> LiteralWalk<'a, A> {
     }
 }
 
-pub(crate) fn positive(variable: VariableId) -> Literal
+/// The variable's own literal.
+pub fn positive(variable: VariableId) -> Literal
     ensures { result ≡ Pos variable }
 {
     Literal::new(variable, false)
 }
 
-pub(crate) fn negative(variable: VariableId) -> Literal
+/// The negation of the variable's literal.
+pub fn negative(variable: VariableId) -> Literal
     ensures { result ≡ Neg variable }
 {
     Literal::new(variable, true)

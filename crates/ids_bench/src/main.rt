@@ -1,5 +1,5 @@
-//! Measures the storage that is kept by ids, the trail, and what replaces a watch, each call beside the same loop over
-//! plain `Vec`s or, where names are looked for, a `HashMap`, in one run.
+//! Measures the storage that is kept by ids, the trail, what replaces a watch, and watch lists, each call beside the same
+//! loop over plain `Vec`s or, where names are looked for, a `HashMap`, in one run.
 //!
 //! Without an argument it prints nothing and ends. With one it prints a line for each call and each number of values:
 //! nanoseconds a call, of ours and of what stands beside it.
@@ -11,10 +11,12 @@ mod fault;
 mod indexed_set;
 mod mapping;
 mod order;
+mod plain_lists;
 mod pool;
 mod report;
 mod total_map;
 mod trail;
+mod watch_lists;
 mod watches;
 mod work;
 
@@ -50,5 +52,6 @@ fn measure_each(rt: &(impl Print + Clock + AllocGlobal), size: u32) -> Result<()
     total_map::measure(rt, size)?;
     pool::measure(rt, size)?;
     trail::measure(rt, size)?;
-    watches::measure(rt, size)
+    watches::measure(rt, size)?;
+    watch_lists::measure(rt, size)
 }

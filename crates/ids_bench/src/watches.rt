@@ -5,13 +5,16 @@
 use crate::fault::Fault;
 use crate::order::{ids, rounds};
 use crate::work::{Work, compare};
-use clauses::{Clause, Disjunction, WatchedLiterals};
+use clauses::{Clause, Disjunction};
 use decisions::{DecisionMap, Literal};
 use id_storage::Arena;
 use providers::{Requirement, RequirementMap};
 use std::alloc::{AllocError, Global};
 use std::rt::Clock;
-use typed_ids::{DenseIndex, DisjunctionId, LearntClauseId, StoreError, VariableId, VersionSetId};
+use typed_ids::{
+    ClauseId, DenseIndex, DisjunctionId, LearntClauseId, StoreError, VariableId, VersionSetId,
+};
+use watch_map::WatchedLiterals;
 
 /// What the clauses are, and what replaces the first literal.
 #[derive(Clone, Copy)]
@@ -107,7 +110,7 @@ fn literals(kind: Kind, number: u32) -> [Literal; 3] {
 }
 
 /// The variable with this index, or the root's where there is none.
-fn variable(index: u32) -> VariableId {
+pub(crate) fn variable(index: u32) -> VariableId {
     let index = index as usize;
     if VariableId::in_range(index) {
         VariableId::from_index(index)
@@ -136,7 +139,7 @@ fn index_of(answer: Option<Literal>) -> u64 {
 /// Clauses with what they watch, in the order in which they are asked, and what they refer to.
 #[derive(Drop)]
 struct Watched {
-    clauses: Vec<(Clause<u32>, WatchedLiterals)>,
+    clauses: Arena<ClauseId, (Clause<u32>, WatchedLiterals)>,
     learnt: Arena<LearntClauseId, Vec<Literal>>,
     lists: RequirementMap<Vec<Vec<VariableId>>>,
     disjunctions: Arena<DisjunctionId, Disjunction<Global>>,
@@ -146,7 +149,7 @@ struct Watched {
 impl Watched {
     fn new(alloc: Global) -> Watched {
         Watched {
-            clauses: Vec::new(alloc),
+            clauses: Arena::new(alloc),
             learnt: Arena::new(alloc),
             lists: RequirementMap::new(alloc),
             disjunctions: Arena::new(alloc),
@@ -197,10 +200,8 @@ impl Watches for Watched {
             }
             Kind::Requires => Clause::Requires(first.variable(), None, requirement(number)),
         };
-        let watches = WatchedLiterals {
-            watched_literals: [first, other_watch(kind, number)],
-        };
-        self.clauses.push((clause, watches))?;
+        let watches = WatchedLiterals::new(first, other_watch(kind, number));
+        self.clauses.alloc((clause, watches))?;
         Ok(())
     }
 }
@@ -208,7 +209,7 @@ impl Watches for Watched {
 impl Work for Watched {
     fn go_round(&mut self, _round: u32) -> Result<u64, StoreError> {
         let mut sum: u64 = 0;
-        for (clause, watches) in &self.clauses {
+        for (_, (clause, watches)) in self.clauses.iter() {
             let answer = watches.next_unwatched_literal(
                 clause,
                 &self.learnt,

@@ -3,10 +3,11 @@ ghost use Rattle.std.specs.Prelude.{◌≡◌, [], ◌∷◌};
 ghost use Rattle.decisions.specs.Literals.{Pos, Neg};
 
 use clause_list::ClauseList;
-use clauses::{Clause, WatchedLiterals};
+use clauses::Clause;
 use decisions::Literal;
 use std::alloc::Allocator;
 use typed_ids::{ClauseId, DenseIndex, LearntClauseId, NameId, StoreError, StringId, VariableId};
+use watch_map::WatchedLiterals;
 
 /// A clause of one of the kinds that the tests put into a list.
 #[derive(Clone, Copy, Debug, PartialEq, Eq)]
@@ -156,9 +157,7 @@ pub(crate) fn negative(index: u16) -> Literal
 pub(crate) fn negations(first: u16, second: u16) -> WatchedLiterals
     ensures { result.watched_literals ≡ Neg first ∷ Neg second ∷ [] }
 {
-    WatchedLiterals {
-        watched_literals: [negative(first), negative(second)],
-    }
+    WatchedLiterals::new(negative(first), negative(second))
 }
 
 /// A locked solvable, and another one of its package: a clause that watches the negations of 0 and 2.

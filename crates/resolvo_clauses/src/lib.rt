@@ -5,15 +5,15 @@
 //! | `decisions` | literals, decisions, and the trail of decisions |
 //! | `variables` | what each variable stands for, and the variables of solvables |
 //! | `variable_info` | the literals of a variable, what it stands for, and its text |
-//! | `clauses` | the kinds of clauses, their literals, and the two that a clause watches |
-//! | `watch_map` | for each literal the clauses that watch it, and a walk over them |
+//! | `clauses` | the kinds of clauses, and their literals |
+//! | `watch_map` | the two literals that a clause watches, for each literal the clauses that watch it, and a walk over them |
 //!
 //! A clause names a definition of a room as `Rattle.resolvo_clauses.specs.TOPIC`, and a type with its variants as
 //! `Rattle.resolvo_clauses.specs.Types.NAME`.
 #![tactic(auto)]
 
-pub use clauses::{Clause, Disjunction, WatchedLiterals};
+pub use clauses::{Clause, Disjunction};
 pub use decisions::{AddFault, Decision, DecisionMap, DecisionTracker, Literal};
 pub use variable_info::VariableInfo;
 pub use variables::{VariableMap, VariableOrigin};
-pub use watch_map::{WatchMap, WatchMapCursor};
+pub use watch_map::{WatchMap, WatchMapCursor, WatchedLiterals};

@@ -1,11 +1,12 @@
 //! The laws for callers of watch lists.
-ghost use Rattle.watch_map.specs.Laws.{SameRecordsBelong, RecordsGrow, RecordsSkip, RoomIsForFewer, CursorsDivide, ClausesAreMetOnce, CursorsOutliveRoom};
+ghost use Rattle.watch_map.specs.Laws.{SameRecordsBelong, RecordsGrow, NewClausesJoin, RecordsSkip, RoomIsForFewer, CursorsDivide, ClausesAreMetOnce, CursorsOutliveRoom};
 
-/// Records of the same clauses show the same lists; the record of a new clause comes behind the others, and a clause without
-/// watches changes none.
+/// Records of the same clauses show the same lists; the record of a new clause comes behind the others, whose lists it
+/// joins, and a clause without watches changes none.
 pub fn records_may_grow()
     ensures same { SameRecordsBelong }
     ensures watched { RecordsGrow }
+    ensures joins { NewClausesJoin }
     ensures unwatched { RecordsSkip }
 {}
 

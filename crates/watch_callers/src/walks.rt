@@ -7,11 +7,10 @@ ghost use Rattle.watch_map.specs.Watching.{is_literal_in};
 ghost use Rattle.watch_map.specs.WatchLists.{watched_by, watchers, AreWatched};
 ghost use Rattle.watch_callers.specs.Walks.{staying, IsBeginning};
 
-use clauses::WatchedLiterals;
 use decisions::Literal;
 use std::alloc::Allocator;
 use typed_ids::{ClauseId, StoreError};
-use watch_map::WatchMap;
+use watch_map::{WatchMap, WatchedLiterals};
 
 /// What a clause is to watch in the place of a literal that it watches.
 pub trait Rewatch {

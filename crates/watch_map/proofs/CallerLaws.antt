@@ -1,23 +1,38 @@
 -- The laws for callers hold.
-use Rattle.std.proofs.Common.{◌≡◌, ◌≢◌, ℕ, zero, suc, true, false, nat_eq, List, [], ◌∷◌, ◌++◌, Option, Some, None, length, sym, ap, refl, subst, ◌∙◌, arith}
+use Rattle.std.proofs.Common.{◌≡◌, ◌≢◌, ℕ, zero, suc, true, false, nat_eq, List, [], ◌∷◌, ◌++◌, Some, length, sym, ap, refl, subst, ◌∙◌}
 use Rattle.std.specs.List.{IsDistinct}
+use Rattle.decisions.specs.Literals.{Lit}
 use Rattle.decisions.specs.LiteralIndex.{literal_index}
 use Rattle.id_storage.specs.Mapping.{value_at}
-use Rattle.clauses.specs.declared.watched_literals.WatchedLiterals.{WatchedLiterals}
-use Rattle.watch_map.specs.Laws.{SameRecordsBelong, RecordsGrow, RecordsSkip, RoomIsForFewer, CursorsDivide, ClausesAreMetOnce, CursorsOutliveRoom}
-use Rattle.watch_map.specs.Watching.{is_clause_in, before}
-use Rattle.watch_map.specs.WatchLists.{Ring, Watches, record_of, literals_in, watched_by, watchers, HasRoom, RingHasRoom, literal_of, clause_of}
-use Rattle.watch_map.specs.WatchCalls.{passed, rest}
+use Rattle.watch_map.specs.declared.watched_literals.WatchedLiterals.{WatchedLiterals}
+use Rattle.watch_map.specs.Laws.{SameRecordsBelong, RecordsGrow, NewClausesJoin, RecordsSkip, RoomIsForFewer, CursorsDivide, ClausesAreMetOnce, CursorsOutliveRoom}
+use Rattle.watch_map.specs.Watching.{is_clause_in, before, started}
+use Rattle.watch_map.specs.WatchLists.{Watches, record_of, literals_in, watched_by, next_in, link, IsChain, watchers, HasRoom, IsPrevious, literal_of, clause_of}
+use Rattle.watch_map.specs.WatchCalls.{Starts, passed, rest}
 use Rattle.watch_map.proofs.WatchingLaws.{split, exact_same, distinct_head, distinct_tail}
+use Rattle.watch_map.proofs.ChainLaws.{chain_same}
+use Rattle.watch_map.proofs.LinkLaws.{lists_made}
 
 -- ---- records
 
 pub same_records_belong : SameRecordsBelong
-unfolding watchers
 same_records_belong map old new same watched = (
-  record { exact = exact_same (watched_by old) (watched_by new) (watchers map old) (watchers map new) (λ c. ap literals_in (same c)) (λ l. refl) watched.exact },
-  λ l. refl,
+  record {
+    exact = exact_same (watched_by old) (watched_by new) (watchers map old) (watchers map new) literals lists watched.exact;
+    links = λ c. rw (same c) (watched.links c);
+    linked = λ l. subst (IsChain (link new l) (value_at map (literal_index l))) (sym (lists l)) (linked l);
+  },
+  lists,
 )
+  where
+    literals : (c : ℕ) → watched_by new c ≡ watched_by old c
+    literals c = ap literals_in (same c)
+
+    linked : (l : Lit) → IsChain (link new l) (value_at map (literal_index l)) (watchers map old l)
+    linked l = chain_same (link old l) (link new l) (value_at map (literal_index l)) (watchers map old l) (λ c m. ap (λ r. next_in r l) (same c)) (watched.linked l)
+
+    lists : (l : Lit) → watchers map new l ≡ watchers map old l
+    lists = lists_made map new (watchers map old) (exact_same (watched_by old) (watched_by new) (watchers map old) (watchers map old) literals (λ l. refl) watched.exact) linked
 
 record_at_end : (watches : Watches) (watched : WatchedLiterals) → record_of (watches ++ Some watched ∷ []) (length watches) ≡ Some watched
 record_at_end [] watched = refl
@@ -37,6 +52,13 @@ nothing_at_end (w ∷ watches) = nothing_at_end watches
 pub records_grow : RecordsGrow
 records_grow watches watched = (nothing_at_end watches, (record_at_end watches watched, record_elsewhere watches watched))
 
+pub new_clauses_join : NewClausesJoin
+new_clauses_join old new watches watched clause belong starts next =
+    let grow = records_grow watches watched in
+    let from_there = subst (λ i. Starts old watched i new) next starts in
+    let joined = from_there watches (watches ++ Some watched ∷ []) belong grow.0 grow.1 in
+    (joined.0, λ l. joined.1 l ∙ ap (λ i. started i watched.watched_literals (watchers old watches) l) (sym next))
+
 pub records_skip : RecordsSkip
 records_skip [] zero = refl
 records_skip [] (suc clause) = refl
@@ -47,11 +69,7 @@ records_skip (w ∷ watches) (suc clause) = records_skip watches clause
 
 pub room_is_for_fewer : RoomIsForFewer
 unfolding HasRoom
-room_is_for_fewer map l n k le = go (value_at map (literal_index l))
-  where
-    go : (row : Option Ring) → RingHasRoom n row → RingHasRoom k row
-    go None r = r
-    go (Some row) r = omega (arith, le, r)
+room_is_for_fewer map l n k le room = room
 
 -- ---- cursors
 
@@ -75,7 +93,7 @@ cursors_outlive_room cursor old new watches same stands = record {
   member = subst (λ xs. is_clause_in (clause_of cursor) xs ≡ true) (sym list) stands.member;
   within = stands.within;
   watch = stands.watch;
-  placed = subst (λ xs. cursor.place ≡ length (before (clause_of cursor) xs)) (sym list) stands.placed;
+  placed = subst (λ xs. IsPrevious watches (literal_of cursor) cursor.previous (before (clause_of cursor) xs)) (sym list) stands.placed;
 }
   where
     list : watchers new watches (literal_of cursor) ≡ watchers old watches (literal_of cursor)

@@ -1,15 +1,12 @@
 -- How many literals have clauses.
-use Rattle.std.proofs.Common.{◌≡◌, ℕ, zero, suc, ◌≤◌, ◌+◌, Bool, true, false, cond, nat_eq, List, [], ◌∷◌, Option, Some, None, length, map, not, sym, ap, refl, subst, ◌∙◌, arith}
-use Rattle.std.specs.Prelude.{count_by, option_map}
+use Rattle.std.proofs.Common.{◌≡◌, ℕ, zero, suc, ◌≤◌, ◌+◌, Bool, true, false, cond, nat_eq, List, [], ◌∷◌, Option, Some, None, is_some, length, sym, ap, refl, subst, ◌∙◌, arith}
+use Rattle.std.specs.Prelude.{count_by}
 use Rattle.std.proofs.lemmas.List.Sums.{sum_by-cons}
-use Rattle.std.specs.declared.collections.vec_deque.VecDeque.{VecDeque}
+use Rattle.std.proofs.lemmas.Bool.Decides.{nat_tests}
 use Rattle.decisions.specs.Literals.{Lit}
 use Rattle.decisions.specs.LiteralIndex.{literal_index, literal_at, literal_index-literal_at}
-use Rattle.id_storage.specs.Mapping.{value_at}
-use Rattle.id_storage.specs.Mapping.{pairs_from}
-use Rattle.std.specs.VecDeque.{deque_len}
-use Rattle.watch_map.specs.WatchLists.{Ring, ring_of}
-use Rattle.watch_map.specs.WatchLists.{WatchLists, Watches, watchers, members_in}
+use Rattle.id_storage.specs.Mapping.{value_at, value_count}
+use Rattle.watch_map.specs.WatchLists.{WatchLists, Watches, watchers, link, IsChain, AreWatched}
 use Rattle.watch_map.specs.Watching.{count_lists, IsListCount}
 
 -- so many numbers added up, the last one first
@@ -62,61 +59,18 @@ module _ {V : Type 0} (p : Option V → Bool) where
   past_slots (x ∷ slots) zero h = absurd (omega arith)
   past_slots (x ∷ slots) (suc i) h = past_slots slots i (omega arith)
 
--- ---- vectors
-
--- whether a row has clauses
-pub is_filled : Option Ring → Bool
-is_filled row = not (nat_eq (length (members_in row)) 0)
-
--- whether the list of a pair is empty
-abbrev pub is_bare : {K A : Type 0} → K × VecDeque ℕ A → Bool
-is_bare pair = nat_eq (length pair.1.items) 0
-
-pub bare_cons : {K A : Type 0} (pair : K × VecDeque ℕ A) (rest : List (K × VecDeque ℕ A)) → count_by is_bare (pair ∷ rest) ≡ cond (is_bare pair) 1 0 + count_by is_bare rest
-bare_cons pair rest = sum_by-cons (λ p. cond (is_bare p) 1 0) pair rest
-
-filled_cons : (row : Option Ring) (rows : List (Option Ring)) → count_by is_filled (row ∷ rows) ≡ cond (is_filled row) 1 0 + count_by is_filled rows
-filled_cons row rows = sum_by-cons (λ r. cond (is_filled r) 1 0) row rows
-
-one_of_two : (b : Bool) (n r f r' f' : ℕ) → n ≡ r + f → r' ≡ cond b 1 0 + r → f' ≡ cond (not b) 1 0 + f → suc n ≡ r' + f'
-one_of_two true n r f r' f' e p q = omega (arith, e, p, q)
-one_of_two false n r f r' f' e p q = omega (arith, e, p, q)
-
--- the pairs are those whose lists are empty and the rows with clauses
-pub bare_or_filled : {K A : Type 0} (id_at : ℕ → K) (index : ℕ) (slots : List (Option (VecDeque ℕ A))) →
-    length (pairs_from id_at index slots) ≡ count_by is_bare (pairs_from id_at index slots) + count_by is_filled (map (option_map ring_of) slots)
-unfolding is_filled
-bare_or_filled id_at index [] = refl
-bare_or_filled id_at index (None ∷ slots) =
-    let ih = bare_or_filled id_at (index + 1) slots in
-    let more = filled_cons None (map (option_map ring_of) slots) in
-    omega (arith, ih, more)
-bare_or_filled id_at index (Some list ∷ slots) =
-    one_of_two (nat_eq (length list.items) 0) _ _ _ _ _ (bare_or_filled id_at (index + 1) slots)
-    (bare_cons (id_at index, list) (pairs_from id_at (index + 1) slots))
-    (filled_cons (Some (ring_of list)) (map (option_map ring_of) slots))
-
--- a literal has clauses exactly if its row has
-pub rows_counted : (kept : WatchLists) (watches : Watches) → IsListCount (watchers kept watches) (count_by is_filled kept)
-unfolding watchers is_filled
-rows_counted kept watches = record {
-  bound = length kept;
-  past = λ l h. ap members_in (past_slots is_filled kept (literal_index l) h);
-  counted = slots_counted is_filled kept (watchers kept watches) (λ l. negated (nat_eq (length (members_in (value_at kept (literal_index l)))) 0));
+-- a literal has clauses exactly if it has a first one
+pub firsts_counted : (map : WatchLists) (watches : Watches) → AreWatched map watches → IsListCount (watchers map watches) (value_count map)
+firsts_counted map watches watched = record {
+  bound = length map;
+  past = λ l h. none (link watches l) (watchers map watches l) (value_at map (literal_index l)) (watched.linked l) (past_slots is_some map (literal_index l) h);
+  counted = slots_counted is_some map (watchers map watches) (λ l. has (link watches l) (watchers map watches l) (value_at map (literal_index l)) (watched.linked l));
 }
   where
-    negated : (b : Bool) → b ≡ cond (not b) false true
-    negated true = refl
-    negated false = refl
+    none : (next : ℕ → Option ℕ) (xs : List ℕ) (first : Option ℕ) → IsChain next first xs → first ≡ None → xs ≡ []
+    none next [] first h e = refl
+    none next (x ∷ xs) first h e = absurd (let z : Some x ≡ None = sym h.0 ∙ e in cc)
 
--- one pair less
-pub bare_step : {K A : Type 0} (pair : K × VecDeque ℕ A) (rest all : List (K × VecDeque ℕ A)) (count filled : ℕ) → all ≡ pair ∷ rest → count ≡ count_by is_bare all + filled →
-    count ≡ cond (is_bare pair) 1 0 + count_by is_bare rest + filled
-bare_step pair rest all count filled e h = let a = ap (count_by is_bare) e in let b = bare_cons pair rest in omega (arith, h, a, b)
-
--- by whether its list is empty
-pub bare_by : {K A : Type 0} (pair : K × VecDeque ℕ A) (rest all : List (K × VecDeque ℕ A)) (count filled : ℕ) → all ≡ pair ∷ rest → count ≡ count_by is_bare all + filled →
-    (empty : Bool) → nat_eq (deque_len pair.1) 0 ≡ empty → count ≡ cond empty 1 0 + count_by is_bare rest + filled
-bare_by pair rest all count filled e h empty t =
-    let is : is_bare pair ≡ empty = ap (λ n. nat_eq n 0) (sym pair.1.ok.0) ∙ t in
-    subst (λ b. count ≡ cond b 1 0 + count_by is_bare rest + filled) is (bare_step pair rest all count filled e h)
+    has : (next : ℕ → Option ℕ) (xs : List ℕ) (first : Option ℕ) → IsChain next first xs → nat_eq (length xs) 0 ≡ cond (is_some first) false true
+    has next [] first h = rw h refl
+    has next (x ∷ xs) first h = rw h.0 (grind (arith, nat_tests))

@@ -1,7 +1,9 @@
+pub mod WatchingLaws
+mod ChainLaws
 mod CountLaws
 mod CursorLaws
-mod ItemLaws
-mod RingLaws
-mod UpdateLaws
-pub mod WatchingLaws
+mod LinkLaws
+mod MoveLaws
+mod StartLaws
+mod WatchLemmas
 pub mod CallerLaws

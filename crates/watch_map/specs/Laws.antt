@@ -2,10 +2,10 @@
 use Rattle.std.specs.Prelude.{◌≡◌, ◌≢◌, ℕ, ◌≤◌, true, [], ◌∷◌, ◌++◌, length, Some, None}
 use Rattle.typed_ids.specs.TotalMaps.{IsUpdate}
 use Rattle.decisions.specs.Literals.{Lit}
-use Rattle.clauses.specs.declared.watched_literals.WatchedLiterals.{WatchedLiterals}
-use Rattle.watch_map.specs.Watching.{is_clause_in}
+use Rattle.watch_map.specs.declared.watched_literals.WatchedLiterals.{WatchedLiterals}
+use Rattle.watch_map.specs.Watching.{is_clause_in, started}
 use Rattle.watch_map.specs.WatchLists.{WatchLists, Watches, Position, record_of, watched_by, watchers, HasRoom, AreWatched, literal_of, clause_of}
-use Rattle.watch_map.specs.WatchCalls.{SameLists, StandsIn, passed, rest}
+use Rattle.watch_map.specs.WatchCalls.{SameLists, Starts, StandsIn, passed, rest}
 
 -- ---- records
 
@@ -18,6 +18,12 @@ SameRecordsBelong = (map : WatchLists) (old new : Watches) → ((clause : ℕ) �
 abbrev pub RecordsGrow : Type 0
 RecordsGrow = (watches : Watches) (watched : WatchedLiterals) → (watched_by watches (length watches) ≡ [])
     × IsUpdate (record_of watches) (length watches) (Some watched) (record_of (watches ++ Some watched ∷ []))
+
+-- a clause that starts with the next id belongs to the map once its record stands at the end
+abbrev pub NewClausesJoin : Type 0
+NewClausesJoin = (old new : WatchLists) (watches : Watches) (watched : WatchedLiterals) (clause : ℕ) → AreWatched old watches
+    → Starts old watched clause new → clause ≡ length watches → AreWatched new (watches ++ Some watched ∷ [])
+    × ((l : Lit) → watchers new (watches ++ Some watched ∷ []) l ≡ started clause watched.watched_literals (watchers old watches) l)
 
 -- a clause without watches changes no record
 abbrev pub RecordsSkip : Type 0

@@ -1,13 +1,14 @@
 //! Positions in the lists of the clauses that watch a literal.
-ghost use Rattle.std.specs.Prelude.{◌≡◌, ◌<◌, ◌++◌, [], ◌∷◌, true, false, length, slice_index_or, slice_set, take, drop, Some, OnOk, OnErr, IfOk, IfErr, IsOk, IfSome};
+ghost use Rattle.std.specs.Prelude.{◌≡◌, ◌<◌, ◌++◌, [], ◌∷◌, true, false, length, Some, OnOk, OnErr, IfOk, IfErr, IsOk, IfSome};
+ghost use Rattle.std.specs.Option.{ForSome};
 ghost use Rattle.typed_ids.specs.declared.error.StoreError.TheVariants.{OutOfMemory};
-ghost use Rattle.typed_ids.specs.TotalMaps.{IsUpdate};
 ghost use Rattle.watch_map.specs.Watching.{AreTwoOrNone, is_literal_in};
-ghost use Rattle.watch_map.specs.WatchLists.{watched_by, record_of, watchers, HasRoom, AreWatched, clause_of, index_of, literal_of};
+ghost use Rattle.watch_map.specs.WatchLists.{watched_by, record_of, HasRoom, IsCursorAt, clause_of, index_of, literal_of};
 ghost use Rattle.watch_map.specs.WatchCalls.{SameLists, KeepsRoom, UsesRoom, StandsIn, StandsBehind, Moves, passed, rest, remaining};
 
 use crate::lists::WatchMap;
-use clauses::WatchedLiterals;
+use crate::nodes::{Place, WatchNode, next_of, node_at, set_watch};
+use crate::watched_literals::WatchedLiterals;
 use decisions::Literal;
 use std::alloc::Allocator;
 use std::marker::Model;
@@ -30,41 +31,37 @@ use typed_ids::{ClauseId, DenseIndex, InsertError};
 /// ```
 #[derive(Drop)]
 pub struct WatchMapCursor {
-    literal: Literal,
-    clause_id: ClauseId,
-    /// Which of the clause's watches is the literal.
-    watch_index: usize,
-    /// How many clauses of the list it has passed.
-    place: usize,
+    place: Place,
 }
 
-/// The literal, the clause, which of its watches the literal is, and how many clauses stand before it.
+/// The literal whose list it walks, the node in front, and that at which it stands.
 impl Model for WatchMapCursor {
     ghost use Rattle.watch_map.specs.WatchLists.{Position};
 
     ghost Value = { Position };
 
-    ghost view = { λ c. record { literal = c.literal; clause = c.clause_id; index = c.watch_index; place = c.place } };
+    ghost view = { λ c. c.place };
 }
 
 impl WatchMapCursor {
-    /// The position at this place of the literal's list, `None` where the list ends before.
-    pub(crate) fn at_place<A: Allocator + Copy>(
-        map: &WatchMap<A>,
+    /// The position at this clause of a literal's list, behind the node `previous`, if there is a clause.
+    pub(crate) fn at_clause(
         watches: &[Option<WatchedLiterals>],
         literal: Literal,
-        place: usize,
+        previous: Option<WatchNode>,
+        clause_id: Option<ClauseId>,
     ) -> Option<WatchMapCursor>
-        requires { AreWatched map.now watches.now }
-        ensures list { remaining result map.now watches.now ≡ drop place (watchers map.now watches.now literal) }
-        ensures stands { IfSome result (StandsBehind (take place (watchers map.now watches.now literal)) literal map.now watches.now) }
+        requires two { ForSome clause_id (λ clause. AreTwoOrNone (watched_by watches.now clause)) }
+        requires watched { ForSome clause_id (λ clause. is_literal_in literal (watched_by watches.now clause) ≡ true) }
+        ensures { IsCursorAt watches.now literal previous clause_id result }
     {
-        match map.clause_at(literal, place) {
+        match clause_id {
             Some(clause_id) => Some(WatchMapCursor {
-                literal,
-                clause_id,
-                watch_index: watch_index_of(watches, clause_id, literal),
-                place,
+                place: Place {
+                    literal,
+                    previous,
+                    current: node_at(watches, literal, clause_id),
+                },
             }),
             None => None,
         }
@@ -74,14 +71,14 @@ impl WatchMapCursor {
     pub fn clause_id(&self) -> ClauseId
         ensures { result ≡ clause_of self.now }
     {
-        self.clause_id
+        self.place.current.clause_id
     }
 
     /// Which of the clause's two watches is the literal whose list it walks, 0 or 1.
     pub fn watch_index(&self) -> usize
         ensures { result ≡ index_of self.now }
     {
-        self.watch_index
+        self.place.current.watch_index
     }
 
     /// The record of the clause at which it stands. Takes no memory.
@@ -92,7 +89,7 @@ impl WatchMapCursor {
         requires { 0 < length (watched_by watches.now (clause_of self.now)) }
         ensures { record_of watches.now (clause_of self.now) ≡ Some result.now }
     {
-        match &watches[self.clause_id.to_index()] {
+        match &watches[self.place.current.clause_id.to_index()] {
             Some(watched) => watched,
             None => unreachable!(),
         }
@@ -108,16 +105,14 @@ impl WatchMapCursor {
         ensures list { remaining result map.now watches.now ≡ rest self map.now watches.now }
         ensures stands { IfSome result (StandsBehind (passed self map.now watches.now ++ clause_of self ∷ []) (literal_of self) map.now watches.now) }
     {
-        prove!(self.place < watches.len());
-        WatchMapCursor::at_place(map, watches, self.literal, self.place + 1)
+        next_place(map, watches, &self.place)
     }
 
     /// Lets the clause watch another literal in the place of the one whose list is walked: the clause leaves this list,
     /// whose others keep their order, and goes to the front of the other. Answers the position at the clause behind it,
     /// `None` at the end of the list. A refusal gives the position back.
     ///
-    /// Time linear in the clauses before or behind it in the list, whichever are fewer. Takes memory where the other
-    /// literal's list has no room.
+    /// Constant time, at any place of the list. Takes memory where the other literal's list has no room.
     pub fn update<A: Allocator + Copy>(
         self,
         map: &mut WatchMap<A>,
@@ -139,49 +134,43 @@ impl WatchMapCursor {
         if let Err(error) = map.make_room(new_watch) {
             return Err(InsertError { error, value: self });
         }
-        let WatchMapCursor {
-            literal,
-            clause_id,
-            watch_index,
-            place,
-        } = self;
-        map.take_out(literal, place);
-        map.put_first(new_watch, clause_id);
-        set_watch(watches, clause_id, watch_index, new_watch);
-        Ok(WatchMapCursor::at_place(map, watches, literal, place))
+        Ok(move_clause(map, watches, &self.place, new_watch))
     }
 }
 
-/// Which of the clause's watches is the literal.
-fn watch_index_of(
+/// The position behind this place.
+fn next_place<A: Allocator + Copy>(
+    map: &WatchMap<A>,
     watches: &[Option<WatchedLiterals>],
-    clause_id: ClauseId,
-    literal: Literal,
-) -> usize
-    requires two { AreTwoOrNone (watched_by watches.now clause_id) }
-    requires watched { is_literal_in literal (watched_by watches.now clause_id) ≡ true }
-    ensures within { result < length (watched_by watches.now clause_id) }
-    ensures watch { slice_index_or (watched_by watches.now clause_id) result literal ≡ literal }
+    place: &Place,
+) -> Option<WatchMapCursor>
+    requires { StandsIn place.now map.now watches.now }
+    ensures list { remaining result map.now watches.now ≡ rest place.now map.now watches.now }
+    ensures stands { IfSome result (StandsBehind (passed place.now map.now watches.now ++ clause_of place.now ∷ []) (literal_of place.now) map.now watches.now) }
 {
-    match &watches[clause_id.to_index()] {
-        Some(watched) if watched.watched_literals[0] == literal => 0,
-        _ => 1,
-    }
+    let next = next_of(watches, &place.current);
+    WatchMapCursor::at_clause(watches, place.literal, Some(place.current), next)
 }
 
-/// Gives a clause another literal to watch.
-fn set_watch(
+/// Moves the clause at this place to the front of another literal's list, where there is room: what
+/// [`WatchMapCursor::update`] does.
+fn move_clause<A: Allocator + Copy>(
+    map: &mut WatchMap<A>,
     watches: &mut [Option<WatchedLiterals>],
-    clause_id: ClauseId,
-    watch_index: usize,
-    literal: Literal,
-)
-    requires two { AreTwoOrNone (watched_by watches.old clause_id) }
-    requires within { watch_index < length (watched_by watches.old clause_id) }
-    ensures { IsUpdate (watched_by watches.old) clause_id
-        (slice_set (watched_by watches.old clause_id) watch_index literal) (watched_by watches.new) }
+    place: &Place,
+    new_watch: Literal,
+) -> Option<WatchMapCursor>
+    requires stands { StandsIn place.now map.old watches.old }
+    requires other { is_literal_in new_watch (watched_by watches.old (clause_of place.now)) ≡ false }
+    requires room { HasRoom map.old new_watch 1 }
+    ensures lists { Moves place.now new_watch map.old watches.old map.new watches.new }
+    ensures list { remaining result map.new watches.new ≡ rest place.now map.old watches.old }
+    ensures stands { IfSome result (StandsBehind (passed place.now map.old watches.old) (literal_of place.now) map.new watches.new) }
+    ensures rooms { KeepsRoom map.old map.new }
 {
-    if let Some(watched) = &mut watches[clause_id.to_index()] {
-        watched.watched_literals[watch_index] = literal;
-    }
+    let next = next_of(watches, &place.current);
+    map.unlink(watches, place);
+    let next_of_new = map.put_first(new_watch, place.current.clause_id);
+    set_watch(watches, &place.current, new_watch, next_of_new);
+    WatchMapCursor::at_clause(watches, place.literal, place.previous, next)
 }

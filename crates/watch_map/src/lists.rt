@@ -1,19 +1,20 @@
 //! For each literal the list of the clauses that watch it.
-ghost use Rattle.std.specs.Prelude.{◌≡◌, ℕ, ◌<◌, [], length, slice_get, OnOk, OnErr, IfOk, IfErr, IsOk, IfSome};
+ghost use Rattle.std.specs.Prelude.{◌≡◌, ℕ, [], length, Some, OnOk, OnErr, IfOk, IfErr, IsOk, IfSome};
+ghost use Rattle.std.specs.Option.{ForSome};
 ghost use Rattle.typed_ids.specs.declared.error.StoreError.TheVariants.{OutOfMemory};
 ghost use Rattle.typed_ids.specs.TotalMaps.{IsUpdate};
 ghost use Rattle.decisions.specs.LiteralIndex.{literal_index};
 ghost use Rattle.id_storage.specs.Mapping.{value_at};
 ghost use Rattle.watch_map.specs.Watching.{AreTwo, IsListCount};
-ghost use Rattle.watch_map.specs.WatchLists.{Watches, watchers, HasRoom, AreWatched, members_in, with_front, with_taken};
+ghost use Rattle.watch_map.specs.WatchLists.{Watches, watchers, record_of, next_at, HasRoom, AreWatched, CanBeLinked, IsRelinked};
 ghost use Rattle.watch_map.specs.WatchCalls.{SameLists, Starts, KeepsRoom, UsesRoom, HaveRoom, StandsBehind, remaining};
 
 use crate::cursor::WatchMapCursor;
-use clauses::WatchedLiterals;
+use crate::nodes::{Place, next_of, set_next};
+use crate::watched_literals::WatchedLiterals;
 use decisions::Literal;
 use id_storage::Mapping;
 use std::alloc::Allocator;
-use std::collections::VecDeque;
 use std::marker::Model;
 use typed_ids::{ClauseId, StoreError};
 
@@ -23,22 +24,20 @@ use typed_ids::{ClauseId, StoreError};
 /// indexes; a clause without watches has none. Map and slice belong together: a contract says so by `AreWatched`, and each
 /// call keeps it.
 ///
-/// Each list is a ring of clause ids, so that a clause comes to its front in constant time. A literal takes memory from
-/// its first clause or room on, and none is given back.
+/// The map has the first clause of each list, and each clause's record the next one. So a list takes no memory but a slot,
+/// from its literal's first clause or room on, and none is given back.
 #[derive(Drop)]
 pub struct WatchMap<A: Allocator + Copy> {
-    lists: Mapping<Literal, VecDeque<ClauseId, A>, A>,
-    alloc: A,
+    firsts: Mapping<Literal, ClauseId, A>,
 }
 
-/// The ring of each literal that has one, by the literals' indexes.
+/// The first clause of each literal that has one, by the literals' indexes.
 impl<A: Allocator + Copy> Model for WatchMap<A> {
-    ghost use Rattle.std.specs.Prelude.{map, option_map};
-    ghost use Rattle.watch_map.specs.WatchLists.{WatchLists, ring_of};
+    ghost use Rattle.watch_map.specs.WatchLists.{WatchLists};
 
     ghost Value = { WatchLists };
 
-    ghost view = { λ m. map (option_map ring_of) m.lists };
+    ghost view = { λ m. m.firsts };
 }
 
 impl<A: Allocator + Copy> WatchMap<A> {
@@ -49,23 +48,15 @@ impl<A: Allocator + Copy> WatchMap<A> {
         ensures memory { IfErr result (λ e. e ≡ OutOfMemory) }
     {
         Ok(WatchMap {
-            lists: Mapping::new(alloc)?,
-            alloc,
+            firsts: Mapping::new(alloc)?,
         })
     }
 
-    /// How many literals are watched. Looks at each literal up to the last that ever had room: for reports, not for a
-    /// search.
+    /// How many literals are watched. Constant time.
     pub fn len(&self) -> usize
         ensures { (watches : Watches) → AreWatched self.now watches → IsListCount (watchers self.now watches) result }
     {
-        let mut count = self.lists.len();
-        for (_, list) in self.lists.iter() {
-            if list.is_empty() {
-                count -= 1;
-            }
-        }
-        count
+        self.firsts.len()
     }
 
     /// Makes room for one more clause in a literal's list, so that its next addition takes no memory. Room that is there
@@ -77,22 +68,12 @@ impl<A: Allocator + Copy> WatchMap<A> {
         ensures succeeds { HasRoom self.old literal 1 → IsOk result }
         ensures memory { IfErr result (λ e. e ≡ OutOfMemory) }
     {
-        let alloc = self.alloc;
-        let list = self.lists.get_or_insert_with(
-            literal,
-            || -> VecDeque<ClauseId, A>
-                ensures { result.items ≡ [] }
-            { VecDeque::new(alloc) },
-        )?;
-        match list.reserve(1) {
-            Ok(()) => Ok(()),
-            Err(_) => Err(StoreError::OutOfMemory),
-        }
+        // a slot serves any number
+        self.firsts.make_room(literal)
     }
 
     /// Puts a clause at the front of the lists of the two literals that its record names. It stands in no list before,
-    /// and its record belongs at its id from then on. The record is `&mut` for lists that are threaded through the
-    /// records: here it stays as it is. Constant time.
+    /// and its record, in which it writes what comes next, belongs at its id from then on. Constant time.
     pub fn start_watching(
         &mut self,
         clause: &mut WatchedLiterals,
@@ -110,8 +91,12 @@ impl<A: Allocator + Copy> WatchMap<A> {
         let [first, second] = clause.watched_literals;
         self.make_room(first)?;
         self.make_room(second)?;
-        self.put_first(first, clause_id);
-        self.put_first(second, clause_id);
+        let next_of_first = self.put_first(first, clause_id);
+        let next_of_second = self.put_first(second, clause_id);
+        *clause = WatchedLiterals {
+            watched_literals: [first, second],
+            next_watches: [next_of_first, next_of_second],
+        };
         Ok(())
     }
 
@@ -125,38 +110,59 @@ impl<A: Allocator + Copy> WatchMap<A> {
         ensures list { remaining result self.now watches.now ≡ watchers self.now watches.now literal }
         ensures stands { IfSome result (StandsBehind [] literal self.now watches.now) }
     {
-        WatchMapCursor::at_place(self, watches, literal, 0)
+        WatchMapCursor::at_clause(watches, literal, None, self.first(literal))
     }
 
-    /// The clause at this place of a literal's list.
-    pub(crate) fn clause_at(&self, literal: Literal, place: usize) -> Option<ClauseId>
-        ensures { result ≡ slice_get (members_in (value_at self.now (literal_index literal))) place }
+    /// The first of a literal's clauses.
+    fn first(&self, literal: Literal) -> Option<ClauseId>
+        ensures { result ≡ value_at self.now (literal_index literal) }
     {
-        match self.lists.get(literal) {
-            Some(list) => list.get(place).copied(),
-            None => None,
-        }
+        self.firsts.get(literal).copied()
     }
 
-    /// Puts a clause at the front of a literal's list, where there is room.
-    pub(crate) fn put_first(&mut self, literal: Literal, clause_id: ClauseId)
+    /// Makes a clause the first of a literal's, where there is room. Answers the one that was the first.
+    pub(crate) fn put_first(&mut self, literal: Literal, clause_id: ClauseId) -> Option<ClauseId>
         requires { HasRoom self.old literal 1 }
-        ensures { IsUpdate (value_at self.old) (literal_index literal)
-            (with_front clause_id (value_at self.old (literal_index literal))) (value_at self.new) }
+        ensures earlier { result ≡ value_at self.old (literal_index literal) }
+        ensures first { IsUpdate (value_at self.old) (literal_index literal) (Some clause_id) (value_at self.new) }
+        ensures slots { length self.new ≡ length self.old }
     {
-        if let Some(list) = self.lists.get_mut(literal) {
-            list.push_front_reserved(clause_id);
+        match self.firsts.insert(literal, clause_id) {
+            Ok(earlier) => earlier,
+            Err(_) => unreachable!(),
         }
     }
 
-    /// Takes the clause at this place out of a literal's list. The shorter side of the ring moves up.
-    pub(crate) fn take_out(&mut self, literal: Literal, place: usize)
-        requires { place < length (members_in (value_at self.old (literal_index literal))) }
-        ensures { IsUpdate (value_at self.old) (literal_index literal)
-            (with_taken place (value_at self.old (literal_index literal))) (value_at self.new) }
+    /// Makes `next` the first of a literal's clauses, which has some.
+    fn set_first(&mut self, literal: Literal, next: Option<ClauseId>)
+        requires { HasRoom self.old literal 1 }
+        ensures first { IsUpdate (value_at self.old) (literal_index literal) next (value_at self.new) }
+        ensures slots { length self.new ≡ length self.old }
     {
-        if let Some(list) = self.lists.get_mut(literal) {
-            list.remove(place);
+        match next {
+            Some(clause_id) => {
+                self.put_first(literal, clause_id);
+            }
+            None => {
+                self.firsts.unset(literal);
+            }
+        }
+    }
+
+    /// Takes the clause at this place out of the list: the next one follows the node in front, or comes first where there
+    /// is no such node.
+    pub(crate) fn unlink(&mut self, watches: &mut [Option<WatchedLiterals>], place: &Place)
+        requires room { HasRoom self.old place.now.literal 1 }
+        requires node { CanBeLinked place.now.current (record_of watches.old place.now.current.clause_id) }
+        requires previous { ForSome place.now.previous (λ node. CanBeLinked node (record_of watches.old node.clause_id)) }
+        ensures { IsRelinked place.now.previous place.now.literal
+            (next_at (record_of watches.old place.now.current.clause_id) place.now.current.watch_index)
+            self.old watches.old self.new watches.new }
+    {
+        let next = next_of(watches, &place.current);
+        match &place.previous {
+            Some(node) => set_next(watches, node, next),
+            None => self.set_first(place.literal, next),
         }
     }
 }

@@ -1,9 +1,9 @@
 -- A clause more.
 use Rattle.std.proofs.Common.{◌≡◌, ℕ, Bool, true, false, cond, [], ◌∷◌, ◌++◌, Some, None, length, sym, subst}
-use Rattle.clauses.specs.declared.watched_literals.WatchedLiterals.{WatchedLiterals}
+use Rattle.watch_map.specs.declared.watched_literals.WatchedLiterals.{WatchedLiterals}
 use Rattle.watch_map.specs.WatchLists.{WatchLists, Watches, AreWatched}
 use Rattle.watch_map.specs.WatchCalls.{Starts}
-use Rattle.watch_map.proofs.CallerLaws.{same_records_belong, records_grow, records_skip}
+use Rattle.watch_map.proofs.CallerLaws.{same_records_belong, new_clauses_join, records_skip}
 
 module _ (map : WatchLists) (old new : Watches) (watched : AreWatched map old) where
   -- one that watches nothing was added, or refused
@@ -17,6 +17,4 @@ module _ (map : WatchLists) (old new : Watches) (watched : AreWatched map old) w
   -- one with watches was added
   pub pushed_new : (map' : WatchLists) (w : WatchedLiterals) (id : ℕ) → Starts map w id map' → id ≡ length old → new ≡ old ++ Some w ∷ [] → AreWatched map' new
   pushed_new map' w id starts e pushed =
-      let grow = records_grow old w in
-      let at_end = subst (λ i. Starts map w i map') e starts in
-      subst (AreWatched map') (sym pushed) (at_end old (old ++ Some w ∷ []) watched grow.0 grow.1).0
+      subst (AreWatched map') (sym pushed) (new_clauses_join map map' old w id watched starts e).0

@@ -103,6 +103,69 @@ fn moved_in<A: Allocator + Copy>(clauses: &mut WatchedClauses<A>) -> Result<Move
     })
 }
 
+// A walk updates the first and the last clause of its list, and passes the one between them. Each goes to the front of the
+// other list, so that the one that is met last stands first.
+#[test]
+fn walks_move_some_and_keep_others(rt: HostRuntime) -> Result<(), Fail> {
+    let before = lists_seen(
+        3,
+        [
+            row(3, 0, [1, 3]),
+            row(2, 0, [1, 3]),
+            row(1, 0, [1, 3]),
+            None,
+        ],
+        [row(0, 0, [2, 3]), None, None, None],
+        [
+            row(3, 1, [1, 3]),
+            row(2, 1, [1, 3]),
+            row(1, 1, [1, 3]),
+            row(0, 1, [2, 3]),
+        ],
+    );
+    sees(walked_by_new(rt.alloc()), [before, walked()])
+}
+
+/// What is seen when the walk has moved the watches of the clauses 3 and 1, in this order, to the other list.
+fn walked() -> Seen {
+    lists_seen(
+        3,
+        [row(2, 0, [1, 3]), None, None, None],
+        [
+            row(1, 0, [2, 3]),
+            row(3, 0, [2, 3]),
+            row(0, 0, [2, 3]),
+            None,
+        ],
+        [
+            row(3, 1, [2, 3]),
+            row(2, 1, [1, 3]),
+            row(1, 1, [2, 3]),
+            row(0, 1, [2, 3]),
+        ],
+    )
+}
+
+fn walked_by_new<A: Allocator + Copy>(heap: A) -> Result<[Seen; 2], StoreError> {
+    let mut clauses = WatchedClauses::new(heap)?;
+    let walked = walked_in(&mut clauses);
+    drop(clauses);
+    walked
+}
+
+/// What is seen before and after the walk.
+fn walked_in<A: Allocator + Copy>(
+    clauses: &mut WatchedClauses<A>,
+) -> Result<[Seen; 2], StoreError> {
+    clauses.add(2, 3)?;
+    clauses.add(1, 3)?;
+    clauses.add(1, 3)?;
+    clauses.add(1, 3)?;
+    let before = look_at(clauses);
+    clauses.rewatch_others(1, 2, clause_id(2))?;
+    Ok([before, look_at(clauses)])
+}
+
 /// What the moves answer that can't be made, and what is seen before and after them.
 #[derive(Clone, Copy, Debug, PartialEq, Eq)]
 struct Kept {

@@ -1,5 +1,5 @@
 //! Memory refused at each request in turn. A refused call leaves each list as it was, and made again it succeeds.
-use crate::seen::{Seen, clause_id, look_at};
+use crate::seen::{Seen, VARIABLES, clause_id, look_at_lists};
 use crate::watched_clauses::WatchedClauses;
 use refusing::Refusing;
 use std::alloc::{Allocator, Global};
@@ -21,13 +21,25 @@ struct Refusal {
     last: Seen,
 }
 
-// A request that is refused is the room for a clause's record, that in one of its lists, or that in a list to which its
-// watch is moved.
+/// The variables that the clauses watch or for which room is made. Their indexes lie so far apart that the slots of one
+/// have no room for the next.
+const VARIABLES_FAR_APART: [u16; VARIABLES] = [NEAR, FAR, FARTHER, FARTHEST, 0];
+
+const NEAR: u16 = 1;
+
+const FAR: u16 = 100;
+
+const FARTHER: u16 = 1_000;
+
+const FARTHEST: u16 = 10_000;
+
+// Four requests come at least: for the record of the first clause, for the slots of its second literal, for those of a
+// literal to which a watch is moved, and for those of a literal for which room is made.
 #[test]
 fn refused_calls_leave_the_lists_as_they_were(rt: HostRuntime) -> Result<(), Fail> {
     for number in 1..100u64 {
         if !is_as_wanted(rt.alloc(), number)? {
-            return is_same(number > 5, true);
+            return is_same(number > 4, true);
         }
     }
     Err(Fail::new("each time a request was refused"))
@@ -60,7 +72,7 @@ fn wanted_at<A: Allocator + Copy>(
 ) -> Result<Refusal, StoreError> {
     let mut clauses = WatchedClauses::new(heap)?;
     let (_, _) = filled(&mut clauses);
-    let last = look_at(&clauses);
+    let last = seen_of(&clauses);
     drop(clauses);
     Ok(Refusal {
         number,
@@ -77,7 +89,7 @@ fn seen_at(heap: &Refusing<Global>, number: u64) -> Result<Refusal, StoreError> 
     heap.arm(number);
     let (refused, agrees) = filled(&mut clauses);
     let is_met = !heap.is_armed();
-    let last = look_at(&clauses);
+    let last = seen_of(&clauses);
     drop(clauses);
     Ok(Refusal {
         number,
@@ -91,11 +103,12 @@ fn seen_at(heap: &Refusing<Global>, number: u64) -> Result<Refusal, StoreError> 
 /// The calls that take memory.
 #[derive(Clone, Copy)]
 enum Call {
-    /// A clause that watches variables 1 and 2.
+    /// A clause that watches the near and the far variable.
     Add,
     AddUnwatched,
-    MakeRoom(u16),
-    /// The clause of this index is to watch variable 3 in the place of 1.
+    /// Room in the list of the farthest variable.
+    MakeRoom,
+    /// The clause of this index is to watch the farther variable in the place of the near one.
     Rewatch(u16),
 }
 
@@ -109,16 +122,16 @@ fn filled<A: Allocator + Copy>(clauses: &mut WatchedClauses<A>) -> (usize, bool)
         Call::AddUnwatched,
         Call::Add,
         Call::Rewatch(2),
-        Call::MakeRoom(4),
+        Call::MakeRoom,
         Call::Rewatch(0),
         Call::Add,
     ] {
-        let before = look_at(clauses);
+        let before = seen_of(clauses);
         if let Err(error) = made(clauses, call) {
             refused = refused.saturating_add(1);
             agrees = agrees
                 && error == StoreError::OutOfMemory
-                && look_at(clauses) == before
+                && seen_of(clauses) == before
                 && made(clauses, call).is_ok();
         }
     }
@@ -131,17 +144,21 @@ fn made<A: Allocator + Copy>(
 ) -> Result<(), StoreError> {
     match call {
         Call::Add => {
-            clauses.add(1, 2)?;
+            clauses.add(NEAR, FAR)?;
         }
         Call::AddUnwatched => {
             clauses.add_unwatched()?;
         }
-        Call::MakeRoom(variable) => clauses.make_room(variable)?,
+        Call::MakeRoom => clauses.make_room(FARTHEST)?,
         Call::Rewatch(clause) => {
-            clauses.rewatch(clause_id(clause), 1, 3)?;
+            clauses.rewatch(clause_id(clause), NEAR, FARTHER)?;
         }
     }
     Ok(())
+}
+
+fn seen_of<A: Allocator + Copy>(clauses: &WatchedClauses<A>) -> Seen {
+    look_at_lists(clauses, VARIABLES_FAR_APART)
 }
 
 /// With room made before, a clause starts and moves its watches where no memory is left.
@@ -165,9 +182,9 @@ fn moves_once(
     heap: &Refusing<Global>,
     clauses: &mut WatchedClauses<&Refusing<Global>>,
 ) -> Result<bool, StoreError> {
-    let clause = clauses.add(1, 2)?;
-    clauses.make_room(3)?;
+    let clause = clauses.add(NEAR, FAR)?;
+    clauses.make_room(FARTHER)?;
     heap.arm(1);
-    let moved = clauses.rewatch(clause, 1, 3)?;
+    let moved = clauses.rewatch(clause, NEAR, FARTHER)?;
     Ok(moved && heap.is_armed())
 }

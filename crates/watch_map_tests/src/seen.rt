@@ -3,25 +3,35 @@ use crate::watched_clauses::{LISTED, Row, WatchedClauses, positive};
 use std::alloc::Allocator;
 use typed_ids::{ClauseId, DenseIndex};
 
-/// How many variables the tests have clauses watch: those with the first indexes.
+/// Of how many variables the lists are seen.
 pub(crate) const VARIABLES: usize = 5;
 
-/// How many variables are watched, and the first positions of each one's list.
+/// How many variables are watched, and the first positions of the lists of some.
 #[derive(Clone, Copy, Debug, PartialEq, Eq)]
 pub(crate) struct Seen {
     pub(crate) len: usize,
     pub(crate) lists: [[Option<Row>; LISTED]; VARIABLES],
 }
 
+/// What is seen of the variables with the first indexes.
 pub(crate) fn look_at<A: Allocator + Copy>(clauses: &WatchedClauses<A>) -> Seen {
+    look_at_lists(clauses, [0, 1, 2, 3, 4])
+}
+
+/// What is seen of these variables.
+pub(crate) fn look_at_lists<A: Allocator + Copy>(
+    clauses: &WatchedClauses<A>,
+    variables: [u16; VARIABLES],
+) -> Seen {
+    let [first, second, third, fourth, fifth] = variables;
     Seen {
         len: clauses.len(),
         lists: [
-            clauses.list(0),
-            clauses.list(1),
-            clauses.list(2),
-            clauses.list(3),
-            clauses.list(4),
+            clauses.list(first),
+            clauses.list(second),
+            clauses.list(third),
+            clauses.list(fourth),
+            clauses.list(fifth),
         ],
     }
 }

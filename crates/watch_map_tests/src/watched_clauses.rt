@@ -4,12 +4,11 @@ ghost use Rattle.decisions.specs.Literals.{Pos};
 ghost use Rattle.watch_map.specs.WatchLists.{AreWatched};
 ghost use Rattle.watch_map.specs.WatchCalls.{StandsIn};
 
-use clauses::WatchedLiterals;
 use decisions::Literal;
 use std::alloc::Allocator;
 use std::marker::Model;
 use typed_ids::{ClauseId, DenseIndex, StoreError, VariableId};
-use watch_map::{WatchMap, WatchMapCursor};
+use watch_map::{WatchMap, WatchMapCursor, WatchedLiterals};
 
 /// Clauses of which each watches nothing, or the positive literals of two variables. They count up from 0.
 #[derive(Drop)]
@@ -20,12 +19,11 @@ pub(crate) struct WatchedClauses<A: Allocator + Copy> {
 
 /// The lists and the records, which belong to them.
 impl<A: Allocator + Copy> Model for WatchedClauses<A> {
-    ghost use Rattle.watch_map.specs.WatchLists.{AreWatched};
-    ghost use Rattle.watch_map_tests.specs.Kept.{KeptClauses};
+    ghost use Rattle.watch_map.specs.WatchLists.{WatchLists, Watches, AreWatched};
 
-    ghost Value = { KeptClauses };
+    ghost Value = { WatchLists × Watches };
 
-    ghost view = { λ c. record { map = c.map; watches = c.watches.items } };
+    ghost view = { λ c. (c.map, c.watches.items) };
 
     ghost invariant = { λ c. AreWatched c.map c.watches.items };
 }
@@ -63,9 +61,7 @@ impl<A: Allocator + Copy> WatchedClauses<A> {
             Err(_) => return Err(StoreError::OutOfMemory),
         }
         let clause_id = ClauseId::from_index(index);
-        let mut watched = WatchedLiterals {
-            watched_literals: [positive(first), positive(second)],
-        };
+        let mut watched = WatchedLiterals::new(positive(first), positive(second));
         self.map.start_watching(&mut watched, clause_id)?;
         self.watches.push_reserved(Some(watched));
         Ok(clause_id)
@@ -112,6 +108,24 @@ impl<A: Allocator + Copy> WatchedClauses<A> {
         }
     }
 
+    /// Walks a variable's list, and lets each clause that it meets, but the one that stays, watch another variable in its
+    /// place. A clause that watches the other one already stays too.
+    pub(crate) fn rewatch_others(
+        &mut self,
+        from: u16,
+        to: u16,
+        staying: ClauseId,
+    ) -> Result<(), StoreError> {
+        let (from, to) = (positive(from), positive(to));
+        move_others(
+            &mut self.map,
+            self.watches.as_mut_slice(),
+            from,
+            to,
+            staying,
+        )
+    }
+
     /// The first positions of a variable's list.
     pub(crate) fn list(&self, variable: u16) -> [Option<Row>; LISTED] {
         let mut rows = [None; LISTED];
@@ -156,6 +170,35 @@ fn find<A: Allocator + Copy>(
         cursor = at.next(map, watches);
     }
     None
+}
+
+/// Walks a literal's list, and lets each clause watch another literal in its place, but the clause that stays and those
+/// that watch the other literal already.
+fn move_others<A: Allocator + Copy>(
+    map: &mut WatchMap<A>,
+    watches: &mut [Option<WatchedLiterals>],
+    from: Literal,
+    to: Literal,
+    staying: ClauseId,
+) -> Result<(), StoreError>
+    requires { AreWatched map.old watches.old }
+    ensures { AreWatched map.new watches.new }
+{
+    let mut cursor = map.cursor(watches, from);
+    while let Some(at) = cursor {
+        let [first, second] = at.watched_literals(watches).watched_literals;
+        cursor = if at.clause_id() == staying {
+            at.next(map, watches)
+        } else if first == to || second == to {
+            at.next(map, watches)
+        } else {
+            match at.update(map, watches, to) {
+                Ok(next) => next,
+                Err(refused) => return Err(refused.error),
+            }
+        };
+    }
+    Ok(())
 }
 
 /// The positive literal of a variable.

@@ -1,11 +1,11 @@
 //! What clauses watch at first, and whether they are conflicts, as variables get values.
 use crate::shelf::{lists_of_two, minus, plus, single, variable};
-use clauses::WatchedLiterals;
 use decisions::{Decision, DecisionTracker, Literal};
 use std::alloc::Allocator;
 use std::test::Fail;
 use test_checks::is_same;
 use typed_ids::{ClauseId, DenseIndex, StoreError, VariableId, VersionSetId};
+use watch_map::WatchedLiterals;
 
 /// What a new clause watches, and whether it is a conflict.
 type New = (Option<[Literal; 2]>, bool);
@@ -18,8 +18,11 @@ fn twice(second: Literal, conflict: bool) -> [New; 2] {
     [watching(second, conflict), watching(second, conflict)]
 }
 
-fn watched(watches: Option<WatchedLiterals>) -> Option<[Literal; 2]> {
-    watches.map(|watches| watches.watched_literals)
+fn watched(watches: &Option<WatchedLiterals>) -> Option<[Literal; 2]> {
+    match watches {
+        Some(watches) => Some(watches.watched_literals),
+        None => None,
+    }
 }
 
 fn decide<A: Allocator + Copy>(tracker: &mut DecisionTracker<A>, index: u16, value: bool) -> bool {
@@ -77,8 +80,8 @@ fn both<A: Allocator + Copy>(
         tracker,
     );
     [
-        (watched(watches), conflict),
-        (watched(listed), conflict_listed),
+        (watched(&watches), conflict),
+        (watched(&listed), conflict_listed),
     ]
 }
 
@@ -111,5 +114,5 @@ fn constrains<A: Allocator + Copy>(tracker: &DecisionTracker<A>) -> New {
         VersionSetId(0),
         tracker,
     );
-    (watched(watches), conflict)
+    (watched(&watches), conflict)
 }

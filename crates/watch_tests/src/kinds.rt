@@ -2,12 +2,13 @@
 ghost use Rattle.std.specs.Prelude.{◌<◌};
 
 use crate::shelf::{Shelf, minus, plus, single, variable};
-use clauses::{Clause, WatchedLiterals};
+use clauses::Clause;
 use decisions::{DecisionMap, Literal};
 use std::alloc::Allocator;
 use std::test::Fail;
 use test_checks::is_same;
 use typed_ids::{DenseIndex, DisjunctionId, LearntClauseId, StoreError, StringId, VersionSetId};
+use watch_map::WatchedLiterals;
 
 fn learnt(index: u16) -> Clause<u32> {
     Clause::Learnt(LearntClauseId::from_index(index as usize))
@@ -121,9 +122,7 @@ fn a_watch_is_replaced(rt: HostRuntime) -> Result<(), Fail> {
 fn replaced<A: Allocator + Copy>(alloc: A) -> Result<[Option<Literal>; 6], StoreError> {
     let shelf = Shelf::new(alloc)?;
     let mut map = DecisionMap::new(alloc);
-    let watches = WatchedLiterals {
-        watched_literals: [plus(1), minus(2)],
-    };
+    let watches = WatchedLiterals::new(plus(1), minus(2));
     map.set(variable(2), true, 1)?;
     let second = next(&shelf, &watches, &learnt(0), &map, 1);
     map.reset(variable(2));

@@ -12,11 +12,12 @@ use crate::abstract_store::AbstractStore;
 use crate::reply::Reply;
 use crate::store::ClauseStore;
 use clause_list::ClauseList;
-use clauses::{Clause, WatchedLiterals};
+use clauses::Clause;
 use decisions::Literal;
 use providers::{DependencyProvider, Interner};
 use std::alloc::Allocator;
 use typed_ids::{DenseIndex, StoreError, StringId, VariableId, VersionSetId};
+use watch_map::WatchedLiterals;
 
 impl<D: DependencyProvider + Drop> ClauseStore<D> {
     ghost use Rattle.resolvo_store.specs.Command.{Root, Constrains, ConstrainsExcluded, ConstrainsParent, Lock, Exclude, AnyOf, Learnt};

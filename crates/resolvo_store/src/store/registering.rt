@@ -12,11 +12,12 @@ use crate::abstract_store::AbstractStore;
 use crate::reply::Reply;
 use crate::store::ClauseStore;
 use clause_list::ClauseList;
-use clauses::{Clause, WatchedLiterals};
+use clauses::Clause;
 use providers::{DependencyProvider, Interner, Requirement};
 use resolvo_queue::DecideQueue;
 use std::alloc::Allocator;
 use typed_ids::{ClauseId, DenseIndex, DisjunctionId, StoreError, VariableId};
+use watch_map::WatchedLiterals;
 
 impl<D: DependencyProvider + Drop> ClauseStore<D> {
     ghost use Rattle.providers.specs.Provider.{knows_requirement};

@@ -1,34 +1,23 @@
-use Rattle.std.proofs.Common.{◌≡◌, arith, rules, true, false}
+use Rattle.std.proofs.Common.{◌<◌, ◌≤◌, length, arith, sym, subst, ap, ◌∙◌}
+use Rattle.id_storage.specs.Mapping.{value_at, slots_for}
 use Rattle.decisions.specs.LiteralIndex.{literal_index}
-use Rattle.watch_map.proofs.RingLaws.{room_made_lists, room_made_rooms, room_of_lent, room_within, room_made_there}
+use Rattle.watch_map.proofs.StartLaws.{same_lists, room_by_length, no_fewer_slots, room_in_slots}
+use Rattle.watch_map.proofs.LinkLaws.{slot_within}
 use Rattle.watch_map.proofs.lists.WatchMap.make_room.Goals as goal
-use Rattle.watch_map.proofs.lists.WatchMap.make_room.Goals.{in-Ok, in-Err}
 
 pub returns-clause-lists : goal.returns-clause-lists
-returns-clause-lists g c =
-    room_made_lists c.self.inside.lists c.args.self.now c.self.view_is (literal_index c.args.literal) c.in_ok-list.list.now c.reserve.new.self
-    c.in_ok-list.ensures.value c.reserve.ensures.items c.reserve.ensures.capacity
+returns-clause-lists g c = same_lists c.args.self.now c.make_room.new.self (λ key. c.make_room.ensures.same key ∙ ap (λ m. value_at m key) c.self.view_is)
 
 pub returns-clause-rooms : goal.returns-clause-rooms
-returns-clause-rooms g c =
-    room_made_rooms c.self.inside.lists c.args.self.now c.self.view_is (literal_index c.args.literal) c.in_ok-list.list.now c.reserve.new.self
-    c.in_ok-list.ensures.value c.reserve.ensures.items c.reserve.ensures.capacity
+returns-clause-rooms g c l n =
+    let more = no_fewer_slots c.make_room.result c.self.inside.firsts c.make_room.new.self (slots_for (literal_index c.args.literal)) c.make_room.ensures.slots c.make_room.ensures.err in
+    room_by_length c.args.self.now c.make_room.new.self l n n (subst (λ m. length m ≤ length c.make_room.new.self) c.self.view_is more)
 
 pub returns-clause-room : goal.returns-clause-room
-returns-clause-room g c = elim c.match-reserve.branch [
-  | in-Ok w ↦ rw w.result-is (room_made_there c.self.inside.lists c.args.self.now c.self.view_is c.args.literal 1 c.reserve.new.self w.in-Ok.ensures.ok)
-  | in-Err w ↦ rw w.result-is (search rules)
-]
+returns-clause-room g c =
+    room_in_slots c.make_room.result c.self.inside.firsts c.make_room.new.self (slots_for (literal_index c.args.literal)) c.make_room.ensures.slots
+    c.args.literal 1 (omega arith)
 
 pub returns-clause-succeeds : goal.returns-clause-succeeds
 returns-clause-succeeds g c room =
-    let few = room_of_lent c.self.inside.lists c.args.self.now c.self.view_is c.args.literal 1 c.in_ok-list.list.now c.in_ok-list.ensures.value room in
-    elim c.match-reserve.branch [
-      | in-Ok w ↦ rw w.result-is (search rules)
-      | in-Err w ↦ absurd (let full = w.in-Err.ensures.full in omega (arith, few, full))
-    ]
-
-pub returns-in_err-list-clause-succeeds : goal.returns-in_err-list-clause-succeeds
-returns-in_err-list-clause-succeeds g c room =
-    let within = room_within c.self.inside.lists c.args.self.now c.self.view_is c.args.literal 1 room in
-    absurd (let z : false ≡ true = c.in_err-list.ensures.room within in cc)
+    (c.make_room.ensures.room (subst (λ m. literal_index c.args.literal < length m) (sym c.self.view_is) (slot_within c.args.self.now c.args.literal 1 room))).0

@@ -1,4 +1,4 @@
-use Rattle.watch_map.proofs.RingLaws.{empty_lists, empty_watched}
+use Rattle.watch_map.proofs.StartLaws.{empty_lists, empty_watched}
 use Rattle.watch_map.proofs.lists.WatchMap.new.Goals as goal
 
 pub returns-clause-watched : goal.returns-clause-watched

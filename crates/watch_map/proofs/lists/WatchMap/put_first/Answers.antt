@@ -1,17 +1,14 @@
-use Rattle.std.proofs.Common.{arith, sym}
-use Rattle.watch_map.proofs.RingLaws.{front_written, room_lent, no_room_without}
+use Rattle.std.proofs.Common.{◌≡◌, ◌<◌, ◌∙◌, false, true, length, ap, subst, sym}
+use Rattle.decisions.specs.LiteralIndex.{literal_index}
+use Rattle.watch_map.proofs.LinkLaws.{slot_within}
 use Rattle.watch_map.proofs.lists.WatchMap.put_first.Goals as goal
-use Rattle.watch_map.proofs.lists.WatchMap.put_first.Goals.{in-Some, in_default}
 
-pub push_front_reserved-requires : goal.push_front_reserved-requires
-push_front_reserved-requires g c =
-    let room = room_lent c.self.inside.lists c.args.self.now c.self.view_is c.args.literal 1 c.in-Some.list.now (sym c.in-Some.ensures.value) c.requires in
-    omega (arith, room)
+pub unreachable-requires : goal.unreachable-requires
+unreachable-requires g c =
+    let within : literal_index c.args.literal < length c.self.inside.firsts = subst (λ m. literal_index c.args.literal < length m) (sym c.self.view_is) (slot_within c.args.self.now c.args.literal 1 c.requires) in
+    let z : false ≡ true = (c.in-Err.ensures.room within).0 in cc
 
-pub returns : goal.returns
-returns g c = elim c.match-get_mut.branch [
-  | in-Some w ↦
-      rw w.self-inside-is (front_written c.self.inside.lists c.args.self.now c.self.view_is c.args.literal w.in-Some.list.now w.push_front_reserved.new.self
-      (sym w.in-Some.ensures.value) c.args.clause_id w.push_front_reserved.ensures.items w.push_front_reserved.ensures.capacity)
-  | in_default w ↦ absurd (no_room_without c.self.inside.lists c.args.self.now c.self.view_is c.args.literal 1 (sym w.in_default.ensures.value) c.requires)
-]
+pub returns-clause-slots : goal.returns-clause-slots
+returns-clause-slots g c =
+    let within : literal_index c.args.literal < length c.self.inside.firsts = subst (λ m. literal_index c.args.literal < length m) (sym c.self.view_is) (slot_within c.args.self.now c.args.literal 1 c.requires) in
+    (c.in-Ok.ensures.room within).1 ∙ ap length c.self.view_is

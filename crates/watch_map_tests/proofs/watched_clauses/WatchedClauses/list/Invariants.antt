@@ -3,4 +3,4 @@ use Rattle.watch_map.specs.WatchCalls.{StandsIn}
 use Rattle.watch_map_tests.proofs.watched_clauses.WatchedClauses.list.Given as goal
 
 abbrev pub invariant-loop-index : goal.invariant-loop-index
-invariant-loop-index g l = record { stands : IfSome l.cursor (λ at. StandsIn at l.self.map l.self.watches) }
+invariant-loop-index g l = record { stands : IfSome l.cursor (λ at. StandsIn at l.self.0 l.self.1) }
