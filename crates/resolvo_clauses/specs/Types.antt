@@ -8,6 +8,7 @@ pub use Rattle.variables.specs.declared.variable_map.VariableMap
 pub use Rattle.variables.specs.declared.variable_origin.VariableOrigin
 pub use Rattle.clauses.specs.declared.clause.Clause
 pub use Rattle.clauses.specs.declared.disjunction.Disjunction
+pub use Rattle.at_most_once.specs.declared.tracker.AtMostOnceTracker
 pub use Rattle.watch_map.specs.declared.watched_literals.WatchedLiterals
 pub use Rattle.watch_map.specs.declared.lists.WatchMap
 pub use Rattle.watch_map.specs.declared.cursor.WatchMapCursor

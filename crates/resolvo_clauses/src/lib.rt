@@ -1,4 +1,4 @@
-//! Variables, literals, clauses, their watch lists and the trail of decisions: the door to five rooms.
+//! Variables, literals, clauses, their watch lists and the trail of decisions: the door to six rooms.
 //!
 //! | room | what it holds |
 //! |---|---|
@@ -6,12 +6,14 @@
 //! | `variables` | what each variable stands for, and the variables of solvables |
 //! | `variable_info` | the literals of a variable, what it stands for, and its text |
 //! | `clauses` | the kinds of clauses, and their literals |
+//! | `at_most_once` | clauses by which at most one of several variables is true |
 //! | `watch_map` | the two literals that a clause watches, for each literal the clauses that watch it, and a walk over them |
 //!
 //! A clause names a definition of a room as `Rattle.resolvo_clauses.specs.TOPIC`, and a type with its variants as
 //! `Rattle.resolvo_clauses.specs.Types.NAME`.
 #![tactic(auto)]
 
+pub use at_most_once::AtMostOnceTracker;
 pub use clauses::{Clause, Disjunction};
 pub use decisions::{AddFault, Decision, DecisionMap, DecisionTracker, Literal};
 pub use variable_info::VariableInfo;

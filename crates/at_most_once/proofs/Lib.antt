@@ -1,0 +1,6 @@
+mod AddLaws
+mod BitLemmas
+pub mod CallerLaws
+mod EncodeLaws
+mod GridLaws
+mod Places

@@ -1,0 +1,119 @@
+-- At most one of a list of variables: clauses that tie each variable to each helper by a bit of the variable's number.
+use Rattle.std.specs.Prelude.{◌≡◌, ◌↔◌, ℕ, ◌-◌, ◌*◌, ◌^◌, ◌≤◌, Bool, true, false, not, ◌&&◌, ◌||◌, nat_eq, nat_lt, List, [], ◌∷◌, ◌++◌, map, length, Option, Some, None, is_some, Contains, IfSome, if◌then◌else◌}
+use Rattle.std.specs.List.{list_any, AllByRecursion, enumerate_from}
+use Rattle.std.specs.Bool.{beq}
+use Rattle.std.specs.Int.{bit_at}
+use Rattle.std.specs.Cmp.{IsEquivalence}
+
+-- ---- a tracker, and the clauses of what is added to it
+
+-- the tracked variables and the helpers, each in the order in which they came
+pub record Tracker (V : Type 0) : Type 0 where
+  pub variables : List V
+  pub helpers : List V
+
+-- a clause of a variable x and a helper h: "not x or h" where the third part is true, "not x or not h" where it is false
+abbrev pub BitClause : Type 0 → Type 0
+BitClause V = V × V × Bool
+
+-- whether bit b of the number i is 1
+abbrev pub has_bit : ℕ → ℕ → Bool
+has_bit i b = nat_eq (bit_at i b) 1
+
+abbrev pub empty : {V : Type 0} → Tracker V
+empty = record { variables = []; helpers = [] }
+
+-- whether a variable is equal to a tracked one
+abbrev pub is_tracked : {V : Type 0} → (V → V → Bool) → Tracker V → V → Bool
+is_tracked same t v = list_any (same v) t.variables
+
+-- one variable more needs one helper more: some are tracked, and they are more than 2 ^ k - 1 for k helpers
+abbrev pub is_full : {V : Type 0} → Tracker V → Bool
+is_full t = nat_lt 0 (length t.variables) && nat_lt (2 ^ length t.helpers - 1) (length t.variables)
+
+-- whether this variable needs one
+abbrev pub needs_helper : {V : Type 0} → (V → V → Bool) → Tracker V → V → Bool
+needs_helper same t v = not (is_tracked same t v) && is_full t
+
+-- the clauses of helper number b with each variable, in order
+abbrev pub helper_clauses : {V : Type 0} → ℕ → V → List V → List (BitClause V)
+helper_clauses {V} b h xs = map (λ (x : ℕ × V). (x.1, h, has_bit x.0 b)) (enumerate_from 0 xs)
+
+-- the clauses of variable number i with each helper, in order
+abbrev pub variable_clauses : {V : Type 0} → ℕ → V → List V → List (BitClause V)
+variable_clauses {V} i v hs = map (λ (h : ℕ × V). (v, h.1, has_bit i h.0)) (enumerate_from 0 hs)
+
+-- the helpers, with one more where one is given
+abbrev pub with_helper : {V : Type 0} → List V → Option V → List V
+with_helper hs None = hs
+with_helper hs (Some h) = hs ++ h ∷ []
+
+-- the clauses of a given helper with each variable that was there before
+abbrev pub given_clauses : {V : Type 0} → Tracker V → Option V → List (BitClause V)
+given_clauses t None = []
+given_clauses t (Some h) = helper_clauses (length t.helpers) h t.variables
+
+-- the clauses of a new variable: those of the helper that is given with it, then its own
+abbrev pub new_clauses : {V : Type 0} → Tracker V → Option V → V → List (BitClause V)
+new_clauses t h v = given_clauses t h ++ variable_clauses (length t.variables) v (with_helper t.helpers h)
+
+-- the tracker with one variable more
+abbrev pub with_new : {V : Type 0} → Tracker V → Option V → V → Tracker V
+with_new t h v = record { variables = t.variables ++ v ∷ []; helpers = with_helper t.helpers h }
+
+-- the clauses of a variable that is added: none of one that is tracked
+abbrev pub clauses_for : {V : Type 0} → (V → V → Bool) → Tracker V → Option V → V → List (BitClause V)
+clauses_for same t h v = if is_tracked same t v then [] else new_clauses t h v
+
+-- the tracker after a variable is added: as before where it was tracked
+abbrev pub with_variable : {V : Type 0} → (V → V → Bool) → Tracker V → Option V → V → Tracker V
+with_variable same t h v = if is_tracked same t v then t else with_new t h v
+
+-- ---- lists of additions
+
+-- a value is equal to no tracked variable and to no helper
+abbrev pub IsFresh : {V : Type 0} → (V → V → Bool) → Tracker V → V → Type 0
+IsFresh same t v = (is_tracked same t v ≡ false) × (list_any (same v) t.helpers ≡ false)
+
+-- what an addition of a new variable asks: it is no helper, and a helper is given exactly where one is needed, and is fresh
+pub record IsAllowed {V : Type 0} (same : V → V → Bool) (t : Tracker V) (h : Option V) (v : V) : Type 0 where
+  pub new : IsFresh same t v
+  pub needed : is_some h ≡ is_full t
+  pub fresh : IfSome h (λ x. IsFresh same t x × (same x v ≡ false))
+
+-- from an empty tracker a list of additions leads to this one, and appends these clauses; those of tracked variables change
+-- nothing, and don't count
+pub data Adds {V : Type 0} (same : V → V → Bool) : Tracker V → List (BitClause V) → Type 0 where
+  none : Adds same empty []
+  more : {t : Tracker V} {cs : List (BitClause V)} (h : Option V) (v : V) → Adds same t cs → IsAllowed same t h v → Adds same (with_new t h v) (cs ++ new_clauses t h v)
+
+-- ---- what the clauses say
+
+-- a clause is met: its variable is false, or its helper is what the bit says
+abbrev pub is_met : {V : Type 0} → (V → Bool) → BitClause V → Bool
+is_met a c = not (a c.0) || beq (a c.1) c.2
+
+abbrev pub AreMet : {V : Type 0} → (V → Bool) → List (BitClause V) → Type 0
+AreMet a cs = AllByRecursion (λ c. is_met a c ≡ true) cs
+
+-- no two different variables of the list are true
+abbrev pub AtMostOne : {V : Type 0} → (V → Bool) → List V → Type 0
+AtMostOne {V} x vs = (v w : V) → Contains vs v → Contains vs w → x v ≡ true → x w ≡ true → v ≡ w
+
+-- some values of all else meet the clauses, where the listed variables have these
+abbrev pub CanBeMet : {V : Type 0} → (V → Bool) → List V → List (BitClause V) → Type 0
+CanBeMet {V} x vs cs = (a : V → Bool) × ((v : V) → Contains vs v → a v ≡ x v) × AreMet a cs
+
+-- the clauses can be met by choosing helpers exactly when at most one tracked variable is true
+abbrev pub HelpersEncode : {V : Type 0} → (V → V → Bool) → Type 0
+HelpersEncode {V} same = IsEquivalence same → (t : Tracker V) (cs : List (BitClause V)) → Adds same t cs → (x : V → Bool) → CanBeMet x t.variables cs ↔ AtMostOne x t.variables
+
+-- k is the least number with n ≤ 2 ^ k
+pub record IsLeastPower (k n : ℕ) : Type 0 where
+  pub enough : n ≤ 2 ^ k
+  pub least : (j : ℕ) → n ≤ 2 ^ j → k ≤ j
+
+-- n variables have k helpers and n * k clauses, k the least number with n ≤ 2 ^ k
+abbrev pub ClausesAreCounted : {V : Type 0} → (V → V → Bool) → Type 0
+ClausesAreCounted {V} same = (t : Tracker V) (cs : List (BitClause V)) → Adds same t cs →
+    (length cs ≡ length t.variables * length t.helpers) × IsLeastPower (length t.helpers) (length t.variables)
