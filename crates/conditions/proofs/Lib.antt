@@ -1,0 +1,2 @@
+pub mod ConditionLaws
+mod ExpansionLaws
