@@ -1,2 +1,3 @@
 pub mod ConditionLaws
+mod DeferredLaws
 mod ExpansionLaws
