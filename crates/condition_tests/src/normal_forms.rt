@@ -1,4 +1,5 @@
 //! Normal forms, in ample memory.
+use crate::met::is_met;
 use conditions::convert_conditions_to_dnf;
 use providers::Interner;
 use script_packages::read_catalogue;
@@ -49,6 +50,38 @@ fn wanted() -> [Form; 4] {
         SIXTH_AND_SEVENTH,
         [Some([A, C, None]), Some([B, C, None]), None, None, None],
     ]
+}
+
+/// Each of the two conditions is met where it should be, as each of the eight ways to choose version sets shows.
+#[test]
+fn normal_forms_keep_the_truth(rt: HostRuntime) -> Result<(), Fail> {
+    match read_catalogue(rt.alloc(), CATALOGUE) {
+        Ok(Some(catalogue)) => {
+            let seen = met_by_each(rt.alloc(), &catalogue.packages);
+            drop(catalogue);
+            sees(seen, true)
+        }
+        _ => Err(Fail::new("the catalogue has a begin")),
+    }
+}
+
+fn met_by_each<I: Interner, A: Allocator + Copy>(
+    alloc: A,
+    interner: &I,
+) -> Result<bool, StoreError> {
+    let (fifth, eighth) = (ConditionId::new(5), ConditionId::new(8));
+    if !interner.knows_condition(fifth) || !interner.knows_condition(eighth) {
+        return Ok(false);
+    }
+    let mut agrees = true;
+    for number in 0..8u8 {
+        let (a, b, c) = (number & 1 > 0, number & 2 > 0, number & 4 > 0);
+        let met = is_met(alloc, fifth, interner, &[a, b, c])?;
+        agrees = agrees && met == ((a && b) || (c && a));
+        let met = is_met(alloc, eighth, interner, &[a, b, c])?;
+        agrees = agrees && met == ((a || b) && (c || a));
+    }
+    Ok(agrees)
 }
 
 /// Some of the conditions, in their normal form.

@@ -1,8 +1,9 @@
-//! Packages, as a resolver asks for them: the door to three rooms.
+//! Packages, as a resolver asks for them: the door to four rooms.
 //!
 //! | room | what it holds |
 //! |---|---|
 //! | `providers` | requirements and conditions, the traits of interner and provider, and the texts of ids |
+//! | `conditions` | conditions in their normal form, and requirements that wait for theirs |
 //! | `package_pool` | the pool, where an ecosystem keeps what its ids stand for |
 //! | `solver_cache` | the cache, by which a resolver asks each question once |
 //!
@@ -10,6 +11,9 @@
 //! with its ghost members, as `Rattle.resolvo_pool.specs.Types.NAME`.
 #![tactic(auto)]
 
+pub use conditions::{
+    DeferredConjunct, DeferredRequirement, condition_disjunct_holds, convert_conditions_to_dnf,
+};
 pub use package_pool::{NameText, Pool, Solvable, VersionSet};
 pub use providers::{
     Candidates, Condition, ConditionalRequirement, Dependencies, DependencyProvider,
