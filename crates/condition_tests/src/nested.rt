@@ -19,12 +19,18 @@ enum Before {
 /// How many lists a normal form has, and how many version sets are in the first of them.
 type Size = (usize, usize);
 
+/// One list with each version set.
 #[test]
-fn conditions_may_be_nested_deep(rt: HostRuntime) -> Result<(), Fail> {
+fn conjunctions_may_be_nested_deep(rt: HostRuntime) -> Result<(), Fail> {
     let joined = Ok((1, 100_001));
-    let listed = Ok((100_001, 1));
     is_same(nested(rt.alloc(), "and", Before::Left)?, joined)?;
-    is_same(nested(rt.alloc(), "and", Before::Right)?, joined)?;
+    is_same(nested(rt.alloc(), "and", Before::Right)?, joined)
+}
+
+/// A list for each version set.
+#[test]
+fn disjunctions_may_be_nested_deep(rt: HostRuntime) -> Result<(), Fail> {
+    let listed = Ok((100_001, 1));
     is_same(nested(rt.alloc(), "or", Before::Left)?, listed)?;
     is_same(nested(rt.alloc(), "or", Before::Right)?, listed)
 }

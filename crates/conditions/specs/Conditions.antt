@@ -13,6 +13,7 @@ pub data Formula : Type 0 where
   Both : (left right : Formula) → Formula
   Either : (left right : Formula) → Formula
 
+-- two formulas, joined by an operator
 abbrev pub joined : LogicalOperator → Formula → Formula → Formula
 joined And f g = Both f g
 joined Or f g = Either f g

@@ -5,6 +5,7 @@ use Rattle.typed_ids.specs.declared.version_set_id.VersionSetId.{VersionSetId}
 use Rattle.conditions.specs.declared.deferred.DeferredConjunct.{DeferredConjunct}
 use Rattle.conditions.specs.declared.deferred.DeferredConjunct.TheVariants.{Solvables, Empty}
 
+-- the version set that a conjunct stands for
 abbrev pub version_set_of : {S A : Type 0} → DeferredConjunct S A → VersionSetId
 version_set_of (Solvables set matching) = set
 version_set_of (Empty set all) = set

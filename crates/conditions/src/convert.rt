@@ -16,8 +16,8 @@ use typed_ids::{ConditionId, StoreError, VersionSetId};
 /// behind those of the left one; of two that are joined by "and", each list of the left one is joined with each list of the
 /// right one, left outer.
 ///
-/// The number of lists may grow as the power of the depth; time and memory follow what is answered. The stack doesn't grow
-/// with the depth.
+/// There may be very many lists, since "and" multiplies those of its two sides; time and memory follow what is answered. The
+/// stack doesn't grow with the depth.
 pub fn convert_conditions_to_dnf<I: Interner, A: Allocator + Copy>(
     alloc: A,
     condition: ConditionId,
