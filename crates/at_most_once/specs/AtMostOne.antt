@@ -1,5 +1,5 @@
 -- At most one of a list of variables: clauses that tie each variable to each helper by a bit of the variable's number.
-use Rattle.std.specs.Prelude.{◌≡◌, ◌↔◌, ℕ, ◌-◌, ◌*◌, ◌^◌, ◌≤◌, Bool, true, false, not, ◌&&◌, ◌||◌, nat_eq, nat_lt, List, [], ◌∷◌, ◌++◌, map, length, Option, Some, None, is_some, Contains, IfSome, if◌then◌else◌}
+use Rattle.std.specs.Prelude.{◌≡◌, ◌↔◌, ℕ, ◌-◌, ◌*◌, ◌^◌, ◌<◌, ◌≤◌, Bool, true, false, not, ◌&&◌, ◌||◌, nat_eq, nat_lt, List, [], ◌∷◌, ◌++◌, map, length, Option, Some, None, is_some, IsTrue, Contains, IfSome, if◌then◌else◌}
 use Rattle.std.specs.List.{list_any, AllByRecursion, enumerate_from}
 use Rattle.std.specs.Bool.{beq}
 use Rattle.std.specs.Int.{bit_at}
@@ -11,6 +11,17 @@ use Rattle.std.specs.Cmp.{IsEquivalence}
 pub record Tracker (V : Type 0) : Type 0 where
   pub variables : List V
   pub helpers : List V
+
+-- what is kept of a tracker: for how many more variables, and for how many more helpers, there is room
+pub record Kept (V : Type 0) : Type 0 where
+  pub tracker : Tracker V
+  pub variable_room : ℕ
+  pub helper_room : ℕ
+
+-- there is room for one more variable, and for a helper where one comes with it
+pub record HasRoom {V : Type 0} (kept : Kept V) (with_helper : Bool) : Type 0 where
+  pub variable : 0 < kept.variable_room
+  pub helper : IsTrue with_helper → 0 < kept.helper_room
 
 -- a clause of a variable x and a helper h: "not x or h" where the third part is true, "not x or not h" where it is false
 abbrev pub BitClause : Type 0 → Type 0

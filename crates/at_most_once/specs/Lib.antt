@@ -1,1 +1,2 @@
 pub mod AtMostOne
+pub mod TrackerView

@@ -1,7 +1,7 @@
 //! The variables of which at most one may be true, and their helpers.
-ghost use Rattle.std.specs.Prelude.{◌≡◌, ◌≤◌, ◌+◌, ◌-◌, ◌^◌, ◌++◌, ◌&&◌, not, nat_lt, length, vec_len, vec_capacity, IsTrue, IsOk, IfOk, OnOk, IfErr, OnErr};
+ghost use Rattle.std.specs.Prelude.{◌≡◌, ◌≤◌, ◌+◌, ◌-◌, ◌^◌, ◌++◌, ◌&&◌, not, nat_lt, length, vec_len, vec_capacity, is_some, IsTrue, IsOk, IfOk, OnOk, IfErr, OnErr};
 ghost use Rattle.typed_ids.specs.declared.error.StoreError.TheVariants.{OutOfMemory};
-ghost use Rattle.at_most_once.specs.AtMostOne.{empty, is_tracked, needs_helper, clauses_for, with_variable, new_clauses, helper_clauses, variable_clauses};
+ghost use Rattle.at_most_once.specs.AtMostOne.{empty, HasRoom, is_tracked, needs_helper, clauses_for, with_variable, new_clauses, helper_clauses, variable_clauses};
 ghost use Rattle.at_most_once.specs.AtMostOne as def;
 
 use indexmap::IndexSet;
@@ -23,19 +23,20 @@ pub struct AtMostOnceTracker<V: Eq + Hash + Copy, A: Allocator = Global> {
     helpers: Vec<V, A>,
 }
 
-/// The tracked variables and the helpers, in order.
+/// The tracked variables and the helpers, in order, and the room for more.
 impl<V: Eq + Hash + Copy, A: Allocator> Model for AtMostOnceTracker<V, A> {
-    ghost use Rattle.at_most_once.specs.AtMostOne.{Tracker};
+    ghost use Rattle.at_most_once.specs.AtMostOne.{Kept};
+    ghost use Rattle.at_most_once.specs.TrackerView.{kept_in};
 
-    ghost Value = { Tracker V };
+    ghost Value = { Kept V };
 
-    ghost view = { λ t. record { variables = t.variables.keys; helpers = t.helpers.items } };
+    ghost view = { kept_in };
 }
 
 impl<V: Eq + Hash + Copy, A: Allocator + Copy> AtMostOnceTracker<V, A> {
     /// Nothing is tracked. Takes no memory.
     pub fn new(alloc: A) -> Self
-        ensures { result ≡ empty }
+        ensures { result.tracker ≡ empty }
     {
         AtMostOnceTracker {
             variables: IndexSet::new(alloc),
@@ -43,9 +44,16 @@ impl<V: Eq + Hash + Copy, A: Allocator + Copy> AtMostOnceTracker<V, A> {
         }
     }
 
+    /// Whether this variable is tracked. Constant time.
+    pub fn is_tracked(&self, variable: &V) -> bool
+        ensures { result ≡ is_tracked V.eq self.now.tracker variable.now }
+    {
+        self.variables.contains(variable)
+    }
+
     /// Whether the addition of this variable needs a helper more. Constant time.
     pub fn needs_helper(&self, variable: &V) -> bool
-        ensures { result ≡ needs_helper V.eq self.now variable.now }
+        ensures { result ≡ needs_helper V.eq self.now.tracker variable.now }
     {
         !self.variables.contains(variable) && is_past(self.variables.len(), self.helpers.len())
     }
@@ -57,7 +65,7 @@ impl<V: Eq + Hash + Copy, A: Allocator + Copy> AtMostOnceTracker<V, A> {
         helper: Option<V>,
         clauses: &mut Vec<(V, V, bool), A>,
     ) -> Result<(), StoreError>
-        ensures ok { OnOk result (clauses.new.items ≡ clauses.old.items ++ clauses_for V.eq self.now helper variable.now) }
+        ensures ok { OnOk result (clauses.new.items ≡ clauses.old.items ++ clauses_for V.eq self.now.tracker helper variable.now) }
         ensures err { OnErr result (clauses.new.items ≡ clauses.old.items) }
         ensures memory { IfErr result (λ e. e ≡ OutOfMemory) }
     {
@@ -78,25 +86,49 @@ impl<V: Eq + Hash + Copy, A: Allocator + Copy> AtMostOnceTracker<V, A> {
         helper: Option<V>,
         clauses: &mut Vec<(V, V, bool), A>,
     ) -> Result<bool, StoreError>
-        ensures added { IfOk result (λ added. added ≡ not (is_tracked V.eq self.old variable)) }
-        ensures ok { OnOk result (self.new ≡ with_variable V.eq self.old helper variable) }
-        ensures ok_clauses { OnOk result (clauses.new.items ≡ clauses.old.items ++ clauses_for V.eq self.old helper variable) }
-        ensures err { OnErr result (self.new ≡ self.old) }
+        ensures added { IfOk result (λ added. added ≡ not (is_tracked V.eq self.old.tracker variable)) }
+        ensures ok { OnOk result (self.new.tracker ≡ with_variable V.eq self.old.tracker helper variable) }
+        ensures ok_clauses { OnOk result (clauses.new.items ≡ clauses.old.items ++ clauses_for V.eq self.old.tracker helper variable) }
+        ensures err { OnErr result (self.new.tracker ≡ self.old.tracker) }
         ensures err_clauses { OnErr result (clauses.new.items ≡ clauses.old.items) }
-        ensures tracked { IsTrue (is_tracked V.eq self.old variable) → IsOk result }
+        ensures tracked { IsTrue (is_tracked V.eq self.old.tracker variable) → IsOk result }
         ensures memory { IfErr result (λ e. e ≡ OutOfMemory) }
     {
-        if self.variables.contains(&variable) {
+        if self.is_tracked(&variable) {
             return Ok(false);
         }
-        self.variables.reserve(1)?;
-        self.helpers.reserve(usize::from(helper.is_some()))?;
+        self.make_room(helper.is_some())?;
         self.append_new(variable, helper, clauses)?;
+        self.add_reserved(variable, helper);
+        Ok(true)
+    }
+
+    /// Makes room for one more variable, and for a helper where one comes with it: then [`AtMostOnceTracker::add_reserved`]
+    /// may add them.
+    pub fn make_room(&mut self, with_helper: bool) -> Result<(), StoreError>
+        ensures same { self.new.tracker ≡ self.old.tracker }
+        ensures room { OnOk result (HasRoom self.new with_helper) }
+        ensures memory { IfErr result (λ e. e ≡ OutOfMemory) }
+    {
+        self.variables.reserve(1)?;
+        self.helpers.reserve(usize::from(with_helper))?;
+        Ok(())
+    }
+
+    /// Tracks a variable for which there is room, as [`AtMostOnceTracker::add`] does, and appends no clauses. Takes no
+    /// memory, and constant time.
+    pub fn add_reserved(&mut self, variable: V, helper: Option<V>)
+        requires { HasRoom self.old (is_some helper) }
+        ensures { self.new.tracker ≡ with_variable V.eq self.old.tracker helper variable }
+    {
+        if self.is_tracked(&variable) {
+            return;
+        }
         if let Some(helper) = helper {
             self.helpers.push_reserved(helper);
         }
         match self.variables.insert(variable) {
-            Ok(_) => Ok(true),
+            Ok(_) => {}
             Err(_) => unreachable!(),
         }
     }
@@ -108,7 +140,7 @@ impl<V: Eq + Hash + Copy, A: Allocator + Copy> AtMostOnceTracker<V, A> {
         helper: Option<V>,
         clauses: &mut Vec<(V, V, bool), A>,
     ) -> Result<(), StoreError>
-        ensures ok { OnOk result (clauses.new.items ≡ clauses.old.items ++ new_clauses self.now helper variable) }
+        ensures ok { OnOk result (clauses.new.items ≡ clauses.old.items ++ new_clauses self.now.tracker helper variable) }
         ensures err { OnErr result (clauses.new.items ≡ clauses.old.items) }
         ensures memory { IfErr result (λ e. e ≡ OutOfMemory) }
     {

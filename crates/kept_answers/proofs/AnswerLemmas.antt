@@ -1,12 +1,15 @@
 -- The places of questions, and the answers that stand there.
-use Rattle.std.proofs.Common.{◌≡◌, ◌≢◌, ℕ, suc, ◌+◌, ◌<◌, ◌≤◌, ◌^◌, ◌||◌, Bool, true, false, not, cond, ltb, min, leb, List, [], ◌∷◌, ◌++◌, length, length-append, slice_get, is_some, Option, None, Some, refl, arith, sym, ◌∙◌, ap, subst}
+use Rattle.std.proofs.Common.{◌≡◌, ◌≢◌, ℕ, suc, ◌+◌, ◌<◌, ◌≤◌, ◌^◌, ◌||◌, Bool, true, false, not, cond, ltb, min, leb, set, true≢false, List, [], ◌∷◌, ◌++◌, length, length-append, slice_get, is_some, Option, None, Some, refl, arith, sym, ◌∙◌, ap, subst}
+use Rattle.std.specs.Option.{option_map, unwrap_or}
 use Rattle.std.specs.Cmp.{IsEquivalence}
 use Rattle.std.specs.List.{All, IsDistinct, position_from, position_or_len, list_any}
-use Rattle.std.specs.Map.{lookup, keys_of, values_of}
+use Rattle.std.specs.Map.{lookup, keys_of, values_of, set_value}
 use Rattle.std.proofs.lemmas.Bool.Decides.{nat_tests}
 use Rattle.std.proofs.lemmas.Iterator.Adapters.{position_from-zero}
 use Rattle.std.proofs.lemmas.List.{map-append}
 use Rattle.std.proofs.lemmas.List.Elements.{All-nil, All-push, All-same}
+use Rattle.std.proofs.lemmas.Map.{keys-set_value, length-set_value}
+use Rattle.std.proofs.lemmas.Option.{slice_get-map}
 use Rattle.std.proofs.lemmas.Map.Entries.{length-keys_of}
 use Rattle.std.proofs.lemmas.Map.Keys.{IsDistinct-push}
 use Rattle.typed_ids.specs.TotalMaps.{IsUpdate, SameValues}
@@ -162,6 +165,51 @@ pub not_lacking : {K : Type 0} (limit : ℕ) (is_large : K → Bool) (count : �
 not_lacking limit is_large count key below fits =
     let out : leb (min limit (2 ^ 32)) count ≡ false = grind (arith, nat_tests) in
     ap (λ b. b || is_large key) out ∙ fits
+
+-- ---- another value in the place of an answer
+
+-- the value stands where the answer stood
+set_in_place : {K V : Type 0} (test : K → Bool) (kept : List (K × V)) (x : K × V) (value : V) → slice_get kept (position_or_len test (keys_of kept)) ≡ Some x
+    → set kept (position_or_len test (keys_of kept)) (x.0, value) ≡ set_value test kept value
+set_in_place test [] x value is = refl
+set_in_place {K} {V} test (e ∷ kept) x value is =
+    (elim (test e.0) as (λ b. slice_get (e ∷ kept) (cond (not b) (1 + position_or_len test (keys_of kept)) 0) ≡ Some x
+    → set (e ∷ kept) (cond (not b) (1 + position_or_len test (keys_of kept)) 0) (x.0, value) ≡ cond b ((e.0, value) ∷ kept) (e ∷ set_value test kept value)) [
+      | true ↦ λ h. ap (λ (o : Option (K × V)). unwrap_or (option_map (λ (y : K × V). (y.0, value) ∷ kept) o) []) (sym h)
+      | false ↦ λ h.
+          let next : suc (position_or_len test (keys_of kept)) ≡ 1 + position_or_len test (keys_of kept) = omega arith in
+          sym (ap (λ n. set (e ∷ kept) n (x.0, value)) next) ∙ ap (λ l. e ∷ l) (set_in_place test kept x value (ap (slice_get (e ∷ kept)) next ∙ h))
+    ]) is
+
+pub answer_replaced : {K V : Type 0} (same : K → K → Bool) (kept : List (K × V)) (key : K) (p : ℕ) (x : K × V) (value : V) → place_of same kept key ≡ Some p
+    → slice_get kept p ≡ Some x → set kept p (x.0, value) ≡ set_value (same key) kept value
+answer_replaced same kept key p x value at is =
+    subst (λ q. slice_get kept q ≡ Some x → set kept q (x.0, value) ≡ set_value (same key) kept value) (place_is (same key) p (keys_of kept) at).0
+    (set_in_place (same key) kept x value) is
+
+-- what stood there was the answer
+pub answer_earlier : {K V : Type 0} (same : K → K → Bool) (kept : List (K × V)) (key : K) (p : ℕ) (x : K × V) → place_of same kept key ≡ Some p
+    → slice_get kept p ≡ Some x → lookup (same key) kept ≡ Some x.1
+answer_earlier same kept key p x at is =
+    sym (answer_at same kept key p at) ∙ slice_get-map (λ e. e.1) kept p ∙ ap (option_map (λ e. e.1)) is
+
+-- the questions are the same
+pub AreKept-replaced : {K V : Type 0} (same : K → K → Bool) (IsId : K → Type 0) (limit : ℕ) (slots : K → Option ℕ) (kept : List (K × V)) (test : K → Bool) (value : V)
+    → AreKept same IsId limit slots kept → AreKept same IsId limit slots (set_value test kept value)
+AreKept-replaced same IsId limit slots kept test value are =
+    let questions = sym (keys-set_value test kept value) in
+    record {
+      agrees = λ other. are.agrees other ∙ ap (position_from (same other) 0) questions;
+      few = subst (λ n. n ≤ min limit (2 ^ 32)) (sym (length-set_value test kept value)) are.few;
+      distinct = subst (IsDistinct same) questions are.distinct;
+      ids = subst (All IsId) questions are.ids;
+    }
+
+-- a question with an answer has a place
+pub answer_has_place : {K V : Type 0} (same : K → K → Bool) (kept : List (K × V)) (key : K) → is_some (lookup (same key) kept) ≡ true
+    → place_of same kept key ≢ None
+answer_has_place same kept key some none =
+    absurd (true≢false (sym some ∙ sym (has_place (same key) 0 kept) ∙ ap is_some none))
 
 -- no answers
 pub none_kept : {K V : Type 0} (same : K → K → Bool) (IsId : K → Type 0) (limit : ℕ) (slots : K → Option ℕ) → ((key : K) → slots key ≡ None)

@@ -1,7 +1,7 @@
 //! Answers, each found by the id that its question is about.
-ghost use Rattle.std.specs.Prelude.{◌≡◌, ◌<◌, ◌^◌, false, [], ◌∷◌, ◌++◌, map, length, is_some, slice_get, Some, None, IfSome, IsTrue, IfOk, OnOk, OnErr, IfErr};
+ghost use Rattle.std.specs.Prelude.{◌≡◌, ◌<◌, ◌^◌, false, [], ◌∷◌, ◌++◌, true, map, length, is_some, slice_get, Some, None, IfSome, IsTrue, IfOk, OnOk, OnErr, IfErr};
 ghost use Rattle.std.specs.List.{IsDistinct};
-ghost use Rattle.std.specs.Map.{lookup, keys_of};
+ghost use Rattle.std.specs.Map.{lookup, keys_of, set_value};
 ghost use Rattle.typed_ids.specs.Refusals.{IsGrowthRefusal};
 ghost use Rattle.typed_ids.specs.declared.error.StoreError.TheVariants.{IdSpace};
 
@@ -9,13 +9,14 @@ use id_maps::{IdMap, Slot, SolverId};
 use id_storage::Arena;
 use std::alloc::Allocator;
 use std::marker::Model;
+use std::mem;
 use std::ops::Index;
 use typed_ids::{DenseIndex, StoreError};
 
 /// The answers to questions about ids `K`, each kept under an id `I` of its own. A contract sees the questions with their
 /// answers, the first one first.
 ///
-/// An answer stays where it is: none is changed or taken out.
+/// An answer stays where it is: none is taken out.
 #[derive(Drop)]
 pub struct KeptAnswers<I: DenseIndex, K: SolverId<A>, V, A: Allocator + Copy> {
     answers: Arena<I, (K, V), A>,
@@ -84,6 +85,22 @@ impl<I: DenseIndex, K: SolverId<A>, V, A: Allocator + Copy> KeptAnswers<I, K, V,
         let id = self.answers.alloc((key, value))?;
         self.slots.put(key, Slot::new(Some(index as u32)));
         Ok(id)
+    }
+
+    /// Puts a value in the place of the answer to a question that has one, and hands out the earlier one: one look-up. Takes
+    /// no memory.
+    pub fn replace(&mut self, key: K, value: V) -> V
+        requires { is_some (lookup (K.eq key) self.old) ≡ true }
+        ensures earlier { lookup (K.eq key) self.old ≡ Some result }
+        ensures replaced { self.new ≡ set_value (K.eq key) self.old value }
+    {
+        match self.slots.get(key).number() {
+            Some(index) => {
+                let id = I::from_index(index as usize);
+                mem::replace(&mut self.answers[id].1, value)
+            }
+            None => unreachable!(),
+        }
     }
 }
 

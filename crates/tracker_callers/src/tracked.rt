@@ -23,9 +23,9 @@ impl<V: Eq + Hash + Copy, A: Allocator + Copy> Model for TrackedVariables<V, A> 
 
     ghost Value = { Tracker V × List (BitClause V) };
 
-    ghost view = { λ t. (t.tracker, t.clauses.items) };
+    ghost view = { λ t. (t.tracker.tracker, t.clauses.items) };
 
-    ghost invariant = { λ t. Adds V.eq t.tracker t.clauses.items };
+    ghost invariant = { λ t. Adds V.eq t.tracker.tracker t.clauses.items };
 }
 
 impl<V: Eq + Hash + Copy, A: Allocator + Copy> TrackedVariables<V, A> {

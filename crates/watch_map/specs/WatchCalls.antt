@@ -34,6 +34,10 @@ UsesRoom literals old new =
 abbrev pub HaveRoom : WatchLists → List Lit → Type 0
 HaveRoom map literals = (l : Lit) → is_literal_in l literals ≡ true → HasRoom map l 1
 
+-- there is room for so many additions to the list of each of these literals
+abbrev pub HaveRooms : WatchLists → ℕ → List Lit → Type 0
+HaveRooms map additions literals = (l : Lit) → is_literal_in l literals ≡ true → HasRoom map l additions
+
 -- ---- cursors
 
 -- the clauses that a cursor has passed

@@ -68,7 +68,20 @@ impl<A: Allocator + Copy> WatchMap<A> {
         ensures succeeds { HasRoom self.old literal 1 → IsOk result }
         ensures memory { IfErr result (λ e. e ≡ OutOfMemory) }
     {
+        self.make_room_many(literal, 1)
+    }
+
+    /// Makes room for so many more clauses in a literal's list, so that its next additions up to that number take no memory.
+    /// Room that is there is kept. Constant time, whatever the number.
+    pub fn make_room_many(&mut self, literal: Literal, additions: usize) -> Result<(), StoreError>
+        ensures lists { SameLists self.old self.new }
+        ensures rooms { KeepsRoom self.old self.new }
+        ensures room { OnOk result (HasRoom self.new literal additions) }
+        ensures succeeds { HasRoom self.old literal additions → IsOk result }
+        ensures memory { IfErr result (λ e. e ≡ OutOfMemory) }
+    {
         // a slot serves any number
+        let _ = additions;
         self.firsts.make_room(literal)
     }
 

@@ -3,7 +3,7 @@ use Rattle.id_storage.specs.Mapping.{value_at, slots_for}
 use Rattle.decisions.specs.LiteralIndex.{literal_index}
 use Rattle.watch_map.proofs.StartLaws.{same_lists, room_by_length, no_fewer_slots, room_in_slots}
 use Rattle.watch_map.proofs.LinkLaws.{slot_within}
-use Rattle.watch_map.proofs.lists.WatchMap.make_room.Goals as goal
+use Rattle.watch_map.proofs.lists.WatchMap.make_room_many.Goals as goal
 
 pub returns-clause-lists : goal.returns-clause-lists
 returns-clause-lists g c = same_lists c.args.self.now c.make_room.new.self (λ key. c.make_room.ensures.same key ∙ ap (λ m. value_at m key) c.self.view_is)
@@ -16,8 +16,8 @@ returns-clause-rooms g c l n =
 pub returns-clause-room : goal.returns-clause-room
 returns-clause-room g c =
     room_in_slots c.make_room.result c.self.inside.firsts c.make_room.new.self (slots_for (literal_index c.args.literal)) c.make_room.ensures.slots
-    c.args.literal 1 (omega arith)
+    c.args.literal c.args.additions (omega arith)
 
 pub returns-clause-succeeds : goal.returns-clause-succeeds
 returns-clause-succeeds g c room =
-    (c.make_room.ensures.room (subst (λ m. literal_index c.args.literal < length m) (sym c.self.view_is) (slot_within c.args.self.now c.args.literal 1 room))).0
+    (c.make_room.ensures.room (subst (λ m. literal_index c.args.literal < length m) (sym c.self.view_is) (slot_within c.args.self.now c.args.literal c.args.additions room))).0
