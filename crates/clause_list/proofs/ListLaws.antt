@@ -1,22 +1,26 @@
 -- The list of clauses over its map and its records: what its calls make of them.
-use Rattle.std.proofs.Common.{◌≡◌, ℕ, Bool, true, false, not, List, [], ◌∷◌, ◌++◌, length, map, set, Option, Some, None, refl, sym, ap, subst, ◌∙◌, arith, nat_eq, ◌+◌, take, drop, length-append, Result, Ok, Err}
-use Rattle.std.specs.Prelude.{◌&&◌, IsTrue, OnOk, OnErr}
+use Rattle.std.proofs.Common.{◌≡◌, ℕ, Bool, true, false, not, List, [], ◌∷◌, ◌++◌, length, map, set, Option, Some, None, refl, sym, ap, subst, ◌∙◌, arith, nat_eq, ◌+◌, ◌<◌, take, drop, get_or, length-append, Result, Ok, Err}
+use Rattle.std.specs.Prelude.{◌&&◌, if◌then◌else◌, IsTrue, OnOk, OnErr}
+use Rattle.std.proofs.lemmas.List.Sums.{fold_more}
+use Rattle.std.proofs.lemmas.List.Elements.{All-get_or, All-from_get_or}
 use Rattle.std.proofs.Math.Seq.{take-append_seam}
 use Rattle.std.proofs.lemmas.Bool.Decides.{nat_tests}
 use Rattle.std.proofs.Math.Path.{fun_ext}
 use Rattle.std.proofs.Math.ListN.{get_or-map}
 use Rattle.std.proofs.lemmas.Bool.{eqb-true, eqb-false}
-use Rattle.std.proofs.lemmas.List.{ext_get_or, length-map, length-set, map-append}
+use Rattle.std.proofs.lemmas.List.{ext_get_or, get_or_default, length-map, length-set, map-append}
 use Rattle.typed_ids.specs.TotalMaps.{IsUpdate}
-use Rattle.decisions.specs.Literals.{Lit}
+use Rattle.decisions.specs.Literals.{Lit, Pos, Neg, Values}
+use Rattle.clauses.specs.Clauses.{Kept as KeptLiterals, same_literal}
 use Rattle.clauses.specs.declared.clause.Clause.{Clause}
+use Rattle.clauses.specs.declared.clause.Clause.TheVariants.{ForbidMultipleInstances}
 use Rattle.watch_map.specs.declared.watched_literals.WatchedLiterals.{WatchedLiterals}
-use Rattle.watch_map.specs.Watching.{is_literal_in, IsExact, started, moved}
-use Rattle.watch_map.specs.WatchLists.{WatchLists, Watches, literals_in, watched_by, watchers, AreWatched, Position, clause_of, literal_of, index_of}
-use Rattle.watch_map.specs.WatchCalls.{SameLists, Starts, StandsIn, Moves}
+use Rattle.watch_map.specs.Watching.{is_literal_in, AreTwoOrNone, IsExact, started}
+use Rattle.watch_map.specs.WatchLists.{WatchLists, Watches, literals_in, watched_by, watchers, HasRoom, AreWatched, Position, clause_of, literal_of, index_of}
+use Rattle.watch_map.specs.WatchCalls.{SameLists, UsesRoom, HaveRooms, Starts, StandsIn, Moves}
 use Rattle.watch_map.proofs.WatchingLaws.{exact_same}
-use Rattle.watch_map.proofs.CallerLaws.{same_records_belong, new_clauses_join, records_skip}
-use Rattle.clause_list.specs.ClauseList.{Clauses, IsClauseList, is_full, literals_watched, two_or_none, rewatched, with_clause, with_rewatched, can_rewatch}
+use Rattle.watch_map.proofs.CallerLaws.{same_records_belong, new_clauses_join, records_skip, room_is_for_fewer}
+use Rattle.clause_list.specs.ClauseList.{Clauses, IsClauseList, is_full, literals_watched, two_or_none, rewatched, with_clause, with_rewatched, can_rewatch, Kept, helper_literal, bit_watches, with_forbidden_one, with_forbidden, HasRoomFor, HasRoom as HasRoomOf}
 use Rattle.clause_list.specs.Walks.{StartsAtEnd, IsRewatched, may_rewatch}
 use Rattle.clause_list.proofs.CallerLaws.{watched_at, set_watches, watching_within, rewatched_is}
 
@@ -180,3 +184,76 @@ module _ {N : Type 0} where
   err_rewatch (Ok x) cs learnt ws ws' old new watched err = tt
   err_rewatch (Err e) cs learnt ws ws' old new watched err =
       ap (λ rs. contents_of cs rs learnt new) err.1 ∙ same_contents cs ws learnt old new watched err.0
+
+-- ---- room for clauses of helpers
+
+pub same_lists_trans : (a b c : WatchLists) → SameLists a b → SameLists b c → SameLists a c
+same_lists_trans a b c first second ws watched =
+    let mid = first ws watched in
+    let last = second ws mid.0 in
+    (last.0, λ l. last.1 l ∙ mid.1 l)
+
+-- room for one more addition is used by one
+pub room_used : (literals : List Lit) (old new : WatchLists) (l : Lit) (n : ℕ) → UsesRoom literals old new → HasRoom old l (n + 1) → HasRoom new l n
+room_used literals old new l n uses room = uses l n (by (is_literal_in l literals))
+  where
+    by : (b : Bool) → HasRoom old l (if b then n + 1 else n)
+    by true = room
+    by false = room_is_for_fewer old l (n + 1) n (omega arith) room
+
+pub literal_of_sign : (h : ℕ) (sign : Bool) → (if not sign then Neg h else Pos h) ≡ (if sign then Pos h else Neg h)
+literal_of_sign h true = refl
+literal_of_sign h false = refl
+
+-- what a clause of two literals watches follows from these alone
+abbrev pub no_literals : KeptLiterals
+no_literals = record { learnt = []; lists = λ r. []; disjunctions = [] }
+
+abbrev pub no_values : Values
+no_values v = None
+
+pub two_of_bit : (bit : ℕ × ℕ × Bool) → AreTwoOrNone (two_or_none (bit_watches bit))
+two_of_bit bit = by (same_literal (Neg bit.0) (helper_literal bit)) refl
+  where
+    by : (b : Bool) → same_literal (Neg bit.0) (helper_literal bit) ≡ b → AreTwoOrNone (two_or_none (if b then None else Some (Neg bit.0 ∷ helper_literal bit ∷ [])))
+    by true e = tt
+    by false e = e
+
+module _ {N : Type 0} where
+  pub room_after : (count : ℕ) (bits : List (ℕ × ℕ × Bool)) (old new : Kept N) (literals : List Lit) → length new.clauses ≡ length old.clauses + 1
+      → new.clause_room ≡ old.clause_room → new.record_room ≡ old.record_room → UsesRoom literals old.lists new.lists
+      → HasRoomFor (count + 1) bits old → HasRoomFor count bits new
+  room_after count bits old new literals more same_clauses same_records uses room = record {
+    ids = (let ids = room.ids in grind (arith, nat_tests, ids, more));
+    clauses = (let there = room.clauses in omega (arith, there, more, same_clauses));
+    records = (let there = room.records in omega (arith, there, more, same_records));
+    lists = All-from_get_or (λ (bit : ℕ × ℕ × Bool). HaveRooms new.lists count (two_or_none (bit_watches bit))) bits (0, 0, false) (λ i within l among.
+        room_used literals old.lists new.lists l count uses (All-get_or (λ (bit : ℕ × ℕ × Bool). HaveRooms old.lists (count + 1) (two_or_none (bit_watches bit))) bits i (0, 0, false) within room.lists l among));
+  }
+
+  -- room for some, of which this is one, is room for it
+  pub room_for_one : (count : ℕ) (bits : List (ℕ × ℕ × Bool)) (kept : Kept N) (i : ℕ) → 0 < count → i < length bits → HasRoomFor count bits kept
+      → HasRoomOf kept (two_or_none (bit_watches (get_or bits i (0, 0, false))))
+  room_for_one count bits kept i some within room = record {
+    id = (let ids = room.ids in grind (arith, nat_tests, ids, some));
+    clause = (let there = room.clauses in omega (arith, there, some));
+    watch = (let there = room.records in omega (arith, there, some));
+    lists = λ l among. room_is_for_fewer kept.lists l count 1 (omega (arith, some)) (All-get_or (λ (bit : ℕ × ℕ × Bool). HaveRooms kept.lists count (two_or_none (bit_watches bit))) bits i (0, 0, false) within room.lists l among);
+  }
+
+  pub room_for_item : (count : ℕ) (bits : List (ℕ × ℕ × Bool)) (kept : Kept N) (i : ℕ) (bit : ℕ × ℕ × Bool) (watched : Option (List Lit)) → 0 < count → i < length bits
+      → bit ≡ get_or bits i bit → watched ≡ bit_watches bit → HasRoomFor count bits kept → HasRoomOf kept (two_or_none watched)
+  room_for_item count bits kept i bit watched some within is watches room =
+      subst (λ w. HasRoomOf kept (two_or_none w)) (sym watches)
+      (subst (λ b. HasRoomOf kept (two_or_none (bit_watches b))) (get_or_default bits i (0, 0, false) bit within ∙ sym is) (room_for_one count bits kept i some within room))
+
+  -- the loop over the clauses goes on by the next one
+  pub one_forbidden_more : (name : N) (start now next : Clauses N) (bits : List (ℕ × ℕ × Bool)) (i : ℕ) (bit : ℕ × ℕ × Bool) (clause : Clause N) (watched : Option (List Lit))
+      → i < length bits → bit ≡ get_or bits i bit → clause ≡ ForbidMultipleInstances bit.0 (helper_literal bit) name → watched ≡ bit_watches bit
+      → now ≡ with_forbidden name start (take i bits) → next ≡ with_clause now clause watched → next ≡ with_forbidden name start (take (i + 1) bits)
+  one_forbidden_more name start now next bits i bit clause watched within is is_clause is_watched so_far added =
+      added ∙ ap (λ c. with_clause now c watched) is_clause
+      ∙ ap (with_clause now (ForbidMultipleInstances bit.0 (helper_literal bit) name)) is_watched
+      ∙ ap (λ cs. with_forbidden_one name cs bit) so_far
+      ∙ ap (with_forbidden_one name (with_forbidden name start (take i bits))) is
+      ∙ sym (fold_more (with_forbidden_one name) start bits i bit within)

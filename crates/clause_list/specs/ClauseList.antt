@@ -1,14 +1,15 @@
 -- The clauses of a store, what each of them watches, and the literals of the learnt ones. N are the names of packages.
-use Rattle.std.specs.Prelude.{◌≡◌, ℕ, ◌-◌, ◌<◌, ◌≤◌, ◌^◌, Bool, false, not, ◌&&◌, ◌||◌, if◌then◌else◌, List, [], ◌∷◌, ◌++◌, map, length, slice_set, slice_index_or, Option, option_map, unwrap_or}
+use Rattle.std.specs.Prelude.{◌≡◌, ℕ, ◌+◌, ◌-◌, ◌<◌, ◌≤◌, ◌^◌, Bool, false, not, nat_lt, fold, ◌&&◌, ◌||◌, if◌then◌else◌, List, [], ◌∷◌, ◌++◌, map, length, slice_set, slice_index_or, Option, option_map, unwrap_or}
+use Rattle.std.specs.List.{All}
 use Rattle.typed_ids.specs.Refusals.{are_ids_out}
-use Rattle.decisions.specs.Literals.{Lit}
-use Rattle.clauses.specs.Clauses.{same_literal, watch_ends}
+use Rattle.decisions.specs.Literals.{Lit, Pos, Neg}
+use Rattle.clauses.specs.Clauses.{same_literal, watch_pair, watch_ends}
 use Rattle.clauses.specs.declared.clause.Clause.{Clause}
-use Rattle.clauses.specs.declared.clause.Clause.TheVariants.{Learnt}
+use Rattle.clauses.specs.declared.clause.Clause.TheVariants.{Learnt, ForbidMultipleInstances}
 use Rattle.watch_map.specs.declared.watched_literals.WatchedLiterals.{WatchedLiterals}
 use Rattle.watch_map.specs.Watching.{is_literal_in, IsExact, started, moved}
 use Rattle.watch_map.specs.WatchLists.{WatchLists, Watches, literals_in, watchers}
-use Rattle.watch_map.specs.WatchCalls.{HaveRoom}
+use Rattle.watch_map.specs.WatchCalls.{HaveRoom, HaveRooms}
 
 pub record Clauses (N : Type 0) : Type 0 where
   -- the clauses: the id of each is its place
@@ -42,6 +43,14 @@ two_or_none watched = unwrap_or watched []
 -- these literals with another in the place of one
 abbrev pub rewatched : Lit → Lit → List Lit → List Lit
 rewatched from to literals = map (λ l. if same_literal l from then to else l) literals
+
+-- of a variable x, a helper h and a sign: h where the sign is true, "not h" where it is false
+abbrev pub helper_literal : ℕ × ℕ × Bool → Lit
+helper_literal bit = if bit.2 then Pos bit.1 else Neg bit.1
+
+-- what a clause "not x or h", or "not x or not h", watches
+abbrev pub bit_watches : ℕ × ℕ × Bool → Option (List Lit)
+bit_watches bit = watch_pair (Neg bit.0) (helper_literal bit)
 
 module _ {N : Type 0} where
   -- the clauses that are kept
@@ -99,6 +108,25 @@ module _ {N : Type 0} where
     watches = slice_set cs.watches clause (rewatched from to (watched_by cs clause));
     watchers = moved clause from to cs.watchers;
   }
+
+  -- so many clauses more have no ids
+  abbrev pub are_ids_out_for : ℕ → Clauses N → Bool
+  are_ids_out_for count cs = nat_lt (2 ^ 32 - 1) (length cs.clauses + count)
+
+  -- one more clause "not x or h", or "not x or not h", by the name
+  abbrev pub with_forbidden_one : N → Clauses N → ℕ × ℕ × Bool → Clauses N
+  with_forbidden_one name cs bit = with_clause cs (ForbidMultipleInstances bit.0 (helper_literal bit) name) (bit_watches bit)
+
+  -- one such clause more for each of these, in order
+  abbrev pub with_forbidden : N → Clauses N → List (ℕ × ℕ × Bool) → Clauses N
+  with_forbidden name cs bits = fold (with_forbidden_one name) cs bits
+
+  -- there are ids and room for so many clauses more that watch what these do
+  pub record HasRoomFor (count : ℕ) (bits : List (ℕ × ℕ × Bool)) (kept : Kept N) : Type 0 where
+    pub ids : are_ids_out_for count (contents kept) ≡ false
+    pub clauses : length kept.clauses + count ≤ kept.clause_room
+    pub records : length kept.clauses + count ≤ kept.record_room
+    pub lists : All (λ bit. HaveRooms kept.lists count (two_or_none (bit_watches bit))) bits
 
   -- there is an id and room for one more clause that watches these
   pub record HasRoom (kept : Kept N) (watched : List Lit) : Type 0 where

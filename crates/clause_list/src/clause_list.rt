@@ -6,13 +6,14 @@
 //!
 //! Clauses are added at the end, where each gets the next id, and watches its literals from then on. For a caller that
 //! adds a clause in more than one place, the room for it can be made before: then adding it isn't refused.
-ghost use Rattle.std.specs.Prelude.{◌≡◌, ◌<◌, ◌↔◌, [], length, map, slice_get, slice_index_or, false, if◌then◌else◌, option_map};
+ghost use Rattle.std.specs.Prelude.{◌≡◌, ℕ, ◌+◌, ◌<◌, ◌↔◌, Bool, List, [], length, map, slice_get, slice_index_or, false, if◌then◌else◌, option_map};
 ghost use Rattle.std.specs.Prelude.{IsTrue, IfOk, OnOk, OnErr, IfErr, Err};
 ghost use Rattle.typed_ids.specs.declared.error.StoreError.TheVariants.{IdSpace, OutOfMemory, BadWatch};
 ghost use Rattle.typed_ids.specs.Refusals.{IsGrowthRefusal};
 ghost use Rattle.watch_map.specs.Watching.{AreTwoOrNone};
 ghost use Rattle.clause_list.specs.ClauseList.{literals_watched, two_or_none, no_clauses, IsClauseList, is_full, is_learnt_full};
 ghost use Rattle.clause_list.specs.ClauseList.{contents, with_clause, with_learnt, with_rewatched, can_rewatch, HasRoom};
+ghost use Rattle.clause_list.specs.ClauseList.{are_ids_out_for, with_forbidden, HasRoomFor};
 
 use crate::walks;
 use clauses::Clause;
@@ -20,8 +21,11 @@ use decisions::Literal;
 use id_storage::Arena;
 use std::alloc::Allocator;
 use std::marker::Model;
-use typed_ids::{ClauseId, DenseIndex, LearntClauseId, StoreError};
+use typed_ids::{ClauseId, DenseIndex, LearntClauseId, StoreError, VariableId};
 use watch_map::{WatchMap, WatchedLiterals};
+
+/// How many clauses there may be.
+const LIMIT: usize = u32::MAX as usize;
 
 /// All clauses of a store, with what each of them watches, the clauses that watch each literal, and the literals of the
 /// learnt ones. `N` are the names of packages.
@@ -143,12 +147,45 @@ impl<N: Copy, A: Allocator + Copy> ClauseList<N, A> {
         requires two { AreTwoOrNone (two_or_none (literals_watched watches)) }
         ensures id { result ≡ length (contents self.old).clauses }
         ensures added { contents self.new ≡ with_clause (contents self.old) clause (literals_watched watches) }
+        ensures rooms { (count : ℕ) (bits : List (ℕ × ℕ × Bool)) → HasRoomFor (count + 1) bits self.old → HasRoomFor count bits self.new }
     {
         let id = ClauseId::from_index(self.clauses.len());
         let watches = walks::started(&mut self.map, watches, id);
         self.clauses.push_reserved(clause);
         self.watches.push_reserved(watches);
         id
+    }
+
+    /// Makes room for clauses of the kind that forbids multiple instances, each of a variable, a helper, and whether the
+    /// helper is positive: then [`ClauseList::push_forbidden_reserved`] may add them. There is none where they were more
+    /// clauses than there may be.
+    pub fn make_room_forbidden(
+        &mut self,
+        clauses: &[(VariableId, VariableId, bool)],
+    ) -> Result<(), StoreError>
+        ensures same { contents self.new ≡ contents self.old }
+        ensures room { OnOk result (HasRoomFor (length clauses.now) clauses.now self.new) }
+        ensures refused { IfErr result (IsGrowthRefusal (are_ids_out_for (length clauses.now) (contents self.old))) }
+        ensures ids_out { IsTrue (are_ids_out_for (length clauses.now) (contents self.old)) → result ≡ Err IdSpace }
+    {
+        if clauses.len() > LIMIT - self.clauses.len() {
+            return Err(StoreError::IdSpace);
+        }
+        self.clauses.reserve(clauses.len())?;
+        self.watches.reserve(clauses.len())?;
+        walks::make_rooms(&mut self.map, clauses)
+    }
+
+    /// Adds clauses for which there is room, in order: "not x or h" of a variable x, a helper h and `true`, "not x or not h"
+    /// of these and `false`. Takes no memory.
+    pub fn push_forbidden_reserved(&mut self, name: N, clauses: &[(VariableId, VariableId, bool)])
+        requires { HasRoomFor (length clauses.now) clauses.now self.old }
+        ensures { contents self.new ≡ with_forbidden name (contents self.old) clauses.now }
+    {
+        for clause in clauses {
+            let (watches, clause) = walks::forbidden(name, *clause);
+            self.push_reserved(clause, watches);
+        }
     }
 
     /// Adds a clause with what it watches, and answers its id. Takes memory where there is no room left.

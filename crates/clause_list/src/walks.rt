@@ -1,14 +1,18 @@
 //! What is done with the lists of the clauses that watch a literal.
-ghost use Rattle.std.specs.Prelude.{◌≡◌, true, if◌then◌else◌, IsTrue, IfOk, OnOk, OnErr, IfErr};
+ghost use Rattle.std.specs.Prelude.{◌≡◌, true, if◌then◌else◌, IsTrue, IfOk, OnOk, OnErr, IfErr, length};
+ghost use Rattle.std.specs.List.{All};
 ghost use Rattle.typed_ids.specs.declared.error.StoreError.TheVariants.{OutOfMemory, BadWatch};
 ghost use Rattle.watch_map.specs.Watching.{AreTwoOrNone, is_clause_in};
 ghost use Rattle.watch_map.specs.WatchLists.{literals_in, watchers, AreWatched, clause_of, literal_of};
-ghost use Rattle.watch_map.specs.WatchCalls.{SameLists, HaveRoom, StandsIn};
+ghost use Rattle.watch_map.specs.WatchCalls.{SameLists, KeepsRoom, UsesRoom, HaveRoom, HaveRooms, StandsIn};
+ghost use Rattle.clause_list.specs.ClauseList.{helper_literal, bit_watches, literals_watched, two_or_none};
+ghost use Rattle.clauses.specs.declared.clause.Clause.TheVariants.{ForbidMultipleInstances};
 ghost use Rattle.clause_list.specs.Walks.{StartsAtEnd, IsRewatched, may_rewatch};
 
+use clauses::Clause;
 use decisions::Literal;
 use std::alloc::Allocator;
-use typed_ids::{ClauseId, DenseIndex, StoreError};
+use typed_ids::{ClauseId, DenseIndex, StoreError, VariableId};
 use watch_map::{WatchMap, WatchMapCursor, WatchedLiterals};
 
 /// The clauses that watch the literal, front first.
@@ -41,12 +45,58 @@ pub(crate) fn started<A: Allocator + Copy>(
     requires two { AreTwoOrNone (literals_in watches) }
     ensures same { literals_in result ≡ literals_in watches }
     ensures starts { StartsAtEnd map.old result id map.new }
+    ensures rooms { UsesRoom (literals_in watches) map.old map.new }
 {
     let mut watched = watches?;
     match map.start_watching(&mut watched, id) {
         Ok(()) => Some(watched),
         Err(_) => unreachable!(),
     }
+}
+
+/// The clause "not x or h" of a variable x, a helper h and `true`, or "not x or not h" of these and `false`, with what it
+/// watches.
+pub(crate) fn forbidden<N>(
+    name: N,
+    bit: (VariableId, VariableId, bool),
+) -> (Option<WatchedLiterals>, Clause<N>)
+    ensures clause { result.1 ≡ ForbidMultipleInstances bit.0 (helper_literal bit) name }
+    ensures watches { literals_watched result.0 ≡ bit_watches bit }
+{
+    let (variable, helper, is_positive) = bit;
+    WatchedLiterals::forbid_multiple(variable, Literal::new(helper, !is_positive), name)
+}
+
+/// Makes room in the lists of what each of these clauses watches, for as many additions as there are clauses.
+pub(crate) fn make_rooms<A: Allocator + Copy>(
+    map: &mut WatchMap<A>,
+    clauses: &[(VariableId, VariableId, bool)],
+) -> Result<(), StoreError>
+    ensures lists { SameLists map.old map.new }
+    ensures room { OnOk result (All (λ bit. HaveRooms map.new (length clauses.now) (two_or_none (bit_watches bit))) clauses.now) }
+    ensures memory { IfErr result (λ e. e ≡ OutOfMemory) }
+{
+    for clause in clauses {
+        make_rooms_of(map, *clause, clauses.len())?;
+    }
+    Ok(())
+}
+
+/// Makes room for so many additions in the lists of what a clause watches.
+fn make_rooms_of<A: Allocator + Copy>(
+    map: &mut WatchMap<A>,
+    clause: (VariableId, VariableId, bool),
+    additions: usize,
+) -> Result<(), StoreError>
+    ensures lists { SameLists map.old map.new }
+    ensures rooms { KeepsRoom map.old map.new }
+    ensures room { OnOk result (HaveRooms map.new additions (two_or_none (bit_watches clause))) }
+    ensures memory { IfErr result (λ e. e ≡ OutOfMemory) }
+{
+    let (variable, helper, is_positive) = clause;
+    map.make_room_many(Literal::new(variable, true), additions)?;
+    map.make_room_many(Literal::new(helper, !is_positive), additions)?;
+    Ok(())
 }
 
 /// Lets a clause watch another literal in the place of one, if it watches the one and not the other.

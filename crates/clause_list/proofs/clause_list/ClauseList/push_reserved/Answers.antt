@@ -1,9 +1,9 @@
-use Rattle.std.proofs.Common.{◌≡◌, ◌∙◌, sym, subst, map, List, ◌++◌, ◌∷◌, []}
+use Rattle.std.proofs.Common.{◌≡◌, ◌+◌, ◌∙◌, sym, ap, subst, map, List, ◌++◌, ◌∷◌, [], length, length-append}
 use Rattle.decisions.specs.Literals.{Lit}
-use Rattle.watch_map.specs.WatchLists.{AreWatched}
-use Rattle.clause_list.specs.ClauseList.{IsClauseList, Kept, contents, with_clause, literals_watched}
+use Rattle.watch_map.specs.WatchLists.{AreWatched, literals_in}
+use Rattle.clause_list.specs.ClauseList.{IsClauseList, Kept, contents, with_clause, literals_watched, HasRoomFor}
 use Rattle.clause_list.specs.Walks.{StartsAtEnd}
-use Rattle.clause_list.proofs.ListLaws.{contents_of, as_many_records, more_list, pushed_contents}
+use Rattle.clause_list.proofs.ListLaws.{contents_of, as_many_records, more_list, pushed_contents, room_after}
 use Rattle.clause_list.proofs.clause_list.ClauseList.push_reserved.Goals as goal
 
 pub invariant_of-self : goal.invariant_of-self
@@ -33,3 +33,8 @@ returns-clause-added g c =
     (subst (λ rs. contents_of (inside.clauses.items ++ c.args.clause ∷ []) rs learnt new ≡ with_clause (contents c.args.self.now) c.args.clause (literals_watched c.args.watches)) (sym c.push_reserved-2.ensures.items)
     (subst (λ (k : Kept g.row.N.Denot). contents_of (inside.clauses.items ++ c.args.clause ∷ []) (ws ++ made ∷ []) learnt new ≡ with_clause (contents k) c.args.clause (literals_watched c.args.watches)) c.self.view_is
     (pushed_contents inside.clauses.items ws learnt inside.map new c.args.clause c.args.watches made c.self.invariant.1 e c.started-watches.ensures.same starts)))
+
+pub returns-clause-rooms : goal.returns-clause-rooms
+returns-clause-rooms g c count bits room =
+    room_after count bits _ _ (literals_in c.args.watches) (ap length c.push_reserved.ensures.items ∙ length-append c.self.inside.clauses.items (c.args.clause ∷ []))
+    c.push_reserved.ensures.capacity c.push_reserved-2.ensures.capacity c.started-watches.ensures.rooms (subst (HasRoomFor (count + 1) bits) (sym c.self.view_is) room)

@@ -1,0 +1,8 @@
+//! Tests of what is kept for each name: trackers and scores, in ample memory and where it is refused.
+#![tactic(auto)]
+
+#[cfg(test)]
+mod ample;
+mod calls;
+#[cfg(test)]
+mod refused;
