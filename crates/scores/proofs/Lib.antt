@@ -1,1 +1,1 @@
-pub mod ScoreLaws
+pub mod LargestLaws

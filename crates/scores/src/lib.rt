@@ -1,6 +1,6 @@
-//! The scores of the names of packages: how often a name was bumped, with less weight for what was long ago.
+//! The scores of names: how active a package was in a search.
 //!
-//! The words of the contracts are in `specs/Scores`: scores are a function from names to numbers.
+//! The words of the contracts are in `specs/Scores`: the scores are a function from names to numbers.
 #![tactic(auto)]
 
 mod scores;

@@ -1,36 +1,42 @@
-//! Scores, with the greatest of them.
-ghost use Rattle.std.specs.Prelude.{◌≡◌, ℕ, ◌*◌, ◌/◌, ◌^◌, ◌<◌, ◌≤◌, IsTrue, OnOk, IfErr, Err};
+//! Scores, each found by the name of a package.
+ghost use Rattle.std.specs.Prelude.{◌≡◌, ◌≤◌, ◌*◌, ◌/◌, IsTrue, IsOk, OnOk, IfErr, Err};
+ghost use Rattle.std.specs.Ordering.{nat_cmp};
 ghost use Rattle.typed_ids.specs.Refusals.{IsGrowthRefusal};
+ghost use Rattle.typed_ids.specs.TotalMaps.{IsLargest};
 ghost use Rattle.typed_ids.specs.declared.error.StoreError.TheVariants.{IdSpace};
-ghost use Rattle.scores.specs.Scores.{scores_of, bumped, decayed, fraction, IsGreatest};
+ghost use Rattle.scores.specs.Scores.{bumped, decayed};
 
 use id_maps::{IdMap, SolverId};
 use std::alloc::Allocator;
 use std::marker::Model;
 use typed_ids::StoreError;
 
-/// A score for each name, 0 at first, with the greatest of all scores.
+/// A score for each name, 0 at first, and the largest of them beside.
+///
+/// A name takes memory from the first room on that is made for it.
 #[derive(Drop)]
 pub struct Scores<N: SolverId<A>, A: Allocator + Copy> {
     map: N::Scores,
     largest: u64,
 }
 
-/// The map that holds the scores, and the greatest of them.
+/// The map from names to scores, and the largest score.
 impl<N: SolverId<A>, A: Allocator + Copy> Model for Scores<N, A> {
-    ghost use Rattle.scores.specs.Scores.{Kept, IsGreatest};
+    ghost use Rattle.std.specs.Ordering.{nat_cmp};
+    ghost use Rattle.typed_ids.specs.TotalMaps.{IsLargest};
+    ghost use Rattle.scores.specs.Scores.{Kept};
 
     ghost Value = { Kept N.Scores };
 
     ghost view = { λ s. record { map = s.map; largest = s.largest } };
 
-    ghost invariant = { λ s. IsGreatest (N.Scores.value_at s.map) s.largest };
+    ghost invariant = { λ s. IsLargest nat_cmp 0 (N.Scores.value_at s.map) s.largest };
 }
 
 impl<N: SolverId<A>, A: Allocator + Copy> Scores<N, A> {
-    /// All scores are 0. Takes no memory.
+    /// Each score is 0. Takes no memory.
     pub fn new(alloc: A) -> Self
-        ensures { scores_of N.Scores.value_at result ≡ (λ name. 0) }
+        ensures { N.Scores.value_at result.map ≡ (λ name. 0) }
     {
         Scores {
             map: <N::Scores as IdMap<N, u64, A>>::new(alloc),
@@ -38,73 +44,75 @@ impl<N: SolverId<A>, A: Allocator + Copy> Scores<N, A> {
         }
     }
 
-    /// The score of a name: one look-up.
-    pub fn get(&self, name: N) -> u64
-        ensures { result ≡ scores_of N.Scores.value_at self.now name }
-    {
-        self.map.get(name)
-    }
-
-    /// The greatest of all scores. Constant time.
-    pub fn largest(&self) -> u64
-        ensures kept { result ≡ self.now.largest }
-        ensures greatest { IsGreatest (scores_of N.Scores.value_at self.now) result }
-    {
-        self.largest
-    }
-
-    /// The map that holds the scores.
+    /// The map from names to scores.
     pub fn map(&self) -> &N::Scores
         ensures { result.now ≡ self.now.map }
     {
         &self.map
     }
 
-    /// Makes room for a name's score: then [`Scores::bump`] may raise it. Room lasts. No score changes.
+    /// The score of a name. One look-up.
+    pub fn get(&self, name: N) -> u64
+        ensures { result ≡ N.Scores.value_at self.now.map name }
+    {
+        self.map.get(name)
+    }
+
+    /// The largest score, in constant time.
+    pub fn largest(&self) -> u64
+        ensures value { result ≡ self.now.largest }
+        ensures largest { IsLargest nat_cmp 0 (N.Scores.value_at self.now.map) result }
+    {
+        self.largest
+    }
+
+    /// Makes room for the score of a name: then [`Scores::bump`] may raise it. No score changes, and room lasts.
     pub fn make_room(&mut self, name: N) -> Result<(), StoreError>
-        ensures same { scores_of N.Scores.value_at self.new ≡ scores_of N.Scores.value_at self.old }
-        ensures largest { self.new.largest ≡ self.old.largest }
+        ensures same { N.Scores.value_at self.new.map ≡ N.Scores.value_at self.old.map }
         ensures room { OnOk result (N.Scores.has_room self.new.map name) }
+        ensures succeeds { N.Scores.has_room self.old.map name → IsOk result }
+        ensures keeps { (other : N) → N.Scores.has_room self.old.map other → N.Scores.has_room self.new.map other }
         ensures refused { IfErr result (IsGrowthRefusal (N.Scores.is_too_large name)) }
         ensures too_large { IsTrue (N.Scores.is_too_large name) → result ≡ Err IdSpace }
-        ensures keeps { (k : N) → N.Scores.has_room self.old.map k → N.Scores.has_room self.new.map k }
     {
         self.map.make_room(name)
     }
 
-    /// Adds to the score of a name for which there is room; one that would pass 2^64 - 1 stays there. Takes no memory.
+    /// Raises the score of a name, for which there is room, by an amount; it stays at 2^64 - 1 from there on. Takes no
+    /// memory; two look-ups.
     pub fn bump(&mut self, name: N, amount: u64)
         requires { N.Scores.has_room self.old.map name }
-        ensures raised { scores_of N.Scores.value_at self.new ≡ bumped N.eq name amount (scores_of N.Scores.value_at self.old) }
-        ensures keeps { (k : N) → N.Scores.has_room self.old.map k → N.Scores.has_room self.new.map k }
+        ensures bumped { N.Scores.value_at self.new.map ≡ bumped N.eq name amount (N.Scores.value_at self.old.map) }
+        ensures keeps { (other : N) → N.Scores.has_room self.old.map other → N.Scores.has_room self.new.map other }
     {
         let score = self.map.get(name).saturating_add(amount);
         self.map.put(name, score);
         self.largest = self.largest.max(score);
     }
 
-    /// Makes each score this fraction of itself, rounded down. Takes no memory, and time for the scores that are stored.
+    /// Takes each score times a fraction of at most 1, rounded down. Takes no memory; linear in the scores that the map
+    /// stores.
     pub fn decay(&mut self, numerator: u64, denominator: u64)
-        requires positive { 1 ≤ denominator }
-        requires proper { numerator ≤ denominator }
-        ensures scaled { scores_of N.Scores.value_at self.new ≡ decayed numerator denominator (scores_of N.Scores.value_at self.old) }
-        ensures keeps { (k : N) → N.Scores.has_room self.old.map k → N.Scores.has_room self.new.map k }
+        requires defined { 1 ≤ denominator }
+        requires shrinks { numerator ≤ denominator }
+        ensures decayed { N.Scores.value_at self.new.map ≡ decayed numerator denominator (N.Scores.value_at self.old.map) }
+        ensures keeps { (other : N) → N.Scores.has_room self.old.map other → N.Scores.has_room self.new.map other }
     {
         self.map.update_all(
             |score: u64| -> u64
                 requires { (1 ≤ denominator) × (numerator ≤ denominator) }
-                ensures { result ≡ fraction numerator denominator score }
+                ensures { result ≡ score * numerator / denominator }
             { scaled(score, numerator, denominator) },
         );
         self.largest = scaled(self.largest, numerator, denominator);
     }
 }
 
-/// This fraction of a score, rounded down.
+/// A score times a fraction, rounded down. The product has up to 128 bits.
 fn scaled(score: u64, numerator: u64, denominator: u64) -> u64
-    requires positive { 1 ≤ denominator }
-    requires proper { numerator ≤ denominator }
-    ensures { result ≡ fraction numerator denominator score }
+    requires defined { 1 ≤ denominator }
+    requires shrinks { numerator ≤ denominator }
+    ensures { result ≡ score * numerator / denominator }
 {
     (score as u128 * numerator as u128 / denominator as u128) as u64
 }
