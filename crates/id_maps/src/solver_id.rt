@@ -1,7 +1,7 @@
 //! Ids that choose how the maps and sets kept by them are stored.
 ghost use Rattle.std.specs.Prelude.{◌≡◌, ◌≤◌, ◌<◌, ◌^◌, Bool, true, false, List, length, nat_lt, ⊤};
 ghost use Rattle.std.specs.List.{All, IsDistinct};
-ghost use Rattle.std.proofs.Common.{true≢false};
+ghost use Rattle.std.proofs.Common.{refl, true≢false};
 ghost use Rattle.id_maps.specs.FewIds.{few_ids};
 
 use crate::id_map::IdMap;
@@ -37,6 +37,9 @@ pub trait SolverId<A: Allocator + Copy>: SameId {
 
     /// Where there can't be more than 2^32 ids, no more than that differ from one another.
     ghost few: { are_many ≡ false → (ids : List Self) → All is_id ids → IsDistinct Self.eq ids → length ids ≤ 2 ^ 32 };
+
+    /// An id that one of the three can't hold, none of them can.
+    ghost hold_alike: { (id : Self) → (Self.Scores.is_too_large id ≡ Self.Slots.is_too_large id) × (Self.Set.is_too_large id ≡ Self.Slots.is_too_large id) };
 }
 
 impl<Tag, Repr: DenseIndex + SameId, A: Allocator + Copy> SolverId<A> for DenseId<Tag, Repr> {
@@ -51,6 +54,8 @@ impl<Tag, Repr: DenseIndex + SameId, A: Allocator + Copy> SolverId<A> for DenseI
     ghost are_many = { nat_lt (2 ^ 32) Repr.limit };
 
     ghost few = { few_ids Repr.eq Repr.Eq.laws.refl Repr.index_of Repr.distinct Repr.limit };
+
+    ghost hold_alike = { λ id. (refl, refl) };
 
     fn attest(self) {
         let _index = self.to_index();
@@ -70,6 +75,8 @@ impl<Tag, Repr: SameId, H: BuildHasher + Default + Drop, A: Allocator + Copy> So
     ghost are_many = { true };
 
     ghost few = { λ many. absurd (true≢false many) };
+
+    ghost hold_alike = { λ id. (refl, refl) };
 
     fn attest(self) {}
 }
