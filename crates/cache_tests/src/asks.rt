@@ -71,10 +71,12 @@ impl<D: DependencyProvider<Cancel = u32> + Counting + Drop> Asks<D::NameId, D::S
                 Some(name) => candidates(self, &ids.solvables, *name, question),
                 None => Seen::Unknown,
             },
-            Question::Matching(set) => matching(self, &ids.solvables, VersionSetId(set)),
-            Question::NonMatching(set) => non_matching(self, &ids.solvables, VersionSetId(set)),
-            Question::Sorted(set) => sorted(self, &ids.solvables, VersionSetId(set)),
-            Question::Single(set) => single(self, &ids.solvables, VersionSetId(set)),
+            Question::Matching(set)
+            | Question::NonMatching(set)
+            | Question::Sorted(set)
+            | Question::Single(set) => {
+                of_version_set(self, &ids.solvables, VersionSetId(set), question)
+            }
             Question::Union(union) => union_of(self, &ids.solvables, VersionSetUnionId(union)),
             Question::Needs(place) => match ids.solvables.get(place) {
                 Some(solvable) => needs(self, *solvable),
@@ -144,57 +146,23 @@ fn candidates<D: DependencyProvider<Cancel = u32> + Drop>(
     }
 }
 
-fn matching<D: DependencyProvider<Cancel = u32> + Drop>(
+/// The list that a question about a version set is answered by.
+fn of_version_set<D: DependencyProvider<Cancel = u32> + Drop>(
     cache: &mut SolverCache<D>,
     ids: &[D::SolvableId],
     set: VersionSetId,
+    question: Question,
 ) -> Seen {
     if !cache.provider().knows_version_set(set) {
         return Seen::Unknown;
     }
-    match cache.get_or_cache_matching_candidates(set) {
-        Ok(id) => shown(ids, cache.list(id)),
-        Err(error) => unanswered(error),
-    }
-}
-
-fn non_matching<D: DependencyProvider<Cancel = u32> + Drop>(
-    cache: &mut SolverCache<D>,
-    ids: &[D::SolvableId],
-    set: VersionSetId,
-) -> Seen {
-    if !cache.provider().knows_version_set(set) {
-        return Seen::Unknown;
-    }
-    match cache.get_or_cache_non_matching_candidates(set) {
-        Ok(id) => shown(ids, cache.list(id)),
-        Err(error) => unanswered(error),
-    }
-}
-
-fn sorted<D: DependencyProvider<Cancel = u32> + Drop>(
-    cache: &mut SolverCache<D>,
-    ids: &[D::SolvableId],
-    set: VersionSetId,
-) -> Seen {
-    if !cache.provider().knows_version_set(set) {
-        return Seen::Unknown;
-    }
-    match cache.get_or_cache_sorted_candidates_for_version_set(set) {
-        Ok(id) => shown(ids, cache.list(id)),
-        Err(error) => unanswered(error),
-    }
-}
-
-fn single<D: DependencyProvider<Cancel = u32> + Drop>(
-    cache: &mut SolverCache<D>,
-    ids: &[D::SolvableId],
-    set: VersionSetId,
-) -> Seen {
-    if !cache.provider().knows_version_set(set) {
-        return Seen::Unknown;
-    }
-    match cache.get_or_cache_sorted_candidates(Requirement::Single(set)) {
+    let answer = match question {
+        Question::Matching(_) => cache.get_or_cache_matching_candidates(set),
+        Question::NonMatching(_) => cache.get_or_cache_non_matching_candidates(set),
+        Question::Sorted(_) => cache.get_or_cache_sorted_candidates_for_version_set(set),
+        _ => cache.get_or_cache_sorted_candidates(Requirement::Single(set)),
+    };
+    match answer {
         Ok(id) => shown(ids, cache.list(id)),
         Err(error) => unanswered(error),
     }

@@ -7,24 +7,16 @@ use crate::row::{CANDIDATES, MATCHING, NON_MATCHING, SORTED};
 use asking_providers::Listing;
 use std::test::Fail;
 
-/// The lists of package 0, where this solvable is favored, are as if none was.
-fn changes_nothing(rt: &impl AllocGlobal, favored: u32) -> Result<(), Fail> {
+// Solvable 2 is outside the set, solvable 3 is of package 1, and solvable 70 isn't known.
+#[test]
+fn a_favored_one_that_is_not_held_changes_nothing(rt: HostRuntime) -> Result<(), Fail> {
     let steps = [CANDIDATES, MATCHING, NON_MATCHING, SORTED];
-    let mut setup = PLAIN;
-    setup.favored = Some(favored);
-    dense_gives(rt, setup, &steps, counts(1, 0, 1))
-}
-
-#[test]
-fn a_favored_one_outside_the_set_changes_nothing(rt: HostRuntime) -> Result<(), Fail> {
-    changes_nothing(&rt, 2)
-}
-
-// Solvable 3 is of package 1, and solvable 70 isn't known.
-#[test]
-fn a_favored_one_that_is_no_candidate_changes_nothing(rt: HostRuntime) -> Result<(), Fail> {
-    changes_nothing(&rt, 3)?;
-    changes_nothing(&rt, 70)
+    for favored in [2, 3, 70] {
+        let mut setup = PLAIN;
+        setup.favored = Some(favored);
+        dense_gives(&rt, setup, &steps, counts(1, 0, 1))?;
+    }
+    Ok(())
 }
 
 /// Each candidate is listed twice, and this one is favored.

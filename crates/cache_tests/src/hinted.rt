@@ -6,11 +6,8 @@ use crate::row::{CANDIDATES, SORTED, available};
 use std::test::Fail;
 
 /// Whose dependencies are at hand once the candidates of package 0 were asked for; before, none's are.
-fn marks(
-    rt: &impl AllocGlobal,
-    hint: Hint,
-    (first, second, third): (bool, bool, bool),
-) -> Result<(), Fail> {
+fn marks(rt: &impl AllocGlobal, hint: Hint, marked: [bool; 3]) -> Result<(), Fail> {
+    let [first, second, third] = marked;
     let steps = [
         available(0, false),
         available(1, false),
@@ -24,26 +21,25 @@ fn marks(
     dense_gives(rt, with_hint(hint), &steps, counts(1, 0, 1))
 }
 
+// The last of these names a solvable of another package and one that isn't known.
 #[test]
-fn no_hint_marks_none(rt: HostRuntime) -> Result<(), Fail> {
-    marks(&rt, Hint::None, (false, false, false))
-}
-
-#[test]
-fn a_hint_for_all_marks_each_candidate(rt: HostRuntime) -> Result<(), Fail> {
-    marks(&rt, Hint::All, (true, true, true))
-}
-
-#[test]
-fn a_hint_for_some_marks_these(rt: HostRuntime) -> Result<(), Fail> {
-    marks(&rt, Hint::Some(0, 2), (true, false, true))
+fn a_hint_marks_the_candidates_that_it_names(rt: HostRuntime) -> Result<(), Fail> {
+    let hints = [
+        (Hint::None, [false, false, false]),
+        (Hint::All, [true, true, true]),
+        (Hint::Some(0, 2), [true, false, true]),
+        (Hint::Some(3, 70), [false, false, false]),
+    ];
+    for (hint, marked) in hints {
+        marks(&rt, hint, marked)?;
+    }
+    Ok(())
 }
 
 // Solvable 3 is of package 1, and solvable 70, at place 4, isn't known: both are said to be at hand, and nothing else
 // changes.
 #[test]
 fn hints_of_foreign_solvables_do_no_harm(rt: HostRuntime) -> Result<(), Fail> {
-    marks(&rt, Hint::Some(3, 70), (false, false, false))?;
     let steps: [Step; 6] = [
         CANDIDATES,
         SORTED,

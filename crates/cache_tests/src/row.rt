@@ -66,14 +66,13 @@ fn hinted(favored: Option<u32>) -> Setup {
     setup
 }
 
+// A favored candidate is the best.
 #[test]
 fn each_question_is_asked_once(rt: HostRuntime) -> Result<(), Fail> {
-    dense_gives(&rt, hinted(None), &everything(SORTED), counts(1, 1, 2))
-}
-
-#[test]
-fn a_favored_candidate_is_the_best(rt: HostRuntime) -> Result<(), Fail> {
-    dense_gives(&rt, hinted(Some(0)), &everything(FAVORED), counts(1, 1, 2))
+    for (favored, sorted) in [(None, SORTED), (Some(0), FAVORED)] {
+        dense_gives(&rt, hinted(favored), &everything(sorted), counts(1, 1, 2))?;
+    }
+    Ok(())
 }
 
 #[test]

@@ -3,47 +3,71 @@ use std::alloc::AllocError;
 use std::fmt::Debug;
 use std::process::Abort;
 use std::test::Fail;
+use test_checks::is_same;
 use typed_ids::{
     CandidatesId, ClauseId, ConditionId, DenseId, DenseIndex, DependenciesId, DisjunctionId,
-    LearntClauseId, NameId, SolvableTag, StringId, VariableId, VersionSetId, VersionSetUnionId,
+    LearntClauseId, NameId, NameTag, SolvableTag, SparseId, StringId, VariableId, VersionSetId,
+    VersionSetUnionId,
 };
 
 #[test]
-fn variables_begin_at_the_root(rt: HostRuntime) {
-    assert!(rt; VariableId::from_index(0) == VariableId::root());
-    assert!(rt; VariableId::from_index(0).is_root());
-    assert!(rt; !VariableId::from_index(1).is_root());
-    assert_eq!(rt; VariableId::from_index(7).to_index(), 7);
-    assert_eq!(rt; VariableId::from_index(2147483646).to_index(), 2147483646);
-    assert!(rt; VariableId::in_range(2147483646));
-    assert!(rt; !VariableId::in_range(2147483647));
+fn variables_begin_at_the_root() -> Result<(), Fail> {
+    let (first, last) = (
+        VariableId::from_index(0),
+        VariableId::from_index(2147483646),
+    );
+    let are_root = [
+        first == VariableId::root(),
+        first.is_root(),
+        VariableId::from_index(1).is_root(),
+    ];
+    let indexes = [VariableId::from_index(7).to_index(), last.to_index()];
+    is_same((are_root, indexes), ([true, true, false], [7, 2147483646]))
+}
+
+// The last number of each range, and the next one.
+#[test]
+fn ranges_end_where_a_raw_number_does() -> Result<(), Fail> {
+    let are_in_range = [
+        [
+            VariableId::in_range(2147483646),
+            VariableId::in_range(2147483647),
+        ],
+        [u16::in_range(65535), u16::in_range(65536)],
+        [
+            DenseId::<SolvableTag, u16>::in_range(65535),
+            DenseId::<SolvableTag, u16>::in_range(65536),
+        ],
+        [
+            StringId::in_range(4294967295),
+            StringId::in_range(4294967296),
+        ],
+        [
+            ClauseId::in_range(4294967294),
+            ClauseId::in_range(4294967295),
+        ],
+        [
+            DisjunctionId::in_range(4294967294),
+            DisjunctionId::in_range(4294967295),
+        ],
+    ];
+    let has_last = u64::in_range(18446744073709551615);
+    is_same((are_in_range, has_last), ([[true, false]; 6], true))
 }
 
 #[test]
-fn ranges_end_where_a_raw_number_does(rt: HostRuntime) {
-    assert!(rt; u16::in_range(65535) && !u16::in_range(65536));
-    assert!(rt; u64::in_range(18446744073709551615));
-    assert!(rt; DenseId::<SolvableTag, u16>::in_range(65535));
-    assert!(rt; !DenseId::<SolvableTag, u16>::in_range(65536));
-    assert!(rt; StringId::in_range(4294967295) && !StringId::in_range(4294967296));
-    assert!(rt; ClauseId::in_range(4294967294) && !ClauseId::in_range(4294967295));
-    assert!(rt; DisjunctionId::in_range(4294967294) && !DisjunctionId::in_range(4294967295));
-}
-
-#[test]
-fn conditions_count_from_nought(rt: HostRuntime) {
-    assert_eq!(rt; ConditionId::new(4).as_u32(), 4);
-    assert_eq!(rt; ConditionId::new(4), ConditionId::from_index(4));
-    assert_eq!(rt; ClauseId::install_root(), ClauseId::from_index(0));
-}
-
-#[test]
-fn defaults_are_the_first(rt: HostRuntime) {
-    assert_eq!(rt; VersionSetId::default(), VersionSetId(0));
-    assert_eq!(rt; VersionSetUnionId::default(), VersionSetUnionId(0));
-    assert!(rt; VersionSetId(3) < VersionSetId(4));
-    assert!(rt; ClauseId::from_index(3) < ClauseId::from_index(4));
-    assert!(rt; NameId::from_raw(3) < NameId::from_raw(4));
+fn ids_begin_at_the_first_and_are_ordered_by_their_numbers() -> Result<(), Fail> {
+    let facts = [
+        ConditionId::new(4).as_u32() == 4,
+        ConditionId::new(4) == ConditionId::from_index(4),
+        ClauseId::install_root() == ClauseId::from_index(0),
+        VersionSetId::default() == VersionSetId(0),
+        VersionSetUnionId::default() == VersionSetUnionId(0),
+        VersionSetId(3) < VersionSetId(4),
+        ClauseId::from_index(3) < ClauseId::from_index(4),
+        NameId::from_raw(3) < NameId::from_raw(4),
+    ];
+    is_same(facts, [true; 8])
 }
 
 /// The value's `Debug` text is this one.
@@ -68,18 +92,44 @@ pub(crate) fn is_text(
 
 #[test]
 fn ids_show_their_raw_numbers(rt: HostRuntime) -> Result<(), Fail> {
-    shows(&rt, VariableId::from_index(1), "VariableId(2)")?;
-    shows(&rt, ClauseId::from_index(1), "ClauseId(2)")?;
-    shows(&rt, ConditionId::new(1), "ConditionId(2)")?;
-    shows(&rt, DependenciesId::from_index(1), "DependenciesId(2)")?;
-    shows(&rt, DisjunctionId::from_index(1), "DisjunctionId(2)")
+    let shown = format!(in rt.alloc();
+        "{:?} {:?} {:?} {:?} {:?}",
+        VariableId::from_index(1),
+        ClauseId::from_index(1),
+        ConditionId::new(1),
+        DependenciesId::from_index(1),
+        DisjunctionId::from_index(1)
+    );
+    is_text(
+        &rt,
+        shown,
+        "VariableId(2) ClauseId(2) ConditionId(2) DependenciesId(2) DisjunctionId(2)",
+    )
 }
 
 #[test]
 fn other_ids_show_their_indexes(rt: HostRuntime) -> Result<(), Fail> {
-    shows(&rt, StringId(1), "StringId(1)")?;
-    shows(&rt, VersionSetId(1), "VersionSetId(1)")?;
-    shows(&rt, VersionSetUnionId(1), "VersionSetUnionId(1)")?;
-    shows(&rt, LearntClauseId::from_index(1), "LearntClauseId(1)")?;
-    shows(&rt, CandidatesId::from_index(1), "CandidatesId(1)")
+    let shown = format!(in rt.alloc();
+        "{:?} {:?} {:?} {:?} {:?}",
+        StringId(1),
+        VersionSetId(1),
+        VersionSetUnionId(1),
+        LearntClauseId::from_index(1),
+        CandidatesId::from_index(1)
+    );
+    is_text(
+        &rt,
+        shown,
+        "StringId(1) VersionSetId(1) VersionSetUnionId(1) LearntClauseId(1) CandidatesId(1)",
+    )
+}
+
+/// A name whose number may be any.
+type Name = SparseId<NameTag>;
+
+#[test]
+fn ids_of_names_are_written_as_their_numbers(rt: HostRuntime) -> Result<(), Fail> {
+    let (dense, sparse) = (NameId::from_raw(70), Name::from_raw(71));
+    let shown = format!(in rt.alloc(); "{:?}|{:4?}|{:?}", dense, dense, sparse);
+    is_text(&rt, shown, "70|  70|71")
 }

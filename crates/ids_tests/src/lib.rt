@@ -4,7 +4,7 @@
 #[cfg(test)]
 mod arena;
 #[cfg(test)]
-mod global;
+mod chosen;
 #[cfg(test)]
 mod ids;
 #[cfg(test)]
@@ -19,5 +19,3 @@ mod refusals;
 mod refused_defaults;
 #[cfg(test)]
 mod sets;
-#[cfg(test)]
-mod slots;

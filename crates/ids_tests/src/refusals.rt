@@ -1,43 +1,43 @@
 //! Refusals: their debug texts, in which a failed test shows them.
-use crate::ids::shows;
+use crate::ids::{is_text, shows};
 use std::test::Fail;
 use typed_ids::{InsertError, SolvableId, SolvableIdOrRoot, StoreError};
 
 #[test]
 fn refusals_show_their_names(rt: HostRuntime) -> Result<(), Fail> {
-    shows(&rt, StoreError::OutOfMemory, "OutOfMemory")?;
-    shows(&rt, StoreError::IdSpace, "IdSpace")?;
-    shows(&rt, StoreError::UnknownId, "UnknownId")?;
-    shows(&rt, StoreError::LevelOutOfRange, "LevelOutOfRange")?;
-    shows(&rt, StoreError::NotLoaded, "NotLoaded")?;
-    shows(&rt, StoreError::NegatesParent, "NegatesParent")
+    let refusals = [
+        StoreError::OutOfMemory,
+        StoreError::IdSpace,
+        StoreError::UnknownId,
+        StoreError::LevelOutOfRange,
+        StoreError::NotLoaded,
+        StoreError::NegatesParent,
+        StoreError::BadWatch,
+        StoreError::BadLearnt,
+        StoreError::EmptyTrail,
+        StoreError::BadFraction,
+        StoreError::TooManyClauses,
+        StoreError::Cancelled,
+    ];
+    shows(
+        &rt,
+        refusals,
+        "[OutOfMemory, IdSpace, UnknownId, LevelOutOfRange, NotLoaded, NegatesParent, BadWatch, BadLearnt, EmptyTrail, BadFraction, TooManyClauses, Cancelled]",
+    )
 }
 
 #[test]
-fn later_refusals_show_their_names(rt: HostRuntime) -> Result<(), Fail> {
-    shows(&rt, StoreError::BadWatch, "BadWatch")?;
-    shows(&rt, StoreError::BadLearnt, "BadLearnt")?;
-    shows(&rt, StoreError::EmptyTrail, "EmptyTrail")?;
-    shows(&rt, StoreError::BadFraction, "BadFraction")?;
-    shows(&rt, StoreError::TooManyClauses, "TooManyClauses")?;
-    shows(&rt, StoreError::Cancelled, "Cancelled")
-}
-
-#[test]
-fn what_was_refused_shows_both_parts(rt: HostRuntime) -> Result<(), Fail> {
+fn refused_values_and_keys_show_their_parts(rt: HostRuntime) -> Result<(), Fail> {
     let refused = InsertError {
         error: StoreError::IdSpace,
         value: 7u32,
     };
-    shows(&rt, refused, "InsertError { error: IdSpace, value: 7 }")
-}
-
-#[test]
-fn keys_show_the_root_or_a_solvable(rt: HostRuntime) -> Result<(), Fail> {
-    shows(&rt, SolvableIdOrRoot::<SolvableId>::Root, "Root")?;
-    shows(
+    let root: SolvableIdOrRoot<SolvableId> = SolvableIdOrRoot::Root;
+    let solvable = SolvableIdOrRoot::Solvable(SolvableId::from_raw(4));
+    let shown = format!(in rt.alloc(); "{:?} {:?} {:?}", refused, root, solvable);
+    is_text(
         &rt,
-        SolvableIdOrRoot::Solvable(SolvableId::from_raw(4)),
-        "Solvable(4)",
+        shown,
+        "InsertError { error: IdSpace, value: 7 } Root Solvable(4)",
     )
 }

@@ -1,121 +1,116 @@
-//! The sets with ample memory: none of their calls is refused for want of it, and the answers are as wanted.
+//! The sets with ample memory: none of their calls is refused for want of it, and the answers are as wanted. `chosen` has
+//! the sets that ids choose for themselves.
 ghost use Rattle.std.specs.Prelude.{◌≢◌};
 
-use id_maps::{IndexedSet, SolverId, WithRootSet};
+use crate::chosen::SET;
+use id_maps::{IdSet, IndexedSet, SolverId, WithRootSet};
 use id_storage::FrozenCopyMap;
 use ids_callers::{SetAnswers, set_answers};
-use std::alloc::{Allocator, Global};
+use std::alloc::Allocator;
 use std::test::Fail;
-use test_checks::sees;
-use typed_ids::{DenseId, NameId, NameTag, SolvableId, SolvableIdOrRoot, SparseId, StoreError};
-
-const WANTED: SetAnswers = SetAnswers {
-    has_before: false,
-    is_new: true,
-    is_new_again: false,
-    has_key: true,
-    has_other: false,
-};
+use test_checks::{is_same, sees};
+use typed_ids::{DenseIndex, NameId, SolvableId, SolvableIdOrRoot, StoreError};
 
 #[test]
 fn dense_sets_keep_each_side_of_a_word(rt: HostRuntime) -> Result<(), Fail> {
-    let wanted = ([true, true, false], [true, false, false, true, false]);
-    sees(marks(rt.alloc()), wanted)
-}
-
-/// What a set answers to 63, 128, and 63 once more; and whether it then has 63, 64, 127, 128 and 5000.
-type Marks = ([bool; 3], [bool; 5]);
-
-fn marks<A: Allocator + Copy>(alloc: A) -> Result<Marks, StoreError> {
-    let mut set: IndexedSet<NameId, A> = IndexedSet::new(alloc);
-    let marks = marks_in(&mut set);
-    drop(set);
-    marks
-}
-
-fn marks_in<A: Allocator + Copy>(set: &mut IndexedSet<NameId, A>) -> Result<Marks, StoreError> {
-    let (low, high) = (NameId::from_raw(63), NameId::from_raw(128));
-    let inserted = [set.insert(low)?, set.insert(high)?, set.insert(low)?];
-    let has = [
-        set.contains(low),
-        set.contains(NameId::from_raw(64)),
-        set.contains(NameId::from_raw(127)),
-        set.contains(high),
-        set.contains(NameId::from_raw(5000)),
+    let others = [
+        NameId::from_raw(64),
+        NameId::from_raw(127),
+        NameId::from_raw(5000),
     ];
-    Ok((inserted, has))
+    let marks = marks(
+        rt.alloc(),
+        NameId::from_raw(63),
+        NameId::from_raw(128),
+        others,
+    );
+    sees(
+        marks,
+        ([true, true, false], [true, true], [false, false, false]),
+    )
 }
 
-#[test]
-fn dense_sets_end_before_two_to_the_fortieth(rt: HostRuntime) {
-    let far = far_inserted(rt.alloc(), DenseId::from_raw(1 << 40));
-    assert_eq!(rt; far, (Err(StoreError::IdSpace), false));
-}
+/// What a set answers to two ids, and to the first once more; and whether it then has the two, and three others.
+type Marks = ([bool; 3], [bool; 2], [bool; 3]);
 
-/// What a new set answers to an id, and whether it then has it.
-fn far_inserted<A: Allocator + Copy>(
+fn marks<Id: DenseIndex, A: Allocator + Copy>(
     alloc: A,
-    far: DenseId<NameTag, u64>,
-) -> (Result<bool, StoreError>, bool) {
-    let mut set: IndexedSet<DenseId<NameTag, u64>, A> = IndexedSet::new(alloc);
-    let answer = (set.insert(far), set.contains(far));
+    low: Id,
+    high: Id,
+    others: [Id; 3],
+) -> Result<Marks, StoreError> {
+    let mut set: IndexedSet<Id, A> = IndexedSet::new(alloc);
+    let inserted = inserted(&mut set, low, high);
+    let [first, second, third] = others;
+    let has = [set.contains(low), set.contains(high)];
+    let has_others = [
+        set.contains(first),
+        set.contains(second),
+        set.contains(third),
+    ];
     drop(set);
-    answer
+    Ok((inserted?, has, has_others))
 }
 
-/// A name whose number may be any.
-type Name = SparseId<NameTag>;
-
-#[test]
-fn dense_and_sparse_ids_sets_answer_alike(rt: HostRuntime) -> Result<(), Fail> {
-    let (key, other) = (NameId::from_raw(64), NameId::from_raw(127));
-    let dense = set_answers::<NameId, Global, <NameId as SolverId<Global>>::Set>(
-        rt.alloc(),
-        key,
-        other,
-    );
-    sees(dense, WANTED)?;
-    let (key, other) = (Name::from_raw(64), Name::from_raw(127));
-    let sparse = set_answers::<Name, Global, <Name as SolverId<Global>>::Set>(
-        rt.alloc(),
-        key,
-        other,
-    );
-    sees(sparse, WANTED)
-}
-
-type Key = SolvableIdOrRoot<SolvableId>;
-
-type KeySet = WithRootSet<SolvableId, Global>;
-
-/// What a set that may have the root says of two keys.
-fn answers_of_key_set(alloc: Global, key: Key, other: Key) -> Result<SetAnswers, StoreError>
-    requires { other ≢ key }
-{
-    set_answers::<Key, Global, KeySet>(alloc, key, other)
+fn inserted<Id: DenseIndex, A: Allocator + Copy>(
+    set: &mut IndexedSet<Id, A>,
+    low: Id,
+    high: Id,
+) -> Result<[bool; 3], StoreError> {
+    Ok([set.insert(low)?, set.insert(high)?, set.insert(low)?])
 }
 
 #[test]
 fn the_root_is_no_solvable(rt: HostRuntime) -> Result<(), Fail> {
     let solvable = SolvableIdOrRoot::from(SolvableId::from_raw(0));
-    let answers = answers_of_key_set(rt.alloc(), SolvableIdOrRoot::root(), solvable);
-    sees(answers, WANTED)
+    let answers = answers(rt.alloc(), SolvableIdOrRoot::root(), solvable);
+    sees(answers, SET)
 }
 
 #[test]
 fn a_solvable_is_not_the_root(rt: HostRuntime) -> Result<(), Fail> {
     let solvable = SolvableIdOrRoot::from(SolvableId::from_raw(0));
-    let answers = answers_of_key_set(rt.alloc(), solvable, SolvableIdOrRoot::root());
-    sees(answers, WANTED)
+    let answers = answers(rt.alloc(), solvable, SolvableIdOrRoot::root());
+    sees(answers, SET)
+}
+
+/// What a set that may have the root says of two keys.
+fn answers<S: SolverId<A>, A: Allocator + Copy>(
+    alloc: A,
+    key: SolvableIdOrRoot<S>,
+    other: SolvableIdOrRoot<S>,
+) -> Result<SetAnswers, StoreError>
+    requires { other ≢ key }
+{
+    set_answers::<SolvableIdOrRoot<S>, A, WithRootSet<S, A>>(alloc, key, other)
+}
+
+// A set that names no allocator takes the global one.
+#[test]
+fn the_root_is_put_beside_solvables(rt: HostRuntime) -> Result<(), Fail> {
+    let mut set: WithRootSet<SolvableId> = WithRootSet::new(rt.alloc());
+    let added = added(&mut set, SolvableId::from_raw(0));
+    drop(set);
+    sees(added, [true, true, false])
+}
+
+/// Whether the root, a solvable and the root again are new.
+fn added<S: SolverId<A>, A: Allocator + Copy>(
+    set: &mut WithRootSet<S, A>,
+    solvable: S,
+) -> Result<[bool; 3], StoreError> {
+    let root = set.insert(SolvableIdOrRoot::Root)?;
+    let solvable = set.insert(SolvableIdOrRoot::Solvable(solvable))?;
+    Ok([root, solvable, set.insert(SolvableIdOrRoot::Root)?])
 }
 
 #[test]
-fn keys_give_their_solvable_back(rt: HostRuntime) {
+fn keys_give_their_solvable_back() -> Result<(), Fail> {
     let solvable = SolvableId::from_raw(7);
-    let key: Key = SolvableIdOrRoot::from(solvable);
-    let root: Key = SolvableIdOrRoot::root();
-    let given = (key.solvable(), root.solvable(), key == root);
-    assert_eq!(rt; given, (Some(solvable), None, false));
+    let key = SolvableIdOrRoot::from(solvable);
+    let root: SolvableIdOrRoot<SolvableId> = SolvableIdOrRoot::root();
+    is_same([key.solvable(), root.solvable()], [Some(solvable), None])?;
+    is_same(key == root, false)
 }
 
 #[test]

@@ -1,5 +1,5 @@
 //! A caller that is generic in what a pool keeps.
-ghost use Rattle.std.specs.Prelude.{◌≡◌, true, IfOk};
+ghost use Rattle.std.specs.Prelude.{◌≡◌, ◌<◌, true, length, slice_get, Some, IfOk};
 ghost use Rattle.package_pool.specs.Interned.{first_same};
 ghost use Rattle.pool_callers.specs.Kinds.{parts_of};
 
@@ -42,13 +42,40 @@ where
     ensures package { IfOk result (λ twice.
         twice.package ≡ K.package_of (first_same K.is_one (K.kept pool.old) (K.entry first))) }
 {
-    let id = K::intern(pool, first)?;
-    let again = K::intern(pool, second)?;
-    L::intern(pool, later)?;
+    let (id, again) = interned_ids::<VS, N, A, K, L>(pool, first, second, later)?;
     Ok(Twice {
         first: id,
         second: again,
         seen: K::resolve(pool, id),
         package: K::package(pool, id),
     })
+}
+
+/// The ids of two values that are one to a pool and come into it, once a value of any kind has come after them. It has a
+/// function of its own, since a proof spells out each goal with all that was called before it.
+fn interned_ids<VS, N, A, K, L>(
+    pool: &mut Pool<VS, N, A>,
+    first: K::Value,
+    second: K::Value,
+    later: L::Value,
+) -> Result<(K::Id, K::Id), StoreError>
+where
+    VS: VersionSet + Drop,
+    N: Eq + Hash + Drop,
+    A: Allocator + Copy,
+    K: Kind<VS, N, A>,
+    L: Kind<VS, N, A>,
+    requires one { K.is_one (K.entry first) (K.entry second) ≡ true }
+    requires first { K.may_come pool.old first }
+    requires second { K.may_come pool.old second }
+    requires later { L.may_come pool.old later }
+    ensures same { IfOk result (λ ids. ids.0 ≡ ids.1) }
+    ensures within { IfOk result (λ ids. K.place ids.0 < length (K.kept pool.new)) }
+    ensures here { IfOk result (λ ids.
+        slice_get (K.kept pool.new) (K.place ids.0) ≡ Some (first_same K.is_one (K.kept pool.old) (K.entry first))) }
+{
+    let id = K::intern(pool, first)?;
+    let again = K::intern(pool, second)?;
+    L::intern(pool, later)?;
+    Ok((id, again))
 }

@@ -1,82 +1,58 @@
 //! The debug texts of requirements, with conditions and without, and of conditions; and a map of requirements that names no allocator.
 use providers::{Condition, ConditionalRequirement, LogicalOperator, Requirement, RequirementMap};
-use std::alloc::Global;
-use std::fmt::Debug;
+use std::alloc::{AllocError, Global};
 use std::process::Abort;
 use std::test::Fail;
 use test_checks::sees;
 use typed_ids::{ConditionId, StoreError, VersionSetId, VersionSetUnionId};
 
-/// The value's `Debug` text is this one.
-fn shows(
-    rt: &(impl Abort + AllocGlobal),
-    value: impl Debug + Drop,
-    text: &str,
-) -> Result<(), Fail> {
-    let shown = format!(in rt.alloc(); "{value:?}")?;
+/// What was written is this text.
+fn is_text(rt: &impl Abort, shown: Result<String, AllocError>, text: &str) -> Result<(), Fail> {
+    let shown = shown?;
     assert_eq!(rt; shown.as_str(), text);
     Ok(())
 }
 
 #[test]
-fn requirements_show_their_kind_and_id(rt: HostRuntime) -> Result<(), Fail> {
+fn requirements_and_conditions_show_their_parts(rt: HostRuntime) -> Result<(), Fail> {
     let set = Requirement::Single(VersionSetId(3));
-    shows(&rt, set, "Single(VersionSetId(3))")?;
     let union = Requirement::Union(VersionSetUnionId(4));
-    shows(&rt, union, "Union(VersionSetUnionId(4))")
-}
-
-#[test]
-fn conditions_show_their_kind_and_parts(rt: HostRuntime) -> Result<(), Fail> {
-    shows(&rt, LogicalOperator::And, "And")?;
-    shows(&rt, LogicalOperator::Or, "Or")?;
     let either = Condition::Binary(
         LogicalOperator::Or,
         ConditionId::new(0),
         ConditionId::new(5),
     );
-    shows(&rt, either, "Binary(Or, ConditionId(1), ConditionId(6))")?;
     let asked = Condition::Requirement(VersionSetId(2));
-    shows(&rt, asked, "Requirement(VersionSetId(2))")
-}
-
-/// The `Debug` text of a requirement that is asked for on a condition, or always.
-fn shows_asked(
-    rt: &(impl Abort + AllocGlobal),
-    asked: &ConditionalRequirement,
-    text: &str,
-) -> Result<(), Fail> {
-    let shown = format!(in rt.alloc(); "{asked:?}")?;
-    assert_eq!(rt; shown.as_str(), text);
-    Ok(())
+    let shown = format!(in rt.alloc();
+        "{:?} {:?} {:?} {:?} {:?} {:?}",
+        set,
+        union,
+        LogicalOperator::And,
+        LogicalOperator::Or,
+        either,
+        asked
+    );
+    is_text(
+        &rt,
+        shown,
+        "Single(VersionSetId(3)) Union(VersionSetUnionId(4)) And Or Binary(Or, ConditionId(1), ConditionId(6)) Requirement(VersionSetId(2))",
+    )
 }
 
 #[test]
 fn conditional_requirements_show_their_parts(rt: HostRuntime) -> Result<(), Fail> {
     let (set, union) = (VersionSetId(3), VersionSetUnionId(4));
     let asked = Requirement::Single(set);
-    let conditional = asked.with_condition(ConditionId::new(0));
-    let always = [
+    let shown = [
+        asked.with_condition(ConditionId::new(0)),
         ConditionalRequirement::from(asked),
         ConditionalRequirement::from(set),
+        ConditionalRequirement::from(union),
     ];
-    let of_union = ConditionalRequirement::from(union);
-    shows_asked(
+    is_text(
         &rt,
-        &conditional,
-        "ConditionalRequirement { condition: Some(ConditionId(1)), requirement: Single(VersionSetId(3)) }",
-    )?;
-    for asked in &always {
-        shows_asked(
-            &rt,
-            asked,
-            "ConditionalRequirement { condition: None, requirement: Single(VersionSetId(3)) }",
-        )?;
-    }
-    shows_asked(
-        &rt,
-        &of_union,
-        "ConditionalRequirement { condition: None, requirement: Union(VersionSetUnionId(4)) }",
+        format!(in rt.alloc(); "{shown:?}"),
+        "[ConditionalRequirement { condition: Some(ConditionId(1)), requirement: Single(VersionSetId(3)) }, ConditionalRequirement { condition: None, requirement: Single(VersionSetId(3)) }, ConditionalRequirement { condition: None, requirement: Single(VersionSetId(3)) }, ConditionalRequirement { condition: None, requirement: Union(VersionSetUnionId(4)) }]",
     )
 }
 

@@ -1,0 +1,197 @@
+//! The maps and the sets that ids choose for themselves: the same calls for each kind of ids, in ample memory.
+ghost use Rattle.std.specs.Prelude.{◌≡◌, ◌≢◌, ◌/◌};
+
+use id_maps::{IdMap, IdSet, Slot, SolverId};
+use ids_callers::{SetAnswers, set_answers};
+use std::alloc::{Allocator, Global};
+use std::test::Fail;
+use test_checks::{is_same, sees};
+use typed_ids::{DenseId, NameId, NameTag, SparseId, StoreError};
+
+/// What a map to scores reads at three keys, and as the largest value: as it is made, once it is written at the first and
+/// the last of them, and once its values are halved.
+type Scores = [[u64; 4]; 3];
+
+const SCORES: Scores = [[0, 0, 0, 0], [9, 0, 4, 9], [4, 0, 2, 4]];
+
+/// What a map to slots reads at two keys: as it is made, once the first is written, and once it is emptied again.
+type Slots = [[Option<u32>; 2]; 3];
+
+const SLOTS: Slots = [[None, None], [Some(3), None], [None, None]];
+
+/// What a set says of two keys, of which one is put in.
+pub(crate) const SET: SetAnswers = SetAnswers {
+    has_before: false,
+    is_new: true,
+    is_new_again: false,
+    has_key: true,
+    has_other: false,
+};
+
+/// What the ids' map to scores answers at three of them, their map to slots at two, and their set of a key and another one.
+fn chosen<K: SolverId<A>, A: Allocator + Copy>(
+    alloc: A,
+    scored: [K; 3],
+    slotted: [K; 2],
+    key: K,
+    other: K,
+) -> Result<(Scores, Slots, SetAnswers), StoreError>
+    requires { other ≢ key }
+{
+    let scores = scores::<K, A>(alloc, scored)?;
+    let slots = slots::<K, A>(alloc, slotted)?;
+    Ok((
+        scores,
+        slots,
+        set_answers::<K, A, K::Set>(alloc, key, other)?,
+    ))
+}
+
+fn scores<K: SolverId<A>, A: Allocator + Copy>(
+    alloc: A,
+    keys: [K; 3],
+) -> Result<Scores, StoreError> {
+    let mut map = K::Scores::new(alloc);
+    let scores = scores_in::<K, A, K::Scores>(&mut map, keys);
+    drop(map);
+    scores
+}
+
+fn scores_in<K: Copy, A: Allocator + Copy, M: IdMap<K, u64, A>>(
+    map: &mut M,
+    keys: [K; 3],
+) -> Result<Scores, StoreError> {
+    let [three, _, five] = keys;
+    let made = read::<K, A, M>(map, keys);
+    map.set(five, 4)?;
+    map.make_room(three)?;
+    map.put(three, 9);
+    let written = read::<K, A, M>(map, keys);
+    map.update_all(
+        |value: u64| -> u64
+            ensures { result ≡ value / 2 }
+        { value / 2 },
+    );
+    Ok([made, written, read::<K, A, M>(map, keys)])
+}
+
+/// The values at three keys, and the largest of the map.
+fn read<K: Copy, A: Allocator + Copy, M: IdMap<K, u64, A>>(map: &M, keys: [K; 3]) -> [u64; 4] {
+    let [three, four, five] = keys;
+    [map.get(three), map.get(four), map.get(five), map.largest()]
+}
+
+fn slots<K: SolverId<A>, A: Allocator + Copy>(alloc: A, keys: [K; 2]) -> Result<Slots, StoreError> {
+    let mut map = K::Slots::new(alloc);
+    let slots = slots_in::<K, A, K::Slots>(&mut map, keys);
+    drop(map);
+    slots
+}
+
+fn slots_in<K: Copy, A: Allocator + Copy, M: IdMap<K, Slot, A>>(
+    map: &mut M,
+    [first, second]: [K; 2],
+) -> Result<Slots, StoreError> {
+    let made = [map.get(first).number(), map.get(second).number()];
+    map.set(first, Slot::new(Some(3)))?;
+    let written = [map.get(first).number(), map.get(second).number()];
+    map.set(first, Slot::default())?;
+    let emptied = [map.get(first).number(), map.get(second).number()];
+    Ok([made, written, emptied])
+}
+
+#[test]
+fn dense_ids_choose_vectors(rt: HostRuntime) -> Result<(), Fail> {
+    let scored = [
+        NameId::from_raw(3),
+        NameId::from_raw(4),
+        NameId::from_raw(5),
+    ];
+    let slotted = [NameId::from_raw(5), NameId::from_raw(2)];
+    let (key, other) = (NameId::from_raw(64), NameId::from_raw(127));
+    let chosen = chosen::<NameId, Global>(rt.alloc(), scored, slotted, key, other);
+    sees(chosen, (SCORES, SLOTS, SET))
+}
+
+/// A name whose number may be any.
+type Name = SparseId<NameTag>;
+
+#[test]
+fn sparse_ids_choose_tables(rt: HostRuntime) -> Result<(), Fail> {
+    let scored = [Name::from_raw(3), Name::from_raw(4), Name::from_raw(5)];
+    let slotted = [Name::from_raw(5), Name::from_raw(1 << 31)];
+    let (key, other) = (Name::from_raw(64), Name::from_raw(127));
+    let chosen = chosen::<Name, Global>(rt.alloc(), scored, slotted, key, other);
+    sees(chosen, (SCORES, SLOTS, SET))
+}
+
+#[test]
+fn tables_are_kept_by_numbers_of_16_bits(rt: HostRuntime) -> Result<(), Fail> {
+    let keys: [SparseId<NameTag, u16>; 3] = [
+        SparseId::from_raw(65535),
+        SparseId::from_raw(0),
+        SparseId::from_raw(256),
+    ];
+    sees(
+        scores::<SparseId<NameTag, u16>, Global>(rt.alloc(), keys),
+        SCORES,
+    )
+}
+
+#[test]
+fn tables_are_kept_by_numbers_of_64_bits(rt: HostRuntime) -> Result<(), Fail> {
+    let keys: [SparseId<NameTag, u64>; 3] = [
+        SparseId::from_raw(u64::MAX),
+        SparseId::from_raw(1 << 40),
+        SparseId::from_raw(1 << 32),
+    ];
+    sees(
+        scores::<SparseId<NameTag, u64>, Global>(rt.alloc(), keys),
+        SCORES,
+    )
+}
+
+#[test]
+fn vectors_and_dense_sets_end_at_2_to_the_40(rt: HostRuntime) -> Result<(), Fail> {
+    let far: DenseId<NameTag, u64> = DenseId::from_raw(1 << 40);
+    let refused = far_written::<DenseId<NameTag, u64>, Global>(rt.alloc(), far);
+    is_same(
+        refused,
+        (
+            (Err(StoreError::IdSpace), 0),
+            (Err(StoreError::IdSpace), false),
+        ),
+    )
+}
+
+/// What a new map answers to a value, and what it then keeps at its key; and what a new set answers to the key, and whether
+/// it then has it.
+type Far = (
+    (Result<(), StoreError>, u64),
+    (Result<bool, StoreError>, bool),
+);
+
+fn far_written<K: SolverId<A>, A: Allocator + Copy>(alloc: A, far: K) -> Far {
+    let mut map = K::Scores::new(alloc);
+    let in_map = (map.set(far, 7), map.get(far));
+    drop(map);
+    let mut set = K::Set::new(alloc);
+    let in_set = (set.insert(far), set.contains(far));
+    drop(set);
+    (in_map, in_set)
+}
+
+#[test]
+fn a_slot_keeps_its_number() -> Result<(), Fail> {
+    let numbers = [
+        Slot::default().number(),
+        Slot::new(Some(3)).number(),
+        Slot::new(Some(0)).number(),
+    ];
+    is_same(numbers, [None, Some(3), Some(0)])?;
+    let are_same = [
+        Slot::new(None) == Slot::default(),
+        Slot::new(Some(0)) == Slot::default(),
+    ];
+    is_same(are_same, [true, false])
+}
