@@ -5,6 +5,8 @@
 #[cfg(test)]
 mod clause_commands;
 #[cfg(test)]
+mod score_commands;
+#[cfg(test)]
 mod tests;
 #[cfg(test)]
 mod wanted;

@@ -1,7 +1,9 @@
 //! The library as a program uses it. What is done to a store is done through `&mut`, and the answers are copied out of it
 //! before it is dropped: so the proofs stay short.
 use crate::wanted::{Chosen, Compared, Wanted, compared};
-use doors_tests::{Release, SearchEnd, Shelf, Since, ask, give, require, rule_out, search};
+use doors_tests::{
+    AskFault, Release, SearchEnd, Shelf, Since, ask, give, require, rule_out, search,
+};
 use resolvo_clauses::{Literal, VariableOrigin};
 use resolvo_ids::{
     ClauseId, DenseIndex, NameId, SolvableId, StoreError, StringId, VariableId, VersionSetId,
@@ -70,18 +72,21 @@ const WANTED: [Wanted; 11] = [
     Wanted::Decided(Chosen {
         candidate: 1,
         clause: 0,
+        score: 0,
         count: 2,
     }),
     Wanted::Assigned,
     Wanted::Decided(Chosen {
         candidate: 3,
         clause: 1,
+        score: 0,
         count: 1,
     }),
     Wanted::Undone,
     Wanted::Decided(Chosen {
         candidate: 1,
         clause: 0,
+        score: 0,
         count: 2,
     }),
 ];
@@ -120,8 +125,8 @@ fn a_run_is_answered_line_by_line(rt: HostRuntime) -> Result<(), Fail> {
 /// What is seen of a search: how it ended, and the values of the three candidates.
 type Seen = (SearchEnd, [Option<bool>; 3]);
 
-/// What is to be decided: the candidate, if there is one, or the clause that can't be met any more.
-type Asked = Result<Option<VariableId>, ClauseId>;
+/// What is to be decided: the candidate, if there is one, or why none can be asked for.
+type Asked = Result<Option<VariableId>, AskFault>;
 
 /// What the searches ask of a store. They are generic in it: a proof over a type parameter is much shorter than one over
 /// the store's own type.
@@ -140,7 +145,7 @@ trait Searcher {
 
     fn search_on(&mut self) -> Result<Seen, StoreError>;
 
-    fn asked(&self) -> Asked;
+    fn asked(&mut self) -> Asked;
 }
 
 impl<D: DependencyProvider + Drop> Searcher for ClauseStore<D> {
@@ -172,11 +177,10 @@ impl<D: DependencyProvider + Drop> Searcher for ClauseStore<D> {
         Ok((end, values))
     }
 
-    fn asked(&self) -> Asked {
-        match ask(self) {
-            Ok(Some(decision)) => Ok(Some(decision.candidate)),
-            Ok(None) => Ok(None),
-            Err(clause) => Err(clause),
+    fn asked(&mut self) -> Asked {
+        match ask(self)? {
+            Some(decision) => Ok(Some(decision.candidate)),
+            None => Ok(None),
         }
     }
 }
@@ -246,7 +250,7 @@ fn asking_names_a_decision_or_a_falsified_clause(rt: HostRuntime) -> Result<(), 
     let wanted = [
         Ok(None),
         Ok(Some(variable(1))),
-        Err(ClauseId::from_index(0)),
+        Err(AskFault::Falsified(ClauseId::from_index(0))),
     ];
     is_same(questioned(rt.alloc(), shelf), Ok(wanted))
 }

@@ -11,25 +11,30 @@ pub(crate) enum Wanted {
     Variable(usize),
     /// So many candidates, in one list.
     Loaded(usize),
+    Disjunction(usize),
     /// The clause is added, and is no conflict.
     Clause(usize),
     /// The clause is added, and is a conflict.
     Conflict(usize),
+    /// Whether the variable is new under the name, and how many clauses are added.
+    Tracked(bool, usize),
     Assigned,
     Undone,
     /// This assignment is taken back, and the one before it is of the level.
     TakenBack(Assignment, u32),
     /// This assignment is handed out, if there is one.
     Next(Option<Assignment>),
+    Done,
     Decided(Chosen),
     NoDecision,
 }
 
-/// A candidate that is to be decided, the clause that wants it, and how many candidates there are.
+/// A candidate that is to be decided, the clause that wants it, the package's score, and how many candidates there are.
 #[derive(Clone, Copy)]
 pub(crate) struct Chosen {
     pub(crate) candidate: usize,
     pub(crate) clause: usize,
+    pub(crate) score: u64,
     pub(crate) count: usize,
 }
 
@@ -47,6 +52,10 @@ fn is_wanted<A: Allocator>(reply: &Reply<A>, wanted: Wanted) -> bool {
         (Reply::Clause(given, conflict), Wanted::Conflict(index)) => {
             given.to_index() == index && *conflict
         }
+        (Reply::Disjunction(given), Wanted::Disjunction(index)) => given.to_index() == index,
+        (Reply::Tracked(new, clauses), Wanted::Tracked(is_new, count)) => {
+            *new == is_new && *clauses == count
+        }
         (Reply::Assigned, Wanted::Assigned) => true,
         (Reply::Undone(last), Wanted::Undone) => last.is_none(),
         (Reply::Undone(Some((last, level))), Wanted::TakenBack(wanted, before)) => {
@@ -54,6 +63,7 @@ fn is_wanted<A: Allocator>(reply: &Reply<A>, wanted: Wanted) -> bool {
         }
         (Reply::Next(Some(next)), Wanted::Next(Some(wanted))) => is_assignment(*next, wanted),
         (Reply::Next(None), Wanted::Next(None)) => true,
+        (Reply::Done, Wanted::Done) => true,
         (Reply::Decided(decision), Wanted::Decided(chosen)) => is_chosen(*decision, chosen),
         (Reply::NoDecision, Wanted::NoDecision) => true,
         _ => false,
@@ -70,6 +80,7 @@ fn are_candidates<A: Allocator>(lists: &[Vec<VariableId, A>], count: usize) -> b
 fn is_chosen(decision: QueueDecision, chosen: Chosen) -> bool {
     decision.candidate.to_index() == chosen.candidate
         && decision.clause_id.to_index() == chosen.clause
+        && decision.package_activity == chosen.score
         && decision.candidate_count == chosen.count
 }
 

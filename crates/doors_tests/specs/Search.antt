@@ -1,8 +1,11 @@
--- How a search ends.
-use Rattle.std.specs.Prelude.{◌≡◌, Some, option_map, ⊤}
+-- How a search ends, and why there is no decision to ask for.
+use Rattle.std.specs.Prelude.{◌≡◌, None, Some, option_map, ⊤}
+use Rattle.resolvo_ids.specs.Types.StoreError.TheVariants.{OutOfMemory}
 use Rattle.resolvo_store.specs.Store.{Store}
 use Rattle.resolvo_store.specs.Solved.{IsSolved}
 use Rattle.resolvo_store.specs.Outcome.{falsified_clause}
+use Rattle.doors_tests.specs.declared.searching.AskFault.{AskFault}
+use Rattle.doors_tests.specs.declared.searching.AskFault.TheVariants as Fault
 use Rattle.doors_tests.specs.declared.searching.SearchEnd.{SearchEnd}
 use Rattle.doors_tests.specs.declared.searching.SearchEnd.TheVariants.{Solved, Falsified, LevelsUsed}
 
@@ -11,3 +14,8 @@ abbrev pub IsEnd : {N S : Type 0} → Store N S → SearchEnd → Type 0
 IsEnd st Solved = IsSolved st
 IsEnd st (Falsified clause) = option_map (λ c. c.clause_id) (falsified_clause st) ≡ Some clause
 IsEnd st LevelsUsed = ⊤
+
+-- what is true of the store where it is asked in vain
+abbrev pub IsFault : {N S : Type 0} → Store N S → AskFault → Type 0
+IsFault st (Fault.Falsified clause) = option_map (λ c. c.clause_id) (falsified_clause st) ≡ Some clause
+IsFault st (Fault.Refused error) = (falsified_clause st ≡ None) × (error ≡ OutOfMemory)

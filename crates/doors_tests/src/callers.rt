@@ -1,5 +1,5 @@
 //! Callers that know nothing of the provider but its traits, and nothing of the store but its contracts.
-ghost use Rattle.std.specs.Prelude.{◌≡◌, ◌==◌, [], ◌∷◌, ◌++◌, false, not, if◌then◌else◌, Some, Err, IfOk, OnErr};
+ghost use Rattle.std.specs.Prelude.{◌≡◌, ◌==◌, [], ◌∷◌, ◌++◌, false, not, if◌then◌else◌, Some, None, Err, IfOk, OnErr};
 ghost use Rattle.resolvo_ids.specs.Refusals.{code_of};
 ghost use Rattle.resolvo_ids.specs.Types.StoreError.TheVariants.{UnknownId};
 ghost use Rattle.resolvo_pool.specs.Provider.{knows_requirement};
@@ -47,7 +47,7 @@ pub fn register<D: DependencyProvider + Drop>(
     requirement: Requirement,
 ) -> Result<ClauseId, StoreError>
     ensures added { IfOk result (λ clause. (⟦<D as AbstractStore>⟧.store store.new).requires ≡ (⟦<D as AbstractStore>⟧.store store.old).requires
-        ++ (record { parent = parent; requirement = requirement; clause_id = clause }) ∷ []) }
+        ++ (record { parent = parent; requirement = requirement; condition = None; clause_id = clause }) ∷ []) }
     ensures refused { OnErr result (⟦<D as AbstractStore>⟧.store store.new ≡ ⟦<D as AbstractStore>⟧.store store.old) }
 {
     match store.step(&Command::Requires(parent, requirement, None)) {
@@ -65,7 +65,7 @@ pub fn require<D: DependencyProvider + Drop>(
     requirement: Requirement,
 ) -> Result<ClauseId, StoreError>
     ensures added { IfOk result (λ clause. (⟦<D as AbstractStore>⟧.store store.new).requires ≡ (⟦<D as AbstractStore>⟧.store store.old).requires
-        ++ (record { parent = parent; requirement = requirement; clause_id = clause }) ∷ []) }
+        ++ (record { parent = parent; requirement = requirement; condition = None; clause_id = clause }) ∷ []) }
     ensures refused { OnErr result ((⟦<D as AbstractStore>⟧.store store.new).requires ≡ (⟦<D as AbstractStore>⟧.store store.old).requires) }
     ensures unknown { knows_requirement (D.universe store.old.provider) requirement ≡ false → result ≡ Err UnknownId }
 {

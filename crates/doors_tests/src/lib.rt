@@ -8,5 +8,5 @@ mod searching;
 mod shelf;
 
 pub use callers::{give, load, may_pass, register, require};
-pub use searching::{SearchEnd, ask, rule_out, search};
+pub use searching::{AskFault, SearchEnd, ask, rule_out, search};
 pub use shelf::{Release, Shelf, Since};

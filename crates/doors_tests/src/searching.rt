@@ -1,9 +1,9 @@
 //! A small search.
-ghost use Rattle.std.specs.Prelude.{◌≡◌, not, None, Some, option_map, IfOk, OnOk, IfErr};
+ghost use Rattle.std.specs.Prelude.{◌≡◌, not, None, Some, IfOk, OnOk, IfErr};
 ghost use Rattle.resolvo_clauses.specs.Trail.{val};
 ghost use Rattle.resolvo_queue.specs.Pick.{DecidesUnbeaten};
 ghost use Rattle.resolvo_store.specs.Outcome.{falsified_clause, offers};
-ghost use Rattle.doors_tests.specs.Search.{IsEnd};
+ghost use Rattle.doors_tests.specs.Search.{IsEnd, IsFault};
 
 use crate::callers::give;
 use resolvo_ids::{ClauseId, StoreError, VariableId};
@@ -23,17 +23,30 @@ pub enum SearchEnd {
     LevelsUsed,
 }
 
-/// The next decision, if there is one, which no eligible clause beats; or the first clause that can't be met any more.
+/// Why there is no decision to ask for.
+#[derive(Clone, Copy, Debug, PartialEq, Eq)]
+pub enum AskFault {
+    /// This clause, the first such one, can't be met any more.
+    Falsified(ClauseId),
+    /// The store was refused memory.
+    Refused(StoreError),
+}
+
+/// The next decision, if there is one, which no eligible clause beats. Asking changes nothing.
 pub fn ask<D: DependencyProvider + Drop>(
-    store: &ClauseStore<D>,
-) -> Result<Option<QueueDecision>, ClauseId>
-    ensures decision { IfOk result (λ decision. DecidesUnbeaten (offers (⟦<D as AbstractStore>⟧.store store.now)) decision) }
-    ensures unfalsified { OnOk result (falsified_clause (⟦<D as AbstractStore>⟧.store store.now) ≡ None) }
-    ensures falsified { IfErr result (λ clause. option_map (λ c. c.clause_id) (falsified_clause (⟦<D as AbstractStore>⟧.store store.now)) ≡ Some clause) }
+    store: &mut ClauseStore<D>,
+) -> Result<Option<QueueDecision>, AskFault>
+    ensures decision { IfOk result (λ decision. DecidesUnbeaten (offers (⟦<D as AbstractStore>⟧.store store.old)) decision) }
+    ensures unfalsified { OnOk result (falsified_clause (⟦<D as AbstractStore>⟧.store store.old) ≡ None) }
+    ensures fault { IfErr result (IsFault (⟦<D as AbstractStore>⟧.store store.old)) }
+    ensures same { ⟦<D as AbstractStore>⟧.store store.new ≡ ⟦<D as AbstractStore>⟧.store store.old }
 {
-    match store.falsified() {
-        Some(clause) => Err(clause),
-        None => Ok(store.next_decision()),
+    if let Some(clause) = store.falsified() {
+        return Err(AskFault::Falsified(clause));
+    }
+    match store.next_decision() {
+        Ok(decision) => Ok(decision),
+        Err(error) => Err(AskFault::Refused(error)),
     }
 }
 

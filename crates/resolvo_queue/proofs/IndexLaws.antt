@@ -26,10 +26,10 @@ pub same_with_empty : {V X : Type 0} (f : V → List X) (vs ws : List V) (v : V)
 same_with_empty f vs ws v e h k =
     rw (e, map-append f vs (v ∷ []), h) (past_empty (map f vs) k)
 
-module _ {V : Type 0} (f : V → List RequiresClause) (old : List (List RequiresClause)) (vs : List V) (i parent : ℕ)
+module _ {V X : Type 0} (f : V → List X) (old : List (List X)) (vs : List V) (i parent : ℕ)
     (before after : V) (same : SameValues (list_at old) (list_at (map f vs))) (at : i ≡ parent) (within : i < length vs)
     (read : before ≡ get_or vs i before) where
-  abbrev put : List (List RequiresClause)
+  abbrev put : List (List X)
   put = map f (set vs i after)
 
   elsewhere : (other : ℕ) → other ≢ parent → list_at put other ≡ list_at old other
@@ -44,8 +44,8 @@ module _ {V : Type 0} (f : V → List RequiresClause) (old : List (List Requires
   was : list_at old parent ≡ f before
   was = sym (same parent) ∙ rw (← at, read) (get_or-map f vs i before [] within)
 
-  -- a clause put after those of its parent
-  pub put_after : (c : RequiresClause) → f after ≡ f before ++ c ∷ [] →
+  -- an item put after those of its variable
+  pub put_after : (c : X) → f after ≡ f before ++ c ∷ [] →
       IsUpdate (list_at old) parent (list_at old parent ++ c ∷ []) (list_at put)
   put_after c e = (here ∙ (e ∙ ap (λ l. l ++ c ∷ []) (sym was)), elsewhere)
 

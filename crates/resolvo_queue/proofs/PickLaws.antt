@@ -6,7 +6,7 @@ use Rattle.std.proofs.lemmas.Bool.Decides.{nat_tests}
 use Rattle.std.proofs.lemmas.List.Elements.{All-from_recursion, recursion_from_All}
 use Rattle.providers.specs.declared.requirement.Requirement.{Requirement}
 use Rattle.typed_ids.specs.declared.version_set_id.VersionSetId.{VersionSetId}
-use Rattle.decisions.specs.Literals.{Values}
+use Rattle.decisions.specs.Literals.{Lit, Values}
 use Rattle.resolvo_queue.specs.declared.frontier.Frontier.{Frontier}
 use Rattle.resolvo_queue.specs.declared.queue_decision.QueueDecision.{QueueDecision}
 use Rattle.resolvo_queue.specs.declared.requires_clause.RequiresClause.{RequiresClause}
@@ -141,16 +141,16 @@ same_test : {X : Type 0} (p q : X → Bool) → ((x : X) → p x ≡ q x) → (x
 same_test p q e [] a = tt
 same_test p q e (x ∷ xs) a = (sym (e x) ∙ a.0, same_test p q e xs a.1)
 
-module _ (val : Values) (rows_of : Requirement → List Row) (score : VersionSetId → ℕ) (cs : List RequiresClause) where
+module _ (val : Values) (literals_of : Option ℕ → List Lit) (rows_of : Requirement → List Row) (score : VersionSetId → ℕ) (cs : List RequiresClause) where
   abbrev offered : RequiresClause → Bool
-  offered c = is_some (offer val rows_of score c)
+  offered c = is_some (offer val literals_of rows_of score c)
 
   abbrev offer_at : RequiresClause → Frontier → Offer
   offer_at c x = record { clause = c; frontier = x; score = score x.set }
 
   -- a clause makes an offer exactly if it is eligible
-  offered_if_eligible : (c : RequiresClause) → offered c ≡ is_eligible val rows_of c
-  offered_if_eligible c = go (is_open val rows_of c) (frontier val (rows_of c.requirement))
+  offered_if_eligible : (c : RequiresClause) → offered c ≡ is_eligible val literals_of rows_of c
+  offered_if_eligible c = go (is_open val literals_of rows_of c) (frontier val (rows_of c.requirement))
     where
       go : (o : Bool) (f : Option Frontier) → is_some (cond o (option_map (offer_at c) f) None) ≡ (o && is_some f)
       go true None = refl
@@ -158,21 +158,21 @@ module _ (val : Values) (rows_of : Requirement → List Row) (score : VersionSet
       go false f = refl
 
   abbrev NoneEligible : Type 0
-  NoneEligible = All (λ c. is_eligible val rows_of c ≡ false) (scan cs)
+  NoneEligible = All (λ c. is_eligible val literals_of rows_of c ≡ false) (scan cs)
 
-  none_picked : (pick (eligible val rows_of score cs) ≡ None) ↔ NoneEligible
+  none_picked : (pick (eligible val literals_of rows_of score cs) ≡ None) ↔ NoneEligible
   none_picked = (
-    λ e. All-from_recursion (λ c. is_eligible val rows_of c ≡ false) (scan cs)
-        (same_test offered (is_eligible val rows_of) offered_if_eligible (scan cs)
-        (nothing_kept (offer val rows_of score) (scan cs) ((pick_none (eligible val rows_of score cs)).0 e))),
-    λ a. (pick_none (eligible val rows_of score cs)).1 (keeps_nothing (offer val rows_of score) (scan cs)
-        (same_test (is_eligible val rows_of) offered (λ c. sym (offered_if_eligible c)) (scan cs)
-        (recursion_from_All (λ c. is_eligible val rows_of c ≡ false) (scan cs) a))),
+    λ e. All-from_recursion (λ c. is_eligible val literals_of rows_of c ≡ false) (scan cs)
+        (same_test offered (is_eligible val literals_of rows_of) offered_if_eligible (scan cs)
+        (nothing_kept (offer val literals_of rows_of score) (scan cs) ((pick_none (eligible val literals_of rows_of score cs)).0 e))),
+    λ a. (pick_none (eligible val literals_of rows_of score cs)).1 (keeps_nothing (offer val literals_of rows_of score) (scan cs)
+        (same_test (is_eligible val literals_of rows_of) offered (λ c. sym (offered_if_eligible c)) (scan cs)
+        (recursion_from_All (λ c. is_eligible val literals_of rows_of c ≡ false) (scan cs) a))),
   )
 
   pub none_decided : (d : Option QueueDecision) →
-      d ≡ option_map decided (pick (eligible val rows_of score cs)) → (d ≡ None) ↔ NoneEligible
-  none_decided d e = rw e (go (pick (eligible val rows_of score cs)) none_picked)
+      d ≡ option_map decided (pick (eligible val literals_of rows_of score cs)) → (d ≡ None) ↔ NoneEligible
+  none_decided d e = rw e (go (pick (eligible val literals_of rows_of score cs)) none_picked)
     where
       go : (o : Option Offer) → ((o ≡ None) ↔ NoneEligible) → (option_map decided o ≡ None) ↔ NoneEligible
       go None h = (λ n. h.0 refl, λ a. refl)

@@ -1,20 +1,23 @@
 -- The state of rows, found in one walk over them.
 use Rattle.std.proofs.Common.{◌≡◌, ℕ, ◌+◌, ◌<◌, ◌≤◌, Bool, true, false, not, ◌&&◌, ◌||◌, cond, eqb, List, [], ◌∷◌, ◌++◌, map, length, take, fold, Option, Some, None, sym, ap, refl, ◌∙◌, eq-eqb, add-zero, arith, length-append, subst}
-use Rattle.std.specs.Prelude.{find, option_map, flat_map, is_none, ◌^◌}
-use Rattle.std.specs.List.{list_all}
+use Rattle.std.specs.Prelude.{All, IfSome, find, option_map, flat_map, is_none, ◌^◌}
+use Rattle.std.specs.List.{AllByRecursion, list_all}
 use Rattle.std.specs.Map.{lookup}
 use Rattle.std.specs.declared.vec.Vec.{Vec}
 use Rattle.std.proofs.lemmas.List.{length-map}
+use Rattle.std.proofs.lemmas.List.Elements.{All-from_recursion, recursion_from_All}
 use Rattle.std.proofs.lemmas.List.Folds.{flat_map-map, list_all-append, list_all-map}
 use Rattle.std.proofs.lemmas.List.Sums.{fold-append}
 use Rattle.typed_ids.specs.declared.version_set_id.VersionSetId.{VersionSetId}
+use Rattle.providers.specs.Provider.{AreUnionSetsKnown, Universe, knows_requirement, sets_of}
 use Rattle.providers.specs.Requirement.{same_requirement}
 use Rattle.providers.specs.declared.requirement.Requirement.{Requirement}
+use Rattle.providers.specs.declared.requirement.Requirement.TheVariants.{Single, Union}
 use Rattle.decisions.specs.Literals.{Values, known_true, known_false, undecided}
 use Rattle.resolvo_queue.specs.declared.frontier.Frontier.{Frontier}
 use Rattle.resolvo_queue.specs.declared.row_state.RowState.{RowState}
 use Rattle.resolvo_queue.specs.declared.row_state.RowState.TheVariants.{Met, Undecided, AllFalse}
-use Rattle.resolvo_queue.specs.Rows.{Row, list_rows, rows, lists_or_none, lists_loaded, has_true_row, all_false, is_undecided_row, frontier, frontier_at}
+use Rattle.resolvo_queue.specs.Rows.{Row, list_rows, rows, loaded_rows, lists_or_none, lists_loaded, has_true_row, all_false, is_undecided_row, frontier, frontier_at}
 use Rattle.resolvo_queue.specs.RowState.{state_of, unmet_state, counted, with_row, with_rows}
 
 -- without lists there are no rows
@@ -240,3 +243,63 @@ pub none_false : {A : Type 0} (val : Values) (sets : List VersionSetId) (loaded 
     None ≡ lookup (same_requirement r) loaded → true ≡ all_false val (rows sets (lists_loaded loaded r))
 none_false val sets loaded r e =
     ap (all_false val) (sym (no_rows sets)) ∙ ap (λ o. all_false val (rows sets (lists_or_none o))) e
+
+-- ---- the version set of a frontier
+
+module _ (Known : VersionSetId → Type 0) where
+  abbrev IsKnownRow : Row → Type 0
+  IsKnownRow row = Known row.set
+
+  list_known : (set : VersionSetId) (list : List ℕ) → Known set → (rs : List Row) → AllByRecursion IsKnownRow rs →
+      AllByRecursion IsKnownRow (list_rows set list ++ rs)
+  list_known set [] k rs a = a
+  list_known set (x ∷ xs) k rs a = (k, list_known set xs k rs a)
+
+  rows_known : (sets : List VersionSetId) (lists : List (List ℕ)) → AllByRecursion Known sets → AllByRecursion IsKnownRow (rows sets lists)
+  rows_known [] lists a = tt
+  rows_known (s ∷ ss) [] a = tt
+  rows_known (s ∷ ss) (l ∷ ls) a = list_known s l a.0 (rows ss ls) (rows_known ss ls a.1)
+
+  found_known : (test : Row → Bool) (rs : List Row) → AllByRecursion IsKnownRow rs → IfSome (find test rs) IsKnownRow
+  found_known test [] a = tt
+  found_known test (r ∷ rs) a = go (test r) (found_known test rs a.1)
+    where
+      go : (b : Bool) → IfSome (find test rs) IsKnownRow → IfSome (cond b (Some r) (find test rs)) IsKnownRow
+      go true h = a.0
+      go false h = h
+
+  -- a frontier is of a version set of the rows
+  pub frontier-known : (val : Values) (sets : List VersionSetId) (lists : List (List ℕ)) → All Known sets →
+      IfSome (frontier val (rows sets lists)) (λ f. Known f.set)
+  frontier-known val sets lists a =
+      let rs : List Row = rows sets lists in
+      go rs (has_true_row val rs) (find (is_undecided_row val) rs)
+      (found_known (is_undecided_row val) rs (rows_known sets lists (recursion_from_All Known sets a)))
+    where
+      go : (rs : List Row) (t : Bool) (o : Option Row) → IfSome o IsKnownRow →
+          IfSome (cond t None (option_map (frontier_at val rs) o)) (λ f. Known f.set)
+      go rs true o h = tt
+      go rs false None h = tt
+      go rs false (Some row) h = h
+
+-- the version sets of a known requirement are known
+pub sets_known : {N S : Type 0} (universe : Universe N S) → AreUnionSetsKnown universe → (r : Requirement) →
+    knows_requirement universe r ≡ true → All (λ v. universe.knows_set v ≡ true) (sets_of universe r)
+sets_known universe unions (Single v) h = All-from_recursion (λ w. universe.knows_set w ≡ true) (v ∷ []) (h, tt)
+sets_known universe unions (Union u) h = unions u h
+
+-- so is that of an undecided state
+pub undecided-known : {N S A : Type 0} (universe : Universe N S) (val : Values) (loaded : List (Requirement × Vec (Vec ℕ A) A)) (r : Requirement) (f : Frontier) →
+    AreUnionSetsKnown universe → knows_requirement universe r ≡ true → state_of val (loaded_rows universe loaded r) ≡ Undecided f →
+    universe.knows_set f.set ≡ true
+undecided-known universe val loaded r f unions known e =
+    let rs : List Row = loaded_rows universe loaded r in
+    go (has_true_row val rs) (frontier val rs)
+    (frontier-known (λ v. universe.knows_set v ≡ true) val (sets_of universe r) (lists_loaded loaded r)
+    (sets_known universe unions r known)) e
+  where
+    go : (t : Bool) (o : Option Frontier) → IfSome o (λ g. universe.knows_set g.set ≡ true) → cond t Met (unmet_state o) ≡ Undecided f →
+        universe.knows_set f.set ≡ true
+    go true o h e = let bad : Met ≡ Undecided f = e in cc
+    go false None h e = let bad : AllFalse ≡ Undecided f = e in cc
+    go false (Some g) h e = let same : Undecided g ≡ Undecided f = e in let eq : g ≡ f = cc in subst (λ x. universe.knows_set x.set ≡ true) eq h

@@ -1,23 +1,16 @@
 -- A search goes through a list and ends at the first item that gives something: what it has found so far, of one list and
 -- of lists one after another, and that the scan's two questions are such searches.
-use Rattle.std.proofs.Common.{◌≡◌, ℕ, ◌+◌, ◌<◌, ◌≤◌, Bool, true, false, not, ◌&&◌, cond, eqb, ltb, List, [], ◌∷◌, ◌++◌, length, get_or, drop, Option, Some, None, sym, ap, refl, ◌∙◌, arith}
-use Rattle.std.specs.Prelude.{All, find, filter_map, flat_map, fold, option_map, is_none}
-use Rattle.std.specs.List.{AllByRecursion, cons_option}
+use Rattle.std.proofs.Common.{◌≡◌, ℕ, ◌+◌, ◌<◌, ◌≤◌, Bool, true, false, not, ◌&&◌, cond, eqb, List, [], ◌∷◌, ◌++◌, length, get_or, drop, Option, Some, None, sym, ap, refl, ◌∙◌}
+use Rattle.std.specs.Prelude.{All, find, flat_map, option_map, is_none}
+use Rattle.std.specs.List.{AllByRecursion}
 use Rattle.std.specs.Option.{option_or}
-use Rattle.std.proofs.lemmas.Bool.Decides.{nat_tests}
 use Rattle.std.proofs.lemmas.List.{drop_all, drop_more}
 use Rattle.std.proofs.lemmas.List.Elements.{All-filter, All-from_recursion, recursion_from_All}
 use Rattle.providers.specs.declared.requirement.Requirement.{Requirement}
-use Rattle.decisions.specs.Literals.{Values, known_true}
-use Rattle.resolvo_queue.specs.declared.frontier.Frontier.{Frontier}
-use Rattle.resolvo_queue.specs.declared.queue_decision.QueueDecision.{QueueDecision}
+use Rattle.decisions.specs.Literals.{Lit, Values, known_true}
 use Rattle.resolvo_queue.specs.declared.requires_clause.RequiresClause.{RequiresClause}
-use Rattle.resolvo_queue.specs.declared.row_state.RowState.{RowState}
-use Rattle.resolvo_queue.specs.declared.row_state.RowState.TheVariants.{Met, Undecided, AllFalse}
-use Rattle.resolvo_queue.specs.RowState.{state_of, unmet_state}
 use Rattle.resolvo_queue.specs.Rows.{Row, has_true_row, all_false, frontier}
-use Rattle.resolvo_queue.specs.Scan.{scan, parents, clauses_of, is_open, is_falsified, first_falsified}
-use Rattle.resolvo_queue.specs.Pick.{Offer, offer, eligible, pick, better, beats, decided, no_score}
+use Rattle.resolvo_queue.specs.Scan.{scan, parents, clauses_of, are_literals_false, is_falsified, first_falsified}
 use Rattle.resolvo_queue.proofs.IndexLaws.{own_parent}
 use Rattle.resolvo_queue.proofs.RowLaws.{falsified-rows}
 
@@ -135,117 +128,55 @@ module _ (val : Values) (cs : List RequiresClause) where
           search-flat_map h (clauses_of cs) (parents cs)
           ∙ search-same (λ p. search_in h (clauses_of cs p)) at_parent only_true (parents cs)
 
--- ---- the two questions
+-- ---- the falsified clause
 
-never_below_zero : (n : ℕ) (b : Bool) → (ltb n 0 && b) ≡ false
-never_below_zero n b = grind (arith, nat_tests)
-
-module _ (val : Values) (rows_of : Requirement → List Row) where
-  -- the offer of a clause by whether it is open and what its frontier is
-  abbrev offer_by : RequiresClause → Bool → Option Frontier → Option Offer
-  offer_by c t f = cond t (option_map (λ x. record { clause = c; frontier = x; score = 0 }) f) None
+module _ (val : Values) (literals_of : Option ℕ → List Lit) (rows_of : Requirement → List Row) where
+  abbrev Test : RequiresClause → Bool
+  Test = is_falsified val literals_of rows_of
 
   -- a falsified clause's id
   abbrev pub falsified_at : RequiresClause → Option ℕ
-  falsified_at c = cond (is_falsified val rows_of c) (Some c.clause_id) None
-
-  -- an eligible clause's decision
-  abbrev pub decided_at : RequiresClause → Option QueueDecision
-  decided_at c = option_map decided (offer val rows_of no_score c)
+  falsified_at c = cond (Test c) (Some c.clause_id) None
 
   pub falsified_at-shut : (c : RequiresClause) → known_true (val c.parent) ≡ false → falsified_at c ≡ None
   falsified_at-shut c e =
-      ap (λ b. cond ((b && not (has_true_row val (rows_of c.requirement))) && is_none (frontier val (rows_of c.requirement)))
-      (Some c.clause_id) None) e
+      ap (λ b. cond ((b && (are_literals_false val (literals_of c.condition) && not (has_true_row val (rows_of c.requirement))))
+      && is_none (frontier val (rows_of c.requirement))) (Some c.clause_id) None) e
 
-  pub decided_at-shut : (c : RequiresClause) → known_true (val c.parent) ≡ false → decided_at c ≡ None
-  decided_at-shut c e =
-      ap (λ b. option_map decided (offer_by c (b && not (has_true_row val (rows_of c.requirement)))
-      (frontier val (rows_of c.requirement)))) e
+  and_assoc : (a b c : Bool) → ((a && b) && c) ≡ (a && (b && c))
+  and_assoc true b c = refl
+  and_assoc false b c = refl
 
-  -- where the parent is true, by the rows alone
-  pub falsified_at-open : (c : RequiresClause) (b : Bool) → known_true (val c.parent) ≡ true →
-      b ≡ all_false val (rows_of c.requirement) → falsified_at c ≡ cond b (Some c.clause_id) None
-  falsified_at-open c b e r =
-      ap (λ t. cond ((t && not (has_true_row val (rows_of c.requirement))) && is_none (frontier val (rows_of c.requirement)))
-      (Some c.clause_id) None) e
-      ∙ ap (λ t. cond t (Some c.clause_id) None) (falsified-rows val (rows_of c.requirement) ∙ sym r)
+  -- where the parent is true, by the condition and the rows alone
+  pub falsified-open : (c : RequiresClause) → known_true (val c.parent) ≡ true →
+      Test c ≡ (are_literals_false val (literals_of c.condition) && all_false val (rows_of c.requirement))
+  falsified-open c e =
+      let l : Bool = are_literals_false val (literals_of c.condition) in
+      let t : Bool = has_true_row val (rows_of c.requirement) in
+      ap (λ b. (b && (l && not t)) && is_none (frontier val (rows_of c.requirement))) e
+      ∙ (and_assoc l (not t) (is_none (frontier val (rows_of c.requirement)))
+      ∙ ap (λ b. l && b) (falsified-rows val (rows_of c.requirement)))
 
-  -- the decision of a clause whose parent is true, by the state of its rows
-  abbrev pub decided_in : RequiresClause → RowState → Option QueueDecision
-  decided_in c Met = None
-  decided_in c (Undecided f) = Some (decided (record { clause = c; frontier = f; score = 0 }))
-  decided_in c AllFalse = None
+  -- what the test says of a clause gives its id
+  pub falsified-tested : (c : RequiresClause) (b : Bool) → b ≡ Test c → cond b (Some c.clause_id) None ≡ falsified_at c
+  falsified-tested c b e = ap (λ t. cond t (Some c.clause_id) None) e
 
-  pub decided_at-open : (c : RequiresClause) (s : RowState) → known_true (val c.parent) ≡ true →
-      s ≡ state_of val (rows_of c.requirement) → decided_at c ≡ decided_in c s
-  decided_at-open c s e r =
-      let b : Bool = has_true_row val (rows_of c.requirement) in
-      let f : Option Frontier = frontier val (rows_of c.requirement) in
-      ap (λ t. option_map decided (offer_by c (t && not b) f)) e ∙ (by b f ∙ ap (decided_in c) (sym r))
-    where
-      by : (b : Bool) (f : Option Frontier) →
-          option_map decided (offer_by c (true && not b) f) ≡ decided_in c (cond b Met (unmet_state f))
-      by true f = refl
-      by false None = refl
-      by false (Some x) = refl
+  -- the search through some clauses, as a test
+  pub falsified-found : (clauses : List RequiresClause) (given : Option ℕ) →
+      given ≡ search_in falsified_at clauses → given ≡ option_map (λ c. c.clause_id) (find Test clauses)
+  falsified-found clauses given e = e ∙ sym (find-search Test (λ c. c.clause_id) clauses)
 
-  pub none_in : (c : RequiresClause) (s : RowState) → ((f : Frontier) → s ≡ Undecided f → ⊥) → None ≡ decided_in c s
-  none_in c Met h = refl
-  none_in c (Undecided f) h = absurd (h f refl)
-  none_in c AllFalse h = refl
-
-  abbrev offers : List RequiresClause → List Offer
-  offers cs = filter_map (offer val rows_of no_score) cs
-
-  -- no offer without a score beats another
-  keeps_first : (b : Offer) (cs : List RequiresClause) → fold better (Some b) (offers cs) ≡ Some b
-  keeps_first b [] = refl
-  keeps_first b (c ∷ cs) = go (is_open val rows_of c) (frontier val (rows_of c.requirement)) (keeps_first b cs)
-    where
-      go : (t : Bool) (f : Option Frontier) → fold better (Some b) (offers cs) ≡ Some b →
-          fold better (Some b) (cons_option (offer_by c t f) (offers cs)) ≡ Some b
-      go true None e = e
-      go true (Some x) e =
-          let new : Offer = record { clause = c; frontier = x; score = 0 } in
-          let h : beats new b ≡ false = never_below_zero b.score _ in
-          ap (λ u. fold better (Some (cond u new b)) (offers cs)) h ∙ e
-      go false f e = e
-
-  -- so the pick is the first offer
-  pub pick-search : (cs : List RequiresClause) → option_map decided (pick (offers cs)) ≡ search_in decided_at cs
-  pick-search [] = refl
-  pick-search (c ∷ cs) = go (offer val rows_of no_score c) (pick-search cs)
-    where
-      go : (o : Option Offer) → option_map decided (pick (offers cs)) ≡ search_in decided_at cs →
-          option_map decided (pick (cons_option o (offers cs))) ≡ option_or (option_map decided o) (search_in decided_at cs)
-      go None e = e
-      go (Some x) e = ap (option_map decided) (keeps_first x cs)
-
-  -- ---- what a parent gives
-
+  -- what a parent gives
   pub falsified-parent : (cs clauses : List RequiresClause) (parent : ℕ) (given : Option ℕ) →
-      clauses ≡ if_true val cs parent → given ≡ option_map (λ c. c.clause_id) (find (is_falsified val rows_of) clauses) →
+      clauses ≡ if_true val cs parent → given ≡ option_map (λ c. c.clause_id) (find Test clauses) →
       given ≡ at_parent val cs falsified_at parent
   falsified-parent cs clauses parent given own e =
-      e ∙ find-search (is_falsified val rows_of) (λ c. c.clause_id) clauses ∙ ap (search_in falsified_at) own
+      e ∙ find-search Test (λ c. c.clause_id) clauses ∙ ap (search_in falsified_at) own
 
-  pub decided-parent : (cs clauses : List RequiresClause) (parent : ℕ) (given : Option QueueDecision) →
-      clauses ≡ if_true val cs parent → given ≡ option_map decided (pick (offers clauses)) →
-      given ≡ at_parent val cs decided_at parent
-  decided-parent cs clauses parent given own e = e ∙ pick-search clauses ∙ ap (search_in decided_at) own
-
-  -- ---- the answers, once the parents have been searched
-
+  -- the answer, once the parents have been searched
   pub falsified-whole : (cs : List RequiresClause) (given : Option ℕ) →
       given ≡ search_in (at_parent val cs falsified_at) (parents cs) →
-      given ≡ option_map (λ c. c.clause_id) (first_falsified val rows_of cs)
+      given ≡ option_map (λ c. c.clause_id) (first_falsified val literals_of rows_of cs)
   falsified-whole cs given e =
-      e ∙ sym (find-search (is_falsified val rows_of) (λ c. c.clause_id) (scan cs)
+      e ∙ sym (find-search Test (λ c. c.clause_id) (scan cs)
       ∙ scan-search val cs falsified_at falsified_at-shut)
-
-  pub decided-whole : (cs : List RequiresClause) (given : Option QueueDecision) →
-      given ≡ search_in (at_parent val cs decided_at) (parents cs) →
-      given ≡ option_map decided (pick (eligible val rows_of no_score cs))
-  decided-whole cs given e =
-      e ∙ sym (pick-search (scan cs) ∙ scan-search val cs decided_at decided_at-shut)

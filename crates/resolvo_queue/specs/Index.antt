@@ -1,11 +1,11 @@
--- The requires clauses as a queue keeps them.
+-- Lists by the indexes of variables, and the requires clauses by their parents.
 use Rattle.std.specs.Prelude.{◌≡◌, ℕ, ◌<◌, ◌^◌, List, [], length, slice_index_or}
 use Rattle.resolvo_queue.specs.declared.requires_clause.RequiresClause.{RequiresClause}
 use Rattle.resolvo_queue.specs.Scan.{parents, clauses_of}
 
--- the list that stands at a parent's index; past the end there is none
-abbrev pub list_at : List (List RequiresClause) → ℕ → List RequiresClause
-list_at lists parent = slice_index_or lists parent []
+-- the list that stands at a variable's index; past the end there is none
+abbrev pub list_at : {X : Type 0} → List (List X) → ℕ → List X
+list_at lists variable = slice_index_or lists variable []
 
 -- the parents are those of the clauses, and each parent's list has its clauses
 pub record IsIndexed (cs : List RequiresClause) (listed : List ℕ) (lists : List (List RequiresClause)) : Type 0 where

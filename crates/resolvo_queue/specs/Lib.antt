@@ -1,5 +1,9 @@
 pub mod Index
+pub mod Laws
+pub mod Occurrences
 pub mod Pick
+pub mod Queue
+pub mod References
 pub mod RowState
 pub mod Rows
 pub mod Scan

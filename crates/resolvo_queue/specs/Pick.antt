@@ -2,34 +2,24 @@
 use Rattle.std.specs.Prelude.{◌≡◌, ℕ, Bool, false, not, ◌==◌, ◌&&◌, ◌||◌, nat_lt, if◌then◌else◌, List, [], filter_map, fold, Option, None, Some, option_map, All, Contains, MatchOption}
 use Rattle.typed_ids.specs.declared.version_set_id.VersionSetId.{VersionSetId}
 use Rattle.providers.specs.declared.requirement.Requirement.{Requirement}
-use Rattle.decisions.specs.Literals.{Values}
-use Rattle.resolvo_queue.specs.declared.frontier.Frontier.{Frontier}
+use Rattle.decisions.specs.Literals.{Lit, Values}
 use Rattle.resolvo_queue.specs.declared.requires_clause.RequiresClause.{RequiresClause}
+pub use Rattle.resolvo_queue.specs.declared.offer.Offer.{Offer}
 use Rattle.resolvo_queue.specs.declared.queue_decision.QueueDecision.{QueueDecision}
 use Rattle.resolvo_queue.specs.Rows.{Row, frontier}
 use Rattle.resolvo_queue.specs.Scan.{scan, is_open}
 
--- an eligible clause, with its frontier and its score
-pub record Offer : Type 0 where
-  pub clause : RequiresClause
-  pub frontier : Frontier
-  pub score : ℕ
-
-module _ (val : Values) (rows_of : Requirement → List Row) (score : VersionSetId → ℕ) where
-  -- what a clause offers: none unless it is eligible; the score is its frontier's
+module _ (val : Values) (literals_of : Option ℕ → List Lit) (rows_of : Requirement → List Row) (score : VersionSetId → ℕ) where
+  -- what a clause offers: none unless it is eligible; the score is that of its frontier's version set
   abbrev pub offer : RequiresClause → Option Offer
   offer c =
-      if is_open val rows_of c then
+      if is_open val literals_of rows_of c then
       option_map (λ f. record { clause = c; frontier = f; score = score f.set }) (frontier val (rows_of c.requirement))
       else None
 
   -- the eligible clauses, in the order of the scan
   abbrev pub eligible : List RequiresClause → List Offer
   eligible cs = filter_map offer (scan cs)
-
--- no version set has a score yet
-abbrev pub no_score : VersionSetId → ℕ
-no_score set = 0
 
 -- a clause of the root
 abbrev pub is_of_root : Offer → Bool

@@ -32,9 +32,13 @@ lists_or_none (Some lists) = map (λ list. list.items) lists.items
 abbrev pub lists_loaded : {A : Type 0} → List (Requirement × Vec (Vec ℕ A) A) → Requirement → List (List ℕ)
 lists_loaded loaded requirement = lists_or_none (lookup (same_requirement requirement) loaded)
 
+-- all candidates of a requirement, list by list
+abbrev pub candidates : {A : Type 0} → List (Requirement × Vec (Vec ℕ A) A) → Requirement → List ℕ
+candidates loaded requirement = flat_map (λ list. list) (lists_loaded loaded requirement)
+
 -- each requirement's lists hold fewer rows than 2^40, so that they can be counted
 abbrev pub AreFew : {A : Type 0} → List (Requirement × Vec (Vec ℕ A) A) → Type 0
-AreFew loaded = (requirement : Requirement) → length (flat_map (λ list. list) (lists_loaded loaded requirement)) < 2 ^ 40
+AreFew loaded = (requirement : Requirement) → length (candidates loaded requirement) < 2 ^ 40
 
 -- the rows of a requirement
 abbrev pub loaded_rows : {N S A : Type 0} → Universe N S → List (Requirement × Vec (Vec ℕ A) A) → Requirement → List Row

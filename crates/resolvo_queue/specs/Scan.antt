@@ -1,8 +1,8 @@
 -- The scan of the requires clauses, and which of them are open.
 use Rattle.std.specs.Prelude.{ℕ, Bool, not, ◌==◌, ◌&&◌, if◌then◌else◌, List, [], ◌∷◌, ◌++◌, map, filter, flat_map, find, fold, Option, is_some, is_none}
-use Rattle.std.specs.List.{list_any}
+use Rattle.std.specs.List.{list_all, list_any}
 use Rattle.providers.specs.declared.requirement.Requirement.{Requirement}
-use Rattle.decisions.specs.Literals.{Values, known_true}
+use Rattle.decisions.specs.Literals.{Lit, Values, known_true, is_false_literal}
 use Rattle.resolvo_queue.specs.declared.requires_clause.RequiresClause.{RequiresClause}
 use Rattle.resolvo_queue.specs.Rows.{Row, has_true_row, frontier}
 
@@ -22,10 +22,15 @@ clauses_of cs parent = filter (λ c. c.parent == parent) cs
 abbrev pub scan : List RequiresClause → List RequiresClause
 scan cs = flat_map (clauses_of cs) (parents cs)
 
-module _ (val : Values) (rows_of : Requirement → List Row) where
-  -- the parent is true, and no row is
+-- all literals of a condition are false, so that it is met
+abbrev pub are_literals_false : Values → List Lit → Bool
+are_literals_false val literals = list_all (is_false_literal val) literals
+
+module _ (val : Values) (literals_of : Option ℕ → List Lit) (rows_of : Requirement → List Row) where
+  -- the parent is true, the literals of the condition are false, and no row is true
   abbrev pub is_open : RequiresClause → Bool
-  is_open c = known_true (val c.parent) && not (has_true_row val (rows_of c.requirement))
+  is_open c =
+      known_true (val c.parent) && (are_literals_false val (literals_of c.condition) && not (has_true_row val (rows_of c.requirement)))
 
   -- open, with an undecided row
   abbrev pub is_eligible : RequiresClause → Bool

@@ -1,12 +1,14 @@
 //! Requires clauses, as a queue keeps them.
 use providers::Requirement;
-use typed_ids::{ClauseId, SameValue, VariableId};
+use typed_ids::{ClauseId, DisjunctionId, SameValue, VariableId};
 
-/// The clause that a parent, if it is true, has its requirement met.
+/// The clause that a parent, if it is true, has its requirement met, unless a literal of the condition's disjunction is
+/// true.
 #[derive(Clone, Copy, Debug, PartialEq, Eq)]
 pub struct RequiresClause {
     pub parent: VariableId,
     pub requirement: Requirement,
+    pub condition: Option<DisjunctionId>,
     pub clause_id: ClauseId,
 }
 

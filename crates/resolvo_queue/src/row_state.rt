@@ -4,7 +4,7 @@
 ghost use Rattle.std.specs.Prelude.{◌≡◌, ◌+◌, ◌<◌, ◌≤◌, ◌^◌, true, map, flat_map, length};
 ghost use Rattle.decisions.specs.Decisions.{values_in};
 ghost use Rattle.providers.specs.Provider.{knows_requirement};
-ghost use Rattle.resolvo_queue.specs.Rows.{list_rows, rows, loaded_rows, all_false, AreFew};
+ghost use Rattle.resolvo_queue.specs.Rows.{list_rows, rows, loaded_rows, all_false, candidates};
 ghost use Rattle.resolvo_queue.specs.RowState.{state_of, counted, with_row, with_rows};
 
 use crate::frontier::Frontier;
@@ -100,7 +100,7 @@ pub(crate) fn requirement_state<I: Interner, A: Allocator + Copy>(
     interner: &I,
 ) -> RowState
     requires known { knows_requirement (I.universe interner.now) requirement ≡ true }
-    requires few { AreFew lists.now }
+    requires few { length (candidates lists.now requirement) < 2 ^ 40 }
     ensures { result ≡ state_of (values_in decisions.now) (loaded_rows (I.universe interner.now) lists.now requirement) }
 {
     let sets = requirement.version_sets(interner);

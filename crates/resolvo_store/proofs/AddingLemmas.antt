@@ -1,10 +1,11 @@
 -- Adding clauses: what the list of clauses answers makes a step.
 use Rattle.std.proofs.Common.{◌≡◌, ℕ, ◌<◌, ◌-◌, ◌^◌, Bool, true, false, cond, not, List, [], ◌∷◌, ◌++◌, length, Option, None, Some, Result, Ok, Err, refl, arith, sym, ◌∙◌, ap, subst}
 use Rattle.std.specs.List.{list_all}
-use Rattle.std.specs.Prelude.{IsTrue, ◌&&◌, is_some, is_none, nat_le, find, option_map, slice_get, unwrap_or, MatchOption, IfOk, OnOk, OnErr, IfErr, IsErrAnd}
+use Rattle.std.specs.Prelude.{IsTrue, ◌&&◌, is_some, is_none, nat_le, find, option_map, slice_get, unwrap_or, MatchOption, IfOk, IfSome, OnOk, OnErr, IfErr, IsErrAnd}
+use Rattle.std.proofs.lemmas.Bool.Decides.{nat_tests}
 use Rattle.typed_ids.specs.Refusals.{IsGrowthRefusal}
 use Rattle.typed_ids.specs.declared.error.StoreError.{StoreError}
-use Rattle.typed_ids.specs.declared.error.StoreError.TheVariants.{OutOfMemory, IdSpace, UnknownId, NotLoaded, BadWatch, BadLearnt, TooManyClauses}
+use Rattle.typed_ids.specs.declared.error.StoreError.TheVariants.{OutOfMemory, IdSpace, UnknownId, NotLoaded, NegatesParent, BadWatch, BadLearnt, TooManyClauses}
 use Rattle.providers.specs.declared.requirement.Requirement.{Requirement}
 use Rattle.providers.specs.Provider.{knows_requirement}
 use Rattle.decisions.specs.Literals.{Lit}
@@ -15,9 +16,9 @@ use Rattle.clauses.specs.declared.clause.Clause.TheVariants as Kind
 use Rattle.watch_map.specs.Watching.{is_literal_in}
 use Rattle.clause_list.specs.ClauseList.{Clauses, two_or_none, with_clause as pushed, with_learnt as learnt_one}
 use Rattle.resolvo_store.specs.declared.reply.Reply.{Reply as ProgramReply}
-use Rattle.resolvo_store.specs.Command.{Command, Learnt, Requires, Rewatch, Watchers, Reply, ClauseIs, Done, WatchersAre, Refused, reply_of, answer_of}
+use Rattle.resolvo_store.specs.Command.{Command, Disjunction, Learnt, Requires, Bump, Rewatch, Watchers, Reply, ClauseIs, Done, WatchersAre, Refused, IsRefused, reply_of, answer_of}
 use Rattle.resolvo_store.specs.Store.{Store, Provider, Kept, store_of, values, kept_literals, clause_literals, watched_by, lists_of}
-use Rattle.resolvo_store.specs.Refusals.{first_refusal, are_clauses_out, is_learnt_out, clause_refusals, is_bad_learnt, may_rewatch, knows_clause, knows_literal, knows_variable}
+use Rattle.resolvo_store.specs.Refusals.{first_refusal, are_disjunctions_out, are_clauses_out, is_learnt_out, clause_refusals, is_bad_learnt, may_rewatch, knows_clause, knows_literal, knows_variable, knows_disjunction, negates_parent}
 use Rattle.resolvo_store.specs.Outcome.{outcome, adds_clause, with_clause, with_learnt, with_registered, with_rewatched}
 use Rattle.resolvo_store.specs.Step.{Step, IsAnswered, lacks_ids, takes_no_memory}
 
@@ -93,16 +94,37 @@ module _ {N S : Type 0} (st : Store N S) where
       none_yet (not (list_all (knows_literal st) ls)) UnknownId ((is_bad_learnt ls, BadLearnt) ∷ (is_learnt_out st, IdSpace) ∷ []) (ap not known)
       ∙ none_yet (is_bad_learnt ls) BadLearnt ((is_learnt_out st, IdSpace) ∷ []) good ∙ ids_alone (is_learnt_out st)
 
-  -- a requires clause of what is known and loaded has room in the queue
+  -- a disjunction that is known is kept
+  pub disjunction_known : (d : Option ℕ) → knows_disjunction st d ≡ true → IfSome d (λ i. i < length st.disjunctions)
+  disjunction_known None known = tt
+  disjunction_known (Some i) known = (let within : i < length st.disjunctions = grind (arith, nat_tests, known) in within)
+
+  -- a requires clause of what is known and loaded, whose condition doesn't negate its parent, has room in the queue
   pub first_of_requires : (parent : ℕ) (r : Requirement) (disjunction : Option ℕ)
-      → (knows_variable st parent && (knows_requirement st.provider.universe r && is_none disjunction)) ≡ true → is_some (lists_of st r) ≡ true
+      → (knows_variable st parent && (knows_requirement st.provider.universe r && knows_disjunction st disjunction)) ≡ true → is_some (lists_of st r) ≡ true
+      → negates_parent st parent disjunction ≡ false
       → nat_le (2 ^ 32 - 1) (length st.requires) ≡ false → first_refusal st (Requires parent r disjunction) ≡ cond (are_clauses_out st) (Some IdSpace) None
-  first_of_requires parent r disjunction known loaded room =
+  first_of_requires parent r disjunction known loaded apart room =
       let full : Bool = nat_le (2 ^ 32 - 1) (length st.requires) in
-      none_yet (not (knows_variable st parent && (knows_requirement st.provider.universe r && is_none disjunction))) UnknownId
-      ((is_none (lists_of st r), NotLoaded) ∷ (full, TooManyClauses) ∷ (are_clauses_out st, IdSpace) ∷ []) (ap not known)
-      ∙ none_yet (is_none (lists_of st r)) NotLoaded ((full, TooManyClauses) ∷ (are_clauses_out st, IdSpace) ∷ []) (not_none (lists_of st r) loaded)
+      none_yet (not (knows_variable st parent && (knows_requirement st.provider.universe r && knows_disjunction st disjunction))) UnknownId
+      ((is_none (lists_of st r), NotLoaded) ∷ (negates_parent st parent disjunction, NegatesParent) ∷ (full, TooManyClauses) ∷ (are_clauses_out st, IdSpace) ∷ []) (ap not known)
+      ∙ none_yet (is_none (lists_of st r)) NotLoaded ((negates_parent st parent disjunction, NegatesParent) ∷ (full, TooManyClauses) ∷ (are_clauses_out st, IdSpace) ∷ []) (not_none (lists_of st r) loaded)
+      ∙ none_yet (negates_parent st parent disjunction) NegatesParent ((full, TooManyClauses) ∷ (are_clauses_out st, IdSpace) ∷ []) apart
       ∙ none_yet full TooManyClauses ((are_clauses_out st, IdSpace) ∷ []) room ∙ ids_alone (are_clauses_out st)
+
+  -- the literals of a condition that is known
+  pub first_of_disjunction : (ls : List Lit) (condition : ℕ) → (list_all (knows_literal st) ls && st.provider.universe.knows_condition condition) ≡ true
+      → first_refusal st (Disjunction ls condition) ≡ cond (are_disjunctions_out st) (Some IdSpace) None
+  first_of_disjunction ls condition known =
+      none_yet (not (list_all (knows_literal st) ls && st.provider.universe.knows_condition condition)) UnknownId ((are_disjunctions_out st, IdSpace) ∷ []) (ap not known)
+      ∙ ids_alone (are_disjunctions_out st)
+
+  -- the score of a name that is known
+  pub first_of_bump : (name : N) (amount : ℕ) → st.provider.universe.knows_name name ≡ true
+      → first_refusal st (Bump name amount) ≡ cond (st.provider.is_large_name name) (Some IdSpace) None
+  first_of_bump name amount known =
+      none_yet (not (st.provider.universe.knows_name name)) UnknownId ((st.provider.is_large_name name, IdSpace) ∷ []) (ap not known)
+      ∙ ids_alone (st.provider.is_large_name name)
 
   -- a watch of a clause that has the literal
   pub first_of_rewatch : (c : ℕ) (from to : Lit) → (knows_clause st c && (knows_literal st from && knows_literal st to)) ≡ true
@@ -167,6 +189,24 @@ module _ {N S : Type 0} (st : Store N S) where
       by_out true = (refl, same)
       by_out false = (ap not memory, same)
 
+  -- a reply that is no refusal answers a command that nothing refuses
+  by_reply : (c : Command N S) (reply : Reply) {after : Store N S} → (IsRefused reply → ⊥) → lacks_ids st c ≡ false → reply ≡ (outcome st c).reply
+      → after ≡ (outcome st c).store → IsAnswered st c reply after
+  by_reply c (Refused e) answered lacks said made = absurd (answered tt)
+  by_reply c _ answered lacks said made = (lacks, said, made)
+
+  -- where all that can be foreseen is whether an id is left
+  pub step_grown : {A : Type 0} (c : Command N S) (out : Bool) (result : Result (ProgramReply A) StoreError) (after : Store N S)
+      → first_refusal st c ≡ cond out (Some IdSpace) None → lacks_ids st c ≡ false → takes_no_memory st c ≡ false → (IsRefused (outcome st c).reply → ⊥)
+      → IfOk result (λ reply. reply_of reply ≡ (outcome st c).reply) → OnOk result (after ≡ (outcome st c).store) → OnErr result (after ≡ st)
+      → IfErr result (IsGrowthRefusal out) → (IsTrue out → result ≡ Err IdSpace) → Step st c (answer_of result) after
+  step_grown c out (Ok reply) after first lacks memory answered said ok err refused ids_out =
+      let none : first_refusal st c ≡ None = first ∙ ap (λ b. cond b (Some IdSpace) None) (growth_fits out (Ok reply) ids_out) in
+      subst (λ o. MatchOption o (IsAnswered st c (reply_of reply) after) (λ e. (reply_of reply ≡ Refused e) × (after ≡ st))) (sym none)
+      (by_reply c (reply_of reply) (λ h. answered (subst (λ r. IsRefused r) said h)) lacks said ok)
+  step_grown c out (Err e) after first lacks memory answered said ok err refused ids_out =
+      step_refused c out e first memory (growth_refusal out e refused (λ h. cc (ids_out h))) err
+
 -- a clause with its watches
 pub with_made : {N S : Type 0} (st : Store N S) (clause : Clause N) {watch : Option (List Lit)} → watch ≡ first_watches (kept_literals st) (values st) clause
     → with_clause st clause (two_or_none watch) ≡ (adds_clause st clause).store
@@ -199,19 +239,19 @@ always_err (Ok x) p = tt
 always_err (Err e) p = p
 
 -- the same of what is kept, where the list of clauses answers
-module _ {D N S : Type 0} (provided : D → Provider N S) where
-  abbrev store : Kept D N S → Store N S
-  store = store_of provided
+module _ {D N S C : Type 0} (provided : D → Provider N S) (scored : C → N → ℕ) where
+  abbrev store : Kept D N S C → Store N S
+  store = store_of provided scored
 
   -- the store of what is kept, with another list of clauses and another queue
-  abbrev with_both : Kept D N S → Clauses N → List RequiresClause → Store N S
+  abbrev with_both : Kept D N S C → Clauses N → List RequiresClause → Store N S
   with_both kept cs requires = record (store kept) { clauses = cs.clauses; watches = cs.watches; watchers = cs.watchers; learnt = cs.learnt; requires = requires }
 
   -- the list of clauses in what is kept
-  abbrev clauses_kept : Kept D N S → Clauses N
+  abbrev clauses_kept : Kept D N S C → Clauses N
   clauses_kept kept = record { clauses = kept.clauses; watches = (store kept).watches; learnt = kept.learnt; watchers = (store kept).watchers }
 
-  answered : {A : Type 0} (c : Command N S) (conflict out : Bool) (result : Result (ProgramReply A) StoreError) (kept : Kept D N S)
+  answered : {A : Type 0} (c : Command N S) (conflict out : Bool) (result : Result (ProgramReply A) StoreError) (kept : Kept D N S C)
       (cs more : Clauses N) (requires registered : List RequiresClause)
       → first_refusal (store kept) c ≡ cond out (Some IdSpace) None → lacks_ids (store kept) c ≡ false → takes_no_memory (store kept) c ≡ false
       → ClauseIs (length kept.clauses) conflict ≡ (outcome (store kept) c).reply → with_both kept more registered ≡ (outcome (store kept) c).store
@@ -230,7 +270,7 @@ module _ {D N S : Type 0} (provided : D → Provider N S) where
 
   -- where the list is asked to add a clause that isn't registered
   pub step_added : {A : Type 0} (c : Command N S) (clause : Clause N) (watch : Option (List Lit)) (conflict : Bool) (result : Result (ProgramReply A) StoreError)
-      (cs : Clauses N) {kept old : Kept D N S} (is : kept ≡ old)
+      (cs : Clauses N) {kept old : Kept D N S C} (is : kept ≡ old)
       → first_refusal (store old) c ≡ cond (are_clauses_out (store old)) (Some IdSpace) None → lacks_ids (store kept) c ≡ false → takes_no_memory (store kept) c ≡ false
       → adds_clause (store kept) clause ≡ outcome (store kept) c
       → watch ≡ first_watches (kept_literals (store kept)) (values (store kept)) clause → conflict ≡ is_conflict (kept_literals (store kept)) (values (store kept)) clause
@@ -248,7 +288,7 @@ module _ {D N S : Type 0} (provided : D → Provider N S) where
       (with_made (store kept) clause w ∙ ap (λ o. o.store) makes) said ok (always result refl) err (always_err result refl) refused ids_out)
 
   -- where it is asked to add a learnt one
-  pub step_learnt : {A : Type 0} (ls : List Lit) (result : Result (ProgramReply A) StoreError) (cs : Clauses N) {kept old : Kept D N S} (is : kept ≡ old)
+  pub step_learnt : {A : Type 0} (ls : List Lit) (result : Result (ProgramReply A) StoreError) (cs : Clauses N) {kept old : Kept D N S C} (is : kept ≡ old)
       → first_refusal (store old) (Learnt ls) ≡ cond (is_learnt_out (store old)) (Some IdSpace) None
       → IfOk result (λ reply. reply_of reply ≡ ClauseIs (length kept.clauses) false)
       → OnOk result (cs ≡ learnt_one (clauses_kept kept) ls)
@@ -265,19 +305,19 @@ module _ {D N S : Type 0} (provided : D → Provider N S) where
 
   -- where it is asked to add a requires clause, and the queue to register it
   pub step_registered : {A : Type 0} (parent : ℕ) (r : Requirement) (disjunction : Option ℕ) {clause : Clause N} (watch : Option (List Lit)) (conflict : Bool)
-      (result : Result (ProgramReply A) StoreError) (cs : Clauses N) (requires : List RequiresClause) {kept old : Kept D N S} (is : kept ≡ old)
+      (result : Result (ProgramReply A) StoreError) (cs : Clauses N) (requires : List RequiresClause) {kept old : Kept D N S C} (is : kept ≡ old)
       → clause ≡ Kind.Requires parent disjunction r
       → first_refusal (store old) (Requires parent r disjunction) ≡ cond (are_clauses_out (store old)) (Some IdSpace) None
       → watch ≡ first_watches (kept_literals (store old)) (values (store old)) clause → conflict ≡ is_conflict (kept_literals (store old)) (values (store old)) clause
       → IfOk result (λ reply. reply_of reply ≡ ClauseIs (length kept.clauses) conflict)
       → OnOk result (cs ≡ pushed (clauses_kept kept) clause watch)
-      → OnOk result (requires ≡ kept.requires ++ record { parent = parent; requirement = r; clause_id = length kept.clauses } ∷ [])
+      → OnOk result (requires ≡ kept.requires ++ record { parent = parent; requirement = r; condition = disjunction; clause_id = length kept.clauses } ∷ [])
       → OnErr result (cs ≡ clauses_kept kept) → OnErr result (requires ≡ kept.requires)
       → IfErr result (IsGrowthRefusal (are_clauses_out (store kept))) → (IsTrue (are_clauses_out (store kept)) → result ≡ Err IdSpace)
       → Step (store old) (Requires parent r disjunction) (answer_of result) (with_both kept cs requires)
   step_registered parent r disjunction {clause} watch conflict result cs requires {kept} {old} is kind first w k said ok queued err left refused ids_out =
       let c : Command N S = Requires parent r disjunction in
-      let st : Store N S = with_registered (store kept) parent r in
+      let st : Store N S = with_registered (store kept) parent r disjunction in
       let more : Clauses N = pushed (clauses_kept kept) clause watch in
       let at_kept : watch ≡ first_watches (kept_literals (store kept)) (values (store kept)) clause =
       subst (λ o. watch ≡ first_watches (kept_literals (store o)) (values (store o)) clause) (sym is) w in
@@ -285,7 +325,7 @@ module _ {D N S : Type 0} (provided : D → Provider N S) where
       subst (λ o. conflict ≡ is_conflict (kept_literals (store o)) (values (store o)) clause) (sym is) k in
       subst (λ o. Step (store o) c (answer_of result) (with_both kept cs requires)) is
       (answered c conflict (are_clauses_out (store kept)) result kept cs more requires
-      (kept.requires ++ record { parent = parent; requirement = r; clause_id = length kept.clauses } ∷ [])
+      (kept.requires ++ record { parent = parent; requirement = r; condition = disjunction; clause_id = length kept.clauses } ∷ [])
       (subst (λ o. first_refusal (store o) c ≡ cond (are_clauses_out (store o)) (Some IdSpace) None) (sym is) first) refl refl
       (ap (ClauseIs (length kept.clauses)) conflicts ∙ ap (λ x. (adds_clause st x).reply) kind)
       (with_made st clause at_kept ∙ ap (λ x. (adds_clause st x).store) kind) said ok queued err left refused ids_out)

@@ -1,4 +1,5 @@
 -- Laws for those who write a search over a store: what follows from the contracts of its calls.
+pub use Rattle.resolvo_store.proofs.ForbiddingLaws.{forbids_two}
 use Rattle.std.proofs.Common.{◌≡◌, ℕ, ◌<◌, ◌≤◌, Bool, true, false, cond, not, List, [], ◌∷◌, ◌++◌, length, map, get_or, Option, None, Some, refl, arith, sym, ◌∙◌, ap, subst, zero, suc}
 use Rattle.std.specs.Prelude.{◌==◌, nat_lt, ◌&&◌, All, Contains, filter, flat_map, fold, find, is_some, is_none, option_map, MatchOption}
 use Rattle.std.specs.Bool.{beq}
@@ -16,11 +17,12 @@ use Rattle.decisions.proofs.TrailLemmas.{val-push}
 use Rattle.resolvo_queue.specs.declared.frontier.Frontier.{Frontier}
 use Rattle.resolvo_queue.specs.declared.requires_clause.RequiresClause.{RequiresClause}
 use Rattle.resolvo_queue.specs.Rows.{has_true_row, frontier}
-use Rattle.resolvo_queue.specs.Scan.{add_parent, parents, clauses_of, scan, is_open, is_falsified}
-use Rattle.resolvo_queue.specs.Pick.{Offer, decided}
+use Rattle.resolvo_queue.specs.Scan.{add_parent, parents, clauses_of, scan, are_literals_false, is_open, is_falsified}
+use Rattle.resolvo_queue.specs.declared.offer.Offer.{Offer}
+use Rattle.resolvo_queue.specs.Pick.{decided}
 use Rattle.resolvo_queue.proofs.PickLaws.{none_decided}
 use Rattle.resolvo_store.specs.Command.{Command, Load, Assign, UndoUntil, Decide, Reply, Assigned, Already, Clash, NoDecision, Refused, IsRefused}
-use Rattle.resolvo_store.specs.Store.{Store, values, lists_of, rows_of, score_of}
+use Rattle.resolvo_store.specs.Store.{Store, values, lists_of, condition_of, rows_of, score_of}
 use Rattle.resolvo_store.specs.Refusals.{first_refusal}
 use Rattle.resolvo_store.specs.Outcome.{outcome, load, assign_reply, assigned, decision, falsified_clause, picked}
 use Rattle.resolvo_store.specs.Step.{IsAnswered, Step, may_be_refused}
@@ -30,6 +32,10 @@ use Rattle.resolvo_store.specs.Sound.{IsSound, IsAssigned}
 -- the abstract store of which a clause says that it is sound: so a proof file names the store that the clause speaks of
 abbrev pub store_in : {N S : Type 0} {st : Store N S} → IsSound st → Store N S
 store_in {st = it} sound = it
+
+-- the left side of an equation: so a proof file names what is kept, as a view shows it
+abbrev pub left_of : {X : Type 0} {x y : X} → x ≡ y → X
+left_of {x = it} e = it
 
 -- ---- members of lists
 
@@ -233,23 +239,26 @@ module _ {N S : Type 0} where
       by_reply _ h = ap (λ st. st.trail) h.2 ∙ none_kept old.trail sound.trail.levels
 
   -- after `NoDecision` no clause of the scan is open
-  pub none_open : (old new : Store N S) → Step old Decide NoDecision new → All (λ c. is_open (values new) (rows_of new) c ≡ false) (scan new.requires)
+  pub none_open : (old new : Store N S) → Step old Decide NoDecision new → All (λ c. is_open (values new) (condition_of new) (rows_of new) c ≡ false) (scan new.requires)
   none_open old new step =
       let answer = answered_by_outcome old new Decide NoDecision step (λ h. h) in
       let none = no_decision (falsified_clause old) (picked old) answer.0 in
-      let falsified = none_passes (is_falsified (values old) (rows_of old)) (scan old.requires) none.0 in
-      let eligible = (none_decided (values old) (rows_of old) (score_of old) old.requires (option_map decided (picked old)) refl).0 (ap (option_map decided) none.1) in
-      subst (λ st. All (λ c. is_open (values st) (rows_of st) c ≡ false) (scan st.requires)) (sym answer.1)
-      (λ k d within. closed (is_open (values old) (rows_of old) (get_or (scan old.requires) k d)) (frontier (values old) (rows_of old (get_or (scan old.requires) k d).requirement))
+      let falsified = none_passes (is_falsified (values old) (condition_of old) (rows_of old)) (scan old.requires) none.0 in
+      let eligible = (none_decided (values old) (condition_of old) (rows_of old) (score_of old) old.requires (option_map decided (picked old)) refl).0 (ap (option_map decided) none.1) in
+      subst (λ st. All (λ c. is_open (values st) (condition_of st) (rows_of st) c ≡ false) (scan st.requires)) (sym answer.1)
+      (λ k d within. closed (is_open (values old) (condition_of old) (rows_of old) (get_or (scan old.requires) k d)) (frontier (values old) (rows_of old (get_or (scan old.requires) k d).requirement))
       (eligible k d within) (falsified k d within))
 
-  -- after `NoDecision` the store is solved: each registered clause whose parent is true has a candidate that is true
+  -- after `NoDecision` the store is solved: each registered clause whose parent is true, and whose condition is met, has a
+  -- candidate that is true
   pub solved : (old new : Store N S) → Step old Decide NoDecision new → IsSolved new
   solved old new step = λ k d within.
-      met (known_true (values new (get_or new.requires k d).parent)) (has_true_row (values new) (rows_of new (get_or new.requires k d).requirement))
-      (All-contains (λ c. is_open (values new) (rows_of new) c ≡ false) (scan new.requires) (get_or new.requires k d) (none_open old new step) (scan_has_each new.requires k d within))
+      met (known_true (values new (get_or new.requires k d).parent)) (are_literals_false (values new) (condition_of new (get_or new.requires k d).condition))
+      (has_true_row (values new) (rows_of new (get_or new.requires k d).requirement))
+      (All-contains (λ c. is_open (values new) (condition_of new) (rows_of new) c ≡ false) (scan new.requires) (get_or new.requires k d) (none_open old new step) (scan_has_each new.requires k d within))
     where
-      met : (a b : Bool) → (a && not b) ≡ false → a ≡ true → b ≡ true
-      met a true h e = refl
-      met true false h e = let no : true ≡ false = h in cc
-      met false false h e = e
+      met : (a b c : Bool) → (a && (b && not c)) ≡ false → a ≡ true → b ≡ true → c ≡ true
+      met a b true h e f = refl
+      met true true false h e f = (let no : true ≡ false = h in cc)
+      met true false false h e f = f
+      met false b false h e f = e

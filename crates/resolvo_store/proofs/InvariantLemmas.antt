@@ -1,7 +1,10 @@
 -- What a store keeps stays in order: what each call on a part of it leaves.
-use Rattle.std.proofs.Common.{◌≡◌, ℕ, ◌<◌, ◌≤◌, ◌^◌, Bool, true, not, List, [], ◌∷◌, ◌++◌, length, map, Option, None, Some, IsSome, Result, Ok, Err, refl, sym, subst, ap, ◌∙◌, ◌⊎◌, inl, inr}
-use Rattle.std.specs.Prelude.{flat_map, All, IsTrue, OnOk, OnErr}
+use Rattle.std.proofs.Common.{◌≡◌, ◌≢◌, ℕ, ◌<◌, ◌≤◌, ◌+◌, ◌-◌, ◌*◌, ◌/◌, ◌^◌, min, cond, true, not, List, [], ◌∷◌, ◌++◌, length, map, Option, None, Some, IsSome, Result, Ok, Err, refl, sym, subst, ap, ◌∙◌, ◌⊎◌, inl, inr}
+use Rattle.std.specs.Prelude.{Bool, false, nat_eq, flat_map, All, IfSome, IsTrue, OnOk, OnErr}
+use Rattle.typed_ids.specs.TotalMaps.{IsUpdate, SameValues}
 use Rattle.std.specs.Map.{lookup}
+use Rattle.std.proofs.Math.Nat.{zero-mul, zero-div}
+use Rattle.std.proofs.lemmas.List.{map-append}
 use Rattle.std.proofs.lemmas.List.Folds.{flat_map-map}
 use Rattle.typed_ids.specs.declared.version_set_id.VersionSetId.{VersionSetId}
 use Rattle.providers.specs.RequirementMap.{with_entry}
@@ -12,7 +15,7 @@ use Rattle.providers.specs.declared.requirement.Requirement.{Requirement}
 use Rattle.providers.specs.Provider.{knows_requirement, sets_of}
 use Rattle.variables.specs.declared.variable_origin.VariableOrigin.{VariableOrigin}
 use Rattle.variables.specs.Variables.{with_variables, interned_variable}
-use Rattle.decisions.specs.Trail.{Entry, Trail, val, pushed, AddsEntry}
+use Rattle.decisions.specs.Trail.{Entry, Trail, val, pushed, floor_taken, AddsEntry}
 use Rattle.decisions.specs.declared.decision_tracker.AddFault.{AddFault}
 use Rattle.decisions.specs.Literals.{Lit}
 use Rattle.clauses.specs.ClauseTexts.{IsKnownClause}
@@ -20,24 +23,44 @@ use Rattle.clauses.specs.declared.clause.Clause.{Clause}
 use Rattle.clauses.specs.declared.clause.Clause.TheVariants as Kind
 use Rattle.clauses.specs.Clauses.{first_watches}
 use Rattle.watch_map.specs.Watching.{is_literal_in}
-use Rattle.clause_list.specs.ClauseList.{Clauses, two_or_none, can_rewatch, with_clause as list_added, with_learnt as learnt_one, with_rewatched as list_rewatched}
+use Rattle.clause_list.specs.ClauseList.{Clauses, two_or_none, can_rewatch, with_clause as list_added, with_learnt as learnt_one, with_rewatched as list_rewatched, with_forbidden}
+use Rattle.clauses.specs.declared.disjunction.Disjunction.{Disjunction}
 use Rattle.resolvo_queue.specs.declared.requires_clause.RequiresClause.{RequiresClause}
-use Rattle.resolvo_store.specs.Lists.{lists_kept, AreAsked, IsConsistent}
+use Rattle.resolvo_queue.specs.Queue.{Queue, IsNew, SameClauses, SameSync, IsUnchanged, IsRegistered, HasTrail, OnlyHotScore, StandsOn}
+use Rattle.resolvo_queue.specs.References.{References, references}
+use Rattle.resolvo_queue.proofs.CallerLaws.{stands_with_disjunction, stands_with_lists}
+use Rattle.resolvo_store.specs.Lists.{lists_kept, disjunctions_kept, AreAsked, IsConsistent, IsOneMore}
+use Rattle.resolvo_store.specs.Synced.{decisions_of, IsInStep, MayAsk}
+use Rattle.resolvo_store.proofs.SyncedLemmas.{in_step-new, in_step-pushed, in_step-same, in_step-unchanged, in_step-registered, in_step-synced, in_step-refused}
 use Rattle.resolvo_store.specs.Sound.{IsSound, IsPlain}
 use Rattle.resolvo_store.specs.Store.{Store, Provider, Kept, store_of, values, lists_of, kept_literals, clause_literals, watched_by}
-use Rattle.resolvo_store.specs.Outcome.{with_clause, with_learnt}
+use Rattle.at_most_once.specs.AtMostOne.{Tracker, BitClause, is_tracked}
+use Rattle.name_trackers.specs.NameTrackers.{with_tracked as trackers_with}
+use Rattle.scores.specs.Scores.{bumped, decayed}
+use Rattle.resolvo_store.specs.Tracking.{forbidding, origins_with, is_helper_among}
+use Rattle.resolvo_store.specs.Outcome.{adds_clause, with_clause, with_learnt, helper_for, tracking, with_bits, with_tracked, with_bumped}
+use Rattle.resolvo_store.proofs.TrackedLaws.{IsSound-tracked}
 use Rattle.resolvo_store.proofs.AddingLemmas.{both, failed, learnt_watches}
-use Rattle.resolvo_store.proofs.ListLemmas.{items_of, insert-kept, few-more, length-mapped}
+use Rattle.resolvo_store.proofs.ListLemmas.{items_of, lookup-none, insert-kept, few-more, length-mapped}
 use Rattle.solver_cache.specs.Cache.{Cache, is_set_asked}
 use Rattle.solver_cache.specs.Questions.{IsLater}
 use Rattle.solver_cache.proofs.CacheLemmas.{asked_later}
 use Rattle.resolvo_store.proofs.KnownLemmas.{IsKnownSolvable, IsLawful}
-use Rattle.resolvo_store.proofs.SoundLaws.{IsSound-pushed, IsSound-added, IsSound-learnt, IsSound-requires, IsSound-rewatched, IsSound-with_variables, IsSound-interned}
+use Rattle.resolvo_store.proofs.SoundLaws.{IsSound-scored, IsSound-pushed, IsSound-added, IsSound-disjunction, IsSound-learnt, IsSound-requires, IsSound-rewatched, IsSound-with_variables, IsSound-interned}
 
 -- what comes of success, or of failure
 either : {T E P Q : Type 0} (result : Result T E) → OnOk result P → OnErr result Q → P ⊎ Q
 either (Ok x) p q = inl p
 either (Err e) p q = inr q
+
+-- what follows from success, and what from failure
+pub on_ok : {T E P Q : Type 0} (result : Result T E) → (P → Q) → OnOk result P → OnOk result Q
+on_ok (Ok x) more p = more p
+on_ok (Err e) more p = p
+
+pub on_err : {T E P Q : Type 0} (result : Result T E) → (P → Q) → OnErr result P → OnErr result Q
+on_err (Ok x) more p = p
+on_err (Err e) more p = more p
 
 -- an entry was added to the trail, or the trail stays
 added_or_same : (known : Option Bool) (old new : Trail) (e : Entry) (answer : Result Bool AddFault) → AddsEntry known old e answer new
@@ -46,37 +69,105 @@ added_or_same (Some b) old new e answer h = inr h.1
 added_or_same None old new e (Ok added) h = inl (refl, h.1)
 added_or_same None old new e (Err fault) h = inr h.1
 
-module _ {D N S A H : Type 0} {st : Store N S} {loaded : List (Requirement × Vec (Vec ℕ A) A)} {cache : Cache D N S A H} (is : IsConsistent st loaded cache) where
+-- the list of clauses in a store
+abbrev pub list_of : {N S : Type 0} → Store N S → Clauses N
+list_of st = record { clauses = st.clauses; watches = st.watches; learnt = st.learnt; watchers = st.watchers }
+
+-- a store with another list of clauses
+abbrev pub with_list : {N S : Type 0} → Store N S → Clauses N → Store N S
+with_list st cs = record st { clauses = cs.clauses; watches = cs.watches; learnt = cs.learnt; watchers = cs.watchers }
+
+-- clauses that the list adds under a name are those that the store adds
+pub forbidden_bits : {N S : Type 0} (name : N) (st : Store N S) (cs : List (BitClause ℕ)) → with_list st (with_forbidden name (list_of st) cs) ≡ with_bits name st cs
+forbidden_bits name st [] = refl
+forbidden_bits name st (c ∷ cs) = forbidden_bits name (adds_clause st (forbidding name c)).store cs
+
+-- a new queue, without clauses, may be asked
+pub new_may_ask : {N S A Q : Type 0} {has : Q → N → Bool} (queue : Queue N Q) (refs : References N S A) (trail : Trail) → IsNew has queue → ((any : References N S A) → StandsOn any queue)
+    → trail.floor ≡ 0 → MayAsk has (λ n. 0) refs (record queue { clauses = [] }) trail
+new_may_ask {has = has} queue refs trail is stands first =
+    subst (λ cs. MayAsk has (λ n. 0) refs (record queue { clauses = cs }) trail) is.clauses (record {
+      in_step = in_step-new {has = has} trail first is;
+      stands = stands refs;
+      named = is.names ∙ sym (ap (map (λ c. map refs.universe.set_name (sets_of refs.universe c.requirement))) is.clauses);
+      hot = λ n cold. refl;
+    })
+
+-- a store that tracks one variable more, by its variables, its list of clauses and its trackers
+pub tracked_parts : {N S : Type 0} (st : Store N S) (name : N) (v : ℕ) {os : List (VariableOrigin N S)} {cs : Clauses N} {ts : N → Tracker ℕ}
+    → os ≡ origins_with st.origins name (helper_for st name v) → cs ≡ with_forbidden name (list_of st) (tracking st name v)
+    → ts ≡ trackers_with st.provider.same_name name v (helper_for st name v) st.trackers → record (with_list st cs) { origins = os; trackers = ts } ≡ with_tracked st name v
+tracked_parts st name v {os} {cs} {ts} origins clauses trackers =
+    ap (λ o. record (with_list st cs) { origins = o; trackers = ts }) origins
+    ∙ ap (λ c. record (with_list st c) { origins = origins_with st.origins name (helper_for st name v); trackers = ts }) clauses
+    ∙ ap (λ t. record (with_list st (with_forbidden name (list_of st) (tracking st name v))) { origins = origins_with st.origins name (helper_for st name v); trackers = t }) trackers
+    ∙ forbidden_bits name (record st {
+      origins = origins_with st.origins name (helper_for st name v);
+      trackers = trackers_with st.provider.same_name name v (helper_for st name v) st.trackers;
+    }) (tracking st name v)
+
+-- or is as it was
+pub tracked_or_same : {N S T E : Type 0} (st : Store N S) (name : N) (v : ℕ) (os : List (VariableOrigin N S)) (cs : Clauses N) (ts : N → Tracker ℕ) (result : Result T E)
+    → OnOk result (os ≡ origins_with st.origins name (helper_for st name v)) → OnOk result (cs ≡ with_forbidden name (list_of st) (tracking st name v))
+    → OnOk result (ts ≡ trackers_with st.provider.same_name name v (helper_for st name v) st.trackers)
+    → OnErr result (os ≡ st.origins) → OnErr result (cs ≡ list_of st) → OnErr result (ts ≡ st.trackers)
+    → OnOk result (record (with_list st cs) { origins = os; trackers = ts } ≡ with_tracked st name v) × OnErr result (record (with_list st cs) { origins = os; trackers = ts } ≡ st)
+tracked_or_same st name v os cs ts (Ok x) origins clauses trackers same_origins same_clauses same_trackers = (tracked_parts st name v origins clauses trackers, tt)
+tracked_or_same st name v os cs ts (Err e) origins clauses trackers same_origins same_clauses same_trackers = (
+  tt,
+  ap (λ o. record (with_list st cs) { origins = o; trackers = ts }) same_origins ∙ ap (λ c. record (with_list st c) { trackers = ts }) same_clauses
+      ∙ ap (λ t. record st { trackers = t }) same_trackers,
+)
+
+-- a store in which a score was to be raised, by its scores and its requires clauses
+pub bumped_or_same : {N S T E : Type 0} (st : Store N S) (name : N) (amount : ℕ) (scores : N → ℕ) {before requires : List RequiresClause} (result : Result T E)
+    → st.requires ≡ before → requires ≡ before → OnOk result (scores ≡ bumped st.provider.same_name name amount st.scores) → OnErr result (scores ≡ st.scores)
+    → OnOk result (record st { scores = scores; requires = requires } ≡ with_bumped st name amount) × OnErr result (record st { scores = scores; requires = requires } ≡ st)
+bumped_or_same st name amount scores {before} {requires} (Ok x) now same raised left =
+    (ap (λ s. record st { scores = s; requires = requires }) raised ∙ ap (λ rs. record (with_bumped st name amount) { requires = rs }) (same ∙ sym now), tt)
+bumped_or_same st name amount scores {before} {requires} (Err e) now same raised left =
+    (tt, ap (λ s. record st { scores = s; requires = requires }) left ∙ ap (λ rs. record st { requires = rs }) (same ∙ sym now))
+
+module _ {D N S A H Q : Type 0} {has : Q → N → Bool} {st : Store N S} {loaded : List (Requirement × Vec (Vec ℕ A) A)} {disjunctions : List (Disjunction A)}
+    {cache : Cache D N S A H} {queue : Queue N Q} {trail : Trail} (is : IsConsistent has st loaded disjunctions cache queue trail) where
   -- a store of which no more is seen by its trail
   abbrev with_trail : Trail → Store N S
   with_trail t = record st { trail = t.entries; place = t.place }
 
   abbrev Consistent : Trail → Type 0
-  Consistent t = IsConsistent (with_trail t) loaded cache
+  Consistent t = IsConsistent has (with_trail t) loaded disjunctions cache queue t
 
   -- another trail
-  pub after_trail : (t : Trail) {new : Trail} → IsSound (with_trail t) → new ≡ t → Consistent new
-  after_trail t sound same = subst Consistent (sym same) (record { few = is.few; known = is.known; sound = sound; asked = is.asked })
+  pub after_trail : (t : Trail) {new : Trail} → IsSound (with_trail t) → IsInStep queue t → new ≡ t → Consistent new
+  after_trail t sound in_step same = subst Consistent (sym same) (record {
+    few = is.few;
+    known = is.known;
+    sound = sound;
+    asked = is.asked;
+    may_ask = record { in_step = in_step; stands = is.may_ask.stands; named = is.may_ask.named; hot = is.may_ask.hot };
+  })
 
   -- after an assignment
-  pub after_entry : (floor : ℕ) (e : Entry) (new : Trail) (answer : Result Bool AddFault) → e.decision.variable < length st.origins → e.decision.derived_from < length st.clauses
-      → (1 ≤ e.level) × (e.level < 2 ^ 31) → AddsEntry (val st.trail e.decision.variable) (record { entries = st.trail; place = st.place; floor = floor }) e answer new
+  pub after_entry : (e : Entry) (new : Trail) (answer : Result Bool AddFault) → e.decision.variable < length st.origins → e.decision.derived_from < length st.clauses
+      → (1 ≤ e.level) × (e.level < 2 ^ 31) → trail.entries ≡ st.trail → trail.place ≡ st.place → AddsEntry (val st.trail e.decision.variable) trail e answer new
       → Consistent new
-  after_entry floor e new answer variable clause level adds =
-      let old : Trail = record { entries = st.trail; place = st.place; floor = floor } in
-      elim (added_or_same (val st.trail e.decision.variable) old new e answer adds) [
-        | inl more ↦ after_trail (pushed old e) (IsSound-pushed st is.sound e more.0 (record { variable = variable; clause = clause }) level) more.1
-        | inr same ↦ after_trail old is.sound same
+  after_entry e new answer variable clause level entries place adds =
+      let sound : IsSound (with_trail trail) = rw (entries, place) is.sound in
+      elim (added_or_same (val st.trail e.decision.variable) trail new e answer adds) [
+        | inl more ↦ after_trail (pushed trail e)
+            (rw (entries, place) (IsSound-pushed st is.sound e more.0 (record { variable = variable; clause = clause }) level)) (in_step-pushed trail e is.may_ask.in_step) more.1
+        | inr same ↦ after_trail trail sound is.may_ask.in_step same
       ]
 
   -- after variables were asked for
   pub after_origins : {T E : Type 0} (more : List (VariableOrigin N S)) {os : List (VariableOrigin N S)} (result : Result T E)
       → IsSound (record st { origins = more }) → OnOk result (os ≡ more) → OnErr result (os ≡ st.origins)
-      → IsConsistent (record st { origins = os }) loaded cache
+      → IsConsistent has (record st { origins = os }) loaded disjunctions cache queue trail
   after_origins more {os} result longer ok err = record {
     few = is.few;
     known = is.known;
     asked = is.asked;
+    may_ask = is.may_ask;
     sound = elim (either result ok err) [
       | inl grown ↦ subst (λ vs. IsSound (record st { origins = vs })) (sym grown) longer
       | inr same ↦ subst (λ vs. IsSound (record st { origins = vs })) (sym same) is.sound
@@ -85,18 +176,19 @@ module _ {D N S A H : Type 0} {st : Store N S} {loaded : List (Requirement × Ve
 
   -- the list of clauses of the store, and a store of which no more is seen by its list of clauses
   abbrev clauses_now : Clauses N
-  clauses_now = record { clauses = st.clauses; watches = st.watches; learnt = st.learnt; watchers = st.watchers }
+  clauses_now = list_of st
 
   abbrev with_clauses : Clauses N → Store N S
-  with_clauses cs = record st { clauses = cs.clauses; watches = cs.watches; learnt = cs.learnt; watchers = cs.watchers }
+  with_clauses = with_list st
 
   -- after the list was asked to change
   after_change : {T E : Type 0} (more : Clauses N) {cs : Clauses N} (result : Result T E) → IsSound (with_clauses more)
-      → OnOk result (cs ≡ more) → OnErr result (cs ≡ clauses_now) → IsConsistent (with_clauses cs) loaded cache
+      → OnOk result (cs ≡ more) → OnErr result (cs ≡ clauses_now) → IsConsistent has (with_clauses cs) loaded disjunctions cache queue trail
   after_change more {cs} result changed ok err = record {
     few = is.few;
     known = is.known;
     asked = is.asked;
+    may_ask = is.may_ask;
     sound = elim (either result ok err) [
       | inl grown ↦ subst (λ ds. IsSound (with_clauses ds)) (sym grown) changed
       | inr same ↦ subst (λ ds. IsSound (with_clauses ds)) (sym same) is.sound
@@ -106,7 +198,7 @@ module _ {D N S A H : Type 0} {st : Store N S} {loaded : List (Requirement × Ve
   -- after a clause was to be added that isn't registered
   pub after_plain : {T E : Type 0} (c kind : Clause N) (watch : Option (List Lit)) {cs : Clauses N} (result : Result T E)
       → watch ≡ first_watches (kept_literals st) (values st) c → c ≡ kind → IsKnownClause st.provider.universe st.origins kind → IsPlain kind
-      → OnOk result (cs ≡ list_added clauses_now c watch) → OnErr result (cs ≡ clauses_now) → IsConsistent (with_clauses cs) loaded cache
+      → OnOk result (cs ≡ list_added clauses_now c watch) → OnErr result (cs ≡ clauses_now) → IsConsistent has (with_clauses cs) loaded disjunctions cache queue trail
   after_plain c kind watch result watches same_kind known plain ok err =
       after_change (list_added clauses_now c watch) result
       (subst (λ w. IsSound (with_clauses (list_added clauses_now c w))) (sym watches)
@@ -114,88 +206,246 @@ module _ {D N S A H : Type 0} {st : Store N S} {loaded : List (Requirement × Ve
 
   -- after one was to be learnt
   pub after_learnt : {T E : Type 0} (ls : List Lit) {cs : Clauses N} (result : Result T E)
-      → OnOk result (cs ≡ learnt_one clauses_now ls) → OnErr result (cs ≡ clauses_now) → IsConsistent (with_clauses cs) loaded cache
+      → OnOk result (cs ≡ learnt_one clauses_now ls) → OnErr result (cs ≡ clauses_now) → IsConsistent has (with_clauses cs) loaded disjunctions cache queue trail
   after_learnt ls result ok err =
       after_change (learnt_one clauses_now ls) result
       (subst (λ w. IsSound (with_clause (with_learnt st ls) (Kind.Learnt (length st.learnt)) (two_or_none w))) (sym (learnt_watches st ls)) (IsSound-learnt st is.sound ls)) ok err
 
+  -- after a variable was to be tracked
+  pub after_tracked : {T E : Type 0} (name : N) (v : ℕ) {os : List (VariableOrigin N S)} {cs : Clauses N} {ts : N → Tracker ℕ} (result : Result T E) → IsLawful st.provider
+      → st.provider.universe.knows_name name ≡ true → v < length st.origins → is_helper_among st.origins v ≡ false → is_tracked nat_eq (st.trackers name) v ≡ false
+      → OnOk result (os ≡ origins_with st.origins name (helper_for st name v)) → OnOk result (cs ≡ with_forbidden name clauses_now (tracking st name v))
+      → OnOk result (ts ≡ trackers_with st.provider.same_name name v (helper_for st name v) st.trackers)
+      → OnErr result (os ≡ st.origins) → OnErr result (cs ≡ clauses_now) → OnErr result (ts ≡ st.trackers)
+      → IsConsistent has (record (with_clauses cs) { origins = os; trackers = ts }) loaded disjunctions cache queue trail
+  after_tracked name v {os} {cs} {ts} (Ok x) lawful named known none new origins clauses trackers same_origins same_clauses same_trackers = record {
+    few = is.few;
+    known = is.known;
+    asked = is.asked;
+    may_ask = is.may_ask;
+    sound = subst (λ s. IsSound s) (sym (tracked_parts st name v origins clauses trackers)) (IsSound-tracked st is.sound lawful name v named known none new);
+  }
+  after_tracked name v {os} {cs} {ts} (Err e) lawful named known none new origins clauses trackers same_origins same_clauses same_trackers =
+      subst (λ o. IsConsistent has (record (with_clauses cs) { origins = o; trackers = ts }) loaded disjunctions cache queue trail) (sym same_origins)
+      (subst (λ c. IsConsistent has (record (with_clauses c) { trackers = ts }) loaded disjunctions cache queue trail) (sym same_clauses)
+      (subst (λ t. IsConsistent has (record st { trackers = t }) loaded disjunctions cache queue trail) (sym same_trackers) is))
+
+  -- after a disjunction was to be kept
+  pub after_disjunction : {T E : Type 0} {ds : List (Disjunction A)} (result : Result T E)
+      → st.disjunctions ≡ disjunctions_kept disjunctions → OnOk result (IsOneMore disjunctions ds) → OnErr result (ds ≡ disjunctions)
+      → IsConsistent has (record st { disjunctions = disjunctions_kept ds }) loaded ds cache queue trail
+  after_disjunction {T = T} {E = E} {ds} result kept ok err = elim (either result ok err) [
+    | inl more ↦ subst After (sym more.grown) (longer more.disjunction)
+    | inr same ↦ subst After (sym same) (rw (← kept) is)
+  ]
+    where
+      After : List (Disjunction A) → Type 0
+      After es = IsConsistent has (record st { disjunctions = disjunctions_kept es }) loaded es cache queue trail
+
+      longer : (d : Disjunction A) → After (disjunctions ++ d ∷ [])
+      longer d = record {
+        few = is.few;
+        known = is.known;
+        asked = is.asked;
+        sound = subst (λ es. IsSound (record st { disjunctions = es }))
+            (ap (λ es. es ++ record { literals = d.literals.items; condition = d.condition } ∷ []) kept ∙ sym (map-append (λ x. record { literals = x.literals.items; condition = x.condition }) disjunctions (d ∷ [])))
+            (IsSound-disjunction st is.sound d.literals.items d.condition);
+        may_ask = record {
+          in_step = is.may_ask.in_step;
+          stands = stands_with_disjunction (references st.provider.universe loaded disjunctions) queue d is.may_ask.stands;
+          named = is.may_ask.named;
+          hot = is.may_ask.hot;
+        };
+      }
+
   -- after a watch was to be moved
   pub after_rewatch : {T E : Type 0} (c : ℕ) (from to : Lit) {cs : Clauses N} (result : Result T E) → is_literal_in to (clause_literals st c) ≡ true
       → OnOk result (IsTrue (can_rewatch clauses_now c from to)) → OnOk result (cs ≡ list_rewatched clauses_now c from to) → OnErr result (cs ≡ clauses_now)
-      → IsConsistent (with_clauses cs) loaded cache
+      → IsConsistent has (with_clauses cs) loaded disjunctions cache queue trail
   after_rewatch {T = T} {E = E} c from to {cs} (Ok x) has can ok err =
       let tests = both (is_literal_in from (watched_by st c)) (not (is_literal_in to (watched_by st c))) can in
       after_change {T = T} {E = E} (list_rewatched clauses_now c from to) {cs = cs} (Ok x) (IsSound-rewatched st is.sound c from to tests.0 (failed (is_literal_in to (watched_by st c)) tests.1) has) ok err
   after_rewatch {T = T} {E = E} c from to {cs} (Err e) has can ok err = after_change {T = T} {E = E} clauses_now {cs = cs} (Err e) is.sound ok err
 
+  -- a queue that is unchanged may be asked
+  abbrev MayAskStill : Queue N Q → Type 0
+  MayAskStill q = MayAsk has st.scores (references st.provider.universe loaded disjunctions) q trail
+
+  may_ask_unchanged : {q : Queue N Q} → IsUnchanged queue q has → StandsOn (references st.provider.universe loaded disjunctions) q → MayAskStill q
+  may_ask_unchanged {q} same stands = record {
+    in_step = in_step-unchanged {has = has} trail same is.may_ask.in_step;
+    stands = stands;
+    named = same.clauses.names ∙ is.may_ask.named ∙ ap (map (λ c. map st.provider.universe.set_name (sets_of st.provider.universe c.requirement))) (sym same.clauses.clauses);
+    hot = λ n cold. is.may_ask.hot n (sym (same.hot n) ∙ cold);
+  }
+
   -- after the list and the queue were left as they were
-  after_none : {cs : Clauses N} {requires : List RequiresClause} → cs ≡ clauses_now → requires ≡ st.requires
-      → IsConsistent (record (with_clauses cs) { requires = requires }) loaded cache
-  after_none {cs} {requires} same left =
-      subst (λ ds. IsConsistent (record (with_clauses ds) { requires = requires }) loaded cache) (sym same)
-      (subst (λ rs. IsConsistent (record st { requires = rs }) loaded cache) (sym left) is)
+  after_none : {cs : Clauses N} {q : Queue N Q} → cs ≡ clauses_now → st.requires ≡ queue.clauses → IsUnchanged queue q has → StandsOn (references st.provider.universe loaded disjunctions) q
+      → IsConsistent has (record (with_clauses cs) { requires = q.clauses }) loaded disjunctions cache q trail
+  after_none {cs} {q} same registered left stands =
+      let requires : q.clauses ≡ st.requires = left.clauses.clauses ∙ sym registered in
+      subst (λ ds. IsConsistent has (record (with_clauses ds) { requires = q.clauses }) loaded disjunctions cache q trail) (sym same)
+      (subst (λ rs. IsConsistent has (record st { requires = rs }) loaded disjunctions cache q trail) (sym requires)
+      (record { few = is.few; known = is.known; sound = is.sound; asked = is.asked; may_ask = may_ask_unchanged left stands }))
 
   -- after a requires clause was to be added and registered
-  pub after_registered : {T E : Type 0} (parent : ℕ) (disjunction : Option ℕ) (r : Requirement) (c : Clause N) (watch : Option (List Lit)) {cs : Clauses N} {requires : List RequiresClause}
-      (result : Result T E) → knows_requirement st.provider.universe r ≡ true → parent < length st.origins → IsSome (lists_of st r)
-      → watch ≡ first_watches (kept_literals st) (values st) c → c ≡ Kind.Requires parent disjunction r
+  pub after_registered : {T E : Type 0} (parent : ℕ) (disjunction : Option ℕ) (r : Requirement) (c : Clause N) (watch : Option (List Lit)) {cs : Clauses N} {q : Queue N Q}
+      (result : Result T E) → knows_requirement st.provider.universe r ≡ true → parent < length st.origins → IsSome (lists_of st r) → IfSome disjunction (λ d. d < length st.disjunctions)
+      → watch ≡ first_watches (kept_literals st) (values st) c → c ≡ Kind.Requires parent disjunction r → st.requires ≡ queue.clauses → trail.entries ≡ st.trail
+      → StandsOn (references st.provider.universe loaded disjunctions) q
       → OnOk result (cs ≡ list_added clauses_now c watch)
-      → OnOk result (requires ≡ st.requires ++ record { parent = parent; requirement = r; clause_id = length st.clauses } ∷ [])
-      → OnErr result (cs ≡ clauses_now) → OnErr result (requires ≡ st.requires)
-      → IsConsistent (record (with_clauses cs) { requires = requires }) loaded cache
-  after_registered parent disjunction r c watch {cs} {requires} (Ok x) known variable found watches kind added registered unadded unregistered =
-      let one : RequiresClause = record { parent = parent; requirement = r; clause_id = length st.clauses } in
+      → OnOk result (IsRegistered has (record { parent = parent; requirement = r; condition = disjunction; clause_id = length st.clauses })
+      (map st.provider.universe.set_name (sets_of st.provider.universe r)) (values st parent) queue q)
+      → OnErr result (cs ≡ clauses_now) → OnErr result (IsUnchanged queue q has)
+      → IsConsistent has (record (with_clauses cs) { requires = q.clauses }) loaded disjunctions cache q trail
+  after_registered parent disjunction r c watch {cs} {q} (Ok x) known variable found kept watches kind requires entries stands added registered unadded unregistered =
+      let one : RequiresClause = record { parent = parent; requirement = r; condition = disjunction; clause_id = length st.clauses } in
       let more : List RequiresClause = st.requires ++ one ∷ [] in
-      let After : Clauses N → List RequiresClause → Type 0 = λ ds rs. IsConsistent (record (with_clauses ds) { requires = rs }) loaded cache in
-      subst (λ ds. After ds requires) (sym added) (subst (After (list_added clauses_now c watch)) (sym registered)
+      let names_in : List RequiresClause → List (List N) = map (λ d. map st.provider.universe.set_name (sets_of st.provider.universe d.requirement)) in
+      let grown : q.clauses ≡ more = registered.clauses ∙ ap (λ ds. ds ++ one ∷ []) (sym requires) in
+      let After : Clauses N → List RequiresClause → Type 0 = λ ds rs. IsConsistent has (record (with_clauses ds) { requires = rs }) loaded disjunctions cache q trail in
+      subst (λ ds. After ds q.clauses) (sym added) (subst (After (list_added clauses_now c watch)) (sym grown)
       (subst (λ w. After (list_added clauses_now c w) more) (sym watches)
       (subst (λ d. After (list_added clauses_now d (first_watches (kept_literals st) (values st) d)) more) (sym kind) (record {
         few = is.few;
         known = All-push (λ d. knows_requirement st.provider.universe d.requirement ≡ true) st.requires one is.known known;
-        sound = IsSound-requires st is.sound parent disjunction r known variable found;
+        sound = IsSound-requires st is.sound parent disjunction r known variable found kept;
         asked = is.asked;
+        may_ask = record {
+          in_step = in_step-registered trail one (map st.provider.universe.set_name (sets_of st.provider.universe r)) (values st parent) registered
+              (ap (λ es. val es parent) (sym entries)) is.may_ask.in_step;
+          stands = stands;
+          named = registered.names ∙ ap (λ ns. ns ++ map st.provider.universe.set_name (sets_of st.provider.universe r) ∷ []) is.may_ask.named
+              ∙ sym (map-append (λ d. map st.provider.universe.set_name (sets_of st.provider.universe d.requirement)) queue.clauses (one ∷ [])) ∙ ap names_in (sym registered.clauses);
+          hot = λ n cold. is.may_ask.hot n (sym (registered.hot n) ∙ cold);
+        };
       }))))
-  after_registered parent disjunction r c watch (Err e) known variable found watches kind added registered unadded unregistered = after_none unadded unregistered
+  after_registered parent disjunction r c watch (Err e) known variable found kept watches kind requires entries stands added registered unadded unregistered =
+      after_none unadded requires unregistered stands
 
--- a store of these variables and lists
-abbrev pub store_with : {D N S A : Type 0} → (D → Provider N S) → Clauses N → List RequiresClause → Trail → D → List (VariableOrigin N S)
-    → List (Requirement × Vec (Vec ℕ A) A) → Store N S
-store_with {D = D} {N = N} {S = S} provided clauses requires trail provider os kept =
-    let none : Kept D N S = record { provider = provider; origins = os; loaded = lists_kept kept; learnt = clauses.learnt; clauses = clauses.clauses; records = []; lists = []; requires = requires; trail = trail.entries; place = trail.place } in
-    record (store_of provided none) { watches = clauses.watches; watchers = clauses.watchers }
+  -- after the queue was brought up to date, or not, for which the floor was taken
+  pub after_sync : {T E : Type 0} {q : Queue N Q} (result : Result T E) → st.requires ≡ queue.clauses → SameClauses queue q → SameValues (has queue.hot) (has q.hot)
+      → StandsOn (references st.provider.universe loaded disjunctions) q → OnOk result (HasTrail (decisions_of trail.entries) q) → OnErr result (q.must_start_anew ≡ true)
+      → IsConsistent has (record st { requires = q.clauses }) loaded disjunctions cache q (floor_taken trail)
+  after_sync {T = T} {E = E} {q} result requires same hot stands ok err =
+      subst (λ rs. IsConsistent has (record st { requires = rs }) loaded disjunctions cache q (floor_taken trail)) (requires ∙ sym same.clauses) (record {
+        few = is.few;
+        known = is.known;
+        sound = is.sound;
+        asked = is.asked;
+        may_ask = record {
+          in_step = elim (either result ok err) [ inl synced ↦ in_step-synced trail synced | inr refused ↦ in_step-refused trail refused ];
+          stands = stands;
+          named = same.names ∙ is.may_ask.named ∙ ap (map (λ c. map st.provider.universe.set_name (sets_of st.provider.universe c.requirement))) (sym same.clauses);
+          hot = λ n cold. is.may_ask.hot n (sym (hot n) ∙ cold);
+        };
+      })
+
+  -- after scores changed, by the names that the queue knows as hot
+  pub after_scores : (scores : N → ℕ) {q : Queue N Q} → st.requires ≡ queue.clauses → SameClauses queue q → SameSync queue q
+      → StandsOn (references st.provider.universe loaded disjunctions) q → OnlyHotScore has scores q
+      → IsConsistent has (record st { scores = scores; requires = q.clauses }) loaded disjunctions cache q trail
+  after_scores scores {q} requires same synced stands hot =
+      subst (λ rs. IsConsistent has (record st { scores = scores; requires = rs }) loaded disjunctions cache q trail) (requires ∙ sym same.clauses)
+      (record {
+        few = is.few;
+        known = is.known;
+        sound = IsSound-scored st is.sound scores;
+        asked = is.asked;
+        may_ask = record {
+          in_step = in_step-same trail synced is.may_ask.in_step;
+          stands = stands;
+          named = same.names ∙ is.may_ask.named ∙ ap (map (λ c. map st.provider.universe.set_name (sets_of st.provider.universe c.requirement))) (sym same.clauses);
+          hot = hot;
+        };
+      })
+
+  -- only hot names have scores, also after one was marked hot, and after its score was raised then
+  pub hot_kept : (q : Queue N Q) → SameValues (has queue.hot) (has q.hot) → OnlyHotScore has st.scores q
+  hot_kept q same n cold = is.may_ask.hot n (sym (same n) ∙ cold)
+
+  pub hot_bumped : (same_name : N → N → Bool) (same : (a b : N) → same_name a b ≡ true → a ≡ b) (name : N) (amount : ℕ) (q : Queue N Q)
+      → IsUpdate (has queue.hot) name true (has q.hot) → OnlyHotScore has (bumped same_name name amount st.scores) q
+  hot_bumped same_name same name amount q marked n cold = by_name (same_name n name) refl
+    where
+      other : n ≢ name
+      other e = (let hot : has q.hot n ≡ true = ap (has q.hot) e ∙ marked.0 in let no : true ≡ false = sym hot ∙ cold in cc)
+
+      by_name : (b : Bool) → same_name n name ≡ b → cond b (min (st.scores n + amount) (2 ^ 64 - 1)) (st.scores n) ≡ 0
+      by_name true e = absurd (other (same n name e))
+      by_name false e = is.may_ask.hot n (sym (marked.1 n other) ∙ cold)
+
+  -- after a score was to be raised
+  pub after_bumped : {T E : Type 0} (same_name : N → N → Bool) (same : (a b : N) → same_name a b ≡ true → a ≡ b) (name : N) (amount : ℕ) {scores : N → ℕ} {q : Queue N Q}
+      (result : Result T E) → st.requires ≡ queue.clauses → SameClauses queue q → SameSync queue q → StandsOn (references st.provider.universe loaded disjunctions) q
+      → OnOk result (scores ≡ bumped same_name name amount st.scores) → OnOk result (IsUpdate (has queue.hot) name true (has q.hot))
+      → OnErr result (scores ≡ st.scores) → OnErr result (SameValues (has queue.hot) (has q.hot))
+      → IsConsistent has (record st { scores = scores; requires = q.clauses }) loaded disjunctions cache q trail
+  after_bumped same_name same name amount {scores} {q} (Ok x) requires clauses synced stands raised hot left cold =
+      after_scores scores requires clauses synced stands (subst (λ s. OnlyHotScore has s q) (sym raised) (hot_bumped same_name same name amount q hot))
+  after_bumped same_name same name amount {scores} {q} (Err e) requires clauses synced stands raised hot left cold =
+      after_scores scores requires clauses synced stands (subst (λ s. OnlyHotScore has s q) (sym left) (hot_kept q cold))
+
+  -- a decay leaves 0 where it is
+  pub hot_decayed : (numerator denominator : ℕ) → OnlyHotScore has (decayed numerator denominator st.scores) queue
+  hot_decayed numerator denominator n cold =
+      ap (λ s. s * numerator / denominator) (is.may_ask.hot n cold) ∙ ap (λ m. m / denominator) (zero-mul numerator) ∙ zero-div denominator
+
+  -- after a decay
+  pub after_decayed : (numerator denominator : ℕ) {scores : N → ℕ} → scores ≡ decayed numerator denominator st.scores
+      → IsConsistent has (record st { scores = scores }) loaded disjunctions cache queue trail
+  after_decayed numerator denominator same =
+      subst (λ s. IsConsistent has (record st { scores = s }) loaded disjunctions cache queue trail) (sym same) (record {
+        few = is.few;
+        known = is.known;
+        sound = IsSound-scored st is.sound (decayed numerator denominator st.scores);
+        asked = is.asked;
+        may_ask = record { in_step = is.may_ask.in_step; stands = is.may_ask.stands; named = is.may_ask.named; hot = hot_decayed numerator denominator };
+      })
+
+  -- after the queue was asked
+  pub after_question : {q : Queue N Q} → st.requires ≡ queue.clauses → IsUnchanged queue q has → StandsOn (references st.provider.universe loaded disjunctions) q
+      → IsConsistent has (record st { requires = q.clauses }) loaded disjunctions cache q trail
+  after_question {q} requires same stands =
+      subst (λ rs. IsConsistent has (record st { requires = rs }) loaded disjunctions cache q trail) (requires ∙ sym same.clauses.clauses)
+      (record { few = is.few; known = is.known; sound = is.sound; asked = is.asked; may_ask = may_ask_unchanged same stands })
+
+-- the store of what is kept, with this provider, these variables and these lists
+abbrev pub store_with : {D N S A C : Type 0} → (D → Provider N S) → (C → N → ℕ) → Kept D N S C → D → List (VariableOrigin N S) → List (Requirement × Vec (Vec ℕ A) A) → Store N S
+store_with provided scored kept provider os loaded = store_of provided scored (record kept { provider = provider; origins = os; loaded = lists_kept loaded })
 
 -- after a load, of what was kept before it: the provider is the cache's
-module _ {D N S A H : Type 0} (provided : D → Provider N S) (has : H → S → Bool) (origins : List (VariableOrigin N S))
-    (loaded : List (Requirement × Vec (Vec ℕ A) A)) (clauses : Clauses N) (requires : List RequiresClause) (trail : Trail) (old new : Cache D N S A H)
-    (later : IsLater has old new) where
+module _ {D N S A H Q C : Type 0} (provided : D → Provider N S) (scored : C → N → ℕ) (has : H → S → Bool) (has_name : Q → N → Bool) (kept : Kept D N S C) (origins : List (VariableOrigin N S))
+    (loaded : List (Requirement × Vec (Vec ℕ A) A)) (disjunctions : List (Disjunction A)) (queue : Queue N Q) (trail : Trail) (old new : Cache D N S A H) (later : IsLater has old new) where
   abbrev same_solvable : S → S → Bool
   same_solvable = (provided old.provider).same_solvable
 
   abbrev with_all : D → List (VariableOrigin N S) → List (Requirement × Vec (Vec ℕ A) A) → Store N S
-  with_all = store_with provided clauses requires trail
+  with_all = store_with provided scored kept
 
-  module _ (is : IsConsistent (with_all old.provider origins loaded) loaded old) (lawful : IsLawful (provided old.provider)) where
+  module _ (is : IsConsistent has_name (with_all old.provider origins loaded) loaded disjunctions old queue trail) (lawful : IsLawful (provided old.provider)) where
     -- after solvables got variables, or the first so many of them did
     pub after_variables : (ss : List S) (os : List (VariableOrigin N S)) → All (IsKnownSolvable (provided old.provider).universe) ss
-        → os ≡ with_variables same_solvable origins ss → IsConsistent (with_all new.provider os loaded) loaded new
-    after_variables ss os known got = subst (λ q. IsConsistent (with_all q os loaded) loaded new) (sym later.provider) (record {
+        → os ≡ with_variables same_solvable origins ss → IsConsistent has_name (with_all new.provider os loaded) loaded disjunctions new queue trail
+    after_variables ss os known got = subst (λ q. IsConsistent has_name (with_all q os loaded) loaded disjunctions new queue trail) (sym later.provider) (record {
       few = is.few;
       known = is.known;
+      may_ask = is.may_ask;
       sound = subst (λ vs. IsSound (with_all old.provider vs loaded)) (sym got) (IsSound-with_variables (with_all old.provider origins loaded) is.sound lawful ss known);
       asked = λ k d lt i v below. asked_later has (provided old.provider) _ old new later (is.asked k d lt i v below);
     })
 
     -- after the candidates of a requirement got variables, and these were kept
-    pub after_load : (r : Requirement) (best : VersionSetId → List S) (os : List (VariableOrigin N S)) (lists : Vec (Vec ℕ A) A) (kept : List (Requirement × Vec (Vec ℕ A) A))
+    pub after_load : (r : Requirement) (best : VersionSetId → List S) (os : List (VariableOrigin N S)) (lists : Vec (Vec ℕ A) A) (kept_lists : List (Requirement × Vec (Vec ℕ A) A))
         → All (IsKnownSolvable (provided old.provider).universe) (flat_map best (sets_of (provided old.provider).universe r))
         → lookup (same_requirement r) (lists_kept loaded) ≡ None
         → os ≡ with_variables same_solvable origins (flat_map best (sets_of (provided old.provider).universe r))
         → map (λ l. l.items) lists.items ≡ map (λ v. map (interned_variable same_solvable os) (best v)) (sets_of (provided old.provider).universe r)
         → length (flat_map best (sets_of (provided old.provider).universe r)) < 2 ^ 40
         → All (λ v. is_set_asked (provided old.provider) new v ≡ true) (sets_of (provided old.provider).universe r)
-        → kept ≡ with_entry loaded r lists
-        → IsConsistent (with_all new.provider os kept) kept new
-    after_load r best os lists kept solvables fresh got made few asked keeps =
+        → kept_lists ≡ with_entry loaded r lists
+        → IsConsistent has_name (with_all new.provider os kept_lists) kept_lists disjunctions new queue trail
+    after_load r best os lists kept_lists solvables fresh got made few asked keeps =
         let sets = sets_of (provided old.provider).universe r in
         let st = with_all old.provider origins loaded in
         let own : List (VariableOrigin N S) → List (List ℕ) = λ vs. map (λ v. map (interned_variable same_solvable vs) (best v)) sets in
@@ -207,10 +457,16 @@ module _ {D N S A H : Type 0} (provided : D → Provider N S) (has : H → S →
         let sound : IsSound (record st { origins = os; loaded = lists_kept loaded ++ (r, own os) ∷ [] }) =
         subst (λ vs. IsSound (record st { origins = vs; loaded = lists_kept loaded ++ (r, own vs) ∷ [] })) (sym got)
         (IsSound-interned st is.sound lawful r best sets solvables fresh refl) in
-        subst (λ ks. IsConsistent (with_all new.provider os ks) ks new) (sym keeps)
-        (subst (λ q. IsConsistent (with_all q os (with_entry loaded r lists)) (with_entry loaded r lists) new) (sym later.provider) (record {
+        subst (λ ks. IsConsistent has_name (with_all new.provider os ks) ks disjunctions new queue trail) (sym keeps)
+        (subst (λ q. IsConsistent has_name (with_all q os (with_entry loaded r lists)) (with_entry loaded r lists) disjunctions new queue trail) (sym later.provider) (record {
           few = few-more loaded r lists is.few (rw rows few);
           known = is.known;
+          may_ask = record {
+            in_step = is.may_ask.in_step;
+            stands = stands_with_lists (references (provided old.provider).universe loaded disjunctions) queue r lists (lookup-none loaded r fresh) is.may_ask.stands;
+            named = is.may_ask.named;
+            hot = is.may_ask.hot;
+          };
           sound = subst (λ ls. IsSound (record st { origins = os; loaded = ls })) (sym entry) sound;
           asked = subst (AreAsked (provided old.provider) new) (sym entry)
               (All-push (λ e. All (λ v. is_set_asked (provided old.provider) new v ≡ true) (sets_of (provided old.provider).universe e.0)) (lists_kept loaded) (r, own os)

@@ -110,6 +110,7 @@ found_is P test x only i p (y ∷ ys) found all =
 pub record IsLawful {N S : Type 0} (p : Provider N S) : Type 0 where
   pub reflexive : (s : S) → p.same_solvable s s ≡ true
   pub same : (s t : S) → p.same_solvable s t ≡ true → s ≡ t
+  pub same_names : (n m : N) → p.same_name n m ≡ true → n ≡ m
   pub candidates : (n : N) → All (IsKnownSolvable p.universe) (p.answers.candidates n)
   pub order : (list : List S) → IsPermutation list (p.answers.order list)
 

@@ -1,5 +1,7 @@
 pub mod AddingLemmas
+pub mod AskingLemmas
 pub mod CallerLaws
+pub mod ForbiddingLaws
 pub mod InvariantLemmas
 pub mod KnownLemmas
 pub mod ListLemmas
@@ -7,4 +9,9 @@ pub mod LoadingLemmas
 pub mod RunLemmas
 pub mod SoundLaws
 pub mod SoundSteps
+pub mod StoredLaws
+pub mod SyncedLemmas
+pub mod TrackedLaws
+pub mod TrackingLaws
+pub mod TrackingSteps
 pub mod WatchLaws

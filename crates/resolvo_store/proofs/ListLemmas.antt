@@ -1,6 +1,6 @@
 -- The rows of loaded requirements, by what is kept of them.
 use Rattle.std.proofs.Common.{◌≡◌, ℕ, ◌+◌, length-append, Bool, arith, true, false, cond, List, [], ◌∷◌, ◌++◌, map, Option, Some, None, refl, ◌∙◌, sym, ap}
-use Rattle.std.specs.Prelude.{◌<◌, ◌^◌, vec_len, length, flat_map, option_map, unwrap_or}
+use Rattle.std.specs.Prelude.{◌<◌, ◌^◌, vec_len, length, flat_map, is_some, option_map, unwrap_or}
 use Rattle.std.specs.Borrow.{Bor}
 use Rattle.std.specs.List.{AllZip, each_same}
 use Rattle.std.specs.Map.{lookup}
@@ -18,7 +18,7 @@ use Rattle.decisions.specs.Literals.{Lit}
 use Rattle.clauses.specs.Stored.{kept_in, lists_found}
 use Rattle.clauses.specs.declared.disjunction.Disjunction.{Disjunction}
 use Rattle.resolvo_queue.specs.Rows.{Row, rows, lists_or_none, loaded_rows, AreFew}
-use Rattle.resolvo_store.specs.Lists.{lists_kept}
+use Rattle.resolvo_store.specs.Lists.{lists_kept, disjunctions_kept}
 
 -- lists have few rows in all
 abbrev pub HasFew : List (List ℕ) → Type 0
@@ -34,6 +34,22 @@ module _ {A : Type 0} where
       → lookup (same_requirement r) (lists_kept loaded) ≡ option_map items_of (lookup (same_requirement r) loaded)
   lookup-kept loaded r = lookup-map_values items_of (same_requirement r) loaded
 
+  -- what isn't kept for the abstract store isn't kept
+  pub lookup-none : (loaded : List (Requirement × Vec (Vec ℕ A) A)) (r : Requirement) → lookup (same_requirement r) (lists_kept loaded) ≡ None → lookup (same_requirement r) loaded ≡ None
+  lookup-none loaded r none = by_found (lookup (same_requirement r) loaded) (sym (lookup-kept loaded r) ∙ none)
+    where
+      by_found : (o : Option (Vec (Vec ℕ A) A)) → option_map items_of o ≡ None → o ≡ None
+      by_found None h = refl
+      by_found (Some lists) h = (let no : ⊥ = cc in absurd no)
+
+  -- what is kept for it is kept
+  pub lookup-some : (loaded : List (Requirement × Vec (Vec ℕ A) A)) (r : Requirement) → is_some (lookup (same_requirement r) (lists_kept loaded)) ≡ true → is_some (lookup (same_requirement r) loaded) ≡ true
+  lookup-some loaded r some = by_found (lookup (same_requirement r) loaded) (ap is_some (sym (lookup-kept loaded r)) ∙ some)
+    where
+      by_found : (o : Option (Vec (Vec ℕ A) A)) → is_some (option_map items_of o) ≡ true → is_some o ≡ true
+      by_found None h = h
+      by_found (Some lists) h = refl
+
   none_or_items : (o : Option (Vec (Vec ℕ A) A)) → lists_or_none o ≡ unwrap_or (option_map items_of o) []
   none_or_items None = refl
   none_or_items (Some lists) = refl
@@ -48,14 +64,23 @@ module _ {A : Type 0} where
       (λ r. rows (sets_of universe r) (unwrap_or (lookup (same_requirement r) (lists_kept loaded)) []))
   rows-kept universe loaded = fun_ext (λ r. ap (rows (sets_of universe r)) (none_or_items (lookup (same_requirement r) loaded) ∙ ap (λ o. unwrap_or o []) (sym (lookup-kept loaded r))))
 
-  -- what clauses refer to by ids is that of the abstract store, which keeps no disjunctions
+  -- as many disjunctions are kept as there are
+  pub length_disjunctions : (ds : List (Disjunction A)) → length (disjunctions_kept ds) ≡ length ds
+  length_disjunctions ds = length-map ds (λ d. record { literals = d.literals.items; condition = d.condition })
+
+  -- the literals of disjunctions are those of the abstract store
+  pub disjunctions-kept : (ds : List (Disjunction A)) → map (λ d. d.literals.items) ds ≡ map (λ d. d.literals) (disjunctions_kept ds)
+  disjunctions-kept [] = refl
+  disjunctions-kept (d ∷ ds) = ap (λ ls. d.literals.items ∷ ls) (disjunctions-kept ds)
+
+  -- what clauses refer to by ids is that of the abstract store
   pub literals-kept : (learnt : List (Vec Lit A)) (own : List (List Lit)) (loaded : List (Requirement × Vec (Vec ℕ A) A)) (disjunctions : List (Disjunction A))
-      → map (λ l. l.items) learnt ≡ own → disjunctions ≡ []
-      → kept_in learnt loaded disjunctions ≡ record { learnt = own; lists = λ r. unwrap_or (lookup (same_requirement r) (lists_kept loaded)) []; disjunctions = [] }
-  literals-kept learnt own loaded disjunctions same none =
+      → map (λ l. l.items) learnt ≡ own
+      → kept_in learnt loaded disjunctions ≡ record { learnt = own; lists = λ r. unwrap_or (lookup (same_requirement r) (lists_kept loaded)) []; disjunctions = map (λ d. d.literals) (disjunctions_kept disjunctions) }
+  literals-kept learnt own loaded disjunctions same =
       ap (λ ls. record { learnt = ls; lists = λ r. lists_found (lookup (same_requirement r) loaded); disjunctions = map (λ d. d.literals.items) disjunctions }) same
-      ∙ ap (λ ds. record { learnt = own; lists = λ r. lists_found (lookup (same_requirement r) loaded); disjunctions = map (λ d. d.literals.items) ds }) none
-      ∙ ap (λ lists. record { learnt = own; lists = lists; disjunctions = [] })
+      ∙ ap (λ ds. record { learnt = own; lists = λ r. lists_found (lookup (same_requirement r) loaded); disjunctions = ds }) (disjunctions-kept disjunctions)
+      ∙ ap (λ lists. record { learnt = own; lists = lists; disjunctions = map (λ d. d.literals) (disjunctions_kept disjunctions) })
       (fun_ext (λ r. found_or_none (lookup (same_requirement r) loaded) ∙ ap (λ o. unwrap_or o []) (sym (lookup-kept loaded r))))
 
   -- what was found of the lists

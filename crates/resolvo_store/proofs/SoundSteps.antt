@@ -12,14 +12,19 @@ use Rattle.decisions.specs.Trail.{Entry, HasLevel}
 use Rattle.watch_map.specs.Watching.{is_literal_in}
 use Rattle.clauses.specs.ClauseTexts.{IsKnownClause}
 use Rattle.clauses.specs.declared.clause.Clause.TheVariants as Kind
-use Rattle.resolvo_store.specs.Command.{Command, Variable, Helper, Load, Requires, Root, Constrains, ConstrainsExcluded, ConstrainsParent, Lock, Exclude, AnyOf, Learnt, Assign, UndoLast, UndoUntil, Unpropagated, Rewatch, Watchers, Decide, Reply, Refused}
+use Rattle.resolvo_store.specs.Command.{Command, Variable, Helper, Load, Requires, Root, Constrains, ConstrainsExcluded, ConstrainsParent, Lock, Exclude, AnyOf, Learnt, Assign, UndoLast, UndoUntil, Unpropagated, Rewatch, Watchers, Decide, Disjunction, AtMostOnce, Bump, Decay, Standard, Reply, TrackedAs, Refused}
 use Rattle.resolvo_store.specs.Store.{Store, Provider, new_store, lists_of, clause_literals, watched_by, candidates_of}
-use Rattle.resolvo_store.specs.Refusals.{knows_variable, may_rewatch, refusals, first_refusal}
-use Rattle.resolvo_store.specs.Outcome.{outcome, load, hands_next}
+use Rattle.resolvo_store.specs.Refusals.{knows_variable, knows_disjunction, may_rewatch, refusals, first_refusal}
+use Rattle.resolvo_store.specs.Outcome.{Outcome, outcome, load, hands_next, adds_clause, tracking, with_bits, with_tracked}
 use Rattle.resolvo_store.specs.Step.{IsAnswered, Step, Run}
+use Rattle.at_most_once.specs.AtMostOne as tracking_of
+use Rattle.at_most_once.specs.AtMostOne.{BitClause, is_tracked}
+use Rattle.scores.specs.Scores.{bumped, decayed}
+use Rattle.resolvo_store.specs.Tracking.{is_helper_among, forbidding}
 use Rattle.resolvo_store.specs.Sound.{IsSound, IsLoaded, IsRegistered, IsAssigned, HasOneVariableEach}
-use Rattle.resolvo_store.proofs.AddingLemmas.{both, failed}
-use Rattle.resolvo_store.proofs.SoundLaws.{IsSound-with_variable, IsSound-interned, IsSound-added, IsSound-helper, IsSound-requires, IsSound-learnt, IsSound-rewatched, IsSound-assigned, IsSound-without_newest, IsSound-kept_until, IsSound-hands_next}
+use Rattle.resolvo_store.proofs.AddingLemmas.{both, failed, disjunction_known}
+use Rattle.resolvo_store.proofs.SoundLaws.{IsSound-with_variable, IsSound-interned, IsSound-added, IsSound-helper, IsSound-requires, IsSound-disjunction, IsSound-learnt, IsSound-scored, IsSound-rewatched, IsSound-assigned, IsSound-without_newest, IsSound-kept_until, IsSound-hands_next}
+use Rattle.resolvo_store.proofs.TrackedLaws.{IsSound-tracked}
 use Rattle.resolvo_store.proofs.KnownLemmas.{IsKnownOrigin, IsLawful, known_two, known_three, known_excluded, all_known}
 
 -- ---- refusals
@@ -70,28 +75,28 @@ module _ {N S : Type 0} (st : Store N S) (sound : IsSound st) (lawful : IsLawful
   IsSound-outcome (Requires parent r disjunction) none =
       let tests = test_of (Requires parent r disjunction) none in
       let known : parent < length st.origins = grind (arith, nat_tests, tests.0) in
-      let named = both (knows_variable st parent) (knows_requirement universe r && is_none disjunction) (passed _ tests.0) in
-      let requirement = both (knows_requirement universe r) (is_none disjunction) named.1 in
-      IsSound-requires st sound parent disjunction r requirement.0 known (is_there (lists_of st r) tests.1.0)
-  IsSound-outcome Root none = IsSound-added st sound Kind.InstallRoot tt (record { unregistered = λ id. refl })
+      let named = both (knows_variable st parent) (knows_requirement universe r && knows_disjunction st disjunction) (passed _ tests.0) in
+      let requirement = both (knows_requirement universe r) (knows_disjunction st disjunction) named.1 in
+      IsSound-requires st sound parent disjunction r requirement.0 known (is_there (lists_of st r) tests.1.0) (disjunction_known st disjunction requirement.1)
+  IsSound-outcome Root none = IsSound-added st sound Kind.InstallRoot tt (record { unregistered = λ id. refl; untracked = λ named. refl })
   IsSound-outcome (Constrains parent forbidden v) none =
       let known = known_three universe st.origins sound.origins_known parent forbidden _ (passed _ (test_of (Constrains parent forbidden v) none).0) in
-      IsSound-added st sound (Kind.Constrains parent forbidden v) known (record { unregistered = λ id. refl })
+      IsSound-added st sound (Kind.Constrains parent forbidden v) known (record { unregistered = λ id. refl; untracked = λ named. refl })
   IsSound-outcome (ConstrainsExcluded candidate aux v) none =
       let known = known_three universe st.origins sound.origins_known candidate aux _ (passed _ (test_of (ConstrainsExcluded candidate aux v) none).0) in
-      IsSound-added st sound (Kind.ConstrainsExcluded candidate aux v) known (record { unregistered = λ id. refl })
+      IsSound-added st sound (Kind.ConstrainsExcluded candidate aux v) known (record { unregistered = λ id. refl; untracked = λ named. refl })
   IsSound-outcome (ConstrainsParent parent aux v) none =
       let known = known_three universe st.origins sound.origins_known parent aux _ (passed _ (test_of (ConstrainsParent parent aux v) none).0) in
-      IsSound-added st sound (Kind.ConstrainsParent parent aux v) known (record { unregistered = λ id. refl })
+      IsSound-added st sound (Kind.ConstrainsParent parent aux v) known (record { unregistered = λ id. refl; untracked = λ named. refl })
   IsSound-outcome (Lock locked other) none =
       let known = known_two universe st.origins sound.origins_known locked other (passed _ (test_of (Lock locked other) none).0) in
-      IsSound-added st sound (Kind.Lock locked other) known (record { unregistered = λ id. refl })
+      IsSound-added st sound (Kind.Lock locked other) known (record { unregistered = λ id. refl; untracked = λ named. refl })
   IsSound-outcome (Exclude v reason) none =
       let known = known_excluded universe st.origins sound.origins_known v _ (passed _ (test_of (Exclude v reason) none).0) in
-      IsSound-added st sound (Kind.Excluded v reason) known (record { unregistered = λ id. refl })
+      IsSound-added st sound (Kind.Excluded v reason) known (record { unregistered = λ id. refl; untracked = λ named. refl })
   IsSound-outcome (AnyOf selected other) none =
       let known = known_two universe st.origins sound.origins_known selected other (passed _ (test_of (AnyOf selected other) none).0) in
-      IsSound-added st sound (Kind.AnyOf selected other) known (record { unregistered = λ id. refl })
+      IsSound-added st sound (Kind.AnyOf selected other) known (record { unregistered = λ id. refl; untracked = λ named. refl })
   IsSound-outcome (Learnt ls) none = IsSound-learnt st sound ls
   IsSound-outcome (Assign v value clause level) none =
       let tests = test_of (Assign v value clause level) none in
@@ -112,6 +117,22 @@ module _ {N S : Type 0} (st : Store N S) (sound : IsSound st) (lawful : IsLawful
       IsSound-rewatched st sound c from to watches.0 (failed (is_literal_in to (watched_by st c)) other.0) other.1
   IsSound-outcome (Watchers l) none = sound
   IsSound-outcome Decide none = sound
+  IsSound-outcome (Disjunction ls condition) none = IsSound-disjunction st sound ls condition
+  IsSound-outcome (AtMostOnce name v) none = by_tracked (is_tracked nat_eq (st.trackers name) v) refl
+    where
+      tests : (universe.knows_name name ≡ true) × ((knows_variable st v && not (is_helper_among st.origins v)) ≡ true)
+      tests = both (universe.knows_name name) (knows_variable st v && not (is_helper_among st.origins v)) (passed _ (test_of (AtMostOnce name v) none).0)
+
+      by_tracked : (b : Bool) → is_tracked nat_eq (st.trackers name) v ≡ b
+          → IsSound (cond {A = Outcome N S} b (record { reply = TrackedAs false 0; store = st }) (record { reply = TrackedAs true (length (tracking st name v)); store = with_tracked st name v })).store
+      by_tracked true e = sound
+      by_tracked false e =
+          let variable = both (knows_variable st v) (not (is_helper_among st.origins v)) tests.1 in
+          let known : v < length st.origins = (let test = variable.0 in grind (arith, nat_tests, test)) in
+          IsSound-tracked st sound lawful name v tests.0 known (failed (is_helper_among st.origins v) variable.1) e
+  IsSound-outcome (Bump name amount) none = IsSound-scored st sound (bumped st.provider.same_name name amount st.scores)
+  IsSound-outcome (Decay numerator denominator) none = IsSound-scored st sound (decayed numerator denominator st.scores)
+  IsSound-outcome (Standard standard) none = sound
 
 -- ---- new stores, steps and runs
 
@@ -140,6 +161,7 @@ module _ {N S : Type 0} where
     watched = refl;
     own = λ c l h. (let no : false ≡ true = h in cc);
     exact = record { two = λ c. tt; once = λ l. none_watch; stands = λ l c. refl };
+    tracked = λ name. record { adds = tracking_of.none; variables = All-nil (λ v. v < 1); helpers = All-nil (λ h. is_helper_among {N = N} {S = S} (RootOrigin ∷ []) h ≡ true) };
     clauses = All-nil (IsRegistered (new_store p));
     place = omega arith;
     trail = record { once = tt; levels = All-nil HasLevel };
@@ -177,6 +199,15 @@ module _ {N S : Type 0} where
       by_entry : (o : Option Entry) → (hands_next st o).store.provider ≡ st.provider
       by_entry None = refl
       by_entry (Some e) = refl
+  outcome_provider st (AtMostOnce name v) = by_tracked (is_tracked nat_eq (st.trackers name) v)
+    where
+      by_bits : (s : Store N S) (cs : List (BitClause ℕ)) → (with_bits name s cs).provider ≡ s.provider
+      by_bits s [] = refl
+      by_bits s (c ∷ cs) = by_bits (adds_clause s (forbidding name c)).store cs
+
+      by_tracked : (b : Bool) → (cond {A = Outcome N S} b (record { reply = TrackedAs false 0; store = st }) (record { reply = TrackedAs true (length (tracking st name v)); store = with_tracked st name v })).store.provider ≡ st.provider
+      by_tracked true = refl
+      by_tracked false = by_bits _ (tracking st name v)
   outcome_provider st _ = refl
 
   -- a step leaves the provider

@@ -1,5 +1,5 @@
 -- What clauses watch is theirs: two different ones of their literals, or none; and it stays so as a store grows.
-use Rattle.std.proofs.Common.{◌≡◌, ℕ, zero, suc, ◌+◌, ◌<◌, Bool, true, false, ◌||◌, cond, nat_eq, List, [], ◌∷◌, ◌++◌, length, map, slice_index_or, set, Option, Some, None, refl, sym, subst, ◌∙◌, arith}
+use Rattle.std.proofs.Common.{◌≡◌, ℕ, zero, suc, ◌<◌, Bool, true, false, ◌||◌, cond, nat_eq, List, [], ◌∷◌, ◌++◌, length, map, slice_index_or, set, Option, Some, None, refl, sym, subst, ◌∙◌, arith}
 use Rattle.std.specs.Prelude.{Contains, find, is_some, flat_map, slice_get, option_map, unwrap_or}
 use Rattle.std.specs.Cmp.{IsEquivalence}
 use Rattle.std.specs.List.{list_any}
@@ -136,6 +136,10 @@ or_grown : (a b c : Bool) → (b ≡ true → c ≡ true) → (a || b) ≡ true 
 or_grown true b c more h = refl
 or_grown false b c more h = more h
 
+or_before : (a b c : Bool) → (a ≡ true → b ≡ true) → (a || c) ≡ true → (b || c) ≡ true
+or_before true b c more h = rw (more refl) refl
+or_before false b c more h = or_later b c h
+
 -- a list that is found is found before others too
 pub found_before : (ls more : List (List Lit)) (id : ℕ) (l : Lit) → is_literal_in l (unwrap_or (slice_get ls id) []) ≡ true
     → is_literal_in l (unwrap_or (slice_get (ls ++ more) id) []) ≡ true
@@ -143,6 +147,12 @@ found_before [] more zero l h = (let no : false ≡ true = h in cc)
 found_before [] more (suc id) l h = (let no : false ≡ true = h in cc)
 found_before (x ∷ ls) more zero l h = h
 found_before (x ∷ ls) more (suc id) l h = found_before ls more id l h
+
+-- the same of the literals of a disjunction
+pub asked_before : (k : Kept) (more : List (List Lit)) (d : Option ℕ) (l : Lit) → is_literal_in l (condition_literals k d) ≡ true
+    → is_literal_in l (condition_literals (record k { disjunctions = k.disjunctions ++ more }) d) ≡ true
+asked_before k more None l h = h
+asked_before k more (Some d) l h = found_before k.disjunctions more d l h
 
 -- so are the candidates of a requirement
 pub lists_before : (es : List (Requirement × List (List ℕ))) (e : Requirement × List (List ℕ)) (r : Requirement) (l : Lit)
@@ -188,3 +198,24 @@ module _ {N : Type 0} (k : Kept) where
   literals_listed lists more (Kind.Learnt id) l h = h
   literals_listed lists more (Kind.Excluded a reason) l h = h
   literals_listed lists more (Kind.AnyOf selected other) l h = h
+
+  -- with more disjunctions
+  pub literals_asked : (disjunctions : List (List Lit))
+      → ((d : Option ℕ) (l : Lit) → is_literal_in l (condition_literals k d) ≡ true → is_literal_in l (condition_literals (record k { disjunctions = disjunctions }) d) ≡ true)
+      → (c : Clause N) (l : Lit) → is_literal_in l (literals_of k c) ≡ true → is_literal_in l (literals_of (record k { disjunctions = disjunctions }) c) ≡ true
+  literals_asked disjunctions more Kind.InstallRoot l h = h
+  literals_asked disjunctions more (Kind.Requires parent d r) l h =
+      let terms : List Lit = condition_literals k d in
+      let grown : List Lit = condition_literals (record k { disjunctions = disjunctions }) d in
+      let listed : List Lit = flat_map (map Pos) (k.lists r) in
+      or_grown (same_literal l (Neg parent)) (is_literal_in l (terms ++ listed)) (is_literal_in l (grown ++ listed))
+      (λ t. list_any-append (same_literal l) grown listed
+      ∙ or_before (is_literal_in l terms) (is_literal_in l grown) (is_literal_in l listed) (more d l) (sym (list_any-append (same_literal l) terms listed) ∙ t)) h
+  literals_asked disjunctions more (Kind.ForbidMultipleInstances a m n) l h = h
+  literals_asked disjunctions more (Kind.Constrains a b v) l h = h
+  literals_asked disjunctions more (Kind.ConstrainsExcluded a aux v) l h = h
+  literals_asked disjunctions more (Kind.ConstrainsParent a aux v) l h = h
+  literals_asked disjunctions more (Kind.Lock locked other) l h = h
+  literals_asked disjunctions more (Kind.Learnt id) l h = h
+  literals_asked disjunctions more (Kind.Excluded a reason) l h = h
+  literals_asked disjunctions more (Kind.AnyOf selected other) l h = h

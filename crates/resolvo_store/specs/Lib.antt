@@ -1,4 +1,6 @@
 pub mod Command
+pub mod CommandLaws
+pub mod ForbidsTwo
 pub mod Lists
 pub mod LoadRefusals
 pub mod Outcome
@@ -9,3 +11,5 @@ pub mod Solved
 pub mod Sound
 pub mod Step
 pub mod Store
+pub mod Synced
+pub mod Tracking

@@ -1,17 +1,31 @@
 -- Lists of variables as they are kept, and what is true of what a store keeps.
-use Rattle.std.specs.Prelude.{◌≡◌, ℕ, true, List, map, All}
+use Rattle.std.specs.Prelude.{◌≡◌, ℕ, Bool, true, List, [], ◌∷◌, ◌++◌, map, All}
 use Rattle.std.specs.declared.vec.Vec.{Vec}
 use Rattle.providers.specs.declared.requirement.Requirement.{Requirement}
 use Rattle.providers.specs.Provider.{Universe, knows_requirement, sets_of}
+use Rattle.clauses.specs.declared.disjunction.Disjunction.{Disjunction}
 use Rattle.resolvo_queue.specs.declared.requires_clause.RequiresClause.{RequiresClause}
+use Rattle.decisions.specs.Trail.{Trail}
+use Rattle.resolvo_queue.specs.Queue.{Queue}
+use Rattle.resolvo_queue.specs.References.{references}
 use Rattle.resolvo_queue.specs.Rows.{AreFew}
+use Rattle.resolvo_store.specs.Synced.{MayAsk}
 use Rattle.resolvo_store.specs.Sound.{IsSound}
-use Rattle.resolvo_store.specs.Store.{Store, Provider}
+use Rattle.resolvo_store.specs.Store.{Store, Provider, KeptDisjunction}
 use Rattle.solver_cache.specs.Cache.{Cache, is_set_asked}
 
 -- the requirements with the lists that are kept for them
 abbrev pub lists_kept : {A : Type 0} → List (Requirement × Vec (Vec ℕ A) A) → List (Requirement × List (List ℕ))
 lists_kept loaded = map (λ e. (e.0, map (λ l. l.items) e.1.items)) loaded
+
+-- the disjunctions that are kept
+abbrev pub disjunctions_kept : {A : Type 0} → List (Disjunction A) → List KeptDisjunction
+disjunctions_kept disjunctions = map (λ d. record { literals = d.literals.items; condition = d.condition }) disjunctions
+
+-- one disjunction more is kept
+pub record IsOneMore {A : Type 0} (old new : List (Disjunction A)) : Type 0 where
+  pub disjunction : Disjunction A
+  pub grown : new ≡ old ++ disjunction ∷ []
 
 -- the requirements of clauses are known
 abbrev pub AreKnown : {N S : Type 0} → Universe N S → List RequiresClause → Type 0
@@ -22,9 +36,12 @@ abbrev pub AreAsked : {D N S A H : Type 0} → Provider N S → Cache D N S A H 
 AreAsked p cache loaded = All (λ e. All (λ v. is_set_asked p cache v ≡ true) (sets_of p.universe e.0)) loaded
 
 -- what is kept is in order: it can be asked for decisions, with few rows for each requirement, and clauses of known
--- requirements alone; the store is one that commands can make; and what was loaded came through the cache
-pub record IsConsistent {D N S A H : Type 0} (st : Store N S) (loaded : List (Requirement × Vec (Vec ℕ A) A)) (cache : Cache D N S A H) : Type 0 where
+-- requirements alone; the store is one that commands can make; what was loaded came through the cache; and the queue may be
+-- asked, whose clauses stand on these lists and disjunctions
+pub record IsConsistent {D N S A H Q : Type 0} (has : Q → N → Bool) (st : Store N S) (loaded : List (Requirement × Vec (Vec ℕ A) A)) (disjunctions : List (Disjunction A))
+    (cache : Cache D N S A H) (queue : Queue N Q) (trail : Trail) : Type 0 where
   pub few : AreFew loaded
   pub known : AreKnown st.provider.universe st.requires
   pub sound : IsSound st
   pub asked : AreAsked st.provider cache st.loaded
+  pub may_ask : MayAsk has st.scores (references st.provider.universe loaded disjunctions) queue trail

@@ -1,5 +1,5 @@
 -- What each command replies, and the store that it leaves, where nothing is refused.
-use Rattle.std.specs.Prelude.{ℕ, ◌+◌, ◌-◌, min, Bool, List, [], ◌∷◌, ◌++◌, map, option_map, length, take, slice_get, slice_set, Option, Some, None, if◌then◌else◌}
+use Rattle.std.specs.Prelude.{ℕ, ◌+◌, ◌-◌, min, Bool, true, false, nat_eq, List, [], ◌∷◌, ◌++◌, map, fold, option_map, length, take, slice_get, slice_set, Option, Some, None, if◌then◌else◌}
 use Rattle.std.specs.Bool.{beq}
 use Rattle.providers.specs.declared.requirement.Requirement.{Requirement}
 use Rattle.providers.specs.Provider.{sets_of}
@@ -12,15 +12,20 @@ use Rattle.decisions.specs.Trail.{Entry, newest, top_level, kept_until}
 use Rattle.clauses.specs.declared.clause.Clause.{Clause}
 use Rattle.clauses.specs.declared.clause.Clause.TheVariants as Kind
 use Rattle.clauses.specs.Clauses.{first_watches, is_conflict}
+use Rattle.at_most_once.specs.AtMostOne.{BitClause, is_tracked, new_clauses}
+use Rattle.name_trackers.specs.NameTrackers.{with_tracked as trackers_with}
+use Rattle.scores.specs.Scores.{bumped, decayed}
 use Rattle.watch_map.specs.Watching.{started, moved}
 use Rattle.clause_list.specs.ClauseList.{two_or_none, rewatched}
 use Rattle.resolvo_store.specs.declared.helper_origin.HelperOrigin.{HelperOrigin}
 use Rattle.resolvo_store.specs.declared.helper_origin.HelperOrigin.TheVariants as Helps
 use Rattle.resolvo_queue.specs.declared.requires_clause.RequiresClause.{RequiresClause}
 use Rattle.resolvo_queue.specs.Scan.{first_falsified, is_eligible}
-use Rattle.resolvo_queue.specs.Pick.{Offer, eligible, pick, decided}
-use Rattle.resolvo_store.specs.Command.{Command, Variable, Helper, Load, Requires, Root, Constrains, ConstrainsExcluded, ConstrainsParent, Lock, Exclude, AnyOf, Learnt, Assign, UndoLast, UndoUntil, Unpropagated, Rewatch, Watchers, Decide, Reply, VariableIs, LoadedAs, ClauseIs, Assigned, Already, Clash, Undone, Next, Done, WatchersAre, Decided, NoDecision, Falsified}
-use Rattle.resolvo_store.specs.Store.{Store, values, lists_of, kept_literals, watched_by, rows_of, score_of, candidates_of, all_candidates}
+use Rattle.resolvo_queue.specs.declared.offer.Offer.{Offer}
+use Rattle.resolvo_queue.specs.Pick.{eligible, pick, decided}
+use Rattle.resolvo_store.specs.Command.{Command, Variable, Helper, Load, Requires, Root, Constrains, ConstrainsExcluded, ConstrainsParent, Lock, Exclude, AnyOf, Learnt, Assign, UndoLast, UndoUntil, Unpropagated, Rewatch, Watchers, Decide, Disjunction, AtMostOnce, Bump, Decay, Standard, Reply, VariableIs, LoadedAs, DisjunctionIs, ClauseIs, TrackedAs, Assigned, Already, Clash, Undone, Next, Done, WatchersAre, Decided, NoDecision, Falsified}
+use Rattle.resolvo_store.specs.Tracking.{forbidding, next_helper, origins_with}
+use Rattle.resolvo_store.specs.Store.{Store, values, lists_of, kept_literals, condition_of, watched_by, rows_of, score_of, candidates_of, all_candidates}
 
 -- a reply, and the store after it
 pub record Outcome (N S : Type 0) : Type 0 where
@@ -103,13 +108,38 @@ module _ {N S : Type 0} where
   }
 
   -- the store that has registered a requires clause under the next clause id
-  abbrev pub with_registered : Store N S → ℕ → Requirement → Store N S
-  with_registered st parent r =
-      record st { requires = st.requires ++ record { parent = parent; requirement = r; clause_id = length st.clauses } ∷ [] }
+  abbrev pub with_registered : Store N S → ℕ → Requirement → Option ℕ → Store N S
+  with_registered st parent r condition =
+      record st { requires = st.requires ++ record { parent = parent; requirement = r; condition = condition; clause_id = length st.clauses } ∷ [] }
 
   -- the store that keeps the literals of one learnt clause more
   abbrev pub with_learnt : Store N S → List Lit → Store N S
   with_learnt st ls = record st { learnt = st.learnt ++ ls ∷ [] }
+
+  -- the store that keeps one disjunction more
+  abbrev pub with_disjunction : Store N S → List Lit → ℕ → Store N S
+  with_disjunction st ls condition = record st { disjunctions = st.disjunctions ++ record { literals = ls; condition = condition } ∷ [] }
+
+  -- the helper that one variable more needs under a name, if it needs one
+  abbrev pub helper_for : Store N S → N → ℕ → Option ℕ
+  helper_for st name v = next_helper st.origins (st.trackers name) v
+
+  -- the clauses of one variable more under a name
+  abbrev pub tracking : Store N S → N → ℕ → List (BitClause ℕ)
+  tracking st name v = new_clauses (st.trackers name) (helper_for st name v) v
+
+  -- the store with these clauses more under a name, one after another
+  abbrev pub with_bits : N → Store N S → List (BitClause ℕ) → Store N S
+  with_bits name st cs = fold (λ s c. (adds_clause s (forbidding name c)).store) st cs
+
+  -- the store that tracks one variable more under a name
+  abbrev pub with_tracked : Store N S → N → ℕ → Store N S
+  with_tracked st name v =
+      let grown = record st {
+        origins = origins_with st.origins name (helper_for st name v);
+        trackers = trackers_with st.provider.same_name name v (helper_for st name v) st.trackers;
+      } in
+      with_bits name grown (tracking st name v)
 
   -- the store with its trail cut back to these entries, and the place within them
   abbrev pub cut_back : Store N S → List Entry → Store N S
@@ -122,19 +152,26 @@ module _ {N S : Type 0} where
 
   -- the first falsified clause of the scan
   abbrev pub falsified_clause : Store N S → Option RequiresClause
-  falsified_clause st = first_falsified (values st) (rows_of st) st.requires
+  falsified_clause st = first_falsified (values st) (condition_of st) (rows_of st) st.requires
 
-  -- a clause's parent is true, and its rows leave a candidate to decide and none to find true
+  -- a clause's parent is true, its condition is met, and its rows leave a candidate to decide and none to find true
   abbrev pub is_eligible_clause : Store N S → RequiresClause → Bool
-  is_eligible_clause st c = is_eligible (values st) (rows_of st) c
+  is_eligible_clause st c = is_eligible (values st) (condition_of st) (rows_of st) c
 
   -- what the scan's eligible clauses offer
   abbrev pub offers : Store N S → List Offer
-  offers st = eligible (values st) (rows_of st) (score_of st) st.requires
+  offers st = eligible (values st) (condition_of st) (rows_of st) (score_of st) st.requires
 
   -- the pick of them
   abbrev pub picked : Store N S → Option Offer
   picked st = pick (offers st)
+
+  -- the store in which a name's score is raised by an amount, and that in which all scores are taken times a fraction
+  abbrev pub with_bumped : Store N S → N → ℕ → Store N S
+  with_bumped st name amount = record st { scores = bumped st.provider.same_name name amount st.scores }
+
+  abbrev pub with_decayed : Store N S → ℕ → ℕ → Store N S
+  with_decayed st numerator denominator = record st { scores = decayed numerator denominator st.scores }
 
   -- the reply and the store after a command that nothing refuses
   abbrev pub outcome : Store N S → Command N S → Outcome N S
@@ -147,7 +184,7 @@ module _ {N S : Type 0} where
     store = record st { origins = st.origins ++ helper_origin origin ∷ [] };
   }
   outcome st (Load r) = load st r (lists_of st r)
-  outcome st (Requires parent r disjunction) = adds_clause (with_registered st parent r) (Kind.Requires parent disjunction r)
+  outcome st (Requires parent r disjunction) = adds_clause (with_registered st parent r disjunction) (Kind.Requires parent disjunction r)
   outcome st Root = adds_clause st Kind.InstallRoot
   outcome st (Constrains parent forbidden v) = adds_clause st (Kind.Constrains parent forbidden v)
   outcome st (ConstrainsExcluded candidate aux v) = adds_clause st (Kind.ConstrainsExcluded candidate aux v)
@@ -169,3 +206,13 @@ module _ {N S : Type 0} where
   outcome st (Rewatch c from to) = record { reply = Done; store = with_rewatched st c from to }
   outcome st (Watchers l) = record { reply = WatchersAre (st.watchers l); store = st }
   outcome st Decide = record { reply = decision (falsified_clause st) (picked st); store = st }
+  outcome st (Disjunction ls condition) = record {
+    reply = DisjunctionIs (length st.disjunctions);
+    store = with_disjunction st ls condition;
+  }
+  outcome st (AtMostOnce name v) =
+      if is_tracked nat_eq (st.trackers name) v then record { reply = TrackedAs false 0; store = st }
+      else record { reply = TrackedAs true (length (tracking st name v)); store = with_tracked st name v }
+  outcome st (Bump name amount) = record { reply = Done; store = with_bumped st name amount }
+  outcome st (Decay numerator denominator) = record { reply = Done; store = with_decayed st numerator denominator }
+  outcome st (Standard standard) = record { reply = Done; store = st }

@@ -1,17 +1,19 @@
 -- The refusals that a caller can foresee: for each command the tests, in order, with what each answers.
-use Rattle.std.specs.Prelude.{ℕ, ◌-◌, ◌^◌, ◌==◌, Bool, true, not, ◌&&◌, ◌||◌, nat_lt, nat_le, List, [], ◌∷◌, length, find, Option, is_none, option_map}
+use Rattle.std.specs.Prelude.{ℕ, ◌-◌, ◌^◌, ◌==◌, Bool, true, not, ◌&&◌, ◌||◌, nat_lt, nat_le, List, [], ◌∷◌, length, find, Option, None, Some, is_none, option_map}
 use Rattle.std.specs.List.{list_all}
+use Rattle.typed_ids.specs.Refusals.{are_ids_out}
 use Rattle.typed_ids.specs.declared.error.StoreError.{StoreError}
-use Rattle.typed_ids.specs.declared.error.StoreError.TheVariants.{IdSpace, UnknownId, LevelOutOfRange, NotLoaded, BadWatch, BadLearnt, EmptyTrail, TooManyClauses}
+use Rattle.typed_ids.specs.declared.error.StoreError.TheVariants.{IdSpace, UnknownId, LevelOutOfRange, NotLoaded, NegatesParent, BadWatch, BadLearnt, EmptyTrail, BadFraction, TooManyClauses}
 use Rattle.providers.specs.Provider.{knows_requirement}
 use Rattle.variables.specs.Variables.{lacks_variable, are_variables_out}
-use Rattle.decisions.specs.Literals.{Lit, variable_of}
+use Rattle.decisions.specs.Literals.{Lit, Neg, variable_of}
 use Rattle.clauses.specs.Clauses.{watch_ends}
 use Rattle.resolvo_store.specs.declared.helper_origin.HelperOrigin.{HelperOrigin}
 use Rattle.resolvo_store.specs.declared.helper_origin.HelperOrigin.TheVariants as Helps
-use Rattle.resolvo_store.specs.Command.{Command, Variable, Helper, Load, Requires, Root, Constrains, ConstrainsExcluded, ConstrainsParent, Lock, Exclude, AnyOf, Learnt, Assign, UndoLast, UndoUntil, Unpropagated, Rewatch, Watchers, Decide}
+use Rattle.resolvo_store.specs.Command.{Command, Variable, Helper, Load, Requires, Root, Constrains, ConstrainsExcluded, ConstrainsParent, Lock, Exclude, AnyOf, Learnt, Assign, UndoLast, UndoUntil, Unpropagated, Rewatch, Watchers, Decide, Disjunction, AtMostOnce, Bump, Decay, Standard}
 use Rattle.watch_map.specs.Watching.{is_literal_in}
-use Rattle.resolvo_store.specs.Store.{Store, lists_of, clause_literals, watched_by}
+use Rattle.resolvo_store.specs.Store.{Store, lists_of, condition_of, clause_literals, watched_by}
+use Rattle.resolvo_store.specs.Tracking.{is_helper_among}
 
 -- no literal, or two or more of which the first is the last
 abbrev pub is_bad_learnt : List Lit → Bool
@@ -19,6 +21,10 @@ is_bad_learnt ls = is_none (watch_ends ls) && not (length ls == 1)
 
 abbrev pub is_level : ℕ → Bool
 is_level level = nat_lt 0 level && nat_lt level (2 ^ 31)
+
+-- the fraction isn't defined, or is more than 1
+abbrev pub is_bad_fraction : ℕ → ℕ → Bool
+is_bad_fraction numerator denominator = (denominator == 0) || nat_lt denominator numerator
 
 module _ {N S : Type 0} where
   abbrev pub knows_variable : Store N S → ℕ → Bool
@@ -44,8 +50,21 @@ module _ {N S : Type 0} where
   abbrev pub is_learnt_out : Store N S → Bool
   is_learnt_out st = are_clauses_out st || nat_le (2 ^ 32) (length st.learnt)
 
+  -- no id is left for a disjunction
+  abbrev pub are_disjunctions_out : Store N S → Bool
+  are_disjunctions_out st = are_ids_out (2 ^ 32 - 1) (length st.disjunctions)
+
   abbrev pub knows_pair : Store N S → ℕ → ℕ → Bool
   knows_pair st a b = knows_variable st a && knows_variable st b
+
+  -- the disjunction, if there is one, is kept
+  abbrev pub knows_disjunction : Store N S → Option ℕ → Bool
+  knows_disjunction st None = true
+  knows_disjunction st (Some d) = nat_lt d (length st.disjunctions)
+
+  -- the parent's negative literal is among those of the disjunction
+  abbrev pub negates_parent : Store N S → ℕ → Option ℕ → Bool
+  negates_parent st parent disjunction = is_literal_in (Neg parent) (condition_of st disjunction)
 
   -- the clause watches the one literal, doesn't watch the other, and has it
   abbrev pub may_rewatch : Store N S → ℕ → Lit → Lit → Bool
@@ -65,8 +84,9 @@ module _ {N S : Type 0} where
       (not (knows_helper st origin), UnknownId) ∷ (are_variables_out (length st.origins), IdSpace) ∷ []
   refusals st (Load r) = (not (knows_requirement st.provider.universe r), UnknownId) ∷ []
   refusals st (Requires parent r disjunction) =
-      (not (knows_variable st parent && (knows_requirement st.provider.universe r && is_none disjunction)), UnknownId) ∷
+      (not (knows_variable st parent && (knows_requirement st.provider.universe r && knows_disjunction st disjunction)), UnknownId) ∷
       (is_none (lists_of st r), NotLoaded) ∷
+      (negates_parent st parent disjunction, NegatesParent) ∷
       (nat_le (2 ^ 32 - 1) (length st.requires), TooManyClauses) ∷
       (are_clauses_out st, IdSpace) ∷ []
   refusals st Root = clause_refusals st true
@@ -91,6 +111,15 @@ module _ {N S : Type 0} where
       (not (may_rewatch st c from to), BadWatch) ∷ []
   refusals st (Watchers l) = (not (knows_literal st l), UnknownId) ∷ []
   refusals st Decide = []
+  refusals st (Disjunction ls condition) =
+      (not (list_all (knows_literal st) ls && st.provider.universe.knows_condition condition), UnknownId) ∷
+      (are_disjunctions_out st, IdSpace) ∷ []
+  refusals st (AtMostOnce name v) =
+      (not (st.provider.universe.knows_name name && (knows_variable st v && not (is_helper_among st.origins v))), UnknownId) ∷ []
+  refusals st (Bump name amount) =
+      (not (st.provider.universe.knows_name name), UnknownId) ∷ (st.provider.is_large_name name, IdSpace) ∷ []
+  refusals st (Decay numerator denominator) = (is_bad_fraction numerator denominator, BadFraction) ∷ []
+  refusals st (Standard standard) = []
 
   -- the first that applies
   abbrev pub first_refusal : Store N S → Command N S → Option StoreError

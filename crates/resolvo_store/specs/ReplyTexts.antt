@@ -3,7 +3,7 @@ use Rattle.std.specs.Prelude.{ℕ, Bool, List, [], ◌∷◌, ◌++◌, flat_map
 use Rattle.typed_ids.specs.Refusals.{code_of}
 use Rattle.decisions.specs.declared.decision.Decision.{Decision}
 use Rattle.resolvo_queue.specs.declared.queue_decision.QueueDecision.{QueueDecision}
-use Rattle.resolvo_store.specs.Command.{Reply, VariableIs, LoadedAs, ClauseIs, Assigned, Already, Clash, Undone, Next, Done, WatchersAre, Decided, NoDecision, Falsified, Refused}
+use Rattle.resolvo_store.specs.Command.{Reply, VariableIs, LoadedAs, DisjunctionIs, ClauseIs, TrackedAs, Assigned, Already, Clash, Undone, Next, Done, WatchersAre, Decided, NoDecision, Falsified, Refused}
 
 -- a name, and a number directly after it
 abbrev pub field : List ℕ → ℕ → List ℕ
@@ -24,6 +24,10 @@ lists_text ls = flat_map (λ l. codes " " ++ list_text l) ls
 
 abbrev pub conflict_text : Bool → List ℕ
 conflict_text conflict = if conflict then codes " conflict" else []
+
+-- whether a variable is new, and a number
+abbrev pub tracked_text : Bool → ℕ → List ℕ
+tracked_text new n = if new then field (codes "tracked yes ") n else field (codes "tracked no ") n
 
 abbrev pub truth_text : Bool → List ℕ
 truth_text value = if value then codes " true" else codes " false"
@@ -54,7 +58,9 @@ decision_text d =
 abbrev pub reply_words : Reply → List ℕ
 reply_words (VariableIs v) = field (codes "variable ") v
 reply_words (LoadedAs lists) = codes "loaded" ++ lists_text lists
+reply_words (DisjunctionIs d) = field (codes "disjunction ") d
 reply_words (ClauseIs c conflict) = field (codes "clause ") c ++ conflict_text conflict
+reply_words (TrackedAs new n) = tracked_text new n
 reply_words Assigned = codes "assigned"
 reply_words Already = codes "already"
 reply_words Clash = codes "clash"

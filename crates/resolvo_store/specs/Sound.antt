@@ -1,5 +1,5 @@
 -- What is true of each store that commands can make of a new one. N are the names, S the solvables.
-use Rattle.std.specs.Prelude.{◌≡◌, ℕ, true, ◌+◌, ◌<◌, ◌≤◌, List, [], ◌∷◌, map, length, slice_get, All, IsSome, Some}
+use Rattle.std.specs.Prelude.{◌≡◌, ℕ, Bool, true, ◌+◌, ◌<◌, ◌≤◌, List, [], ◌∷◌, map, length, slice_get, All, IsSome, IfSome, Some}
 use Rattle.std.specs.List.{IsDistinct}
 use Rattle.providers.specs.declared.requirement.Requirement.{Requirement}
 use Rattle.providers.specs.Requirement.{same_requirement}
@@ -14,18 +14,20 @@ use Rattle.clauses.specs.declared.clause.Clause.TheVariants as Kind
 use Rattle.clauses.specs.ClauseTexts.{IsKnownClause}
 use Rattle.resolvo_queue.specs.declared.requires_clause.RequiresClause.{RequiresClause}
 use Rattle.watch_map.specs.Watching.{is_literal_in, IsExact}
-use Rattle.resolvo_store.specs.Store.{Store, lists_of, clause_literals, watched_by}
+use Rattle.resolvo_store.specs.Store.{Store, lists_of, clause_literals, watched_by, bits}
+use Rattle.resolvo_store.specs.Tracking.{bits_of, IsTracking}
 
 -- the requires clauses among these, the first of which has this id
 abbrev pub requires_from : {N : Type 0} → ℕ → List (Clause N) → List RequiresClause
 requires_from id [] = []
 requires_from id (Kind.Requires parent disjunction r ∷ cs) =
-    record { parent = parent; requirement = r; clause_id = id } ∷ requires_from (id + 1) cs
+    record { parent = parent; requirement = r; condition = disjunction; clause_id = id } ∷ requires_from (id + 1) cs
 requires_from id (c ∷ cs) = requires_from (id + 1) cs
 
--- a clause that isn't registered for decisions
+-- a clause that isn't registered for decisions, and that no tracking added
 pub record IsPlain {N : Type 0} (c : Clause N) : Type 0 where
   pub unregistered : (id : ℕ) → requires_from id (c ∷ []) ≡ []
+  pub untracked : (named : N → Bool) → bits_of named c ≡ []
 
 module _ {N S : Type 0} (st : Store N S) where
   -- a variable of the store
@@ -46,10 +48,11 @@ module _ {N S : Type 0} (st : Store N S) where
     pub one_a_set : length entry.1 ≡ length (sets_of st.provider.universe entry.0)
     pub variables : All (All IsVariable) entry.1
 
-  -- a registered clause: its parent is a variable, and its requirement is loaded
+  -- a registered clause: its parent is a variable, its requirement is loaded, and its disjunction, if it has one, is kept
   pub record IsRegistered (clause : RequiresClause) : Type 0 where
     pub parent : IsVariable clause.parent
     pub loaded : IsSome (lists_of st clause.requirement)
+    pub condition : IfSome clause.condition (λ d. d < length st.disjunctions)
 
   -- an entry of the trail: of a variable, and by a registered clause
   pub record IsAssigned (entry : Entry) : Type 0 where
@@ -78,6 +81,8 @@ module _ {N S : Type 0} (st : Store N S) where
     pub own : WatchOwn
     -- each clause watches nothing or two different literals, and stands once in the list of each, and in no other list
     pub exact : IsExact (watched_by st) st.watchers
+    -- what is tracked under each name came by additions to nothing, as did the clauses of it
+    pub tracked : (name : N) → IsTracking st.origins (st.trackers name) (bits st name)
     pub place : st.place ≤ length st.trail
     -- each variable is on the trail at most once, and levels are in range
     pub trail : IsTrail st.trail

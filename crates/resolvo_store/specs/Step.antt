@@ -1,5 +1,5 @@
 -- One step of the abstract store, and a run.
-use Rattle.std.specs.Prelude.{◌≡◌, ℕ, ◌^◌, Bool, true, false, not, ◌&&◌, ◌||◌, nat_le, List, [], ◌∷◌, length, is_none, is_some, MatchOption, IsTrue}
+use Rattle.std.specs.Prelude.{◌≡◌, ℕ, ◌^◌, nat_eq, ◌==◌, Bool, true, false, not, ◌&&◌, ◌||◌, nat_le, List, [], ◌∷◌, length, is_none, is_some, MatchOption, IsTrue}
 use Rattle.typed_ids.specs.declared.error.StoreError.{StoreError}
 use Rattle.typed_ids.specs.declared.error.StoreError.TheVariants.{OutOfMemory, IdSpace, Cancelled}
 use Rattle.std.specs.List.{list_any}
@@ -7,10 +7,12 @@ use Rattle.providers.specs.declared.requirement.Requirement.{Requirement}
 use Rattle.providers.specs.Provider.{sets_of}
 use Rattle.decisions.specs.Literals.{undecided}
 use Rattle.variables.specs.Variables.{variable_of_solvable, lacks_variables}
-use Rattle.resolvo_store.specs.Command.{Command, Variable, Load, Assign, UndoLast, UndoUntil, Unpropagated, Decide, Reply, Refused}
+use Rattle.at_most_once.specs.AtMostOne.{is_tracked}
+use Rattle.resolvo_store.specs.Command.{Command, Variable, Load, AtMostOnce, Decay, Standard, Assign, UndoLast, UndoUntil, Unpropagated, Decide, Reply, Refused}
 use Rattle.resolvo_store.specs.Store.{Store, values, lists_of, all_candidates}
 use Rattle.resolvo_store.specs.Refusals.{first_refusal}
-use Rattle.resolvo_store.specs.Outcome.{outcome, falsified_clause}
+use Rattle.resolvo_store.specs.Tracking.{lacks_more}
+use Rattle.resolvo_store.specs.Outcome.{outcome, falsified_clause, helper_for, tracking}
 
 module _ {N S : Type 0} where
   -- an accepted Load named the package: a loaded requirement has a version set of it
@@ -23,18 +25,24 @@ module _ {N S : Type 0} where
   names_new_package st (Load r) = list_any (λ v. not (is_named st (st.provider.universe.set_name v))) (sets_of st.provider.universe r)
   names_new_package st _ = false
 
-  -- a Load needs more ids than there are: for its packages, for its rows, or for the variables of its candidates
+  -- a Load needs more ids than there are: for its packages, for its rows, or for the variables of its candidates; or an
+  -- AtMostOnce does: for its name's variables, for its helper, or for its clauses
   abbrev pub lacks_ids : Store N S → Command N S → Bool
   lacks_ids st (Load r) =
       is_none (lists_of st r) &&
       (list_any (λ v. st.provider.is_large_name (st.provider.universe.set_name v)) (sets_of st.provider.universe r) ||
       (nat_le (2 ^ 40) (length (all_candidates st r)) ||
       lacks_variables st.provider.same_solvable st.provider.is_large_solvable st.origins (all_candidates st r)))
+  lacks_ids st (AtMostOnce name v) =
+      not (is_tracked nat_eq (st.trackers name) v) &&
+      (st.provider.is_large_name name || lacks_more st.origins (helper_for st name v) (length st.clauses) (length (tracking st name v)))
   lacks_ids st _ = false
 
-  -- more packages may have been asked for than answers have ids: that takes more than 2^32 names, and one more package
+  -- more packages may have been asked for than answers have ids, or tracked than trackers have: that takes more than 2^32
+  -- names, and one more package
   abbrev pub may_use_up_answers : Store N S → Command N S → Bool
   may_use_up_answers st (Load r) = st.provider.are_names_many && names_new_package st (Load r)
+  may_use_up_answers st (AtMostOnce name v) = st.provider.are_names_many && (length (st.trackers name).variables == 0)
   may_use_up_answers st _ = false
 
   -- the command is answered without taking memory
@@ -44,6 +52,9 @@ module _ {N S : Type 0} where
   takes_no_memory st UndoLast = true
   takes_no_memory st (UndoUntil level) = true
   takes_no_memory st Unpropagated = true
+  takes_no_memory st (AtMostOnce name v) = is_tracked nat_eq (st.trackers name) v
+  takes_no_memory st (Decay numerator denominator) = true
+  takes_no_memory st (Standard standard) = true
   takes_no_memory st Decide = is_some (falsified_clause st)
   takes_no_memory st _ = false
 

@@ -9,17 +9,20 @@ use Rattle.variables.specs.declared.variable_origin.VariableOrigin.{VariableOrig
 use Rattle.variables.specs.declared.variable_origin.VariableOrigin.TheVariants.{Root}
 use Rattle.decisions.specs.Literals.{Lit, Values}
 use Rattle.decisions.specs.Trail.{Entry, val}
-use Rattle.clauses.specs.Clauses.{Kept as KeptLiterals, literals_of}
+use Rattle.clauses.specs.Clauses.{Kept as KeptLiterals, literals_of, condition_literals}
 use Rattle.clauses.specs.declared.clause.Clause.{Clause}
+use Rattle.at_most_once.specs.AtMostOne.{Tracker, BitClause, Kept as KeptTracker, empty}
+use Rattle.name_trackers.specs.NameTrackers.{tracker_of}
+use Rattle.resolvo_store.specs.Tracking.{bits_of}
 use Rattle.watch_map.specs.WatchLists.{WatchLists, Watches, literals_in, watchers}
 use Rattle.resolvo_queue.specs.declared.requires_clause.RequiresClause.{RequiresClause}
 use Rattle.resolvo_queue.specs.Rows.{Row, rows}
 pub use Rattle.solver_cache.specs.Functions.{Provider, gathered}
 
--- the variables that are tracked under a name, and their helpers
-pub record Tracker : Type 0 where
-  pub tracked : List ℕ
-  pub helpers : List ℕ
+-- the literals of a disjunction, and the condition that they come of
+pub record KeptDisjunction : Type 0 where
+  pub literals : List Lit
+  pub condition : ℕ
 
 -- the abstract store
 pub record Store (N S : Type 0) : Type 0 where
@@ -28,6 +31,8 @@ pub record Store (N S : Type 0) : Type 0 where
   pub origins : List (VariableOrigin N S)
   -- the requirements that were loaded, with the lists of their candidates' variables, one list a version set
   pub loaded : List (Requirement × List (List ℕ))
+  -- the disjunctions: the id of each is its place
+  pub disjunctions : List KeptDisjunction
   -- the literals of the learnt clauses
   pub learnt : List (List Lit)
   -- all clauses: a clause's id is its place
@@ -40,16 +45,19 @@ pub record Store (N S : Type 0) : Type 0 where
   pub trail : List Entry
   -- how many entries of the trail the search was handed to propagate
   pub place : ℕ
+  -- how active each package was in the search
   pub scores : N → ℕ
-  pub trackers : N → Tracker
+  -- the variables that are tracked under each name, and their helpers
+  pub trackers : N → Tracker ℕ
   -- the clauses that watch each literal, front first
   pub watchers : Lit → List ℕ
 
--- what the clause store keeps
-pub record Kept (D N S : Type 0) : Type 0 where
+-- what the clause store keeps. C is its map from names to scores
+pub record Kept (D N S C : Type 0) : Type 0 where
   pub provider : D
   pub origins : List (VariableOrigin N S)
   pub loaded : List (Requirement × List (List ℕ))
+  pub disjunctions : List KeptDisjunction
   pub learnt : List (List Lit)
   pub clauses : List (Clause N)
   -- a record for each clause that watches something, and the lists that belong to them
@@ -58,21 +66,25 @@ pub record Kept (D N S : Type 0) : Type 0 where
   pub requires : List RequiresClause
   pub trail : List Entry
   pub place : ℕ
+  -- the trackers of the names that have one
+  pub trackers : List (N × KeptTracker ℕ)
+  pub scores : C
 
--- the abstract store of what is kept. No command changes scores or trackers yet.
-abbrev pub store_of : {D N S : Type 0} → (D → Provider N S) → Kept D N S → Store N S
-store_of provided kept = record {
+-- the abstract store of what is kept, where scored tells the scores that a map has
+abbrev pub store_of : {D N S C : Type 0} → (D → Provider N S) → (C → N → ℕ) → Kept D N S C → Store N S
+store_of provided scored kept = record {
   provider = provided kept.provider;
   origins = kept.origins;
   loaded = kept.loaded;
+  disjunctions = kept.disjunctions;
   learnt = kept.learnt;
   clauses = kept.clauses;
   watches = map literals_in kept.records;
   requires = kept.requires;
   trail = kept.trail;
   place = kept.place;
-  scores = λ n. 0;
-  trackers = λ n. record { tracked = []; helpers = [] };
+  scores = scored kept.scores;
+  trackers = tracker_of (provided kept.provider).same_name kept.trackers;
   watchers = watchers kept.lists kept.records;
 }
 
@@ -82,6 +94,7 @@ new_store provider = record {
   provider = provider;
   origins = Root ∷ [];
   loaded = [];
+  disjunctions = [];
   learnt = [];
   clauses = [];
   watches = [];
@@ -89,7 +102,7 @@ new_store provider = record {
   trail = [];
   place = 0;
   scores = λ n. 0;
-  trackers = λ n. record { tracked = []; helpers = [] };
+  trackers = λ n. empty;
   watchers = λ l. [];
 }
 
@@ -102,13 +115,21 @@ module _ {N S : Type 0} (st : Store N S) where
   abbrev pub lists_of : Requirement → Option (List (List ℕ))
   lists_of r = lookup (same_requirement r) st.loaded
 
-  -- what the literals of its clauses are read from; no disjunction is kept yet
+  -- what the literals of its clauses are read from
   abbrev pub kept_literals : KeptLiterals
-  kept_literals = record { learnt = st.learnt; lists = λ r. unwrap_or (lists_of r) []; disjunctions = [] }
+  kept_literals = record { learnt = st.learnt; lists = λ r. unwrap_or (lists_of r) []; disjunctions = map (λ d. d.literals) st.disjunctions }
 
   -- the literals of a clause, none of an unknown one
   abbrev pub clause_literals : ℕ → List Lit
   clause_literals c = unwrap_or (option_map (literals_of kept_literals) (slice_get st.clauses c)) []
+
+  -- the literals of a condition: those of its disjunction, none without one
+  abbrev pub condition_of : Option ℕ → List Lit
+  condition_of d = condition_literals kept_literals d
+
+  -- the clauses that tracking added under a name
+  abbrev pub bits : N → List (BitClause ℕ)
+  bits name = flat_map (bits_of (st.provider.same_name name)) st.clauses
 
   -- the two literals that a clause watches, or none
   abbrev pub watched_by : ℕ → List Lit

@@ -9,7 +9,7 @@ use providers::{DependencyProvider, Interner};
 pub trait AbstractStore: DependencyProvider {
     ghost use Rattle.resolvo_store.specs.Store.{Kept, Store};
 
-    ghost store: { Kept Self Self.NameId Self.SolvableId → Store Self.NameId Self.SolvableId };
+    ghost store: { Kept Self Self.NameId Self.SolvableId Self.NameId.Scores → Store Self.NameId Self.SolvableId };
 }
 
 impl<D: DependencyProvider> AbstractStore for D {
@@ -17,5 +17,5 @@ impl<D: DependencyProvider> AbstractStore for D {
     ghost use Rattle.solver_cache.specs.Functions.{gathered};
 
     ghost store = { store_of (gathered D.NameId.eq D.SolvableId.eq D.NameId.Slots.is_too_large D.SolvableId.Slots.is_too_large
-        D.SolvableId.Set.is_too_large D.NameId.are_many D.universe D.answers) };
+        D.SolvableId.Set.is_too_large D.NameId.are_many D.universe D.answers) D.NameId.Scores.value_at };
 }

@@ -5,9 +5,11 @@ use crate::helper_origin::HelperOrigin;
 use decisions::Literal;
 use providers::Requirement;
 use std::alloc::Allocator;
-use typed_ids::{ClauseId, DisjunctionId, SameValue, StringId, VariableId, VersionSetId};
+use typed_ids::{
+    ClauseId, ConditionId, DisjunctionId, SameValue, StringId, VariableId, VersionSetId,
+};
 
-/// A command. `N` are the provider's names, `S` its solvables; a learnt clause's literals are of the allocator `A`.
+/// A command. `N` are the provider's names, `S` its solvables; lists of literals are of the allocator `A`.
 ///
 /// A command that names an id which the store or its provider doesn't know is refused, and so is each command where the
 /// list of refusals in docs/BEHAVIOUR.md says so. A refused command changes nothing.
@@ -20,6 +22,9 @@ pub enum Command<N, S, A: Allocator> {
     Helper(HelperOrigin<N>),
     /// Loads the candidates of a requirement, best first, and gives each a variable. They are loaded once.
     Load(Requirement),
+    /// Keeps literals, all of which are false where this condition, or the part of it that they come of, holds. No literal
+    /// is needed.
+    Disjunction(Vec<Literal, A>, ConditionId),
     /// Adds the clause that the parent variable, if true, requires one of the requirement's candidates, under the
     /// condition that all literals of the disjunction are false.
     Requires(VariableId, Requirement, Option<DisjunctionId>),
@@ -41,6 +46,9 @@ pub enum Command<N, S, A: Allocator> {
     AnyOf(VariableId, VariableId),
     /// Adds a learnt clause with these literals.
     Learnt(Vec<Literal, A>),
+    /// Tracks the variable under the name, and adds the clauses that keep more than one of the name's variables from being
+    /// true. A helper variable is made where one is needed.
+    AtMostOnce(N, VariableId),
     /// Gives a variable a value, derived from the clause, at the level.
     Assign(VariableId, bool, ClauseId, u32),
     /// Takes back the newest assignment.
@@ -49,6 +57,13 @@ pub enum Command<N, S, A: Allocator> {
     UndoUntil(u32),
     /// Asks for the next assignment to propagate: the oldest one that wasn't handed out yet.
     Unpropagated,
+    /// Adds to the package's score, which stays at 2^64 - 1 at most.
+    Bump(N, u64),
+    /// Multiplies each score by the first number, divides it by the second one, and rounds down.
+    Decay(u64, u64),
+    /// Whether a decision may count on it that scores never fall below 0. Both settings answer alike; the first, `true`, is
+    /// the faster one.
+    Standard(bool),
     /// Lets the clause watch the second literal in the place of the first one.
     Rewatch(ClauseId, Literal, Literal),
     /// Asks which clauses watch the literal.
@@ -76,6 +91,7 @@ pub trait AbstractCommand: Eq {
 
 impl<N: SameValue, S: SameValue, A: Allocator> AbstractCommand for Command<N, S, A> {
     ghost use Rattle.resolvo_store.specs.Command.{command_of};
+    ghost use Rattle.resolvo_store.specs.CommandLaws.{by_kind};
     ghost use Rattle.resolvo_store.specs.ReplyLaws.{same_literals};
     ghost use Rattle.std.proofs.Common.{rules};
 
@@ -85,5 +101,29 @@ impl<N: SameValue, S: SameValue, A: Allocator> AbstractCommand for Command<N, S,
 
     ghost command = { command_of };
 
-    ghost same_command = { λ a b h. Prim.search (rules, same_literals) };
+    ghost same_command = { by_kind _
+        (λ s b h. Prim.search (rules, same_literals))
+        (λ origin b h. Prim.search (rules, same_literals))
+        (λ r b h. Prim.search (rules, same_literals))
+        (λ literals condition b h. Prim.search (rules, same_literals))
+        (λ parent r disjunction b h. Prim.search (rules, same_literals))
+        (λ b h. Prim.search (rules, same_literals))
+        (λ parent forbidden set b h. Prim.search (rules, same_literals))
+        (λ candidate aux set b h. Prim.search (rules, same_literals))
+        (λ parent aux set b h. Prim.search (rules, same_literals))
+        (λ locked other b h. Prim.search (rules, same_literals))
+        (λ variable reason b h. Prim.search (rules, same_literals))
+        (λ selected other b h. Prim.search (rules, same_literals))
+        (λ literals b h. Prim.search (rules, same_literals))
+        (λ name variable b h. Prim.search (rules, same_literals))
+        (λ variable value clause level b h. Prim.search (rules, same_literals))
+        (λ b h. Prim.search (rules, same_literals))
+        (λ level b h. Prim.search (rules, same_literals))
+        (λ b h. Prim.search (rules, same_literals))
+        (λ name amount b h. Prim.search (rules, same_literals))
+        (λ numerator denominator b h. Prim.search (rules, same_literals))
+        (λ standard b h. Prim.search (rules, same_literals))
+        (λ clause from to b h. Prim.search (rules, same_literals))
+        (λ literal b h. Prim.search (rules, same_literals))
+        (λ b h. Prim.search (rules, same_literals)) };
 }

@@ -4,7 +4,7 @@ ghost use Rattle.std.specs.Prelude.{◌≡◌, true};
 use decisions::Decision;
 use resolvo_queue::QueueDecision;
 use std::alloc::Allocator;
-use typed_ids::{ClauseId, StoreError, VariableId};
+use typed_ids::{ClauseId, DisjunctionId, StoreError, VariableId};
 
 /// The reply to a command. It may hold lists, which are of the store's allocator.
 #[derive(Drop)]
@@ -14,9 +14,13 @@ pub enum Reply<A: Allocator> {
     Variable(VariableId),
     /// The variables of the requirement's candidates, best first, one list a version set.
     Loaded(Vec<Vec<VariableId, A>, A>),
+    /// The disjunction is kept under this id.
+    Disjunction(DisjunctionId),
     /// The clause was added under this id; whether it is a conflict: what its parent asks for is false already, and the
     /// parent isn't. Kinds without a parent are none.
     Clause(ClauseId, bool),
+    /// Whether the variable is new under the name, and how many clauses were added for it.
+    Tracked(bool, usize),
     /// The variable had no value, and has this one now.
     Assigned,
     /// The variable has this value already.

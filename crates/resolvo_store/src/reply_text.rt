@@ -1,7 +1,7 @@
 //! The texts of replies: what the program's lines have, without the line feed.
 ghost use Rattle.std.specs.Prelude.{◌≡◌, ◌++◌, codes, map, flat_map, Some};
 ghost use Rattle.std.specs.Fmt.{DisplaysOnOk};
-ghost use Rattle.resolvo_store.specs.ReplyTexts.{field, lists_text, list_text, others_text, conflict_text, truth_text, assignment_text, undone_text, next_text, words_text, decision_text};
+ghost use Rattle.resolvo_store.specs.ReplyTexts.{field, lists_text, list_text, others_text, conflict_text, tracked_text, truth_text, assignment_text, undone_text, next_text, words_text, decision_text};
 
 use crate::reply::Reply;
 use decisions::Decision;
@@ -21,7 +21,11 @@ impl<A: Allocator> fmt::Display for Reply<A> {
         match self {
             Reply::Variable(variable) => write_field(f, "variable ", variable.to_index()),
             Reply::Loaded(lists) => write_lists(f, lists),
+            Reply::Disjunction(disjunction) => {
+                write_field(f, "disjunction ", disjunction.to_index())
+            }
             Reply::Clause(clause, conflict) => write_clause(f, *clause, *conflict),
+            Reply::Tracked(new, clauses) => write_tracked(f, *new, *clauses),
             Reply::Assigned => f.write_str("assigned"),
             Reply::Already => f.write_str("already"),
             Reply::Clash => f.write_str("clash"),
@@ -54,6 +58,16 @@ fn write_clause<W: fmt::Write>(
     let flag = if conflict { " conflict" } else { "" };
     let clause = clause.to_index();
     write!(f, "clause {clause}{flag}")
+}
+
+fn write_tracked<W: fmt::Write>(f: &mut fmt::Formatter<W>, new: bool, clauses: usize) -> fmt::Result
+    ensures { DisplaysOnOk W.write_str_gives f.old result (Some (tracked_text new clauses)) f.new }
+{
+    if new {
+        write_field(f, "tracked yes ", clauses)
+    } else {
+        write_field(f, "tracked no ", clauses)
+    }
 }
 
 fn write_undone<W: fmt::Write>(

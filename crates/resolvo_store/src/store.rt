@@ -5,10 +5,13 @@
 //!
 //! - `store/loading.rt`: `Variable`, `Helper` and `Load`, which make variables and load requirements;
 //! - `store/adding.rt`: the commands that add clauses of the other kinds;
-//! - `store/registering.rt`: `Requires`, which adds a clause and registers it for decisions;
+//! - `store/registering.rt`: `Disjunction` and `Requires`, which keep a condition's literals, and add a clause and register
+//!   it for decisions;
+//! - `store/tracking.rt`: `AtMostOnce`, which tracks a variable and adds the clauses of that;
+//! - `store/scoring.rt`: `Bump`, `Decay` and `Standard`, which change scores and how the queue may look at them;
 //! - `store/assigning.rt`: `Assign`, `UndoLast`, `UndoUntil` and `Unpropagated`, which change the trail;
 //! - `store/watching.rt`: `Rewatch` and `Watchers`, which move a watch and tell who watches;
-//! - `store/deciding.rt`: `Decide`, which changes nothing, and its two halves as calls of their own;
+//! - `store/deciding.rt`: `Decide`, which changes nothing that is seen, and its two halves as calls of their own;
 //! - `store/reading.rt`: no commands, but what is read beside the replies.
 //!
 //! Each method's contract is the step of its command. So a method takes back what it changed before it was refused, as a
@@ -23,19 +26,25 @@ mod deciding;
 mod loading;
 mod reading;
 mod registering;
+mod scoring;
+mod tracking;
 mod watching;
 
 use crate::abstract_store::AbstractStore;
 use crate::command::Command;
 use crate::reply::Reply;
 use clause_list::ClauseList;
+use clauses::Disjunction;
 use decisions::DecisionTracker;
 use id_maps::{IdMap, IdSet, SolverId};
+use id_storage::Arena;
+use name_trackers::NameTrackers;
 use providers::{DependencyProvider, RequirementMap};
 use resolvo_queue::DecideQueue;
+use scores::Scores;
 use solver_cache::SolverCache;
 use std::marker::Model;
-use typed_ids::{StoreError, VariableId};
+use typed_ids::{DisjunctionId, StoreError, VariableId};
 use variables::VariableMap;
 
 /// A clause store over the packages of a provider.
@@ -49,46 +58,58 @@ pub struct ClauseStore<D: DependencyProvider> {
     variables: VariableMap<D::NameId, D::SolvableId, D::Alloc>,
     /// The candidates' variables of each loaded requirement, best first, one list a version set.
     loaded: RequirementMap<Vec<Vec<VariableId, D::Alloc>, D::Alloc>, D::Alloc>,
+    /// The literals of conditions, under which clauses require.
+    disjunctions: Arena<DisjunctionId, Disjunction<D::Alloc>, D::Alloc>,
     /// All clauses. Those of the kind `Requires` are in the queue too, under their ids.
     clauses: ClauseList<D::NameId, D::Alloc>,
-    queue: DecideQueue<D::Alloc>,
+    queue: DecideQueue<D>,
     trail: DecisionTracker<D::Alloc>,
+    /// For each name the variables of which at most one may be true.
+    trackers: NameTrackers<D::NameId, D::Alloc>,
+    /// How active each package was. The queue knows each name with a score as hot.
+    scores: Scores<D::NameId, D::Alloc>,
     alloc: D::Alloc,
 }
 
 impl<D: DependencyProvider> Model for ClauseStore<D> {
     ghost use Rattle.resolvo_store.specs.Store.{Kept, store_of};
-    ghost use Rattle.resolvo_store.specs.Lists.{lists_kept, IsConsistent};
+    ghost use Rattle.resolvo_store.specs.Lists.{lists_kept, disjunctions_kept, IsConsistent};
     ghost use Rattle.solver_cache.specs.Functions.{gathered};
 
-    ghost Value = { Kept D D.NameId D.SolvableId };
+    ghost Value = { Kept D D.NameId D.SolvableId D.NameId.Scores };
 
     ghost view = { λ a. record {
       provider = a.cache.provider;
       origins = a.variables;
       loaded = lists_kept a.loaded;
+      disjunctions = disjunctions_kept a.disjunctions;
       learnt = a.clauses.learnt;
       clauses = a.clauses.clauses;
       records = a.clauses.records;
       lists = a.clauses.lists;
-      requires = a.queue;
+      requires = a.queue.clauses;
       trail = a.trail.entries;
       place = a.trail.place;
+      trackers = a.trackers;
+      scores = a.scores.map;
     } };
 
-    ghost invariant = { λ a. IsConsistent (store_of (gathered D.NameId.eq D.SolvableId.eq D.NameId.Slots.is_too_large D.SolvableId.Slots.is_too_large
-        D.SolvableId.Set.is_too_large D.NameId.are_many D.universe D.answers) (record {
+    ghost invariant = { λ a. IsConsistent D.NameId.Set.has (store_of (gathered D.NameId.eq D.SolvableId.eq D.NameId.Slots.is_too_large D.SolvableId.Slots.is_too_large
+        D.SolvableId.Set.is_too_large D.NameId.are_many D.universe D.answers) D.NameId.Scores.value_at (record {
           provider = a.cache.provider;
           origins = a.variables;
           loaded = lists_kept a.loaded;
+          disjunctions = disjunctions_kept a.disjunctions;
           learnt = a.clauses.learnt;
           clauses = a.clauses.clauses;
           records = a.clauses.records;
           lists = a.clauses.lists;
-          requires = a.queue;
+          requires = a.queue.clauses;
           trail = a.trail.entries;
           place = a.trail.place;
-        })) a.loaded a.cache };
+          trackers = a.trackers;
+          scores = a.scores.map;
+        })) a.loaded a.disjunctions a.cache a.queue a.trail };
 }
 
 impl<D: DependencyProvider + Drop> ClauseStore<D> {
@@ -111,9 +132,12 @@ impl<D: DependencyProvider + Drop> ClauseStore<D> {
             cache: SolverCache::new(alloc, provider),
             variables,
             loaded: RequirementMap::new(alloc),
+            disjunctions: Arena::new(alloc),
             clauses,
             queue: DecideQueue::new(alloc),
             trail: DecisionTracker::new(alloc),
+            trackers: NameTrackers::new(alloc),
+            scores: Scores::new(alloc),
             alloc,
         })
     }
@@ -186,7 +210,12 @@ impl<D: DependencyProvider + Drop> ClauseStore<D> {
             Command::Unpropagated => Ok(self.unpropagated()),
             Command::Rewatch(clause, from, to) => self.rewatch(*clause, *from, *to),
             Command::Watchers(literal) => self.watchers_of(*literal),
-            Command::Decide => Ok(self.decide()),
+            Command::Decide => self.decide(),
+            Command::Disjunction(literals, condition) => self.disjunction(literals, *condition),
+            Command::AtMostOnce(name, variable) => self.at_most_once(*name, *variable),
+            Command::Bump(name, amount) => self.bump(*name, *amount),
+            Command::Decay(numerator, denominator) => self.decay(*numerator, *denominator),
+            Command::Standard(standard) => Ok(self.standard(*standard)),
         }
     }
 

@@ -48,6 +48,15 @@ pub(crate) fn are_answered(rt: &impl AllocGlobal, rows: &[Row]) -> Result<(), Fa
     Ok(())
 }
 
+/// The second line of each script is unreadable. A failure names the place of the script.
+pub(crate) fn are_unreadable(rt: &impl AllocGlobal, lines: &[&'static [u8]]) -> Result<(), Fail> {
+    for (i, line) in lines.iter().enumerate() {
+        let row = given(line, b"line 2 unreadable\n", 1);
+        is_same((i, is_answered(rt.alloc(), &row)), (i, (true, 1)))?;
+    }
+    Ok(())
+}
+
 /// Refusals, a clause that is falsified, and what takes that back.
 pub(crate) const REFUSALS: &[u8] =
     b"package a 1 2\nset a 1 3\nbegin\nrequires 0 s0\nload s0\nload u0\nrequires 0 s0 0\nrequires 0 s0\nassign 0 true 0 0\nassign 0 true 0 1\nassign 1 false 0 1\nassign 2 false 0 1\ndecide\nundo-until 0\ndecide\n";

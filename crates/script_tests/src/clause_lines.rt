@@ -1,7 +1,6 @@
 //! Scripts that make helper variables, and clauses of each kind.
-use crate::answers::{are_answered, given, is_answered};
+use crate::answers::{are_answered, are_unreadable, given};
 use std::test::Fail;
-use test_checks::is_same;
 
 /// Helpers, learnt clauses and exclusions.
 const HELPERS: &[u8] =
@@ -56,7 +55,7 @@ fn clauses_between_variables_are_answered(rt: HostRuntime) -> Result<(), Fail> {
 /// A word of another form, too few words or too many.
 #[test]
 fn lines_of_another_form_are_unreadable(rt: HostRuntime) -> Result<(), Fail> {
-    let lines: [&[u8]; 34] = [
+    let lines: [&[u8]; 32] = [
         b"begin\nlearnt 1\n",
         b"begin\nlearnt +x\n",
         b"begin\nlearnt +\n",
@@ -85,18 +84,12 @@ fn lines_of_another_form_are_unreadable(rt: HostRuntime) -> Result<(), Fail> {
         b"begin\nroot 0\n",
         b"begin\nunpropagated 1\n",
         b"begin\nundo-last 1\n",
-        b"begin\ndisjunction 0\n",
         b"begin\nwatchers 0\n",
         b"begin\nwatchers +2147483647\n",
         b"begin\nrewatch 0 +0 -2147483647\n",
-        b"begin\nbump 0 1\n",
         b"begin\nsaturate 1\n",
     ];
-    for (i, line) in lines.iter().enumerate() {
-        let row = given(line, b"line 2 unreadable\n", 1);
-        is_same((i, is_answered(rt.alloc(), &row)), (i, (true, 1)))?;
-    }
-    Ok(())
+    are_unreadable(&rt, &lines)
 }
 
 /// Numbers at the ends of their ranges name nothing here, and are read.

@@ -1,5 +1,5 @@
-//! Tests of scripts: what they are answered, of the trail and of clauses too, and what comes of readers and writers that
-//! fail.
+//! Tests of scripts: what they are answered, of the trail, of clauses and of scores too, and what comes of readers and
+//! writers that fail.
 #![tactic(auto)]
 
 #[cfg(test)]
@@ -8,5 +8,7 @@ mod answers;
 mod clause_lines;
 #[cfg(test)]
 mod devices;
+#[cfg(test)]
+mod score_lines;
 #[cfg(test)]
 mod trail;

@@ -1,9 +1,8 @@
--- Where each word is a literal, they are read, and a learnt clause is said.
+-- Words are read as literals exactly where each of them is one.
 use Rattle.std.proofs.Common.{◌≡◌, ◌∙◌, ℕ, true, false, List, [], ◌∷◌, ◌++◌, Some, refl}
-use Rattle.std.specs.Prelude.{Option, None, ◌&&◌, is_some, option_map, option_and_then}
+use Rattle.std.specs.Prelude.{Option, None, ◌&&◌, is_some, option_and_then}
 use Rattle.decisions.specs.Literals.{Lit}
-use Rattle.resolvo_store.specs.Command.{Command, Learnt}
-use Rattle.scripts.specs.Commands.{literal_of, are_literals, with_literals, learnt_command}
+use Rattle.scripts.specs.Commands.{literal_of, are_literals, with_literals}
 
 literals_read : (ls : List Lit) (ws : List (List ℕ)) → is_some (with_literals ls ws) ≡ are_literals ws
 literals_read ls [] = refl
@@ -11,20 +10,12 @@ literals_read ls (word ∷ ws) =
     elim (literal_of word) as (λ o. is_some (option_and_then (λ l. with_literals (ls ++ l ∷ []) ws) o) ≡ (is_some o && are_literals ws))
     [ None ↦ refl | Some l ↦ literals_read (ls ++ l ∷ []) ws ]
 
-module _ (N S : Type 0) where
-  abbrev learns : Option (List Lit) → Option (Command N S)
-  learns o = option_map (λ literals. Learnt literals) o
+none_there : (o : Option (List Lit)) → is_some o ≡ false → o ≡ None
+none_there None h = refl
+none_there (Some ls) h = let no : true ≡ false = h in cc
 
-  some_learns : (o : Option (List Lit)) → is_some o ≡ true → is_some (learns o) ≡ true
-  some_learns None h = let no : false ≡ true = h in cc
-  some_learns (Some ls) h = refl
+pub some_literals : (ws : List (List ℕ)) → are_literals ws ≡ true → is_some (with_literals [] ws) ≡ true
+some_literals ws h = literals_read [] ws ∙ h
 
-  none_learns : (o : Option (List Lit)) → is_some o ≡ false → learns o ≡ None
-  none_learns None h = refl
-  none_learns (Some ls) h = let no : true ≡ false = h in cc
-
-  pub some_learnt : (ws : List (List ℕ)) → are_literals ws ≡ true → is_some (learnt_command {N = N} {S = S} ws) ≡ true
-  some_learnt ws h = some_learns (with_literals [] ws) (literals_read [] ws ∙ h)
-
-  pub none_learnt : (ws : List (List ℕ)) → are_literals ws ≡ false → learnt_command {N = N} {S = S} ws ≡ None
-  none_learnt ws h = none_learns (with_literals [] ws) (literals_read [] ws ∙ h)
+pub none_literals : (ws : List (List ℕ)) → are_literals ws ≡ false → with_literals [] ws ≡ None
+none_literals ws h = none_there (with_literals [] ws) (literals_read [] ws ∙ h)

@@ -5,7 +5,7 @@ use Rattle.std.specs.Str.{bytes_eq}
 use Rattle.typed_ids.specs.declared.string_id.StringId.{StringId}
 use Rattle.typed_ids.specs.declared.version_set_id.VersionSetId.{VersionSetId}
 use Rattle.decisions.specs.Literals.{Lit, Pos, Neg}
-use Rattle.resolvo_store.specs.Command.{Command, Variable, Helper, Load, Requires, Root, Constrains, ConstrainsExcluded, ConstrainsParent, Lock, Exclude, AnyOf, Learnt, Assign, UndoLast, UndoUntil, Unpropagated, Rewatch, Watchers, Decide}
+use Rattle.resolvo_store.specs.Command.{Command, Variable, Helper, Load, Disjunction, Requires, Root, Constrains, ConstrainsExcluded, ConstrainsParent, Lock, Exclude, AnyOf, Learnt, AtMostOnce, Assign, UndoLast, UndoUntil, Unpropagated, Bump, Decay, Standard, Rewatch, Watchers, Decide}
 use Rattle.resolvo_store.specs.declared.helper_origin.HelperOrigin.{HelperOrigin}
 use Rattle.resolvo_store.specs.declared.helper_origin.HelperOrigin.TheVariants.{AtLeastOne, ConstrainsViolation, RequiresGate}
 use Rattle.script_packages.specs.Ids.{number_32, variable_of, clause_of, requirement_of, truth_of}
@@ -75,6 +75,12 @@ module _ {N S : Type 0} where
   load_command (r ∷ []) = option_map (λ required. Load required) (requirement_of r)
   load_command _ = None
 
+  -- a condition's number, and the literals that stand for it
+  abbrev pub disjunction_command : List (List ℕ) → Option (Command N S)
+  disjunction_command (c ∷ ws) =
+      option_and_then (λ condition. option_map (λ literals. Disjunction literals condition) (with_literals [] ws)) (clause_of c)
+  disjunction_command _ = None
+
   abbrev pub requires_command : List (List ℕ) → Option (Command N S)
   requires_command (p ∷ r ∷ []) =
       option_and_then (λ parent. option_map (λ required. Requires parent required None) (requirement_of r)) (variable_of p)
@@ -101,6 +107,15 @@ module _ {N S : Type 0} where
 
   abbrev pub learnt_command : List (List ℕ) → Option (Command N S)
   learnt_command ws = option_map (λ literals. Learnt literals) (with_literals [] ws)
+
+  abbrev pub decay_command : List (List ℕ) → Option (Command N S)
+  decay_command (n ∷ d ∷ []) =
+      option_and_then (λ numerator. option_map (λ denominator. Decay numerator denominator) (number_of d)) (number_of n)
+  decay_command _ = None
+
+  abbrev pub standard_command : List (List ℕ) → Option (Command N S)
+  standard_command (b ∷ []) = option_map (λ standard. Standard standard) (truth_of b)
+  standard_command _ = None
 
   abbrev pub rewatch_command : List (List ℕ) → Option (Command N S)
   rewatch_command (c ∷ a ∷ b ∷ []) =
@@ -138,6 +153,18 @@ module _ {N S : Type 0} (ids : Ids N S) where
   helper_command (kind ∷ word ∷ []) = option_map (λ origin. Helper origin) (helper_origin_of ids.names ids.name_at kind word)
   helper_command _ = None
 
+  abbrev pub at_most_once_command : List (List ℕ) → Option (Command N S)
+  at_most_once_command (n ∷ v ∷ []) =
+      option_and_then (λ number. option_map (λ variable. AtMostOnce (ids.name_at number) variable) (variable_of v))
+      (below ids.names (number_of n))
+  at_most_once_command _ = None
+
+  abbrev pub bump_command : List (List ℕ) → Option (Command N S)
+  bump_command (n ∷ a ∷ []) =
+      option_and_then (λ number. option_map (λ amount. Bump (ids.name_at number) amount) (number_of a))
+      (below ids.names (number_of n))
+  bump_command _ = None
+
   -- what is said seldom
   abbrev pub seldom_command : List ℕ → List (List ℕ) → Option (Command N S)
   seldom_command keyword ws =
@@ -147,6 +174,15 @@ module _ {N S : Type 0} (ids : Ids N S) where
       else if bytes_eq keyword (codes "exclude") then exclude_command ws
       else if bytes_eq keyword (codes "root") then bare_command Root ws
       else between_command keyword ws
+
+  -- what is said of a package's variables, and of scores
+  abbrev pub package_command : List ℕ → List (List ℕ) → Option (Command N S)
+  package_command keyword ws =
+      if bytes_eq keyword (codes "at-most-once") then at_most_once_command ws
+      else if bytes_eq keyword (codes "bump") then bump_command ws
+      else if bytes_eq keyword (codes "decay") then decay_command ws
+      else if bytes_eq keyword (codes "standard") then standard_command ws
+      else seldom_command keyword ws
 
   -- what is said without a list
   abbrev pub plain_command : List ℕ → List (List ℕ) → Option (Command N S)
@@ -159,11 +195,14 @@ module _ {N S : Type 0} (ids : Ids N S) where
       else if bytes_eq keyword (codes "undo-until") then undo_command ws
       else if bytes_eq keyword (codes "rewatch") then rewatch_command ws
       else if bytes_eq keyword (codes "watchers") then watchers_command ws
-      else seldom_command keyword ws
+      else package_command keyword ws
 
   -- the command of a line's words
   abbrev pub command_said : List ℕ → List (List ℕ) → Option (Command N S)
-  command_said keyword ws = if bytes_eq keyword (codes "learnt") then learnt_command ws else plain_command keyword ws
+  command_said keyword ws =
+      if bytes_eq keyword (codes "learnt") then learnt_command ws
+      else if bytes_eq keyword (codes "disjunction") then disjunction_command ws
+      else plain_command keyword ws
 
   -- the command of a line that says this
   abbrev pub command_meant : Line Statement → Line (Command N S)

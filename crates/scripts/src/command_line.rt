@@ -4,20 +4,21 @@ ghost use Rattle.script_packages.specs.Ids.{truth_of};
 ghost use Rattle.script_text.specs.Words.{words};
 ghost use Rattle.resolvo_store.specs.Command.{command_of};
 ghost use Rattle.scripts.specs.Commands.{ids_at, only_word, pair_of, pair_and_set_of, helper_origin_of};
-ghost use Rattle.scripts.specs.Commands.{command_said, plain_command, seldom_command, between_command, bare_command};
-ghost use Rattle.scripts.specs.Commands.{variable_command, helper_command, load_command, requires_command, assign_command};
+ghost use Rattle.scripts.specs.Commands.{command_said, plain_command, package_command, seldom_command, between_command, bare_command};
+ghost use Rattle.scripts.specs.Commands.{variable_command, helper_command, load_command, disjunction_command, requires_command, assign_command};
 ghost use Rattle.scripts.specs.Commands.{undo_command, exclude_command, learnt_command, rewatch_command, watchers_command};
+ghost use Rattle.scripts.specs.Commands.{at_most_once_command, bump_command, decay_command, standard_command};
 ghost use Rattle.scripts.specs.Transcript.{IsRead};
 
-use crate::literal_words::{are_literals, literal, literals};
+use crate::literal_words::{literal, literals};
 use resolvo_store::{Command, HelperOrigin};
 use script_packages::{id, requirement};
-use script_text::{LineFault, Statement, is_word, next_word};
+use script_text::{LineFault, Statement, is_word, next_word, number};
 use std::alloc::Allocator;
 use typed_ids::{DenseIndex, VariableId, VersionSetId};
 
-/// The command that a statement after `begin` gives. A number names the package, or the solvable, of this index. Only a
-/// `learnt` line takes memory.
+/// The command that a statement after `begin` gives. A number names the package, or the solvable, of this index. Only
+/// `learnt` and `disjunction` lines take memory.
 pub fn command<N: DenseIndex, S: DenseIndex, A: Allocator>(
     alloc: A,
     said: Statement<'_>,
@@ -26,30 +27,40 @@ pub fn command<N: DenseIndex, S: DenseIndex, A: Allocator>(
 {
     if is_word(said.keyword, b"learnt") {
         learnt(alloc, said.rest)
+    } else if is_word(said.keyword, b"disjunction") {
+        disjunction(alloc, said.rest)
     } else {
         plain_command(said).ok_or(LineFault::Unreadable)
     }
 }
 
 /// `learnt LIT ..`
-#[tactic(auto, using(crate::proofs::LiteralLemmas::some_learnt, crate::proofs::LiteralLemmas::none_learnt))]
 fn learnt<N, S, A: Allocator>(alloc: A, text: &[u8]) -> Result<Command<N, S, A>, LineFault>
     ensures { IsRead (learnt_command (words text.now)) result }
 {
     match literals(alloc, text) {
         Ok(literals) => Ok(Command::Learnt(literals)),
-        // Where each word is a literal, memory was refused.
-        Err(_) => {
-            if are_literals(text) {
-                Err(LineFault::Memory)
-            } else {
-                Err(LineFault::Unreadable)
-            }
-        }
+        Err(fault) => Err(fault),
     }
 }
 
-/// The command that a statement gives, if it isn't a `learnt` one.
+/// `disjunction CONDITION LIT ..`
+fn disjunction<N, S, A: Allocator>(alloc: A, text: &[u8]) -> Result<Command<N, S, A>, LineFault>
+    ensures { IsRead (disjunction_command (words text.now)) result }
+{
+    let Some((condition, text)) = next_word(text) else {
+        return Err(LineFault::Unreadable);
+    };
+    let Some(condition) = id(condition) else {
+        return Err(LineFault::Unreadable);
+    };
+    match literals(alloc, text) {
+        Ok(literals) => Ok(Command::Disjunction(literals, condition)),
+        Err(fault) => Err(fault),
+    }
+}
+
+/// The command that a statement gives, if it is one without a list.
 fn plain_command<N: DenseIndex, S: DenseIndex, A: Allocator>(
     said: Statement<'_>,
 ) -> Option<Command<N, S, A>>
@@ -72,6 +83,26 @@ fn plain_command<N: DenseIndex, S: DenseIndex, A: Allocator>(
         rewatch(said.rest)
     } else if is_word(said.keyword, b"watchers") {
         watchers(said.rest)
+    } else {
+        package_command(said)
+    }
+}
+
+/// The command that a statement gives, if it is one of a package's variables or of scores.
+fn package_command<N: DenseIndex, S: DenseIndex, A: Allocator>(
+    said: Statement<'_>,
+) -> Option<Command<N, S, A>>
+    ensures { option_map command_of result
+        ≡ package_command (ids_at N.limit N.id_at S.limit S.id_at) said.entry.keyword.now (words said.entry.rest.now) }
+{
+    if is_word(said.keyword, b"at-most-once") {
+        at_most_once(said.rest)
+    } else if is_word(said.keyword, b"bump") {
+        bump(said.rest)
+    } else if is_word(said.keyword, b"decay") {
+        decay(said.rest)
+    } else if is_word(said.keyword, b"standard") {
+        standard(said.rest)
     } else {
         seldom_command(said)
     }
@@ -247,6 +278,19 @@ fn exclude<N, S, A: Allocator>(text: &[u8]) -> Option<Command<N, S, A>>
     }
 }
 
+/// `at-most-once NAMEID V`
+fn at_most_once<N: DenseIndex, S: DenseIndex, A: Allocator>(text: &[u8]) -> Option<Command<N, S, A>>
+    ensures { option_map command_of result
+        ≡ at_most_once_command (ids_at N.limit N.id_at S.limit S.id_at) (words text.now) }
+{
+    let (name, text) = next_word(text)?;
+    let (variable, text) = next_word(text)?;
+    match next_word(text) {
+        Some(_) => None,
+        None => Some(Command::AtMostOnce(id(name)?, id(variable)?)),
+    }
+}
+
 /// `assign V BOOL CLAUSE LEVEL`
 fn assign<N, S, A: Allocator>(text: &[u8]) -> Option<Command<N, S, A>>
     ensures { option_map command_of result ≡ assign_command (words text.now) }
@@ -270,6 +314,39 @@ fn undo_until<N, S, A: Allocator>(text: &[u8]) -> Option<Command<N, S, A>>
 {
     let level = id(only_word(text)?)?;
     Some(Command::UndoUntil(level))
+}
+
+/// `bump NAMEID AMOUNT`
+fn bump<N: DenseIndex, S: DenseIndex, A: Allocator>(text: &[u8]) -> Option<Command<N, S, A>>
+    ensures { option_map command_of result
+        ≡ bump_command (ids_at N.limit N.id_at S.limit S.id_at) (words text.now) }
+{
+    let (name, text) = next_word(text)?;
+    let (amount, text) = next_word(text)?;
+    match next_word(text) {
+        Some(_) => None,
+        None => Some(Command::Bump(id(name)?, number(amount)?)),
+    }
+}
+
+/// `decay N D`
+fn decay<N, S, A: Allocator>(text: &[u8]) -> Option<Command<N, S, A>>
+    ensures { option_map command_of result ≡ decay_command (words text.now) }
+{
+    let (numerator, text) = next_word(text)?;
+    let (denominator, text) = next_word(text)?;
+    match next_word(text) {
+        Some(_) => None,
+        None => Some(Command::Decay(number(numerator)?, number(denominator)?)),
+    }
+}
+
+/// `standard BOOL`
+fn standard<N, S, A: Allocator>(text: &[u8]) -> Option<Command<N, S, A>>
+    ensures { option_map command_of result ≡ standard_command (words text.now) }
+{
+    let standard = truth(only_word(text)?)?;
+    Some(Command::Standard(standard))
 }
 
 /// `rewatch CLAUSE LIT LIT`

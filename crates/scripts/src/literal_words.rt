@@ -1,6 +1,6 @@
 //! Words that stand for literals.
-ghost use Rattle.std.specs.Prelude.{◌≡◌, [], IfOk, IfErr, None};
-ghost use Rattle.script_text.specs.declared.fault.LineFault.TheVariants.{Unreadable};
+ghost use Rattle.std.specs.Prelude.{◌≡◌, [], IfOk, IfErr, IsSome, None};
+ghost use Rattle.script_text.specs.declared.fault.LineFault.TheVariants.{Unreadable, Memory};
 ghost use Rattle.script_text.specs.Words.{words};
 ghost use Rattle.scripts.specs.Commands.{literal_of, are_literals, with_literals};
 
@@ -9,10 +9,29 @@ use script_packages::id;
 use script_text::{LineFault, next_word};
 use std::alloc::Allocator;
 
-/// The literals in the text, in turn. An unreadable word is found where there is memory for those before it.
+/// The literals in the text, in turn. Memory counts as refused only where each word is a literal.
+#[tactic(auto, using(crate::proofs::LiteralLemmas::some_literals, crate::proofs::LiteralLemmas::none_literals))]
 pub(crate) fn literals<A: Allocator>(alloc: A, text: &[u8]) -> Result<Vec<Literal, A>, LineFault>
     ensures ok { IfOk result (λ literals. with_literals [] (words text.now) ≡ Some literals.items) }
     ensures unreadable { IfErr result (λ e. e ≡ Unreadable → with_literals [] (words text.now) ≡ None) }
+    ensures memory { IfErr result (λ e. e ≡ Memory → IsSome (with_literals [] (words text.now))) }
+{
+    match literals_in_turn(alloc, text) {
+        Ok(literals) => Ok(literals),
+        // Where each word is a literal, memory was refused.
+        Err(_) => {
+            if are_literals(text) {
+                Err(LineFault::Memory)
+            } else {
+                Err(LineFault::Unreadable)
+            }
+        }
+    }
+}
+
+/// The literals in the text, in turn. An unreadable word is found where there is memory for those before it.
+fn literals_in_turn<A: Allocator>(alloc: A, text: &[u8]) -> Result<Vec<Literal, A>, LineFault>
+    ensures { IfOk result (λ literals. with_literals [] (words text.now) ≡ Some literals.items) }
 {
     let mut literals = Vec::new(alloc);
     let mut rest = text;
@@ -27,7 +46,7 @@ pub(crate) fn literals<A: Allocator>(alloc: A, text: &[u8]) -> Result<Vec<Litera
 }
 
 /// Whether each word of the text stands for a literal.
-pub(crate) fn are_literals(text: &[u8]) -> bool
+fn are_literals(text: &[u8]) -> bool
     ensures { result ≡ are_literals (words text.now) }
 {
     let mut rest = text;

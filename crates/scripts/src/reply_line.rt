@@ -1,7 +1,7 @@
 //! Reply lines.
 ghost use Rattle.std.specs.Prelude.{◌≡◌, ◌++◌, OnOk, codes, decimal, map, flat_map};
 ghost use Rattle.resolvo_store.specs.Command.{reply_of};
-ghost use Rattle.resolvo_store.specs.ReplyTexts.{field, reply_words, list_text, others_text, lists_text, conflict_text, decision_text, undone_text, next_text, assignment_text, truth_text, words_text};
+ghost use Rattle.resolvo_store.specs.ReplyTexts.{field, reply_words, list_text, others_text, lists_text, conflict_text, tracked_text, decision_text, undone_text, next_text, assignment_text, truth_text, words_text};
 ghost use Rattle.scripts.specs.Replies.{reply_text, unreadable_text};
 
 use decisions::Decision;
@@ -25,7 +25,11 @@ fn push_words<A: Allocator>(text: &mut Vec<u8>, reply: &Reply<A>) -> Result<(), 
     match reply {
         Reply::Variable(variable) => push_field(text, b"variable ", variable.to_index()),
         Reply::Loaded(lists) => push_lists(text, lists),
+        Reply::Disjunction(disjunction) => {
+            push_field(text, b"disjunction ", disjunction.to_index())
+        }
         Reply::Clause(clause, conflict) => push_clause(text, *clause, *conflict),
+        Reply::Tracked(new, clauses) => push_tracked(text, *new, *clauses),
         Reply::Assigned => text.extend_from_slice(b"assigned"),
         Reply::Already => text.extend_from_slice(b"already"),
         Reply::Clash => text.extend_from_slice(b"clash"),
@@ -88,6 +92,17 @@ fn push_clause(text: &mut Vec<u8>, clause: ClauseId, conflict: bool) -> Result<(
         text.extend_from_slice(b" conflict")?;
     }
     Ok(())
+}
+
+/// Whether a variable is new, and the number of clauses.
+fn push_tracked(text: &mut Vec<u8>, new: bool, clauses: usize) -> Result<(), AllocError>
+    ensures { OnOk result (text.new.items ≡ text.old.items ++ tracked_text new clauses) }
+{
+    if new {
+        push_field(text, b"tracked yes ", clauses)
+    } else {
+        push_field(text, b"tracked no ", clauses)
+    }
 }
 
 fn push_truth(text: &mut Vec<u8>, value: bool) -> Result<(), AllocError>

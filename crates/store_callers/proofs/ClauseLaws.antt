@@ -1,24 +1,25 @@
 -- What a command tells that is answered by a clause.
 use Rattle.std.proofs.Common.{◌≡◌, ℕ, ◌<◌, ◌+◌, Bool, true, false, cond, arith, List, [], ◌∷◌, Option, None, Some, length, length-append, ap, sym, ◌∙◌, subst}
 use Rattle.std.specs.Bool.{beq}
-use Rattle.std.specs.Prelude.{◌++◌, slice_get, option_map, IsSome, IfSome, IfOk, Result, MatchOption, refl}
+use Rattle.std.specs.Prelude.{◌++◌, nat_eq, slice_get, option_map, IsSome, IfSome, IfOk, Result, MatchOption, refl}
 use Rattle.std.proofs.lemmas.Result.{IfOk-weaker}
 use Rattle.typed_ids.specs.declared.string_id.StringId.{StringId}
 use Rattle.typed_ids.specs.declared.error.StoreError.{StoreError}
 use Rattle.decisions.specs.Literals.{Lit, Neg}
 use Rattle.decisions.specs.Trail.{Entry}
+use Rattle.at_most_once.specs.AtMostOne.{is_tracked}
 use Rattle.clauses.specs.Clauses.{literals_of}
 use Rattle.clauses.specs.declared.clause.Clause.{Clause}
 use Rattle.clauses.specs.declared.clause.Clause.TheVariants as Kind
 use Rattle.resolvo_queue.specs.declared.requires_clause.RequiresClause.{RequiresClause}
-use Rattle.resolvo_queue.specs.Pick.{Offer}
+use Rattle.resolvo_queue.specs.declared.offer.Offer.{Offer}
 use Rattle.resolvo_store.specs.declared.helper_origin.HelperOrigin.{HelperOrigin}
 use Rattle.resolvo_store.specs.declared.reply.Reply.{Reply as ProgramReply}
 use Rattle.resolvo_store.specs.declared.reply.Reply.TheVariants as Out
-use Rattle.resolvo_store.specs.Command.{Command, Helper, Load, Requires, Root, Constrains, ConstrainsExcluded, ConstrainsParent, Lock, Exclude, AnyOf, Learnt, Assign, Unpropagated, Decide, Reply, VariableIs, ClauseIs, Already, Clash, Refused, IsRefused, reply_of}
+use Rattle.resolvo_store.specs.Command.{Command, Helper, Load, Requires, Root, Constrains, ConstrainsExcluded, ConstrainsParent, Lock, Exclude, AnyOf, Learnt, AtMostOnce, Assign, Unpropagated, Decide, Reply, VariableIs, ClauseIs, TrackedAs, Already, Clash, Refused, IsRefused, reply_of}
 use Rattle.resolvo_store.specs.Store.{Store, values, lists_of, kept_literals}
 use Rattle.resolvo_store.specs.Refusals.{first_refusal}
-use Rattle.resolvo_store.specs.Outcome.{outcome, helper_origin, load, adds_clause, with_registered, with_learnt, hands_next, assign_reply, decision, falsified_clause, picked}
+use Rattle.resolvo_store.specs.Outcome.{Outcome, outcome, helper_origin, load, adds_clause, with_registered, with_learnt, hands_next, assign_reply, decision, falsified_clause, picked, tracking, with_tracked}
 use Rattle.resolvo_store.specs.Step.{IsAnswered, Step}
 
 -- what is found, where something is there
@@ -68,7 +69,7 @@ module _ {N S : Type 0} where
   by_outcome : (old new : Store N S) (c : Command N S) (clause : ℕ) (conflict : Bool) → ClauseIs clause conflict ≡ (outcome old c).reply
       → new ≡ (outcome old c).store → IsNext old new clause
   by_outcome old new (Requires parent r d) clause conflict a b =
-      added_last (with_registered old parent r) new (Kind.Requires parent d r) clause conflict a b
+      added_last (with_registered old parent r d) new (Kind.Requires parent d r) clause conflict a b
   by_outcome old new Root clause conflict a b = added_last old new Kind.InstallRoot clause conflict a b
   by_outcome old new (Constrains p f v) clause conflict a b = added_last old new (Kind.Constrains p f v) clause conflict a b
   by_outcome old new (ConstrainsExcluded x aux v) clause conflict a b = added_last old new (Kind.ConstrainsExcluded x aux v) clause conflict a b
@@ -96,6 +97,12 @@ module _ {N S : Type 0} where
       by_entry : (o : Option Entry) → ClauseIs clause conflict ≡ (hands_next old o).reply → ⊥
       by_entry (Some e) h = cc
       by_entry None h = cc
+  by_outcome old new (AtMostOnce name v) clause conflict a b = absurd (by_test (is_tracked nat_eq (old.trackers name) v) a)
+    where
+      by_test : (t : Bool)
+          → ClauseIs clause conflict ≡ (cond {A = Outcome N S} t (record { reply = TrackedAs false 0; store = old }) (record { reply = TrackedAs true (length (tracking old name v)); store = with_tracked old name v })).reply → ⊥
+      by_test true h = cc
+      by_test false h = cc
   by_outcome old new Decide clause conflict a b = absurd (by_answer (falsified_clause old) (picked old) a)
     where
       by_answer : (f : Option RequiresClause) (o : Option Offer) → ClauseIs clause conflict ≡ decision f o → ⊥

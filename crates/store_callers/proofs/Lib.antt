@@ -1,4 +1,5 @@
 pub mod ClauseLaws
+pub mod DecisionLaws
 pub mod ExampleProofs
 pub mod LoadLaws
 pub mod PlayLaws

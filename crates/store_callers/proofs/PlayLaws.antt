@@ -1,16 +1,17 @@
 -- What is computed is a run.
-use Rattle.std.proofs.Common.{◌≡◌, ℕ, Bool, true, false, cond, ◌||◌, List, [], ◌∷◌, Option, Some, None, refl, ap}
+use Rattle.std.proofs.Common.{◌≡◌, ℕ, Bool, true, false, cond, ◌||◌, List, [], ◌∷◌, length, Option, Some, None, refl, ap}
 use Rattle.std.specs.Bool.{beq}
-use Rattle.std.specs.Prelude.{slice_get, MatchOption}
+use Rattle.std.specs.Prelude.{nat_eq, slice_get, MatchOption}
 use Rattle.typed_ids.specs.declared.error.StoreError.{StoreError}
 use Rattle.typed_ids.specs.declared.error.StoreError.TheVariants.{IdSpace}
 use Rattle.decisions.specs.Trail.{Entry}
+use Rattle.at_most_once.specs.AtMostOne.{is_tracked}
 use Rattle.resolvo_queue.specs.declared.requires_clause.RequiresClause.{RequiresClause}
-use Rattle.resolvo_queue.specs.Pick.{Offer}
-use Rattle.resolvo_store.specs.Command.{Command, Load, Assign, Unpropagated, Decide, Reply, Already, Clash, Refused, IsRefused}
+use Rattle.resolvo_queue.specs.declared.offer.Offer.{Offer}
+use Rattle.resolvo_store.specs.Command.{Command, Load, AtMostOnce, Assign, Unpropagated, Decide, Reply, TrackedAs, Already, Clash, Refused, IsRefused}
 use Rattle.resolvo_store.specs.Store.{Store, values, lists_of}
 use Rattle.resolvo_store.specs.Refusals.{first_refusal}
-use Rattle.resolvo_store.specs.Outcome.{outcome, load, hands_next, assign_reply, decision, falsified_clause, picked}
+use Rattle.resolvo_store.specs.Outcome.{Outcome, outcome, load, hands_next, assign_reply, decision, falsified_clause, picked, tracking, with_tracked}
 use Rattle.resolvo_store.specs.Step.{IsAnswered, Step, lacks_ids, may_use_up_answers}
 use Rattle.store_callers.specs.Play.{answered, answer, PlayIsRun}
 
@@ -42,6 +43,11 @@ module _ {N S : Type 0} where
       by_answer (Some c) o h = h
       by_answer None (Some o) h = h
       by_answer None None h = h
+  not_refused st (AtMostOnce name v) h = by_test (is_tracked nat_eq (st.trackers name) v) h
+    where
+      by_test : (b : Bool) → IsRefused (cond {A = Outcome N S} b (record { reply = TrackedAs false 0; store = st }) (record { reply = TrackedAs true (length (tracking st name v)); store = with_tracked st name v })).reply → ⊥
+      by_test true h = h
+      by_test false h = h
   not_refused st _ h = h
 
   -- where no ids are lacking, a command is answered by its outcome

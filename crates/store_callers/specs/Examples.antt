@@ -1,66 +1,13 @@
 -- Worked examples: what the abstract store replies to some lists of commands, computed.
-use Rattle.std.specs.Prelude.{◌≡◌, ℕ, Bool, true, false, ◌==◌, if◌then◌else◌, List, [], ◌∷◌, map, Some, None}
+use Rattle.std.specs.Prelude.{true, false, [], ◌∷◌, Some, None}
 use Rattle.typed_ids.specs.declared.error.StoreError.TheVariants.{UnknownId, LevelOutOfRange, NotLoaded, BadWatch, BadLearnt, EmptyTrail}
-use Rattle.typed_ids.specs.declared.string_id.StringId.{StringId}
-use Rattle.typed_ids.specs.declared.version_set_id.VersionSetId.{VersionSetId}
-use Rattle.providers.specs.declared.requirement.Requirement.{Requirement}
-use Rattle.providers.specs.declared.requirement.Requirement.TheVariants.{Single, Union}
-use Rattle.decisions.specs.Literals.{Lit, Pos, Neg, Values}
-use Rattle.decisions.specs.declared.decision.Decision.{Decision}
-use Rattle.clauses.specs.Clauses.{literals_of}
-use Rattle.resolvo_queue.specs.Rows.{Row, frontier}
-use Rattle.resolvo_queue.specs.Pick.{Offer, pick}
+use Rattle.decisions.specs.Literals.{Pos, Neg}
 use Rattle.resolvo_store.specs.declared.helper_origin.HelperOrigin.TheVariants as Helps
-use Rattle.resolvo_store.specs.Command.{Command, Variable, Helper, Load, Requires, Root, Constrains, ConstrainsExcluded, ConstrainsParent, Lock, Exclude, AnyOf, Learnt, Assign, UndoLast, UndoUntil, Unpropagated, Rewatch, Watchers, Decide, Reply, VariableIs, LoadedAs, ClauseIs, Assigned, Already, Clash, Undone, Next, Done, WatchersAre, Decided, NoDecision, Falsified, Refused}
-use Rattle.resolvo_store.specs.Store.{new_store, kept_literals}
-use Rattle.store_callers.specs.Play.{play, store_after}
-use Rattle.store_callers.specs.Script.{Packages, Solvable, Range, provider_of}
-
--- over these packages a new store gives these replies to these commands
-abbrev pub Gives : Packages → List (Command ℕ ℕ) → List Reply → Type 0
-Gives c commands replies = play (new_store (provider_of c)) commands ≡ replies
-
--- over these packages a new store has clauses of these literals after these commands, which watch these, or nothing
-abbrev pub Leaves : Packages → List (Command ℕ ℕ) → List (List Lit) → List (List Lit) → Type 0
-Leaves c commands literals watches =
-    let st = store_after (new_store (provider_of c)) commands in
-    (map (literals_of (kept_literals st)) st.clauses ≡ literals) × (st.watches ≡ watches)
-
--- a solvable of a name, in a version
-abbrev pub solvable : ℕ → ℕ → Solvable
-solvable name version = record { name = name; version = version }
-
-abbrev pub range : ℕ → ℕ → ℕ → Range
-range name low high = record { name = name; low = low; high = high }
-
-abbrev pub set : ℕ → VersionSetId
-set v = record { 0 = v }
-
-abbrev pub string : ℕ → StringId
-string i = record { 0 = i }
-
--- the requirement of one version set, and that of a union
-abbrev pub single : ℕ → Requirement
-single v = Single (set v)
-
-abbrev pub union : ℕ → Requirement
-union u = Union (record { 0 = u })
-
--- a decision, where all scores are 0
-abbrev pub decides : ℕ → ℕ → ℕ → ℕ → Reply
-decides candidate parent clause count =
-    Decided (record { candidate = candidate; required_by = parent; clause_id = clause; package_activity = 0; candidate_count = count })
-
-abbrev pub assigns : ℕ → Bool → ℕ → Decision
-assigns variable value clause = record { variable = variable; value = value; derived_from = clause }
-
--- this assignment is handed out
-abbrev pub hands : ℕ → Bool → ℕ → Reply
-hands variable value clause = Next (Some (assigns variable value clause))
-
--- this assignment is taken back, and the one before it is of the level
-abbrev pub takes_back : ℕ → Bool → ℕ → ℕ → Reply
-takes_back variable value clause level = Undone (Some (assigns variable value clause, level))
+use Rattle.resolvo_store.specs.Command.{Variable, Helper, Load, Requires, Root, Constrains, ConstrainsExcluded, ConstrainsParent, Lock, Exclude, AnyOf, Learnt, Assign, UndoLast, UndoUntil, Unpropagated, Rewatch, Watchers, Decide, VariableIs, LoadedAs, ClauseIs, Assigned, Already, Clash, Undone, Next, Done, WatchersAre, NoDecision, Falsified, Refused}
+use Rattle.store_callers.specs.Script.{Packages}
+use Rattle.store_callers.specs.ExampleWords.{Gives, Leaves, solvable, range, set, string, single, union, decides, hands, takes_back, two_versions}
+use Rattle.store_callers.specs.ScoreExamples.{ScoreAndCount, LateScore, ScoreAlone, CountAlone, RootProtected, OthersReplaced, RegisteredFirst, ScoresFall, RoundedDown, EitherSetting, CountOfOneSet, BetterOffer, EqualCount, EqualScore, RootStays, BestSoFar, RootReplaces, FirstWithoutScores}
+use Rattle.store_callers.specs.ConditionExamples.{WaitsForCondition, ConditionOpens, EmptyCondition, ConditionLiterals, ConditionsRefused, UnknownConditions, FourTracked, FourTrackedLiterals, TwoNames, FavoredFirst, FavoredOutside}
 
 -- ---- two packages: a decision is asked for, taken, undone, and asked for again; then their union is loaded
 
@@ -261,9 +208,6 @@ RequiresWatches =
 
 -- ---- a clause of two literals watches both, and one that has a literal twice watches nothing
 
-abbrev pub two_versions : Packages
-two_versions = record { solvables = solvable 0 1 ∷ solvable 0 2 ∷ []; sets = range 0 1 3 ∷ []; unions = []; strings = 0 }
-
 abbrev pub PairWatches : Type 0
 PairWatches =
     Gives two_versions
@@ -306,45 +250,6 @@ LockWatches =
     (Variable 0 ∷ Variable 1 ∷ Lock 1 2 ∷ Watchers (Neg 0) ∷ Rewatch 0 (Neg 0) (Neg 1) ∷ [])
     (VariableIs 1 ∷ VariableIs 2 ∷ ClauseIs 0 false ∷ WatchersAre (0 ∷ []) ∷ Refused BadWatch ∷ [])
 
--- ---- parts of the rule that the commands can't show yet
-
--- one value for some variables, none for the others
-abbrev pub values_of : List (ℕ × Bool) → Values
-values_of [] v = None
-values_of (x ∷ xs) v = if x.0 == v then Some x.1 else values_of xs v
-
-abbrev pub row : ℕ → ℕ → Row
-row v variable = record { set = set v; variable = variable }
-
--- a frontier counts the undecided rows of its own version set, each as often as it stands there
-abbrev pub CountOfOneSet : Type 0
-CountOfOneSet =
-    frontier (values_of ((1, false) ∷ [])) (row 0 1 ∷ row 1 2 ∷ row 1 3 ∷ row 0 2 ∷ row 1 3 ∷ [])
-    ≡ Some (record { variable = 2; set = set 1; count = 3 })
-
-abbrev pub offer_of : ℕ → ℕ → ℕ → ℕ → Offer
-offer_of parent clause score count = record {
-  clause = record { parent = parent; requirement = single 0; clause_id = clause };
-  frontier = record { variable = 9; set = set 0; count = count };
-  score = score;
-}
-
--- a later offer replaces the best only with a higher score and a smaller count, and one of the root only if it is one too
-abbrev pub Picks : List Offer → Offer → Type 0
-Picks offers best = pick offers ≡ Some best
-
-abbrev pub BetterOffer : Type 0
-BetterOffer = Picks (offer_of 0 0 0 2 ∷ offer_of 0 1 5 1 ∷ []) (offer_of 0 1 5 1)
-
-abbrev pub EqualCount : Type 0
-EqualCount = Picks (offer_of 0 0 0 2 ∷ offer_of 0 1 5 2 ∷ []) (offer_of 0 0 0 2)
-
-abbrev pub EqualScore : Type 0
-EqualScore = Picks (offer_of 0 0 5 2 ∷ offer_of 0 1 5 1 ∷ []) (offer_of 0 0 5 2)
-
-abbrev pub RootStays : Type 0
-RootStays = Picks (offer_of 0 0 0 2 ∷ offer_of 1 1 5 1 ∷ []) (offer_of 0 0 0 2)
-
 -- ---- all of them
 
 pub record Examples : Type 0 where
@@ -371,8 +276,32 @@ pub record Examples : Type 0 where
   pub moved_watches : MovedWatches
   pub signs_apart : SignsApart
   pub lock_watches : LockWatches
+  pub score_and_count : ScoreAndCount
+  pub late_score : LateScore
+  pub score_alone : ScoreAlone
+  pub count_alone : CountAlone
+  pub root_protected : RootProtected
+  pub others_replaced : OthersReplaced
+  pub registered_first : RegisteredFirst
+  pub scores_fall : ScoresFall
+  pub rounded_down : RoundedDown
+  pub either_setting : EitherSetting
+  pub waits_for_condition : WaitsForCondition
+  pub condition_opens : ConditionOpens
+  pub empty_condition : EmptyCondition
+  pub condition_literals : ConditionLiterals
+  pub conditions_refused : ConditionsRefused
+  pub unknown_conditions : UnknownConditions
+  pub four_tracked : FourTracked
+  pub four_tracked_literals : FourTrackedLiterals
+  pub two_names : TwoNames
+  pub favored_first : FavoredFirst
+  pub favored_outside : FavoredOutside
   pub count_of_one_set : CountOfOneSet
   pub better_offer : BetterOffer
   pub equal_count : EqualCount
   pub equal_score : EqualScore
   pub root_stays : RootStays
+  pub best_so_far : BestSoFar
+  pub root_replaces : RootReplaces
+  pub first_without_scores : FirstWithoutScores

@@ -1,3 +1,6 @@
+pub mod ConditionExamples
+pub mod ExampleWords
 pub mod Examples
 pub mod Play
+pub mod ScoreExamples
 pub mod Script

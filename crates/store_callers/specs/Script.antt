@@ -1,4 +1,5 @@
--- A few packages, and the provider of them: names and solvables are their numbers, a higher version is preferred.
+-- A few packages, and the provider of them: names and solvables are their numbers, a higher version is preferred, and of each
+-- version set there is a condition.
 use Rattle.std.specs.Prelude.{ℕ, Bool, true, false, ◌==◌, ◌&&◌, ◌||◌, if◌then◌else◌, nat_lt, nat_le, List, [], ◌∷◌, map, length, filter, fold, Option, Some, None, unwrap_or, option_map, slice_get}
 use Rattle.std.specs.List.{enumerate_from}
 use Rattle.typed_ids.specs.declared.version_set_id.VersionSetId.{VersionSetId}
@@ -48,8 +49,9 @@ module _ (c : Packages) where
   abbrev pub set_of : ℕ → VersionSetId
   set_of v = record { 0 = v }
 
-  abbrev pub provider_of : Provider ℕ ℕ
-  provider_of = record {
+  -- the provider of which this solvable is favored, of whatever package
+  abbrev pub provider_favoring : Option ℕ → Provider ℕ ℕ
+  provider_favoring best = record {
     same_name = λ m n. m == n;
     same_solvable = λ s t. s == t;
     is_large_name = λ n. false;
@@ -62,7 +64,7 @@ module _ (c : Packages) where
       knows_solvable = λ s. nat_lt s (length c.solvables);
       knows_set = λ v. nat_lt v.0 (length c.sets);
       knows_union = λ u. nat_lt u.0 (length c.unions);
-      knows_condition = λ x. false;
+      knows_condition = λ x. nat_lt x (length c.sets);
       solvable_name = λ s. unwrap_or (option_map (λ x. x.name) (slice_get c.solvables s)) 0;
       set_name = λ v. unwrap_or (option_map (λ r. r.name) (slice_get c.sets v.0)) 0;
       union_sets = λ u. map set_of (unwrap_or (slice_get c.unions u.0) []);
@@ -71,8 +73,12 @@ module _ (c : Packages) where
     answers = record {
       candidates = named;
       matches = λ v s. is_within (slice_get c.sets v.0) (version s);
-      favored = λ n. None;
+      favored = λ n. best;
       order = λ list. fold (λ sorted s. inserted s sorted) [] list;
       needs = λ s. Known [] [];
     };
   }
+
+  -- none is favored
+  abbrev pub provider_of : Provider ℕ ℕ
+  provider_of = provider_favoring None

@@ -4,6 +4,7 @@
 ghost use Rattle.std.specs.Prelude.{◌≡◌, ◌≤◌, ℕ, length, [], None};
 ghost use Rattle.resolvo_store.specs.Command.{reply_of, NoDecision};
 ghost use Rattle.resolvo_store.specs.Solved.{IsSolved};
+ghost use Rattle.resolvo_store.specs.ForbidsTwo.{ForbidsTwo};
 ghost use Rattle.resolvo_store.specs.Sound.{WatchOwn};
 ghost use Rattle.resolvo_store.specs.Store.{values, watched_by};
 ghost use Rattle.watch_map.specs.Watching.{IsExact};
@@ -46,6 +47,17 @@ pub fn obey_watched<D: DependencyProvider + Drop>(
 ) -> Result<Vec<Reply<D::Alloc>, D::Alloc>, StoreError>
     ensures exact { let st = ⟦<D as AbstractStore>⟧.store store.new in IsExact (watched_by st) st.watchers }
     ensures own { WatchOwn (⟦<D as AbstractStore>⟧.store store.new) }
+{
+    store.run(commands)
+}
+
+/// Obeys commands in turn. Whatever was refused, the clauses of each name can then be met by choosing helpers exactly when at
+/// most one of the variables that are tracked under it is true.
+pub fn obey_forbids_two<D: DependencyProvider + Drop>(
+    store: &mut ClauseStore<D>,
+    commands: &[Command<D::NameId, D::SolvableId, D::Alloc>],
+) -> Result<Vec<Reply<D::Alloc>, D::Alloc>, StoreError>
+    ensures { ForbidsTwo (⟦<D as AbstractStore>⟧.store store.new) }
 {
     store.run(commands)
 }

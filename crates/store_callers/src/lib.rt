@@ -10,4 +10,6 @@ mod law_callers;
 pub use callers::{ask, decides_unbeaten, load_first, obey, undo_nothing, unknown};
 pub use clause_callers::{add, exclude, stands_for};
 pub use computed::{examples, play_is_run};
-pub use law_callers::{search_is_done, start_again, value_of_unknown};
+pub use law_callers::{
+    obey_forbids_two, obey_watched, search_is_done, start_again, value_of_unknown,
+};

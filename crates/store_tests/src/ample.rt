@@ -1,20 +1,15 @@
 //! Each call that takes memory, once with ample memory: none of them is refused, and the answers are as wanted. (A body
 //! that always answers want of memory would meet any contract.) What owns memory is generic in the allocator, so that a
 //! test names it once.
-ghost use Rattle.std.specs.Prelude.{◌≡◌, []};
-
-use crate::script::{Example, clause, lists_of, single, variable};
+use crate::script::{Example, clause, single, variable};
 use crate::stores::{Way, dense_gives, sparse_gives};
 use decisions::{AddFault, Decision, DecisionMap, DecisionTracker};
 use id_maps::{IdMap, Slot, SolverId};
-use providers::{Interner, Requirement, RequirementMap};
-use resolvo_queue::DecideQueue;
+use providers::RequirementMap;
 use std::alloc::{Allocator, Global};
 use std::test::Fail;
 use test_checks::is_same;
-use typed_ids::{
-    ClauseId, DefaultValue, DenseIndex, NameId, SolvableId, StoreError, VariableId, VersionSetId,
-};
+use typed_ids::{DefaultValue, NameId, SolvableId, StoreError, VariableId};
 use variables::VariableMap;
 
 #[test]
@@ -166,48 +161,6 @@ fn trail_seen<A: Allocator + Copy>(heap: A) -> (Taken, (Option<bool>, u32)) {
 }
 
 type Taken = (Result<bool, AddFault>, Result<bool, AddFault>);
-
-#[test]
-fn the_queue_takes_clauses(rt: HostRuntime) -> Result<(), Fail> {
-    let provider = lists_of(rt.alloc(), Example::OnePackage)?;
-    let seen = new_queue_seen(rt.alloc(), provider);
-    is_same(seen, Ok(Some((1, Some(clause(0))))))
-}
-
-/// How many clauses a new queue has, and which one is falsified, once it has one whose parent is true and whose
-/// requirement isn't loaded. None if the interner knows no version set.
-fn new_queue_seen<I: Interner + Drop, A: Allocator + Copy>(
-    heap: A,
-    interner: I,
-) -> Result<Option<(usize, Option<ClauseId>)>, StoreError> {
-    let mut queue: DecideQueue<A> = DecideQueue::new(heap);
-    let mut values: DecisionMap<A> = DecisionMap::new(heap);
-    let seen = queue_seen(heap, &mut queue, &mut values, &interner);
-    drop(queue);
-    drop(values);
-    drop(interner);
-    seen
-}
-
-fn queue_seen<I: Interner, A: Allocator + Copy>(
-    heap: A,
-    queue: &mut DecideQueue<A>,
-    values: &mut DecisionMap<A>,
-    interner: &I,
-) -> Result<Option<(usize, Option<ClauseId>)>, StoreError>
-    requires { queue.old ≡ [] }
-{
-    let set = VersionSetId(0);
-    if !interner.knows_version_set(set) {
-        return Ok(None);
-    }
-    queue.register_clause(variable(1), Requirement::Single(set), clause(0))?;
-    values.set(variable(1), true, 1)?;
-    let lists = RequirementMap::new(heap);
-    let falsified = queue.falsified(values, &lists, interner);
-    drop(lists);
-    Ok(Some((queue.len(), falsified)))
-}
 
 #[test]
 fn a_store_obeys_each_command(rt: HostRuntime) -> Result<(), Fail> {

@@ -8,10 +8,14 @@ use script_packages::read_catalogue;
 use std::alloc::Global;
 use std::test::Fail;
 use test_checks::is_same;
-use typed_ids::{ClauseId, NameId, SolvableId, StoreError, StringId, VersionSetId};
+use typed_ids::{
+    ClauseId, ConditionId, DenseIndex, DisjunctionId, NameId, SolvableId, StoreError, StringId,
+    VersionSetId,
+};
 
-/// Package p in version 1, package a in versions 1 and 2, the version set of a's, and a string.
-const CATALOGUE: &[u8] = b"package p 1\npackage a 1 2\nset a 1 3\nstring old\nbegin\n";
+/// Package p in version 1, package a in versions 1 and 2, the version set of a's with its condition, and a string.
+const CATALOGUE: &[u8] =
+    b"package p 1\npackage a 1 2\nset a 1 3\ncondition set 0\nstring old\nbegin\n";
 
 /// A command over the catalogue's packages.
 type Given = Command<NameId, SolvableId, Global>;
@@ -74,6 +78,41 @@ fn a_requires_clause_has_its_text(rt: HostRuntime) -> Result<(), Fail> {
     ];
     let wanted = "is Requires(p 1(VariableId(2)), a >=1, <3, condition=None)";
     tells(&rt, &commands, clause(1), (Ok(()), wanted))
+}
+
+#[test]
+fn a_requires_clause_has_the_text_of_its_condition(rt: HostRuntime) -> Result<(), Fail> {
+    let commands = [
+        given_variable(0),
+        Command::Load(single(0)),
+        Command::Disjunction(Vec::new(rt.alloc()), ConditionId::from_index(0)),
+        Command::Requires(variable(1), single(0), Some(DisjunctionId::from_index(0))),
+    ];
+    let wanted = "is Requires(p 1(VariableId(2)), a >=1, <3, condition=Some(DisjunctionId(1)))";
+    tells(&rt, &commands, clause(0), (Ok(()), wanted))
+}
+
+/// Two versions of package a are tracked under its name, and two other variables come before their helper.
+fn tracked() -> [Given; 6] {
+    let name = NameId::from_raw(1);
+    [
+        given_variable(1),
+        given_variable(2),
+        given_variable(0),
+        Command::Helper(HelperOrigin::AtLeastOne(name)),
+        Command::AtMostOnce(name, variable(1)),
+        Command::AtMostOnce(name, variable(2)),
+    ]
+}
+
+#[test]
+fn clauses_of_tracked_variables_have_their_texts(rt: HostRuntime) -> Result<(), Fail> {
+    let first =
+        "is ForbidMultipleInstances(a 1(VariableId(2)), forbid-multiple(a)(Literal(12)), a)";
+    tells(&rt, &tracked(), clause(0), (Ok(()), first))?;
+    let second =
+        "is ForbidMultipleInstances(a 2(VariableId(3)), forbid-multiple(a)(Literal(11)), a)";
+    tells(&rt, &tracked(), clause(1), (Ok(()), second))
 }
 
 #[test]

@@ -5,21 +5,29 @@ use decisions::Literal;
 use providers::Requirement;
 use resolvo_store::{Command, HelperOrigin};
 use std::alloc::Allocator;
-use typed_ids::{DenseIndex, DisjunctionId, StoreError, StringId, VersionSetId};
+use typed_ids::{ConditionId, DenseIndex, DisjunctionId, StoreError, StringId, VersionSetId};
 
 /// A command that is given. Variables and clauses are told by their places.
 #[derive(Clone, Copy)]
 pub(crate) enum Given {
-    /// The variable of the first solvable, of the second or of the third.
+    /// The variable of one of the first four solvables.
     Variable(u16),
     Helper(Helper),
     Load(Requirement),
+    /// The literals are kept, which are of the condition.
+    Disjunction(&'static [GivenLiteral], u16),
     /// A clause that is added.
     Add(Kind),
+    /// A variable is tracked under the first name, the second or the third.
+    AtMostOnce(u16, u16),
     Assign(u16, bool, u16, u32),
     UndoLast,
     UndoUntil(u32),
     Unpropagated,
+    /// A name's score is raised.
+    Bump(u16, u64),
+    Decay(u64, u64),
+    Standard(bool),
     /// A clause watches the second literal in the place of the first one.
     Rewatch(u16, GivenLiteral, GivenLiteral),
     /// The clauses that watch the literal are asked for.
@@ -55,11 +63,11 @@ pub(crate) enum Kind {
 /// A variable, and whether it is negated.
 pub(crate) type GivenLiteral = (u16, bool);
 
-/// The ids of package 0 and of three solvables.
+/// The ids of packages 0, 1 and 2, and of four solvables.
 #[derive(Clone, Copy)]
 pub(crate) struct Known<N, S> {
-    pub(crate) name: N,
-    pub(crate) solvables: [S; 3],
+    pub(crate) names: [N; 3],
+    pub(crate) solvables: [S; 4],
 }
 
 /// The commands of these steps, in order.
@@ -82,9 +90,16 @@ fn command_of<N: Copy, S: Copy, A: Allocator + Copy>(
 ) -> Result<Command<N, S, A>, StoreError> {
     match given {
         Given::Variable(place) => Ok(Command::Variable(solvable_at(known.solvables, place))),
-        Given::Helper(helper) => Ok(Command::Helper(helper_of(known.name, helper))),
+        Given::Helper(helper) => Ok(Command::Helper(helper_of(name_at(known.names, 0), helper))),
         Given::Load(requirement) => Ok(Command::Load(requirement)),
+        Given::Disjunction(literals, condition) => Ok(Command::Disjunction(
+            literals_of(alloc, literals)?,
+            ConditionId::from_index(condition as usize),
+        )),
         Given::Add(given) => added(alloc, given),
+        Given::AtMostOnce(name, place) => {
+            Ok(Command::AtMostOnce(name_at(known.names, name), variable(place)))
+        }
         Given::Assign(place, value, reason, level) => Ok(Command::Assign(
             variable(place),
             value,
@@ -94,6 +109,9 @@ fn command_of<N: Copy, S: Copy, A: Allocator + Copy>(
         Given::UndoLast => Ok(Command::UndoLast),
         Given::UndoUntil(level) => Ok(Command::UndoUntil(level)),
         Given::Unpropagated => Ok(Command::Unpropagated),
+        Given::Bump(name, amount) => Ok(Command::Bump(name_at(known.names, name), amount)),
+        Given::Decay(numerator, denominator) => Ok(Command::Decay(numerator, denominator)),
+        Given::Standard(standard) => Ok(Command::Standard(standard)),
         Given::Rewatch(place, from, to) => Ok(Command::Rewatch(
             clause(place),
             literal_of(from),
@@ -104,12 +122,22 @@ fn command_of<N: Copy, S: Copy, A: Allocator + Copy>(
     }
 }
 
-fn solvable_at<S: Copy>(solvables: [S; 3], place: u16) -> S {
-    let [first, second, third] = solvables;
+fn name_at<N: Copy>(names: [N; 3], place: u16) -> N {
+    let [first, second, third] = names;
     match place {
         0 => first,
         1 => second,
         _ => third,
+    }
+}
+
+fn solvable_at<S: Copy>(solvables: [S; 4], place: u16) -> S {
+    let [first, second, third, fourth] = solvables;
+    match place {
+        0 => first,
+        1 => second,
+        2 => third,
+        _ => fourth,
     }
 }
 

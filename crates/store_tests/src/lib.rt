@@ -7,11 +7,23 @@ mod ample;
 #[cfg(test)]
 mod clause_text;
 #[cfg(test)]
+mod conditional;
+#[cfg(test)]
+mod fractions;
+#[cfg(test)]
 mod given;
+#[cfg(test)]
+mod helper_refused;
+#[cfg(test)]
+mod listed;
+#[cfg(test)]
+mod names;
 #[cfg(test)]
 mod obeys;
 #[cfg(test)]
 mod plays;
+#[cfg(test)]
+mod raised;
 #[cfg(test)]
 mod refused;
 #[cfg(test)]
@@ -20,6 +32,8 @@ mod script;
 mod shown;
 #[cfg(test)]
 mod stores;
+#[cfg(test)]
+mod tracking;
 #[cfg(test)]
 mod wanted;
 #[cfg(test)]

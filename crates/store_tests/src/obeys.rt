@@ -9,14 +9,12 @@ use resolvo_store::{ClauseStore, Command, Reply};
 use std::alloc::Allocator;
 use typed_ids::{ClauseId, StoreError};
 
-/// What a store tells of itself, but for the lists of what is loaded.
+/// What a store tells of itself without memory.
 #[derive(Clone, Copy, Debug, PartialEq, Eq)]
 pub(crate) struct Seen {
     /// The values of the root and of the next three variables.
     pub(crate) values: [Option<bool>; 4],
     pub(crate) falsified: Option<ClauseId>,
-    /// The next decision, where no clause is falsified.
-    pub(crate) decision: Option<QueueDecision>,
 }
 
 /// A store over a provider with names `N` and solvables `S`.
@@ -26,6 +24,9 @@ pub(crate) trait Obeys<N, S, A: Allocator> {
     fn obey_all(&mut self, commands: &[Command<N, S, A>]) -> Result<Vec<Reply<A>, A>, StoreError>;
 
     fn seen(&self) -> Seen;
+
+    /// The next decision, where no clause is falsified.
+    fn decision(&mut self) -> Result<Option<QueueDecision>, StoreError>;
 
     /// Whether the clause has these literals.
     fn has_literals(&self, place: u16, wanted: &[GivenLiteral]) -> Result<bool, StoreError>;
@@ -44,11 +45,6 @@ impl<D: DependencyProvider + Drop> Obeys<D::NameId, D::SolvableId, D::Alloc> for
     }
 
     fn seen(&self) -> Seen {
-        let falsified = self.falsified();
-        let decision = match falsified {
-            Some(_) => None,
-            None => self.next_decision(),
-        };
         Seen {
             values: [
                 self.value(variable(0)),
@@ -56,8 +52,14 @@ impl<D: DependencyProvider + Drop> Obeys<D::NameId, D::SolvableId, D::Alloc> for
                 self.value(variable(2)),
                 self.value(variable(3)),
             ],
-            falsified,
-            decision,
+            falsified: self.falsified(),
+        }
+    }
+
+    fn decision(&mut self) -> Result<Option<QueueDecision>, StoreError> {
+        match self.falsified() {
+            Some(_) => Ok(None),
+            None => self.next_decision(),
         }
     }
 

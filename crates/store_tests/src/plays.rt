@@ -1,12 +1,14 @@
 //! More examples, over packages of their own: what stands beside a root clause, assignments up to an empty trail, helper
 //! variables, and commands that name what isn't known.
 use crate::given::{Given, Helper, Kind};
+use crate::listed::Listed;
 use crate::script::{BAD_LEARNT, BAD_LEVEL, EMPTY_TRAIL, FIRST, Play, SECOND, UNION, UNKNOWN_ID};
 use crate::wanted::{Wanted, WantedDecision};
 
 /// Three assignments, of which one comes again, are handed out from the oldest on and taken back from the newest on, until
 /// none is left.
 pub(crate) const HANDED_AND_TAKEN_BACK: Play = Play {
+    listed: Listed::ThreeVersions,
     candidates: 3,
     steps: &[
         (Given::Add(Kind::Root), Wanted::Clause(0)),
@@ -33,6 +35,7 @@ pub(crate) const HANDED_AND_TAKEN_BACK: Play = Play {
 
 /// A clause that a candidate meets wants no decision until that is taken back.
 pub(crate) const MET_AFTER_ROOT: Play = Play {
+    listed: Listed::OneVersion,
     candidates: 1,
     steps: &[
         (Given::Add(Kind::Root), Wanted::Clause(0)),
@@ -53,11 +56,13 @@ const ONLY_ONE: WantedDecision = WantedDecision {
     candidate: 1,
     parent: 0,
     clause: 1,
+    score: 0,
     count: 1,
 };
 
 /// Of two lists of one version set all rows are counted.
 pub(crate) const SET_TWICE_AFTER_ROOT: Play = Play {
+    listed: Listed::TwoVersionsTwice,
     candidates: 2,
     steps: &[
         (Given::Add(Kind::Root), Wanted::Clause(0)),
@@ -80,6 +85,7 @@ const FIRST_OF_FOUR: WantedDecision = WantedDecision {
     candidate: 1,
     parent: 0,
     clause: 1,
+    score: 0,
     count: 4,
 };
 
@@ -87,11 +93,13 @@ const SECOND_OF_TWO: WantedDecision = WantedDecision {
     candidate: 2,
     parent: 0,
     clause: 1,
+    score: 0,
     count: 2,
 };
 
 /// A clause whose candidate is false is falsified.
 pub(crate) const FALSIFIED_AFTER_ROOT: Play = Play {
+    listed: Listed::OneVersion,
     candidates: 1,
     steps: &[
         (Given::Add(Kind::Root), Wanted::Clause(0)),
@@ -108,6 +116,7 @@ pub(crate) const FALSIFIED_AFTER_ROOT: Play = Play {
 
 /// So is one that has no candidates.
 pub(crate) const NO_CANDIDATES_AFTER_ROOT: Play = Play {
+    listed: Listed::NoVersion,
     candidates: 0,
     steps: &[
         (Given::Add(Kind::Root), Wanted::Clause(0)),
@@ -123,6 +132,7 @@ pub(crate) const NO_CANDIDATES_AFTER_ROOT: Play = Play {
 
 /// Helper variables, learnt clauses and strings, with what is refused of them.
 pub(crate) const HELPERS: Play = Play {
+    listed: Listed::OneVersion,
     candidates: 1,
     steps: &[
         (Given::Helper(Helper::AtLeastOne), Wanted::Variable(1)),
@@ -151,6 +161,7 @@ pub(crate) const HELPERS: Play = Play {
 /// Each command that names an id, with one that isn't known, is refused for that before anything else; and what comes
 /// after gets the ids that it would have got without them.
 pub(crate) const UNKNOWN: Play = Play {
+    listed: Listed::TwoVersions,
     candidates: 2,
     steps: &[
         (Given::Variable(2), UNKNOWN_ID),

@@ -2,8 +2,9 @@
 //! is a twin in ample memory, to which the refused command isn't given: the store must tell the same as its twin. In
 //! steps both are then given the command once more, in a run they aren't.
 use crate::given::literal_of;
+use crate::listed::lists_of;
 use crate::obeys::Obeys;
-use crate::script::{Example, clause, lists_of, play_of, variable};
+use crate::script::{Example, clause, play_of, variable};
 use crate::stores::{Way, dense_commands, sparse_commands};
 use plain_providers::{SparseLists, SparseName, SparseSolvable};
 use providers::{DependencyProvider, Interner};
@@ -67,14 +68,14 @@ fn obey_alike<N, S, A: Allocator, T: Obeys<N, S, A>>(
     is_same && store.seen() == twin.seen()
 }
 
-/// Whether the store and its twin know the same variables and clauses, of the first twelve: an assignment at level 0 is
+/// Whether the store and its twin know the same variables and clauses, of the first sixteen: an assignment at level 0 is
 /// refused, but first for what isn't known. And whether in both the same clauses watch the literals of these variables.
 fn know_alike<N: Copy, S: Copy, A: Allocator, T: Obeys<N, S, A>>(
     store: &mut T,
     twin: &mut T,
 ) -> bool {
     let mut is_alike = true;
-    for i in 0..12u16 {
+    for i in 0..16u16 {
         let of_variable = Command::Assign(variable(i), true, clause(0), 0);
         let of_clause = Command::Assign(variable(0), true, clause(i), 0);
         let of_positive = Command::Watchers(literal_of((i, false)));
@@ -88,13 +89,16 @@ fn know_alike<N: Copy, S: Copy, A: Allocator, T: Obeys<N, S, A>>(
     is_alike
 }
 
-/// Whether the store and its twin tell the same of themselves, also what they have loaded of these commands.
+/// Whether the store and its twin tell the same of themselves, also what they would decide next, and what they have loaded
+/// of these commands.
 fn tell_alike<N: Copy, S: Copy, A: Allocator, T: Obeys<N, S, A>>(
     store: &mut T,
     twin: &mut T,
     commands: &[Command<N, S, A>],
 ) -> bool {
-    let mut is_alike = know_alike(store, twin) && store.seen() == twin.seen();
+    let mut is_alike = know_alike(store, twin)
+        && store.seen() == twin.seen()
+        && store.decision() == twin.decision();
     for command in commands {
         if let Command::Load(_) = command {
             is_alike = is_alike && obey_alike(store, twin, command);
@@ -376,6 +380,27 @@ fn a_trail_is_refused(rt: HostRuntime) -> Result<(), Fail> {
 fn watches_are_refused(rt: HostRuntime) -> Result<(), Fail> {
     dense_refused(&rt, Example::MovedWatches, Way::Steps)?;
     sparse_refused(&rt, Example::MovedWatches, Way::Run)
+}
+
+#[test]
+fn tracking_is_refused(rt: HostRuntime) -> Result<(), Fail> {
+    dense_refused(&rt, Example::FourTracked, Way::Steps)?;
+    sparse_refused(&rt, Example::TwoNames, Way::Steps)?;
+    dense_refused(&rt, Example::TwoNames, Way::Run)
+}
+
+#[test]
+fn conditions_are_refused(rt: HostRuntime) -> Result<(), Fail> {
+    dense_refused(&rt, Example::WaitsForCondition, Way::Steps)?;
+    dense_refused(&rt, Example::ConditionOpens, Way::Run)?;
+    sparse_refused(&rt, Example::ConditionWatches, Way::Steps)
+}
+
+#[test]
+fn scores_are_refused(rt: HostRuntime) -> Result<(), Fail> {
+    dense_refused(&rt, Example::BestSoFar, Way::Steps)?;
+    dense_refused(&rt, Example::BestSoFar, Way::Run)?;
+    sparse_refused(&rt, Example::ScoresFall, Way::Steps)
 }
 
 #[test]

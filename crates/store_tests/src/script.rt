@@ -1,21 +1,26 @@
 //! The examples of the tests: the lists of a provider, commands, and the replies that are wanted.
-ghost use Rattle.std.specs.Prelude.{◌≤◌, length};
-
+use crate::conditional::{
+    CONDITION_FALSIFIED, CONDITION_OPENS, CONDITION_UNDECIDED, CONDITION_WATCHES,
+    CONDITIONS_REFUSED, EMPTY_CONDITION, UNKNOWN_CONDITIONS, WAITS_FOR_CONDITION,
+};
+use crate::fractions::{GREATEST_SCORES, ROUNDED_DOWN, SCORES_FALL};
 use crate::given::{Given, GivenLiteral, Helper, Kind};
+use crate::listed::Listed;
 use crate::plays::{
     FALSIFIED_AFTER_ROOT, HANDED_AND_TAKEN_BACK, HELPERS, MET_AFTER_ROOT, NO_CANDIDATES_AFTER_ROOT,
     SET_TWICE_AFTER_ROOT, UNKNOWN,
 };
+use crate::raised::{
+    BEST_SO_FAR, EITHER_SETTING, EQUAL_COUNT, EQUAL_SCORE, LARGER_COUNT, LATE_SCORE,
+    OTHERS_REPLACED, REGISTERED_FIRST, ROOT_STAYS, SCORE_AND_COUNT,
+};
+use crate::tracking::{FAVORED_FIRST, FAVORED_OUTSIDE, FOUR_TRACKED, TWO_NAMES};
 use crate::wanted::{Wanted, WantedDecision};
 use crate::watches::{
     BAD_WATCHES, LOCK_WATCHES, MOVED_WATCHES, PAIR_WATCHES, REQUIRES_WATCHES, SIGNS_APART,
 };
-use plain_providers::{Lists, Package, VersionRange};
 use providers::Requirement;
-use std::alloc::{AllocError, Allocator};
-use typed_ids::{
-    ClauseId, DenseIndex, NameId, StoreError, VariableId, VersionSetId, VersionSetUnionId,
-};
+use typed_ids::{ClauseId, DenseIndex, StoreError, VariableId, VersionSetId, VersionSetUnionId};
 
 /// An example: the lists of a provider, commands, and the replies that are wanted.
 #[derive(Clone, Copy)]
@@ -51,6 +56,42 @@ pub(crate) enum Example {
     BadWatches,
     /// Each command over one package.
     EachCommand,
+    /// A later clause with a higher score and a smaller count.
+    ScoreAndCount,
+    /// One with a higher score alone, as many candidates or more.
+    EqualCount,
+    LargerCount,
+    /// One with a smaller count alone.
+    EqualScore,
+    /// A score that comes after a decision.
+    LateScore,
+    /// Three clauses, each of which is compared with the best before it.
+    BestSoFar,
+    /// Clauses of the root and of another parent.
+    RootStays,
+    OthersReplaced,
+    RegisteredFirst,
+    /// Scores that are taken times fractions.
+    ScoresFall,
+    RoundedDown,
+    GreatestScores,
+    /// Both settings of the scores' parameters.
+    EitherSetting,
+    /// Variables of which at most one is true.
+    FourTracked,
+    TwoNames,
+    /// Clauses under a condition.
+    WaitsForCondition,
+    ConditionOpens,
+    ConditionFalsified,
+    ConditionUndecided,
+    EmptyCondition,
+    ConditionWatches,
+    ConditionsRefused,
+    UnknownConditions,
+    /// A favored version, in the version set and outside.
+    FavoredFirst,
+    FavoredOutside,
 }
 
 /// A command, and the reply that is wanted.
@@ -59,6 +100,7 @@ pub(crate) type Step = (Given, Wanted);
 /// Commands with the replies that are wanted, and what is wanted beside them.
 #[derive(Clone, Copy)]
 pub(crate) struct Play {
+    pub(crate) listed: Listed,
     /// How many candidates the provider lists of package 0.
     pub(crate) candidates: usize,
     pub(crate) steps: &'static [Step],
@@ -68,37 +110,6 @@ pub(crate) struct Play {
     pub(crate) falsified: Option<u16>,
     /// The literals of the clauses.
     pub(crate) clauses: &'static [&'static [GivenLiteral]],
-}
-
-/// The example's lists.
-pub(crate) fn lists_of<A: Allocator + Copy>(
-    alloc: A,
-    example: Example,
-) -> Result<Lists<A>, StoreError> {
-    Ok(try_lists_of(alloc, example)?)
-}
-
-fn try_lists_of<A: Allocator + Copy>(alloc: A, example: Example) -> Result<Lists<A>, AllocError> {
-    match example {
-        Example::TwoPackages | Example::Trail => with_union(alloc, two_packages(alloc)?, 0, 1),
-        Example::RequiresWatches => two_packages(alloc),
-        Example::SetTwice | Example::SetTwiceAfterRoot => {
-            with_union(alloc, two_versions(alloc)?, 0, 0)
-        }
-        Example::HandedAndTakenBack | Example::MovedWatches => {
-            let packages = [package(0, 1), package(0, 2), package(0, 3)];
-            one_package(alloc, &packages, 4)
-        },
-        Example::MetAfterRoot | Example::FalsifiedAfterRoot | Example::Helpers => {
-            one_package(alloc, &[package(0, 1)], 2)
-        }
-        Example::NoCandidatesAfterRoot => one_package(alloc, &[], 2),
-        Example::OnePackage | Example::Levels | Example::Unknown | Example::EachCommand => {
-            two_versions(alloc)
-        }
-        Example::PairWatches | Example::SignsApart | Example::LockWatches | Example::BadWatches =>
-            two_versions(alloc),
-    }
 }
 
 /// What a store is given in the example, and what is wanted of it.
@@ -123,6 +134,31 @@ pub(crate) fn play_of(example: Example) -> Play {
         Example::LockWatches => LOCK_WATCHES,
         Example::BadWatches => BAD_WATCHES,
         Example::EachCommand => EACH_COMMAND,
+        Example::ScoreAndCount => SCORE_AND_COUNT,
+        Example::EqualCount => EQUAL_COUNT,
+        Example::LargerCount => LARGER_COUNT,
+        Example::EqualScore => EQUAL_SCORE,
+        Example::LateScore => LATE_SCORE,
+        Example::BestSoFar => BEST_SO_FAR,
+        Example::RootStays => ROOT_STAYS,
+        Example::OthersReplaced => OTHERS_REPLACED,
+        Example::RegisteredFirst => REGISTERED_FIRST,
+        Example::ScoresFall => SCORES_FALL,
+        Example::RoundedDown => ROUNDED_DOWN,
+        Example::GreatestScores => GREATEST_SCORES,
+        Example::EitherSetting => EITHER_SETTING,
+        Example::FourTracked => FOUR_TRACKED,
+        Example::TwoNames => TWO_NAMES,
+        Example::WaitsForCondition => WAITS_FOR_CONDITION,
+        Example::ConditionOpens => CONDITION_OPENS,
+        Example::ConditionFalsified => CONDITION_FALSIFIED,
+        Example::ConditionUndecided => CONDITION_UNDECIDED,
+        Example::EmptyCondition => EMPTY_CONDITION,
+        Example::ConditionWatches => CONDITION_WATCHES,
+        Example::ConditionsRefused => CONDITIONS_REFUSED,
+        Example::UnknownConditions => UNKNOWN_CONDITIONS,
+        Example::FavoredFirst => FAVORED_FIRST,
+        Example::FavoredOutside => FAVORED_OUTSIDE,
     }
 }
 
@@ -138,80 +174,20 @@ pub(crate) fn single(set: u32) -> Requirement {
     Requirement::Single(VersionSetId(set))
 }
 
-fn package(name: u32, version: u32) -> Package {
-    Package {
-        name: NameId::from_raw(name),
-        version,
-    }
-}
-
-fn range(name: u32, low: u32, high: u32) -> VersionRange {
-    VersionRange {
-        name: NameId::from_raw(name),
-        low,
-        high,
-    }
-}
-
-/// The lists, and the union of these two version sets.
-fn with_union<A: Allocator + Copy>(
-    alloc: A,
-    mut lists: Lists<A>,
-    first: u32,
-    second: u32,
-) -> Result<Lists<A>, AllocError> {
-    let sets = vec![in alloc; VersionSetId(first), VersionSetId(second)]?;
-    match lists.unions.push(sets) {
-        Ok(()) => Ok(lists),
-        Err(_) => Err(AllocError),
-    }
-}
-
-/// Package 0 in versions 1 and 2, package 1 in version 1, and a version set of all versions of each.
-fn two_packages<A: Allocator + Copy>(alloc: A) -> Result<Lists<A>, AllocError> {
-    let packages = vec![in alloc; package(0, 1), package(0, 2), package(1, 1)]?;
-    let ranges = vec![in alloc; range(0, 1, 3), range(1, 1, 2)]?;
-    Ok(Lists {
-        packages,
-        ranges,
-        unions: Vec::new(alloc),
-        favored: None,
-    })
-}
-
-/// Package 0 in versions 1 and 2, and a version set of all of them.
-fn two_versions<A: Allocator + Copy>(alloc: A) -> Result<Lists<A>, AllocError> {
-    one_package(alloc, &[package(0, 1), package(0, 2)], 3)
-}
-
-/// These packages, and the version set of package 0 from version 1 to below `high`.
-fn one_package<A: Allocator + Copy>(
-    alloc: A,
-    packages: &[Package],
-    high: u32,
-) -> Result<Lists<A>, AllocError>
-    requires { length packages.now ≤ 3 }
-{
-    let packages = Vec::from_slice(alloc, packages)?;
-    let ranges = vec![in alloc; range(0, 1, high)]?;
-    Ok(Lists {
-        packages,
-        ranges,
-        unions: Vec::new(alloc),
-        favored: None,
-    })
-}
-
-/// The requirement of version set 0, that of version set 1, and that of union 0.
+/// The requirements of the first four version sets, and that of union 0.
 pub(crate) const FIRST: Requirement = Requirement::Single(VersionSetId(0));
 
 pub(crate) const SECOND: Requirement = Requirement::Single(VersionSetId(1));
+
+pub(crate) const THIRD: Requirement = Requirement::Single(VersionSetId(2));
+
+pub(crate) const FOURTH: Requirement = Requirement::Single(VersionSetId(3));
 
 pub(crate) const UNION: Requirement = Requirement::Union(VersionSetUnionId(0));
 
 pub(crate) const UNKNOWN_ID: Wanted = Wanted::Refused(StoreError::UnknownId);
 
-const NOT_LOADED: Wanted = Wanted::Refused(StoreError::NotLoaded);
+pub(crate) const NOT_LOADED: Wanted = Wanted::Refused(StoreError::NotLoaded);
 
 pub(crate) const BAD_LEVEL: Wanted = Wanted::Refused(StoreError::LevelOutOfRange);
 
@@ -219,10 +195,15 @@ pub(crate) const BAD_WATCH: Wanted = Wanted::Refused(StoreError::BadWatch);
 
 pub(crate) const BAD_LEARNT: Wanted = Wanted::Refused(StoreError::BadLearnt);
 
+pub(crate) const NEGATES_PARENT: Wanted = Wanted::Refused(StoreError::NegatesParent);
+
+pub(crate) const BAD_FRACTION: Wanted = Wanted::Refused(StoreError::BadFraction);
+
 pub(crate) const EMPTY_TRAIL: Wanted = Wanted::Refused(StoreError::EmptyTrail);
 
 /// A decision is asked for, taken, undone, and asked for again; then the union is loaded.
 const TWO_PACKAGES: Play = Play {
+    listed: Listed::TwoPackagesInUnion,
     candidates: 2,
     steps: &[
         (Given::Load(FIRST), Wanted::Loaded(&[&[1, 2]])),
@@ -250,6 +231,7 @@ const FIRST_OF_TWO: WantedDecision = WantedDecision {
     candidate: 1,
     parent: 0,
     clause: 0,
+    score: 0,
     count: 2,
 };
 
@@ -257,11 +239,13 @@ const THIRD_ALONE: WantedDecision = WantedDecision {
     candidate: 3,
     parent: 0,
     clause: 1,
+    score: 0,
     count: 1,
 };
 
 /// Refusals, and a clause that becomes falsified.
 const ONE_PACKAGE: Play = Play {
+    listed: Listed::TwoVersions,
     candidates: 2,
     steps: &[
         (Given::Add(Kind::Requires(0, FIRST)), NOT_LOADED),
@@ -288,6 +272,7 @@ const ONE_PACKAGE: Play = Play {
 
 /// The union's decision, also once a candidate is false.
 const SET_TWICE: Play = Play {
+    listed: Listed::TwoVersionsTwice,
     candidates: 2,
     steps: &[
         (Given::Load(UNION), Wanted::Loaded(&[&[1, 2], &[1, 2]])),
@@ -306,6 +291,7 @@ const FIRST_OF_FOUR: WantedDecision = WantedDecision {
     candidate: 1,
     parent: 0,
     clause: 0,
+    score: 0,
     count: 4,
 };
 
@@ -313,12 +299,14 @@ const SECOND_OF_TWO: WantedDecision = WantedDecision {
     candidate: 2,
     parent: 0,
     clause: 0,
+    score: 0,
     count: 2,
 };
 
 /// Assignments are handed out from the oldest on, and taken back from the newest on; one that stands in the place of
 /// another, which was handed out, is handed out again.
 const TRAIL: Play = Play {
+    listed: Listed::TwoPackagesInUnion,
     candidates: 2,
     steps: &[
         (Given::Add(Kind::Root), Wanted::Clause(0)),
@@ -352,6 +340,7 @@ const TRAIL: Play = Play {
 
 /// The levels at both ends of the range, and beyond them.
 const LEVELS: Play = Play {
+    listed: Listed::TwoVersions,
     candidates: 2,
     steps: &[
         (Given::Add(Kind::Root), Wanted::Clause(0)),
@@ -375,6 +364,7 @@ const LEVELS: Play = Play {
 /// Each command that succeeds over one package; a requirement is loaded twice. A watch is moved to a literal that no
 /// clause watches yet, and one to a literal that a clause watches.
 const EACH_COMMAND: Play = Play {
+    listed: Listed::TwoVersions,
     candidates: 2,
     steps: &[
         (Given::Variable(0), Wanted::Variable(1)),
@@ -411,15 +401,25 @@ const EACH_COMMAND: Play = Play {
         (Given::Rewatch(8, (1, true), (4, false)), Wanted::Done),
         (Given::Watchers((1, true)), Wanted::Watchers(&[7, 5, 3, 2])),
         (Given::Watchers((4, false)), Wanted::Watchers(&[8, 3])),
+        (Given::Disjunction(&[(5, false)], 0), Wanted::Disjunction(0)),
+        (
+            Given::Add(Kind::RequiresUnder(3, FIRST, 0)),
+            Wanted::Clause(9),
+        ),
+        (Given::AtMostOnce(0, 1), Wanted::Tracked(true, 0)),
+        (Given::AtMostOnce(0, 2), Wanted::Tracked(true, 2)),
+        (Given::Bump(0, 5), Wanted::Done),
+        (Given::Decay(1, 2), Wanted::Done),
+        (Given::Standard(false), Wanted::Done),
         (Given::Assign(0, true, 1, 3), Wanted::Assigned),
         (Given::Unpropagated, Wanted::Next(Some((0, true, 1)))),
         (Given::Assign(4, true, 3, 4), Wanted::Assigned),
         (
             Given::Add(Kind::ConstrainsParent(2, 4, 0)),
-            Wanted::Conflict(9),
+            Wanted::Conflict(12),
         ),
         (Given::UndoLast, Wanted::TakenBack((4, true, 3), 3)),
-        (Given::Decide, Wanted::Decided(SECOND_OF_TWO)),
+        (Given::Decide, Wanted::Decided(SECOND_AFTER_SCORE)),
     ],
     root: Some(true),
     falsified: None,
@@ -433,6 +433,17 @@ const EACH_COMMAND: Play = Play {
         &[(1, true)],
         &[(3, false), (1, true)],
         &[(1, true), (4, false), (5, false)],
+        &[(3, true), (5, false), (2, false), (1, false)],
+        &[(1, true), (6, true)],
+        &[(2, true), (6, false)],
         &[(2, true), (4, true)],
     ],
+};
+
+const SECOND_AFTER_SCORE: WantedDecision = WantedDecision {
+    candidate: 2,
+    parent: 0,
+    clause: 0,
+    score: 2,
+    count: 2,
 };

@@ -6,7 +6,9 @@ use resolvo_store::{Command, HelperOrigin, Reply};
 use std::alloc::Global;
 use std::process::Abort;
 use std::test::Fail;
-use typed_ids::{NameId, SolvableId, StoreError, VariableId};
+use typed_ids::{
+    ConditionId, DenseIndex, DisjunctionId, NameId, SolvableId, StoreError, VariableId,
+};
 
 /// A command of dense ids.
 type Shown = Command<NameId, SolvableId, Global>;
@@ -53,6 +55,32 @@ fn commands_show_their_operands(rt: HostRuntime) -> Result<(), Fail> {
     shows(&rt, Command::Decide, "Decide")
 }
 
+#[test]
+fn commands_show_conditions_and_scores(rt: HostRuntime) -> Result<(), Fail> {
+    let literals = vec![in rt.alloc(); Literal::new(variable(1), false)]?;
+    let condition = ConditionId::from_index(0);
+    shows(
+        &rt,
+        Command::Disjunction(literals, condition),
+        "Disjunction([Literal(3)], ConditionId(1))",
+    )?;
+    let disjunction = DisjunctionId::from_index(2);
+    shows(
+        &rt,
+        Command::Requires(variable(0), single(3), Some(disjunction)),
+        "Requires(VariableId(1), Single(VersionSetId(3)), Some(DisjunctionId(3)))",
+    )?;
+    let name = NameId::from_raw(2);
+    shows(
+        &rt,
+        Command::AtMostOnce(name, variable(1)),
+        "AtMostOnce(2, VariableId(2))",
+    )?;
+    shows(&rt, Command::Bump(name, 5), "Bump(2, 5)")?;
+    shows(&rt, Command::Decay(19, 20), "Decay(19, 20)")?;
+    shows(&rt, Command::Standard(true), "Standard(true)")
+}
+
 /// The reply's text is this one.
 fn says(rt: &(impl Abort + AllocGlobal), reply: Reply<Global>, text: &str) -> Result<(), Fail> {
     let said = format!(in rt.alloc(); "{reply}")?;
@@ -75,6 +103,14 @@ fn replies_say_variables_and_clauses(rt: HostRuntime) -> Result<(), Fail> {
     says(&rt, Reply::Clause(clause(0), false), "clause 0")?;
     says(&rt, Reply::Clause(clause(2), true), "clause 2 conflict")?;
     says(&rt, Reply::Falsified(clause(1)), "falsified 1")
+}
+
+#[test]
+fn replies_say_disjunctions_and_tracking(rt: HostRuntime) -> Result<(), Fail> {
+    let disjunction = DisjunctionId::from_index(3);
+    says(&rt, Reply::Disjunction(disjunction), "disjunction 3")?;
+    says(&rt, Reply::Tracked(true, 2), "tracked yes 2")?;
+    says(&rt, Reply::Tracked(false, 0), "tracked no 0")
 }
 
 #[test]

@@ -2,8 +2,9 @@
 //! provider, and only two functions name a provider of lists: a proof spells out a provider's traits wherever a call
 //! names it. What is seen is compared once, behind all that is owned.
 use crate::given::{GivenLiteral, Known, commands_of};
+use crate::listed::lists_of;
 use crate::obeys::{Obeys, Seen};
-use crate::script::{Example, Step, clause, lists_of, play_of};
+use crate::script::{Example, Step, clause, play_of};
 use crate::wanted::first_unwanted;
 use plain_providers::{SparseLists, SparseName, SparseSolvable};
 use providers::{DependencyProvider, Interner};
@@ -93,11 +94,16 @@ pub(crate) fn dense_commands<A: Allocator + Copy>(
     example: Example,
 ) -> Result<Vec<Command<NameId, SolvableId, A>, A>, StoreError> {
     let known = Known {
-        name: NameId::from_raw(0),
+        names: [
+            NameId::from_raw(0),
+            NameId::from_raw(1),
+            NameId::from_raw(2),
+        ],
         solvables: [
             SolvableId::from_raw(0),
             SolvableId::from_raw(1),
             SolvableId::from_raw(2),
+            SolvableId::from_raw(3),
         ],
     };
     commands_of(alloc, known, play_of(example).steps)
@@ -109,11 +115,16 @@ pub(crate) fn sparse_commands<A: Allocator + Copy>(
     example: Example,
 ) -> Result<Vec<Command<SparseName, SparseSolvable, A>, A>, StoreError> {
     let known = Known {
-        name: SparseName::from_raw(0),
+        names: [
+            SparseName::from_raw(0),
+            SparseName::from_raw(1),
+            SparseName::from_raw(2),
+        ],
         solvables: [
             SparseSolvable::from_raw(0),
             SparseSolvable::from_raw(1),
             SparseSolvable::from_raw(2),
+            SparseSolvable::from_raw(3),
         ],
     };
     commands_of(alloc, known, play_of(example).steps)

@@ -5,7 +5,7 @@ use decisions::Decision;
 use resolvo_queue::QueueDecision;
 use resolvo_store::Reply;
 use std::alloc::Allocator;
-use typed_ids::{ClauseId, StoreError, VariableId};
+use typed_ids::{ClauseId, DenseIndex, StoreError, VariableId};
 
 /// A reply that is wanted.
 #[derive(Clone, Copy)]
@@ -13,10 +13,13 @@ pub(crate) enum Wanted {
     Variable(u16),
     /// The variables of a requirement's candidates, one list a version set.
     Loaded(&'static [&'static [u16]]),
+    Disjunction(u16),
     /// The clause is added, and is no conflict.
     Clause(u16),
     /// The clause is added, and is a conflict.
     Conflict(u16),
+    /// Whether the variable is new under the name, and how many clauses are added.
+    Tracked(bool, usize),
     Assigned,
     Already,
     Clash,
@@ -39,12 +42,13 @@ pub(crate) enum Wanted {
 /// A variable, its value, and the clause that gave it.
 pub(crate) type WantedAssignment = (u16, bool, u16);
 
-/// A decision that is wanted, where no package has a score.
+/// A decision that is wanted.
 #[derive(Clone, Copy)]
 pub(crate) struct WantedDecision {
     pub(crate) candidate: u16,
     pub(crate) parent: u16,
     pub(crate) clause: u16,
+    pub(crate) score: u64,
     pub(crate) count: usize,
 }
 
@@ -69,6 +73,12 @@ fn is_wanted<A: Allocator>(reply: &Reply<A>, wanted: &Wanted) -> bool {
         }
         (Reply::Clause(given, conflict), Wanted::Conflict(index)) => {
             *given == clause(*index) && *conflict
+        }
+        (Reply::Disjunction(given), Wanted::Disjunction(index)) => {
+            given.to_index() == *index as usize
+        }
+        (Reply::Tracked(new, clauses), Wanted::Tracked(is_new, count)) => {
+            *new == *is_new && *clauses == *count
         }
         (Reply::Assigned, Wanted::Assigned) => true,
         (Reply::Already, Wanted::Already) => true,
@@ -104,7 +114,7 @@ fn is_decision(given: QueueDecision, wanted: WantedDecision) -> bool {
     given.candidate == variable(wanted.candidate)
         && given.required_by == variable(wanted.parent)
         && given.clause_id == clause(wanted.clause)
-        && given.package_activity == 0
+        && given.package_activity == wanted.score
         && given.candidate_count == wanted.count
 }
 

@@ -1,11 +1,13 @@
 //! Examples of what clauses watch. Most ask for the clauses that watch a literal before and after something changes them,
 //! and some once more after all assignments are taken back, which changes none.
 use crate::given::{Given, Helper, Kind};
+use crate::listed::Listed;
 use crate::script::{BAD_LEARNT, BAD_WATCH, FIRST, Play, UNKNOWN_ID};
 use crate::wanted::Wanted;
 
 /// A requires clause watches its parent and the first candidate that isn't false, or the first one where all are.
 pub(crate) const REQUIRES_WATCHES: Play = Play {
+    listed: Listed::TwoPackages,
     candidates: 2,
     steps: &[
         (Given::Add(Kind::Root), Wanted::Clause(0)),
@@ -40,6 +42,7 @@ pub(crate) const REQUIRES_WATCHES: Play = Play {
 /// A clause of two literals watches both; one that has a literal twice watches nothing; and one that is a conflict stands
 /// in the lists like any other.
 pub(crate) const PAIR_WATCHES: Play = Play {
+    listed: Listed::TwoVersions,
     candidates: 2,
     steps: &[
         (Given::Variable(0), Wanted::Variable(1)),
@@ -67,6 +70,7 @@ pub(crate) const PAIR_WATCHES: Play = Play {
 /// A clause that watches another literal leaves the list of the one, whose others keep their order, and goes to the front
 /// of the other's.
 pub(crate) const MOVED_WATCHES: Play = Play {
+    listed: Listed::ThreeVersions,
     candidates: 3,
     steps: &[
         (Given::Variable(0), Wanted::Variable(1)),
@@ -105,6 +109,7 @@ const TO_THE_FOURTH: Kind = Kind::Learnt(&[(1, false), (2, false), (4, false)]);
 
 /// The two literals of a variable have lists of their own.
 pub(crate) const SIGNS_APART: Play = Play {
+    listed: Listed::TwoVersions,
     candidates: 2,
     steps: &[
         (Given::Add(Kind::Root), Wanted::Clause(0)),
@@ -139,6 +144,7 @@ pub(crate) const SIGNS_APART: Play = Play {
 
 /// The clause for a locked solvable watches the root, but not that solvable, which none of its literals names.
 pub(crate) const LOCK_WATCHES: Play = Play {
+    listed: Listed::TwoVersions,
     candidates: 2,
     steps: &[
         (Given::Variable(0), Wanted::Variable(1)),
@@ -156,6 +162,7 @@ pub(crate) const LOCK_WATCHES: Play = Play {
 /// its three literals: a watch that it doesn't have, one that it has already, and one that isn't its own. What is refused
 /// changes no list; what can be moved then is.
 pub(crate) const BAD_WATCHES: Play = Play {
+    listed: Listed::TwoVersions,
     candidates: 2,
     steps: &[
         (Given::Rewatch(0, (0, false), (0, true)), UNKNOWN_ID),

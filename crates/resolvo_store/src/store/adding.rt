@@ -200,7 +200,8 @@ impl<D: DependencyProvider + Drop> ClauseStore<D> {
         self.knows_variable(variable) && self.cache.provider().knows_string(reason)
     }
 
-    fn knows_literals(&self, literals: &[Literal]) -> bool
+    /// Whether the store has the variables of all these literals.
+    pub(super) fn knows_literals(&self, literals: &[Literal]) -> bool
         ensures { result ≡ list_all (knows_literal (⟦<D as AbstractStore>⟧.store self.now)) literals.now }
     {
         let count = self.variables.count();

@@ -1,5 +1,6 @@
 //! The decision: the command `Decide`, and its two halves as calls of their own.
-ghost use Rattle.std.specs.Prelude.{◌≡◌, ◌↔◌, None, All, false, option_map};
+ghost use Rattle.std.specs.Prelude.{◌≡◌, ◌↔◌, None, All, false, option_map, IfOk, IfErr};
+ghost use Rattle.typed_ids.specs.declared.error.StoreError.TheVariants.{OutOfMemory};
 ghost use Rattle.resolvo_queue.specs.Pick.{decided, DecidesUnbeaten};
 ghost use Rattle.resolvo_queue.specs.Scan.{scan};
 
@@ -7,51 +8,72 @@ use crate::abstract_store::AbstractStore;
 use crate::reply::Reply;
 use crate::store::ClauseStore;
 use providers::DependencyProvider;
-use resolvo_queue::QueueDecision;
-use typed_ids::ClauseId;
+use resolvo_queue::{QueueDecision, RowReader};
+use typed_ids::{ClauseId, StoreError};
 
 impl<D: DependencyProvider + Drop> ClauseStore<D> {
-    ghost use Rattle.resolvo_store.specs.Command.{Decide, reply_of, IsRefused};
+    ghost use Rattle.resolvo_store.specs.Command.{Decide, answer_of, reply_of, IsRefused};
     ghost use Rattle.resolvo_store.specs.Outcome.{falsified_clause, is_eligible_clause, offers, picked};
     ghost use Rattle.resolvo_store.specs.Step.{Step};
 
     /// The first falsified clause, else the decision, else that there is none.
-    pub(super) fn decide(&self) -> Reply<D::Alloc>
-        ensures step { Step (⟦<D as AbstractStore>⟧.store self.now) Decide
-            (reply_of result) (⟦<D as AbstractStore>⟧.store self.now) }
-        ensures answered { IsRefused (reply_of result) → ⊥ }
+    pub(super) fn decide(&mut self) -> Result<Reply<D::Alloc>, StoreError>
+        ensures step { Step (⟦<D as AbstractStore>⟧.store self.old) Decide
+            (answer_of result) (⟦<D as AbstractStore>⟧.store self.new) }
+        ensures answered { IfOk result (λ reply. IsRefused (reply_of reply) → ⊥) }
+        ensures provider { self.new.provider ≡ self.old.provider }
     {
         if let Some(clause) = self.falsified() {
-            return Reply::Falsified(clause);
+            return Ok(Reply::Falsified(clause));
         }
         match self.next_decision() {
-            Some(decision) => Reply::Decided(decision),
-            None => Reply::NoDecision,
+            Ok(Some(decision)) => Ok(Reply::Decided(decision)),
+            Ok(None) => Ok(Reply::NoDecision),
+            Err(e) => Err(e),
         }
     }
 
-    /// The first falsified clause of the scan, if there is one: its parent is true, and all its candidates are false.
-    /// Takes no memory; linear in the parents, and in the rows of the clauses of true parents, of each up to the first
-    /// row that isn't false.
+    /// The first falsified clause of the scan, if there is one: its parent is true, its condition is met, and all its
+    /// candidates are false. Takes no memory; linear in the parents, and in the rows of the clauses of true parents, of each
+    /// up to the first row that isn't false.
     pub fn falsified(&self) -> Option<ClauseId>
         ensures { result ≡ option_map (λ c. c.clause_id) (falsified_clause (⟦<D as AbstractStore>⟧.store self.now)) }
     {
-        self.queue
-            .falsified(self.trail.map(), &self.loaded, self.cache.provider())
+        self.queue.falsified(
+            self.trail.map(),
+            &self.loaded,
+            &self.disjunctions,
+            self.cache.provider(),
+        )
     }
 
-    /// The decision that the scan picks, where nothing is falsified: [`ClauseStore::falsified`] is the test. Takes no
-    /// memory; linear in the parents, and in the rows of the clauses of true parents up to the first eligible clause.
-    pub fn next_decision(&self) -> Option<QueueDecision>
-        requires { falsified_clause (⟦<D as AbstractStore>⟧.store self.now) ≡ None }
-        ensures picked { result ≡ option_map decided (picked (⟦<D as AbstractStore>⟧.store self.now)) }
+    /// The decision that the scan picks, where nothing is falsified: [`ClauseStore::falsified`] is the test. It brings the
+    /// queue up to date with the trail, for which it takes memory; nothing changes that a contract can see, also where it
+    /// is refused. Linear in what the trail changed by since the last decision, in the parents, and in the rows of the
+    /// clauses of true parents.
+    pub fn next_decision(&mut self) -> Result<Option<QueueDecision>, StoreError>
+        requires { falsified_clause (⟦<D as AbstractStore>⟧.store self.old) ≡ None }
+        ensures picked { IfOk result (λ decision. decision ≡ option_map decided (picked (⟦<D as AbstractStore>⟧.store self.old))) }
 
         // There is none exactly when no clause of the scan is eligible, and no eligible clause beats it.
-        ensures none { (result ≡ None) ↔
-            All (λ c. is_eligible_clause (⟦<D as AbstractStore>⟧.store self.now) c ≡ false) (scan (⟦<D as AbstractStore>⟧.store self.now).requires) }
-        ensures unbeaten { DecidesUnbeaten (offers (⟦<D as AbstractStore>⟧.store self.now)) result }
+        ensures none { IfOk result (λ decision. (decision ≡ None) ↔
+            All (λ c. is_eligible_clause (⟦<D as AbstractStore>⟧.store self.old) c ≡ false) (scan (⟦<D as AbstractStore>⟧.store self.old).requires)) }
+        ensures unbeaten { IfOk result (DecidesUnbeaten (offers (⟦<D as AbstractStore>⟧.store self.old))) }
+        ensures same { ⟦<D as AbstractStore>⟧.store self.new ≡ ⟦<D as AbstractStore>⟧.store self.old }
+        ensures provider { self.new.provider ≡ self.old.provider }
+        ensures memory { IfErr result (λ e. e ≡ OutOfMemory) }
     {
+        let floor = self.trail.take_sync_floor();
         self.queue
-            .next_decision(self.trail.map(), &self.loaded, self.cache.provider())
+            .sync(floor, self.trail.assignments(), self.trail.map())?;
+        let mut reader = RowReader::new(&self.loaded);
+        self.queue.next_decision(
+            self.trail.map(),
+            &mut reader,
+            &self.disjunctions,
+            self.scores.map(),
+            self.scores.largest(),
+            self.cache.provider(),
+        )
     }
 }

@@ -9,7 +9,6 @@ ghost use Rattle.clauses.specs.ClauseTexts.{clause_text};
 use crate::abstract_store::AbstractStore;
 use crate::store::ClauseStore;
 use decisions::Literal;
-use id_storage::Arena;
 use providers::{DependencyProvider, Interner};
 use typed_ids::{ClauseId, StoreError, VariableId};
 use variables::VariableOrigin;
@@ -51,8 +50,7 @@ impl<D: DependencyProvider + Drop> ClauseStore<D> {
             return Ok(None);
         };
         let learnt = self.clauses.learnt();
-        let disjunctions = Arena::new(self.alloc);
-        let literals = clause.literals(self.alloc, learnt, &self.loaded, &disjunctions)?;
+        let literals = clause.literals(self.alloc, learnt, &self.loaded, &self.disjunctions)?;
         Ok(Some(literals))
     }
 

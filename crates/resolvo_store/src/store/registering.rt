@@ -1,30 +1,66 @@
-//! The command that adds requires clauses.
-ghost use Rattle.std.specs.Prelude.{◌≡◌, ◌-◌, ◌^◌, ◌∷◌, ◌++◌, [], length, false, nat_le, ◌&&◌, is_none, is_some, unwrap_or, map, Err, IsTrue, IfOk, OnOk, OnErr, IfErr};
-ghost use Rattle.typed_ids.specs.Refusals.{IsGrowthRefusal};
-ghost use Rattle.typed_ids.specs.declared.error.StoreError.TheVariants.{IdSpace};
-ghost use Rattle.clauses.specs.Clauses.{first_watches, is_conflict};
+//! The commands that keep conditions' literals and add requires clauses.
+ghost use Rattle.std.specs.Prelude.{◌≡◌, ◌-◌, ◌^◌, ◌∷◌, ◌++◌, [], length, true, false, nat_le, ◌&&◌, is_some, unwrap_or, map, ◌<◌, IsSome, IfSome, All, Err, IsTrue, IfOk, OnOk, OnErr, IfErr};
+ghost use Rattle.std.specs.List.{list_all};
+ghost use Rattle.typed_ids.specs.Refusals.{IsGrowthRefusal, are_ids_out};
+ghost use Rattle.std.specs.Map.{lookup};
+ghost use Rattle.typed_ids.specs.declared.error.StoreError.TheVariants.{IdSpace, OutOfMemory};
+ghost use Rattle.providers.specs.Requirement.{same_requirement};
+ghost use Rattle.providers.specs.Provider.{knows_requirement, sets_of};
+ghost use Rattle.clauses.specs.Clauses.{first_watches, is_conflict, condition_literals};
+ghost use Rattle.clauses.specs.Stored.{kept_in};
 ghost use Rattle.clauses.specs.declared.clause.Clause.TheVariants as Kind;
-ghost use Rattle.watch_map.specs.Watching.{AreTwoOrNone};
+ghost use Rattle.watch_map.specs.Watching.{AreTwoOrNone, is_literal_in};
+ghost use Rattle.resolvo_queue.specs.Queue.{IsRegistered, IsUnchanged, StandsOn};
+ghost use Rattle.resolvo_queue.specs.References.{Lists, references};
 ghost use Rattle.clause_list.specs.ClauseList.{contents, literals_watched, two_or_none, is_full, with_clause};
-ghost use Rattle.resolvo_store.specs.Command.{ClauseIs, reply_of};
+ghost use Rattle.resolvo_store.specs.Command.{DisjunctionIs, ClauseIs, reply_of};
+ghost use Rattle.resolvo_store.specs.Lists.{disjunctions_kept, IsOneMore};
 
 use crate::abstract_store::AbstractStore;
 use crate::reply::Reply;
 use crate::store::ClauseStore;
 use clause_list::ClauseList;
-use clauses::Clause;
+use clauses::{Clause, Disjunction};
+use decisions::Literal;
+use id_storage::Arena;
 use providers::{DependencyProvider, Interner, Requirement};
 use resolvo_queue::DecideQueue;
 use std::alloc::Allocator;
-use typed_ids::{ClauseId, DenseIndex, DisjunctionId, StoreError, VariableId};
+use typed_ids::{
+    ClauseId, ConditionId, DenseIndex, DisjunctionId, StoreError, VariableId, VersionSetId,
+};
 use watch_map::WatchedLiterals;
 
 impl<D: DependencyProvider + Drop> ClauseStore<D> {
-    ghost use Rattle.providers.specs.Provider.{knows_requirement};
-    ghost use Rattle.resolvo_store.specs.Command.{Requires, answer_of, IsRefused};
-    ghost use Rattle.resolvo_store.specs.Refusals.{knows_variable};
-    ghost use Rattle.resolvo_store.specs.Store.{lists_of, values, kept_literals};
+    ghost use Rattle.resolvo_store.specs.Command.{Disjunction as KeepDisjunction, Requires, answer_of, IsRefused};
+    ghost use Rattle.resolvo_store.specs.Refusals.{knows_variable, knows_literal, knows_disjunction, negates_parent};
+    ghost use Rattle.resolvo_store.specs.Store.{lists_of, values, kept_literals, condition_of};
     ghost use Rattle.resolvo_store.specs.Step.{Step};
+
+    /// Keeps the literals of a condition.
+    pub(super) fn disjunction(
+        &mut self,
+        literals: &[Literal],
+        condition: ConditionId,
+    ) -> Result<Reply<D::Alloc>, StoreError>
+        ensures step { Step (⟦<D as AbstractStore>⟧.store self.old) (KeepDisjunction literals.now condition)
+            (answer_of result) (⟦<D as AbstractStore>⟧.store self.new) }
+        ensures answered { IfOk result (λ reply. IsRefused (reply_of reply) → ⊥) }
+        ensures provider { self.new.provider ≡ self.old.provider }
+    {
+        if !self.knows_parts(literals, condition) {
+            return Err(StoreError::UnknownId);
+        }
+        keep_disjunction(self.alloc, &mut self.disjunctions, literals, condition)
+    }
+
+    /// Whether the variables of the literals are the store's, and the provider knows the condition.
+    fn knows_parts(&self, literals: &[Literal], condition: ConditionId) -> bool
+        ensures { result ≡ (list_all (knows_literal (⟦<D as AbstractStore>⟧.store self.now)) literals.now
+            && (D.universe self.now.provider).knows_condition condition) }
+    {
+        self.knows_literals(literals) && self.cache.provider().knows_condition(condition)
+    }
 
     /// Adds a requires clause, and registers it.
     pub(super) fn requires_clause(
@@ -44,22 +80,33 @@ impl<D: DependencyProvider + Drop> ClauseStore<D> {
         if !self.is_loaded(requirement) {
             return Err(StoreError::NotLoaded);
         }
+        if self.negates_parent(parent, &disjunction) {
+            return Err(StoreError::NegatesParent);
+        }
         if self.is_queue_full() {
             return Err(StoreError::TooManyClauses);
         }
-        let (watches, conflict, clause) = self.clause_of(parent, requirement, disjunction);
-        register(
-            &mut self.clauses,
-            &mut self.queue,
+        let (watches, conflict, clause) = self.clause_of(parent, requirement, &disjunction);
+        let required = Required {
             parent,
             requirement,
+            condition: disjunction,
+            parent_value: self.trail.assigned_value(parent),
+        };
+        register(
+            self.alloc,
+            &mut self.clauses,
+            &mut self.queue,
+            &self.disjunctions,
+            self.cache.provider(),
+            &required,
             clause,
             watches,
             conflict,
         )
     }
 
-    /// Whether all that a requires clause names is known. No disjunction is kept yet.
+    /// Whether all that a requires clause names is known.
     fn knows_required(
         &self,
         parent: VariableId,
@@ -67,10 +114,35 @@ impl<D: DependencyProvider + Drop> ClauseStore<D> {
         disjunction: &Option<DisjunctionId>,
     ) -> bool
         ensures { result ≡ (knows_variable (⟦<D as AbstractStore>⟧.store self.now) parent
-            && (knows_requirement (D.universe self.now.provider) requirement && is_none disjunction.now)) }
+            && (knows_requirement (D.universe self.now.provider) requirement && knows_disjunction (⟦<D as AbstractStore>⟧.store self.now) disjunction.now)) }
     {
         self.knows_variable(parent)
-            && (self.knows_requirement(requirement) && disjunction.is_none())
+            && (self.knows_requirement(requirement) && self.knows_disjunction(disjunction))
+    }
+
+    /// Whether the disjunction, if there is one, is kept.
+    #[tactic(auto, using(crate::proofs::ListLemmas::length_disjunctions))]
+    fn knows_disjunction(&self, disjunction: &Option<DisjunctionId>) -> bool
+        ensures { result ≡ knows_disjunction (⟦<D as AbstractStore>⟧.store self.now) disjunction.now }
+    {
+        match *disjunction {
+            Some(id) => id.to_index() < self.disjunctions.len(),
+            None => true,
+        }
+    }
+
+    /// The literals of a condition, none without one.
+    fn condition(&self, disjunction: &Option<DisjunctionId>) -> &[Literal]
+        ensures { result.now ≡ condition_of (⟦<D as AbstractStore>⟧.store self.now) disjunction.now }
+    {
+        literals_of(&self.disjunctions, disjunction)
+    }
+
+    /// Whether the parent's negative literal is among those of the condition.
+    fn negates_parent(&self, parent: VariableId, disjunction: &Option<DisjunctionId>) -> bool
+        ensures { result ≡ negates_parent (⟦<D as AbstractStore>⟧.store self.now) parent disjunction.now }
+    {
+        has_literal(self.condition(disjunction), Literal::new(parent, true))
     }
 
     /// Whether as many clauses are registered as there may be.
@@ -111,51 +183,158 @@ impl<D: DependencyProvider + Drop> ClauseStore<D> {
         &self,
         parent: VariableId,
         requirement: Requirement,
-        disjunction: Option<DisjunctionId>,
+        disjunction: &Option<DisjunctionId>,
     ) -> (Option<WatchedLiterals>, bool, Clause<D::NameId>)
-        ensures clause { result.2 ≡ Kind.Requires parent disjunction requirement }
+        ensures clause { result.2 ≡ Kind.Requires parent disjunction.now requirement }
         ensures watches { let st = ⟦<D as AbstractStore>⟧.store self.now in
             literals_watched result.0 ≡ first_watches (kept_literals st) (values st) result.2 }
         ensures conflict { let st = ⟦<D as AbstractStore>⟧.store self.now in
             result.1 ≡ is_conflict (kept_literals st) (values st) result.2 }
     {
         let lists = self.candidates(requirement);
+        let literals = self.condition(disjunction);
         WatchedLiterals::requires_of_lists(
             parent,
             requirement,
             lists,
-            disjunction,
-            &[],
+            *disjunction,
+            literals,
             &self.trail,
         )
     }
 }
 
-/// Registers the clause under the next id, and adds it; the reply says whether it is a conflict. The room for it is made
-/// first.
-fn register<N: Copy, A: Allocator + Copy>(
-    clauses: &mut ClauseList<N, A>,
-    queue: &mut DecideQueue<A>,
+/// Keeps one disjunction more, and answers its id. Takes memory for a copy of the literals, and where there is no room left.
+fn keep_disjunction<A: Allocator + Copy>(
+    alloc: A,
+    disjunctions: &mut Arena<DisjunctionId, Disjunction<A>, A>,
+    literals: &[Literal],
+    condition: ConditionId,
+) -> Result<Reply<A>, StoreError>
+    ensures reply { IfOk result (λ reply. reply_of reply ≡ DisjunctionIs (length (disjunctions_kept disjunctions.old))) }
+    ensures ok { OnOk result (disjunctions_kept disjunctions.new ≡
+        disjunctions_kept disjunctions.old ++ record { literals = literals.now; condition = condition } ∷ []) }
+    ensures more { OnOk result (IsOneMore disjunctions.old disjunctions.new) }
+    ensures err { OnErr result (disjunctions.new ≡ disjunctions.old) }
+    ensures refused { IfErr result (IsGrowthRefusal (are_ids_out (2 ^ 32 - 1) (length (disjunctions_kept disjunctions.old)))) }
+    ensures ids_out { IsTrue (are_ids_out (2 ^ 32 - 1) (length (disjunctions_kept disjunctions.old))) → result ≡ Err IdSpace }
+{
+    if !DisjunctionId::in_range(disjunctions.len()) {
+        return Err(StoreError::IdSpace);
+    }
+    let literals = Vec::from_slice(alloc, literals)?;
+    let id = disjunctions.alloc(Disjunction {
+        literals,
+        condition,
+    })?;
+    Ok(Reply::Disjunction(id))
+}
+
+/// What a requires clause is registered with.
+#[derive(Clone, Copy)]
+struct Required {
     parent: VariableId,
     requirement: Requirement,
-    clause: Clause<N>,
+    condition: Option<DisjunctionId>,
+    parent_value: Option<bool>,
+}
+
+/// Registers the clause under the next id, and adds it; the reply says whether it is a conflict. The room for it is made
+/// first.
+fn register<D: DependencyProvider + Drop>(
+    alloc: D::Alloc,
+    clauses: &mut ClauseList<D::NameId, D::Alloc>,
+    queue: &mut DecideQueue<D>,
+    disjunctions: &Arena<DisjunctionId, Disjunction<D::Alloc>, D::Alloc>,
+    provider: &D,
+    required: &Required,
+    clause: Clause<D::NameId>,
     watches: Option<WatchedLiterals>,
     conflict: bool,
-) -> Result<Reply<A>, StoreError>
-    requires few { nat_le (2 ^ 32 - 1) (length queue.old) ≡ false }
+) -> Result<Reply<D::Alloc>, StoreError>
+    requires known { knows_requirement (D.universe provider.now) required.now.requirement ≡ true }
+    requires kept { IfSome required.now.condition (λ d. d < length disjunctions.now) }
+    requires few { nat_le (2 ^ 32 - 1) (length queue.old.clauses) ≡ false }
     requires two { AreTwoOrNone (two_or_none (literals_watched watches)) }
     ensures reply { IfOk result (λ reply. reply_of reply ≡ ClauseIs (length (contents clauses.old).clauses) conflict) }
     ensures added { OnOk result (contents clauses.new ≡ with_clause (contents clauses.old) clause (literals_watched watches)) }
-    ensures registered { OnOk result (queue.new ≡ queue.old ++
-        (record { parent = parent; requirement = requirement; clause_id = length (contents clauses.old).clauses }) ∷ []) }
+    ensures registered { OnOk result (IsRegistered D.NameId.Set.has
+        (record { parent = required.now.parent; requirement = required.now.requirement; condition = required.now.condition; clause_id = length (contents clauses.old).clauses })
+        (map (D.universe provider.now).set_name (sets_of (D.universe provider.now) required.now.requirement)) required.now.parent_value queue.old queue.new) }
     ensures unadded { OnErr result (contents clauses.new ≡ contents clauses.old) }
-    ensures unregistered { OnErr result (queue.new ≡ queue.old) }
+    ensures unregistered { OnErr result (IsUnchanged queue.old queue.new D.NameId.Set.has) }
+    ensures stands { (lists : Lists D.Alloc) → IsSome (lookup (same_requirement required.now.requirement) lists) →
+        StandsOn (references (D.universe provider.now) lists disjunctions.now) queue.old →
+        StandsOn (references (D.universe provider.now) lists disjunctions.now) queue.new }
     ensures refused { IfErr result (IsGrowthRefusal (is_full (contents clauses.old))) }
     ensures ids_out { IsTrue (is_full (contents clauses.old)) → result ≡ Err IdSpace }
 {
     clauses.make_room(&watches)?;
+    let names = package_names(alloc, provider, required.requirement)?;
     let next_id = ClauseId::from_index(clauses.len());
-    queue.register_clause(parent, requirement, next_id)?;
+    queue.register_clause(
+        required.parent,
+        required.requirement,
+        required.condition,
+        next_id,
+        names.as_slice(),
+        disjunctions,
+        required.parent_value,
+    )?;
     let id = clauses.push_reserved(clause, watches);
     Ok(Reply::Clause(id, conflict))
+}
+
+/// The packages of a requirement's version sets, in order.
+fn package_names<D: DependencyProvider>(
+    alloc: D::Alloc,
+    provider: &D,
+    requirement: Requirement,
+) -> Result<Vec<D::NameId, D::Alloc>, StoreError>
+    requires { knows_requirement (D.universe provider.now) requirement ≡ true }
+    ensures ok { IfOk result (λ names. names.items ≡ map (D.universe provider.now).set_name (sets_of (D.universe provider.now) requirement)) }
+    ensures memory { IfErr result (λ e. e ≡ OutOfMemory) }
+{
+    names_of_sets(
+        alloc,
+        provider,
+        requirement.version_sets(provider).as_slice(),
+    )
+}
+
+/// The packages of version sets.
+fn names_of_sets<D: DependencyProvider>(
+    alloc: D::Alloc,
+    provider: &D,
+    sets: &[VersionSetId],
+) -> Result<Vec<D::NameId, D::Alloc>, StoreError>
+    requires { All (λ v. (D.universe provider.now).knows_set v ≡ true) sets.now }
+    ensures ok { IfOk result (λ names. names.items ≡ map (D.universe provider.now).set_name sets.now) }
+    ensures memory { IfErr result (λ e. e ≡ OutOfMemory) }
+{
+    let mut names = Vec::with_capacity(alloc, sets.len())?;
+    for set in sets {
+        names.push(provider.version_set_name(*set))?;
+    }
+    Ok(names)
+}
+
+/// The literals of a disjunction, none without one.
+fn literals_of<'d, A: Allocator + Copy>(
+    disjunctions: &'d Arena<DisjunctionId, Disjunction<A>, A>,
+    disjunction: &Option<DisjunctionId>,
+) -> &'d [Literal]
+    ensures { result.now ≡ condition_literals (kept_in [] [] disjunctions.now) disjunction.now }
+{
+    match *disjunction {
+        Some(id) if id.to_index() < disjunctions.len() => disjunctions[id].literals.as_slice(),
+        _ => &[],
+    }
+}
+
+/// Whether the literal is one of these.
+fn has_literal(literals: &[Literal], literal: Literal) -> bool
+    ensures { result ≡ is_literal_in literal literals.now }
+{
+    literals.iter().any(|other| literal == *other)
 }

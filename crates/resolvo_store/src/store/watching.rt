@@ -7,7 +7,6 @@ use crate::abstract_store::AbstractStore;
 use crate::reply::Reply;
 use crate::store::ClauseStore;
 use decisions::Literal;
-use id_storage::Arena;
 use providers::DependencyProvider;
 use typed_ids::{ClauseId, DenseIndex, StoreError};
 
@@ -69,11 +68,10 @@ impl<D: DependencyProvider + Drop> ClauseStore<D> {
             return false;
         };
         let learnt = self.clauses.learnt();
-        let disjunctions = Arena::new(self.alloc);
         let found = clause.find_literal(
             learnt,
             &self.loaded,
-            &disjunctions,
+            &self.disjunctions,
             |other: Literal| -> bool
                 ensures { result ≡ same_literal literal other }
             { literal == other },

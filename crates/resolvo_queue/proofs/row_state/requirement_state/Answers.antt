@@ -6,7 +6,7 @@ use Rattle.resolvo_queue.proofs.row_state.requirement_state.Goals as goal
 pub rows_state-requires : goal.rows_state-requires
 rows_state-requires g c =
     few_kept c.deref.result.now c.in-Some.lists.now c.args.lists.now c.args.requirement c.deref.ensures.value c.in-Some.ensures
-    (c.requires.few c.args.requirement)
+    c.requires.few
 
 pub returns-in-None : goal.returns-in-None
 returns-in-None g c =

@@ -7,8 +7,9 @@ use Rattle.resolvo_store.specs.Command.{Exclude}
 use Rattle.resolvo_store.specs.Refusals.{knows_variable}
 use Rattle.resolvo_store.specs.Outcome.{adds_clause}
 use Rattle.resolvo_store.specs.Store.{Provider, store_of, gathered, kept_literals, values}
+use Rattle.resolvo_store.proofs.CallerLaws.{store_in}
 use Rattle.resolvo_store.proofs.AddingLemmas.{step_added, first_if_known}
-use Rattle.resolvo_store.proofs.InvariantLemmas.{after_plain, store_with}
+use Rattle.resolvo_store.proofs.InvariantLemmas.{after_plain}
 use Rattle.resolvo_store.proofs.WatchLaws.{two_if_first}
 use Rattle.resolvo_store.proofs.KnownLemmas.{known_excluded}
 use Rattle.resolvo_store.proofs.store.ClauseStore.exclude.Given.{Over}
@@ -21,25 +22,22 @@ given g = gathered g.D.NameId.PartialEq.eq g.D.SolvableId.PartialEq.eq g.D.NameI
 
 pub add_clause-requires : goal.add_clause-requires
 add_clause-requires g c =
-    let inside = c.self.inside in
-    let st = store_with (given g) (contents inside.clauses) inside.queue inside.trail inside.cache.provider inside.variables inside.loaded in
+    let st = store_in c.self.invariant.sound in
     two_if_first (kept_literals st) (values st) c.exclude-watches.result.1 (ap literals_watched c.exclude-watches.ensures.watches ∙ ap (first_watches (kept_literals st) (values st)) (sym c.exclude-watches.ensures.clause))
 
 pub invariant_of-self : goal.invariant_of-self
 invariant_of-self g c =
-    let inside = c.self.inside in
-    let st = store_with (given g) (contents inside.clauses) inside.queue inside.trail inside.cache.provider inside.variables inside.loaded in
+    let st = store_in c.self.invariant.sound in
     let made = c.exclude-watches.result in
-    let test = subst (λ k. let s = store_of (given g) k in (knows_variable s c.args.variable && s.provider.universe.knows_string c.args.reason) ≡ true) (sym c.self.view_is) (sym c.knows_excluded.ensures ∙ c.if-not-knows_excluded.false) in
+    let test = subst (λ k. let s = store_of (given g) g.D.NameId.Scores.IdMap.value_at k in (knows_variable s c.args.variable && s.provider.universe.knows_string c.args.reason) ≡ true) (sym c.self.view_is) (sym c.knows_excluded.ensures ∙ c.if-not-knows_excluded.false) in
     after_plain c.self.invariant made.1 (Kind.Excluded c.args.variable c.args.reason) (literals_watched made.0) c.add_clause.result (ap literals_watched c.exclude-watches.ensures.watches ∙ ap (first_watches (kept_literals st) (values st)) (sym c.exclude-watches.ensures.clause)) c.exclude-watches.ensures.clause
-    (known_excluded (g.D.Interner.universe c.self.inside.cache.provider) c.self.inside.variables c.self.invariant.sound.origins_known c.args.variable _ test) (record { unregistered = λ id. refl }) c.add_clause.ensures.ok c.add_clause.ensures.err
+    (known_excluded (g.D.Interner.universe c.self.inside.cache.provider) c.self.inside.variables c.self.invariant.sound.origins_known c.args.variable _ test) (record { unregistered = λ id. refl; untracked = λ named. refl }) c.add_clause.ensures.ok c.add_clause.ensures.err
 
 pub returns-clause-step : goal.returns-clause-step
 returns-clause-step g c =
-    let inside = c.self.inside in
-    let st = store_with (given g) (contents inside.clauses) inside.queue inside.trail inside.cache.provider inside.variables inside.loaded in
+    let st = store_in c.self.invariant.sound in
     let made = c.exclude-watches.result in
-    step_added (given g) (Exclude c.args.variable c.args.reason) made.1 (literals_watched made.0) false c.add_clause.result (contents c.add_clause.new.clauses) c.self.view_is
-    (first_if_known (store_of (given g) c.args.self.now) _ (sym c.knows_excluded.ensures ∙ c.if-not-knows_excluded.false)) refl refl (ap (adds_clause st) c.exclude-watches.ensures.clause)
+    step_added (given g) g.D.NameId.Scores.IdMap.value_at (Exclude c.args.variable c.args.reason) made.1 (literals_watched made.0) false c.add_clause.result (contents c.add_clause.new.clauses) c.self.view_is
+    (first_if_known (store_of (given g) g.D.NameId.Scores.IdMap.value_at c.args.self.now) _ (sym c.knows_excluded.ensures ∙ c.if-not-knows_excluded.false)) refl refl (ap (adds_clause st) c.exclude-watches.ensures.clause)
     (ap literals_watched c.exclude-watches.ensures.watches ∙ ap (first_watches (kept_literals st) (values st)) (sym c.exclude-watches.ensures.clause)) (ap (is_conflict (kept_literals st) (values st)) (sym c.exclude-watches.ensures.clause))
     c.add_clause.ensures.reply c.add_clause.ensures.ok c.add_clause.ensures.err c.add_clause.ensures.refused c.add_clause.ensures.ids_out

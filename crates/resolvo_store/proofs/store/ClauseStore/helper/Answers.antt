@@ -14,12 +14,12 @@ given g = gathered g.D.NameId.PartialEq.eq g.D.SolvableId.PartialEq.eq g.D.NameI
 
 pub invariant_of-self : goal.invariant_of-self
 invariant_of-self g c =
-    let known = subst (λ k. knows_helper (store_of (given g) k) c.args.origin ≡ true) (sym c.self.view_is) (sym c.knows_helper.ensures ∙ c.if-not-knows_helper.false) in
+    let known = subst (λ k. knows_helper (store_of (given g) g.D.NameId.Scores.IdMap.value_at k) c.args.origin ≡ true) (sym c.self.view_is) (sym c.knows_helper.ensures ∙ c.if-not-knows_helper.false) in
     after_origins c.self.invariant (c.self.inside.variables ++ helper_origin c.args.origin ∷ []) c.alloc_helper.result
     (IsSound-helper _ c.self.invariant.sound c.args.origin known) c.alloc_helper.ensures.ok c.alloc_helper.ensures.err
 
 pub invariant_of-self-2 : goal.invariant_of-self-2
 invariant_of-self-2 g c =
-    let known = subst (λ k. knows_helper (store_of (given g) k) c.args.origin ≡ true) (sym c.self.view_is) (sym c.knows_helper.ensures ∙ c.if-not-knows_helper.false) in
+    let known = subst (λ k. knows_helper (store_of (given g) g.D.NameId.Scores.IdMap.value_at k) c.args.origin ≡ true) (sym c.self.view_is) (sym c.knows_helper.ensures ∙ c.if-not-knows_helper.false) in
     after_origins c.self.invariant (c.self.inside.variables ++ helper_origin c.args.origin ∷ []) c.alloc_helper.result
     (IsSound-helper _ c.self.invariant.sound c.args.origin known) c.alloc_helper.ensures.ok c.alloc_helper.ensures.err

@@ -8,13 +8,13 @@ use Rattle.providers.specs.Provider.{sets_of}
 use Rattle.variables.specs.Variables.{interned_variable}
 use Rattle.solver_cache.specs.Cache.{sorted_of_set, sorted_of}
 use Rattle.solver_cache.proofs.CacheLemmas.{handed_on}
-use Rattle.clause_list.specs.ClauseList.{contents}
 use Rattle.resolvo_store.specs.Command.{Load}
 use Rattle.resolvo_store.specs.Lists.{lists_kept, IsConsistent}
 use Rattle.resolvo_store.specs.Outcome.{origins_loaded, variables_loaded}
 use Rattle.resolvo_store.specs.Step.{lacks_ids, may_be_refused}
 use Rattle.resolvo_store.specs.Store.{Store, Provider, Kept, store_of, gathered}
 use Rattle.resolvo_store.proofs.InvariantLemmas.{after_variables, after_load, store_with}
+use Rattle.resolvo_store.proofs.CallerLaws.{store_in, left_of}
 use Rattle.resolvo_store.proofs.KnownLemmas.{IsLawful, IsKnownSolvable, all_known}
 use Rattle.resolvo_store.proofs.ListLemmas.{insert-kept, items_of, items-cloned}
 use Rattle.resolvo_store.proofs.LoadingLemmas.{lacks_nothing, load_refused}
@@ -31,13 +31,14 @@ abbrev lawful : (g : Over) (p : g.row.D.Denot) → IsLawful (given g p)
 lawful g p = record {
   reflexive = g.met.D.SolvableId.Eq.laws.refl;
   same = g.met.D.SolvableId.SameValue.same;
+  same_names = g.met.D.NameId.SameValue.same;
   candidates = g.met.D.DependencyProvider.candidates_known p;
   order = g.met.D.DependencyProvider.order_permutes p;
 }
 
 -- the abstract store
-abbrev store : (g : Over) → Kept g.row.D.Denot g.row.D-NameId.Denot g.row.D-SolvableId.Denot → Store g.row.D-NameId.Denot g.row.D-SolvableId.Denot
-store g = store_of (given g)
+abbrev store : (g : Over) → Kept g.row.D.Denot g.row.D-NameId.Denot g.row.D-SolvableId.Denot g.row.D-NameId-Scores.Denot → Store g.row.D-NameId.Denot g.row.D-SolvableId.Denot
+store g = store_of (given g) g.D.NameId.Scores.IdMap.value_at
 
 -- the candidates of a requirement are known
 candidates_known : (g : Over) (p : g.row.D.Denot) (r : Requirement) → All (IsKnownSolvable (g.D.Interner.universe p)) (sorted_of (given g p) r)
@@ -48,7 +49,7 @@ pub invariant_of-self : goal.invariant_of-self
 invariant_of-self g c =
     let inside = c.self.inside in
     let got = c.in_err-lists.ensures.err in
-    after_variables (given g) g.D.SolvableId.Set.IdSet.has inside.variables inside.loaded (contents inside.clauses) inside.queue inside.trail inside.cache c.load_lists.new.cache c.in_err-lists.ensures.later
+    after_variables (given g) g.D.NameId.Scores.IdMap.value_at g.D.SolvableId.Set.IdSet.has g.D.NameId.Set.IdSet.has (left_of c.self.view_is) inside.variables inside.loaded inside.disjunctions inside.queue inside.trail inside.cache c.load_lists.new.cache c.in_err-lists.ensures.later
     c.self.invariant (lawful g inside.cache.provider) (take got.0 (sorted_of (given g inside.cache.provider) c.args.requirement)) c.load_lists.new.variables
     (All-take (IsKnownSolvable (g.D.Interner.universe inside.cache.provider)) got.0 _ (candidates_known g inside.cache.provider c.args.requirement)) got.1
 
@@ -56,7 +57,7 @@ invariant_of-self g c =
 pub invariant_of-self-in_err-reply : goal.invariant_of-self-in_err-reply
 invariant_of-self-in_err-reply g c =
     let inside = c.self.inside in
-    after_variables (given g) g.D.SolvableId.Set.IdSet.has inside.variables inside.loaded (contents inside.clauses) inside.queue inside.trail inside.cache c.load_lists.new.cache c.in_ok-lists.ensures.later
+    after_variables (given g) g.D.NameId.Scores.IdMap.value_at g.D.SolvableId.Set.IdSet.has g.D.NameId.Set.IdSet.has (left_of c.self.view_is) inside.variables inside.loaded inside.disjunctions inside.queue inside.trail inside.cache c.load_lists.new.cache c.in_ok-lists.ensures.later
     c.self.invariant (lawful g inside.cache.provider) (sorted_of (given g inside.cache.provider) c.args.requirement) c.load_lists.new.variables
     (candidates_known g inside.cache.provider c.args.requirement) c.in_ok-lists.ensures.ok
 
@@ -64,8 +65,8 @@ pub invariant_of-self-in_err-insert : goal.invariant_of-self-in_err-insert
 invariant_of-self-in_err-insert g c =
     let inside = c.self.inside in
     let new = c.load_lists.new.cache in
-    subst (λ kept. IsConsistent (store_with (given g) (contents inside.clauses) inside.queue inside.trail new.provider c.load_lists.new.variables kept) kept new) (sym c.in_err-insert.ensures.err.1)
-    (after_variables (given g) g.D.SolvableId.Set.IdSet.has inside.variables inside.loaded (contents inside.clauses) inside.queue inside.trail inside.cache new c.in_ok-lists.ensures.later
+    subst (λ kept. IsConsistent g.D.NameId.Set.IdSet.has (store_with (given g) g.D.NameId.Scores.IdMap.value_at (left_of c.self.view_is) new.provider c.load_lists.new.variables kept) kept inside.disjunctions new inside.queue inside.trail) (sym c.in_err-insert.ensures.err.1)
+    (after_variables (given g) g.D.NameId.Scores.IdMap.value_at g.D.SolvableId.Set.IdSet.has g.D.NameId.Set.IdSet.has (left_of c.self.view_is) inside.variables inside.loaded inside.disjunctions inside.queue inside.trail inside.cache new c.in_ok-lists.ensures.later
     c.self.invariant (lawful g inside.cache.provider) (sorted_of (given g inside.cache.provider) c.args.requirement) c.load_lists.new.variables
     (candidates_known g inside.cache.provider c.args.requirement) c.in_ok-lists.ensures.ok)
 
@@ -76,7 +77,7 @@ invariant_of-self-2 g c =
     let r = c.args.requirement in
     let fresh : lookup (same_requirement r) (lists_kept inside.loaded) ≡ None =
     subst (λ kept. lookup (same_requirement r) kept.loaded ≡ None) (sym c.self.view_is) c.requires.new in
-    after_load (given g) g.D.SolvableId.Set.IdSet.has inside.variables inside.loaded (contents inside.clauses) inside.queue inside.trail inside.cache c.load_lists.new.cache c.in_ok-lists.ensures.later
+    after_load (given g) g.D.NameId.Scores.IdMap.value_at g.D.SolvableId.Set.IdSet.has g.D.NameId.Set.IdSet.has (left_of c.self.view_is) inside.variables inside.loaded inside.disjunctions inside.queue inside.trail inside.cache c.load_lists.new.cache c.in_ok-lists.ensures.later
     c.self.invariant (lawful g inside.cache.provider) r (sorted_of_set (given g inside.cache.provider)) c.load_lists.new.variables c.in_ok-lists.lists c.insert.new.self
     (candidates_known g inside.cache.provider r) fresh c.in_ok-lists.ensures.ok c.in_ok-lists.ensures.lists c.in_ok-lists.ensures.few c.in_ok-lists.ensures.asked c.in_ok-insert.ensures.ok
 
@@ -100,21 +101,22 @@ returns-clause-ok g c =
     let loaded : lists_kept c.insert.new.self ≡ lists_kept inside.loaded ++ (r, lists) ∷ [] =
     ap lists_kept c.in_ok-insert.ensures.ok ∙ insert-kept inside.loaded r c.in_ok-lists.lists fresh
     ∙ ap (λ ls. lists_kept inside.loaded ++ (r, ls) ∷ []) (sym (items-cloned c.in_ok-lists.lists.items c.in_ok-reply.reply.items c.in_ok-reply.ensures.cases.0)) in
-    let Made : Kept g.row.D.Denot g.row.D-NameId.Denot g.row.D-SolvableId.Denot → Type 0 = λ kept.
-    ◌≡◌ {A = Kept g.row.D.Denot g.row.D-NameId.Denot g.row.D-SolvableId.Denot}
-    (record { provider = new.provider; origins = c.load_lists.new.variables; loaded = lists_kept c.insert.new.self; learnt = inside.clauses.learnt; clauses = inside.clauses.clauses; records = inside.clauses.records; lists = inside.clauses.lists; requires = inside.queue; trail = inside.trail.entries; place = inside.trail.place })
+    let was = left_of c.self.view_is in
+    let Made : Kept g.row.D.Denot g.row.D-NameId.Denot g.row.D-SolvableId.Denot g.row.D-NameId-Scores.Denot → Type 0 = λ kept.
+    ◌≡◌ {A = Kept g.row.D.Denot g.row.D-NameId.Denot g.row.D-SolvableId.Denot g.row.D-NameId-Scores.Denot}
+    (record was { provider = new.provider; origins = c.load_lists.new.variables; loaded = lists_kept c.insert.new.self })
     (record kept { origins = origins_loaded (store g kept) r; loaded = kept.loaded ++ (r, lists) ∷ [] }) in
     subst Made c.self.view_is
-    (ap (λ q. record { provider = q; origins = c.load_lists.new.variables; loaded = lists_kept c.insert.new.self; learnt = inside.clauses.learnt; clauses = inside.clauses.clauses; records = inside.clauses.records; lists = inside.clauses.lists; requires = inside.queue; trail = inside.trail.entries; place = inside.trail.place }) c.in_ok-lists.ensures.later.provider
-    ∙ ap (λ os. record { provider = inside.cache.provider; origins = os; loaded = lists_kept c.insert.new.self; learnt = inside.clauses.learnt; clauses = inside.clauses.clauses; records = inside.clauses.records; lists = inside.clauses.lists; requires = inside.queue; trail = inside.trail.entries; place = inside.trail.place }) c.in_ok-lists.ensures.ok
-    ∙ ap (λ ls. record { provider = inside.cache.provider; origins = origins_loaded (store_with (given g) (contents inside.clauses) inside.queue inside.trail inside.cache.provider inside.variables inside.loaded) r; loaded = ls; learnt = inside.clauses.learnt; clauses = inside.clauses.clauses; records = inside.clauses.records; lists = inside.clauses.lists; requires = inside.queue; trail = inside.trail.entries; place = inside.trail.place }) loaded)
+    (ap (λ q. record was { provider = q; origins = c.load_lists.new.variables; loaded = lists_kept c.insert.new.self }) c.in_ok-lists.ensures.later.provider
+    ∙ ap (λ os. record was { origins = os; loaded = lists_kept c.insert.new.self }) c.in_ok-lists.ensures.ok
+    ∙ ap (λ ls. record was { origins = origins_loaded (store_in c.self.invariant.sound) r; loaded = ls }) loaded)
 
 pub returns-clause-fit : goal.returns-clause-fit
 returns-clause-fit g c =
     let inside = c.self.inside in
     let r = c.args.requirement in
     subst (λ kept. lacks_ids (store g kept) (Load r) ≡ false) c.self.view_is
-    (lacks_nothing (store_with (given g) (contents inside.clauses) inside.queue inside.trail inside.cache.provider inside.variables inside.loaded) r c.in_ok-lists.ensures.names_fit
+    (lacks_nothing (store_in c.self.invariant.sound) r c.in_ok-lists.ensures.names_fit
     c.in_ok-lists.ensures.few c.in_ok-lists.ensures.fit)
 
 pub returns-in_err-lists-clause-refused : goal.returns-in_err-lists-clause-refused
@@ -126,5 +128,5 @@ returns-in_err-lists-clause-refused g c =
     subst (λ kept. lookup (same_requirement r) kept.loaded ≡ None) (sym c.self.view_is) c.requires.new in
     handed_on _ c.from_residual.result e c.from_residual.ensures.1
     (subst (λ kept. may_be_refused (store g kept) (Load r) e ≡ true) c.self.view_is
-    (load_refused (store_with (given g) (contents inside.clauses) inside.queue inside.trail inside.cache.provider inside.variables inside.loaded) r inside.cache c.load_lists.new.cache
+    (load_refused (store_in c.self.invariant.sound) r inside.cache c.load_lists.new.cache
     g.met.D.NameId.SameValue.same c.self.invariant.asked fresh e c.in_err-lists.ensures.refused))

@@ -19,6 +19,6 @@ invariant_of-self g c = after_learnt c.self.invariant c.args.literals.now c.lear
 
 pub returns-clause-step : goal.returns-clause-step
 returns-clause-step g c =
-    step_learnt (given g) c.args.literals.now c.learn_clause.result (contents c.learn_clause.new.clauses) c.self.view_is
-    (first_of_learnt (store_of (given g) c.args.self.now) c.args.literals.now (sym c.knows_literals.ensures ∙ c.if-not-knows_literals.false) (sym c.is_bad_learnt.ensures ∙ c.if-is_bad_learnt.false))
+    step_learnt (given g) g.D.NameId.Scores.IdMap.value_at c.args.literals.now c.learn_clause.result (contents c.learn_clause.new.clauses) c.self.view_is
+    (first_of_learnt (store_of (given g) g.D.NameId.Scores.IdMap.value_at c.args.self.now) c.args.literals.now (sym c.knows_literals.ensures ∙ c.if-not-knows_literals.false) (sym c.is_bad_learnt.ensures ∙ c.if-is_bad_learnt.false))
     c.learn_clause.ensures.reply c.learn_clause.ensures.ok c.learn_clause.ensures.err c.learn_clause.ensures.refused c.learn_clause.ensures.ids_out

@@ -2,7 +2,7 @@ use Rattle.std.proofs.Common.{◌≡◌, ◌∙◌, sym, ap, subst, Some, slice_
 use Rattle.clauses.specs.Clauses.{literals_of}
 use Rattle.clause_list.specs.ClauseList.{contents}
 use Rattle.resolvo_store.specs.Store.{Kept, Provider, store_of, gathered, kept_literals}
-use Rattle.resolvo_store.proofs.InvariantLemmas.{store_with}
+use Rattle.resolvo_store.proofs.CallerLaws.{store_in}
 use Rattle.resolvo_store.proofs.ListLemmas.{literals-kept}
 use Rattle.resolvo_store.proofs.store.ClauseStore.literals.Given.{Over}
 use Rattle.resolvo_store.proofs.store.ClauseStore.literals.Goals as goal
@@ -15,9 +15,9 @@ given g = gathered g.D.NameId.PartialEq.eq g.D.SolvableId.PartialEq.eq g.D.NameI
 pub returns-clause-ok : goal.returns-clause-ok
 returns-clause-ok g c =
     let inside = c.self.inside in
-    let st = store_with (given g) (contents inside.clauses) inside.queue inside.trail inside.cache.provider inside.variables inside.loaded in
+    let st = store_in c.self.invariant.sound in
     let found : slice_get inside.clauses.clauses c.args.clause ≡ Some c.in-Some.clause = sym c.get.ensures ∙ c.in-Some.is in
-    let same = literals-kept c.learnt-learnt.result.now inside.clauses.learnt inside.loaded c.new-disjunctions.result c.learnt-learnt.ensures c.new-disjunctions.ensures in
-    subst (λ (k : Kept g.row.D.Denot g.row.D-NameId.Denot g.row.D-SolvableId.Denot). Some c.in_ok-literals.literals.items ≡ option_map (literals_of (kept_literals (store_of (given g) k))) (slice_get k.clauses c.args.clause))
+    let same = literals-kept c.learnt-learnt.result.now inside.clauses.learnt inside.loaded inside.disjunctions c.learnt-learnt.ensures in
+    subst (λ (k : Kept g.row.D.Denot g.row.D-NameId.Denot g.row.D-SolvableId.Denot g.row.D-NameId-Scores.Denot). Some c.in_ok-literals.literals.items ≡ option_map (literals_of (kept_literals (store_of (given g) g.D.NameId.Scores.IdMap.value_at k))) (slice_get k.clauses c.args.clause))
     c.self.view_is
     (ap Some (c.in_ok-literals.ensures.ok ∙ ap (λ kept. literals_of kept c.in-Some.clause) same) ∙ ap (option_map (literals_of (kept_literals st))) (sym found))

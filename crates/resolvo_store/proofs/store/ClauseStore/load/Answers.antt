@@ -10,10 +10,10 @@ use Rattle.resolvo_store.proofs.store.ClauseStore.load.Goals.{in-Some+in_ok-list
 
 pub returns-clause-step : goal.returns-clause-step
 returns-clause-step g c =
-    let store = store_of (gathered g.D.NameId.PartialEq.eq g.D.SolvableId.PartialEq.eq g.D.NameId.Slots.IdMap.is_too_large g.D.SolvableId.Slots.IdMap.is_too_large g.D.SolvableId.Set.IdSet.is_too_large g.D.NameId.SolverId.are_many g.D.Interner.universe g.D.DependencyProvider.answers) in
+    let store = store_of (gathered g.D.NameId.PartialEq.eq g.D.SolvableId.PartialEq.eq g.D.NameId.Slots.IdMap.is_too_large g.D.SolvableId.Slots.IdMap.is_too_large g.D.SolvableId.Set.IdSet.is_too_large g.D.NameId.SolverId.are_many g.D.Interner.universe g.D.DependencyProvider.answers) g.D.NameId.Scores.IdMap.value_at in
     let old = store c.args.self.now in
     let r = c.args.requirement in
-    let Answered : List (List ℕ) → Kept g.row.D.Denot g.row.D-NameId.Denot g.row.D-SolvableId.Denot → Type 0 =
+    let Answered : List (List ℕ) → Kept g.row.D.Denot g.row.D-NameId.Denot g.row.D-SolvableId.Denot g.row.D-NameId-Scores.Denot → Type 0 =
     λ lists kept. IsAnswered old (Load r) (LoadedAs lists) (store kept) in
     let answered : Answered (items_of c.match-lists.lists) c.match-lists.self =
     elim c.match-lists.branch [

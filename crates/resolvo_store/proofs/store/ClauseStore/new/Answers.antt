@@ -1,9 +1,9 @@
-use Rattle.std.proofs.Common.{rules, subst, sym}
+use Rattle.std.proofs.Common.{rules, refl, subst, sym, []}
 use Rattle.clause_list.specs.ClauseList.{Clauses}
-use Rattle.resolvo_store.specs.Lists.{IsConsistent}
+use Rattle.resolvo_store.specs.Lists.{lists_kept, disjunctions_kept, IsConsistent}
 use Rattle.resolvo_store.specs.Sound.{IsSound}
-use Rattle.resolvo_store.specs.Store.{Provider, gathered}
-use Rattle.resolvo_store.proofs.InvariantLemmas.{store_with}
+use Rattle.resolvo_store.specs.Store.{Kept, Provider, store_of, gathered}
+use Rattle.resolvo_store.proofs.InvariantLemmas.{with_list, new_may_ask}
 use Rattle.resolvo_store.proofs.SoundSteps.{IsSound-new_store}
 use Rattle.resolvo_store.proofs.store.ClauseStore.new.Given.{Over}
 use Rattle.resolvo_store.proofs.store.ClauseStore.new.Goals as goal
@@ -15,11 +15,47 @@ given g = gathered g.D.NameId.PartialEq.eq g.D.SolvableId.PartialEq.eq g.D.NameI
 
 pub invariant_of-result : goal.invariant_of-result
 invariant_of-result g c =
-    subst (λ (cs : Clauses g.row.D-NameId.Denot). IsConsistent (store_with (given g) cs c.new-5.result c.new-6.result c.new-3.result.provider c.in_ok-variables.variables c.new-4.result) c.new-4.result c.new-3.result) (sym c.in_ok-clauses.ensures.ok)
-    (rw (c.in_ok-variables.ensures.ok, c.new-3.ensures.provider, c.new-4.ensures, c.new-5.ensures, c.new-6.ensures)
-    (record { few = search rules; known = search rules; sound = IsSound-new_store _; asked = search rules }))
+    let kept : Kept g.row.D.Denot g.row.D-NameId.Denot g.row.D-SolvableId.Denot g.row.D-NameId-Scores.Denot = record {
+      provider = c.new-3.result.provider;
+      origins = c.in_ok-variables.variables;
+      loaded = lists_kept c.new-4.result;
+      disjunctions = disjunctions_kept c.new-5.result;
+      learnt = [];
+      clauses = [];
+      records = [];
+      lists = c.in_ok-clauses.clauses.lists;
+      requires = c.new-6.result.clauses;
+      trail = c.new-7.result.entries;
+      place = c.new-7.result.place;
+      trackers = c.new-8.result;
+      scores = c.new-9.result.map;
+    } in
+    subst (λ (cs : Clauses g.row.D-NameId.Denot). IsConsistent g.D.NameId.Set.IdSet.has (with_list (store_of (given g) g.D.NameId.Scores.IdMap.value_at kept) cs) c.new-4.result c.new-5.result c.new-3.result c.new-6.result c.new-7.result) (sym c.in_ok-clauses.ensures.ok)
+    (rw (c.in_ok-variables.ensures.ok, c.new-3.ensures.provider, c.new-4.ensures, c.new-5.ensures, c.new-6.ensures.new.clauses, c.new-7.ensures, c.new-8.ensures, c.new-9.ensures)
+    (record {
+      few = search rules;
+      known = search rules;
+      sound = IsSound-new_store _;
+      asked = search rules;
+      may_ask = new_may_ask c.new-6.result _ _ c.new-6.ensures.new c.new-6.ensures.stands refl;
+    }))
 
 pub returns-clause-sound : goal.returns-clause-sound
 returns-clause-sound g c =
-    subst (λ (cs : Clauses g.row.D-NameId.Denot). IsSound (store_with (given g) cs c.new-5.result c.new-6.result c.new-3.result.provider c.in_ok-variables.variables c.new-4.result)) (sym c.in_ok-clauses.ensures.ok)
-    (rw (c.in_ok-variables.ensures.ok, c.new-3.ensures.provider, c.new-4.ensures, c.new-5.ensures, c.new-6.ensures) (IsSound-new_store _))
+    let kept : Kept g.row.D.Denot g.row.D-NameId.Denot g.row.D-SolvableId.Denot g.row.D-NameId-Scores.Denot = record {
+      provider = c.new-3.result.provider;
+      origins = c.in_ok-variables.variables;
+      loaded = lists_kept c.new-4.result;
+      disjunctions = disjunctions_kept c.new-5.result;
+      learnt = [];
+      clauses = [];
+      records = [];
+      lists = c.in_ok-clauses.clauses.lists;
+      requires = c.new-6.result.clauses;
+      trail = c.new-7.result.entries;
+      place = c.new-7.result.place;
+      trackers = c.new-8.result;
+      scores = c.new-9.result.map;
+    } in
+    subst (λ (cs : Clauses g.row.D-NameId.Denot). IsSound (with_list (store_of (given g) g.D.NameId.Scores.IdMap.value_at kept) cs)) (sym c.in_ok-clauses.ensures.ok)
+    (rw (c.in_ok-variables.ensures.ok, c.new-3.ensures.provider, c.new-4.ensures, c.new-5.ensures, c.new-6.ensures.new.clauses, c.new-7.ensures, c.new-8.ensures, c.new-9.ensures) (IsSound-new_store _))

@@ -1,24 +1,91 @@
-use Rattle.std.proofs.Common.{◌≡◌, None, false, subst}
-use Rattle.std.specs.Prelude.{All, ◌↔◌}
-use Rattle.decisions.specs.Trail.{val}
-use Rattle.resolvo_queue.specs.Scan.{scan, is_eligible}
-use Rattle.resolvo_queue.specs.Rows.{loaded_rows}
-use Rattle.resolvo_store.proofs.ListLemmas.{rows-kept}
+use Rattle.std.proofs.Common.{◌≡◌, ◌∙◌, ℕ, List, [], map, Option, None, refl, sym, subst, ap}
+use Rattle.std.proofs.lemmas.List.Elements.{All-nil}
+use Rattle.providers.specs.declared.requirement.Requirement.{Requirement}
+use Rattle.resolvo_queue.specs.Rows.{Row}
+use Rattle.std.specs.Prelude.{All, IfOk, ◌↔◌, false, option_map}
+use Rattle.std.proofs.Math.Path.{fun_ext}
+use Rattle.decisions.specs.Decisions.{values_in}
+use Rattle.decisions.specs.Literals.{Lit, Values}
+use Rattle.decisions.specs.Trail.{Entry, val}
+use Rattle.resolvo_queue.specs.Pick.{decided, pick, eligible, DecidesUnbeaten}
+use Rattle.resolvo_queue.specs.Queue.{Queue, values_of}
+use Rattle.resolvo_queue.specs.References.{References, CanWalk, literals_in, references, rows_in, score_in}
+use Rattle.resolvo_queue.specs.Scan.{scan, is_eligible, first_falsified}
+use Rattle.resolvo_queue.specs.declared.requires_clause.RequiresClause.{RequiresClause}
+use Rattle.resolvo_queue.proofs.CallerLaws.{values_of_entries}
+use Rattle.resolvo_store.specs.Outcome.{falsified_clause, is_eligible_clause, offers, picked}
+use Rattle.resolvo_store.specs.Store.{Kept, Provider, store_of, gathered, kept_literals}
+use Rattle.resolvo_store.specs.Synced.{decisions_of}
+use Rattle.resolvo_store.proofs.AskingLemmas.{can_walk, asked_as_store, asked_by_store}
+use Rattle.resolvo_store.proofs.CallerLaws.{store_in}
+use Rattle.resolvo_store.proofs.store.ClauseStore.next_decision.Given.{Over}
 use Rattle.resolvo_store.proofs.store.ClauseStore.next_decision.Goals as goal
 
+-- the provider's functions
+abbrev given : (g : Over) → g.row.D.Denot → Provider g.row.D-NameId.Denot g.row.D-SolvableId.Denot
+given g = gathered g.D.NameId.PartialEq.eq g.D.SolvableId.PartialEq.eq g.D.NameId.Slots.IdMap.is_too_large g.D.SolvableId.Slots.IdMap.is_too_large
+    g.D.SolvableId.Set.IdSet.is_too_large g.D.NameId.SolverId.are_many g.D.Interner.universe g.D.DependencyProvider.answers
+
+pub sync-requires-clause-values : goal.sync-requires-clause-values
+sync-requires-clause-values g c key =
+    ap (λ val. val key) c.map.ensures.values ∙ values_of_entries c.take_sync_floor-floor.new.self.entries key ∙ ap (λ ds. values_of ds key) (sym c.assignments.ensures.decisions)
+
+pub next_decision-requires-clause-synced : goal.next_decision-requires-clause-synced
+next_decision-requires-clause-synced g c =
+    let synced = c.in_ok-sync.ensures.ok in
+    record {
+      accepted = synced.must_start_anew;
+      trail = λ v. ap (λ val. val v) c.map-2.ensures.values ∙ values_of_entries c.take_sync_floor-floor.new.self.entries v ∙ ap (λ ds. values_of ds v) (sym (synced.trail ∙ c.assignments.ensures.decisions));
+      since = subst (λ ps. All (λ p. values_in c.map-2.result.now p.parent ≡ p.value) ps) (sym synced.since) (All-nil (λ p. values_in c.map-2.result.now p.parent ≡ p.value));
+    }
+
+pub next_decision-requires-clause-walkable : goal.next_decision-requires-clause-walkable
+next_decision-requires-clause-walkable g c =
+    let inside = c.self.inside in
+    subst (λ cs. All (CanWalk (references (g.D.Interner.universe c.provider.result.now) c.new-reader.result.lists inside.disjunctions)) cs) (sym c.sync.ensures.clauses.clauses)
+    (subst (λ ls. All (CanWalk (references (g.D.Interner.universe c.provider.result.now) ls inside.disjunctions)) inside.queue.clauses) (sym c.new-reader.ensures.lists)
+    (subst (λ p. All (CanWalk (references (g.D.Interner.universe p) inside.loaded inside.disjunctions)) inside.queue.clauses) (sym c.provider.ensures.provider)
+    (can_walk c.self.invariant refl refl)))
+
 pub next_decision-requires-clause-none_falsified : goal.next_decision-requires-clause-none_falsified
-next_decision-requires-clause-none_falsified g c = rw (c.map.ensures.values, c.provider.ensures.provider, rows-kept (g.D.Interner.universe c.self.inside.cache.provider) c.self.inside.loaded) (rw (← c.self.view_is) at c.requires)
+next_decision-requires-clause-none_falsified g c =
+    let inside = c.self.inside in
+    let kept = kept_literals (store_in c.self.invariant.sound) in
+    asked_by_store (g.D.Interner.universe inside.cache.provider) inside.loaded inside.disjunctions kept.learnt kept.lists
+    (λ val literals_of rows_of score_of clauses. first_falsified val literals_of rows_of clauses ≡ None)
+    (ap g.D.Interner.universe c.provider.ensures.provider) c.new-reader.ensures.lists (c.map-2.ensures.values ∙ ap (λ t. val t.entries) c.take_sync_floor-floor.ensures.trail)
+    (ap g.D.NameId.Scores.IdMap.value_at c.map-3.ensures) c.sync.ensures.clauses.clauses
+    (subst (λ (k : Kept g.row.D.Denot g.row.D-NameId.Denot g.row.D-SolvableId.Denot g.row.D-NameId-Scores.Denot). falsified_clause (store_of (given g) g.D.NameId.Scores.IdMap.value_at k) ≡ None) (sym c.self.view_is) c.requires)
 
 pub returns-clause-picked : goal.returns-clause-picked
-returns-clause-picked g c = rw (← c.self.view_is) (rw (← c.map.ensures.values, ← rows-kept (g.D.Interner.universe c.self.inside.cache.provider) c.self.inside.loaded, ← c.provider.ensures.provider) c.next_decision.ensures.picked)
+returns-clause-picked g c =
+    let inside = c.self.inside in
+    let kept = kept_literals (store_in c.self.invariant.sound) in
+    subst (λ (k : Kept g.row.D.Denot g.row.D-NameId.Denot g.row.D-SolvableId.Denot g.row.D-NameId-Scores.Denot). IfOk c.next_decision.result (λ decision. decision ≡ option_map decided (picked (store_of (given g) g.D.NameId.Scores.IdMap.value_at k)))) c.self.view_is
+    (asked_as_store (g.D.Interner.universe inside.cache.provider) inside.loaded inside.disjunctions kept.learnt kept.lists
+    (λ val literals_of rows_of score_of clauses. IfOk c.next_decision.result (λ decision. decision ≡ option_map decided (pick (eligible val literals_of rows_of score_of clauses))))
+    (ap g.D.Interner.universe c.provider.ensures.provider) c.new-reader.ensures.lists (c.map-2.ensures.values ∙ ap (λ t. val t.entries) c.take_sync_floor-floor.ensures.trail)
+    (ap g.D.NameId.Scores.IdMap.value_at c.map-3.ensures) c.sync.ensures.clauses.clauses
+    c.next_decision.ensures.picked)
 
 pub returns-clause-none : goal.returns-clause-none
 returns-clause-none g c =
     let inside = c.self.inside in
-    rw (← c.self.view_is)
-    (subst (λ rows. (c.next_decision.result ≡ None) ↔ All (λ r. is_eligible (val inside.trail.entries) rows r ≡ false) (scan inside.queue)) (rows-kept (g.D.Interner.universe inside.cache.provider) inside.loaded)
-    (subst (λ q. (c.next_decision.result ≡ None) ↔ All (λ r. is_eligible (val inside.trail.entries) (loaded_rows (g.D.Interner.universe q) inside.loaded) r ≡ false) (scan inside.queue)) c.provider.ensures.provider
-    (subst (λ v. (c.next_decision.result ≡ None) ↔ All (λ r. is_eligible v (loaded_rows (g.D.Interner.universe c.provider.result.now) inside.loaded) r ≡ false) (scan inside.queue)) c.map.ensures.values c.next_decision.ensures.none)))
+    let kept = kept_literals (store_in c.self.invariant.sound) in
+    subst (λ (k : Kept g.row.D.Denot g.row.D-NameId.Denot g.row.D-SolvableId.Denot g.row.D-NameId-Scores.Denot). IfOk c.next_decision.result (λ decision. (decision ≡ None) ↔ All (λ q. is_eligible_clause (store_of (given g) g.D.NameId.Scores.IdMap.value_at k) q ≡ false) (scan k.requires))) c.self.view_is
+    (asked_as_store (g.D.Interner.universe inside.cache.provider) inside.loaded inside.disjunctions kept.learnt kept.lists
+    (λ val literals_of rows_of score_of clauses. IfOk c.next_decision.result (λ decision. (decision ≡ None) ↔ All (λ q. is_eligible val literals_of rows_of q ≡ false) (scan clauses)))
+    (ap g.D.Interner.universe c.provider.ensures.provider) c.new-reader.ensures.lists (c.map-2.ensures.values ∙ ap (λ t. val t.entries) c.take_sync_floor-floor.ensures.trail)
+    (ap g.D.NameId.Scores.IdMap.value_at c.map-3.ensures) c.sync.ensures.clauses.clauses
+    c.next_decision.ensures.none)
 
 pub returns-clause-unbeaten : goal.returns-clause-unbeaten
-returns-clause-unbeaten g c = rw (← c.self.view_is) (rw (← c.map.ensures.values, ← rows-kept (g.D.Interner.universe c.self.inside.cache.provider) c.self.inside.loaded, ← c.provider.ensures.provider) c.next_decision.ensures.unbeaten)
+returns-clause-unbeaten g c =
+    let inside = c.self.inside in
+    let kept = kept_literals (store_in c.self.invariant.sound) in
+    subst (λ (k : Kept g.row.D.Denot g.row.D-NameId.Denot g.row.D-SolvableId.Denot g.row.D-NameId-Scores.Denot). IfOk c.next_decision.result (DecidesUnbeaten (offers (store_of (given g) g.D.NameId.Scores.IdMap.value_at k)))) c.self.view_is
+    (asked_as_store (g.D.Interner.universe inside.cache.provider) inside.loaded inside.disjunctions kept.learnt kept.lists
+    (λ val literals_of rows_of score_of clauses. IfOk c.next_decision.result (DecidesUnbeaten (eligible val literals_of rows_of score_of clauses)))
+    (ap g.D.Interner.universe c.provider.ensures.provider) c.new-reader.ensures.lists (c.map-2.ensures.values ∙ ap (λ t. val t.entries) c.take_sync_floor-floor.ensures.trail)
+    (ap g.D.NameId.Scores.IdMap.value_at c.map-3.ensures) c.sync.ensures.clauses.clauses
+    c.next_decision.ensures.unbeaten)

@@ -1,5 +1,5 @@
 use Rattle.std.proofs.Common.{subst}
-use Rattle.resolvo_store.specs.Command.{reply_of, answer_of, Variable, Helper, Load, Requires, Root, Constrains, ConstrainsExcluded, ConstrainsParent, Lock, Exclude, AnyOf, Learnt, Assign, UndoLast, UndoUntil, Unpropagated, Rewatch}
+use Rattle.resolvo_store.specs.Command.{reply_of, answer_of, Variable, Helper, Load, Requires, Root, Constrains, ConstrainsExcluded, ConstrainsParent, Lock, Exclude, AnyOf, Learnt, Assign, UndoLast, UndoUntil, Unpropagated, Rewatch, Decide, Disjunction, AtMostOnce, Bump, Decay, Standard}
 use Rattle.resolvo_store.specs.Sound.{IsSound}
 use Rattle.resolvo_store.specs.Store.{Store, Provider, Kept, store_of, gathered}
 use Rattle.resolvo_store.proofs.KnownLemmas.{IsLawful}
@@ -18,13 +18,14 @@ abbrev lawful : (g : Over) (p : g.row.D.Denot) → IsLawful (given g p)
 lawful g p = record {
   reflexive = g.met.D.SolvableId.Eq.laws.refl;
   same = g.met.D.SolvableId.SameValue.same;
+  same_names = g.met.D.NameId.SameValue.same;
   candidates = g.met.D.DependencyProvider.candidates_known p;
   order = g.met.D.DependencyProvider.order_permutes p;
 }
 
 -- the abstract store
-abbrev store : (g : Over) → Kept g.row.D.Denot g.row.D-NameId.Denot g.row.D-SolvableId.Denot → Store g.row.D-NameId.Denot g.row.D-SolvableId.Denot
-store g = store_of (given g)
+abbrev store : (g : Over) → Kept g.row.D.Denot g.row.D-NameId.Denot g.row.D-SolvableId.Denot g.row.D-NameId-Scores.Denot → Store g.row.D-NameId.Denot g.row.D-SolvableId.Denot
+store g = store_of (given g) g.D.NameId.Scores.IdMap.value_at
 
 pub returns-in-Variable-clause-sound : goal.returns-in-Variable-clause-sound
 returns-in-Variable-clause-sound g c =
@@ -138,3 +139,42 @@ returns-in-UndoLast-clause-err g c = refused_same (store g c.args.self.now) (sto
 
 pub returns-in-Rewatch-clause-err : goal.returns-in-Rewatch-clause-err
 returns-in-Rewatch-clause-err g c = refused_same (store g c.args.self.now) (store g c.rewatch.new.self) (Rewatch c.in-Rewatch.clause c.in-Rewatch.from c.in-Rewatch.to) c.rewatch.result c.rewatch.ensures.step
+
+pub returns-in-Decide-clause-sound : goal.returns-in-Decide-clause-sound
+returns-in-Decide-clause-sound g c =
+    IsSound-step Decide (answer_of c.decide.result) (lawful g c.args.self.now.provider) (subst (λ k. IsSound (store g k)) c.self.view_is c.self.invariant.sound) c.decide.ensures.step
+
+pub returns-in-Disjunction-clause-sound : goal.returns-in-Disjunction-clause-sound
+returns-in-Disjunction-clause-sound g c =
+    IsSound-step (Disjunction c.deref-in-Disjunction.result.now c.in-Disjunction.condition) (answer_of c.disjunction.result) (lawful g c.args.self.now.provider) (subst (λ k. IsSound (store g k)) c.self.view_is c.self.invariant.sound) c.disjunction.ensures.step
+
+pub returns-in-AtMostOnce-clause-sound : goal.returns-in-AtMostOnce-clause-sound
+returns-in-AtMostOnce-clause-sound g c =
+    IsSound-step (AtMostOnce c.in-AtMostOnce.name c.in-AtMostOnce.variable) (answer_of c.at_most_once.result) (lawful g c.args.self.now.provider) (subst (λ k. IsSound (store g k)) c.self.view_is c.self.invariant.sound) c.at_most_once.ensures.step
+
+pub returns-in-Decide-clause-err : goal.returns-in-Decide-clause-err
+returns-in-Decide-clause-err g c = refused_same (store g c.args.self.now) (store g c.decide.new.self) Decide c.decide.result c.decide.ensures.step
+
+pub returns-in-Disjunction-clause-err : goal.returns-in-Disjunction-clause-err
+returns-in-Disjunction-clause-err g c = refused_same (store g c.args.self.now) (store g c.disjunction.new.self) (Disjunction c.deref-in-Disjunction.result.now c.in-Disjunction.condition) c.disjunction.result c.disjunction.ensures.step
+
+pub returns-in-AtMostOnce-clause-err : goal.returns-in-AtMostOnce-clause-err
+returns-in-AtMostOnce-clause-err g c = refused_same (store g c.args.self.now) (store g c.at_most_once.new.self) (AtMostOnce c.in-AtMostOnce.name c.in-AtMostOnce.variable) c.at_most_once.result c.at_most_once.ensures.step
+
+pub returns-in-Bump-clause-sound : goal.returns-in-Bump-clause-sound
+returns-in-Bump-clause-sound g c =
+    IsSound-step (Bump c.in-Bump.name c.in-Bump.amount) (answer_of c.bump.result) (lawful g c.args.self.now.provider) (subst (λ k. IsSound (store g k)) c.self.view_is c.self.invariant.sound) c.bump.ensures.step
+
+pub returns-in-Decay-clause-sound : goal.returns-in-Decay-clause-sound
+returns-in-Decay-clause-sound g c =
+    IsSound-step (Decay c.in-Decay.numerator c.in-Decay.denominator) (answer_of c.decay.result) (lawful g c.args.self.now.provider) (subst (λ k. IsSound (store g k)) c.self.view_is c.self.invariant.sound) c.decay.ensures.step
+
+pub returns-in-Standard-clause-sound : goal.returns-in-Standard-clause-sound
+returns-in-Standard-clause-sound g c =
+    IsSound-step (Standard c.in-Standard.standard) (reply_of c.standard.result) (lawful g c.args.self.now.provider) (subst (λ k. IsSound (store g k)) c.self.view_is c.self.invariant.sound) c.standard.ensures.step
+
+pub returns-in-Bump-clause-err : goal.returns-in-Bump-clause-err
+returns-in-Bump-clause-err g c = refused_same (store g c.args.self.now) (store g c.bump.new.self) (Bump c.in-Bump.name c.in-Bump.amount) c.bump.result c.bump.ensures.step
+
+pub returns-in-Decay-clause-err : goal.returns-in-Decay-clause-err
+returns-in-Decay-clause-err g c = refused_same (store g c.args.self.now) (store g c.decay.new.self) (Decay c.in-Decay.numerator c.in-Decay.denominator) c.decay.result c.decay.ensures.step

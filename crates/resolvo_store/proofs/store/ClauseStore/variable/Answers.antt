@@ -17,6 +17,7 @@ abbrev lawful : (g : Over) (p : g.row.D.Denot) → IsLawful (given g p)
 lawful g p = record {
   reflexive = g.met.D.SolvableId.Eq.laws.refl;
   same = g.met.D.SolvableId.SameValue.same;
+  same_names = g.met.D.NameId.SameValue.same;
   candidates = g.met.D.DependencyProvider.candidates_known p;
   order = g.met.D.DependencyProvider.order_permutes p;
 }

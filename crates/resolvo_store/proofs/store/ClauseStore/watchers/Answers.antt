@@ -12,6 +12,6 @@ given g = gathered g.D.NameId.PartialEq.eq g.D.SolvableId.PartialEq.eq g.D.NameI
 
 pub returns-clause-ok : goal.returns-clause-ok
 returns-clause-ok g c =
-    let found = subst (λ (k : Kept g.row.D.Denot g.row.D-NameId.Denot g.row.D-SolvableId.Denot). IfOk c.watchers.result (λ v. v.items ≡ (store_of (given g) k).watchers c.args.literal)) c.self.view_is c.watchers.ensures.ok in
-    let known = ap (knows_variable (store_of (given g) c.args.self.now)) (sym c.variable.ensures) ∙ sym c.knows_variable.ensures ∙ c.if-not-knows_variable.false in
-    subst (λ b. IfOk c.watchers.result (λ v. v.items ≡ (if b then (store_of (given g) c.args.self.now).watchers c.args.literal else []))) (sym known) found
+    let found = subst (λ (k : Kept g.row.D.Denot g.row.D-NameId.Denot g.row.D-SolvableId.Denot g.row.D-NameId-Scores.Denot). IfOk c.watchers.result (λ v. v.items ≡ (store_of (given g) g.D.NameId.Scores.IdMap.value_at k).watchers c.args.literal)) c.self.view_is c.watchers.ensures.ok in
+    let known = ap (knows_variable (store_of (given g) g.D.NameId.Scores.IdMap.value_at c.args.self.now)) (sym c.variable.ensures) ∙ sym c.knows_variable.ensures ∙ c.if-not-knows_variable.false in
+    subst (λ b. IfOk c.watchers.result (λ v. v.items ≡ (if b then (store_of (given g) g.D.NameId.Scores.IdMap.value_at c.args.self.now).watchers c.args.literal else []))) (sym known) found

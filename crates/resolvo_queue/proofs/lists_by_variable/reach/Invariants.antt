@@ -1,0 +1,11 @@
+use Rattle.std.proofs.Common.{◌+◌, ◌-◌, map, vec_len}
+use Rattle.typed_ids.specs.TotalMaps.{SameValues}
+use Rattle.resolvo_queue.specs.Index.{list_at}
+use Rattle.resolvo_queue.proofs.lists_by_variable.reach.Given as goal
+
+abbrev pub invariant-loop-alloc : goal.invariant-loop-alloc
+invariant-loop-alloc g l =
+    SameValues (list_at (map (λ list. list.items) l.fn.lists.items)) (list_at (map (λ list. list.items) l.lists.items))
+
+abbrev pub decreases-loop-alloc : goal.decreases-loop-alloc
+decreases-loop-alloc g l = l.index + 1 - vec_len l.lists

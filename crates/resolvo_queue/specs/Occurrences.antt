@@ -1,0 +1,33 @@
+-- Which requirements list a variable, and how reading a requirement's rows changes it.
+use Rattle.std.specs.Prelude.{◌≡◌, ◌⊎◌, ℕ, Bool, List, Contains}
+use Rattle.std.specs.List.{list_any}
+use Rattle.providers.specs.Requirement.{same_requirement}
+use Rattle.providers.specs.declared.requirement.Requirement.{Requirement}
+use Rattle.resolvo_queue.specs.Index.{list_at}
+use Rattle.resolvo_queue.specs.References.{Lists}
+
+-- what a reader of rows has: the lists, and the requirements that it has walked, oldest first
+pub record Reading (A : Type 0) : Type 0 where
+  pub lists : Lists A
+  pub walked : List Requirement
+
+-- the listed requirements, and by each variable requirements with it in a row
+pub record Listed : Type 0 where
+  pub listed : List Requirement
+  pub by_variable : List (List Requirement)
+
+abbrev pub is_listed : Listed → Requirement → Bool
+is_listed o r = list_any (same_requirement r) o.listed
+
+-- the requirements that stand by the variable
+abbrev pub listing : Listed → ℕ → List Requirement
+listing o variable = list_at o.by_variable variable
+
+-- the requirement came to the listings of such variables, and nothing left any
+pub record GrowsWith (r : Requirement) (variables : List ℕ) (old new : Listed) : Type 0 where
+  pub kept : (v : ℕ) (q : Requirement) → Contains (listing old v) q → Contains (listing new v) q
+  pub added : (v : ℕ) (q : Requirement) → Contains (listing new v) q → Contains (listing old v) q ⊎ ((q ≡ r) × Contains variables v)
+
+-- the requirement is in the listing of each of the variables
+abbrev pub HasAll : Requirement → List ℕ → Listed → Type 0
+HasAll r variables o = (v : ℕ) → Contains variables v → Contains (listing o v) r

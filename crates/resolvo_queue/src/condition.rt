@@ -1,0 +1,36 @@
+//! Whether a clause's condition is met.
+ghost use Rattle.std.specs.Prelude.{◌≡◌, ◌<◌, [], length, IfSome};
+ghost use Rattle.decisions.specs.Decisions.{values_in};
+ghost use Rattle.clauses.specs.Clauses.{condition_literals};
+ghost use Rattle.clauses.specs.Stored.{kept_in};
+ghost use Rattle.resolvo_queue.specs.Scan.{are_literals_false};
+
+use clauses::Disjunction;
+use decisions::{DecisionMap, Literal};
+use id_storage::Arena;
+use std::alloc::Allocator;
+use typed_ids::DisjunctionId;
+
+/// Whether all literals of a condition are false. Without one there are none.
+pub(crate) fn is_met<A: Allocator + Copy>(
+    condition: Option<DisjunctionId>,
+    disjunctions: &Arena<DisjunctionId, Disjunction<A>, A>,
+    map: &DecisionMap<A>,
+) -> bool
+    requires { IfSome condition (λ d. d < length disjunctions.now) }
+    ensures { result ≡ are_literals_false (values_in map.now) (condition_literals (kept_in [] [] disjunctions.now) condition) }
+{
+    match condition {
+        None => true,
+        Some(disjunction) => are_false(&disjunctions[disjunction].literals, map),
+    }
+}
+
+/// Whether all literals are false.
+fn are_false<A: Allocator + Copy>(literals: &[Literal], map: &DecisionMap<A>) -> bool
+    ensures { result ≡ are_literals_false (values_in map.now) literals.now }
+{
+    literals
+        .iter()
+        .all(|literal| literal.eval(map) == Some(false))
+}

@@ -1,0 +1,48 @@
+//! What eligible clauses offer.
+ghost use Rattle.std.specs.Prelude.{◌≡◌};
+ghost use Rattle.resolvo_queue.specs.Pick.{beats, decided, is_of_root};
+
+use crate::frontier::Frontier;
+use crate::queue_decision::QueueDecision;
+use crate::requires_clause::RequiresClause;
+use typed_ids::DenseIndex;
+
+/// An eligible clause, with its frontier and the score of the frontier's package.
+#[derive(Clone, Copy)]
+pub struct Offer {
+    pub clause: RequiresClause,
+    pub frontier: Frontier,
+    pub score: u64,
+}
+
+impl Offer {
+    /// Whether the clause's parent is the root.
+    fn is_of_root(&self) -> bool
+        ensures { result ≡ is_of_root self.now }
+    {
+        self.clause.parent.is_root()
+    }
+
+    /// Whether it replaces the best so far: it has a higher score and fewer candidates, and no clause of another parent
+    /// replaces one of the root.
+    pub(crate) fn beats(&self, best: &Offer) -> bool
+        ensures { result ≡ beats self.now best.now }
+    {
+        best.score < self.score
+            && (self.frontier.count < best.frontier.count
+                && (!best.is_of_root() || self.is_of_root()))
+    }
+
+    /// The decision to take here.
+    pub(crate) fn decision(&self) -> QueueDecision
+        ensures { result ≡ decided self.now }
+    {
+        QueueDecision {
+            candidate: self.frontier.variable,
+            required_by: self.clause.parent,
+            clause_id: self.clause.clause_id,
+            package_activity: self.score,
+            candidate_count: self.frontier.count,
+        }
+    }
+}

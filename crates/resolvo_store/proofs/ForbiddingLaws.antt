@@ -1,0 +1,88 @@
+-- What is tracked in a sound store forbids two of a name. N are the names, S the solvables.
+use Rattle.std.proofs.Common.{◌≡◌, ℕ, Bool, true, false, cond, not, List, [], ◌∷◌, ◌++◌, refl, sym, subst, ap, ◌∙◌, arith}
+use Rattle.std.specs.Prelude.{◌↔◌, ◌||◌, nat_eq, filter, flat_map, if◌then◌else◌}
+use Rattle.std.specs.Bool.{beq}
+use Rattle.std.specs.Cmp.{IsEquivalence}
+use Rattle.std.specs.List.{list_any, AllByRecursion}
+use Rattle.std.proofs.lemmas.Bool.{eqb-true}
+use Rattle.std.proofs.lemmas.Bool.Decides.{nat_tests}
+use Rattle.decisions.specs.Literals.{Lit, Pos, Neg}
+use Rattle.clauses.specs.declared.clause.Clause.{Clause}
+use Rattle.clauses.specs.declared.clause.Clause.TheVariants as Kind
+use Rattle.clauses.specs.Clauses.{literals_of}
+use Rattle.at_most_once.specs.AtMostOne as one
+use Rattle.at_most_once.specs.AtMostOne.{BitClause}
+use Rattle.at_most_once.proofs.CallerLaws.{helpers_encode}
+use Rattle.resolvo_store.specs.Store.{Store, kept_literals, bits}
+use Rattle.resolvo_store.specs.Tracking.{bits_of}
+use Rattle.resolvo_store.specs.ForbidsTwo.{is_true_literal, is_forbidding, is_met, clauses_of_name, ForbidsTwo}
+use Rattle.resolvo_store.specs.Sound.{IsSound}
+
+-- equality of numbers is an equivalence
+numbers : IsEquivalence nat_eq
+numbers = record {
+  refl = λ a. (let e : nat_eq a a ≡ true = grind (arith, nat_tests) in e);
+  symm = λ a b. (let e : nat_eq a b ≡ nat_eq b a = grind (arith, nat_tests) in e);
+  congr = λ a b c h. ap (λ x. nat_eq x c) (eqb-true a b h);
+}
+
+-- a clause of a variable and a helper is met by its bit
+met_true : (a b : Bool) → (not a || (b || false)) ≡ (not a || beq b true)
+met_true true true = refl
+met_true true false = refl
+met_true false b = refl
+
+met_false : (a b : Bool) → (not a || (not b || false)) ≡ (not a || beq b false)
+met_false true true = refl
+met_false true false = refl
+met_false false b = refl
+
+module _ {N S : Type 0} (st : Store N S) (named : N → Bool) (a : ℕ → Bool) where
+  abbrev AreMet : List (Clause N) → Type 0
+  AreMet cs = AllByRecursion (λ c. is_met st a c ≡ true) (filter (is_forbidding named) cs)
+
+  abbrev BitsMet : List (Clause N) → Type 0
+  BitsMet cs = one.AreMet a (flat_map (bits_of named) cs)
+
+  -- the clauses are met, and so are the bits that are read back of them
+  pub bits_met : (cs : List (Clause N)) → AreMet cs → BitsMet cs
+  bits_met [] met = tt
+  bits_met (Kind.ForbidMultipleInstances x (Pos h) n ∷ cs) met = by_name (named n) (bits_met cs) met
+    where
+      by_name : (b : Bool) → (AreMet cs → BitsMet cs) → AllByRecursion (λ c. is_met st a c ≡ true) (cond b (Kind.ForbidMultipleInstances x (Pos h) n ∷ filter (is_forbidding named) cs) (filter (is_forbidding named) cs))
+          → one.AreMet a ((if b then (x, h, true) ∷ [] else []) ++ flat_map (bits_of named) cs)
+      by_name true later all = (sym (met_true (a x) (a h)) ∙ all.0, later all.1)
+      by_name false later all = later all
+  bits_met (Kind.ForbidMultipleInstances x (Neg h) n ∷ cs) met = by_name (named n) (bits_met cs) met
+    where
+      by_name : (b : Bool) → (AreMet cs → BitsMet cs) → AllByRecursion (λ c. is_met st a c ≡ true) (cond b (Kind.ForbidMultipleInstances x (Neg h) n ∷ filter (is_forbidding named) cs) (filter (is_forbidding named) cs))
+          → one.AreMet a ((if b then (x, h, false) ∷ [] else []) ++ flat_map (bits_of named) cs)
+      by_name true later all = (sym (met_false (a x) (a h)) ∙ all.0, later all.1)
+      by_name false later all = later all
+  bits_met (_ ∷ cs) met = bits_met cs met
+
+  -- and the other way round
+  pub clauses_met : (cs : List (Clause N)) → BitsMet cs → AreMet cs
+  clauses_met [] met = tt
+  clauses_met (Kind.ForbidMultipleInstances x (Pos h) n ∷ cs) met = by_name (named n) (clauses_met cs) met
+    where
+      by_name : (b : Bool) → (BitsMet cs → AreMet cs) → one.AreMet a ((if b then (x, h, true) ∷ [] else []) ++ flat_map (bits_of named) cs)
+          → AllByRecursion (λ c. is_met st a c ≡ true) (cond b (Kind.ForbidMultipleInstances x (Pos h) n ∷ filter (is_forbidding named) cs) (filter (is_forbidding named) cs))
+      by_name true later all = (met_true (a x) (a h) ∙ all.0, later all.1)
+      by_name false later all = later all
+  clauses_met (Kind.ForbidMultipleInstances x (Neg h) n ∷ cs) met = by_name (named n) (clauses_met cs) met
+    where
+      by_name : (b : Bool) → (BitsMet cs → AreMet cs) → one.AreMet a ((if b then (x, h, false) ∷ [] else []) ++ flat_map (bits_of named) cs)
+          → AllByRecursion (λ c. is_met st a c ≡ true) (cond b (Kind.ForbidMultipleInstances x (Neg h) n ∷ filter (is_forbidding named) cs) (filter (is_forbidding named) cs))
+      by_name true later all = (met_false (a x) (a h) ∙ all.0, later all.1)
+      by_name false later all = later all
+  clauses_met (_ ∷ cs) met = clauses_met cs met
+
+-- the clauses of each name can be met by choosing helpers exactly when at most one of its tracked variables is true
+pub forbids_two : {N S : Type 0} (st : Store N S) → IsSound st → ForbidsTwo st
+forbids_two st sound name x =
+    let named = st.provider.same_name name in
+    let encode = helpers_encode nat_eq numbers (st.trackers name) (bits st name) (sound.tracked name).adds x in (
+      λ can. encode.0 (can.0, can.1, bits_met st named can.0 st.clauses can.2),
+      λ most. (let can = encode.1 most in (can.0, can.1, clauses_met st named can.0 st.clauses can.2)),
+    )

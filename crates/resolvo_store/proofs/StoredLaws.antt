@@ -1,0 +1,600 @@
+-- What is true of a store, but for what is tracked, stays true where it has more in it, or less.
+use Rattle.std.proofs.Common.{◌≡◌, ℕ, ◌+◌, ◌<◌, ◌≤◌, Bool, true, false, cond, List, [], ◌∷◌, ◌++◌, length, length-append, map, Option, None, Some, IsSome, refl, arith, sym, ◌∙◌, ap, subst, zero, suc}
+use Rattle.std.specs.Prelude.{IfSome, ◌-◌, min, ◌==◌, nat_lt, take, slice_get, All, is_some, unwrap_or, flat_map, ◌||◌}
+use Rattle.std.specs.Cmp.{IsEquivalence}
+use Rattle.std.specs.List.{list_any, list_all, IsDistinct}
+use Rattle.std.specs.Map.{lookup}
+use Rattle.std.proofs.lemmas.Bool.Decides.{nat_tests}
+use Rattle.std.proofs.lemmas.Bool.{eqb-true}
+use Rattle.std.proofs.lemmas.List.{length-map, length-set, map-append, append-nil}
+use Rattle.std.proofs.lemmas.List.Elements.{All-nil, All-cons, All-head, All-tail, All-push, All-take, All-append, All-weaker, All-map}
+use Rattle.std.proofs.lemmas.Option.{slice_get_within}
+use Rattle.std.proofs.lemmas.Map.Keys.{IsDistinct-push}
+use Rattle.providers.specs.declared.requirement.Requirement.{Requirement}
+use Rattle.providers.specs.declared.requirement.Requirement.TheVariants.{Single, Union}
+use Rattle.providers.specs.Requirement.{same_requirement}
+use Rattle.providers.specs.Provider.{knows_requirement, sets_of}
+use Rattle.variables.specs.declared.variable_origin.VariableOrigin.{VariableOrigin}
+use Rattle.variables.specs.declared.variable_origin.VariableOrigin.TheVariants.{Solvable}
+use Rattle.variables.specs.Variables.{IsRootFirst, is_solvable, variable_of_solvable, interned_variable, with_variable, with_variables}
+use Rattle.variables.proofs.VariableLemmas.{or_else, position_within, position-append, root-append}
+use Rattle.variables.proofs.InterningLemmas.{variable-kept, kept-all, variable-with_variable, longer-all}
+use Rattle.decisions.specs.Trail.{Entry, val, propagated, kept_until, IsOnce, IsTrail, HasLevel}
+use Rattle.decisions.proofs.TrailLemmas.{IsTrail-push}
+use Rattle.resolvo_queue.specs.declared.requires_clause.RequiresClause.{RequiresClause}
+use Rattle.at_most_once.specs.AtMostOne.{Tracker}
+use Rattle.resolvo_store.specs.declared.helper_origin.HelperOrigin.{HelperOrigin}
+use Rattle.resolvo_store.specs.declared.helper_origin.HelperOrigin.TheVariants as Helps
+use Rattle.decisions.specs.Literals.{Lit}
+use Rattle.clauses.specs.Clauses.{literals_of, learnt_literals, first_watches}
+use Rattle.watch_map.specs.Watching.{is_literal_in, IsExact, started}
+use Rattle.clause_list.specs.ClauseList.{two_or_none, rewatched}
+use Rattle.clause_list.proofs.CallerLaws.{watched_at, watching_within, exact_pushed, exact_rewatched}
+use Rattle.clauses.specs.ClauseTexts.{IsKnownClause}
+use Rattle.clauses.specs.declared.clause.Clause.{Clause}
+use Rattle.clauses.specs.declared.clause.Clause.TheVariants as Kind
+use Rattle.resolvo_store.specs.Store.{Store, values, lists_of, kept_literals, clause_literals, watched_by}
+use Rattle.resolvo_store.specs.Refusals.{knows_helper}
+use Rattle.resolvo_store.specs.Outcome.{assigned, without_newest, helper_origin, cut_back, hands_next, adds_clause, with_disjunction, with_learnt, with_registered, with_rewatched}
+use Rattle.resolvo_store.specs.Sound.{IsSound, requires_from, HasOneVariableEach, WatchOwn, IsVariable, IsLoaded, IsRegistered, IsAssigned}
+use Rattle.resolvo_store.proofs.TrackingLaws.{AreTracked}
+use Rattle.resolvo_store.proofs.KnownLemmas.{IsKnownOrigin, IsKnownSolvable, IsLawful, variable_known, clause_kept, known-with_variables}
+use Rattle.resolvo_store.proofs.WatchLaws.{first_watches_own, theirs_grown, theirs_pushed, theirs_rewatched, found_before, asked_before, lists_before, literals_learnt, literals_listed, literals_asked}
+
+-- ---- lists
+
+-- what stands in a list with one more stands in the list, or is the one at its end
+slice_get-push_cases : {X : Type 0} (P : Type 0) (xs : List X) (x : X) (i : ℕ) (y : X) → slice_get (xs ++ x ∷ []) i ≡ Some y
+    → (slice_get xs i ≡ Some y → P) → (i ≡ length xs → x ≡ y → P) → P
+slice_get-push_cases P [] x zero y e before last = last refl cc
+slice_get-push_cases {X} P [] x (suc i) y e before last = absurd (let no : ◌≡◌ {A = Option X} None (Some y) = e in cc)
+slice_get-push_cases P (z ∷ xs) x zero y e before last = before e
+slice_get-push_cases P (z ∷ xs) x (suc i) y e before last = slice_get-push_cases P xs x i y e before (λ k. last (omega (arith, k)))
+
+-- what is true of the members of a list is true of its front, and of the rest
+All-split : {X : Type 0} (P : X → Type 0) (xs ys : List X) → All P (xs ++ ys) → All P xs × All P ys
+All-split P [] ys all = (All-nil P, all)
+All-split P (x ∷ xs) ys all =
+    let rest = All-split P xs ys (All-tail P x (xs ++ ys) all) in
+    (All-cons P x xs (All-head P x (xs ++ ys) all) rest.0, rest.1)
+
+-- what is true of the members of each list is true of each list's members
+All-lists : {X Y : Type 0} (P : Y → Type 0) (f : X → List Y) (xs : List X) → All P (flat_map f xs) → All (λ x. All P (f x)) xs
+All-lists P f [] all = All-nil (λ x. All P (f x))
+All-lists P f (x ∷ xs) all =
+    let split = All-split P (f x) (flat_map f xs) all in
+    All-cons (λ z. All P (f z)) x xs split.0 (All-lists P f xs split.1)
+
+-- ---- requirements
+
+same_requirement-equivalence : IsEquivalence same_requirement
+same_requirement-equivalence = record { refl = reflexive; symm = symmetric; congr = congruent }
+  where
+    reflexive : (r : Requirement) → same_requirement r r ≡ true
+    reflexive (Single v) = grind (arith, nat_tests)
+    reflexive (Union u) = grind (arith, nat_tests)
+
+    symmetric : (r s : Requirement) → same_requirement r s ≡ same_requirement s r
+    symmetric (Single v) (Single w) = grind (arith, nat_tests)
+    symmetric (Single v) (Union w) = refl
+    symmetric (Union v) (Single w) = refl
+    symmetric (Union v) (Union w) = grind (arith, nat_tests)
+
+    congruent : (r s t : Requirement) → same_requirement r s ≡ true → same_requirement r t ≡ same_requirement s t
+    congruent (Single v) (Single w) (Single x) h = let e = eqb-true v.0 w.0 h in rw e refl
+    congruent (Single v) (Single w) (Union x) h = refl
+    congruent (Union v) (Union w) (Union x) h = let e = eqb-true v.0 w.0 h in rw e refl
+    congruent (Union v) (Union w) (Single x) h = refl
+    congruent (Single v) (Union w) t h = let no : false ≡ true = h in cc
+    congruent (Union v) (Single w) t h = let no : false ≡ true = h in cc
+
+module _ {X : Type 0} where
+  -- a requirement that isn't found has no entry
+  not_among : (r : Requirement) (es : List (Requirement × X)) → lookup (same_requirement r) es ≡ None
+      → list_any (same_requirement r) (map (λ e. e.0) es) ≡ false
+  not_among r [] none = refl
+  not_among r (e ∷ es) none =
+      (elim (same_requirement r e.0) as (λ b. cond b (Some e.1) (lookup (same_requirement r) es) ≡ None → (b || list_any (same_requirement r) (map (λ x. x.0) es)) ≡ false)
+      [ true ↦ λ h. cc | false ↦ λ h. not_among r es h ]) none
+
+  -- what is found is found before one more entry too
+  found-push : (r : Requirement) (es : List (Requirement × X)) (e : Requirement × X) → IsSome (lookup (same_requirement r) es)
+      → IsSome (lookup (same_requirement r) (es ++ e ∷ []))
+  found-push r [] e h = let no : false ≡ true = h in cc
+  found-push r (f ∷ es) e h =
+      (elim (same_requirement r f.0) as (λ b. IsSome (cond b (Some f.1) (lookup (same_requirement r) es)) → IsSome (cond b (Some f.1) (lookup (same_requirement r) (es ++ e ∷ []))))
+      [ true ↦ λ k. k | false ↦ λ k. found-push r es e k ]) h
+
+-- ---- clauses
+
+-- the requires clauses among these and one more
+requires_from-push : {N : Type 0} (id last : ℕ) (cs : List (Clause N)) (c : Clause N) → last ≡ id + length cs
+    → requires_from id (cs ++ c ∷ []) ≡ requires_from id cs ++ requires_from last (c ∷ [])
+requires_from-push id last [] c e = ap (λ n. requires_from n (c ∷ [])) (let same : id ≡ last = omega (arith, e) in same)
+requires_from-push id last (Kind.Requires parent disjunction r ∷ cs) c e =
+    ap (λ rs. record { parent = parent; requirement = r; condition = disjunction; clause_id = id } ∷ rs) (requires_from-push (id + 1) last cs c (omega (arith, e)))
+requires_from-push id last (d ∷ cs) c e = requires_from-push (id + 1) last cs c (omega (arith, e))
+
+-- ---- variables
+
+module _ {N S : Type 0} (same : S → S → Bool) where
+  -- each variable of a solvable is the one that is found for it
+  abbrev pub OneEach : List (VariableOrigin N S) → Type 0
+  OneEach os = (v : ℕ) (s : S) → slice_get os v ≡ Some (Solvable s) → variable_of_solvable same os s ≡ Some v
+
+  -- what is true of variables
+  pub record AreVariables (os : List (VariableOrigin N S)) : Type 0 where
+    pub root_first : IsRootFirst os
+    pub one_each : OneEach os
+
+  module _ (reflexive : (s : S) → same s s ≡ true) where
+    AreVariables-push : (os : List (VariableOrigin N S)) (s : S) → variable_of_solvable same os s ≡ None → AreVariables os → AreVariables (os ++ Solvable s ∷ [])
+    AreVariables-push os s new are = record {
+      root_first = root-append os (Solvable s) are.root_first;
+      one_each = λ v t e.
+          slice_get-push_cases (variable_of_solvable same (os ++ Solvable s ∷ []) t ≡ Some v) os (Solvable s) v (Solvable t) e
+          (λ k. variable-kept same t (Solvable s) v os (are.one_each v t k))
+          (λ k l. last v t k cc);
+    }
+      where
+        last : (v : ℕ) (t : S) → v ≡ length os → s ≡ t → variable_of_solvable same (os ++ Solvable s ∷ []) t ≡ Some v
+        last v t k l =
+            subst (λ x. variable_of_solvable same (os ++ Solvable s ∷ []) x ≡ Some v) l
+            (position-append (is_solvable same s) (Solvable s) 0 (length os) os (omega arith)
+            ∙ ap (λ p. or_else p (cond (same s s) (Some (length os)) None)) new
+            ∙ ap (λ b. cond b (Some (length os)) None) (reflexive s) ∙ ap Some (sym k))
+
+    AreVariables-with : (os : List (VariableOrigin N S)) (s : S) → AreVariables os → AreVariables (with_variable same os s)
+    AreVariables-with os s are = by_known (variable_of_solvable same os s) refl
+      where
+        by_known : (p : Option ℕ) → variable_of_solvable same os s ≡ p → AreVariables (cond (is_some p) os (os ++ Solvable s ∷ []))
+        by_known (Some v) h = are
+        by_known None h = AreVariables-push os s h are
+
+    AreVariables-with_all : (os : List (VariableOrigin N S)) (ss : List S) → AreVariables os → AreVariables (with_variables same os ss)
+    AreVariables-with_all os [] are = are
+    AreVariables-with_all os (s ∷ ss) are = AreVariables-with_all (with_variable same os s) ss (AreVariables-with os s are)
+
+    -- a solvable that has a variable is found below the length
+    interned_within : (os : List (VariableOrigin N S)) (s : S) (v : ℕ) → variable_of_solvable same os s ≡ Some v → interned_variable same os s < length os
+    interned_within os s v h =
+        subst (λ p. unwrap_or p (length os) < length os) (sym h) (omega (arith, position_within (is_solvable same s) 0 v os h))
+
+    -- solvables that got variables have them
+    interned_all : (os : List (VariableOrigin N S)) (ss : List S)
+        → All (λ s. interned_variable same (with_variables same os ss) s < length (with_variables same os ss)) ss
+    interned_all os [] = All-nil (λ s. interned_variable same os s < length os)
+    interned_all os (s ∷ ss) =
+        let after : List (VariableOrigin N S) = with_variables same (with_variable same os s) ss in
+        All-cons (λ t. interned_variable same after t < length after) s ss
+        (interned_within after s (interned_variable same os s)
+        (kept-all same s (interned_variable same os s) (with_variable same os s) ss (variable-with_variable same reflexive s os)))
+        (interned_all (with_variable same os s) ss)
+
+-- ---- trails
+
+-- a variable without an entry has none among those that are kept
+val-kept_until : (l : ℕ) (es : List Entry) (x : ℕ) → val es x ≡ None → val (kept_until l es) x ≡ None
+val-kept_until l [] x none = none
+val-kept_until l (e ∷ es) x none =
+    elim (list_all (λ f. nat_lt l f.level) (e ∷ es)) as (λ b. val (cond b [] (e ∷ kept_until l es)) x ≡ None) [
+      | true ↦ refl
+      | false ↦ (elim (e.decision.variable == x) as (λ t. cond t (Some e.decision.value) (val es x) ≡ None → cond t (Some e.decision.value) (val (kept_until l es) x) ≡ None)
+          [ true ↦ λ h. h | false ↦ λ h. val-kept_until l es x h ]) none
+    ]
+
+-- what is true of each entry is true of each that is kept
+All-kept_until : (P : Entry → Type 0) (l : ℕ) (es : List Entry) → All P es → All P (kept_until l es)
+All-kept_until P l [] all = all
+All-kept_until P l (e ∷ es) all =
+    elim (list_all (λ f. nat_lt l f.level) (e ∷ es)) as (λ b. All P (cond b [] (e ∷ kept_until l es))) [
+      | true ↦ All-nil P
+      | false ↦ All-cons P e (kept_until l es) (All-head P e es all) (All-kept_until P l es (All-tail P e es all))
+    ]
+
+IsOnce-kept_until : (l : ℕ) (es : List Entry) → IsOnce es → IsOnce (kept_until l es)
+IsOnce-kept_until l [] once = tt
+IsOnce-kept_until l (e ∷ es) once =
+    elim (list_all (λ f. nat_lt l f.level) (e ∷ es)) as (λ b. IsOnce (cond b [] (e ∷ kept_until l es))) [
+      | true ↦ tt
+      | false ↦ (val-kept_until l es e.decision.variable once.0, IsOnce-kept_until l es once.1)
+    ]
+
+-- the same of the first so many entries
+val-take : (n : ℕ) (es : List Entry) (x : ℕ) → val es x ≡ None → val (take n es) x ≡ None
+val-take zero es x none = refl
+val-take (suc n) [] x none = refl
+val-take (suc n) (e ∷ es) x none =
+    (elim (e.decision.variable == x) as (λ t. cond t (Some e.decision.value) (val es x) ≡ None → cond t (Some e.decision.value) (val (take n es) x) ≡ None)
+    [ true ↦ λ h. h | false ↦ λ h. val-take n es x h ]) none
+
+IsOnce-take : (n : ℕ) (es : List Entry) → IsOnce es → IsOnce (take n es)
+IsOnce-take zero es once = tt
+IsOnce-take (suc n) [] once = tt
+IsOnce-take (suc n) (e ∷ es) once = (val-take n es e.decision.variable once.0, IsOnce-take n es once.1)
+
+-- ---- a store with more in it, or less
+
+-- the clause isn't registered for decisions
+abbrev pub IsUnregistered : {N : Type 0} → Clause N → Type 0
+IsUnregistered c = (id : ℕ) → requires_from id (c ∷ []) ≡ []
+
+-- a sound store, but for what is tracked in it
+pub record IsStored {N S : Type 0} (st : Store N S) : Type 0 where
+  pub root_first : IsRootFirst st.origins
+  pub origins_known : All (IsKnownOrigin st.provider.universe) st.origins
+  pub one_variable_each : HasOneVariableEach st
+  pub loaded_once : IsDistinct same_requirement (map (λ e. e.0) st.loaded)
+  pub loaded : All (IsLoaded st) st.loaded
+  pub registered : st.requires ≡ requires_from 0 st.clauses
+  pub clauses : All (IsRegistered st) st.requires
+  pub clauses_known : All (IsKnownClause st.provider.universe st.origins) st.clauses
+  pub watched : length st.watches ≡ length st.clauses
+  pub own : WatchOwn st
+  pub exact : IsExact (watched_by st) st.watchers
+  pub place : st.place ≤ length st.trail
+  pub trail : IsTrail st.trail
+  pub assigned : All (IsAssigned st) st.trail
+
+pub IsStored-sound : {N S : Type 0} {st : Store N S} → IsSound st → IsStored st
+IsStored-sound is = record {
+  root_first = is.root_first;
+  origins_known = is.origins_known;
+  one_variable_each = is.one_variable_each;
+  loaded_once = is.loaded_once;
+  loaded = is.loaded;
+  registered = is.registered;
+  clauses = is.clauses;
+  clauses_known = is.clauses_known;
+  watched = is.watched;
+  own = is.own;
+  exact = is.exact;
+  place = is.place;
+  trail = is.trail;
+  assigned = is.assigned;
+}
+
+-- with it, it is sound
+pub IsSound-stored : {N S : Type 0} {st : Store N S} → IsStored st → AreTracked st → IsSound st
+IsSound-stored is tracked = record {
+  root_first = is.root_first;
+  origins_known = is.origins_known;
+  one_variable_each = is.one_variable_each;
+  loaded_once = is.loaded_once;
+  loaded = is.loaded;
+  registered = is.registered;
+  clauses = is.clauses;
+  clauses_known = is.clauses_known;
+  watched = is.watched;
+  own = is.own;
+  exact = is.exact;
+  tracked = tracked;
+  place = is.place;
+  trail = is.trail;
+  assigned = is.assigned;
+}
+
+module _ {N S : Type 0} (st : Store N S) (sound : IsStored st) where
+  -- more variables, and other trackers
+  pub IsStored-tracking : (ts : N → Tracker ℕ) (os : List (VariableOrigin N S)) → length st.origins ≤ length os → AreVariables st.provider.same_solvable os
+      → All (IsKnownOrigin st.provider.universe) os → IsStored (record st { origins = os; trackers = ts })
+  IsStored-tracking ts os longer are known =
+      let new : Store N S = record st { origins = os; trackers = ts } in
+      let more : (v : ℕ) → IsVariable st v → IsVariable new v = λ v k. omega (arith, k, longer) in
+      record {
+        root_first = are.root_first;
+        origins_known = known;
+        one_variable_each = are.one_each;
+        clauses_known = All-weaker (IsKnownClause st.provider.universe st.origins) (IsKnownClause st.provider.universe os)
+            (clause_kept st.provider.universe st.origins os longer known) st.clauses sound.clauses_known;
+        loaded_once = sound.loaded_once;
+        loaded = All-weaker (IsLoaded st) (IsLoaded new) (λ e k. record {
+          one_a_set = k.one_a_set;
+          variables = All-weaker (All (IsVariable st)) (All (IsVariable new)) (λ l all. All-weaker (IsVariable st) (IsVariable new) more l all) e.1 k.variables;
+        }) st.loaded sound.loaded;
+        registered = sound.registered;
+        watched = sound.watched;
+        own = sound.own;
+        exact = sound.exact;
+        clauses = All-weaker (IsRegistered st) (IsRegistered new) (λ c k. record { parent = more c.parent k.parent; loaded = k.loaded; condition = k.condition }) st.requires sound.clauses;
+        place = sound.place;
+        trail = sound.trail;
+        assigned = All-weaker (IsAssigned st) (IsAssigned new) (λ e k. record { variable = more e.decision.variable k.variable; clause = k.clause }) st.trail sound.assigned;
+      }
+
+  -- more variables
+  pub IsStored-origins : (os : List (VariableOrigin N S)) → length st.origins ≤ length os → AreVariables st.provider.same_solvable os
+      → All (IsKnownOrigin st.provider.universe) os → IsStored (record st { origins = os })
+  IsStored-origins = IsStored-tracking st.trackers
+
+  -- one loaded requirement more
+  pub IsStored-loaded : (r : Requirement) (lists : List (List ℕ)) → lists_of st r ≡ None → IsLoaded st (r, lists)
+      → IsStored (record st { loaded = st.loaded ++ (r, lists) ∷ [] })
+  IsStored-loaded r lists fresh is =
+      let new : Store N S = record st { loaded = st.loaded ++ (r, lists) ∷ [] } in
+      let same : (e : Requirement × List (List ℕ)) → IsLoaded st e → IsLoaded new e = λ e k. record { one_a_set = k.one_a_set; variables = k.variables } in
+      record {
+        root_first = sound.root_first;
+        origins_known = sound.origins_known;
+        clauses_known = sound.clauses_known;
+        one_variable_each = sound.one_variable_each;
+        loaded_once = rw map-append (IsDistinct-push same_requirement-equivalence (map (λ e. e.0) st.loaded) r sound.loaded_once (not_among r st.loaded fresh));
+        loaded = All-push (IsLoaded new) st.loaded (r, lists) (All-weaker (IsLoaded st) (IsLoaded new) same st.loaded sound.loaded) (same (r, lists) is);
+        registered = sound.registered;
+        watched = sound.watched;
+        own = theirs_grown (literals_of (kept_literals st)) (literals_of (kept_literals new))
+            (literals_listed (kept_literals st) (kept_literals new).lists (λ s l h. lists_before st.loaded (r, lists) s l h)) st.clauses st.watches sound.own;
+        exact = sound.exact;
+        clauses = All-weaker (IsRegistered st) (IsRegistered new)
+            (λ c k. record { parent = k.parent; loaded = found-push c.requirement st.loaded (r, lists) k.loaded; condition = k.condition }) st.requires sound.clauses;
+        place = sound.place;
+        trail = sound.trail;
+        assigned = All-weaker (IsAssigned st) (IsAssigned new) (λ e k. record { variable = k.variable; clause = k.clause }) st.trail sound.assigned;
+      }
+
+  -- one disjunction more
+  pub IsStored-disjunction : (ls : List Lit) (condition : ℕ) → IsStored (with_disjunction st ls condition)
+  IsStored-disjunction ls condition =
+      let new : Store N S = with_disjunction st ls condition in
+      let grown : List (List Lit) = map (λ d. d.literals) st.disjunctions ++ ls ∷ [] in
+      record {
+        root_first = sound.root_first;
+        origins_known = sound.origins_known;
+        clauses_known = sound.clauses_known;
+        one_variable_each = sound.one_variable_each;
+        loaded_once = sound.loaded_once;
+        loaded = All-weaker (IsLoaded st) (IsLoaded new) (λ e k. record { one_a_set = k.one_a_set; variables = k.variables }) st.loaded sound.loaded;
+        registered = sound.registered;
+        watched = sound.watched;
+        own = theirs_grown (literals_of (kept_literals st)) (literals_of (kept_literals new))
+            (λ c l h. subst (λ ds. is_literal_in l (literals_of (record (kept_literals st) { disjunctions = ds }) c) ≡ true) (sym (map-append (λ d. d.literals) st.disjunctions (record { literals = ls; condition = condition } ∷ [])))
+            (literals_asked (kept_literals st) grown (asked_before (kept_literals st) (ls ∷ [])) c l h)) st.clauses st.watches sound.own;
+        exact = sound.exact;
+        clauses = All-weaker (IsRegistered st) (IsRegistered new) (λ d k. record { parent = k.parent; loaded = k.loaded; condition = longer d.condition k.condition }) st.requires sound.clauses;
+        place = sound.place;
+        trail = sound.trail;
+        assigned = All-weaker (IsAssigned st) (IsAssigned new) (λ e k. record { variable = k.variable; clause = k.clause }) st.trail sound.assigned;
+      }
+    where
+      longer : (o : Option ℕ) → IfSome o (λ d. d < length st.disjunctions) → IfSome o (λ d. d < length (st.disjunctions ++ record { literals = ls; condition = condition } ∷ []))
+      longer None k = tt
+      longer (Some d) k = omega (arith, k, length-append st.disjunctions (record { literals = ls; condition = condition } ∷ []))
+
+  -- scores are no part of what is stored
+  pub IsStored-scored : (scores : N → ℕ) → IsStored (record st { scores = scores })
+  IsStored-scored scores =
+      let new : Store N S = record st { scores = scores } in
+      record {
+        root_first = sound.root_first;
+        origins_known = sound.origins_known;
+        clauses_known = sound.clauses_known;
+        one_variable_each = sound.one_variable_each;
+        loaded_once = sound.loaded_once;
+        loaded = All-weaker (IsLoaded st) (IsLoaded new) (λ e k. record { one_a_set = k.one_a_set; variables = k.variables }) st.loaded sound.loaded;
+        registered = sound.registered;
+        watched = sound.watched;
+        own = sound.own;
+        exact = sound.exact;
+        clauses = All-weaker (IsRegistered st) (IsRegistered new) (λ d k. record { parent = k.parent; loaded = k.loaded; condition = k.condition }) st.requires sound.clauses;
+        place = sound.place;
+        trail = sound.trail;
+        assigned = All-weaker (IsAssigned st) (IsAssigned new) (λ e k. record { variable = k.variable; clause = k.clause }) st.trail sound.assigned;
+      }
+
+  -- the store with other learnt clauses
+  abbrev with_learnt_lists : List (List Lit) → Store N S
+  with_learnt_lists learnt = record st { learnt = learnt }
+
+  -- one clause more, with what it watches: registered, if it is a requires clause; learnt clauses keep their literals
+  pub IsStored-clause : (c : Clause N) (learnt : List (List Lit)) (more : List RequiresClause)
+      → ((id : ℕ) (l : Lit) → is_literal_in l (learnt_literals (kept_literals st) id) ≡ true → is_literal_in l (learnt_literals (kept_literals (with_learnt_lists learnt)) id) ≡ true)
+      → IsKnownClause st.provider.universe st.origins c → more ≡ requires_from (length st.clauses) (c ∷ []) → All (IsRegistered st) more
+      → IsStored (adds_clause (record st { learnt = learnt; requires = st.requires ++ more }) c).store
+  IsStored-clause c learnt more keeps known are all =
+      let kept = kept_literals (with_learnt_lists learnt) in
+      let watch : List Lit = two_or_none (first_watches kept (values st) c) in
+      let theirs = first_watches_own kept (values st) c in
+      let new : Store N S = (adds_clause (record st { learnt = learnt; requires = st.requires ++ more }) c).store in
+      let same : (d : RequiresClause) → IsRegistered st d → IsRegistered new d = λ d k. record { parent = k.parent; loaded = k.loaded; condition = k.condition } in
+      record {
+        root_first = sound.root_first;
+        origins_known = sound.origins_known;
+        clauses_known = All-push (IsKnownClause st.provider.universe st.origins) st.clauses c sound.clauses_known known;
+        one_variable_each = sound.one_variable_each;
+        loaded_once = sound.loaded_once;
+        loaded = All-weaker (IsLoaded st) (IsLoaded new) (λ e k. record { one_a_set = k.one_a_set; variables = k.variables }) st.loaded sound.loaded;
+        registered = ap (λ rs. rs ++ more) sound.registered ∙ ap (λ rs. requires_from 0 st.clauses ++ rs) are ∙ sym (requires_from-push 0 (length st.clauses) st.clauses c (omega arith));
+        watched = length-append st.watches (watch ∷ []) ∙ ap (λ n. n + 1) sound.watched ∙ sym (length-append st.clauses (c ∷ []));
+        own = theirs_pushed (literals_of kept) st.clauses st.watches c watch sound.watched theirs.own
+            (theirs_grown (literals_of (kept_literals st)) (literals_of kept) (literals_learnt (kept_literals st) learnt keeps) st.clauses st.watches sound.own);
+        exact = subst (λ n. IsExact (watched_at (st.watches ++ watch ∷ [])) (started n watch st.watchers)) sound.watched
+            (exact_pushed st.watches st.watchers watch theirs.two sound.exact);
+        clauses = All-append (IsRegistered new) st.requires more (All-weaker (IsRegistered st) (IsRegistered new) same st.requires sound.clauses)
+            (All-weaker (IsRegistered st) (IsRegistered new) same more all);
+        place = sound.place;
+        trail = sound.trail;
+        assigned = All-weaker (IsAssigned st) (IsAssigned new)
+            (λ e k. record { variable = k.variable; clause = omega (arith, k.clause, length-append st.clauses (c ∷ [])) }) st.trail sound.assigned;
+      }
+
+  -- one that isn't
+  IsStored-plain : (c : Clause N) (learnt : List (List Lit))
+      → ((id : ℕ) (l : Lit) → is_literal_in l (learnt_literals (kept_literals st) id) ≡ true → is_literal_in l (learnt_literals (kept_literals (with_learnt_lists learnt)) id) ≡ true)
+      → IsKnownClause st.provider.universe st.origins c → IsUnregistered c → IsStored (adds_clause (with_learnt_lists learnt) c).store
+  IsStored-plain c learnt keeps known unregistered =
+      subst (λ rs. IsStored (adds_clause (record st { learnt = learnt; requires = rs }) c).store) (append-nil st.requires)
+      (IsStored-clause c learnt [] keeps known (sym (unregistered (length st.clauses))) (All-nil (IsRegistered st)))
+
+  pub IsStored-added : (c : Clause N) → IsKnownClause st.provider.universe st.origins c → IsUnregistered c → IsStored (adds_clause st c).store
+  IsStored-added c known unregistered = IsStored-plain c st.learnt (λ id l h. h) known unregistered
+
+  pub IsStored-learnt : (ls : List Lit) → IsStored (adds_clause (with_learnt st ls) (Kind.Learnt (length st.learnt))).store
+  IsStored-learnt ls =
+      IsStored-plain (Kind.Learnt (length st.learnt)) (st.learnt ++ ls ∷ []) (λ id l h. found_before st.learnt (ls ∷ []) id l h) tt (λ id. refl)
+
+  -- one that is
+  pub IsStored-requires : (parent : ℕ) (disjunction : Option ℕ) (r : Requirement) → knows_requirement st.provider.universe r ≡ true
+      → IsVariable st parent → IsSome (lists_of st r) → IfSome disjunction (λ d. d < length st.disjunctions)
+      → IsStored (adds_clause (with_registered st parent r disjunction) (Kind.Requires parent disjunction r)).store
+  IsStored-requires parent disjunction r requirement known found kept =
+      let one : RequiresClause = record { parent = parent; requirement = r; condition = disjunction; clause_id = length st.clauses } in
+      IsStored-clause (Kind.Requires parent disjunction r) st.learnt (one ∷ []) (λ id l h. h)
+      (variable_known st.provider.universe st.origins sound.origins_known parent known, requirement) refl
+      (All-cons (IsRegistered st) one [] (record { parent = known; loaded = found; condition = kept }) (All-nil (IsRegistered st)))
+
+  -- a watch moved
+  pub IsStored-rewatched : (c : ℕ) (from to : Lit) → is_literal_in from (watched_by st c) ≡ true → is_literal_in to (watched_by st c) ≡ false
+      → is_literal_in to (clause_literals st c) ≡ true → IsStored (with_rewatched st c from to)
+  IsStored-rewatched c from to watches other has =
+      let new : Store N S = with_rewatched st c from to in
+      record {
+        root_first = sound.root_first;
+        origins_known = sound.origins_known;
+        clauses_known = sound.clauses_known;
+        one_variable_each = sound.one_variable_each;
+        loaded_once = sound.loaded_once;
+        loaded = All-weaker (IsLoaded st) (IsLoaded new) (λ e k. record { one_a_set = k.one_a_set; variables = k.variables }) st.loaded sound.loaded;
+        registered = sound.registered;
+        watched = length-set st.watches c (rewatched from to (watched_by st c)) ∙ sound.watched;
+        own = theirs_rewatched (literals_of (kept_literals st)) st.clauses st.watches c from to (watching_within st.watches c from watches) has sound.own;
+        exact = exact_rewatched st.watches st.watchers c from to watches other sound.exact;
+        clauses = All-weaker (IsRegistered st) (IsRegistered new) (λ d k. record { parent = k.parent; loaded = k.loaded; condition = k.condition }) st.requires sound.clauses;
+        place = sound.place;
+        trail = sound.trail;
+        assigned = All-weaker (IsAssigned st) (IsAssigned new) (λ e k. record { variable = k.variable; clause = k.clause }) st.trail sound.assigned;
+      }
+
+  -- another trail, and a place within it
+  pub IsStored-trail : (es : List Entry) (place : ℕ) → IsTrail es → All (IsAssigned st) es → place ≤ length es
+      → IsStored (record st { trail = es; place = place })
+  IsStored-trail es place trail all within =
+      let new : Store N S = record st { trail = es; place = place } in
+      record {
+        root_first = sound.root_first;
+        origins_known = sound.origins_known;
+        clauses_known = sound.clauses_known;
+        one_variable_each = sound.one_variable_each;
+        loaded_once = sound.loaded_once;
+        loaded = All-weaker (IsLoaded st) (IsLoaded new) (λ e k. record { one_a_set = k.one_a_set; variables = k.variables }) st.loaded sound.loaded;
+        registered = sound.registered;
+        watched = sound.watched;
+        own = sound.own;
+        exact = sound.exact;
+        clauses = All-weaker (IsRegistered st) (IsRegistered new) (λ c k. record { parent = k.parent; loaded = k.loaded; condition = k.condition }) st.requires sound.clauses;
+        place = within;
+        trail = trail;
+        assigned = All-weaker (IsAssigned st) (IsAssigned new) (λ e k. record { variable = k.variable; clause = k.clause }) es all;
+      }
+
+  -- one entry more
+  pub IsStored-pushed : (e : Entry) → values st e.decision.variable ≡ None → IsAssigned st e → HasLevel e → IsStored (record st { trail = st.trail ++ e ∷ [] })
+  IsStored-pushed e free is level =
+      IsStored-trail (st.trail ++ e ∷ []) st.place (IsTrail-push st.trail e sound.trail free level) (All-push (IsAssigned st) st.trail e sound.assigned is)
+      (omega (arith, sound.place, length-append st.trail (e ∷ [])))
+
+  -- one entry more, or none where the variable has a value
+  pub IsStored-assigned : (e : Entry) → IsAssigned st e → HasLevel e → IsStored (record st { trail = assigned (values st e.decision.variable) st.trail e })
+  IsStored-assigned e is level = by_value (values st e.decision.variable) refl
+    where
+      by_value : (o : Option Bool) → values st e.decision.variable ≡ o → IsStored (record st { trail = assigned o st.trail e })
+      by_value (Some known) h = sound
+      by_value None h = IsStored-pushed e h is level
+
+  -- fewer entries
+  IsStored-cut_back : (kept : List Entry) → IsTrail kept → All (IsAssigned st) kept → IsStored (cut_back st kept)
+  IsStored-cut_back kept trail all = IsStored-trail kept (min st.place (length kept)) trail all (omega arith)
+
+  pub IsStored-kept_until : (l : ℕ) → IsStored (cut_back st (kept_until l st.trail))
+  IsStored-kept_until l =
+      IsStored-cut_back (kept_until l st.trail)
+      (record { once = IsOnce-kept_until l st.trail sound.trail.once; levels = All-kept_until HasLevel l st.trail sound.trail.levels })
+      (All-kept_until (IsAssigned st) l st.trail sound.assigned)
+
+  pub IsStored-without_newest : IsStored (cut_back st (without_newest st.trail))
+  IsStored-without_newest =
+      let n : ℕ = length st.trail - 1 in
+      IsStored-cut_back (take n st.trail)
+      (record { once = IsOnce-take n st.trail sound.trail.once; levels = All-take HasLevel n st.trail sound.trail.levels })
+      (All-take (IsAssigned st) n st.trail sound.assigned)
+
+  -- one entry more was handed out, if there is one
+  pub IsStored-hands_next : IsStored (hands_next st (slice_get st.trail st.place)).store
+  IsStored-hands_next = by_entry (slice_get st.trail st.place) refl
+    where
+      by_entry : (o : Option Entry) → slice_get st.trail st.place ≡ o → IsStored (hands_next st o).store
+      by_entry None h = sound
+      by_entry (Some e) h =
+          let within : st.place < length st.trail = slice_get_within st.trail st.place e h in
+          IsStored-trail st.trail (st.place + 1) sound.trail sound.assigned (omega (arith, within))
+
+  -- the same, as a tracker's trail tells it
+  pub IsStored-propagated : (floor : ℕ) → let t = propagated (record { entries = st.trail; place = st.place; floor = floor }) in
+      IsStored (record st { trail = t.entries; place = t.place })
+  IsStored-propagated floor = by_entry (slice_get st.trail st.place) IsStored-hands_next
+    where
+      by_entry : (o : Option Entry) → IsStored (hands_next st o).store → IsStored (record st { place = cond (is_some o) (st.place + 1) st.place })
+      by_entry None h = h
+      by_entry (Some e) h = h
+
+  -- one variable more that stands for no solvable, and other trackers
+  pub IsStored-origin : (ts : N → Tracker ℕ) (o : VariableOrigin N S) → ((t : S) → ◌≡◌ {A = VariableOrigin N S} o (Solvable t) → ⊥) → IsKnownOrigin st.provider.universe o
+      → IsStored (record st { origins = st.origins ++ o ∷ []; trackers = ts })
+  IsStored-origin ts o none known =
+      let same = st.provider.same_solvable in
+      IsStored-tracking ts (st.origins ++ o ∷ []) (omega (arith, length-append st.origins (o ∷ []))) (record {
+        root_first = root-append st.origins o sound.root_first;
+        one_each = λ v t e.
+            slice_get-push_cases (variable_of_solvable same (st.origins ++ o ∷ []) t ≡ Some v) st.origins o v (Solvable t) e
+            (λ k. variable-kept same t o v st.origins (sound.one_variable_each v t k))
+            (λ k l. absurd (none t l));
+      })
+      (All-push (IsKnownOrigin st.provider.universe) st.origins o sound.origins_known known)
+
+  -- one helper variable more
+  pub IsStored-helper : (origin : HelperOrigin N) → knows_helper st origin ≡ true → IsStored (record st { origins = st.origins ++ helper_origin origin ∷ [] })
+  IsStored-helper origin known = IsStored-origin st.trackers (helper_origin origin) (no_solvable origin) (known_origin origin known)
+    where
+      no_solvable : (o : HelperOrigin N) (t : S) → ◌≡◌ {A = VariableOrigin N S} (helper_origin o) (Solvable t) → ⊥
+      no_solvable (Helps.AtLeastOne n) t e = cc
+      no_solvable (Helps.ConstrainsViolation v) t e = cc
+      no_solvable (Helps.RequiresGate r) t e = cc
+
+      known_origin : (o : HelperOrigin N) → knows_helper st o ≡ true → IsKnownOrigin st.provider.universe (helper_origin o)
+      known_origin (Helps.AtLeastOne n) k = k
+      known_origin (Helps.ConstrainsViolation v) k = k
+      known_origin (Helps.RequiresGate r) k = k
+
+module _ {N S : Type 0} (st : Store N S) (sound : IsStored st) (lawful : IsLawful st.provider) where
+  here : AreVariables st.provider.same_solvable st.origins
+  here = record { root_first = sound.root_first; one_each = sound.one_variable_each }
+
+  pub IsStored-with_variables : (ss : List S) → All (IsKnownSolvable st.provider.universe) ss
+      → IsStored (record st { origins = with_variables st.provider.same_solvable st.origins ss })
+  IsStored-with_variables ss known =
+      IsStored-origins st sound (with_variables st.provider.same_solvable st.origins ss) (longer-all st.provider.same_solvable st.origins ss)
+      (AreVariables-with_all st.provider.same_solvable lawful.reflexive st.origins ss here)
+      (known-with_variables st.provider.universe st.provider.same_solvable st.origins ss known sound.origins_known)
+
+  pub IsStored-with_variable : (s : S) → IsKnownSolvable st.provider.universe s → IsStored (record st { origins = with_variable st.provider.same_solvable st.origins s })
+  IsStored-with_variable s known =
+      IsStored-with_variables (s ∷ []) (All-cons (IsKnownSolvable st.provider.universe) s [] known (All-nil (IsKnownSolvable st.provider.universe)))
+
+  -- lists of solvables got variables, and these are kept for a requirement
+  pub IsStored-interned : (r : Requirement) {C : Type 0} (members : C → List S) (cs : List C) → All (IsKnownSolvable st.provider.universe) (flat_map members cs)
+      → lists_of st r ≡ None → length cs ≡ length (sets_of st.provider.universe r)
+      → IsStored (record st {
+        origins = with_variables st.provider.same_solvable st.origins (flat_map members cs);
+        loaded = st.loaded ++ (r, map (λ c. map (interned_variable st.provider.same_solvable (with_variables st.provider.same_solvable st.origins (flat_map members cs))) (members c)) cs) ∷ [];
+      })
+  IsStored-interned r members cs known fresh one_each =
+      let same = st.provider.same_solvable in
+      let os : List (VariableOrigin N S) = with_variables same st.origins (flat_map members cs) in
+      let interned : S → ℕ = interned_variable same os in
+      let grown : Store N S = record st { origins = os } in
+      let within = All-lists (λ s. interned s < length os) members cs (interned_all same lawful.reflexive st.origins (flat_map members cs)) in
+      IsStored-loaded grown (IsStored-with_variables (flat_map members cs) known) r (map (λ c. map interned (members c)) cs) fresh (record {
+        one_a_set = length-map cs (λ c. map interned (members c)) ∙ one_each;
+        variables = All-map (All (IsVariable grown)) (λ c. map interned (members c)) cs
+            (All-weaker (λ c. All (λ s. interned s < length os) (members c)) (λ c. All (IsVariable grown) (map interned (members c)))
+            (λ c k. All-map (IsVariable grown) interned (members c) k) cs within);
+      })

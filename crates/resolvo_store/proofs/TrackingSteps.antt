@@ -1,0 +1,84 @@
+-- Tracking a variable: what its parts answer makes a step. N are the names, S the solvables.
+use Rattle.std.proofs.Common.{◌≡◌, ℕ, ◌-◌, ◌^◌, Bool, true, false, cond, not, length, Option, Some, None, Result, Ok, Err, refl, sym, subst, ap, ◌∙◌}
+use Rattle.std.specs.Prelude.{[], ◌+◌, ◌&&◌, ◌||◌, ◌==◌, nat_eq, nat_lt, is_some, IsTrue, MatchOption, IfOk, OnOk, OnErr, IfErr}
+use Rattle.typed_ids.specs.Refusals.{IsGrowthRefusal}
+use Rattle.typed_ids.specs.declared.error.StoreError.{StoreError}
+use Rattle.typed_ids.specs.declared.error.StoreError.TheVariants.{OutOfMemory, IdSpace, UnknownId}
+use Rattle.at_most_once.specs.AtMostOne.{is_tracked}
+use Rattle.name_trackers.specs.NameTrackers.{lacks_tracker}
+use Rattle.resolvo_store.specs.declared.reply.Reply.{Reply as ProgramReply}
+use Rattle.resolvo_store.specs.Command.{Command, AtMostOnce, Reply, TrackedAs, Refused, reply_of, answer_of}
+use Rattle.resolvo_store.specs.Store.{Store}
+use Rattle.resolvo_store.specs.Tracking.{is_helper_among, lacks_more}
+use Rattle.resolvo_store.specs.Refusals.{first_refusal, knows_variable}
+use Rattle.resolvo_store.specs.Outcome.{Outcome, outcome, helper_for, tracking, with_tracked}
+use Rattle.resolvo_store.specs.Step.{Step, IsAnswered, lacks_ids, may_be_refused}
+use Rattle.resolvo_store.proofs.AddingLemmas.{none_yet}
+
+-- of three tests one holds, in whatever order they are asked
+one_holds : (l x y : Bool) → ((l || x) || y) ≡ true → ((l || y) || x) ≡ true
+one_holds true x y h = refl
+one_holds false true true h = refl
+one_holds false true false h = refl
+one_holds false false true h = refl
+one_holds false false false h = h
+
+module _ {N S : Type 0} (st : Store N S) (name : N) (v : ℕ) where
+  abbrev command : Command N S
+  command = AtMostOnce name v
+
+  abbrev tracked : Bool
+  tracked = is_tracked nat_eq (st.trackers name) v
+
+  -- no id is left for a helper that is needed, or for the clauses
+  abbrev pub lacks_others : Bool
+  lacks_others = lacks_more st.origins (helper_for st name v) (length st.clauses) (length (tracking st name v))
+
+  -- no id is left for something of these, or for the name's tracker
+  abbrev pub lacks_any : Bool
+  lacks_any = lacks_tracker (st.provider.is_large_name name) st.provider.are_names_many (st.trackers name) || lacks_others
+
+  first_of_tracking : (st.provider.universe.knows_name name && (knows_variable st v && not (is_helper_among st.origins v))) ≡ true → first_refusal st command ≡ None
+  first_of_tracking known = none_yet (not (st.provider.universe.knows_name name && (knows_variable st v && not (is_helper_among st.origins v)))) UnknownId [] (ap not known)
+
+  answered : (known : (st.provider.universe.knows_name name && (knows_variable st v && not (is_helper_among st.origins v))) ≡ true) (reply : Reply) (after : Store N S)
+      → IsAnswered st command reply after → Step st command reply after
+  answered known reply after is =
+      subst (λ o. MatchOption o (IsAnswered st command reply after) (λ e. (reply ≡ Refused e) × (after ≡ st))) (sym (first_of_tracking known)) is
+
+  -- it was tracked before
+  pub step_already : (st.provider.universe.knows_name name && (knows_variable st v && not (is_helper_among st.origins v))) ≡ true → tracked ≡ true
+      → Step st command (TrackedAs false 0) st
+  step_already known before =
+      let same : outcome st command ≡ record { reply = TrackedAs false 0; store = st } =
+      ap (λ b. cond b (let o : Outcome N S = record { reply = TrackedAs false 0; store = st } in o) (record { reply = TrackedAs true (length (tracking st name v)); store = with_tracked st name v })) before in
+      answered known (TrackedAs false 0) st (
+        ap (λ b. not b && (st.provider.is_large_name name || lacks_others)) before,
+        sym (ap (λ o. o.reply) same),
+        sym (ap (λ o. o.store) same),
+      )
+
+  -- it is tracked from now on, or that was refused
+  pub step_tracked : {A : Type 0} (result : Result (ProgramReply A) StoreError) (after : Store N S)
+      → (st.provider.universe.knows_name name && (knows_variable st v && not (is_helper_among st.origins v))) ≡ true → tracked ≡ false
+      → IfOk result (λ reply. reply_of reply ≡ TrackedAs true (length (tracking st name v)))
+      → OnOk result (after ≡ with_tracked st name v) → OnErr result (after ≡ st)
+      → OnOk result ((st.provider.is_large_name name || lacks_others) ≡ false) → IfErr result (IsGrowthRefusal lacks_any)
+      → Step st command (answer_of result) after
+  step_tracked (Ok reply) after known new said made left fits refused =
+      let same : outcome st command ≡ record { reply = TrackedAs true (length (tracking st name v)); store = with_tracked st name v } =
+      ap (λ b. cond b (let o : Outcome N S = record { reply = TrackedAs false 0; store = st } in o) (record { reply = TrackedAs true (length (tracking st name v)); store = with_tracked st name v })) new in
+      subst (λ r. Step st command r after) (sym said)
+      (answered known (TrackedAs true (length (tracking st name v))) after (
+        ap (λ b. not b && (st.provider.is_large_name name || lacks_others)) new ∙ fits,
+        sym (ap (λ o. o.reply) same),
+        made ∙ sym (ap (λ o. o.store) same),
+      ))
+  step_tracked (Err e) after known new said made left fits refused = answered known (Refused e) after (may e refused, left)
+    where
+      may : (x : StoreError) → IsGrowthRefusal lacks_any x → may_be_refused st command x ≡ true
+      may OutOfMemory h = ap not new
+      may IdSpace h =
+          ap (λ b. (not b && (st.provider.is_large_name name || lacks_others)) || (st.provider.are_names_many && (length (st.trackers name).variables == 0))) new
+          ∙ one_holds (st.provider.is_large_name name) (st.provider.are_names_many && (length (st.trackers name).variables == 0)) lacks_others h
+      may _ h = absurd h

@@ -1,0 +1,65 @@
+use Rattle.std.proofs.Common.{◌≡◌, ◌<◌, ◌∙◌, sym, subst, length, true, false, arith}
+use Rattle.std.specs.Prelude.{◌&&◌, not}
+use Rattle.std.proofs.lemmas.Bool.Decides.{nat_tests}
+use Rattle.clause_list.specs.ClauseList.{contents}
+use Rattle.name_trackers.specs.NameTrackers.{tracker_of}
+use Rattle.resolvo_store.specs.Command.{AtMostOnce, answer_of}
+use Rattle.resolvo_store.specs.Refusals.{knows_variable}
+use Rattle.resolvo_store.specs.Step.{Step}
+use Rattle.resolvo_store.specs.Store.{Store, Kept, Provider, store_of, gathered}
+use Rattle.resolvo_store.specs.Tracking.{is_helper_among}
+use Rattle.resolvo_store.proofs.AddingLemmas.{both, failed}
+use Rattle.resolvo_store.proofs.InvariantLemmas.{after_tracked, tracked_or_same, with_list}
+use Rattle.resolvo_store.proofs.CallerLaws.{store_in, left_of}
+use Rattle.resolvo_store.proofs.KnownLemmas.{IsLawful}
+use Rattle.resolvo_store.proofs.TrackingSteps.{step_tracked}
+use Rattle.resolvo_store.proofs.store.ClauseStore.at_most_once.Given.{Over}
+use Rattle.resolvo_store.proofs.store.ClauseStore.at_most_once.Goals as goal
+
+-- the provider's functions
+abbrev given : (g : Over) → g.row.D.Denot → Provider g.row.D-NameId.Denot g.row.D-SolvableId.Denot
+given g = gathered g.D.NameId.PartialEq.eq g.D.SolvableId.PartialEq.eq g.D.NameId.Slots.IdMap.is_too_large g.D.SolvableId.Slots.IdMap.is_too_large
+    g.D.SolvableId.Set.IdSet.is_too_large g.D.NameId.SolverId.are_many g.D.Interner.universe g.D.DependencyProvider.answers
+
+-- its laws
+abbrev lawful : (g : Over) (p : g.row.D.Denot) → IsLawful (given g p)
+lawful g p = record {
+  reflexive = g.met.D.SolvableId.Eq.laws.refl;
+  same = g.met.D.SolvableId.SameValue.same;
+  same_names = g.met.D.NameId.SameValue.same;
+  candidates = g.met.D.DependencyProvider.candidates_known p;
+  order = g.met.D.DependencyProvider.order_permutes p;
+}
+
+pub invariant_of-self : goal.invariant_of-self
+invariant_of-self g c =
+    let name = c.args.name in
+    let v = c.args.variable in
+    let now = c.args.self.now in
+    let st = store_of (given g) g.D.NameId.Scores.IdMap.value_at now in
+    let one = both (st.provider.universe.knows_name name) (knows_variable st v && not (is_helper_among st.origins v)) (sym c.may_track.ensures ∙ c.if-not-may_track.false) in
+    let two = both (knows_variable st v) (not (is_helper_among st.origins v)) one.1 in
+    let variable : v < length now.origins = (let test = two.0 in grind (arith, nat_tests, test)) in
+    let Known : Kept g.row.D.Denot g.row.D-NameId.Denot g.row.D-SolvableId.Denot g.row.D-NameId-Scores.Denot → Type 0 = λ kept.
+    ((g.D.Interner.universe kept.provider).knows_name name ≡ true) × (v < length kept.origins) × (is_helper_among kept.origins v ≡ false) in
+    let all : Known now = (one.0, variable, failed (is_helper_among now.origins v) two.1) in
+    let here = subst Known (sym c.self.view_is) all in
+    after_tracked c.self.invariant name v c.track.result (lawful g c.self.inside.cache.provider) here.0 here.1 here.2 (sym c.is_tracked.ensures ∙ c.if-is_tracked.false)
+    c.track.ensures.variables c.track.ensures.clauses c.track.ensures.trackers c.track.ensures.same_variables c.track.ensures.same_clauses c.track.ensures.same_trackers
+
+pub returns-clause-step : goal.returns-clause-step
+returns-clause-step g c =
+    let name = c.args.name in
+    let v = c.args.variable in
+    let old = store_in c.self.invariant.sound in
+    let May : Kept g.row.D.Denot g.row.D-NameId.Denot g.row.D-SolvableId.Denot g.row.D-NameId-Scores.Denot → Type 0 = λ kept. let st = store_of (given g) g.D.NameId.Scores.IdMap.value_at kept in
+    (st.provider.universe.knows_name name && (knows_variable st v && not (is_helper_among st.origins v))) ≡ true in
+    let may : May (left_of c.self.view_is) = subst May (sym c.self.view_is) (sym c.may_track.ensures ∙ c.if-not-may_track.false) in
+    let origins = c.track.new.variables in
+    let clauses = contents c.track.new.clauses in
+    let trackers = tracker_of g.D.NameId.PartialEq.eq c.track.new.trackers in
+    let after : Store g.row.D-NameId.Denot g.row.D-SolvableId.Denot = record (with_list old clauses) { origins = origins; trackers = trackers } in
+    let parts = tracked_or_same old name v origins clauses trackers c.track.result c.track.ensures.variables c.track.ensures.clauses c.track.ensures.trackers
+    c.track.ensures.same_variables c.track.ensures.same_clauses c.track.ensures.same_trackers in
+    subst (λ (k : Kept g.row.D.Denot g.row.D-NameId.Denot g.row.D-SolvableId.Denot g.row.D-NameId-Scores.Denot). Step (store_of (given g) g.D.NameId.Scores.IdMap.value_at k) (AtMostOnce name v) (answer_of c.track.result) after) c.self.view_is
+    (step_tracked old name v c.track.result after may (sym c.is_tracked.ensures ∙ c.if-is_tracked.false) c.track.ensures.reply parts.0 parts.1 c.track.ensures.fits c.track.ensures.refused)

@@ -1,0 +1,35 @@
+use Rattle.std.proofs.Common.{◌≡◌, ◌∙◌, refl, sym, subst, true}
+use Rattle.resolvo_queue.specs.References.{references}
+use Rattle.resolvo_store.specs.Command.{Bump, answer_of}
+use Rattle.resolvo_store.specs.Step.{Step}
+use Rattle.resolvo_store.specs.Store.{Store, Kept, Provider, store_of, gathered}
+use Rattle.resolvo_store.proofs.AddingLemmas.{step_grown, first_of_bump}
+use Rattle.resolvo_store.proofs.CallerLaws.{store_in}
+use Rattle.resolvo_store.proofs.InvariantLemmas.{after_bumped, bumped_or_same}
+use Rattle.resolvo_store.proofs.store.ClauseStore.bump.Given.{Over}
+use Rattle.resolvo_store.proofs.store.ClauseStore.bump.Goals as goal
+
+-- the provider's functions
+abbrev given : (g : Over) → g.row.D.Denot → Provider g.row.D-NameId.Denot g.row.D-SolvableId.Denot
+given g = gathered g.D.NameId.PartialEq.eq g.D.SolvableId.PartialEq.eq g.D.NameId.Slots.IdMap.is_too_large g.D.SolvableId.Slots.IdMap.is_too_large
+    g.D.SolvableId.Set.IdSet.is_too_large g.D.NameId.SolverId.are_many g.D.Interner.universe g.D.DependencyProvider.answers
+
+pub invariant_of-self : goal.invariant_of-self
+invariant_of-self g c =
+    let inside = c.self.inside in
+    after_bumped c.self.invariant g.D.NameId.PartialEq.eq g.met.D.NameId.SameValue.same c.args.name c.args.amount c.raise.result refl c.raise.ensures.clauses c.raise.ensures.synced
+    (c.raise.ensures.stands (references (g.D.Interner.universe inside.cache.provider) inside.loaded inside.disjunctions) c.self.invariant.may_ask.stands)
+    c.raise.ensures.bumped c.raise.ensures.hot c.raise.ensures.same_scores c.raise.ensures.same_hot
+
+pub returns-clause-step : goal.returns-clause-step
+returns-clause-step g c =
+    let name = c.args.name in
+    let st = store_in c.self.invariant.sound in
+    let after : Store g.row.D-NameId.Denot g.row.D-SolvableId.Denot =
+    record st { scores = g.D.NameId.Scores.IdMap.value_at c.raise.new.scores.map; requires = c.raise.new.queue.clauses } in
+    let large = g.D.NameId.Slots.IdMap.is_too_large name in
+    let parts = bumped_or_same st name c.args.amount (g.D.NameId.Scores.IdMap.value_at c.raise.new.scores.map) c.raise.result refl c.raise.ensures.clauses.clauses c.raise.ensures.bumped c.raise.ensures.same_scores in
+    subst (λ (k : Kept g.row.D.Denot g.row.D-NameId.Denot g.row.D-SolvableId.Denot g.row.D-NameId-Scores.Denot). Step (store_of (given g) g.D.NameId.Scores.IdMap.value_at k) (Bump name c.args.amount) (answer_of c.raise.result) after) c.self.view_is
+    (step_grown st (Bump name c.args.amount) large c.raise.result after
+    (first_of_bump st name c.args.amount (subst (λ p. (g.D.Interner.universe p).knows_name name ≡ true) c.provider.ensures.provider (sym c.knows_name.ensures ∙ c.if-not-knows_name.false)))
+    refl refl (λ h. h) c.raise.ensures.reply parts.0 parts.1 c.raise.ensures.refused c.raise.ensures.too_large)

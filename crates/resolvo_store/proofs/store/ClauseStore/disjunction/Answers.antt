@@ -1,0 +1,32 @@
+use Rattle.std.proofs.Common.{◌≡◌, ◌∙◌, refl, ap, sym, subst, Some, None}
+use Rattle.resolvo_store.specs.Command.{Disjunction, answer_of}
+use Rattle.resolvo_store.specs.Lists.{disjunctions_kept}
+use Rattle.resolvo_store.specs.Refusals.{first_refusal, are_disjunctions_out}
+use Rattle.resolvo_store.specs.Step.{Step}
+use Rattle.typed_ids.specs.declared.error.StoreError.TheVariants.{IdSpace}
+use Rattle.std.specs.Prelude.{if◌then◌else◌}
+use Rattle.resolvo_store.specs.Store.{Kept, Provider, store_of, gathered}
+use Rattle.resolvo_store.proofs.CallerLaws.{store_in}
+use Rattle.resolvo_store.proofs.AddingLemmas.{step_grown, first_of_disjunction}
+use Rattle.resolvo_store.proofs.InvariantLemmas.{after_disjunction, on_ok, on_err}
+use Rattle.resolvo_store.proofs.store.ClauseStore.disjunction.Given.{Over}
+use Rattle.resolvo_store.proofs.store.ClauseStore.disjunction.Goals as goal
+
+-- the provider's functions
+abbrev given : (g : Over) → g.row.D.Denot → Provider g.row.D-NameId.Denot g.row.D-SolvableId.Denot
+given g = gathered g.D.NameId.PartialEq.eq g.D.SolvableId.PartialEq.eq g.D.NameId.Slots.IdMap.is_too_large g.D.SolvableId.Slots.IdMap.is_too_large
+    g.D.SolvableId.Set.IdSet.is_too_large g.D.NameId.SolverId.are_many g.D.Interner.universe g.D.DependencyProvider.answers
+
+pub invariant_of-self : goal.invariant_of-self
+invariant_of-self g c = after_disjunction c.self.invariant c.keep_disjunction.result refl c.keep_disjunction.ensures.more c.keep_disjunction.ensures.err
+
+pub returns-clause-step : goal.returns-clause-step
+returns-clause-step g c =
+    let st = store_in c.self.invariant.sound in
+    let made = record st { disjunctions = disjunctions_kept c.keep_disjunction.new.disjunctions } in
+    subst (λ (k : Kept g.row.D.Denot g.row.D-NameId.Denot g.row.D-SolvableId.Denot g.row.D-NameId-Scores.Denot). Step (store_of (given g) g.D.NameId.Scores.IdMap.value_at k) (Disjunction c.args.literals.now c.args.condition) (answer_of c.keep_disjunction.result) made) c.self.view_is
+    (step_grown st (Disjunction c.args.literals.now c.args.condition) (are_disjunctions_out st) c.keep_disjunction.result made
+    (subst (λ (k : Kept g.row.D.Denot g.row.D-NameId.Denot g.row.D-SolvableId.Denot g.row.D-NameId-Scores.Denot). let s = store_of (given g) g.D.NameId.Scores.IdMap.value_at k in first_refusal s (Disjunction c.args.literals.now c.args.condition) ≡ (if are_disjunctions_out s then Some IdSpace else None)) (sym c.self.view_is)
+    (first_of_disjunction (store_of (given g) g.D.NameId.Scores.IdMap.value_at c.args.self.now) c.args.literals.now c.args.condition (sym c.knows_parts.ensures ∙ c.if-not-knows_parts.false)))
+    refl refl (λ h. h) c.keep_disjunction.ensures.reply (on_ok c.keep_disjunction.result (ap (λ ds. record st { disjunctions = ds })) c.keep_disjunction.ensures.ok)
+    (on_err c.keep_disjunction.result (ap (λ ds. record st { disjunctions = disjunctions_kept ds })) c.keep_disjunction.ensures.err) c.keep_disjunction.ensures.refused c.keep_disjunction.ensures.ids_out)

@@ -1,0 +1,95 @@
+//! The commands on scores: how active packages were in a search.
+ghost use Rattle.std.specs.Prelude.{◌≡◌, true, Err, IsTrue, IfOk, OnOk, OnErr, IfErr};
+ghost use Rattle.typed_ids.specs.Refusals.{IsGrowthRefusal};
+ghost use Rattle.typed_ids.specs.TotalMaps.{IsUpdate, SameValues};
+ghost use Rattle.typed_ids.specs.declared.error.StoreError.TheVariants.{IdSpace};
+ghost use Rattle.scores.specs.Scores.{bumped};
+ghost use Rattle.resolvo_queue.specs.Queue.{SameClauses, SameSync, StandsOn};
+ghost use Rattle.resolvo_queue.specs.References.{References};
+ghost use Rattle.resolvo_store.specs.Command.{Done, reply_of};
+
+use crate::abstract_store::AbstractStore;
+use crate::reply::Reply;
+use crate::store::ClauseStore;
+use id_maps::{IdMap, IdSet, SolverId};
+use providers::{DependencyProvider, Interner};
+use resolvo_queue::DecideQueue;
+use scores::Scores;
+use typed_ids::StoreError;
+
+impl<D: DependencyProvider + Drop> ClauseStore<D> {
+    ghost use Rattle.resolvo_store.specs.Command.{Bump, Decay, Standard, answer_of, reply_of, IsRefused};
+    ghost use Rattle.resolvo_store.specs.Refusals.{is_bad_fraction};
+    ghost use Rattle.resolvo_store.specs.Step.{Step};
+
+    /// Raises the score of a name.
+    pub(super) fn bump(
+        &mut self,
+        name: D::NameId,
+        amount: u64,
+    ) -> Result<Reply<D::Alloc>, StoreError>
+        ensures step { Step (⟦<D as AbstractStore>⟧.store self.old) (Bump name amount)
+            (answer_of result) (⟦<D as AbstractStore>⟧.store self.new) }
+        ensures answered { IfOk result (λ reply. IsRefused (reply_of reply) → ⊥) }
+        ensures provider { self.new.provider ≡ self.old.provider }
+    {
+        if !self.cache.provider().knows_name(name) {
+            return Err(StoreError::UnknownId);
+        }
+        raise(&mut self.scores, &mut self.queue, name, amount)
+    }
+
+    /// Takes all scores times a fraction.
+    pub(super) fn decay(
+        &mut self,
+        numerator: u64,
+        denominator: u64,
+    ) -> Result<Reply<D::Alloc>, StoreError>
+        ensures step { Step (⟦<D as AbstractStore>⟧.store self.old) (Decay numerator denominator)
+            (answer_of result) (⟦<D as AbstractStore>⟧.store self.new) }
+        ensures answered { IfOk result (λ reply. IsRefused (reply_of reply) → ⊥) }
+        ensures provider { self.new.provider ≡ self.old.provider }
+    {
+        if denominator == 0 || denominator < numerator {
+            return Err(StoreError::BadFraction);
+        }
+        self.scores.decay(numerator, denominator);
+        Ok(Reply::Done)
+    }
+
+    /// Tells the queue whether scores are raised and lowered by the standard parameters.
+    pub(super) fn standard(&mut self, standard: bool) -> Reply<D::Alloc>
+        ensures step { Step (⟦<D as AbstractStore>⟧.store self.old) (Standard standard)
+            (reply_of result) (⟦<D as AbstractStore>⟧.store self.new) }
+        ensures answered { IsRefused (reply_of result) → ⊥ }
+        ensures provider { self.new.provider ≡ self.old.provider }
+    {
+        self.queue.set_standard_activity_params(standard);
+        Reply::Done
+    }
+}
+
+/// Raises the score of a name, which the queue knows as hot from then on. All memory is taken before the score is written.
+fn raise<D: DependencyProvider>(
+    scores: &mut Scores<D::NameId, D::Alloc>,
+    queue: &mut DecideQueue<D>,
+    name: D::NameId,
+    amount: u64,
+) -> Result<Reply<D::Alloc>, StoreError>
+    ensures reply { IfOk result (λ reply. reply_of reply ≡ Done) }
+    ensures bumped { OnOk result (D.NameId.Scores.value_at scores.new.map
+        ≡ bumped D.NameId.eq name amount (D.NameId.Scores.value_at scores.old.map)) }
+    ensures hot { OnOk result (IsUpdate (D.NameId.Set.has queue.old.hot) name true (D.NameId.Set.has queue.new.hot)) }
+    ensures same_scores { OnErr result (D.NameId.Scores.value_at scores.new.map ≡ D.NameId.Scores.value_at scores.old.map) }
+    ensures same_hot { OnErr result (SameValues (D.NameId.Set.has queue.old.hot) (D.NameId.Set.has queue.new.hot)) }
+    ensures clauses { SameClauses queue.old queue.new }
+    ensures synced { SameSync queue.old queue.new }
+    ensures stands { (refs : References D.NameId D.SolvableId D.Alloc) → StandsOn refs queue.old → StandsOn refs queue.new }
+    ensures refused { IfErr result (IsGrowthRefusal (D.NameId.Slots.is_too_large name)) }
+    ensures too_large { IsTrue (D.NameId.Slots.is_too_large name) → result ≡ Err IdSpace }
+{
+    scores.make_room(name)?;
+    queue.mark_name_hot(name)?;
+    scores.bump(name, amount);
+    Ok(Reply::Done)
+}

@@ -1,0 +1,138 @@
+//! A variable whose tracking needs a helper, for which memory is refused: no helper is kept, so that the next variable
+//! gets the id that it would have got.
+use crate::listed::lists_of;
+use crate::obeys::Obeys;
+use crate::script::{Example, variable};
+use providers::{DependencyProvider, Interner};
+use refusing::Refusing;
+use resolvo_store::{ClauseStore, Command, HelperOrigin, Reply};
+use std::alloc::{Allocator, Global};
+use std::test::Fail;
+use test_checks::is_same;
+use typed_ids::{DenseIndex, NameId, SolvableId, StoreError};
+
+/// What a store answers: to the tracking that may be refused, to a helper variable after it, to the same tracking once
+/// more, and to another helper variable.
+#[derive(Clone, Copy, Debug, PartialEq, Eq)]
+struct Seen {
+    refused: Answer,
+    helper: Answer,
+    again: Answer,
+    other: Answer,
+    /// Whether the request came that was to be refused.
+    is_met: bool,
+}
+
+/// A reply, copied out.
+#[derive(Clone, Copy, Debug, PartialEq, Eq)]
+enum Answer {
+    Variable(usize),
+    Tracked(bool, usize),
+    Refused(StoreError),
+    Other,
+}
+
+fn answered<N, S, A: Allocator, T: Obeys<N, S, A>>(
+    store: &mut T,
+    command: &Command<N, S, A>,
+) -> Answer {
+    let reply = store.obey(command);
+    let answer = match &reply {
+        Reply::Variable(variable) => Answer::Variable(variable.to_index()),
+        Reply::Tracked(new, clauses) => Answer::Tracked(*new, *clauses),
+        Reply::Refused(error) => Answer::Refused(*error),
+        _ => Answer::Other,
+    };
+    drop(reply);
+    answer
+}
+
+/// Two variables of solvables, the first of which is tracked; then memory is refused to the tracking of the other one.
+fn seen_of<N: Copy, S: Copy, A: Allocator, T: Obeys<N, S, A>>(
+    store: &mut T,
+    name: N,
+    [first, second]: [S; 2],
+    heap: &Refusing<Global>,
+    number: u64,
+) -> Seen {
+    let tracking = Command::AtMostOnce(name, variable(2));
+    let helper = Command::Helper(HelperOrigin::AtLeastOne(name));
+    answered(store, &Command::Variable(first));
+    answered(store, &Command::Variable(second));
+    answered(store, &Command::AtMostOnce(name, variable(1)));
+    heap.arm(number);
+    let refused = answered(store, &tracking);
+    let is_met = !heap.is_armed();
+    heap.arm(0);
+    Seen {
+        refused,
+        helper: answered(store, &helper),
+        again: answered(store, &tracking),
+        other: answered(store, &helper),
+        is_met,
+    }
+}
+
+/// What is seen of a new store.
+fn new_seen<D: DependencyProvider + Drop>(
+    alloc: D::Alloc,
+    (provider, name): (D, D::NameId),
+    solvables: [D::SolvableId; 2],
+    heap: &Refusing<Global>,
+    number: u64,
+) -> Result<Seen, StoreError> {
+    let mut store = ClauseStore::new(alloc, provider)?;
+    let seen = seen_of(&mut store, name, solvables, heap, number);
+    drop(store);
+    Ok(seen)
+}
+
+fn dense_seen(rt: &impl AllocGlobal, number: u64) -> Result<Seen, StoreError> {
+    let heap = Refusing::new(rt.alloc());
+    let seen = dense_trial(&heap, number);
+    drop(heap);
+    seen
+}
+
+fn dense_trial(heap: &Refusing<Global>, number: u64) -> Result<Seen, StoreError> {
+    let provider = lists_of(heap, Example::TwoNames)?;
+    let solvables = [SolvableId::from_raw(0), SolvableId::from_raw(1)];
+    new_seen(
+        heap,
+        (provider, NameId::from_raw(0)),
+        solvables,
+        heap,
+        number,
+    )
+}
+
+/// The refused tracking leaves variable 3 to the next helper variable, and takes variable 4 for its helper the next time.
+const REFUSED: Seen = Seen {
+    refused: Answer::Refused(StoreError::OutOfMemory),
+    helper: Answer::Variable(3),
+    again: Answer::Tracked(true, 2),
+    other: Answer::Variable(5),
+    is_met: true,
+};
+
+/// Where nothing is refused, variable 3 is the helper.
+const ACCEPTED: Seen = Seen {
+    refused: Answer::Tracked(true, 2),
+    helper: Answer::Variable(4),
+    again: Answer::Tracked(false, 0),
+    other: Answer::Variable(5),
+    is_met: false,
+};
+
+#[test]
+fn a_refused_helper_is_not_kept(rt: HostRuntime) -> Result<(), Fail> {
+    for number in 1..100u64 {
+        let seen = dense_seen(&rt, number)?;
+        if !seen.is_met {
+            is_same(seen, ACCEPTED)?;
+            return is_same(number > 2, true);
+        }
+        is_same(seen, REFUSED)?;
+    }
+    Err(Fail::new("each tracking met a refusal"))
+}
