@@ -4,5 +4,8 @@
 //! `listings` reads rows into occurrences, and `syncs` brings queues up to date.
 #![tactic(auto)]
 
+mod anew;
+#[cfg(test)]
 mod listings;
+#[cfg(test)]
 mod syncs;

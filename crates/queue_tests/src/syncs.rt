@@ -1,10 +1,11 @@
 //! Queues that are brought up to date with a trail, in ample memory and where a request is refused.
 
+use crate::anew::sync_anew;
 use clauses::Disjunction;
 use decisions::{Decision, DecisionTracker};
 use id_storage::Arena;
 use plain_providers::Lists;
-use providers::{DependencyProvider, Requirement};
+use providers::Requirement;
 use refusing::Refusing;
 use resolvo_queue::DecideQueue;
 use std::alloc::{Allocator, Global};
@@ -112,12 +113,4 @@ fn register<A: Allocator + Copy>(
 
 fn variable(index: u8) -> VariableId {
     VariableId::from_index(usize::from(index))
-}
-
-/// Brings a queue up to date with a trail of which it knows nothing.
-fn sync_anew<D: DependencyProvider>(
-    queue: &mut DecideQueue<D>,
-    trail: &DecisionTracker<D::Alloc>,
-) -> Result<(), StoreError> {
-    queue.sync(0, trail.assignments(), trail.map())
 }
