@@ -3,6 +3,7 @@
 
 #[cfg(test)]
 mod ample;
+#[cfg(test)]
 mod calls;
 #[cfg(test)]
 mod refused;

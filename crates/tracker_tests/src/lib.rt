@@ -6,4 +6,5 @@
 mod ample;
 #[cfg(test)]
 mod refused;
+#[cfg(test)]
 mod tracked_numbers;
