@@ -1,0 +1,98 @@
+//! Trackers and scores by dense and by sparse names, where memory is ample.
+use crate::rooms::calls::{bump, seen, track};
+use id_maps::SolverId;
+use name_trackers::NameTrackers;
+use scores::Scores;
+use std::alloc::{Allocator, Global};
+use std::test::Fail;
+use test_checks::sees;
+use typed_ids::{DenseIndex, NameId, NameTag, SparseId, StoreError, VariableId};
+
+/// Three variables under one name and one under another: which needed a helper; then whether each name tracks the second
+/// one; then whether its clauses under the other name would be those of two variables and one helper.
+const TRACKED: [bool; 7] = [false, true, true, false, true, false, true];
+
+/// The scores of two names and the greatest: after bumps by 5 and 3; all halved; the second one bumped past the last number.
+const SCORES: [[u64; 3]; 3] = [[5, 3, 5], [2, 1, 2], [2, u64::MAX, u64::MAX]];
+
+fn tracked<N: SolverId<A>, A: Allocator + Copy>(
+    alloc: A,
+    names: [N; 2],
+) -> Result<[bool; 7], StoreError> {
+    let [first, second] = names;
+    let mut trackers = NameTrackers::new(alloc);
+    let one = VariableId::from_index(1);
+    let two = VariableId::from_index(2);
+    let helper = VariableId::from_index(8);
+    let needed = [
+        track(&mut trackers, first, one, helper)?,
+        track(&mut trackers, first, two, helper)?,
+        track(
+            &mut trackers,
+            first,
+            VariableId::from_index(3),
+            VariableId::from_index(9),
+        )?,
+        track(&mut trackers, second, one, helper)?,
+    ];
+    let mut clauses = Vec::new(alloc);
+    trackers.clauses_for(second, two, Some(helper), &mut clauses)?;
+    let wanted = [(one, helper, false), (two, helper, true)];
+    let [a, b, c, d] = needed;
+    Ok([
+        a,
+        b,
+        c,
+        d,
+        trackers.is_tracked(first, two),
+        trackers.is_tracked(second, two),
+        clauses.get(0).copied() == Some(wanted[0])
+            && clauses.get(1).copied() == Some(wanted[1])
+            && clauses.len() == 2,
+    ])
+}
+
+#[test]
+fn dense_names_have_trackers(rt: HostRuntime) -> Result<(), Fail> {
+    let names = [NameId::from_raw(5), NameId::from_raw(3)];
+    sees(tracked::<NameId, Global>(rt.alloc(), names), TRACKED)
+}
+
+#[test]
+fn sparse_names_have_trackers(rt: HostRuntime) -> Result<(), Fail> {
+    let names: [SparseId<NameTag>; 2] = [SparseId::from_raw(u32::MAX), SparseId::from_raw(0)];
+    sees(
+        tracked::<SparseId<NameTag>, Global>(rt.alloc(), names),
+        TRACKED,
+    )
+}
+
+fn scored<N: SolverId<A>, A: Allocator + Copy>(
+    alloc: A,
+    names: [N; 2],
+) -> Result<[[u64; 3]; 3], StoreError> {
+    let [first, second] = names;
+    let mut scores = Scores::new(alloc);
+    bump(&mut scores, first, 5)?;
+    bump(&mut scores, second, 3)?;
+    let bumped = seen(&scores, names);
+    scores.decay(1, 2);
+    let decayed = seen(&scores, names);
+    bump(&mut scores, second, u64::MAX)?;
+    Ok([bumped, decayed, seen(&scores, names)])
+}
+
+#[test]
+fn dense_names_have_scores(rt: HostRuntime) -> Result<(), Fail> {
+    let names = [NameId::from_raw(5), NameId::from_raw(3)];
+    sees(scored::<NameId, Global>(rt.alloc(), names), SCORES)
+}
+
+#[test]
+fn sparse_names_have_scores(rt: HostRuntime) -> Result<(), Fail> {
+    let names: [SparseId<NameTag>; 2] = [SparseId::from_raw(u32::MAX), SparseId::from_raw(0)];
+    sees(
+        scored::<SparseId<NameTag>, Global>(rt.alloc(), names),
+        SCORES,
+    )
+}

@@ -1,0 +1,7 @@
+//! Tests of what a clause store asks of its provider, and of loads that the provider stops.
+
+mod examples;
+mod obeys;
+mod played;
+mod refused;
+mod stopped;

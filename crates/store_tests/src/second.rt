@@ -1,0 +1,7 @@
+//! A clause store beside a second, naive one: both are given lists of commands that a recurrence makes, and reply alike.
+
+mod alike;
+mod compared;
+mod given;
+mod listed;
+mod stores;

@@ -1,0 +1,54 @@
+//! Lists of commands that are given to both stores.
+use crate::second::alike::are_alike;
+use crate::second::stores::{dense_replies, sparse_replies};
+use plain_store::{Catalogue, Counts, Drawn, KIND_COUNT, KINDS, count, draw, draw_packages};
+use std::alloc::Global;
+use std::test::Fail;
+use test_checks::is_same;
+
+/// How many lists there are.
+const LISTS: u64 = 400;
+
+/// The store replies to the list as the second one does, by dense ids and by sparse ones.
+fn are_answered_alike(
+    alloc: Global,
+    list: u64,
+    catalogue: &Catalogue,
+    drawn: &Drawn,
+) -> Result<(), Fail> {
+    let commands = drawn.commands.as_slice();
+    are_alike(
+        (list, commands),
+        dense_replies(alloc, catalogue, commands),
+        &drawn.replies,
+    )?;
+    are_alike(
+        (list, commands),
+        sparse_replies(alloc, catalogue, commands),
+        &drawn.replies,
+    )
+}
+
+/// The same of a list's number. The replies' kinds are counted.
+fn is_answered_alike(alloc: Global, list: u64, counts: &mut Counts) -> Result<(), Fail> {
+    let catalogue = draw_packages(alloc, list)?;
+    let drawn = draw(alloc, list)?;
+    count(counts, &drawn.commands, &drawn.replies);
+    let ended = are_answered_alike(alloc, list, &catalogue, &drawn);
+    drop(drawn);
+    drop(catalogue);
+    ended
+}
+
+/// Each list is answered alike, and each kind of reply came.
+#[test]
+fn stores_reply_alike(rt: HostRuntime) -> Result<(), Fail> {
+    let mut counts = [0; KIND_COUNT];
+    for list in 0..LISTS {
+        is_answered_alike(rt.alloc(), list, &mut counts)?;
+    }
+    for (kind, count) in KINDS.iter().zip(&counts) {
+        is_same((*kind, *count > 0), (*kind, true))?;
+    }
+    Ok(())
+}
