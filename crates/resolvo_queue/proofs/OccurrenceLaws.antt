@@ -1,5 +1,5 @@
 -- How the listings of variables grow while the rows of a requirement are read.
-use Rattle.std.proofs.Common.{◌≡◌, ℕ, zero, suc, ◌+◌, ◌<◌, ◌⊎◌, inl, inr, subst, arith, Bool, true, false, ◌||◌, cond, eqb, List, [], ◌∷◌, ◌++◌, length, get_or, take, flat_map, Some, sym, ap, refl, ◌∙◌, eq-eqb, eqb-true, Result, Ok, Err, OnOk, OnErr, append-nil, append_assoc, Vec}
+use Rattle.std.proofs.Common.{◌≡◌, ℕ, zero, suc, ◌+◌, ◌<◌, ◌⊎◌, inl, inr, subst, arith, Bool, true, false, ◌||◌, cond, eqb, List, [], ◌∷◌, ◌++◌, length, get_or, take, flat_map, Option, Some, None, is_some, sym, ap, refl, ◌∙◌, eq-eqb, eqb-true, Result, Ok, Err, OnOk, OnErr, append-nil, append_assoc, Vec, Bor, option_copied}
 use Rattle.std.specs.Prelude.{Contains}
 use Rattle.std.specs.List.{list_any}
 use Rattle.std.specs.Map.{keys_of, lookup}
@@ -18,11 +18,29 @@ use Rattle.resolvo_queue.specs.Rows.{candidates, lists_or_none}
 
 -- ---- what is listed, by the entries of a map
 
-same_is : (r q : Requirement) → same_requirement r q ≡ true → r ≡ q
+pub same_is : (r q : Requirement) → same_requirement r q ≡ true → r ≡ q
 same_is (Single v) (Single w) e = ap (λ (n : ℕ). Single (record { 0 = n })) (eqb-true v.0 w.0 e)
 same_is (Union v) (Union w) e = ap (λ (n : ℕ). Union (record { 0 = n })) (eqb-true v.0 w.0 e)
 same_is (Single v) (Union w) e = cc
 same_is (Union v) (Single w) e = cc
+
+pub same_self : (r : Requirement) → same_requirement r r ≡ true
+same_self (Single v) = eq-eqb v.0 v.0 refl
+same_self (Union v) = eq-eqb v.0 v.0 refl
+
+pub found_if_listed : {V : Type 0} (es : List (Requirement × V)) (r : Requirement) →
+    is_some (lookup (same_requirement r) es) ≡ list_any (same_requirement r) (keys_of es)
+found_if_listed [] r = refl
+found_if_listed (e ∷ es) r = go (same_requirement r e.0) (found_if_listed es r)
+  where
+    go : (b : Bool) → is_some (lookup (same_requirement r) es) ≡ list_any (same_requirement r) (keys_of es) →
+        is_some (cond b (Some e.1) (lookup (same_requirement r) es)) ≡ (b || list_any (same_requirement r) (keys_of es))
+    go true h = refl
+    go false h = h
+
+pub some_copied : {T : Type 0} (o : Option (Bor T)) → is_some o ≡ is_some (option_copied o)
+some_copied None = refl
+some_copied (Some x) = refl
 
 -- one entry more, or an earlier one written again
 pub listed_more : {V : Type 0} (es : List (Requirement × V)) (q : Requirement) (v : V) (r : Requirement) →

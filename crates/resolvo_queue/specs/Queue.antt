@@ -1,11 +1,20 @@
 -- What contracts see of a queue, and how its calls change it. N are the names of packages, H the sets of them.
-use Rattle.std.specs.Prelude.{◌≡◌, ℕ, Bool, false, ◌==◌, if◌then◌else◌, List, [], ◌∷◌, ◌++◌, map, take, All, Option, Some, None}
+use Rattle.std.specs.Prelude.{◌≡◌, ℕ, Bool, false, ◌==◌, if◌then◌else◌, List, [], ◌∷◌, ◌++◌, map, take, length, All, Option, Some, None}
+use Rattle.std.specs.declared.vec.Vec.{Vec}
 use Rattle.typed_ids.specs.TotalMaps.{SameValues}
 use Rattle.providers.specs.Provider.{Universe, sets_of}
 use Rattle.decisions.specs.Literals.{Values, known_true}
 use Rattle.decisions.specs.declared.decision.Decision.{Decision}
-use Rattle.resolvo_queue.specs.References.{References, HasParts}
+use Rattle.resolvo_queue.specs.Inspection.{clause_of}
+use Rattle.resolvo_queue.specs.Listing.{IsListedWell}
+use Rattle.resolvo_queue.specs.Names.{AreCold, AreLast, counts}
+use Rattle.resolvo_queue.specs.Question.{clause_literals}
+use Rattle.resolvo_queue.specs.References.{References, HasParts, rows_in}
+use Rattle.resolvo_queue.specs.Synced.{FindsConditions}
+use Rattle.resolvo_queue.specs.Synced.{IsSynced as KeepsQueued}
+use Rattle.resolvo_queue.specs.Tracking.{IsInOrder, Tracking, tracking_of}
 use Rattle.resolvo_queue.specs.declared.parent_value.ParentValue.{ParentValue}
+use Rattle.resolvo_queue.specs.declared.tracked_clauses.TrackedClauses.{TrackedClauses}
 use Rattle.resolvo_queue.specs.declared.requires_clause.RequiresClause.{RequiresClause}
 
 pub record Queue (N H : Type 0) : Type 0 where
@@ -19,6 +28,20 @@ pub record Queue (N H : Type 0) : Type 0 where
   pub must_start_anew : Bool
   -- the names that were marked hot
   pub hot : H
+  -- what is kept beside: calls tell nothing of it but what `StandsOn` says
+  pub inside : Tracking
+
+-- a queue's value, by what it keeps
+abbrev pub queue_of : {N H A : Type 0} → TrackedClauses A → List (Vec N A) → H → List ParentValue → Queue N H
+queue_of tracked names hot since = record {
+  clauses = map clause_of tracked.index.clauses.items;
+  names = map (λ own. own.items) names;
+  trail = tracked.trail.items;
+  since = since;
+  must_start_anew = tracked.must_start_anew;
+  hot = hot;
+  inside = tracking_of tracked;
+}
 
 -- the value of each variable by a trail: that of its decision, undecided if there is none
 abbrev pub values_of : List Decision → Values
@@ -90,7 +113,20 @@ AreNamed universe q = q.names ≡ map (λ c. map universe.set_name (sets_of univ
 abbrev pub OnlyHotScore : {N H : Type 0} → (H → N → Bool) → (N → ℕ) → Queue N H → Type 0
 OnlyHotScore {N} has scores q = (n : N) → has q.hot n ≡ false → scores n ≡ 0
 
--- what the queue's clauses name is there, and as it was when they were registered. The queue keeps nothing of it, so that
--- it is there is all
-abbrev pub StandsOn : {N S A H : Type 0} → References N S A → Queue N H → Type 0
-StandsOn refs q = All (HasParts refs) q.clauses
+-- what the queue's clauses name is there, and as it was when they were registered: the variables of a condition find the
+-- clause, the rows of listed requirements are listed, and unless the last sync was refused, all clauses that may be
+-- eligible are queued, and what is known of rows is right
+pub record StandsOn {N S A H : Type 0} (refs : References N S A) (q : Queue N H) : Type 0 where
+  pub clauses : q.clauses ≡ map clause_of q.inside.clauses
+  pub parts : All (HasParts refs) q.clauses
+  pub conditions : FindsConditions q.inside.clauses (clause_literals refs) q.inside.by_condition
+  pub listed : IsListedWell refs.lists q.inside.occurrences q.inside.requirements
+  pub synced : q.must_start_anew ≡ false →
+      KeepsQueued q.inside.clauses (clause_literals refs) (rows_in refs) (values_of q.trail) (counts (values_of q.trail) q.since q.inside.clauses) q.inside.requirements q.inside.queued
+
+-- what always holds of a queue
+pub record IsKept {N H : Type 0} (has : H → N → Bool) (q : Queue N H) : Type 0 where
+  pub order : IsInOrder q.inside
+  pub names : length q.names ≡ length q.inside.clauses
+  pub since : AreLast q.since q.inside.clauses
+  pub cold : AreCold (has q.hot) q.names q.inside.clauses

@@ -11,6 +11,20 @@ use id_storage::Arena;
 use std::alloc::Allocator;
 use typed_ids::DisjunctionId;
 
+/// The literals of a condition. Without one there are none.
+pub(crate) fn condition_of<'d, A: Allocator + Copy>(
+    condition: &Option<DisjunctionId>,
+    disjunctions: &'d Arena<DisjunctionId, Disjunction<A>, A>,
+) -> &'d [Literal]
+    requires { IfSome condition.now (λ d. d < length disjunctions.now) }
+    ensures { result.now ≡ condition_literals (kept_in [] [] disjunctions.now) condition.now }
+{
+    match condition {
+        None => &[],
+        Some(disjunction) => disjunctions[*disjunction].literals.as_slice(),
+    }
+}
+
 /// Whether all literals of a condition are false. Without one there are none.
 pub(crate) fn is_met<A: Allocator + Copy>(
     condition: Option<DisjunctionId>,
@@ -20,10 +34,7 @@ pub(crate) fn is_met<A: Allocator + Copy>(
     requires { IfSome condition (λ d. d < length disjunctions.now) }
     ensures { result ≡ are_literals_false (values_in map.now) (condition_literals (kept_in [] [] disjunctions.now) condition) }
 {
-    match condition {
-        None => true,
-        Some(disjunction) => are_false(&disjunctions[disjunction].literals, map),
-    }
+    are_false(condition_of(&condition, disjunctions), map)
 }
 
 /// Whether all literals are false.

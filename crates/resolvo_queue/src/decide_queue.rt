@@ -15,14 +15,34 @@
 //! has a higher score, and whose version set has fewer undecided candidates left. No clause of another parent beats one
 //! of the root.
 //!
-//! A search tells the queue of each clause ([`DecideQueue::register_clause`]) and of each package that gets a score
-//! ([`DecideQueue::mark_name_hot`]), and brings it up to date with its trail ([`DecideQueue::sync`]) before it asks for
-//! a decision. This queue looks at every clause at each question, so it would do without being told of packages and
-//! trails; the conditions under which it answers are those of a queue that remembers what may have changed.
+//! A search asks after every propagation, with many clauses registered and a handful of variables changed since. So the
+//! queue remembers which clauses may be eligible, and what the last walk of each requirement's rows told. A search tells
+//! it of each clause ([`DecideQueue::register_clause`]) and of each package that gets a score
+//! ([`DecideQueue::mark_name_hot`]), and brings it up to date with its trail ([`DecideQueue::sync`]) before it asks for a
+//! decision. A sync routes the variables of the decisions that are new, and of those that were taken back:
 //!
-//! Beside the clauses it keeps what the scan's order wants. So a question costs one look at each parent's value, and
-//! nothing for the clauses of a parent that isn't true.
-ghost use Rattle.std.specs.Prelude.{◌≡◌, ℕ, ◌-◌, ◌<◌, ◌≤◌, ◌^◌, ◌↔◌, ◌≢◌, [], length, take, All, IsTrue, IsSome, IfSome, true, false, option_map, OnOk, OnErr, IfOk, IfErr};
+//! ```text
+//!                 its parent's clauses                      queued, if their parent is true
+//!               /
+//!     variable -- clauses with it in their condition        queued, if their parent is true
+//!               \
+//!                 requirements with it in a listed row      what was known of their rows is forgotten; if they were
+//!                                                           known to have no frontier, their clauses are queued
+//! ```
+//!
+//! By what is known a clause may be eligible if its parent is true, its condition is met, and its requirement isn't known to
+//! have no frontier. All of those are queued, by their position in the scan; some that can't be eligible any more may be
+//! queued too. A question ([`DecideQueue::next_decision`]) takes the queued clauses from the front. It walks a requirement's
+//! rows only if nothing is known of them, and after they were listed, so that a later sync finds them. What isn't eligible
+//! leaves the queue; the first clause that is, is the best so far. Behind it only a clause with a higher score is better, so
+//! while scores are raised by the standard parameters only those are looked at that have a package that ever got one: the hot ones,
+//! which are queued a second time. Nothing is better than a frontier with one candidate, or with the largest score.
+//!
+//! A sync that is refused is remembered: the next one forgets all that is known and queues all clauses whose parent is
+//! true, whatever was done before. A registration that is refused may leave a number in a list that belongs to no clause yet, which
+//! wakes one clause too many later.
+ghost use Rattle.std.specs.Prelude.{◌≡◌, ◌-◌, ◌<◌, ◌≤◌, ◌^◌, ◌↔◌, ◌≢◌, [], length, take, All, IsTrue, IsSome, IfSome, true, false, option_map, OnOk, OnErr, IfOk, IfErr};
+ghost use Rattle.std.specs.List.{list_any};
 ghost use Rattle.std.specs.Map.{lookup};
 ghost use Rattle.std.specs.Ordering.{nat_cmp};
 ghost use Rattle.typed_ids.specs.Refusals.{IsGrowthRefusal};
@@ -31,18 +51,21 @@ ghost use Rattle.typed_ids.specs.declared.error.StoreError.TheVariants.{IdSpace,
 ghost use Rattle.providers.specs.Provider.{Universe};
 ghost use Rattle.providers.specs.Requirement.{same_requirement};
 ghost use Rattle.decisions.specs.Decisions.{values_in};
+ghost use Rattle.resolvo_queue.specs.Names.{ColdLack};
 ghost use Rattle.resolvo_queue.specs.Pick.{eligible, pick, decided, DecidesUnbeaten};
 ghost use Rattle.resolvo_queue.specs.Queue.{AgreesBelow, AreNamed, HasTrail, IsNew, IsRegistered, IsSynced, IsUnchanged, OnlyHotScore, SameClauses, SameSync, StandsOn, values_of};
 ghost use Rattle.resolvo_queue.specs.References.{CanWalk, Lists, References, literals_in, references, rows_in, score_in};
 ghost use Rattle.resolvo_queue.specs.Scan.{first_falsified, is_eligible, scan};
 
-use crate::clauses_in_order::ClausesInOrder;
+use crate::condition::condition_of;
+use crate::deciding::next_offer;
 use crate::falsification::falsified_clause;
-use crate::parent_value::ParentValue;
-use crate::picking::{best_offer, decision_at};
+use crate::offer::decision_at;
+use crate::parent_value::{ParentValue, is_true};
 use crate::queue_decision::QueueDecision;
 use crate::requires_clause::RequiresClause;
 use crate::row_reader::RowReader;
+use crate::tracked_clauses::TrackedClauses;
 use clauses::Disjunction;
 use decisions::{Decision, DecisionMap};
 use id_maps::{IdSet, SolverId};
@@ -58,33 +81,22 @@ const MAX_CLAUSES: usize = u32::MAX as usize;
 /// The requires clauses of a store, and what it was told of since. A contract sees a `Queue`, by its fields one by one.
 #[derive(Drop)]
 pub struct DecideQueue<D: DependencyProvider> {
-    clauses: ClausesInOrder<D::Alloc>,
+    tracked: TrackedClauses<D::Alloc>,
     /// The names that were handed in with each clause.
     names: Vec<Vec<D::NameId, D::Alloc>, D::Alloc>,
     hot_names: <D::NameId as SolverId<D::Alloc>>::Set,
-    /// The trail of the last accepted sync.
-    trail: Vec<Decision, D::Alloc>,
-    /// The parents that were registered since.
+    /// The parents that were registered since the last accepted sync.
     since: Vec<ParentValue, D::Alloc>,
-    /// The last sync was refused.
-    must_start_anew: bool,
-    standard_activity_params: bool,
 }
 
 impl<D: DependencyProvider> Model for DecideQueue<D> {
-    ghost use Rattle.std.specs.Prelude.{map};
-    ghost use Rattle.resolvo_queue.specs.Queue.{Queue};
+    ghost use Rattle.resolvo_queue.specs.Queue.{IsKept, Queue, queue_of};
 
     ghost Value = { Queue D.NameId D.NameId.Set };
 
-    ghost view = { λ q. record {
-      clauses = q.clauses;
-      names = map (λ names. names.items) q.names.items;
-      trail = q.trail.items;
-      since = q.since.items;
-      must_start_anew = q.must_start_anew;
-      hot = q.hot_names;
-    } };
+    ghost view = { λ q. queue_of q.tracked q.names.items q.hot_names q.since.items };
+
+    ghost invariant = { λ q. IsKept D.NameId.Set.has (queue_of q.tracked q.names.items q.hot_names q.since.items) };
 }
 
 impl<D: DependencyProvider> DecideQueue<D> {
@@ -94,15 +106,12 @@ impl<D: DependencyProvider> DecideQueue<D> {
         ensures stands { (refs : References D.NameId D.SolvableId D.Alloc) → StandsOn refs result }
     {
         DecideQueue {
-            clauses: ClausesInOrder::new(alloc),
+            tracked: TrackedClauses::new(alloc),
             names: Vec::new(alloc),
             hot_names: <<D::NameId as SolverId<D::Alloc>>::Set as IdSet<D::NameId, D::Alloc>>::new(
                 alloc,
             ),
-            trail: Vec::new(alloc),
             since: Vec::new(alloc),
-            must_start_anew: false,
-            standard_activity_params: true,
         }
     }
 
@@ -111,14 +120,14 @@ impl<D: DependencyProvider> DecideQueue<D> {
         ensures value { result ≡ length self.now.clauses }
         ensures few { result < 2 ^ 32 }
     {
-        self.clauses.len()
+        self.tracked.index.clauses.len()
     }
 
     /// Whether there are no clauses.
     pub fn is_empty(&self) -> bool
         ensures { IsTrue result ↔ (self.now.clauses ≡ []) }
     {
-        self.clauses.len() == 0
+        self.len() == 0
     }
 
     /// Whether there are as many clauses as there may be.
@@ -128,19 +137,19 @@ impl<D: DependencyProvider> DecideQueue<D> {
         self.len() >= MAX_CLAUSES
     }
 
-    /// Tells whether scores are raised and lowered by the standard parameters, under which a queue may look at fewer
+    /// Tells whether scores are raised and lowered by the standard parameters, under which the queue looks at fewer
     /// clauses. The answers are the same.
     pub fn set_standard_activity_params(&mut self, standard: bool)
         ensures unchanged { IsUnchanged self.old self.new D.NameId.Set.has }
         ensures stands { (refs : References D.NameId D.SolvableId D.Alloc) → StandsOn refs self.old → StandsOn refs self.new }
     {
-        self.standard_activity_params = standard;
+        self.tracked.only_hot = standard;
     }
 
     /// Puts a clause after those that are there. With it come the packages of its requirement's version sets, in order,
     /// and the value of its parent.
     ///
-    /// Refused, it changes nothing that an answer can show.
+    /// Refused, it changes nothing that an answer can show. Constant beside the names, the condition and the maps.
     pub fn register_clause(
         &mut self,
         parent: VariableId,
@@ -177,7 +186,10 @@ impl<D: DependencyProvider> DecideQueue<D> {
         let names = copied(*self.names.allocator(), names)?;
         self.names.reserve(1)?;
         self.since.reserve(1)?;
-        self.clauses.push(&clause)?;
+        let is_hot = has_hot_name(&self.hot_names, names.as_slice());
+        let literals = condition_of(&condition, disjunctions);
+        self.tracked
+            .register(&clause, literals, is_hot, is_true(parent_value))?;
         self.names.push_reserved(names);
         self.since.push_reserved(ParentValue {
             parent,
@@ -186,7 +198,8 @@ impl<D: DependencyProvider> DecideQueue<D> {
         Ok(())
     }
 
-    /// Tells that a package has a score. A name stays hot. Refused, it changes nothing that an answer can show.
+    /// Tells that a package has a score. A name stays hot. Refused, it changes nothing that an answer can show. The first time
+    /// for a name it is linear in the names of all clauses.
     pub fn mark_name_hot(&mut self, name: D::NameId) -> Result<(), StoreError>
         ensures ok { OnOk result (IsUpdate (D.NameId.Set.has self.old.hot) name true (D.NameId.Set.has self.new.hot)) }
         ensures err { OnErr result (SameValues (D.NameId.Set.has self.old.hot) (D.NameId.Set.has self.new.hot)) }
@@ -196,14 +209,44 @@ impl<D: DependencyProvider> DecideQueue<D> {
         ensures too_large { IsTrue (D.NameId.Set.is_too_large name) → result ≡ Err IdSpace }
         ensures stands { (refs : References D.NameId D.SolvableId D.Alloc) → StandsOn refs self.old → StandsOn refs self.new }
     {
+        self.heat(name)?;
         self.hot_names.insert(name)?;
         Ok(())
+    }
+
+    /// Makes the clauses hot that have the name, unless it is hot already. Where the name is too large for a set of names,
+    /// a refusal says that.
+    fn heat(&mut self, name: D::NameId) -> Result<(), StoreError>
+        ensures lacks { OnOk result (ColdLack name self.new.names self.new.inside.clauses) }
+        ensures clauses { SameClauses self.old self.new }
+        ensures synced { SameSync self.old self.new }
+        ensures hot { self.new.hot ≡ self.old.hot }
+        ensures refused { IfErr result (IsGrowthRefusal (D.NameId.Set.is_too_large name)) }
+        ensures too_large { OnErr result (IsTrue (D.NameId.Set.is_too_large name) → result ≡ Err IdSpace) }
+        ensures stands { (refs : References D.NameId D.SolvableId D.Alloc) → StandsOn refs self.old → StandsOn refs self.new }
+    {
+        if self.hot_names.contains(name) {
+            return Ok(());
+        }
+        match self.tracked.heat_named(self.names.as_slice(), name) {
+            Ok(()) => Ok(()),
+            Err(refused) => {
+                let mut names = <<D::NameId as SolverId<D::Alloc>>::Set as IdSet<
+                    D::NameId,
+                    D::Alloc,
+                >>::new(*self.names.allocator());
+                names.insert(name)?;
+                Err(refused)
+            }
+        }
     }
 
     /// Brings the queue up to date with a trail, whose values the map has. The trail is that of the last accepted call
     /// below the floor; after a refused call the floor may be any.
     ///
-    /// A refusal is remembered: no decision may be asked for until a later call is accepted.
+    /// A refusal is remembered: no decision may be asked for until a later call is accepted. Linear in the decisions from the
+    /// floor on, in both trails, and in the clauses and requirements that have their variables; after a refused call in all
+    /// clauses.
     pub fn sync(
         &mut self,
         floor: usize,
@@ -219,20 +262,18 @@ impl<D: DependencyProvider> DecideQueue<D> {
         ensures memory { IfErr result (λ e. e ≡ OutOfMemory) }
         ensures stands { (refs : References D.NameId D.SolvableId D.Alloc) → StandsOn refs self.old → StandsOn refs self.new }
     {
-        let _ = map; // a scan reads the map of each question
-        let floor = if self.must_start_anew { 0 } else { floor };
-        self.must_start_anew = true;
-        copy_behind(&mut self.trail, floor, trail)?;
+        let floor = floor.min(trail.len()).min(self.tracked.trail.len());
+        self.tracked.sync(floor, trail, map)?;
         self.since.clear();
-        self.must_start_anew = false;
         Ok(())
     }
 
     /// The decision to take where no clause is falsified, which [`DecideQueue::falsified`] tells: that of an eligible
     /// clause which no other one beats. The scores are the packages', and the largest of them is handed in.
     ///
-    /// A refusal leaves the clauses, the trail and the hot names as they were, and the reader its walks. Linear in the
-    /// parents, and in the rows of the clauses of true parents.
+    /// A refusal leaves the clauses, the trail and the hot names as they were, and the reader its walks. Linear in the queued
+    /// clauses that turn out not to be eligible, which leave the queue, in the hot ones behind the first that is, and in
+    /// the rows of their requirements of which nothing was known.
     pub fn next_decision(
         &mut self,
         map: &DecisionMap<D::Alloc>,
@@ -264,13 +305,20 @@ impl<D: DependencyProvider> DecideQueue<D> {
         ensures lists { reader.new.lists ≡ reader.old.lists }
         ensures stands { StandsOn (references (D.universe provider.now) reader.old.lists disjunctions.now) self.new }
     {
-        let _ = largest; // a scan looks at each clause
-        let best = best_offer(&self.clauses, map, reader, disjunctions, scores, provider);
-        Ok(decision_at(&best))
+        let offer = next_offer(
+            &mut self.tracked,
+            map,
+            reader,
+            disjunctions,
+            scores,
+            largest,
+            provider,
+        )?;
+        Ok(decision_at(&offer))
     }
 
-    /// The first falsified clause of the scan, if there is one. Takes no memory; linear in the parents, and in the rows
-    /// of the clauses of true parents, of each up to the first row that isn't false.
+    /// The first falsified clause of the scan, if there is one. Takes no memory; linear in all clauses, and in the rows of
+    /// those whose parents are true, of each up to the first row that isn't false.
     pub fn falsified(
         &self,
         map: &DecisionMap<D::Alloc>,
@@ -283,7 +331,13 @@ impl<D: DependencyProvider> DecideQueue<D> {
         ensures { let refs = references (D.universe provider.now) lists.now disjunctions.now in
             result ≡ option_map (λ c. c.clause_id) (first_falsified (values_in map.now) (literals_in refs) (rows_in refs) self.now.clauses) }
     {
-        falsified_clause(&self.clauses, map, lists, disjunctions, provider)
+        falsified_clause(
+            self.tracked.index.clauses.as_slice(),
+            map,
+            lists,
+            disjunctions,
+            provider,
+        )
     }
 }
 
@@ -300,19 +354,9 @@ fn copied<T: Copy + Drop, A: Allocator + Copy>(
     Ok(copy)
 }
 
-/// Makes what is a copy of a trail below the floor a copy of all of it. A refusal may leave what is below the floor.
-fn copy_behind<A: Allocator + Copy>(
-    copy: &mut Vec<Decision, A>,
-    floor: usize,
-    trail: &[Decision],
-) -> Result<(), StoreError>
-    requires { take floor copy.old.items ≡ take floor trail.now }
-    ensures ok { OnOk result (copy.new.items ≡ trail.now) }
-    ensures memory { IfErr result (λ e. e ≡ OutOfMemory) }
+/// Whether a name is hot.
+fn has_hot_name<N: SolverId<A>, A: Allocator + Copy>(hot_names: &N::Set, names: &[N]) -> bool
+    ensures { result ≡ list_any (N.Set.has hot_names.now) names.now }
 {
-    copy.truncate(floor);
-    if floor < trail.len() {
-        copy.extend_from_slice(&trail[floor..])?;
-    }
-    Ok(())
+    names.iter().any(|name| hot_names.contains(*name))
 }

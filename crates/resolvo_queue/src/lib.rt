@@ -5,23 +5,38 @@
 //! parents came, and tells the first clause that nothing can meet any more; where there is none, it tells the candidate
 //! to try next.
 //!
-//! `decide_queue` has the queue, and `row_reader` the one way to the rows of requirements. `clauses_in_order` keeps the
-//! order of the scan, `falsification` and `picking` go through it, and `row_state` and `condition` look at one clause.
+//! `decide_queue` has the queue, and `row_reader` the one way to the rows of requirements. `tracked_clauses` keeps the
+//! clauses, in the order of the scan by their `position`, and what may be eligible of them; `registering`, `heating`,
+//! `sync` and `deciding` are what is done with it, `falsification` goes through all of them, and `inspection`, `row_state`
+//! and `condition` look at one clause.
 #![tactic(auto)]
 
-mod clauses_in_order;
+mod candidate;
+mod clause_index;
 mod condition;
 mod decide_queue;
+mod deciding;
 mod falsification;
 mod frontier;
+mod heating;
+mod inspection;
 mod lists_by_variable;
 mod offer;
 mod parent_value;
-mod picking;
+mod position;
+mod position_set;
 mod queue_decision;
+mod queued_clauses;
+mod registering;
+mod requirements;
 mod requires_clause;
+mod routing;
 mod row_reader;
 mod row_state;
+mod sync;
+mod tracked_clause;
+mod tracked_clauses;
+mod waking;
 mod walk_log;
 
 pub use decide_queue::DecideQueue;

@@ -1,5 +1,5 @@
 //! What eligible clauses offer.
-ghost use Rattle.std.specs.Prelude.{◌≡◌};
+ghost use Rattle.std.specs.Prelude.{◌≡◌, option_map};
 ghost use Rattle.resolvo_queue.specs.Pick.{beats, decided, is_of_root};
 
 use crate::frontier::Frontier;
@@ -17,7 +17,7 @@ pub struct Offer {
 
 impl Offer {
     /// Whether the clause's parent is the root.
-    fn is_of_root(&self) -> bool
+    pub(crate) fn is_of_root(&self) -> bool
         ensures { result ≡ is_of_root self.now }
     {
         self.clause.parent.is_root()
@@ -44,5 +44,15 @@ impl Offer {
             package_activity: self.score,
             candidate_count: self.frontier.count,
         }
+    }
+}
+
+/// The decision that an offer stands for.
+pub(crate) fn decision_at(offer: &Option<Offer>) -> Option<QueueDecision>
+    ensures { result ≡ option_map decided offer.now }
+{
+    match offer {
+        Some(offer) => Some(offer.decision()),
+        None => None,
     }
 }

@@ -126,6 +126,13 @@ impl<A: Allocator + Copy> Occurrences<A> {
         self.by_variable.at(variable)
     }
 
+    /// Whether a requirement is listed.
+    pub(crate) fn is_listed(&self, requirement: Requirement) -> bool
+        ensures { result ≡ is_listed self.now requirement }
+    {
+        self.listed.get(requirement).is_some()
+    }
+
     /// Puts a requirement to those of a variable.
     fn add(&mut self, variable: VariableId, requirement: Requirement) -> Result<(), StoreError>
         ensures listed { self.new.listed ≡ self.old.listed }

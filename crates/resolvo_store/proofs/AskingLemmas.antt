@@ -107,7 +107,7 @@ module _ {D N S A H Q : Type 0} {has : Q → N → Bool} {st : Store N S} {loade
     (requires : st.requires ≡ queue.clauses) (kept : st.loaded ≡ lists_kept loaded) where
   -- the rows of each registered clause can be walked
   pub can_walk : All (CanWalk (references st.provider.universe loaded disjunctions)) queue.clauses
-  can_walk = λ k d within. (let parts = is.may_ask.stands k d within in record {
+  can_walk = λ k d within. (let parts = is.may_ask.stands.parts k d within in record {
     known = known k d within;
     entry = parts.lists;
     one_a_set = one_each st.provider.universe loaded _ entries parts.lists;

@@ -34,8 +34,8 @@ impl<D: DependencyProvider + Drop> ClauseStore<D> {
     }
 
     /// The first falsified clause of the scan, if there is one: its parent is true, its condition is met, and all its
-    /// candidates are false. Takes no memory; linear in the parents, and in the rows of the clauses of true parents, of each
-    /// up to the first row that isn't false.
+    /// candidates are false. Takes no memory; linear in all registered clauses, and in the rows of those whose parents are
+    /// true, of each up to the first row that isn't false.
     pub fn falsified(&self) -> Option<ClauseId>
         ensures { result ≡ option_map (λ c. c.clause_id) (falsified_clause (⟦<D as AbstractStore>⟧.store self.now)) }
     {
@@ -49,8 +49,8 @@ impl<D: DependencyProvider + Drop> ClauseStore<D> {
 
     /// The decision that the scan picks, where nothing is falsified: [`ClauseStore::falsified`] is the test. It brings the
     /// queue up to date with the trail, for which it takes memory; nothing changes that a contract can see, also where it
-    /// is refused. Linear in what the trail changed by since the last decision, in the parents, and in the rows of the
-    /// clauses of true parents.
+    /// is refused. Linear in what the trail changed by since the last decision and the clauses that this wakes, in those of
+    /// them that aren't eligible, and in the rows of which nothing is known since.
     pub fn next_decision(&mut self) -> Result<Option<QueueDecision>, StoreError>
         requires { falsified_clause (⟦<D as AbstractStore>⟧.store self.old) ≡ None }
         ensures picked { IfOk result (λ decision. decision ≡ option_map decided (picked (⟦<D as AbstractStore>⟧.store self.old))) }

@@ -7,7 +7,7 @@ use std::test::Fail;
 use test_checks::is_same;
 
 /// How many lists there are.
-const LISTS: u64 = 400;
+const LISTS: u64 = 2000;
 
 /// The store replies to the list as the second one does, by dense ids and by sparse ones.
 fn are_answered_alike(

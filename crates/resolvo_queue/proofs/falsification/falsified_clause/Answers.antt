@@ -1,56 +1,52 @@
-use Rattle.std.proofs.Common.{◌≡◌, true, Some, None}
-use Rattle.std.proofs.lemmas.List.Elements.{All-same}
+use Rattle.std.proofs.Common.{Some, None}
 use Rattle.decisions.specs.Decisions.{values_in}
-use Rattle.decisions.specs.Literals.{known_true}
-use Rattle.resolvo_queue.specs.References.{CanWalk, HasParts, literals_in, references, rows_in}
-use Rattle.resolvo_queue.proofs.SearchLaws.{at_parent, falsified_at, falsified-parent, falsified-whole, found_here, found_nowhere, if_true, if_true-kept, if_true-open, nothing_here}
+use Rattle.resolvo_queue.specs.Inspection.{clause_of}
+use Rattle.resolvo_queue.specs.References.{literals_in, references, rows_in}
+use Rattle.resolvo_queue.specs.Scan.{is_falsified}
+use Rattle.resolvo_queue.proofs.FalsifiedLaws.{step_taken, step_first, step_kept, least_id}
+use Rattle.resolvo_queue.proofs.QueuedLaws.{read_at}
 use Rattle.resolvo_queue.proofs.falsification.falsified_clause.Goals as goal
+use Rattle.resolvo_queue.proofs.falsification.falsified_clause.Goals.{then-comes_first+then-is_falsified_clause, else-comes_first, else-comes_first-via-then-comes_first+else-is_falsified_clause, else-comes_first-via-else-comes_first}
 
-pub falsified_of-requires-clause-parts : goal.falsified_of-requires-clause-parts
-falsified_of-requires-clause-parts g c =
-    let val = values_in c.args.map.now in
+pub is_falsified_clause-requires-clause-condition : goal.is_falsified_clause-requires-clause-condition
+is_falsified_clause-requires-clause-condition g c =
+    (c.requires.askable c.loop-clause.clause-index c.clause-item.result
+    (read_at c.args.clauses.now c.loop-clause.clause-index c.clause-item.result c.loop-clause-test.true c.clause-item.is)).condition
+
+pub is_falsified_clause-requires-clause-walkable : goal.is_falsified_clause-requires-clause-walkable
+is_falsified_clause-requires-clause-walkable g c =
+    (c.requires.askable c.loop-clause.clause-index c.clause-item.result
+    (read_at c.args.clauses.now c.loop-clause.clause-index c.clause-item.result c.loop-clause-test.true c.clause-item.is)).walkable
+
+pub loop-clause-preserved : goal.loop-clause-preserved
+loop-clause-preserved g c =
     let refs = references (g.I.Interner.universe c.args.interner.now) c.args.lists.now c.args.disjunctions.now in
-    All-same (HasParts refs) c.clauses_if_true-own.result.now (if_true val c.args.clauses.now c.parent-item.result)
-    c.clauses_if_true-own.ensures (if_true-kept val c.args.clauses.now (HasParts refs) c.parent-item.result c.requires.parts)
-
-pub falsified_of-requires-clause-walkable : goal.falsified_of-requires-clause-walkable
-falsified_of-requires-clause-walkable g c =
-    let val = values_in c.args.map.now in
-    let refs = references (g.I.Interner.universe c.args.interner.now) c.args.lists.now c.args.disjunctions.now in
-    All-same (CanWalk refs) c.clauses_if_true-own.result.now (if_true val c.args.clauses.now c.parent-item.result)
-    c.clauses_if_true-own.ensures (if_true-kept val c.args.clauses.now (CanWalk refs) c.parent-item.result c.requires.walkable)
-
-pub falsified_of-requires-clause-parents : goal.falsified_of-requires-clause-parents
-falsified_of-requires-clause-parents g c =
-    let val = values_in c.args.map.now in
-    All-same (λ d. known_true (val d.parent) ≡ true) c.clauses_if_true-own.result.now
-    (if_true val c.args.clauses.now c.parent-item.result)
-    c.clauses_if_true-own.ensures (if_true-open val c.args.clauses.now c.parent-item.result)
-
-pub loop-parent-preserved : goal.loop-parent-preserved
-loop-parent-preserved g c =
-    let val = values_in c.args.map.now in
-    let refs = references (g.I.Interner.universe c.args.interner.now) c.args.lists.now c.args.disjunctions.now in
-    nothing_here (at_parent val c.args.clauses.now (falsified_at val (literals_in refs) (rows_in refs))) c.parents-parent-items.result.now
-    c.loop-parent.parent-index c.parent-item.result _ c.loop-parent-test.true c.parent-item.is c.loop-parent.invariant
-    (falsified-parent val (literals_in refs) (rows_in refs) c.args.clauses.now c.clauses_if_true-own.result.now c.parent-item.result None
-    c.clauses_if_true-own.ensures c.in_default.ensures)
+    let falsified = is_falsified (values_in c.args.decisions.now) (literals_in refs) (rows_in refs) in
+    elim c.if-comes_first.branch [
+      | then-comes_first+then-is_falsified_clause w ↦
+          step_taken c.args.clauses.now (λ d. falsified (clause_of d)) c.loop-clause.clause-index c.clause-item.result c.loop-clause-test.true c.clause-item.is
+          c.loop-clause.first c.if-comes_first.first c.comes_first.result w.is_falsified_clause.result w.first-is
+          c.comes_first.ensures w.if-comes_first.true w.is_falsified_clause.ensures w.if-is_falsified_clause.true c.loop-clause.invariant
+      | else-comes_first w ↦ elim w.else-comes_first.branch [
+        | else-comes_first-via-then-comes_first+else-is_falsified_clause v ↦
+            step_kept c.args.clauses.now (λ d. falsified (clause_of d)) c.loop-clause.clause-index c.clause-item.result c.loop-clause-test.true c.clause-item.is
+            c.loop-clause.first c.if-comes_first.first v.is_falsified_clause.result w.first-is
+            v.is_falsified_clause.ensures v.if-is_falsified_clause.false c.loop-clause.invariant
+        | else-comes_first-via-else-comes_first v ↦
+            step_first c.args.clauses.now (λ d. falsified (clause_of d)) c.loop-clause.clause-index c.clause-item.result c.loop-clause-test.true c.clause-item.is
+            c.loop-clause.first c.if-comes_first.first c.comes_first.result w.first-is
+            c.comes_first.ensures v.if-comes_first.false c.loop-clause.invariant
+      ]
+    ]
 
 pub returns-in-Some : goal.returns-in-Some
 returns-in-Some g c =
-    let val = values_in c.args.map.now in
     let refs = references (g.I.Interner.universe c.args.interner.now) c.args.lists.now c.args.disjunctions.now in
-    falsified-whole val (literals_in refs) (rows_in refs) c.args.clauses.now (Some c.in-Some.clause)
-    (found_here (at_parent val c.args.clauses.now (falsified_at val (literals_in refs) (rows_in refs))) c.parents-parent-items.result.now
-    c.loop-parent.parent-index c.parent-item.result _ c.loop-parent-test.true c.parent-item.is c.loop-parent.invariant
-    c.in-Some.clause
-    (falsified-parent val (literals_in refs) (rows_in refs) c.args.clauses.now c.clauses_if_true-own.result.now c.parent-item.result (Some c.in-Some.clause)
-    c.clauses_if_true-own.ensures c.in-Some.ensures))
+    least_id c.args.clauses.now (is_falsified (values_in c.args.decisions.now) (literals_in refs) (rows_in refs)) c.requires.located
+    c.loop-clause.clause-index c.loop-clause-test.false c.loop-clause.first (Some c.in-Some.clause) c.in-Some.is c.loop-clause.invariant
 
-pub returns : goal.returns
-returns g c =
-    let val = values_in c.args.map.now in
+pub returns-in-None : goal.returns-in-None
+returns-in-None g c =
     let refs = references (g.I.Interner.universe c.args.interner.now) c.args.lists.now c.args.disjunctions.now in
-    falsified-whole val (literals_in refs) (rows_in refs) c.args.clauses.now None
-    (found_nowhere (at_parent val c.args.clauses.now (falsified_at val (literals_in refs) (rows_in refs))) c.parents-parent-items.result.now
-    c.loop-parent.parent-index _ c.loop-parent-test.false c.loop-parent.invariant)
+    least_id c.args.clauses.now (is_falsified (values_in c.args.decisions.now) (literals_in refs) (rows_in refs)) c.requires.located
+    c.loop-clause.clause-index c.loop-clause-test.false c.loop-clause.first None c.in-None.is c.loop-clause.invariant

@@ -2,22 +2,24 @@ use Rattle.std.proofs.Common.{◌≡◌, ◌∙◌, ℕ, List, [], map, Option, 
 use Rattle.std.proofs.lemmas.List.Elements.{All-nil}
 use Rattle.providers.specs.declared.requirement.Requirement.{Requirement}
 use Rattle.resolvo_queue.specs.Rows.{Row}
-use Rattle.std.specs.Prelude.{All, IfOk, ◌↔◌, false, option_map}
+use Rattle.std.specs.Prelude.{All, IfOk, OnOk, ◌↔◌, false, option_map}
 use Rattle.std.proofs.Math.Path.{fun_ext}
 use Rattle.decisions.specs.Decisions.{values_in}
 use Rattle.decisions.specs.Literals.{Lit, Values}
-use Rattle.decisions.specs.Trail.{Entry, val}
+use Rattle.decisions.specs.Trail.{Entry, Trail, val}
 use Rattle.resolvo_queue.specs.Pick.{decided, pick, eligible, DecidesUnbeaten}
-use Rattle.resolvo_queue.specs.Queue.{Queue, values_of}
+use Rattle.resolvo_queue.specs.Queue.{HasTrail, Queue, StandsOn, values_of}
 use Rattle.resolvo_queue.specs.References.{References, CanWalk, literals_in, references, rows_in, score_in}
 use Rattle.resolvo_queue.specs.Scan.{scan, is_eligible, first_falsified}
 use Rattle.resolvo_queue.specs.declared.requires_clause.RequiresClause.{RequiresClause}
 use Rattle.resolvo_queue.proofs.CallerLaws.{values_of_entries}
+use Rattle.resolvo_store.specs.Lists.{IsConsistent}
 use Rattle.resolvo_store.specs.Outcome.{falsified_clause, is_eligible_clause, offers, picked}
 use Rattle.resolvo_store.specs.Store.{Kept, Provider, store_of, gathered, kept_literals}
 use Rattle.resolvo_store.specs.Synced.{decisions_of}
 use Rattle.resolvo_store.proofs.AskingLemmas.{can_walk, asked_as_store, asked_by_store}
 use Rattle.resolvo_store.proofs.CallerLaws.{store_in}
+use Rattle.resolvo_store.proofs.InvariantLemmas.{after_sync}
 use Rattle.resolvo_store.proofs.store.ClauseStore.next_decision.Given.{Over}
 use Rattle.resolvo_store.proofs.store.ClauseStore.next_decision.Goals as goal
 
@@ -38,6 +40,25 @@ next_decision-requires-clause-synced g c =
       trail = λ v. ap (λ val. val v) c.map-2.ensures.values ∙ values_of_entries c.take_sync_floor-floor.new.self.entries v ∙ ap (λ ds. values_of ds v) (sym (synced.trail ∙ c.assignments.ensures.decisions));
       since = subst (λ ps. All (λ p. values_in c.map-2.result.now p.parent ≡ p.value) ps) (sym synced.since) (All-nil (λ p. values_in c.map-2.result.now p.parent ≡ p.value));
     }
+
+pub next_decision-requires-clause-stands : goal.next_decision-requires-clause-stands
+next_decision-requires-clause-stands g c =
+    let inside = c.self.inside in
+    subst (λ ls. StandsOn (references (g.D.Interner.universe c.provider.result.now) ls inside.disjunctions) c.sync.new.self) (sym c.new-reader.ensures.lists)
+    (subst (λ p. StandsOn (references (g.D.Interner.universe p) inside.loaded inside.disjunctions) c.sync.new.self) (sym c.provider.ensures.provider)
+    (c.sync.ensures.stands (references (g.D.Interner.universe inside.cache.provider) inside.loaded inside.disjunctions) c.self.invariant.may_ask.stands))
+
+-- after the queue was brought up to date, or not
+pub invariant_of-self : goal.invariant_of-self
+invariant_of-self g c =
+    let inside = c.self.inside in
+    let st = store_in c.self.invariant.sound in
+    subst (λ (t : Trail). IsConsistent g.D.NameId.Set.IdSet.has (record st { requires = c.sync.new.self.clauses; trail = t.entries; place = t.place }) inside.loaded inside.disjunctions inside.cache c.sync.new.self t)
+    (sym c.take_sync_floor-floor.ensures.trail)
+    (after_sync c.self.invariant c.sync.result refl c.sync.ensures.clauses c.sync.ensures.hot
+    (c.sync.ensures.stands (references (g.D.Interner.universe inside.cache.provider) inside.loaded inside.disjunctions) c.self.invariant.may_ask.stands)
+    (subst (λ ds. OnOk c.sync.result (HasTrail ds c.sync.new.self)) (c.assignments.ensures.decisions ∙ ap (λ t. decisions_of t.entries) c.take_sync_floor-floor.ensures.trail) c.sync.ensures.ok)
+    c.sync.ensures.err)
 
 pub next_decision-requires-clause-walkable : goal.next_decision-requires-clause-walkable
 next_decision-requires-clause-walkable g c =

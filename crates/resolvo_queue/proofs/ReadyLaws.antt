@@ -1,0 +1,369 @@
+-- What a question does to a queue that is ready, and what is queued tells of the offers.
+use Rattle.std.proofs.Common.{◌≡◌, ◌≢◌, ℕ, zero, suc, ◌<◌, Bool, true, false, ◌&&◌, cond, eqb, eqb-true, eq-eqb, ◌⊎◌, inl, inr, List, [], ◌∷◌, filter_map, fold, length, get_or, Option, Some, None, IfSome, MatchOption, is_some, option_map, slice_get, sym, ap, refl, ◌∙◌, subst, arith, is_gt}
+use Rattle.std.specs.List.{cons_option}
+use Rattle.std.specs.Cmp.{IsTotalOrder, nat_cmp_total}
+use Rattle.std.specs.Ordering.{ordering_reverse}
+use Rattle.std.specs.declared.cmp.Ordering.TheVariants.{Less, Greater}
+use Rattle.std.proofs.lemmas.Cmp.{on_total, then_total}
+use Rattle.typed_ids.specs.declared.version_set_id.VersionSetId.{VersionSetId}
+use Rattle.decisions.specs.Literals.{Lit, Values, known_true}
+use Rattle.providers.specs.declared.requirement.Requirement.{Requirement}
+use Rattle.resolvo_queue.specs.declared.frontier.Frontier.{Frontier}
+use Rattle.resolvo_queue.specs.Pick.{Offer, beats, better, pick}
+use Rattle.resolvo_queue.specs.Rows.{Row, frontier}
+use Rattle.resolvo_queue.specs.Inspection.{Learns, eligible_frontier, may_be, offer_with, clause_of, offer_of}
+use Rattle.resolvo_queue.specs.Order.{Stands, Ascends}
+use Rattle.resolvo_queue.specs.Positions.{has, position_cmp, same_position, IsBefore, is_after}
+use Rattle.resolvo_queue.specs.Possible.{Known, may_have_frontier, may_be_eligible, HoldsPossible, KnowsRight}
+use Rattle.resolvo_queue.specs.Scan.{are_literals_false}
+use Rattle.resolvo_queue.specs.Queued.{Queued, LosesOnly, IsOfClause}
+use Rattle.resolvo_queue.specs.declared.candidate.Candidate.{Candidate}
+use Rattle.resolvo_queue.specs.Ready as spec
+use Rattle.resolvo_queue.specs.Ready.{at_position, AreLocated, scanned, improved, IsReady}
+use Rattle.resolvo_queue.specs.ScanOrder.{position_in}
+use Rattle.resolvo_queue.specs.Selection.{behind, picked_behind}
+use Rattle.resolvo_queue.specs.Synced.{IsRegistered, IsHot}
+use Rattle.resolvo_queue.specs.Tracked.{Tracked, walk_of, rows_in, known_at, rows_at, updated_at, walked, IsPlaceOf}
+use Rattle.resolvo_queue.specs.declared.position.Position.{Position}
+use Rattle.resolvo_queue.specs.declared.tracked_clause.TrackedClause.{TrackedClause}
+use Rattle.resolvo_queue.proofs.QueuedLaws.{same_position_is, read_at}
+use Rattle.resolvo_queue.proofs.RecordLaws.{is_at_place, is_elsewhere}
+use Rattle.resolvo_queue.proofs.ScanLaws.{scan_ascends, scanned_at, at_scanned}
+use Rattle.resolvo_queue.proofs.SelectionLaws.{first_picked, next_better, none_better, none_offered, cold_beats_nothing}
+use Rattle.resolvo_queue.proofs.SyncLaws.{walk_holds, walk_knows, removed_holds}
+
+pub position_order : IsTotalOrder position_cmp
+position_order = then_total (on_total (λ (p : Position). p.first_of_parent) nat_cmp_total) (on_total (λ (p : Position). p.number) nat_cmp_total)
+
+same_or_not : (a b : ℕ) → (a ≡ b) ⊎ (a ≢ b)
+same_or_not a b = go (eqb a b) refl
+  where
+    go : (t : Bool) → eqb a b ≡ t → (a ≡ b) ⊎ (a ≢ b)
+    go true e = inl (eqb-true a b e)
+    go false e = inr (λ s. let bad : eqb a b ≡ true = eq-eqb a b s in cc)
+
+module _ (clauses : List TrackedClause) (literals : TrackedClause → List Lit) (rows_of : Requirement → List Row) (val : Values) where
+  abbrev now_true : TrackedClause → Bool
+  now_true c = known_true (val c.parent)
+
+  abbrev Ready : List Tracked → Queued → Type 0
+  Ready ts q = IsReady clauses literals rows_of val ts q
+
+  abbrev Holds : (TrackedClause → Type 0) → (ℕ → List Row) → (ℕ → Known) → (TrackedClause → Bool) → Type 0
+  Holds registered rows known queued = HoldsPossible (λ (c : TrackedClause). c.parent) literals (λ c. c.requirement) rows registered now_true val known queued
+
+  -- ---- a walk
+
+  module _ (ts : List Tracked) (q : Queued) (place : ℕ) (t : Tracked) (is : slice_get ts place ≡ Some t) (answer : Option Frontier) (right : answer ≡ frontier val (rows_of t.requirement)) where
+    abbrev after : List Tracked
+    after = updated_at (walked answer) ts place
+
+    rows_kept : (k : ℕ) → rows_at rows_of after k ≡ rows_at rows_of ts k
+    rows_kept k = elim (same_or_not k place) [
+      | inl e ↦ ap (rows_at rows_of after) e ∙ (ap (rows_in rows_of) (is_at_place (walked answer) ts place t is) ∙ (sym (ap (rows_in rows_of) is) ∙ sym (ap (rows_at rows_of ts) e)))
+      | inr ne ↦ ap (rows_in rows_of) (is_elsewhere (walked answer) ts place k ne)
+    ]
+
+    rows_same : rows_at rows_of after ≡ rows_at rows_of ts
+    rows_same = λ i k. rows_kept k i
+
+    elsewhere : (k : ℕ) → (k ≡ place) ⊎ (known_at after k ≡ known_at ts k)
+    elsewhere k = elim (same_or_not k place) [ inl e ↦ inl e | inr ne ↦ inr (ap walk_of (is_elsewhere (walked answer) ts place k ne)) ]
+
+    now_known : known_at after place ≡ Some (frontier val (rows_at rows_of ts place))
+    now_known =
+        ap walk_of (is_at_place (walked answer) ts place t is) ∙ (ap Some right ∙ ap (λ o. Some (frontier val (rows_in rows_of o))) (sym is))
+
+    holds_after : (registered : TrackedClause → Type 0) (queued : TrackedClause → Bool) → known_at ts place ≡ None →
+        Holds registered (rows_at rows_of ts) (known_at ts) queued → Holds registered (rows_at rows_of after) (known_at after) queued
+    holds_after registered queued none old =
+        subst (λ r. Holds registered r (known_at after) queued) (sym rows_same)
+        (walk_holds (λ (c : TrackedClause). c.parent) literals (λ c. c.requirement) (rows_at rows_of ts) registered now_true val (known_at ts) (known_at after) queued place none elsewhere old)
+
+    pub walk_ready : known_at ts place ≡ None → Ready ts q → Ready after q
+    walk_ready none old = record {
+      synced = record {
+        all = holds_after (IsRegistered clauses literals) (λ c. has q.all c.position) none old.synced.all;
+        hot = holds_after (IsHot clauses literals) (λ c. has q.hot c.position) none old.synced.hot;
+        right = subst (λ r. KnowsRight (λ (c : TrackedClause). c.parent) literals (λ c. c.requirement) r val (known_at after)) (sym rows_same)
+            (walk_knows (λ (c : TrackedClause). c.parent) literals (λ c. c.requirement) (rows_at rows_of ts) val (known_at ts) (known_at after) place now_known elsewhere old.synced.right);
+      };
+      placed = λ n c e. placed_after c.required c.requirement (old.placed n c e);
+      all_of = old.all_of;
+      hot_of = old.hot_of;
+    }
+      where
+        placed_after : (r : Requirement) (k : ℕ) → IsPlaceOf ts r k → IsPlaceOf after r k
+        placed_after r k p = elim (same_or_not k place) [
+          | inl e ↦ (
+            walked answer p.0,
+            subst (λ x. slice_get after x ≡ Some (walked answer p.0)) (sym e)
+                (is_at_place (walked answer) ts place p.0 (subst (λ x. slice_get ts x ≡ Some p.0) e p.1)),
+            p.2,
+          )
+          | inr ne ↦ (p.0, is_elsewhere (walked answer) ts place k ne ∙ p.1, p.2)
+        ]
+
+  pub learns_ready : (ts ts' : List Tracked) (q : Queued) (r : Requirement) (place : ℕ) (answer : Option Frontier) (log log' : List Requirement) →
+      IsPlaceOf ts r place → answer ≡ frontier val (rows_of r) → Learns r place answer ts ts' log log' → Ready ts q → Ready ts' q
+  learns_ready ts ts' q r place answer log log' at right (inl same) old = subst (λ x. Ready x q) (sym same.0) old
+  learns_ready ts ts' q r place answer log log' at right (inr more) old =
+      subst (λ x. Ready x q) (sym more.1)
+      (walk_ready ts q place at.0 at.1 answer (right ∙ ap (λ x. frontier val (rows_of x)) (sym at.2)) more.0 old)
+
+  -- ---- a removal
+
+  module _ (ts : List Tracked) (q q' : Queued) (p : Position) (n : ℕ) (c : TrackedClause) (is : slice_get clauses n ≡ Some c) (at : c.position ≡ p)
+      (located : AreLocated clauses) (gone : LosesOnly p q q')
+      (not_possible : may_be_eligible (λ (d : TrackedClause). d.parent) literals (λ d. d.requirement) (rows_at rows_of ts) val (known_at ts) c ≡ false) where
+    abbrev possible : TrackedClause → Bool
+    possible d = may_be_eligible (λ (e : TrackedClause). e.parent) literals (λ e. e.requirement) (rows_at rows_of ts) val (known_at ts) d
+
+    -- another registered clause at this position is this one
+    the_same : (d : TrackedClause) → IsRegistered clauses literals d → same_position p d.position ≡ true → d ≡ c
+    the_same d reg s =
+        let positions : d.position ≡ c.position = sym (same_position_is p d.position s) ∙ sym at in
+        let own : d.position.number ≡ reg.0 = ap (λ (x : Position). x.number) (located reg.0 d reg.1) in
+        let mine : c.position.number ≡ n = ap (λ (x : Position). x.number) (located n c is) in
+        let numbers : reg.0 ≡ n = sym own ∙ (ap (λ (x : Position). x.number) positions ∙ mine) in
+        inner d c (sym reg.1 ∙ (ap (slice_get clauses) numbers ∙ is))
+      where
+        inner : (x y : TrackedClause) → Some x ≡ Some y → x ≡ y
+        inner x y e = cc
+
+    stays : (set set' : List Position) → ((x : Position) → has set' x ≡ cond (same_position p x) false (has set x)) →
+        (d : TrackedClause) → IsRegistered clauses literals d → has set d.position ≡ true → possible d ≡ true → has set' d.position ≡ true
+    stays set set' loses d reg queued e = go (same_position p d.position) refl
+      where
+        go : (b : Bool) → same_position p d.position ≡ b → has set' d.position ≡ true
+        go true s = let bad : possible d ≡ false = ap possible (the_same d reg s) ∙ not_possible in cc
+        go false s = loses d.position ∙ (ap (λ b. cond b false (has set d.position)) s ∙ queued)
+
+    fewer : (set set' : List Position) → ((x : Position) → has set' x ≡ cond (same_position p x) false (has set x)) → (x : Position) → has set' x ≡ true → has set x ≡ true
+    fewer set set' loses x e = go (same_position p x) refl
+      where
+        go : (b : Bool) → same_position p x ≡ b → has set x ≡ true
+        go true s = let bad : has set' x ≡ false = loses x ∙ ap (λ b. cond b false (has set x)) s in cc
+        go false s = sym (loses x ∙ ap (λ b. cond b false (has set x)) s) ∙ e
+
+    pub removed_ready : Ready ts q → Ready ts q'
+    removed_ready old = record {
+      synced = record {
+        all = removed_holds (λ (d : TrackedClause). d.parent) literals (λ d. d.requirement) (rows_at rows_of ts) (IsRegistered clauses literals) now_true val (known_at ts)
+            (λ d. has q.all d.position) (λ d. has q'.all d.position) (stays q.all q'.all gone.all) old.synced.all;
+        hot = removed_holds (λ (d : TrackedClause). d.parent) literals (λ d. d.requirement) (rows_at rows_of ts) (IsHot clauses literals) now_true val (known_at ts)
+            (λ d. has q.hot d.position) (λ d. has q'.hot d.position) (λ d reg. stays q.hot q'.hot gone.hot d reg.0) old.synced.hot;
+        right = old.synced.right;
+      };
+      placed = old.placed;
+      all_of = λ x e. old.all_of x (fewer q.all q'.all gone.all x e);
+      hot_of = λ x e. old.hot_of x (fewer q.hot q'.hot gone.hot x e);
+    }
+
+  -- ---- what is queued tells of the offers
+
+  module _ (score : VersionSetId → ℕ) (ts : List Tracked) (q : Queued) (ready : Ready ts q) where
+    abbrev offers : TrackedClause → Option Offer
+    offers c = offer_of val literals rows_of score c
+
+    -- an eligible clause may be eligible by what is known
+    eligible_possible : (n : ℕ) (c : TrackedClause) → slice_get clauses n ≡ Some c → (f : Frontier) → eligible_frontier val literals rows_of c ≡ Some f →
+        may_be_eligible (λ (d : TrackedClause). d.parent) literals (λ d. d.requirement) (rows_at rows_of ts) val (known_at ts) c ≡ true
+    eligible_possible n c e f is = go (now_true c) (are_literals_false val (literals c)) is
+      where
+        place : IsPlaceOf ts c.required c.requirement
+        place = ready.placed n c e
+
+        rows_are : rows_at rows_of ts c.requirement ≡ rows_of c.required
+        rows_are = ap (rows_in rows_of) place.1 ∙ ap rows_of place.2
+
+        by_known : (k : Known) → IfSome k (λ g. g ≡ frontier val (rows_at rows_of ts c.requirement)) → frontier val (rows_of c.required) ≡ Some f → may_have_frontier k ≡ true
+        by_known None h g = refl
+        by_known (Some x) h g = ap is_some (h ∙ (ap (frontier val) rows_are ∙ g))
+
+        go : (a b : Bool) → cond (a && b) (frontier val (rows_of c.required)) None ≡ Some f → (a && (b && may_have_frontier (known_at ts c.requirement))) ≡ true
+        go true true g = by_known (known_at ts c.requirement) (ready.synced.right c.requirement) g
+        go true false g = cc
+        go false b g = cc
+
+    pub unqueued_offers_nothing : (n : ℕ) (c : TrackedClause) → slice_get clauses n ≡ Some c → has q.all c.position ≡ false → offers c ≡ None
+    unqueued_offers_nothing n c e out = go (eligible_frontier val literals rows_of c) refl
+      where
+        go : (o : Option Frontier) → eligible_frontier val literals rows_of c ≡ o → option_map (offer_with score c) o ≡ None
+        go None h = refl
+        go (Some f) h = let queued : has q.all c.position ≡ true = ready.synced.all c (n, e) (eligible_possible n c e f h) in cc
+
+    -- a clause that isn't among the hot ones offers nothing that is better, if what isn't hot has no score
+    pub cold_offers_no_better : (b : Offer) (n : ℕ) (c : TrackedClause) → slice_get clauses n ≡ Some c →
+        (c.is_hot ≡ false → (f : Frontier) → eligible_frontier val literals rows_of c ≡ Some f → score f.set ≡ 0) →
+        has q.hot c.position ≡ false → IfSome (offers c) (λ e. beats e b ≡ false)
+    cold_offers_no_better b n c e cold out = go (eligible_frontier val literals rows_of c) refl
+      where
+        by_heat : (f : Frontier) → eligible_frontier val literals rows_of c ≡ Some f → (h : Bool) → c.is_hot ≡ h → beats (offer_with score c f) b ≡ false
+        by_heat f g true h = let queued : has q.hot c.position ≡ true = ready.synced.hot c ((n, e), h) (eligible_possible n c e f g) in cc
+        by_heat f g false h = cold_beats_nothing b (offer_with score c f) (cold h f g)
+
+        go : (o : Option Frontier) → eligible_frontier val literals rows_of c ≡ o → IfSome (option_map (offer_with score c) o) (λ x. beats x b ≡ false)
+        go None h = tt
+        go (Some f) h = by_heat f h c.is_hot refl
+
+  -- ---- the pick along the scan
+
+  module _ (score : VersionSetId → ℕ) (located : AreLocated clauses) where
+    abbrev pub place_of : ℕ × TrackedClause → Position
+    place_of = position_in (λ (c : TrackedClause). c.parent) at_position clauses
+
+    abbrev pub item_offer : ℕ × TrackedClause → Option Offer
+    item_offer x = offer_of val literals rows_of score x.1
+
+    -- the best so far, with the items behind a position
+    abbrev pub rest_picked : Offer → Position → Option Offer
+    rest_picked b p = picked_behind position_cmp place_of item_offer (scanned clauses) b p
+
+    -- the pick of all
+    abbrev pub all_picked : Option Offer
+    all_picked = pick (filter_map item_offer (scanned clauses))
+
+    ascends : Ascends position_cmp place_of (scanned clauses)
+    ascends = scan_ascends (λ (c : TrackedClause). c.parent) position_cmp at_position (λ a b c d. refl) clauses
+
+    item_at : (x : ℕ × TrackedClause) → Stands x (scanned clauses) → slice_get clauses x.0 ≡ Some x.1
+    item_at x s = scanned_at (λ (c : TrackedClause). c.parent) clauses x s
+
+    own_place : (x : ℕ × TrackedClause) → Stands x (scanned clauses) → x.1.position ≡ place_of x
+    own_place x s = located x.0 x.1 (item_at x s)
+
+    after_not_before : (p r : Position) → is_after p r ≡ false → position_cmp r p ≡ Less → ⊥
+    after_not_before p r h e =
+        let reversed : position_cmp p r ≡ Greater = position_order.antisymm p r ∙ ap ordering_reverse e in
+        let after : is_after p r ≡ true = ap is_gt reversed in
+        differ (sym after ∙ h)
+      where
+        differ : true ≡ false → ⊥
+        differ s = cc
+
+    no_or_yes : (b : Bool) → (b ≡ true → ⊥) → b ≡ false
+    no_or_yes true h = absurd (h refl)
+    no_or_yes false h = refl
+
+    module _ (ts : List Tracked) (q : Queued) (ready : Ready ts q) where
+      -- none is queued: there is no pick
+      pub none_queued : ((p : Position) → has q.all p ≡ false) → all_picked ≡ None
+      none_queued empty = none_offered position_cmp position_order place_of item_offer (scanned clauses)
+          (λ x s. unqueued_offers_nothing score ts q ready x.0 x.1 (item_at x s) (empty x.1.position))
+
+      -- the first queued position offers: the best so far, and what is behind
+      pub first_queued : (p : Position) (c : TrackedClause) (o : Offer) → slice_get clauses p.number ≡ Some c → c.position ≡ p → offer_of val literals rows_of score c ≡ Some o →
+          ((r : Position) → has q.all r ≡ true → is_after p r ≡ false) → all_picked ≡ rest_picked o p
+      first_queued p c o is at offered least =
+          let here_it_is : place_of (p.number, c) ≡ p = sym (located p.number c is) ∙ at in
+          first_picked position_cmp position_order place_of item_offer (scanned clauses) ascends (p.number, c) o
+          (at_scanned (λ (d : TrackedClause). d.parent) clauses p.number c is) offered
+          (λ y s below. unqueued_offers_nothing score ts q ready y.0 y.1 (item_at y s)
+          (no_or_yes (has q.all y.1.position) (λ queued. after_not_before p y.1.position (least y.1.position queued)
+          (subst (λ r. position_cmp r p ≡ Less) (sym (own_place y s)) (subst (λ r. position_cmp (place_of y) r ≡ Less) here_it_is below)))))
+          ∙ ap (rest_picked o) here_it_is
+
+      -- the set that the second part of a question goes through: what isn't in it offers nothing better
+      module _ (set : List Position) (b : Offer)
+          (out : (n : ℕ) (c : TrackedClause) → slice_get clauses n ≡ Some c → has set c.position ≡ false → IfSome (offer_of val literals rows_of score c) (λ e. beats e b ≡ false)) where
+        pub next_queued : (cursor p : Position) (c : TrackedClause) → slice_get clauses p.number ≡ Some c → c.position ≡ p → IsBefore cursor p →
+            ((r : Position) → has set r ≡ true → IsBefore cursor r → is_after p r ≡ false) →
+            rest_picked b cursor ≡ rest_picked (improved b (offer_of val literals rows_of score c)) p
+        next_queued cursor p c is at before least =
+            let here_it_is : place_of (p.number, c) ≡ p = sym (located p.number c is) ∙ at in
+            next_better position_cmp position_order place_of item_offer (scanned clauses) ascends b cursor (p.number, c)
+            (at_scanned (λ (d : TrackedClause). d.parent) clauses p.number c is) (subst (λ r. position_cmp cursor r ≡ Less) (sym here_it_is) before)
+            (λ y s above below. out y.0 y.1 (item_at y s)
+            (no_or_yes (has set y.1.position) (λ queued. after_not_before p y.1.position
+            (least y.1.position queued (subst (λ r. position_cmp cursor r ≡ Less) (sym (own_place y s)) above))
+            (subst (λ r. position_cmp r p ≡ Less) (sym (own_place y s)) (subst (λ r. position_cmp (place_of y) r ≡ Less) here_it_is below)))))
+            ∙ (one_more (offer_of val literals rows_of score c) (filter_map item_offer (behind position_cmp place_of item_offer (place_of (p.number, c)) (scanned clauses)))
+            ∙ ap (rest_picked (improved b (offer_of val literals rows_of score c))) here_it_is)
+          where
+            one_more : (o : Option Offer) (es : List Offer) → fold better (Some b) (cons_option o es) ≡ fold better (Some (improved b o)) es
+            one_more None es = refl
+            one_more (Some e) es = refl
+
+        -- nothing of the set is behind: the best so far is the pick
+        pub last_queued : (cursor : Position) → ((r : Position) → IsBefore cursor r → has set r ≡ false) → rest_picked b cursor ≡ Some b
+        last_queued cursor none =
+            none_better position_cmp position_order place_of item_offer (scanned clauses) b cursor
+            (λ y s above. out y.0 y.1 (item_at y s) (none y.1.position (subst (λ r. position_cmp cursor r ≡ Less) (sym (own_place y s)) above)))
+
+      -- nothing can be better: the best so far is the pick
+      pub unbeatable_picked : (b : Offer) (cursor : Position) → ((n : ℕ) (c : TrackedClause) → slice_get clauses n ≡ Some c → IfSome (offer_of val literals rows_of score c) (λ e. beats e b ≡ false)) →
+          rest_picked b cursor ≡ Some b
+      unbeatable_picked b cursor out =
+          none_better position_cmp position_order place_of item_offer (scanned clauses) b cursor (λ y s above. out y.0 y.1 (item_at y s))
+
+-- ---- looking at one clause
+
+same_some : {X : Type 0} (x y : X) → Some x ≡ Some y → x ≡ y
+same_some x y e = cc
+
+module _ (clauses : List TrackedClause) (literals : TrackedClause → List Lit) (rows_of : Requirement → List Row) (val : Values) (score : VersionSetId → ℕ)
+    (ts : List Tracked) (q : Queued) (ready : IsReady clauses literals rows_of val ts q) (n : ℕ) (c : TrackedClause) (is : slice_get clauses n ≡ Some c) where
+  pub known_is_right : (f : Option Frontier) → known_at ts c.requirement ≡ Some f → f ≡ frontier val (rows_of c.required)
+  known_is_right f e =
+      let place = ready.placed n c is in
+      let rows_are : rows_at rows_of ts c.requirement ≡ rows_of c.required = ap (rows_in rows_of) place.1 ∙ ap rows_of place.2 in
+      subst (λ k. IfSome k (λ g. g ≡ frontier val (rows_at rows_of ts c.requirement))) e (ready.synced.right c.requirement) ∙ ap (frontier val) rows_are
+
+  pub found_nothing : (found : Option Frontier) → found ≡ None → found ≡ eligible_frontier val literals rows_of c →
+      (d : TrackedClause) → slice_get clauses n ≡ Some d → ◌≡◌ {A = Option Offer} None (offer_of val literals rows_of score d)
+  found_nothing found e f d s =
+      let same : c ≡ d = same_some c d (sym is ∙ s) in
+      ap (option_map (offer_with score c)) (sym e ∙ f) ∙ ap (offer_of val literals rows_of score) same
+
+  pub found_frontier : (found : Option Frontier) (f : Frontier) (s : ℕ) → found ≡ Some f → found ≡ eligible_frontier val literals rows_of c → s ≡ score f.set →
+      (d : TrackedClause) → slice_get clauses n ≡ Some d →
+      ◌≡◌ {A = Option Offer} (Some (record { clause = clause_of c; frontier = f; score = s })) (offer_of val literals rows_of score d)
+  found_frontier found f s e g h d t =
+      let same : c ≡ d = same_some c d (sym is ∙ t) in
+      ap (λ (m : ℕ). Some (record { clause = clause_of c; frontier = f; score = m })) h
+      ∙ (ap (option_map (offer_with score c)) (sym e ∙ g) ∙ ap (offer_of val literals rows_of score) same)
+
+  module _ (ts' : List Tracked) (log log' : List Requirement) (learns : Learns c.required c.requirement (frontier val (rows_of c.required)) ts ts' log log') where
+    pub looked_ready : IsReady clauses literals rows_of val ts' q
+    looked_ready = learns_ready clauses literals rows_of val ts ts' q c.required c.requirement (frontier val (rows_of c.required)) log log' (ready.placed n c is) refl learns ready
+
+    pub dropped_ready : AreLocated clauses → (q' : Queued) (p : Position) → IsOfClause clauses p → p.number ≡ n → LosesOnly p q q' →
+        may_be val literals ts' c ≡ false → IsReady clauses literals rows_of val ts' q'
+    dropped_ready located q' p of number gone not_possible =
+        let same : of.0 ≡ c = same_some of.0 c (sym of.1 ∙ (ap (slice_get clauses) number ∙ is)) in
+        removed_ready clauses literals rows_of val ts' q q' p n c is (ap (λ (x : TrackedClause). x.position) (sym same) ∙ of.2) located gone not_possible looked_ready
+
+-- what was read at a clause's position is that clause
+pub read_here : (clauses : List TrackedClause) (p : Position) → IsOfClause clauses p → (c : TrackedClause) → c ≡ get_or clauses p.number c → slice_get clauses p.number ≡ Some c
+read_here clauses p of c e = read_at clauses p.number c (within clauses p.number of.0 of.1) e
+  where
+    within : (cs : List TrackedClause) (k : ℕ) (d : TrackedClause) → slice_get cs k ≡ Some d → k < length cs
+    within [] k d s = cc
+    within (x ∷ xs) zero d s = omega arith
+    within (x ∷ xs) (suc k) d s = let h : k < length xs = within xs k d s in omega arith
+
+pub match_none : {T : Type 0} (o : Option T) (P : Type 0) (Q : T → Type 0) → o ≡ None → MatchOption o P Q → P
+match_none None P Q e h = h
+match_none (Some x) P Q e h = cc
+
+-- ---- the first part of a question
+
+module _ (clauses : List TrackedClause) (literals : TrackedClause → List Lit) (rows_of : Requirement → List Row) (val : Values) (score : VersionSetId → ℕ)
+    (located : AreLocated clauses) (ts : List Tracked) (q : Queued) (ready : IsReady clauses literals rows_of val ts q) where
+  -- the first queued position offers
+  pub first_found : (p : Position) → has q.all p ≡ true → ((r : Position) → has q.all r ≡ true → is_after p r ≡ false) →
+      (found : Option Candidate) (b : Candidate) → found ≡ Some b →
+      ((d : TrackedClause) → slice_get clauses p.number ≡ Some d → option_map (λ (x : Candidate). x.offer) found ≡ offer_of val literals rows_of score d) →
+      IfSome found (λ x. x.position ≡ p) →
+      spec.all_picked clauses literals rows_of val score ≡ spec.rest_picked clauses literals rows_of val score b.offer b.position
+  first_found p here_it_is least found b is offers at =
+      let of = ready.all_of p here_it_is in
+      let offered : offer_of val literals rows_of score of.0 ≡ Some b.offer = sym (offers of.0 of.1) ∙ ap (option_map (λ (x : Candidate). x.offer)) is in
+      let place : b.position ≡ p = subst (λ o. IfSome o (λ (x : Candidate). x.position ≡ p)) is at in
+      first_queued clauses literals rows_of val score located ts q ready p of.0 b.offer of.1 of.2 offered least
+      ∙ ap (spec.rest_picked clauses literals rows_of val score b.offer) (sym place)
+
+  -- nothing is queued
+  pub none_found : ((p : Position) → has q.all p ≡ false) → spec.all_picked clauses literals rows_of val score ≡ None
+  none_found empty = none_queued clauses literals rows_of val score located ts q ready empty

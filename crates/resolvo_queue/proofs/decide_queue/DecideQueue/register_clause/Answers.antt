@@ -1,0 +1,73 @@
+use Rattle.std.proofs.Common.{◌<◌, ◌^◌, ◌-◌, [], ◌∷◌, ◌++◌, map, length, sym, ap, refl, subst, ◌∙◌}
+use Rattle.std.specs.List.{list_any}
+use Rattle.std.proofs.lemmas.List.{length-map, map-append}
+use Rattle.resolvo_queue.specs.Inspection.{clause_of}
+use Rattle.resolvo_queue.specs.Queue.{IsRegistered, Queue, StandsOn, queue_of}
+use Rattle.resolvo_queue.specs.References.{references}
+use Rattle.resolvo_queue.specs.declared.requires_clause.RequiresClause.{RequiresClause}
+use Rattle.resolvo_queue.proofs.KeptLaws.{kept_refused, kept_registered, not_full, registered_whole, stands_refused, stands_registered}
+use Rattle.resolvo_queue.proofs.decide_queue.DecideQueue.register_clause.Goals as goal
+
+pub invariant_of-self-in_err-register : goal.invariant_of-self-in_err-register
+invariant_of-self-in_err-register g c =
+    let inside = c.self.inside in
+    let before : Queue g.row.D-NameId.Denot g.row.D-NameId-Set.Denot = queue_of inside.tracked inside.names.items inside.hot_names inside.since.items in
+    let after : Queue g.row.D-NameId.Denot g.row.D-NameId-Set.Denot = queue_of c.register.new.self c.reserve.new.self.items inside.hot_names c.reserve-2.new.self.items in
+    kept_refused g.D.NameId.Set.IdSet.has before after c.in_err-register.ensures.err c.reserve-2.ensures.items c.self.invariant
+    (ap (map (λ own. own.items)) c.reserve.ensures.items) refl
+
+pub returns-in_err-register-clause-stands : goal.returns-in_err-register-clause-stands
+returns-in_err-register-clause-stands g c =
+    let inside = c.self.inside in
+    let before : Queue g.row.D-NameId.Denot g.row.D-NameId-Set.Denot = queue_of inside.tracked inside.names.items inside.hot_names inside.since.items in
+    let after : Queue g.row.D-NameId.Denot g.row.D-NameId-Set.Denot = queue_of c.register.new.self c.reserve.new.self.items inside.hot_names c.reserve-2.new.self.items in
+    λ universe lists has s. (let refs = references universe lists c.args.disjunctions.now in
+    stands_refused g.D.NameId.Set.IdSet.has before after c.in_err-register.ensures.err c.reserve-2.ensures.items refs
+    (subst (StandsOn refs) (sym c.self.view_is) s) (ap (map clause_of) c.in_err-register.ensures.err.clauses) (ap (λ t. t.items) c.register.ensures.same.1) c.register.ensures.same.2)
+
+pub invariant_of-self-2 : goal.invariant_of-self-2
+invariant_of-self-2 g c =
+    let inside = c.self.inside in
+    let before : Queue g.row.D-NameId.Denot g.row.D-NameId-Set.Denot = queue_of inside.tracked inside.names.items inside.hot_names inside.since.items in
+    let after : Queue g.row.D-NameId.Denot g.row.D-NameId-Set.Denot = queue_of c.register.new.self c.push_reserved.new.self.items inside.hot_names c.push_reserved-2.new.self.items in
+    let few : length inside.tracked.index.clauses.items < 2 ^ 32 - 1 =
+    not_full c.is_full.result (length c.args.self.now.clauses) (length inside.tracked.index.clauses.items) c.if-is_full.false c.is_full.ensures
+    (ap (λ (q : Queue g.row.D-NameId.Denot g.row.D-NameId-Set.Denot). length q.clauses) (sym c.self.view_is) ∙ length-map inside.tracked.index.clauses.items clause_of) in
+    kept_registered g.D.NameId.Set.IdSet.has before after _ c.has_hot_name-is_hot.result c.is_true.result c.condition_of-literals.result.now c.args.names.now
+    (record { parent = c.args.parent; value = c.args.parent_value }) c.self.invariant c.in_ok-register.ensures.ok
+    (c.push_reserved-2.ensures.items ∙ ap (λ l. l ++ (record { parent = c.args.parent; value = c.args.parent_value }) ∷ []) c.reserve-2.ensures.items) refl few
+    (ap (map (λ own. own.items)) (c.push_reserved.ensures.items ∙ ap (λ l. l ++ c.in_ok-names.names ∷ []) c.reserve.ensures.items)
+    ∙ (map-append (λ own. own.items) inside.names.items (c.in_ok-names.names ∷ []) ∙ ap (λ own. map (λ own. own.items) inside.names.items ++ own ∷ []) c.in_ok-names.ensures.ok))
+    (λ n. refl)
+    (c.has_hot_name-is_hot.ensures ∙ ap (list_any (g.D.NameId.Set.IdSet.has inside.hot_names)) (c.as_slice.ensures.value ∙ c.in_ok-names.ensures.ok))
+
+pub returns-clause-ok : goal.returns-clause-ok
+returns-clause-ok g c =
+    let inside = c.self.inside in
+    let before : Queue g.row.D-NameId.Denot g.row.D-NameId-Set.Denot = queue_of inside.tracked inside.names.items inside.hot_names inside.since.items in
+    let after : Queue g.row.D-NameId.Denot g.row.D-NameId-Set.Denot = queue_of c.register.new.self c.push_reserved.new.self.items inside.hot_names c.push_reserved-2.new.self.items in
+    let clause : RequiresClause = record { parent = c.args.parent; requirement = c.args.requirement; condition = c.args.condition; clause_id = c.args.clause_id } in
+    subst (λ q. IsRegistered g.D.NameId.Set.IdSet.has clause c.args.names.now c.args.parent_value q after) c.self.view_is (record {
+      clauses = registered_whole clause c.has_hot_name-is_hot.result c.is_true.result c.condition_of-literals.result.now before.inside after.inside c.in_ok-register.ensures.ok;
+      names = ap (map (λ own. own.items)) (c.push_reserved.ensures.items ∙ ap (λ l. l ++ c.in_ok-names.names ∷ []) c.reserve.ensures.items)
+          ∙ (map-append (λ own. own.items) inside.names.items (c.in_ok-names.names ∷ []) ∙ ap (λ own. map (λ own. own.items) inside.names.items ++ own ∷ []) c.in_ok-names.ensures.ok);
+      since = c.push_reserved-2.ensures.items ∙ ap (λ l. l ++ (record { parent = c.args.parent; value = c.args.parent_value }) ∷ []) c.reserve-2.ensures.items;
+      trail = ap (λ t. t.items) c.register.ensures.same.1;
+      must_start_anew = c.register.ensures.same.2;
+      hot = λ n. refl;
+    })
+
+pub returns-clause-stands : goal.returns-clause-stands
+returns-clause-stands g c =
+    let inside = c.self.inside in
+    let before : Queue g.row.D-NameId.Denot g.row.D-NameId-Set.Denot = queue_of inside.tracked inside.names.items inside.hot_names inside.since.items in
+    let after : Queue g.row.D-NameId.Denot g.row.D-NameId-Set.Denot = queue_of c.register.new.self c.push_reserved.new.self.items inside.hot_names c.push_reserved-2.new.self.items in
+    let clause : RequiresClause = record { parent = c.args.parent; requirement = c.args.requirement; condition = c.args.condition; clause_id = c.args.clause_id } in
+    λ universe lists has s. (let refs = references universe lists c.args.disjunctions.now in
+    stands_registered g.D.NameId.Set.IdSet.has before after clause c.has_hot_name-is_hot.result c.is_true.result c.condition_of-literals.result.now c.args.names.now
+    (record { parent = c.args.parent; value = c.args.parent_value }) c.self.invariant c.in_ok-register.ensures.ok
+    (c.push_reserved-2.ensures.items ∙ ap (λ l. l ++ (record { parent = c.args.parent; value = c.args.parent_value }) ∷ []) c.reserve-2.ensures.items) refl
+    refs (subst (StandsOn refs) (sym c.self.view_is) s)
+    (registered_whole clause c.has_hot_name-is_hot.result c.is_true.result c.condition_of-literals.result.now before.inside after.inside c.in_ok-register.ensures.ok)
+    (ap (λ t. t.items) c.register.ensures.same.1) c.register.ensures.same.2 c.condition_of-literals.ensures
+    (record { lists = has; disjunction = c.requires }) c.is_true.ensures)

@@ -1,0 +1,10 @@
+use Rattle.std.proofs.Common.{take}
+use Rattle.decisions.specs.Decisions.{values_in}
+use Rattle.resolvo_queue.specs.Queued.{AreWoken, GrowsBy, IsOfClause}
+use Rattle.resolvo_queue.proofs.waking.wake_clauses.Given as goal
+
+abbrev pub invariant-loop-number : goal.invariant-loop-number
+invariant-loop-number g l = record {
+  grows : GrowsBy (IsOfClause l.clauses) l.initial.queued l.queued;
+  woken : AreWoken l.clauses (values_in l.map) (take l.number-index l.numbers) l.queued;
+}

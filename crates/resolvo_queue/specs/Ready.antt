@@ -1,0 +1,75 @@
+-- A queue that is ready for a question: synced at the values, and in order.
+use Rattle.std.specs.Prelude.{◌≡◌, ℕ, true, false, if◌then◌else◌, List, Option, Some, None, slice_get, filter, filter_map, length, ◌⊎◌}
+use Rattle.std.specs.Ordering.{is_lt}
+use Rattle.typed_ids.specs.declared.version_set_id.VersionSetId.{VersionSetId}
+use Rattle.decisions.specs.Literals.{Lit, Values, known_true}
+use Rattle.providers.specs.declared.requirement.Requirement.{Requirement}
+use Rattle.resolvo_queue.specs.declared.frontier.Frontier.{Frontier}
+use Rattle.resolvo_queue.specs.Pick.{Offer, beats, pick}
+use Rattle.resolvo_queue.specs.Rows.{Row}
+use Rattle.resolvo_queue.specs.Inspection.{offer_of, eligible_frontier}
+use Rattle.resolvo_queue.specs.Positions.{has, position_cmp, IsBefore}
+use Rattle.resolvo_queue.specs.Queued.{Queued, IsOfClause}
+use Rattle.resolvo_queue.specs.ScanOrder.{numbered_scan, position_in}
+use Rattle.resolvo_queue.specs.Selection.{picked_behind}
+use Rattle.resolvo_queue.specs.Synced.{IsSynced}
+use Rattle.resolvo_queue.specs.Tracked.{Tracked, IsPlaceOf}
+use Rattle.resolvo_queue.specs.declared.position.Position.{Position}
+use Rattle.resolvo_queue.specs.declared.tracked_clause.TrackedClause.{TrackedClause}
+
+abbrev pub at_position : ℕ → ℕ → Position
+at_position first number = record { first_of_parent = first; number = number }
+
+-- each clause keeps its position in the scan
+abbrev pub AreLocated : List TrackedClause → Type 0
+AreLocated clauses =
+    (n : ℕ) (c : TrackedClause) → slice_get clauses n ≡ Some c → c.position ≡ position_in (λ (d : TrackedClause). d.parent) at_position clauses (n, c)
+
+-- the clauses in the order of the scan, with their numbers
+abbrev pub scanned : List TrackedClause → List (ℕ × TrackedClause)
+scanned clauses = numbered_scan (λ (c : TrackedClause). c.parent) clauses
+
+-- the better of the best so far and an offer, if there is one
+abbrev pub improved : Offer → Option Offer → Offer
+improved b None = b
+improved b (Some e) = if beats e b then e else b
+
+module _ (clauses : List TrackedClause) (literals : TrackedClause → List Lit) (rows_of : Requirement → List Row) (val : Values) where
+  pub record IsReady (ts : List Tracked) (q : Queued) : Type 0 where
+    pub synced : IsSynced clauses literals rows_of val (λ c. known_true (val c.parent)) ts q
+    pub placed : (n : ℕ) (c : TrackedClause) → slice_get clauses n ≡ Some c → IsPlaceOf ts c.required c.requirement
+    pub all_of : (p : Position) → has q.all p ≡ true → IsOfClause clauses p
+    pub hot_of : (p : Position) → has q.hot p ≡ true → IsOfClause clauses p
+
+-- ---- the pick along the scan
+
+module _ (clauses : List TrackedClause) (literals : TrackedClause → List Lit) (rows_of : Requirement → List Row) (val : Values) (score : VersionSetId → ℕ) where
+  abbrev pub place_of : ℕ × TrackedClause → Position
+  place_of = position_in (λ (c : TrackedClause). c.parent) at_position clauses
+
+  abbrev pub item_offer : ℕ × TrackedClause → Option Offer
+  item_offer x = offer_of val literals rows_of score x.1
+
+  -- the pick of all clauses
+  abbrev pub all_picked : Option Offer
+  all_picked = pick (filter_map item_offer (scanned clauses))
+
+  -- what the clauses behind a position make of the best so far
+  abbrev pub rest_picked : Offer → Position → Option Offer
+  rest_picked b p = picked_behind position_cmp place_of item_offer (scanned clauses) b p
+
+  -- what isn't hot has no score
+  abbrev pub ColdHasNoScore : Type 0
+  ColdHasNoScore =
+      (n : ℕ) (c : TrackedClause) → slice_get clauses n ≡ Some c → c.is_hot ≡ false →
+      (f : Frontier) → eligible_frontier val literals rows_of c ≡ Some f → score f.set ≡ 0
+
+-- how many clauses are behind a position
+abbrev pub clauses_behind : List TrackedClause → Position → ℕ
+clauses_behind clauses p =
+    length (filter (λ x. is_lt (position_cmp p (position_in (λ (c : TrackedClause). c.parent) at_position clauses x))) (scanned clauses))
+
+-- no clause behind the position can be better: the best has one candidate or the largest score, or none is left
+abbrev pub IsDone : Offer → ℕ → Position → List Position → Type 0
+IsDone b largest cursor set =
+    (b.frontier.count ≡ 1) ⊎ ((b.score ≡ largest) ⊎ ((p : Position) → IsBefore cursor p → has set p ≡ false))

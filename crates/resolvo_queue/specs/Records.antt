@@ -1,0 +1,22 @@
+-- Records as their code keeps them.
+use Rattle.std.specs.Prelude.{◌≡◌, ℕ, List, Some, None, slice_get, length}
+use Rattle.std.specs.Map.{lookup}
+use Rattle.providers.specs.Requirement.{same_requirement}
+use Rattle.providers.specs.declared.requirement.Requirement.{Requirement}
+use Rattle.resolvo_queue.specs.Possible.{Known}
+use Rattle.resolvo_queue.specs.Tracked.{Tracked, IsPlaceOf}
+use Rattle.resolvo_queue.specs.declared.requirements.RequirementRecord.{RequirementRecord}
+use Rattle.resolvo_queue.specs.declared.requirements.Walk.{Walk}
+use Rattle.resolvo_queue.specs.declared.requirements.Walk.TheVariants as Kind
+
+abbrev pub known_of : Walk → Known
+known_of Kind.Unknown = None
+known_of (Kind.Known f) = Some f
+
+abbrev pub tracked : {A : Type 0} → RequirementRecord A → Tracked
+tracked r = record { requirement = r.requirement; clauses = r.clauses.items; walk = known_of r.walk; walks = length r.log.walked }
+
+-- each requirement's record stands at its place, and each place is that of the record's requirement
+pub record ArePlaced (ts : List Tracked) (places : List (Requirement × ℕ)) : Type 0 where
+  pub at : (place : ℕ) (t : Tracked) → slice_get ts place ≡ Some t → lookup (same_requirement t.requirement) places ≡ Some place
+  pub of : (r : Requirement) (place : ℕ) → lookup (same_requirement r) places ≡ Some place → IsPlaceOf ts r place

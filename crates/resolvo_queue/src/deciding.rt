@@ -1,0 +1,269 @@
+//! The decision along what is queued: the first eligible clause, and behind it what may be better.
+ghost use Rattle.std.specs.Prelude.{◌≡◌, ◌<◌, Some, None, true, false, length, slice_get, option_map, IfSome, MatchOption, IfOk, IfErr};
+ghost use Rattle.typed_ids.specs.declared.error.StoreError.TheVariants.{OutOfMemory};
+ghost use Rattle.decisions.specs.Decisions.{values_in};
+ghost use Rattle.resolvo_queue.specs.Inspection.{offer_of};
+ghost use Rattle.resolvo_queue.specs.Listing.{IsListedWell};
+ghost use Rattle.resolvo_queue.specs.Positions.{has, is_after, IsBefore};
+ghost use Rattle.resolvo_queue.specs.Queued.{IsOfClause, set_of};
+ghost use Rattle.resolvo_queue.specs.Question.{clause_literals, AreUpTo, AreAskable};
+ghost use Rattle.resolvo_queue.specs.Ready.{AreLocated, IsReady, IsDone, ColdHasNoScore, all_picked, rest_picked, improved};
+ghost use Rattle.resolvo_queue.specs.References.{references, rows_in, score_in};
+ghost use Rattle.resolvo_queue.specs.Tracked.{OwesSame, SameFound};
+ghost use Rattle.resolvo_queue.specs.declared.candidate.Candidate.{Candidate as ACandidate};
+ghost use Rattle.resolvo_queue.specs.declared.position.Position.{Position as APosition};
+ghost use Rattle.resolvo_queue.specs.declared.tracked_clause.TrackedClause.{TrackedClause};
+
+use crate::candidate::Candidate;
+use crate::inspection::inspect;
+use crate::offer::Offer;
+use crate::position::Position;
+use crate::requires_clause::RequiresClause;
+use crate::row_reader::RowReader;
+use crate::tracked_clauses::TrackedClauses;
+use clauses::Disjunction;
+use decisions::DecisionMap;
+use id_maps::{IdMap, SolverId};
+use id_storage::Arena;
+use providers::Interner;
+use std::alloc::Allocator;
+use typed_ids::{DisjunctionId, StoreError, VersionSetId};
+
+/// What the clause at a position offers. One that isn't eligible leaves the queue.
+fn look<I: Interner>(
+    tracked: &mut TrackedClauses<I::Alloc>,
+    position: Position,
+    map: &DecisionMap<I::Alloc>,
+    reader: &mut RowReader<'_, I::Alloc>,
+    disjunctions: &Arena<DisjunctionId, Disjunction<I::Alloc>, I::Alloc>,
+    scores: &<I::NameId as SolverId<I::Alloc>>::Scores,
+    interner: &I,
+) -> Result<Option<Candidate>, StoreError>
+    requires of { IsOfClause tracked.old.index.clauses.items position }
+    requires located { AreLocated tracked.old.index.clauses.items }
+    requires askable { let refs = references (I.universe interner.now) reader.old.lists disjunctions.now in AreAskable refs tracked.old.index.clauses.items }
+    requires listed { IsListedWell reader.old.lists tracked.old.occurrences tracked.old.requirements }
+    requires ready { let refs = references (I.universe interner.now) reader.old.lists disjunctions.now in IsReady tracked.old.index.clauses.items (clause_literals refs) (rows_in refs) (values_in map.now) tracked.old.requirements tracked.old.queued }
+    ensures offers { let refs = references (I.universe interner.now) reader.old.lists disjunctions.now in IfOk result (λ o. (c : TrackedClause) → slice_get tracked.old.index.clauses.items position.number ≡ Some c → option_map (λ (b : ACandidate). b.offer) o ≡ offer_of (values_in map.now) (clause_literals refs) (rows_in refs) (score_in refs (I.NameId.Scores.value_at scores.now)) c) }
+    ensures at { IfOk result (λ o. IfSome o (λ b. b.position ≡ position)) }
+    ensures fewer { IfOk result (λ o. o ≡ None → has tracked.old.queued.all position ≡ true → length tracked.new.queued.all < length tracked.old.queued.all) }
+    ensures listed { IsListedWell reader.old.lists tracked.new.occurrences tracked.new.requirements }
+    ensures owes { OwesSame tracked.old.requirements tracked.new.requirements }
+    ensures found { SameFound tracked.old.requirements tracked.new.requirements }
+    ensures ready { let refs = references (I.universe interner.now) reader.old.lists disjunctions.now in IsReady tracked.old.index.clauses.items (clause_literals refs) (rows_in refs) (values_in map.now) tracked.new.requirements tracked.new.queued }
+    ensures index { tracked.new.index ≡ tracked.old.index }
+    ensures only_hot { tracked.new.only_hot ≡ tracked.old.only_hot }
+    ensures trail { tracked.new.trail ≡ tracked.old.trail }
+    ensures anew { tracked.new.must_start_anew ≡ tracked.old.must_start_anew }
+    ensures lists { reader.new.lists ≡ reader.old.lists }
+    ensures memory { IfErr result (λ e. e ≡ OutOfMemory) }
+{
+    let clause = tracked.index.clauses[position.number as usize];
+    let found = inspect(
+        &mut tracked.requirements,
+        &mut tracked.occurrences,
+        reader,
+        disjunctions,
+        &clause,
+        map,
+        interner,
+    )?;
+    match found {
+        None => {
+            tracked.queued.remove(position);
+            Ok(None)
+        }
+        Some(frontier) => Ok(Some(Candidate {
+            position,
+            offer: Offer {
+                clause: RequiresClause {
+                    parent: clause.parent,
+                    requirement: clause.required,
+                    condition: clause.condition,
+                    clause_id: clause.clause_id,
+                },
+                frontier,
+                score: score_of(frontier.set, scores, interner),
+            },
+        })),
+    }
+}
+
+/// The first eligible clause. Those before it leave the queue.
+fn first_eligible<I: Interner>(
+    tracked: &mut TrackedClauses<I::Alloc>,
+    map: &DecisionMap<I::Alloc>,
+    reader: &mut RowReader<'_, I::Alloc>,
+    disjunctions: &Arena<DisjunctionId, Disjunction<I::Alloc>, I::Alloc>,
+    scores: &<I::NameId as SolverId<I::Alloc>>::Scores,
+    interner: &I,
+) -> Result<Option<Candidate>, StoreError>
+    requires located { AreLocated tracked.old.index.clauses.items }
+    requires askable { let refs = references (I.universe interner.now) reader.old.lists disjunctions.now in AreAskable refs tracked.old.index.clauses.items }
+    requires listed { IsListedWell reader.old.lists tracked.old.occurrences tracked.old.requirements }
+    requires ready { let refs = references (I.universe interner.now) reader.old.lists disjunctions.now in IsReady tracked.old.index.clauses.items (clause_literals refs) (rows_in refs) (values_in map.now) tracked.old.requirements tracked.old.queued }
+    ensures picked { let refs = references (I.universe interner.now) reader.old.lists disjunctions.now in IfOk result (λ o. let picked = all_picked tracked.old.index.clauses.items (clause_literals refs) (rows_in refs) (values_in map.now) (score_in refs (I.NameId.Scores.value_at scores.now)) in
+        MatchOption o (picked ≡ None) (λ b. picked ≡ rest_picked tracked.old.index.clauses.items (clause_literals refs) (rows_in refs) (values_in map.now) (score_in refs (I.NameId.Scores.value_at scores.now)) b.offer b.position)) }
+    ensures listed { IsListedWell reader.old.lists tracked.new.occurrences tracked.new.requirements }
+    ensures owes { OwesSame tracked.old.requirements tracked.new.requirements }
+    ensures found { SameFound tracked.old.requirements tracked.new.requirements }
+    ensures ready { let refs = references (I.universe interner.now) reader.old.lists disjunctions.now in IsReady tracked.old.index.clauses.items (clause_literals refs) (rows_in refs) (values_in map.now) tracked.new.requirements tracked.new.queued }
+    ensures index { tracked.new.index ≡ tracked.old.index }
+    ensures only_hot { tracked.new.only_hot ≡ tracked.old.only_hot }
+    ensures trail { tracked.new.trail ≡ tracked.old.trail }
+    ensures anew { tracked.new.must_start_anew ≡ tracked.old.must_start_anew }
+    ensures lists { reader.new.lists ≡ reader.old.lists }
+    ensures memory { IfErr result (λ e. e ≡ OutOfMemory) }
+{
+    while let Some(position) = tracked.queued.first() {
+        match look(
+            tracked,
+            position,
+            map,
+            reader,
+            disjunctions,
+            scores,
+            interner,
+        )? {
+            Some(candidate) => return Ok(Some(candidate)),
+            None => {}
+        }
+    }
+    Ok(None)
+}
+
+/// The next clause behind a position that may be better than the best so far. None if nothing can be better, or
+/// nothing is left.
+fn next_rival<A: Allocator + Copy>(
+    tracked: &TrackedClauses<A>,
+    best: &Candidate,
+    cursor: Position,
+    largest: u64,
+) -> Option<Position>
+    ensures none { MatchOption result (IsDone best.now.offer largest cursor (set_of tracked.now.only_hot tracked.now.queued)) (λ f. has (set_of tracked.now.only_hot tracked.now.queued) f ≡ true) }
+    ensures behind { IfSome result (λ f. IsBefore cursor f) }
+    ensures least { IfSome result (λ f. (p : APosition) → has (set_of tracked.now.only_hot tracked.now.queued) p ≡ true → IsBefore cursor p → is_after f p ≡ false) }
+{
+    if best.offer.frontier.count == 1 {
+        return None;
+    }
+    if tracked.only_hot && best.offer.score == largest {
+        return None;
+    }
+    tracked.queued.first_behind(tracked.only_hot, cursor)
+}
+
+/// The better of the best so far and what the clause at a position behind it offers. A clause that isn't the root's
+/// isn't looked at where the best is the root's.
+fn better_of<I: Interner>(
+    tracked: &mut TrackedClauses<I::Alloc>,
+    best: Candidate,
+    position: Position,
+    map: &DecisionMap<I::Alloc>,
+    reader: &mut RowReader<'_, I::Alloc>,
+    disjunctions: &Arena<DisjunctionId, Disjunction<I::Alloc>, I::Alloc>,
+    scores: &<I::NameId as SolverId<I::Alloc>>::Scores,
+    interner: &I,
+) -> Result<Candidate, StoreError>
+    requires of { IsOfClause tracked.old.index.clauses.items position }
+    requires located { AreLocated tracked.old.index.clauses.items }
+    requires askable { let refs = references (I.universe interner.now) reader.old.lists disjunctions.now in AreAskable refs tracked.old.index.clauses.items }
+    requires listed { IsListedWell reader.old.lists tracked.old.occurrences tracked.old.requirements }
+    requires ready { let refs = references (I.universe interner.now) reader.old.lists disjunctions.now in IsReady tracked.old.index.clauses.items (clause_literals refs) (rows_in refs) (values_in map.now) tracked.old.requirements tracked.old.queued }
+    ensures better { let refs = references (I.universe interner.now) reader.old.lists disjunctions.now in IfOk result (λ b. (c : TrackedClause) → slice_get tracked.old.index.clauses.items position.number ≡ Some c → b.offer ≡ improved best.offer (offer_of (values_in map.now) (clause_literals refs) (rows_in refs) (score_in refs (I.NameId.Scores.value_at scores.now)) c)) }
+    ensures listed { IsListedWell reader.old.lists tracked.new.occurrences tracked.new.requirements }
+    ensures owes { OwesSame tracked.old.requirements tracked.new.requirements }
+    ensures found { SameFound tracked.old.requirements tracked.new.requirements }
+    ensures ready { let refs = references (I.universe interner.now) reader.old.lists disjunctions.now in IsReady tracked.old.index.clauses.items (clause_literals refs) (rows_in refs) (values_in map.now) tracked.new.requirements tracked.new.queued }
+    ensures index { tracked.new.index ≡ tracked.old.index }
+    ensures only_hot { tracked.new.only_hot ≡ tracked.old.only_hot }
+    ensures trail { tracked.new.trail ≡ tracked.old.trail }
+    ensures anew { tracked.new.must_start_anew ≡ tracked.old.must_start_anew }
+    ensures lists { reader.new.lists ≡ reader.old.lists }
+    ensures memory { IfErr result (λ e. e ≡ OutOfMemory) }
+{
+    let parent = tracked.index.clauses[position.number as usize].parent;
+    if best.offer.is_of_root() && !parent.is_root() {
+        return Ok(best);
+    }
+    match look(
+        tracked,
+        position,
+        map,
+        reader,
+        disjunctions,
+        scores,
+        interner,
+    )? {
+        Some(candidate) => {
+            if candidate.offer.beats(&best.offer) {
+                Ok(candidate)
+            } else {
+                Ok(best)
+            }
+        }
+        None => Ok(best),
+    }
+}
+
+/// The decision to take, if a clause is eligible: the pick of all eligible clauses, in the order of the scan. The
+/// first eligible one is the best at first; behind it only what may be better is looked at.
+pub(crate) fn next_offer<I: Interner>(
+    tracked: &mut TrackedClauses<I::Alloc>,
+    map: &DecisionMap<I::Alloc>,
+    reader: &mut RowReader<'_, I::Alloc>,
+    disjunctions: &Arena<DisjunctionId, Disjunction<I::Alloc>, I::Alloc>,
+    scores: &<I::NameId as SolverId<I::Alloc>>::Scores,
+    largest: u64,
+    interner: &I,
+) -> Result<Option<Offer>, StoreError>
+    requires located { AreLocated tracked.old.index.clauses.items }
+    requires askable { let refs = references (I.universe interner.now) reader.old.lists disjunctions.now in AreAskable refs tracked.old.index.clauses.items }
+    requires listed { IsListedWell reader.old.lists tracked.old.occurrences tracked.old.requirements }
+    requires ready { let refs = references (I.universe interner.now) reader.old.lists disjunctions.now in IsReady tracked.old.index.clauses.items (clause_literals refs) (rows_in refs) (values_in map.now) tracked.old.requirements tracked.old.queued }
+    requires cold { let refs = references (I.universe interner.now) reader.old.lists disjunctions.now in ColdHasNoScore tracked.old.index.clauses.items (clause_literals refs) (rows_in refs) (values_in map.now) (score_in refs (I.NameId.Scores.value_at scores.now)) }
+    requires largest { let refs = references (I.universe interner.now) reader.old.lists disjunctions.now in AreUpTo largest (score_in refs (I.NameId.Scores.value_at scores.now)) }
+    ensures picked { let refs = references (I.universe interner.now) reader.old.lists disjunctions.now in IfOk result (λ o. o ≡ (all_picked tracked.old.index.clauses.items (clause_literals refs) (rows_in refs) (values_in map.now) (score_in refs (I.NameId.Scores.value_at scores.now)))) }
+    ensures listed { IsListedWell reader.old.lists tracked.new.occurrences tracked.new.requirements }
+    ensures owes { OwesSame tracked.old.requirements tracked.new.requirements }
+    ensures found { SameFound tracked.old.requirements tracked.new.requirements }
+    ensures ready { let refs = references (I.universe interner.now) reader.old.lists disjunctions.now in IsReady tracked.old.index.clauses.items (clause_literals refs) (rows_in refs) (values_in map.now) tracked.new.requirements tracked.new.queued }
+    ensures index { tracked.new.index ≡ tracked.old.index }
+    ensures only_hot { tracked.new.only_hot ≡ tracked.old.only_hot }
+    ensures trail { tracked.new.trail ≡ tracked.old.trail }
+    ensures anew { tracked.new.must_start_anew ≡ tracked.old.must_start_anew }
+    ensures lists { reader.new.lists ≡ reader.old.lists }
+    ensures memory { IfErr result (λ e. e ≡ OutOfMemory) }
+{
+    let mut best = match first_eligible(tracked, map, reader, disjunctions, scores, interner)? {
+        Some(first) => first,
+        None => return Ok(None),
+    };
+    let mut cursor = best.position;
+    while let Some(position) = next_rival(tracked, &best, cursor, largest) {
+        best = better_of(
+            tracked,
+            best,
+            position,
+            map,
+            reader,
+            disjunctions,
+            scores,
+            interner,
+        )?;
+        cursor = position;
+    }
+    Ok(Some(best.offer))
+}
+
+/// The score of a version set: its package's.
+pub(crate) fn score_of<I: Interner>(
+    set: VersionSetId,
+    scores: &<I::NameId as SolverId<I::Alloc>>::Scores,
+    interner: &I,
+) -> u64
+    requires { (I.universe interner.now).knows_set set ≡ true }
+    ensures { result ≡ I.NameId.Scores.value_at scores.now ((I.universe interner.now).set_name set) }
+{
+    scores.get(interner.version_set_name(set))
+}

@@ -1,0 +1,122 @@
+//! Looking at a clause: whether it is eligible, and where.
+ghost use Rattle.std.specs.Prelude.{◌≡◌, ◌<◌, ℕ, Some, None, true, length, is_some, IsSome, IfSome, OnOk, IfOk, IfErr};
+ghost use Rattle.std.specs.Map.{lookup};
+ghost use Rattle.typed_ids.specs.declared.error.StoreError.TheVariants.{OutOfMemory};
+ghost use Rattle.decisions.specs.Decisions.{values_in};
+ghost use Rattle.providers.specs.Requirement.{same_requirement};
+ghost use Rattle.resolvo_queue.specs.Rows.{loaded_rows, frontier};
+ghost use Rattle.resolvo_queue.specs.Rows.{candidates};
+ghost use Rattle.resolvo_queue.specs.Question.{clause_literals};
+ghost use Rattle.resolvo_queue.specs.References.{IsWalkable, references};
+ghost use Rattle.resolvo_queue.specs.Inspection.{Learns, ListsOnly, eligible_frontier, may_be};
+ghost use Rattle.resolvo_queue.specs.Listing.{IsListedWell};
+ghost use Rattle.resolvo_queue.specs.Occurrences.{is_listed, GrowsWith};
+ghost use Rattle.resolvo_queue.specs.Tracked.{known_at, IsPlaceOf, OwesSame, SameFound};
+
+use crate::condition::is_met;
+use crate::frontier::Frontier;
+use crate::requirements::{Requirements, Walk};
+use crate::row_reader::{Occurrences, RowReader};
+use crate::tracked_clause::TrackedClause;
+use clauses::Disjunction;
+use decisions::DecisionMap;
+use id_storage::Arena;
+use providers::{Interner, Requirement};
+use std::alloc::Allocator;
+use typed_ids::{DisjunctionId, StoreError};
+
+/// Lists a requirement that isn't listed.
+fn list_once<A: Allocator + Copy>(
+    occurrences: &mut Occurrences<A>,
+    reader: &RowReader<'_, A>,
+    requirement: Requirement,
+) -> Result<(), StoreError>
+    requires entry { IsSome (lookup (same_requirement requirement) reader.now.lists) }
+    ensures grows { GrowsWith requirement (candidates reader.now.lists requirement) occurrences.old occurrences.new }
+    ensures lists { ListsOnly requirement (candidates reader.now.lists requirement) occurrences.old occurrences.new }
+    ensures listed { OnOk result (is_listed occurrences.new requirement ≡ true) }
+    ensures memory { IfErr result (λ e. e ≡ OutOfMemory) }
+{
+    if occurrences.is_listed(requirement) {
+        Ok(())
+    } else {
+        reader.list(requirement, occurrences)
+    }
+}
+
+/// The frontier of a requirement, which is walked only if nothing is known of its rows. This is the one place where
+/// rows are walked.
+fn requirement_frontier<I: Interner, A: Allocator + Copy>(
+    requirements: &mut Requirements<A>,
+    occurrences: &mut Occurrences<A>,
+    reader: &mut RowReader<'_, A>,
+    requirement: Requirement,
+    place: usize,
+    map: &DecisionMap<A>,
+    interner: &I,
+) -> Result<Option<Frontier>, StoreError>
+    requires place { IsPlaceOf requirements.old requirement place }
+    requires walkable { IsWalkable (I.universe interner.now) reader.old.lists requirement }
+    requires listed { IsListedWell reader.old.lists occurrences.old requirements.old }
+    requires right { (f : _) → known_at requirements.old place ≡ Some f → f ≡ frontier (values_in map.now) (loaded_rows (I.universe interner.now) reader.old.lists requirement) }
+    ensures frontier { IfOk result (λ f. f ≡ frontier (values_in map.now) (loaded_rows (I.universe interner.now) reader.old.lists requirement)) }
+    ensures known { IfOk result (λ f. known_at requirements.new place ≡ Some f) }
+    ensures learns { Learns requirement place (frontier (values_in map.now) (loaded_rows (I.universe interner.now) reader.old.lists requirement)) requirements.old requirements.new reader.old.walked reader.new.walked }
+    ensures rows { reader.new.lists ≡ reader.old.lists }
+    ensures listed { IsListedWell reader.old.lists occurrences.new requirements.new }
+    ensures owes { OwesSame requirements.old requirements.new }
+    ensures found { SameFound requirements.old requirements.new }
+    ensures memory { IfErr result (λ e. e ≡ OutOfMemory) }
+{
+    match requirements.walk(place) {
+        Walk::Known(frontier) => Ok(frontier),
+        Walk::Unknown => {
+            list_once(occurrences, reader, requirement)?;
+            let frontier = reader.walk(requirement, map, interner);
+            requirements.keep(place, &frontier);
+            Ok(frontier)
+        }
+    }
+}
+
+/// Where a clause is eligible; nothing if it isn't, and then it can't be by what is known afterwards.
+pub(crate) fn inspect<I: Interner, A: Allocator + Copy>(
+    requirements: &mut Requirements<A>,
+    occurrences: &mut Occurrences<A>,
+    reader: &mut RowReader<'_, A>,
+    disjunctions: &Arena<DisjunctionId, Disjunction<A>, A>,
+    clause: &TrackedClause,
+    map: &DecisionMap<A>,
+    interner: &I,
+) -> Result<Option<Frontier>, StoreError>
+    requires place { IsPlaceOf requirements.old clause.now.required clause.now.requirement }
+    requires condition { IfSome clause.now.condition (λ d. d < length disjunctions.now) }
+    requires walkable { IsWalkable (I.universe interner.now) reader.old.lists clause.now.required }
+    requires listed { IsListedWell reader.old.lists occurrences.old requirements.old }
+    requires right { (f : _) → known_at requirements.old clause.now.requirement ≡ Some f → f ≡ frontier (values_in map.now) (loaded_rows (I.universe interner.now) reader.old.lists clause.now.required) }
+    ensures eligible { IfOk result (λ f. f ≡ eligible_frontier (values_in map.now) (clause_literals (references (I.universe interner.now) reader.old.lists disjunctions.now)) (loaded_rows (I.universe interner.now) reader.old.lists) clause.now) }
+    ensures possible { IfOk result (λ f. may_be (values_in map.now) (clause_literals (references (I.universe interner.now) reader.old.lists disjunctions.now)) requirements.new clause.now ≡ is_some f) }
+    ensures learns { Learns clause.now.required clause.now.requirement (frontier (values_in map.now) (loaded_rows (I.universe interner.now) reader.old.lists clause.now.required)) requirements.old requirements.new reader.old.walked reader.new.walked }
+    ensures rows { reader.new.lists ≡ reader.old.lists }
+    ensures listed { IsListedWell reader.old.lists occurrences.new requirements.new }
+    ensures owes { OwesSame requirements.old requirements.new }
+    ensures found { SameFound requirements.old requirements.new }
+    ensures memory { IfErr result (λ e. e ≡ OutOfMemory) }
+{
+    match map.value(clause.parent) {
+        Some(true) => {}
+        _ => return Ok(None),
+    }
+    if !is_met(clause.condition, disjunctions, map) {
+        return Ok(None);
+    }
+    requirement_frontier(
+        requirements,
+        occurrences,
+        reader,
+        clause.required,
+        clause.requirement,
+        map,
+        interner,
+    )
+}

@@ -1,0 +1,101 @@
+//! The clauses that may be eligible, and those of them that may replace a first eligible one.
+ghost use Rattle.std.specs.Prelude.{◌≡◌, ◌<◌, true, false, if◌then◌else◌, length, All, IfSome, MatchOption, OnOk, OnErr, IfErr};
+ghost use Rattle.typed_ids.specs.declared.error.StoreError.TheVariants.{OutOfMemory};
+ghost use Rattle.decisions.specs.Decisions.{values_in};
+
+use crate::position::Position;
+use crate::position_set::PositionSet;
+use crate::tracked_clause::TrackedClause;
+use decisions::DecisionMap;
+use std::alloc::Allocator;
+use std::marker::Model;
+use typed_ids::StoreError;
+
+/// Positions of clauses: of each that may be eligible, and again of each of those that is hot. More may stand in either.
+#[derive(Drop)]
+pub(crate) struct QueuedClauses<A: Allocator + Copy> {
+    all: PositionSet<A>,
+    hot: PositionSet<A>,
+}
+
+impl<A: Allocator + Copy> Model for QueuedClauses<A> {
+    ghost use Rattle.resolvo_queue.specs.Queued.{Queued};
+
+    ghost Value = { Queued };
+
+    ghost view = { λ q. record { all = q.all; hot = q.hot } };
+}
+
+impl<A: Allocator + Copy> QueuedClauses<A> {
+    ghost use Rattle.resolvo_queue.specs.Queued.{IsQueued, GrowsBy, LosesOnly, is_empty_queue, set_of, heated};
+    ghost use Rattle.resolvo_queue.specs.Positions.{has, is_after, same_position, IsBefore};
+    ghost use Rattle.resolvo_queue.specs.declared.position.Position.{Position};
+
+    /// Nothing is queued. Takes no memory.
+    pub(crate) fn new(alloc: A) -> Self
+        ensures { is_empty_queue result }
+    {
+        QueuedClauses {
+            all: PositionSet::new(alloc),
+            hot: PositionSet::new(alloc),
+        }
+    }
+
+    /// Queues a clause. A refusal may leave it half done, and the clause then counts as not queued.
+    pub(crate) fn add(&mut self, clause: &TrackedClause) -> Result<(), StoreError>
+        ensures grows { GrowsBy (λ p. same_position clause.now.position p ≡ true) self.old self.new }
+        ensures queued { OnOk result (IsQueued self.new clause.now) }
+        ensures memory { IfErr result (λ e. e ≡ OutOfMemory) }
+    {
+        self.all.insert(clause.position)?;
+        if clause.is_hot {
+            self.hot.insert(clause.position)?;
+        }
+        Ok(())
+    }
+
+    /// Takes a position out. Takes no memory.
+    pub(crate) fn remove(&mut self, position: Position)
+        ensures loses { LosesOnly position self.old self.new }
+        ensures fewer { has self.old.all position ≡ true → length self.new.all < length self.old.all }
+    {
+        self.all.remove(position);
+        self.hot.remove(position);
+    }
+
+    /// The first position.
+    pub(crate) fn first(&self) -> Option<Position>
+        ensures none { MatchOption result ((p : Position) → has self.now.all p ≡ false) (λ f. has self.now.all f ≡ true) }
+        ensures least { IfSome result (λ f. (p : Position) → has self.now.all p ≡ true → is_after f p ≡ false) }
+    {
+        self.all.first()
+    }
+
+    /// The first position behind another one, among the hot ones alone or among all.
+    pub(crate) fn first_behind(&self, only_hot: bool, position: Position) -> Option<Position>
+        ensures none { MatchOption result ((p : Position) → IsBefore position p → has (set_of only_hot self.now) p ≡ false) (λ f. has (set_of only_hot self.now) f ≡ true) }
+        ensures behind { IfSome result (λ f. IsBefore position f) }
+        ensures least { IfSome result (λ f. (p : Position) → has (set_of only_hot self.now) p ≡ true → IsBefore position p → is_after f p ≡ false) }
+    {
+        if only_hot {
+            self.hot.first_behind(position)
+        } else {
+            self.all.first_behind(position)
+        }
+    }
+
+    /// Makes a clause hot: it stands among the hot ones from now on, if it is queued. Refused, it isn't hot.
+    pub(crate) fn heat(&mut self, clause: &mut TrackedClause) -> Result<(), StoreError>
+        ensures grows { GrowsBy (λ p. same_position clause.old.position p ≡ true) self.old self.new }
+        ensures into { OnOk result (has self.old.all clause.old.position ≡ true → has self.new.hot clause.old.position ≡ true) }
+        ensures ok { OnOk result (clause.new ≡ heated clause.old) }
+        ensures err { OnErr result (clause.new ≡ clause.old) }
+        ensures memory { IfErr result (λ e. e ≡ OutOfMemory) }
+    {
+        if self.all.contains(clause.position) {
+            self.hot.insert(clause.position)?;
+        }
+        clause.is_hot = true;
+        Ok(())
+    }
+}

@@ -1,0 +1,125 @@
+//! Bringing a queue up to date with a trail.
+ghost use Rattle.std.specs.Prelude.{◌≡◌, ℕ, List, ◌≤◌, ◌++◌, true, false, length, take, drop, map, OnOk, OnErr, IfErr};
+ghost use Rattle.typed_ids.specs.declared.error.StoreError.TheVariants.{OutOfMemory};
+ghost use Rattle.decisions.specs.Decisions.{values_in};
+ghost use Rattle.resolvo_queue.specs.Occurrences.{listing};
+ghost use Rattle.resolvo_queue.specs.Queued.{GrowsBy, HaveNumbers, IsOfClause};
+ghost use Rattle.resolvo_queue.specs.Routing.{OnlyForgets, Unrouted, variables_of};
+ghost use Rattle.resolvo_queue.specs.Synced.{SyncsTo};
+ghost use Rattle.resolvo_queue.specs.Trails.{decided_value};
+
+use crate::routing::route_all;
+use crate::tracked_clauses::TrackedClauses;
+use crate::waking::wake_all;
+use decisions::{Decision, DecisionMap};
+use std::alloc::Allocator;
+use typed_ids::StoreError;
+
+/// Makes the copy of a trail that is right below the floor a copy of all.
+fn copy_behind<A: Allocator>(
+    copy: &mut Vec<Decision, A>,
+    floor: usize,
+    trail: &[Decision],
+) -> Result<(), StoreError>
+    requires { floor ≤ length trail.now }
+    ensures ok { OnOk result (copy.new.items ≡ take floor copy.old.items ++ drop floor trail.now) }
+    ensures memory { IfErr result (λ e. e ≡ OutOfMemory) }
+{
+    copy.truncate(floor);
+    match copy.extend_from_slice(&trail[floor..]) {
+        Ok(()) => Ok(()),
+        Err(_) => Err(StoreError::OutOfMemory),
+    }
+}
+
+impl<A: Allocator + Copy> TrackedClauses<A> {
+    /// Routes what has changed since the last sync: the variables of the entries that were taken back, and of those that
+    /// are new. One that was both pushed and taken back in between has no effect.
+    fn route_changes(
+        &mut self,
+        floor: usize,
+        trail: &[Decision],
+        map: &DecisionMap<A>,
+    ) -> Result<(), StoreError>
+        requires numbers { HaveNumbers self.old.index.clauses.items }
+        requires floor { floor ≤ length trail.now }
+        requires old_floor { floor ≤ length self.old.trail.items }
+        ensures same { (self.new.index ≡ self.old.index) × (self.new.occurrences ≡ self.old.occurrences) × (self.new.only_hot ≡ self.old.only_hot) × (self.new.must_start_anew ≡ self.old.must_start_anew) }
+        ensures only { OnlyForgets self.old.requirements self.new.requirements }
+        ensures others { Unrouted (listing self.old.occurrences) (variables_of (drop floor self.old.trail.items) ++ variables_of (drop floor trail.now)) self.old.requirements self.new.requirements }
+        ensures grows { GrowsBy (IsOfClause self.old.index.clauses.items) self.old.queued self.new.queued }
+        ensures synced { OnOk result (SyncsTo self.old.index.clauses.items self.old.index.by_parent self.old.index.by_condition (listing self.old.occurrences) false
+            (decided_value self.old.trail.items) (values_in map.now) (variables_of (drop floor self.old.trail.items) ++ variables_of (drop floor trail.now))
+            self.old.requirements self.new.requirements self.old.queued self.new.queued) }
+        ensures trail { OnOk result (self.new.trail.items ≡ take floor self.old.trail.items ++ drop floor trail.now) }
+        ensures memory { IfErr result (λ e. e ≡ OutOfMemory) }
+    {
+        route_all(
+            &mut self.queued,
+            &mut self.requirements,
+            &self.index,
+            &self.occurrences,
+            &self.trail[floor..],
+            map,
+        )?;
+        route_all(
+            &mut self.queued,
+            &mut self.requirements,
+            &self.index,
+            &self.occurrences,
+            &trail[floor..],
+            map,
+        )?;
+        copy_behind(&mut self.trail, floor, trail)
+    }
+
+    /// Forgets all that is known, and queues all clauses whose parent is true.
+    fn start_anew(&mut self, trail: &[Decision], map: &DecisionMap<A>) -> Result<(), StoreError>
+        requires numbers { HaveNumbers self.old.index.clauses.items }
+        ensures same { (self.new.index ≡ self.old.index) × (self.new.occurrences ≡ self.old.occurrences) × (self.new.only_hot ≡ self.old.only_hot) × (self.new.must_start_anew ≡ self.old.must_start_anew) }
+        ensures only { OnlyForgets self.old.requirements self.new.requirements }
+        ensures grows { GrowsBy (IsOfClause self.old.index.clauses.items) self.old.queued self.new.queued }
+        ensures synced { OnOk result ((routed : List ℕ) → SyncsTo self.old.index.clauses.items self.old.index.by_parent self.old.index.by_condition (listing self.old.occurrences) true
+            (decided_value self.old.trail.items) (values_in map.now) routed
+            self.old.requirements self.new.requirements self.old.queued self.new.queued) }
+        ensures trail { OnOk result (self.new.trail.items ≡ trail.now) }
+        ensures memory { IfErr result (λ e. e ≡ OutOfMemory) }
+    {
+        self.requirements.forget_everything();
+        wake_all(&mut self.queued, self.index.clauses.as_slice(), map)?;
+        copy_behind(&mut self.trail, 0, trail)
+    }
+
+    /// Brings the queue from the trail of the last sync to this one. A refusal is remembered, and the next sync then
+    /// looks at everything.
+    pub(crate) fn sync(
+        &mut self,
+        floor: usize,
+        trail: &[Decision],
+        map: &DecisionMap<A>,
+    ) -> Result<(), StoreError>
+        requires numbers { HaveNumbers self.old.index.clauses.items }
+        requires floor { floor ≤ length trail.now }
+        requires old_floor { floor ≤ length self.old.trail.items }
+        requires agrees { self.old.must_start_anew ≡ false → take floor self.old.trail.items ≡ take floor trail.now }
+        ensures same { (self.new.index ≡ self.old.index) × (self.new.occurrences ≡ self.old.occurrences) × (self.new.only_hot ≡ self.old.only_hot) }
+        ensures only { OnlyForgets self.old.requirements self.new.requirements }
+        ensures others { self.old.must_start_anew ≡ false → Unrouted (listing self.old.occurrences) (variables_of (drop floor self.old.trail.items) ++ variables_of (drop floor trail.now)) self.old.requirements self.new.requirements }
+        ensures grows { GrowsBy (IsOfClause self.old.index.clauses.items) self.old.queued self.new.queued }
+        ensures synced { OnOk result (SyncsTo self.old.index.clauses.items self.old.index.by_parent self.old.index.by_condition (listing self.old.occurrences) self.old.must_start_anew
+            (decided_value self.old.trail.items) (values_in map.now) (variables_of (drop floor self.old.trail.items) ++ variables_of (drop floor trail.now))
+            self.old.requirements self.new.requirements self.old.queued self.new.queued) }
+        ensures trail { OnOk result (self.new.trail.items ≡ trail.now) }
+        ensures debt { OnOk result (self.new.must_start_anew ≡ false) }
+        ensures refused { OnErr result (self.new.must_start_anew ≡ true) }
+        ensures memory { IfErr result (λ e. e ≡ OutOfMemory) }
+    {
+        let synced = if self.must_start_anew {
+            self.start_anew(trail, map)
+        } else {
+            self.route_changes(floor, trail, map)
+        };
+        self.must_start_anew = synced.is_err();
+        synced
+    }
+}

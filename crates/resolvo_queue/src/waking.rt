@@ -1,0 +1,83 @@
+//! Queueing clauses again.
+ghost use Rattle.std.specs.Prelude.{◌≡◌, true, OnOk, IfErr};
+ghost use Rattle.typed_ids.specs.declared.error.StoreError.TheVariants.{OutOfMemory};
+ghost use Rattle.decisions.specs.Decisions.{values_in};
+ghost use Rattle.decisions.specs.Literals.{known_true};
+ghost use Rattle.resolvo_queue.specs.Positions.{same_position};
+ghost use Rattle.resolvo_queue.specs.Queued.{AreWoken, IsQueued, IsWoken, GrowsBy, HaveNumbers, IsOfClause};
+ghost use Rattle.resolvo_queue.specs.Synced.{AllWoken};
+
+use crate::queued_clauses::QueuedClauses;
+use crate::tracked_clause::TrackedClause;
+use decisions::DecisionMap;
+use std::alloc::Allocator;
+use typed_ids::StoreError;
+
+/// Queues a clause if its parent is true.
+fn wake<A: Allocator + Copy>(
+    queued: &mut QueuedClauses<A>,
+    clause: &TrackedClause,
+    map: &DecisionMap<A>,
+) -> Result<(), StoreError>
+    ensures grows { GrowsBy (λ p. same_position clause.now.position p ≡ true) queued.old queued.new }
+    ensures woken { OnOk result (known_true (values_in map.now clause.now.parent) ≡ true → IsQueued queued.new clause.now) }
+    ensures memory { IfErr result (λ e. e ≡ OutOfMemory) }
+{
+    match map.value(clause.parent) {
+        Some(true) => queued.add(clause),
+        _ => Ok(()),
+    }
+}
+
+/// Queues the clause with a number if its parent is true. A number past the end stands for no clause.
+fn wake_number<A: Allocator + Copy>(
+    queued: &mut QueuedClauses<A>,
+    clauses: &[TrackedClause],
+    number: u32,
+    map: &DecisionMap<A>,
+) -> Result<(), StoreError>
+    requires { HaveNumbers clauses.now }
+    ensures grows { GrowsBy (IsOfClause clauses.now) queued.old queued.new }
+    ensures woken { OnOk result (IsWoken clauses.now (values_in map.now) number queued.new) }
+    ensures memory { IfErr result (λ e. e ≡ OutOfMemory) }
+{
+    match clauses.get(number as usize) {
+        Some(clause) => wake(queued, clause, map),
+        None => Ok(()),
+    }
+}
+
+/// Queues those of the numbered clauses whose parent is true.
+pub(crate) fn wake_clauses<A: Allocator + Copy>(
+    queued: &mut QueuedClauses<A>,
+    clauses: &[TrackedClause],
+    numbers: &[u32],
+    map: &DecisionMap<A>,
+) -> Result<(), StoreError>
+    requires { HaveNumbers clauses.now }
+    ensures grows { GrowsBy (IsOfClause clauses.now) queued.old queued.new }
+    ensures woken { OnOk result (AreWoken clauses.now (values_in map.now) numbers.now queued.new) }
+    ensures memory { IfErr result (λ e. e ≡ OutOfMemory) }
+{
+    for number in numbers {
+        wake_number(queued, clauses, *number, map)?;
+    }
+    Ok(())
+}
+
+/// Queues all clauses whose parent is true.
+pub(crate) fn wake_all<A: Allocator + Copy>(
+    queued: &mut QueuedClauses<A>,
+    clauses: &[TrackedClause],
+    map: &DecisionMap<A>,
+) -> Result<(), StoreError>
+    requires { HaveNumbers clauses.now }
+    ensures grows { GrowsBy (IsOfClause clauses.now) queued.old queued.new }
+    ensures woken { OnOk result (AllWoken clauses.now (values_in map.now) queued.new) }
+    ensures memory { IfErr result (λ e. e ≡ OutOfMemory) }
+{
+    for clause in clauses {
+        wake(queued, clause, map)?;
+    }
+    Ok(())
+}

@@ -1,0 +1,7 @@
+use Rattle.resolvo_store.proofs.store.registering.register.Goals as goal
+
+pub returns-in_err-register_clause-clause-stands : goal.returns-in_err-register_clause-clause-stands
+returns-in_err-register_clause-clause-stands g c = λ lists has stands. c.register_clause.ensures.stands (g.D.Interner.universe c.args.provider.now) lists has stands
+
+pub returns-clause-stands : goal.returns-clause-stands
+returns-clause-stands g c = λ lists has stands. c.register_clause.ensures.stands (g.D.Interner.universe c.args.provider.now) lists has stands
