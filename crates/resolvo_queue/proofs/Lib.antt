@@ -18,6 +18,7 @@ pub mod Members
 pub mod NewLaws
 pub mod OccurrenceLaws
 pub mod OfferedLaws
+pub mod OwedLaws
 pub mod PickLaws
 pub mod QueuedLaws
 pub mod ReadyLaws
@@ -33,4 +34,5 @@ pub mod StandsLaws
 pub mod SyncLaws
 pub mod SyncedLaws
 pub mod TrailLaws
+pub mod WalkCountLaws
 pub mod Walks

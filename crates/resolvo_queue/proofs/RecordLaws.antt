@@ -113,11 +113,14 @@ module _ {A : Type 0} (f : Tracked → Tracked) (keeps : (t : Tracked) → (f t)
   pub written_is : map tracked (set rs k s) ≡ updated_at f ts k
   written_is = written ∙ ap (λ l. updated_at f l k) view
 
+pub placed_at : (ts : List Tracked) (places : List (Requirement × ℕ)) (r : Requirement) → ArePlaced ts places → (place : ℕ) → IsPlaceOf ts r place →
+    lookup (same_requirement r) places ≡ Some place
+placed_at ts places r a place p = ap (λ q. lookup (same_requirement q) places) (sym p.2) ∙ a.at place p.0 p.1
+
 pub one_place : (ts : List Tracked) (places : List (Requirement × ℕ)) (r : Requirement) → ArePlaced ts places → (place : ℕ) →
     Some place ≡ lookup (same_requirement r) places → (k : ℕ) → IsPlaceOf ts r k → k ≡ place
 one_place ts places r a place e k p =
-    let found : lookup (same_requirement r) places ≡ Some k = ap (λ q. lookup (same_requirement q) places) (sym p.2) ∙ a.at k p.0 p.1 in
-    inner k place (sym found ∙ sym e)
+    inner k place (sym (placed_at ts places r a k p) ∙ sym e)
   where
     inner : (x y : ℕ) → Some x ≡ Some y → x ≡ y
     inner x y s = cc

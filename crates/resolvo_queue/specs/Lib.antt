@@ -26,3 +26,4 @@ pub mod Synced
 pub mod Tracked
 pub mod Tracking
 pub mod Trails
+pub mod WalkCounts

@@ -28,7 +28,7 @@ pub record Queue (N H : Type 0) : Type 0 where
   pub must_start_anew : Bool
   -- the names that were marked hot
   pub hot : H
-  -- what is kept beside: calls tell nothing of it but what `StandsOn` says
+  -- what is kept beside: calls tell of it only what `StandsOn` says, and how often requirements were walked
   pub inside : Tracking
 
 -- a queue's value, by what it keeps

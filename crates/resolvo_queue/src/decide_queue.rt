@@ -38,10 +38,14 @@
 //! while scores are raised by the standard parameters only those are looked at that have a package that ever got one: the hot ones,
 //! which are queued a second time. Nothing is better than a frontier with one candidate, or with the largest score.
 //!
+//! So the walks of a requirement can be counted. It owes those that were done, and one more while nothing is known of its
+//! rows. It owes the first as its first clause comes; a sync makes it owe at most one more, and only if a variable of its
+//! rows was routed, or the last sync was refused; and a question walks it at most once, by what it owes already.
+//!
 //! A sync that is refused is remembered: the next one forgets all that is known and queues all clauses whose parent is
 //! true, whatever was done before. A registration that is refused may leave a number in a list that belongs to no clause yet, which
 //! wakes one clause too many later.
-ghost use Rattle.std.specs.Prelude.{◌≡◌, ◌-◌, ◌<◌, ◌≤◌, ◌^◌, ◌↔◌, ◌≢◌, [], length, take, All, IsTrue, IsSome, IfSome, true, false, option_map, OnOk, OnErr, IfOk, IfErr};
+ghost use Rattle.std.specs.Prelude.{◌≡◌, ◌⊎◌, ◌+◌, ◌-◌, ◌<◌, ◌≤◌, ◌^◌, ◌↔◌, ◌≢◌, [], length, take, All, IsTrue, IsSome, IfSome, true, false, option_map, OnOk, OnErr, IfOk, IfErr};
 ghost use Rattle.std.specs.List.{list_any};
 ghost use Rattle.std.specs.Map.{lookup};
 ghost use Rattle.std.specs.Ordering.{nat_cmp};
@@ -50,12 +54,14 @@ ghost use Rattle.typed_ids.specs.TotalMaps.{IsLargest, IsUpdate, SameValues};
 ghost use Rattle.typed_ids.specs.declared.error.StoreError.TheVariants.{IdSpace, OutOfMemory, TooManyClauses};
 ghost use Rattle.providers.specs.Provider.{Universe};
 ghost use Rattle.providers.specs.Requirement.{same_requirement};
+ghost use Rattle.providers.specs.declared.requirement.Requirement.{Requirement as ARequirement};
 ghost use Rattle.decisions.specs.Decisions.{values_in};
 ghost use Rattle.resolvo_queue.specs.Names.{ColdLack};
 ghost use Rattle.resolvo_queue.specs.Pick.{eligible, pick, decided, DecidesUnbeaten};
 ghost use Rattle.resolvo_queue.specs.Queue.{AgreesBelow, AreNamed, HasTrail, IsNew, IsRegistered, IsSynced, IsUnchanged, OnlyHotScore, SameClauses, SameSync, StandsOn, values_of};
-ghost use Rattle.resolvo_queue.specs.References.{CanWalk, Lists, References, literals_in, references, rows_in, score_in};
+ghost use Rattle.resolvo_queue.specs.References.{CanWalk, IsWalkable, Lists, References, literals_in, references, rows_in, score_in};
 ghost use Rattle.resolvo_queue.specs.Scan.{first_falsified, is_eligible, scan};
+ghost use Rattle.resolvo_queue.specs.WalkCounts.{HasNoneOf, WalksOnce, changed_from, owed, walks};
 
 use crate::condition::condition_of;
 use crate::deciding::next_offer;
@@ -103,6 +109,7 @@ impl<D: DependencyProvider> DecideQueue<D> {
     /// The queue without clauses, for the standard parameters of the scores. Takes no memory.
     pub fn new(alloc: D::Alloc) -> Self
         ensures new { IsNew D.NameId.Set.has result }
+        ensures owed { (r : ARequirement) → owed result r ≡ 0 }
         ensures stands { (refs : References D.NameId D.SolvableId D.Alloc) → StandsOn refs result }
     {
         DecideQueue {
@@ -141,6 +148,8 @@ impl<D: DependencyProvider> DecideQueue<D> {
     /// clauses. The answers are the same.
     pub fn set_standard_activity_params(&mut self, standard: bool)
         ensures unchanged { IsUnchanged self.old self.new D.NameId.Set.has }
+        ensures walks { SameValues (walks self.old) (walks self.new) }
+        ensures owed { SameValues (owed self.old) (owed self.new) }
         ensures stands { (refs : References D.NameId D.SolvableId D.Alloc) → StandsOn refs self.old → StandsOn refs self.new }
     {
         self.tracked.only_hot = standard;
@@ -167,6 +176,10 @@ impl<D: DependencyProvider> DecideQueue<D> {
         ensures err { OnErr result (IsUnchanged self.old self.new D.NameId.Set.has) }
         ensures full { (result ≡ Err TooManyClauses) ↔ (2 ^ 32 - 1 ≤ length self.old.clauses) }
         ensures memory { IfErr result (λ e. e ≢ TooManyClauses → e ≡ OutOfMemory) }
+
+        // Nothing is walked, whatever the result, and one walk is owed of a requirement that is new.
+        ensures walks { SameValues (walks self.old) (walks self.new) }
+        ensures owed { (r : ARequirement) → (owed self.new r ≡ owed self.old r) ⊎ ((r ≡ requirement) × (owed self.old r ≡ 0) × (owed self.new r ≡ 1)) }
 
         // What the queue's clauses name is there as before, where the requirement has lists.
         ensures stands { (universe : Universe D.NameId D.SolvableId) (lists : Lists D.Alloc) →
@@ -207,6 +220,8 @@ impl<D: DependencyProvider> DecideQueue<D> {
         ensures synced { SameSync self.old self.new }
         ensures refused { IfErr result (IsGrowthRefusal (D.NameId.Set.is_too_large name)) }
         ensures too_large { IsTrue (D.NameId.Set.is_too_large name) → result ≡ Err IdSpace }
+        ensures walks { SameValues (walks self.old) (walks self.new) }
+        ensures owed { SameValues (owed self.old) (owed self.new) }
         ensures stands { (refs : References D.NameId D.SolvableId D.Alloc) → StandsOn refs self.old → StandsOn refs self.new }
     {
         self.heat(name)?;
@@ -221,6 +236,7 @@ impl<D: DependencyProvider> DecideQueue<D> {
         ensures clauses { SameClauses self.old self.new }
         ensures synced { SameSync self.old self.new }
         ensures hot { self.new.hot ≡ self.old.hot }
+        ensures records { self.new.inside.requirements ≡ self.old.inside.requirements }
         ensures refused { IfErr result (IsGrowthRefusal (D.NameId.Set.is_too_large name)) }
         ensures too_large { OnErr result (IsTrue (D.NameId.Set.is_too_large name) → result ≡ Err IdSpace) }
         ensures stands { (refs : References D.NameId D.SolvableId D.Alloc) → StandsOn refs self.old → StandsOn refs self.new }
@@ -261,6 +277,14 @@ impl<D: DependencyProvider> DecideQueue<D> {
         ensures hot { SameValues (D.NameId.Set.has self.old.hot) (D.NameId.Set.has self.new.hot) }
         ensures memory { IfErr result (λ e. e ≡ OutOfMemory) }
         ensures stands { (refs : References D.NameId D.SolvableId D.Alloc) → StandsOn refs self.old → StandsOn refs self.new }
+
+        // Nothing is walked, whatever the result, and at most one walk more is owed of each requirement. Unless the last sync was
+        // refused, none more is owed where no row has the variable of a decision from the floor on, in either trail.
+        ensures walks { SameValues (walks self.old) (walks self.new) }
+        ensures owed { (r : ARequirement) → owed self.new r ≤ owed self.old r + 1 }
+        ensures owed_still { self.old.must_start_anew ≡ false → (refs : References D.NameId D.SolvableId D.Alloc) → StandsOn refs self.old →
+            (r : ARequirement) → IsWalkable refs.universe refs.lists r → HasNoneOf (changed_from floor trail.now self.old) (rows_in refs r) →
+            owed self.new r ≡ owed self.old r }
     {
         let floor = floor.min(trail.len()).min(self.tracked.trail.len());
         self.tracked.sync(floor, trail, map)?;
@@ -304,6 +328,10 @@ impl<D: DependencyProvider> DecideQueue<D> {
         ensures unchanged { IsUnchanged self.old self.new D.NameId.Set.has }
         ensures lists { reader.new.lists ≡ reader.old.lists }
         ensures stands { StandsOn (references (D.universe provider.now) reader.old.lists disjunctions.now) self.new }
+
+        // Whatever the result, the requirements that came to the reader's log were walked once each, and no walk more is owed.
+        ensures walks { WalksOnce self.old.inside.requirements self.new.inside.requirements reader.old.walked reader.new.walked }
+        ensures owed { SameValues (owed self.old) (owed self.new) }
     {
         let offer = next_offer(
             &mut self.tracked,

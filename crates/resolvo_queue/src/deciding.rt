@@ -10,6 +10,7 @@ ghost use Rattle.resolvo_queue.specs.Question.{clause_literals, AreUpTo, AreAska
 ghost use Rattle.resolvo_queue.specs.Ready.{AreLocated, IsReady, IsDone, ColdHasNoScore, all_picked, rest_picked, improved};
 ghost use Rattle.resolvo_queue.specs.References.{references, rows_in, score_in};
 ghost use Rattle.resolvo_queue.specs.Tracked.{OwesSame, SameFound};
+ghost use Rattle.resolvo_queue.specs.WalkCounts.{WalksOnce};
 ghost use Rattle.resolvo_queue.specs.declared.candidate.Candidate.{Candidate as ACandidate};
 ghost use Rattle.resolvo_queue.specs.declared.position.Position.{Position as APosition};
 ghost use Rattle.resolvo_queue.specs.declared.tracked_clause.TrackedClause.{TrackedClause};
@@ -48,6 +49,7 @@ fn look<I: Interner>(
     ensures at { IfOk result (λ o. IfSome o (λ b. b.position ≡ position)) }
     ensures fewer { IfOk result (λ o. o ≡ None → has tracked.old.queued.all position ≡ true → length tracked.new.queued.all < length tracked.old.queued.all) }
     ensures listed { IsListedWell reader.old.lists tracked.new.occurrences tracked.new.requirements }
+    ensures once { WalksOnce tracked.old.requirements tracked.new.requirements reader.old.walked reader.new.walked }
     ensures owes { OwesSame tracked.old.requirements tracked.new.requirements }
     ensures found { SameFound tracked.old.requirements tracked.new.requirements }
     ensures ready { let refs = references (I.universe interner.now) reader.old.lists disjunctions.now in IsReady tracked.old.index.clauses.items (clause_literals refs) (rows_in refs) (values_in map.now) tracked.new.requirements tracked.new.queued }
@@ -105,6 +107,7 @@ fn first_eligible<I: Interner>(
     ensures picked { let refs = references (I.universe interner.now) reader.old.lists disjunctions.now in IfOk result (λ o. let picked = all_picked tracked.old.index.clauses.items (clause_literals refs) (rows_in refs) (values_in map.now) (score_in refs (I.NameId.Scores.value_at scores.now)) in
         MatchOption o (picked ≡ None) (λ b. picked ≡ rest_picked tracked.old.index.clauses.items (clause_literals refs) (rows_in refs) (values_in map.now) (score_in refs (I.NameId.Scores.value_at scores.now)) b.offer b.position)) }
     ensures listed { IsListedWell reader.old.lists tracked.new.occurrences tracked.new.requirements }
+    ensures once { WalksOnce tracked.old.requirements tracked.new.requirements reader.old.walked reader.new.walked }
     ensures owes { OwesSame tracked.old.requirements tracked.new.requirements }
     ensures found { SameFound tracked.old.requirements tracked.new.requirements }
     ensures ready { let refs = references (I.universe interner.now) reader.old.lists disjunctions.now in IsReady tracked.old.index.clauses.items (clause_literals refs) (rows_in refs) (values_in map.now) tracked.new.requirements tracked.new.queued }
@@ -172,6 +175,7 @@ fn better_of<I: Interner>(
     requires ready { let refs = references (I.universe interner.now) reader.old.lists disjunctions.now in IsReady tracked.old.index.clauses.items (clause_literals refs) (rows_in refs) (values_in map.now) tracked.old.requirements tracked.old.queued }
     ensures better { let refs = references (I.universe interner.now) reader.old.lists disjunctions.now in IfOk result (λ b. (c : TrackedClause) → slice_get tracked.old.index.clauses.items position.number ≡ Some c → b.offer ≡ improved best.offer (offer_of (values_in map.now) (clause_literals refs) (rows_in refs) (score_in refs (I.NameId.Scores.value_at scores.now)) c)) }
     ensures listed { IsListedWell reader.old.lists tracked.new.occurrences tracked.new.requirements }
+    ensures once { WalksOnce tracked.old.requirements tracked.new.requirements reader.old.walked reader.new.walked }
     ensures owes { OwesSame tracked.old.requirements tracked.new.requirements }
     ensures found { SameFound tracked.old.requirements tracked.new.requirements }
     ensures ready { let refs = references (I.universe interner.now) reader.old.lists disjunctions.now in IsReady tracked.old.index.clauses.items (clause_literals refs) (rows_in refs) (values_in map.now) tracked.new.requirements tracked.new.queued }
@@ -225,6 +229,7 @@ pub(crate) fn next_offer<I: Interner>(
     requires largest { let refs = references (I.universe interner.now) reader.old.lists disjunctions.now in AreUpTo largest (score_in refs (I.NameId.Scores.value_at scores.now)) }
     ensures picked { let refs = references (I.universe interner.now) reader.old.lists disjunctions.now in IfOk result (λ o. o ≡ (all_picked tracked.old.index.clauses.items (clause_literals refs) (rows_in refs) (values_in map.now) (score_in refs (I.NameId.Scores.value_at scores.now)))) }
     ensures listed { IsListedWell reader.old.lists tracked.new.occurrences tracked.new.requirements }
+    ensures once { WalksOnce tracked.old.requirements tracked.new.requirements reader.old.walked reader.new.walked }
     ensures owes { OwesSame tracked.old.requirements tracked.new.requirements }
     ensures found { SameFound tracked.old.requirements tracked.new.requirements }
     ensures ready { let refs = references (I.universe interner.now) reader.old.lists disjunctions.now in IsReady tracked.old.index.clauses.items (clause_literals refs) (rows_in refs) (values_in map.now) tracked.new.requirements tracked.new.queued }

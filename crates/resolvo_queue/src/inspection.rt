@@ -12,6 +12,7 @@ ghost use Rattle.resolvo_queue.specs.Inspection.{Learns, ListsOnly, eligible_fro
 ghost use Rattle.resolvo_queue.specs.Listing.{IsListedWell};
 ghost use Rattle.resolvo_queue.specs.Occurrences.{is_listed, GrowsWith};
 ghost use Rattle.resolvo_queue.specs.Tracked.{known_at, IsPlaceOf, OwesSame, SameFound};
+ghost use Rattle.resolvo_queue.specs.WalkCounts.{WalksOnce};
 
 use crate::condition::is_met;
 use crate::frontier::Frontier;
@@ -61,6 +62,7 @@ fn requirement_frontier<I: Interner, A: Allocator + Copy>(
     requires right { (f : _) → known_at requirements.old place ≡ Some f → f ≡ frontier (values_in map.now) (loaded_rows (I.universe interner.now) reader.old.lists requirement) }
     ensures frontier { IfOk result (λ f. f ≡ frontier (values_in map.now) (loaded_rows (I.universe interner.now) reader.old.lists requirement)) }
     ensures known { IfOk result (λ f. known_at requirements.new place ≡ Some f) }
+    ensures once { WalksOnce requirements.old requirements.new reader.old.walked reader.new.walked }
     ensures learns { Learns requirement place (frontier (values_in map.now) (loaded_rows (I.universe interner.now) reader.old.lists requirement)) requirements.old requirements.new reader.old.walked reader.new.walked }
     ensures rows { reader.new.lists ≡ reader.old.lists }
     ensures listed { IsListedWell reader.old.lists occurrences.new requirements.new }
@@ -96,6 +98,7 @@ pub(crate) fn inspect<I: Interner, A: Allocator + Copy>(
     requires right { (f : _) → known_at requirements.old clause.now.requirement ≡ Some f → f ≡ frontier (values_in map.now) (loaded_rows (I.universe interner.now) reader.old.lists clause.now.required) }
     ensures eligible { IfOk result (λ f. f ≡ eligible_frontier (values_in map.now) (clause_literals (references (I.universe interner.now) reader.old.lists disjunctions.now)) (loaded_rows (I.universe interner.now) reader.old.lists) clause.now) }
     ensures possible { IfOk result (λ f. may_be (values_in map.now) (clause_literals (references (I.universe interner.now) reader.old.lists disjunctions.now)) requirements.new clause.now ≡ is_some f) }
+    ensures once { WalksOnce requirements.old requirements.new reader.old.walked reader.new.walked }
     ensures learns { Learns clause.now.required clause.now.requirement (frontier (values_in map.now) (loaded_rows (I.universe interner.now) reader.old.lists clause.now.required)) requirements.old requirements.new reader.old.walked reader.new.walked }
     ensures rows { reader.new.lists ≡ reader.old.lists }
     ensures listed { IsListedWell reader.old.lists occurrences.new requirements.new }

@@ -6,6 +6,7 @@ ghost use Rattle.resolvo_queue.specs.Index.{list_at};
 ghost use Rattle.resolvo_queue.specs.Positions.{has, same_position};
 ghost use Rattle.resolvo_queue.specs.Queued.{GrowsBy, IsQueued};
 ghost use Rattle.resolvo_queue.specs.Tracking.{IsAsBefore, IsInOrder, Registers, tracking_of};
+ghost use Rattle.resolvo_queue.specs.WalkCounts.{OwesFirst};
 
 use crate::clause_index::add_to_conditions;
 use crate::lists_by_variable::ListsByVariable;
@@ -73,6 +74,7 @@ impl<A: Allocator + Copy> TrackedClauses<A> {
         requires few { length self.old.index.clauses.items < 2 ^ 32 - 1 }
         ensures ok { OnOk result (Registers clause.now is_hot counts literals.now (tracking_of self.old) (tracking_of self.new)) }
         ensures err { OnErr result (IsAsBefore (tracking_of self.old) (tracking_of self.new)) }
+        ensures owes { OwesFirst clause.now.requirement self.old.requirements self.new.requirements }
         ensures same { (self.new.only_hot ≡ self.old.only_hot) × (self.new.trail ≡ self.old.trail) × (self.new.must_start_anew ≡ self.old.must_start_anew) }
         ensures memory { IfErr result (λ e. e ≡ OutOfMemory) }
     {

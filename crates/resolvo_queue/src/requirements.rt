@@ -2,6 +2,7 @@
 ghost use Rattle.std.specs.Prelude.{◌≡◌, ◌<◌, ◌+◌, [], ◌∷◌, ◌++◌, map, Some, None, length, IfSome, MatchOption, IfOk, OnOk, OnErr, IfErr};
 ghost use Rattle.std.specs.Option.{option_copied};
 ghost use Rattle.typed_ids.specs.declared.error.StoreError.TheVariants.{OutOfMemory};
+ghost use Rattle.providers.specs.declared.requirement.Requirement.{Requirement as ARequirement};
 ghost use Rattle.resolvo_queue.specs.Records.{tracked};
 ghost use Rattle.resolvo_queue.specs.Tracked.{forgotten, fresh};
 
@@ -57,6 +58,7 @@ impl<A: Allocator + Copy> Requirements<A> {
     ghost use Rattle.resolvo_queue.specs.Records.{known_of};
     ghost use Rattle.resolvo_queue.specs.Order.{Stands};
     ghost use Rattle.resolvo_queue.specs.Tracking.{GainsClauses};
+    ghost use Rattle.resolvo_queue.specs.WalkCounts.{OwesFirst};
 
     /// No requirement has a record. Takes no memory.
     pub(crate) fn new(alloc: A) -> Self
@@ -119,6 +121,7 @@ impl<A: Allocator + Copy> Requirements<A> {
         number: u32,
     ) -> Result<usize, StoreError>
         ensures gains { GainsClauses self.old self.new }
+        ensures owes { OwesFirst requirement self.old self.new }
         ensures placed { IfOk result (IsPlaceOf self.new requirement) }
         ensures found { IfOk result (λ place. Stands number (clauses_at self.new place)) }
         ensures memory { IfErr result (λ e. e ≡ OutOfMemory) }
@@ -168,7 +171,8 @@ impl<A: Allocator + Copy> Requirements<A> {
     /// Keeps what a walk of the rows answered, and counts the walk.
     pub(crate) fn keep(&mut self, place: usize, frontier: &Option<Frontier>)
         requires { place < length self.old }
-        ensures { self.new ≡ updated_at (walked frontier.now) self.old place }
+        ensures walked { self.new ≡ updated_at (walked frontier.now) self.old place }
+        ensures only { (requirement : ARequirement) (k : ℕ) → IsPlaceOf self.old requirement place → IsPlaceOf self.old requirement k → k ≡ place }
     {
         let record = &mut self.records[place];
         record.walk = Walk::Known(*frontier);

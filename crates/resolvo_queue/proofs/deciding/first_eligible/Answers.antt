@@ -1,4 +1,4 @@
-use Rattle.std.proofs.Common.{◌≡◌, Some, slice_get, subst, sym, ap, ◌∙◌}
+use Rattle.std.proofs.Common.{◌≡◌, Some, slice_get, subst, sym, ap, refl, ◌∙◌}
 use Rattle.decisions.specs.Decisions.{values_in}
 use Rattle.resolvo_queue.specs.Rows.{loaded_rows}
 use Rattle.resolvo_queue.specs.Inspection.{offer_of}
@@ -7,6 +7,7 @@ use Rattle.resolvo_queue.specs.Ready.{IsReady}
 use Rattle.resolvo_queue.specs.Question.{clause_literals, IsAskable}
 use Rattle.resolvo_queue.specs.References.{references, score_in}
 use Rattle.resolvo_queue.proofs.ReadyLaws.{first_found, none_found, match_none}
+use Rattle.resolvo_queue.proofs.WalkCountLaws.{walks_along, walks_nothing}
 use Rattle.resolvo_queue.proofs.deciding.first_eligible.Goals as goal
 
 pub look-requires-clause-askable : goal.look-requires-clause-askable
@@ -45,6 +46,7 @@ loop-position-preserved g c =
           (subst (λ ls. IsReady c.loop-position.tracked.index.clauses.items (clause_literals refs) (loaded_rows universe ls) val c.look.new.tracked.requirements c.look.new.tracked.queued)
           c.loop-position.invariant.lists c.look.ensures.ready);
       listed = subst (λ ls. IsListedWell ls c.look.new.tracked.occurrences c.look.new.tracked.requirements) c.loop-position.invariant.lists c.look.ensures.listed;
+      once = walks_along _ _ _ _ _ _ c.loop-position.invariant.once c.look.ensures.once;
       owes = λ k. c.look.ensures.owes k ∙ c.loop-position.invariant.owes k;
       found = λ k. c.look.ensures.found k ∙ c.loop-position.invariant.found k;
       index = c.look.ensures.index ∙ c.loop-position.invariant.index;
@@ -53,3 +55,23 @@ loop-position-preserved g c =
       anew = c.look.ensures.anew ∙ c.loop-position.invariant.anew;
       lists = c.look.ensures.lists ∙ c.loop-position.invariant.lists;
     }
+
+pub loop-position-init : goal.loop-position-init
+loop-position-init g c = record {
+  ready = c.requires.ready;
+  listed = c.requires.listed;
+  once = walks_nothing _ _;
+  owes = λ k. refl;
+  found = λ k. refl;
+  index = refl;
+  only_hot = refl;
+  trail = refl;
+  anew = refl;
+  lists = refl;
+}
+
+pub returns-in-Some-2-clause-once : goal.returns-in-Some-2-clause-once
+returns-in-Some-2-clause-once g c = walks_along _ _ _ _ _ _ c.loop-position.invariant.once c.look.ensures.once
+
+pub returns-in_err-candidate-clause-once : goal.returns-in_err-candidate-clause-once
+returns-in_err-candidate-clause-once g c = walks_along _ _ _ _ _ _ c.loop-position.invariant.once c.look.ensures.once

@@ -8,6 +8,7 @@ use Rattle.resolvo_queue.specs.References.{references, score_in}
 use Rattle.resolvo_queue.specs.Ready.{IsReady, improved}
 use Rattle.resolvo_queue.proofs.DecisionLaws.{behind_falls, done_picked, rival_of, rival_step}
 use Rattle.resolvo_queue.proofs.ReadyLaws.{match_none}
+use Rattle.resolvo_queue.proofs.WalkCountLaws.{walks_along}
 use Rattle.resolvo_queue.proofs.deciding.next_offer.Goals as goal
 
 pub better_of-requires-clause-askable : goal.better_of-requires-clause-askable
@@ -41,6 +42,7 @@ loop-position-preserved g c =
       ready = subst (λ ix. IsReady ix.clauses.items lits (loaded_rows cat c.args.reader.now.lists) val c.better_of.new.tracked.requirements c.better_of.new.tracked.queued) c.loop-position.invariant.index
           (subst (λ ls. IsReady c.loop-position.tracked.index.clauses.items lits (loaded_rows cat ls) val c.better_of.new.tracked.requirements c.better_of.new.tracked.queued) c.loop-position.invariant.lists c.better_of.ensures.ready);
       listed = subst (λ ls. IsListedWell ls c.better_of.new.tracked.occurrences c.better_of.new.tracked.requirements) c.loop-position.invariant.lists c.better_of.ensures.listed;
+      once = walks_along _ _ _ _ _ _ c.loop-position.invariant.once c.better_of.ensures.once;
       owes = λ k. c.better_of.ensures.owes k ∙ c.loop-position.invariant.owes k;
       found = λ k. c.better_of.ensures.found k ∙ c.loop-position.invariant.found k;
       index = c.better_of.ensures.index ∙ c.loop-position.invariant.index;
@@ -70,3 +72,6 @@ better_of-requires-clause-ready g c =
     (sym c.loop-position.invariant.lists)
     (subst (λ ix. IsReady ix.clauses.items (clause_literals refs) (loaded_rows universe c.args.reader.now.lists) val c.loop-position.tracked.requirements c.loop-position.tracked.queued)
     (sym c.loop-position.invariant.index) c.loop-position.invariant.ready)
+
+pub returns-in_err-best-clause-once : goal.returns-in_err-best-clause-once
+returns-in_err-best-clause-once g c = walks_along _ _ _ _ _ _ c.loop-position.invariant.once c.better_of.ensures.once

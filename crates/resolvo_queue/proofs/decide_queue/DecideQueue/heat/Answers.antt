@@ -1,4 +1,4 @@
-use Rattle.std.proofs.Common.{◌≡◌, false, map, sym, ap, refl, subst}
+use Rattle.std.proofs.Common.{◌≡◌, false, map, sym, ap, refl, subst, ◌∙◌}
 use Rattle.resolvo_queue.specs.Names.{has_name, names_at}
 use Rattle.resolvo_queue.specs.Queue.{Queue, StandsOn, queue_of}
 use Rattle.resolvo_queue.proofs.AfterLaws.{kept_heated, lacks_name, stands_heated}
@@ -44,3 +44,9 @@ returns-clause-lacks g c =
           (subst (λ l. has_name eq c.args.name (names_at (map (λ own. own.items) l) n) ≡ false) c.as_slice.ensures.value (w.in-Ok.ensures.hot n d e cool)))
       | in-Err+in_ok-insert-in-Err w ↦ rw w.result-is tt
     ]
+
+pub returns-in_err-insert-in-Err-clause-records : goal.returns-in_err-insert-in-Err-clause-records
+returns-in_err-insert-in-Err-clause-records g c = c.heat_named.ensures.heats.requirements ∙ ap (λ (q : Queue g.row.D-NameId.Denot g.row.D-NameId-Set.Denot). q.inside.requirements) c.self.view_is
+
+pub returns-clause-records : goal.returns-clause-records
+returns-clause-records g c = c.heat_named.ensures.heats.requirements ∙ ap (λ (q : Queue g.row.D-NameId.Denot g.row.D-NameId-Set.Denot). q.inside.requirements) c.self.view_is

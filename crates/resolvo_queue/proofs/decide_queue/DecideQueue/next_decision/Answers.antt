@@ -6,6 +6,7 @@ use Rattle.resolvo_queue.specs.Pick.{decided, eligible, pick}
 use Rattle.resolvo_queue.specs.Queue.{AreNamed, IsSynced, OnlyHotScore, Queue, StandsOn, queue_of}
 use Rattle.resolvo_queue.specs.Question.{clause_literals}
 use Rattle.resolvo_queue.specs.References.{CanWalk, literals_in, references, rows_in, score_in}
+use Rattle.resolvo_queue.specs.WalkCounts.{WalksOnce, owed}
 use Rattle.resolvo_queue.proofs.AfterLaws.{kept_still, order_asked, ready_asked, stands_asked}
 use Rattle.resolvo_queue.proofs.AskableLaws.{askable_tracked, cold_sets, cold_without_score}
 use Rattle.resolvo_queue.proofs.PickLaws.{decides_unbeaten, none_decided}
@@ -114,3 +115,19 @@ returns-clause-unbeaten g c =
     (c.decision_at.ensures ∙ ap (option_map decided) (c.in_ok-offer.ensures.picked
     ∙ (picked_of_registered val (literals_in refs) (rows_in refs) score c.self.inside.tracked.index.clauses.items
     ∙ ap (λ (q : Queue g.row.D-NameId.Denot g.row.D-NameId-Set.Denot). pick (eligible val (literals_in refs) (rows_in refs) score q.clauses)) c.self.view_is)))
+
+pub returns-in_err-offer-clause-walks : goal.returns-in_err-offer-clause-walks
+returns-in_err-offer-clause-walks g c =
+    subst (λ (q : Queue g.row.D-NameId.Denot g.row.D-NameId-Set.Denot). WalksOnce q.inside.requirements c.next_offer.new.tracked.requirements c.args.reader.now.walked c.next_offer.new.reader.walked)
+    c.self.view_is c.next_offer.ensures.once
+
+pub returns-in_err-offer-clause-owed : goal.returns-in_err-offer-clause-owed
+returns-in_err-offer-clause-owed g c = λ r. c.next_offer.ensures.once.owed r ∙ ap (λ (q : Queue g.row.D-NameId.Denot g.row.D-NameId-Set.Denot). owed q r) c.self.view_is
+
+pub returns-clause-walks : goal.returns-clause-walks
+returns-clause-walks g c =
+    subst (λ (q : Queue g.row.D-NameId.Denot g.row.D-NameId-Set.Denot). WalksOnce q.inside.requirements c.next_offer.new.tracked.requirements c.args.reader.now.walked c.next_offer.new.reader.walked)
+    c.self.view_is c.next_offer.ensures.once
+
+pub returns-clause-owed : goal.returns-clause-owed
+returns-clause-owed g c = λ r. c.next_offer.ensures.once.owed r ∙ ap (λ (q : Queue g.row.D-NameId.Denot g.row.D-NameId-Set.Denot). owed q r) c.self.view_is

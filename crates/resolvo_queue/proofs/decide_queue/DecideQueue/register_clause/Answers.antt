@@ -1,10 +1,11 @@
-use Rattle.std.proofs.Common.{◌<◌, ◌^◌, ◌-◌, [], ◌∷◌, ◌++◌, map, length, sym, ap, refl, subst, ◌∙◌}
+use Rattle.std.proofs.Common.{◌≡◌, ◌⊎◌, ◌<◌, ◌^◌, ◌-◌, [], ◌∷◌, ◌++◌, map, length, sym, ap, refl, subst, ◌∙◌}
 use Rattle.std.specs.List.{list_any}
 use Rattle.std.proofs.lemmas.List.{length-map, map-append}
 use Rattle.resolvo_queue.specs.Inspection.{clause_of}
 use Rattle.resolvo_queue.specs.Queue.{IsRegistered, Queue, StandsOn, queue_of}
 use Rattle.resolvo_queue.specs.References.{references}
 use Rattle.resolvo_queue.specs.declared.requires_clause.RequiresClause.{RequiresClause}
+use Rattle.resolvo_queue.specs.WalkCounts.{owed, owed_in, walks}
 use Rattle.resolvo_queue.proofs.KeptLaws.{kept_refused, kept_registered, not_full, registered_whole, stands_refused, stands_registered}
 use Rattle.resolvo_queue.proofs.decide_queue.DecideQueue.register_clause.Goals as goal
 
@@ -71,3 +72,19 @@ returns-clause-stands g c =
     (registered_whole clause c.has_hot_name-is_hot.result c.is_true.result c.condition_of-literals.result.now before.inside after.inside c.in_ok-register.ensures.ok)
     (ap (λ t. t.items) c.register.ensures.same.1) c.register.ensures.same.2 c.condition_of-literals.ensures
     (record { lists = has; disjunction = c.requires }) c.is_true.ensures)
+
+pub returns-in_err-register-clause-walks : goal.returns-in_err-register-clause-walks
+returns-in_err-register-clause-walks g c = λ r. c.register.ensures.owes.walks r ∙ ap (λ (q : Queue g.row.D-NameId.Denot g.row.D-NameId-Set.Denot). walks q r) c.self.view_is
+
+pub returns-in_err-register-clause-owed : goal.returns-in_err-register-clause-owed
+returns-in_err-register-clause-owed g c = λ r.
+    subst (λ (q : Queue g.row.D-NameId.Denot g.row.D-NameId-Set.Denot). (owed_in c.register.new.self.requirements r ≡ owed q r) ⊎ ((r ≡ c.args.requirement) × (owed q r ≡ 0) × (owed_in c.register.new.self.requirements r ≡ 1)))
+    c.self.view_is (c.register.ensures.owes.owed r)
+
+pub returns-clause-walks : goal.returns-clause-walks
+returns-clause-walks g c = λ r. c.register.ensures.owes.walks r ∙ ap (λ (q : Queue g.row.D-NameId.Denot g.row.D-NameId-Set.Denot). walks q r) c.self.view_is
+
+pub returns-clause-owed : goal.returns-clause-owed
+returns-clause-owed g c = λ r.
+    subst (λ (q : Queue g.row.D-NameId.Denot g.row.D-NameId-Set.Denot). (owed_in c.register.new.self.requirements r ≡ owed q r) ⊎ ((r ≡ c.args.requirement) × (owed q r ≡ 0) × (owed_in c.register.new.self.requirements r ≡ 1)))
+    c.self.view_is (c.register.ensures.owes.owed r)

@@ -1,8 +1,11 @@
-use Rattle.std.proofs.Common.{◌≡◌, ◌≤◌, false, map, inl, inr, sym, ap, refl, subst, arith}
+use Rattle.std.proofs.Common.{◌≡◌, ◌+◌, ◌≤◌, min, length, false, map, inl, inr, sym, ap, refl, subst, arith, ◌∙◌}
 use Rattle.resolvo_queue.specs.Inspection.{clause_of}
 use Rattle.resolvo_queue.specs.Queue.{AgreesBelow, Queue, StandsOn, queue_of}
+use Rattle.resolvo_queue.specs.References.{rows_in}
+use Rattle.resolvo_queue.specs.WalkCounts.{HasNoneOf, changed_from, owed, owed_in, walks}
 use Rattle.resolvo_queue.proofs.AfterLaws.{kept_still, order_after_sync, stands_behind, stands_synced}
 use Rattle.resolvo_queue.proofs.CountLaws.{own_number}
+use Rattle.resolvo_queue.proofs.OwedLaws.{owed_kept, owes_one_more}
 use Rattle.resolvo_queue.proofs.decide_queue.DecideQueue.sync.Goals as goal
 
 pub sync-requires-clause-numbers : goal.sync-requires-clause-numbers
@@ -48,3 +51,45 @@ returns-clause-stands g c =
     c.args.floor c.min-floor.result c.args.trail.now _ less
     (subst (λ (q : Queue g.row.D-NameId.Denot g.row.D-NameId-Set.Denot). q.must_start_anew ≡ false → AgreesBelow c.args.floor c.args.trail.now q) (sym c.self.view_is) c.requires.agrees)
     c.requires.values c.sync.ensures.same.1 c.sync.ensures.only c.in_ok-sync.ensures.synced c.in_ok-sync.ensures.trail c.clear.ensures.items
+
+pub returns-in_err-sync-clause-walks : goal.returns-in_err-sync-clause-walks
+returns-in_err-sync-clause-walks g c =
+    λ r. (owes_one_more c.self.inside.tracked.requirements c.sync.new.self.requirements c.sync.ensures.only).walks r ∙ ap (λ (q : Queue g.row.D-NameId.Denot g.row.D-NameId-Set.Denot). walks q r) c.self.view_is
+
+pub returns-in_err-sync-clause-owed : goal.returns-in_err-sync-clause-owed
+returns-in_err-sync-clause-owed g c =
+    λ r. subst (λ (q : Queue g.row.D-NameId.Denot g.row.D-NameId-Set.Denot). owed_in c.sync.new.self.requirements r ≤ owed q r + 1) c.self.view_is
+    ((owes_one_more c.self.inside.tracked.requirements c.sync.new.self.requirements c.sync.ensures.only).owed r)
+
+pub returns-in_err-sync-clause-owed_still : goal.returns-in_err-sync-clause-owed_still
+returns-in_err-sync-clause-owed_still g c =
+    let inside = c.self.inside in
+    let before : Queue g.row.D-NameId.Denot g.row.D-NameId-Set.Denot = queue_of inside.tracked inside.names.items inside.hot_names inside.since.items in
+    let floor_is : c.min-floor.result ≡ min (min c.args.floor (length c.args.trail.now)) (length before.trail) = grind (arith, c.min.ensures, c.min-floor.ensures) in
+    λ accepted refs s r walkable none. (let was : before.must_start_anew ≡ false = ap (λ (q : Queue g.row.D-NameId.Denot g.row.D-NameId-Set.Denot). q.must_start_anew) c.self.view_is ∙ accepted in
+    owed_kept refs before c.sync.new.self.requirements c.args.floor c.min-floor.result c.args.trail.now floor_is
+    (subst (λ (q : Queue g.row.D-NameId.Denot g.row.D-NameId-Set.Denot). q.must_start_anew ≡ false → AgreesBelow c.args.floor c.args.trail.now q) (sym c.self.view_is) c.requires.agrees was)
+    (subst (StandsOn refs) (sym c.self.view_is) s) c.sync.ensures.only (c.sync.ensures.others was) r walkable
+    (subst (λ (q : Queue g.row.D-NameId.Denot g.row.D-NameId-Set.Denot). HasNoneOf (changed_from c.args.floor c.args.trail.now q) (rows_in refs r)) (sym c.self.view_is) none)
+    ∙ ap (λ (q : Queue g.row.D-NameId.Denot g.row.D-NameId-Set.Denot). owed q r) c.self.view_is)
+
+pub returns-clause-walks : goal.returns-clause-walks
+returns-clause-walks g c =
+    λ r. (owes_one_more c.self.inside.tracked.requirements c.sync.new.self.requirements c.sync.ensures.only).walks r ∙ ap (λ (q : Queue g.row.D-NameId.Denot g.row.D-NameId-Set.Denot). walks q r) c.self.view_is
+
+pub returns-clause-owed : goal.returns-clause-owed
+returns-clause-owed g c =
+    λ r. subst (λ (q : Queue g.row.D-NameId.Denot g.row.D-NameId-Set.Denot). owed_in c.sync.new.self.requirements r ≤ owed q r + 1) c.self.view_is
+    ((owes_one_more c.self.inside.tracked.requirements c.sync.new.self.requirements c.sync.ensures.only).owed r)
+
+pub returns-clause-owed_still : goal.returns-clause-owed_still
+returns-clause-owed_still g c =
+    let inside = c.self.inside in
+    let before : Queue g.row.D-NameId.Denot g.row.D-NameId-Set.Denot = queue_of inside.tracked inside.names.items inside.hot_names inside.since.items in
+    let floor_is : c.min-floor.result ≡ min (min c.args.floor (length c.args.trail.now)) (length before.trail) = grind (arith, c.min.ensures, c.min-floor.ensures) in
+    λ accepted refs s r walkable none. (let was : before.must_start_anew ≡ false = ap (λ (q : Queue g.row.D-NameId.Denot g.row.D-NameId-Set.Denot). q.must_start_anew) c.self.view_is ∙ accepted in
+    owed_kept refs before c.sync.new.self.requirements c.args.floor c.min-floor.result c.args.trail.now floor_is
+    (subst (λ (q : Queue g.row.D-NameId.Denot g.row.D-NameId-Set.Denot). q.must_start_anew ≡ false → AgreesBelow c.args.floor c.args.trail.now q) (sym c.self.view_is) c.requires.agrees was)
+    (subst (StandsOn refs) (sym c.self.view_is) s) c.sync.ensures.only (c.sync.ensures.others was) r walkable
+    (subst (λ (q : Queue g.row.D-NameId.Denot g.row.D-NameId-Set.Denot). HasNoneOf (changed_from c.args.floor c.args.trail.now q) (rows_in refs r)) (sym c.self.view_is) none)
+    ∙ ap (λ (q : Queue g.row.D-NameId.Denot g.row.D-NameId-Set.Denot). owed q r) c.self.view_is)

@@ -1,0 +1,79 @@
+-- How often the rows of requirements were walked, and how often they may be walked before a variable changes.
+use Rattle.std.specs.Prelude.{◌≡◌, ◌⊎◌, ℕ, ◌+◌, ◌≤◌, Bool, true, false, is_some, List, ◌++◌, Option, None, Some, find, count_by, drop}
+use Rattle.decisions.specs.declared.decision.Decision.{Decision}
+use Rattle.providers.specs.Requirement.{same_requirement}
+use Rattle.providers.specs.declared.requirement.Requirement.{Requirement}
+use Rattle.resolvo_queue.specs.Order.{Stands}
+use Rattle.resolvo_queue.specs.Queue.{Queue}
+use Rattle.resolvo_queue.specs.Routing.{variables_of}
+use Rattle.resolvo_queue.specs.Rows.{Row}
+use Rattle.resolvo_queue.specs.Tracked.{Tracked, owed_of, walk_of}
+
+-- the record of a requirement, if it has one
+abbrev pub record_of : List Tracked → Requirement → Option Tracked
+record_of ts r = find (λ (t : Tracked). same_requirement r t.requirement) ts
+
+abbrev pub walks_of : Option Tracked → ℕ
+walks_of None = 0
+walks_of (Some t) = t.walks
+
+-- how often its rows were walked; never without a record
+abbrev pub walks_in : List Tracked → Requirement → ℕ
+walks_in ts r = walks_of (record_of ts r)
+
+-- the walks, and one more while nothing is known of the rows; 0 without a record
+abbrev pub owed_in : List Tracked → Requirement → ℕ
+owed_in ts r = owed_of (record_of ts r)
+
+-- whether what a walk answered is known
+abbrev pub is_known : List Tracked → Requirement → Bool
+is_known ts r = is_some (walk_of (record_of ts r))
+
+-- ---- in a queue
+
+abbrev pub walks : {N H : Type 0} → Queue N H → Requirement → ℕ
+walks q r = walks_in q.inside.requirements r
+
+abbrev pub owed : {N H : Type 0} → Queue N H → Requirement → ℕ
+owed q r = owed_in q.inside.requirements r
+
+-- ---- a question
+
+-- how often a requirement stands in a log
+abbrev pub times : List Requirement → Requirement → ℕ
+times log r = count_by (same_requirement r) log
+
+-- requirements were walked, each once, and no others; the log has them, and each walk is owed no more
+pub record WalksOnce (old now : List Tracked) (log log' : List Requirement) : Type 0 where
+  pub walked : List Requirement
+  pub logged : log' ≡ log ++ walked
+  pub once : (r : Requirement) → times walked r ≤ 1
+  pub walks : (r : Requirement) → walks_in now r ≡ walks_in old r + times walked r
+  pub owed : (r : Requirement) → owed_in now r ≡ owed_in old r
+  -- nothing was known of the rows of those, and now it is
+  pub unknown : (r : Requirement) → 1 ≤ times walked r → is_known old r ≡ false
+  pub known : (r : Requirement) → 1 ≤ times walked r → is_known now r ≡ true
+  -- the records of all others stay, so nothing is forgotten
+  pub others : (r : Requirement) → times walked r ≡ 0 → record_of now r ≡ record_of old r
+
+-- ---- a clause that comes
+
+-- the walks stay, and so does what is owed, but that a requirement may get its record, and owes its first walk
+pub record OwesFirst (own : Requirement) (old now : List Tracked) : Type 0 where
+  pub walks : (r : Requirement) → walks_in now r ≡ walks_in old r
+  pub owed : (r : Requirement) → (owed_in now r ≡ owed_in old r) ⊎ ((r ≡ own) × (owed_in old r ≡ 0) × (owed_in now r ≡ 1))
+
+-- ---- a sync
+
+-- the walks stay, and at most one more is owed of each requirement
+pub record OwesOneMore (old now : List Tracked) : Type 0 where
+  pub walks : (r : Requirement) → walks_in now r ≡ walks_in old r
+  pub owed : (r : Requirement) → owed_in now r ≤ owed_in old r + 1
+
+-- the variables of the decisions from a floor on, in the queue's trail and in another
+abbrev pub changed_from : {N H : Type 0} → ℕ → List Decision → Queue N H → List ℕ
+changed_from floor entries q = variables_of (drop floor q.trail) ++ variables_of (drop floor entries)
+
+-- no row has one of the variables
+abbrev pub HasNoneOf : List ℕ → List Row → Type 0
+HasNoneOf variables rows = (row : Row) → Stands row rows → Stands row.variable variables → ⊥
