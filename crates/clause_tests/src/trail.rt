@@ -63,24 +63,25 @@ fn next<A: Allocator + Copy>(trail: &mut DecisionTracker<A>) -> Option<usize> {
 
 #[test]
 fn the_floor_is_the_least_length(rt: HostRuntime) -> Result<(), Fail> {
-    is_same(new_floors(rt.alloc()), Ok([0, 0, 2, 1, 3, 0]))
+    is_same(new_floors(rt.alloc()), Ok([0, 0, 2, 2, 1, 3, 0]))
 }
 
-fn new_floors<A: Allocator + Copy>(heap: A) -> Result<[usize; 6], AddFault> {
+fn new_floors<A: Allocator + Copy>(heap: A) -> Result<[usize; 7], AddFault> {
     let mut trail = DecisionTracker::new(heap);
     let floors = floors(&mut trail);
     drop(trail);
     floors
 }
 
-/// The floors that are taken between changes of the trail.
-fn floors<A: Allocator + Copy>(trail: &mut DecisionTracker<A>) -> Result<[usize; 6], AddFault> {
+/// The floors that are taken between changes of the trail, one of them read before.
+fn floors<A: Allocator + Copy>(trail: &mut DecisionTracker<A>) -> Result<[usize; 7], AddFault> {
     let new = trail.take_sync_floor();
     add(trail, &[0], 1)?;
     add(trail, &[1, 2], 2)?;
     let grown = trail.take_sync_floor();
     undo(trail);
     add(trail, &[3], 2)?;
+    let left_there = trail.sync_floor();
     let one_back = trail.take_sync_floor();
     undo(trail);
     undo(trail);
@@ -92,6 +93,7 @@ fn floors<A: Allocator + Copy>(trail: &mut DecisionTracker<A>) -> Result<[usize;
     Ok([
         new,
         grown,
+        left_there,
         one_back,
         two_back,
         one_more,

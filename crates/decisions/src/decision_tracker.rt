@@ -194,6 +194,14 @@ impl<A: Allocator + Copy> DecisionTracker<A> {
         Some(decision)
     }
 
+    /// What [`DecisionTracker::take_sync_floor`] would answer. The floor stays as it is.
+    pub fn sync_floor(&self) -> usize
+        ensures floor { result ≡ self.now.floor }
+        ensures within { IsWithin self.now }
+    {
+        self.sync_floor
+    }
+
     /// How few decisions there were at the least since this was last asked, or since the trail was new. A copy of the
     /// trail from then differs from it at or after this place alone. Takes no memory.
     pub fn take_sync_floor(&mut self) -> usize
