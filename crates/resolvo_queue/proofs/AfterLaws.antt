@@ -1,5 +1,5 @@
 -- A queue after clauses became hot, after a sync, and at and after a question.
-use Rattle.std.proofs.Common.{◌≡◌, ◌≢◌, ℕ, zero, suc, ◌+◌, ◌-◌, ◌≤◌, ◌<◌, Bool, true, false, ◌||◌, ltb, ◌⊎◌, inl, inr, List, [], ◌∷◌, ◌++◌, map, take, drop, get_or, length, Option, None, Some, slice_get, option_map, sym, ap, refl, ◌∙◌, subst, arith, take-append-drop}
+use Rattle.std.proofs.Common.{◌≡◌, ◌≢◌, ℕ, ◌+◌, ◌-◌, ◌≤◌, ◌<◌, Bool, true, false, ◌||◌, ltb, ◌⊎◌, inl, inr, List, [], ◌∷◌, ◌++◌, map, take, drop, get_or, length, Option, None, Some, slice_get, option_map, sym, ap, refl, ◌∙◌, subst, arith, take-append-drop}
 use Rattle.std.specs.Prelude.{All}
 use Rattle.std.specs.Option.{option_or}
 use Rattle.std.proofs.lemmas.Bool.{ltb-false, ltb-true}
@@ -18,7 +18,7 @@ use Rattle.resolvo_queue.specs.Occurrences.{listing}
 use Rattle.resolvo_queue.specs.Order.{Stands}
 use Rattle.resolvo_queue.specs.Positions.{has}
 use Rattle.resolvo_queue.specs.Possible.{SameElsewhere}
-use Rattle.resolvo_queue.specs.Queue.{AgreesBelow, IsKept, Queue, StandsOn, values_of}
+use Rattle.resolvo_queue.specs.Queue.{AgreesBelow, FindsFalsified, IsKept, Queue, StandsOn, values_of}
 use Rattle.resolvo_queue.specs.Queue.{IsSynced as IsSyncedAt}
 use Rattle.resolvo_queue.specs.Queued.{GrowsBy, IsOfClause}
 use Rattle.resolvo_queue.specs.Question.{clause_literals}
@@ -26,34 +26,26 @@ use Rattle.resolvo_queue.specs.Ready.{IsReady}
 use Rattle.resolvo_queue.specs.References.{HasParts, References, rows_in}
 use Rattle.resolvo_queue.specs.Rows.{Row}
 use Rattle.resolvo_queue.specs.Routing.{OnlyForgets, variables_of}
-use Rattle.resolvo_queue.specs.Synced.{FindsAll, IsRegistered, IsSynced, SyncsTo, is_among}
+use Rattle.resolvo_queue.specs.Synced.{FindsAll, FindsConditions, IsRegistered, IsSynced, SyncsTo, is_among}
 use Rattle.resolvo_queue.specs.Tracked.{IsPlaceOf, SameFound, Tracked, clauses_in, forgotten}
-use Rattle.resolvo_queue.specs.Tracking.{Heats, IsInOrder, Tracking}
+use Rattle.resolvo_queue.specs.Tracking.{Heats, IsInOrder, OnlyLists, Tracking, tracking_of}
 use Rattle.resolvo_queue.specs.Trails.{decided_value, stands_in}
+use Rattle.resolvo_queue.specs.Witnesses.{HaveEntries}
 use Rattle.resolvo_queue.specs.declared.parent_value.ParentValue.{ParentValue}
 use Rattle.resolvo_queue.specs.declared.position.Position.{Position}
 use Rattle.resolvo_queue.specs.declared.tracked_clause.TrackedClause.{TrackedClause}
+use Rattle.resolvo_queue.specs.declared.tracked_clauses.TrackedClauses.{TrackedClauses}
+use Rattle.resolvo_queue.proofs.AskableLaws.{all_tracked}
 use Rattle.resolvo_queue.proofs.CountLaws.{counted_old, counted_since, counts_asked, counts_now, last_none, own_number}
+use Rattle.resolvo_queue.proofs.FindingLaws.{finds_behind, finds_still, finds_synced, keeps_same}
 use Rattle.resolvo_queue.proofs.ListingLaws.{listed_after_sync, lists_known}
+use Rattle.resolvo_queue.proofs.Members.{at_mapped}
 use Rattle.resolvo_queue.proofs.QueuedLaws.{grows_none}
 use Rattle.resolvo_queue.proofs.StandsLaws.{synced_same}
 use Rattle.resolvo_queue.proofs.SyncedLaws.{routed_among, sync_parents, sync_values}
 use Rattle.resolvo_queue.proofs.TrailLaws.{below_only, decided_is, value-append}
 
 -- ---- clauses that became hot
-
-same_some : {X : Type 0} (a b : X) → Some a ≡ Some b → a ≡ b
-same_some a b s = cc
-
--- what stands at a place stands there with the same parts
-at_mapped : {X Y : Type 0} (f : X → Y) (xs ys : List X) (n : ℕ) (y : X) → map f xs ≡ map f ys → slice_get ys n ≡ Some y →
-    (x : X) × (slice_get xs n ≡ Some x) × (f x ≡ f y)
-at_mapped f [] [] n y e h = cc
-at_mapped f [] (z ∷ zs) n y e h = let bad : [] ≡ f z ∷ map f zs = e in cc
-at_mapped f (x ∷ xs) [] n y e h = cc
-at_mapped f (x ∷ xs) (z ∷ zs) zero y e h =
-    (x, refl, (let both : f x ∷ map f xs ≡ f z ∷ map f zs = e in let same : f x ≡ f z = cc in let is : Some z ≡ Some y = h in same ∙ ap f (same_some z y is)))
-at_mapped f (x ∷ xs) (z ∷ zs) (suc n) y e h = at_mapped f xs zs n y (let both : f x ∷ map f xs ≡ f z ∷ map f zs = e in let rest : map f xs ≡ map f zs = cc in rest) h
 
 module _ {N H : Type 0} (has : H → N → Bool) (q q' : Queue N H) (heats : Heats q.inside q'.inside) (since : q'.since ≡ q.since) where
   same_length : length q'.inside.clauses ≡ length q.inside.clauses
@@ -76,8 +68,8 @@ module _ {N H : Type 0} (has : H → N → Bool) (q q' : Queue N H) (heats : Hea
   }
 
   pub stands_heated : {S A : Type 0} (refs : References N S A) → StandsOn refs q → q'.clauses ≡ q.clauses → q'.trail ≡ q.trail → q'.must_start_anew ≡ q.must_start_anew →
-      StandsOn refs q'
-  stands_heated refs stands clauses trail anew = record {
+      q'.witnesses ≡ q.witnesses → StandsOn refs q'
+  stands_heated refs stands clauses trail anew witnesses = record {
     clauses = clauses ∙ (stands.clauses ∙ sym heats.clauses);
     parts = subst (All (HasParts refs)) (sym clauses) stands.parts;
     conditions = λ n c e l s. (let was = heats.finds (clause_literals refs) (λ d. refl) n c e in
@@ -91,6 +83,8 @@ module _ {N H : Type 0} (has : H → N → Bool) (q q' : Queue N H) (heats : Hea
         (λ i. (ap values_of (sym trail) i, (sym since i, sym same_length i)))
         (heats.synced (clause_literals refs) (rows_in refs) (values_of q.trail) (counts (values_of q.trail) q.since q.inside.clauses) (λ d. refl) (λ d. refl)
         (stands.synced (sym anew ∙ accepted)));
+    falsified = finds_still refs q q' stands.falsified (ap (λ w. w.of) witnesses) (ap (λ w. w.looked) witnesses) (keeps_same q.inside.occurrences q'.inside.occurrences heats.occurrences) anew trail
+        (ap (λ w. w.changed) witnesses) heats.clauses;
   }
 
 -- names of clauses that aren't hot stay cold where one more name is hot that they lack
@@ -119,7 +113,14 @@ pub cold_same : {N H : Type 0} (has : H → N → Bool) (q : Queue N H) (hot : H
 cold_same has q hot same kept n c e cool k d lt = same (get_or (names_at q.names n) k d) ∙ kept.cold n c e cool k d lt
 
 pub stands_hot : {N S A H : Type 0} (refs : References N S A) (q : Queue N H) (hot : H) → StandsOn refs q → StandsOn refs (record q { hot = hot })
-stands_hot refs q hot stands = record { clauses = stands.clauses; parts = stands.parts; conditions = stands.conditions; listed = stands.listed; synced = stands.synced }
+stands_hot refs q hot stands = record {
+  clauses = stands.clauses;
+  parts = stands.parts;
+  conditions = stands.conditions;
+  listed = stands.listed;
+  synced = stands.synced;
+  falsified = record { candidates = stands.falsified.candidates; looked = stands.falsified.looked; witnessed = stands.falsified.witnessed };
+}
 
 -- ---- after a sync
 
@@ -225,8 +226,9 @@ module _ {N S A H : Type 0} (has : H → N → Bool) (refs : References N S A) (
 
   -- what a call leaves that changes no clause
   still_stands : IsListedWell refs.lists q'.inside.occurrences q'.inside.requirements →
-      (q'.must_start_anew ≡ false → IsSynced cs literals (rows_in refs) (values_of q'.trail) (counts (values_of q'.trail) q'.since cs) q'.inside.requirements q'.inside.queued) → StandsOn refs q'
-  still_stands listed synced = record {
+      (q'.must_start_anew ≡ false → IsSynced cs literals (rows_in refs) (values_of q'.trail) (counts (values_of q'.trail) q'.since cs) q'.inside.requirements q'.inside.queued) →
+      FindsFalsified refs q' → StandsOn refs q'
+  still_stands listed synced finds = record {
     clauses = whole ∙ (stands.clauses ∙ ap (map clause_of) (sym clauses));
     parts = subst (All (HasParts refs)) (sym whole) stands.parts;
     conditions = λ n c e l s. subst (λ lists. Stands n (list_at lists (variable_of l))) (sym by_condition)
@@ -234,15 +236,18 @@ module _ {N S A H : Type 0} (has : H → N → Bool) (refs : References N S A) (
     listed = listed;
     synced = λ accepted. subst (λ xs. IsSynced xs literals (rows_in refs) (values_of q'.trail) (counts (values_of q'.trail) q'.since xs) q'.inside.requirements q'.inside.queued) (sym clauses)
         (synced accepted);
+    falsified = finds;
   }
 
   -- a sync that is refused
-  pub stands_behind : q'.inside.occurrences ≡ q.inside.occurrences → OnlyForgets q.inside.requirements q'.inside.requirements → q'.must_start_anew ≡ true → StandsOn refs q'
-  stands_behind occurrences only anew =
+  pub stands_behind : q'.inside.occurrences ≡ q.inside.occurrences → OnlyForgets q.inside.requirements q'.inside.requirements → q'.must_start_anew ≡ true →
+      q'.witnesses.of ≡ q.witnesses.of → q'.witnesses.looked ≡ q.witnesses.looked → StandsOn refs q'
+  stands_behind occurrences only anew of looked =
       still_stands
       (subst (λ o. IsListedWell refs.lists o q'.inside.requirements) (sym occurrences)
       (listed_after_sync refs.lists q.inside.occurrences q.inside.requirements q'.inside.requirements only stands.listed))
       (λ accepted. absurd (differ (sym anew ∙ accepted)))
+      (finds_behind refs q q' stands.falsified of looked (keeps_same q.inside.occurrences q'.inside.occurrences occurrences) clauses anew)
     where
       differ : true ≡ false → ⊥
       differ d = cc
@@ -258,7 +263,7 @@ module _ {N S A H : Type 0} (has : H → N → Bool) (refs : References N S A) (
     first = length cs - length q.since
 
     module _ (accepted : q.must_start_anew ≡ false) where
-      elsewhere : SameElsewhere (is_among routed) (decided_value q.trail) now
+      pub elsewhere : SameElsewhere (is_among routed) (decided_value q.trail) now
       elsewhere = sync_values f q.trail entries now (λ x. values x ∙ sym (decided_is entries x))
           (sym (take-take f floor q.trail less) ∙ (ap (take f) (agrees accepted).trail ∙ take-take f floor entries less))
 
@@ -314,13 +319,17 @@ module _ {N S A H : Type 0} (has : H → N → Bool) (refs : References N S A) (
     pub stands_synced : q'.inside.occurrences ≡ q.inside.occurrences → OnlyForgets q.inside.requirements q'.inside.requirements →
         SyncsTo cs q.inside.by_parent q.inside.by_condition (listing q.inside.occurrences) q.must_start_anew (decided_value q.trail) now routed
         q.inside.requirements q'.inside.requirements q.inside.queued q'.inside.queued →
-        q'.trail ≡ entries → q'.since ≡ [] → StandsOn refs q'
-    stands_synced occurrences only syncs trail since =
+        q'.trail ≡ entries → q'.since ≡ [] → q'.witnesses.of ≡ q.witnesses.of → q'.witnesses.looked ≡ q.witnesses.looked →
+        (q.must_start_anew ≡ true → q'.witnesses.changed ≡ q.witnesses.changed ++ variables_of entries) →
+        (q.must_start_anew ≡ false → q'.witnesses.changed ≡ q.witnesses.changed ++ routed) → StandsOn refs q'
+    stands_synced occurrences only syncs trail since of looked anew changed =
         still_stands
         (subst (λ o. IsListedWell refs.lists o q'.inside.requirements) (sym occurrences)
         (listed_after_sync refs.lists q.inside.occurrences q.inside.requirements q'.inside.requirements only stands.listed))
         (λ accepted. subst (λ (x : List Decision × List ParentValue). IsSynced cs literals (rows_in refs) (values_of x.0) (counts (values_of x.0) x.1 cs) q'.inside.requirements q'.inside.queued)
         (λ i. (sym trail i, sym since i)) at_entries)
+        (finds_synced refs q q' stands.falsified of looked (keeps_same q.inside.occurrences q'.inside.occurrences occurrences) routed entries now clauses trail same_values
+        (λ accepted. subst (λ v. SameElsewhere (is_among routed) v now) (λ i x. decided_is q.trail x i) (elsewhere accepted)) anew changed)
       where
         finds : FindsAll cs literals q.inside.by_parent q.inside.by_condition q.inside.requirements
         finds = record { parents = kept.order.parents; conditions = stands.conditions; requirements = kept.order.requirements }
@@ -361,14 +370,68 @@ module _ {N S A H : Type 0} (has : H → N → Bool) (refs : References N S A) (
 
     -- and after it
     pub stands_asked : q'.trail ≡ q.trail → q'.since ≡ q.since → IsListedWell refs.lists q'.inside.occurrences q'.inside.requirements →
-        IsReady cs literals (rows_in refs) val q'.inside.requirements q'.inside.queued → StandsOn refs q'
-    stands_asked trail since listed ready = still_stands listed
+        IsReady cs literals (rows_in refs) val q'.inside.requirements q'.inside.queued → FindsFalsified refs q' → StandsOn refs q'
+    stands_asked trail since listed ready finds = still_stands listed
         (λ accepted. subst (λ (x : List Decision × List ParentValue). IsSynced cs literals (rows_in refs) (values_of x.0) (counts (values_of x.0) x.1 cs) q'.inside.requirements q'.inside.queued)
         (λ i. (sym trail i, sym since i))
         (synced_same cs literals literals (λ n c e. refl) (rows_in refs) (rows_in refs) (values_of q.trail) (λ c. known_true (values_of q.trail c.parent))
         (counts (values_of q.trail) q.since cs) q'.inside.requirements q'.inside.requirements (λ p. ⊥) q'.inside.queued q'.inside.queued
         counts_as (λ k. refl) (λ k h. refl) (grows_none (λ p. ⊥) q'.inside.queued)
         (subst (λ v. IsSynced cs literals (rows_in refs) v (λ c. known_true (v c.parent)) q'.inside.requirements q'.inside.queued) (sym same_values) ready.synced)))
+        finds
+
+-- ---- where requirements were listed, and nothing else is new
+
+lists_only : (t u : Tracking) → OnlyLists t u → u ≡ record t { occurrences = u.occurrences }
+lists_only t u only = λ i. record {
+  clauses = only.clauses i;
+  by_parent = only.by_parent i;
+  by_condition = only.by_condition i;
+  requirements = only.requirements i;
+  occurrences = u.occurrences;
+  queued = only.queued i;
+}
+
+pub order_listed : (t u : Tracking) → OnlyLists t u → IsInOrder t → IsInOrder u
+order_listed t u only order = subst IsInOrder (sym (lists_only t u only)) (record {
+  few = order.few;
+  located = order.located;
+  first = order.first;
+  parents = order.parents;
+  requirements = order.requirements;
+  placed = order.placed;
+  all_of = order.all_of;
+  hot_of = order.hot_of;
+})
+
+pub stands_listed : {N S A H : Type 0} (refs : References N S A) (q q' : Queue N H) → StandsOn refs q → OnlyLists q.inside q'.inside → q'.clauses ≡ q.clauses →
+    q'.trail ≡ q.trail → q'.since ≡ q.since → q'.must_start_anew ≡ q.must_start_anew → IsListedWell refs.lists q'.inside.occurrences q.inside.requirements →
+    FindsFalsified refs q' → StandsOn refs q'
+stands_listed refs q q' stands only whole trail since anew listed finds = record {
+  clauses = whole ∙ (stands.clauses ∙ ap (map clause_of) (sym only.clauses));
+  parts = subst (All (HasParts refs)) (sym whole) stands.parts;
+  conditions = subst (λ (t : List TrackedClause × List (List ℕ)). FindsConditions t.0 (clause_literals refs) t.1) (λ i. (sym only.clauses i, sym only.by_condition i)) stands.conditions;
+  listed = subst (IsListedWell refs.lists q'.inside.occurrences) (sym only.requirements) listed;
+  synced = λ accepted. subst (λ (x : (List Decision × List ParentValue) × Tracking).
+      IsSynced x.1.clauses (clause_literals refs) (rows_in refs) (values_of x.0.0) (counts (values_of x.0.0) x.0.1 x.1.clauses) x.1.requirements x.1.queued)
+      (λ i. ((sym trail i, sym since i), sym (lists_only q.inside q'.inside only) i)) (stands.synced (sym anew ∙ accepted));
+  falsified = finds;
+}
+
+-- as the code says it
+pub only_lists : {A : Type 0} (t u : TrackedClauses A) → u.index ≡ t.index → u.queued ≡ t.queued → u.requirements ≡ t.requirements → OnlyLists (tracking_of t) (tracking_of u)
+only_lists t u index queued requirements = record {
+  clauses = ap (λ ix. ix.clauses.items) index;
+  by_parent = ap (λ ix. ix.by_parent) index;
+  by_condition = ap (λ ix. ix.by_condition) index;
+  requirements = requirements;
+  queued = queued;
+}
+
+pub entries_in : {N S A H : Type 0} (refs : References N S A) (q : Queue N H) → StandsOn refs q → HaveEntries refs.lists refs.disjunctions q.inside.clauses
+entries_in refs q stands n c e =
+    let has = all_tracked (HasParts refs) q.inside.clauses (subst (All (HasParts refs)) stands.clauses stands.parts) n c e in
+    (has.disjunction, has.lists)
 
 -- what always holds of what is kept, after a question
 pub order_asked : (t u : Tracking) (literals : TrackedClause → List Lit) (rows_of : Requirement → List Row) (values : Values) → u.clauses ≡ t.clauses → u.by_parent ≡ t.by_parent →

@@ -23,10 +23,12 @@ use Rattle.resolvo_queue.specs.Tracked.{rows_in as rows_of_record}
 use Rattle.resolvo_queue.specs.declared.tracked_clause.TrackedClause.{TrackedClause}
 use Rattle.resolvo_queue.proofs.AskableLaws.{all_tracked}
 use Rattle.resolvo_queue.proofs.EntryLaws.{looked_up}
-use Rattle.resolvo_queue.proofs.Members.{stands_if_contains}
+use Rattle.resolvo_queue.proofs.FindingLaws.{finds_with_disjunction}
+use Rattle.resolvo_queue.proofs.ListingLaws.{candidate_has_lists}
 use Rattle.resolvo_queue.proofs.OccurrenceLaws.{same_is}
 use Rattle.resolvo_queue.proofs.QueuedLaws.{grows_none}
 use Rattle.resolvo_queue.proofs.StandsLaws.{finds_same, synced_same}
+use Rattle.resolvo_queue.proofs.WitnessLaws.{candidates_with_lists}
 
 -- ---- one disjunction more
 
@@ -63,6 +65,7 @@ stands_with_disjunction refs q d stands =
       synced = λ accepted. synced_same q.inside.clauses (clause_literals refs) (clause_literals more) same (rows_in refs) (rows_in more) (values_of q.trail)
           (counts (values_of q.trail) q.since q.inside.clauses) (counts (values_of q.trail) q.since q.inside.clauses) q.inside.requirements q.inside.requirements
           (λ p. ⊥) q.inside.queued q.inside.queued (λ n c e. refl) (λ k. refl) (λ k h. refl) (grows_none (λ p. ⊥) q.inside.queued) (stands.synced accepted);
+      falsified = finds_with_disjunction refs q d (λ n c e. sym (same n c e)) stands.falsified;
     }
 
 -- ---- lists of a requirement that had none
@@ -100,19 +103,11 @@ module _ {A : Type 0} (lists : List (Requirement × Vec (Vec ℕ A) A)) (r : Req
   candidates_same : (q : Requirement) → IsSome (lookup (same_requirement q) lists) → candidates (with_entry lists r new) q ≡ candidates lists q
   candidates_same q some = ap (λ o. flat_map (λ l. l) (lists_or_none o)) (found_same q some)
 
-  -- a requirement that has a candidate has lists
-  has_lists : (q : Requirement) (v : ℕ) → Contains (candidates lists q) v → IsSome (lookup (same_requirement q) lists)
-  has_lists q v s = go (lookup (same_requirement q) lists) s
-    where
-      go : (o : Option (Vec (Vec ℕ A) A)) → Contains (flat_map (λ l. l) (lists_or_none o)) v → IsSome o
-      go None t = elim (stands_if_contains [] v t) [ ]
-      go (Some l) t = refl
-
   listed_still : (o : Listed) (ts : List Tracked) → IsListedWell lists o ts → IsListedWell (with_entry lists r new) o ts
   listed_still o ts w = record {
     entries = λ q e. some_found (same_requirement q) lists r new (w.entries q e);
     all = λ q e. subst (λ vs. HasAll q vs o) (sym (candidates_same q (w.entries q e))) (w.all q e);
-    none_else = λ q v s. (let own = w.none_else q v s in subst (λ vs. Contains vs v) (sym (candidates_same q (has_lists q v own))) own);
+    none_else = λ q v s. (let own = w.none_else q v s in subst (λ vs. Contains vs v) (sym (candidates_same q (candidate_has_lists lists q v own))) own);
     known = w.known;
   }
 
@@ -131,6 +126,11 @@ stands_with_lists {N} {S} {A} refs q r lists none stands =
       synced = λ accepted. synced_same q.inside.clauses (clause_literals refs) (clause_literals more) (λ n c e. refl) (rows_in refs) (rows_in more) (values_of q.trail)
           (counts (values_of q.trail) q.since q.inside.clauses) (counts (values_of q.trail) q.since q.inside.clauses) q.inside.requirements q.inside.requirements
           (λ p. ⊥) q.inside.queued q.inside.queued (λ n c e. refl) (λ k. refl) rows_same (grows_none (λ p. ⊥) q.inside.queued) (stands.synced accepted);
+      falsified = record {
+        candidates = candidates_with_lists refs.lists r lists none q.inside.occurrences q.witnesses.of stands.falsified.candidates;
+        looked = stands.falsified.looked;
+        witnessed = stands.falsified.witnessed;
+      };
     }
   where
     rows_same : (k : ℕ) → is_some (known_at q.inside.requirements k) ≡ true →

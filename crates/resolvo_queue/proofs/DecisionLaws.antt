@@ -142,7 +142,7 @@ picked_is clauses literals rows_of val score =
     ap pick (without_number (offer_of val literals rows_of score) (scanned clauses)
     ∙ ap (filter_map (offer_of val literals rows_of score)) (scan_is (λ (c : TrackedClause). c.parent) clauses))
 
--- D12: open, so that the parent is true, the condition holds and no row is true; an open clause offers its frontier
+-- open, so that the parent is true, the condition holds and no row is true; an open clause offers its frontier
 pub offers_if_open : (literals : TrackedClause → List Lit) (rows_of : Requirement → List Row) (val : Values) (score : VersionSetId → ℕ) (c : TrackedClause) →
     offer_of val literals rows_of score c
     ≡ cond (known_true (val c.parent) && (are_literals_false val (literals c) && not (has_true_row val (rows_of c.required))))

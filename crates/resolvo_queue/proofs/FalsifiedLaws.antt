@@ -54,11 +54,11 @@ module _ (val : Values) (literals_of : Option ℕ → List Lit) (rows_of : Requi
 
 -- ---- positions
 
-not_both : (b : Bool) → b ≡ true → b ≡ false → ⊥
+pub not_both : (b : Bool) → b ≡ true → b ≡ false → ⊥
 not_both true e f = cc
 not_both false e f = cc
 
-no_or_yes : (b : Bool) → (b ≡ true → ⊥) → b ≡ false
+pub no_or_yes : (b : Bool) → (b ≡ true → ⊥) → b ≡ false
 no_or_yes true h = absurd (h refl)
 no_or_yes false h = refl
 
@@ -77,7 +77,7 @@ own_reverse Less e = cc
 own_reverse Equal e = refl
 own_reverse Greater e = cc
 
-not_after_itself : (p : Position) → is_after p p ≡ false
+pub not_after_itself : (p : Position) → is_after p p ≡ false
 not_after_itself p = own_reverse (position_cmp p p) (position_order.antisymm p p)
 
 after_is_behind : (p q : Position) → is_after p q ≡ true → position_cmp q p ≡ Less
@@ -87,17 +87,17 @@ behind_is_after : (p q : Position) → position_cmp q p ≡ Less → is_after p 
 behind_is_after p q e = ap is_gt (position_order.antisymm p q ∙ ap ordering_reverse e)
 
 -- what stands before the least so far stands before all that it stands before
-before_all : (p q r : Position) → is_lt (position_cmp p q) ≡ true → is_after q r ≡ false → is_after p r ≡ false
+pub before_all : (p q r : Position) → is_lt (position_cmp p q) ≡ true → is_after q r ≡ false → is_after p r ≡ false
 before_all p q r e f =
     no_or_yes (is_after p r) (λ h. not_both (is_after q r)
     (behind_is_after q r (position_order.trans r p q (after_is_behind p r h) (less_by_test (position_cmp p q) e))) f)
 
-not_before_is_after : (p q : Position) → is_lt (position_cmp p q) ≡ false → is_after q p ≡ false
+pub not_before_is_after : (p q : Position) → is_lt (position_cmp p q) ≡ false → is_after q p ≡ false
 not_before_is_after p q e = no_or_yes (is_after q p) (λ h. not_both (is_lt (position_cmp p q)) (ap is_lt (after_is_behind q p h)) e)
 
 -- ---- the loop
 
-same_some : {X : Type 0} (x y : X) → Some x ≡ Some y → x ≡ y
+pub same_some : {X : Type 0} (x y : X) → Some x ≡ Some y → x ≡ y
 same_some x y e = cc
 
 earlier_or_last : (n i : ℕ) → n < i + 1 → (n < i) ⊎ (n ≡ i)

@@ -6,6 +6,7 @@ pub mod CountLaws
 pub mod DecisionLaws
 pub mod EntryLaws
 pub mod FalsifiedLaws
+pub mod FindingLaws
 pub mod FrontierLaws
 pub mod GainLaws
 pub mod HeatLaws
@@ -14,6 +15,7 @@ pub mod InOrderLaws
 pub mod IndexLaws
 pub mod KeptLaws
 pub mod ListingLaws
+pub mod LookLaws
 pub mod Members
 pub mod NewLaws
 pub mod OccurrenceLaws
@@ -30,9 +32,12 @@ pub mod RowLaws
 pub mod ScanLaws
 pub mod ScannedLaws
 pub mod SelectionLaws
+pub mod SettleLaws
 pub mod StandsLaws
 pub mod SyncLaws
 pub mod SyncedLaws
 pub mod TrailLaws
+pub mod UnchangedLaws
 pub mod WalkCountLaws
 pub mod Walks
+pub mod WitnessLaws

@@ -7,8 +7,7 @@ use Rattle.typed_ids.specs.declared.version_set_id.VersionSetId.{VersionSetId}
 use Rattle.providers.specs.Provider.{Universe, sets_of}
 use Rattle.providers.specs.declared.requirement.Requirement.{Requirement}
 use Rattle.resolvo_queue.specs.declared.frontier.Frontier.{Frontier}
-use Rattle.resolvo_queue.specs.Rows.{Row, list_rows, rows, lists_loaded, loaded_rows}
-use Rattle.resolvo_queue.specs.Rows.{candidates}
+use Rattle.resolvo_queue.specs.Rows.{Row, candidates, list_rows, lists_loaded, lists_or_none, loaded_rows, rows}
 use Rattle.resolvo_queue.specs.Inspection.{ListsOnly}
 use Rattle.resolvo_queue.specs.Listing.{IsListedWell}
 use Rattle.resolvo_queue.specs.Occurrences.{Listed, is_listed, listing, GrowsWith, HasAll}
@@ -25,6 +24,14 @@ use Rattle.resolvo_queue.specs.declared.tracked_clause.TrackedClause.{TrackedCla
 use Rattle.decisions.specs.Literals.{Lit}
 use Rattle.resolvo_queue.proofs.Members.{contains_if_stands, stands_if_contains}
 use Rattle.resolvo_queue.proofs.RecordLaws.{was_at}
+
+-- a requirement that has a candidate has lists
+pub candidate_has_lists : {A : Type 0} (lists : List (Requirement × Vec (Vec ℕ A) A)) (r : Requirement) (v : ℕ) → Contains (candidates lists r) v → IsSome (lookup (same_requirement r) lists)
+candidate_has_lists {A} lists r v s = go (lookup (same_requirement r) lists) s
+  where
+    go : (o : Option (Vec (Vec ℕ A) A)) → Contains (flat_map (λ l. l) (lists_or_none o)) v → IsSome o
+    go None t = elim (stands_if_contains [] v t) [ ]
+    go (Some l) t = refl
 
 module _ {A : Type 0} (lists : List (Requirement × Vec (Vec ℕ A) A)) (r : Requirement) where
   pub listed_more : (a b : Listed) (ts : List Tracked) → IsSome (lookup (same_requirement r) lists) → GrowsWith r (candidates lists r) a b → ListsOnly r (candidates lists r) a b →

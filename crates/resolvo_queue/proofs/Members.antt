@@ -1,5 +1,5 @@
--- Members of lists: that they stand in them, and that the lists contain them.
-use Rattle.std.proofs.Common.{ℕ, zero, suc, ◌<◌, List, [], ◌∷◌, length, get_or, refl, arith, subst}
+-- Members of lists: that they stand in them, and that the lists contain them; and what stands at a place.
+use Rattle.std.proofs.Common.{◌≡◌, ℕ, zero, suc, ◌<◌, List, [], ◌∷◌, map, length, get_or, Some, slice_get, ap, ◌∙◌, refl, arith, subst}
 use Rattle.std.specs.Prelude.{Contains}
 use Rattle.resolvo_queue.specs.Order.{Stands, here, there}
 
@@ -18,3 +18,16 @@ contains_if_stands (y ∷ ys) x here = (0, omega arith, refl)
 contains_if_stands (y ∷ ys) x (there s) =
     let c = contains_if_stands ys x s in
     (suc c.0, (let h : c.0 < length ys = c.1 in omega arith), c.2)
+
+pub same_some : {X : Type 0} (a b : X) → Some a ≡ Some b → a ≡ b
+same_some a b s = cc
+
+-- what stands at a place stands there with the same parts
+pub at_mapped : {X Y : Type 0} (f : X → Y) (xs ys : List X) (n : ℕ) (y : X) → map f xs ≡ map f ys → slice_get ys n ≡ Some y →
+    (x : X) × (slice_get xs n ≡ Some x) × (f x ≡ f y)
+at_mapped f [] [] n y e h = cc
+at_mapped f [] (z ∷ zs) n y e h = let bad : [] ≡ f z ∷ map f zs = e in cc
+at_mapped f (x ∷ xs) [] n y e h = cc
+at_mapped f (x ∷ xs) (z ∷ zs) zero y e h =
+    (x, refl, (let both : f x ∷ map f xs ≡ f z ∷ map f zs = e in let same : f x ≡ f z = cc in let is : Some z ≡ Some y = h in same ∙ ap f (same_some z y is)))
+at_mapped f (x ∷ xs) (z ∷ zs) (suc n) y e h = at_mapped f xs zs n y (let both : f x ∷ map f xs ≡ f z ∷ map f zs = e in let rest : map f xs ≡ map f zs = cc in rest) h

@@ -47,7 +47,7 @@ module _ {X : Type 0} where
   append_left (z ∷ zs) ys y here = here
   append_left (z ∷ zs) ys x (there s) = there (append_left zs ys x s)
 
-  append_right : (xs ys : List X) (x : X) → Stands x ys → Stands x (xs ++ ys)
+  pub append_right : (xs ys : List X) (x : X) → Stands x ys → Stands x (xs ++ ys)
   append_right [] ys x s = s
   append_right (z ∷ zs) ys x s = there (append_right zs ys x s)
 

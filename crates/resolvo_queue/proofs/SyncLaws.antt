@@ -9,7 +9,7 @@ use Rattle.resolvo_queue.proofs.FrontierLaws.{frontier_unrouted}
 
 -- ---- bits
 
-both_of : (a b : Bool) → (a && b) ≡ true → (a ≡ true) × (b ≡ true)
+pub both_of : (a b : Bool) → (a && b) ≡ true → (a ≡ true) × (b ≡ true)
 both_of true b h = (refl, h)
 both_of false b h = cc
 

@@ -18,7 +18,7 @@ use Rattle.resolvo_queue.specs.declared.tracked_clause.TrackedClause.{TrackedCla
 use Rattle.resolvo_queue.proofs.RoutingLaws.{known_only_forgotten}
 use Rattle.resolvo_queue.proofs.SyncLaws.{sync_holds, sync_knows, anew_holds, anew_knows}
 
-among_stands : (vs : List ℕ) (x : ℕ) → is_among vs x ≡ true → Stands x vs
+pub among_stands : (vs : List ℕ) (x : ℕ) → is_among vs x ≡ true → Stands x vs
 among_stands [] x e = cc
 among_stands (v ∷ vs) x e = go (eqb v x) refl e (among_stands vs x)
   where
@@ -26,7 +26,7 @@ among_stands (v ∷ vs) x e = go (eqb v x) refl e (among_stands vs x)
     go true h f more = subst (λ y. Stands y (v ∷ vs)) (eqb-true v x h) here
     go false h f more = there (more f)
 
-literal_among : (routed : ℕ → Bool) (ls : List Lit) → routes_condition routed ls ≡ true → (l : Lit) × Stands l ls × (routed (variable_of l) ≡ true)
+pub literal_among : (routed : ℕ → Bool) (ls : List Lit) → routes_condition routed ls ≡ true → (l : Lit) × Stands l ls × (routed (variable_of l) ≡ true)
 literal_among routed [] e = cc
 literal_among routed (l ∷ ls) e = go (routed (variable_of l)) refl e (literal_among routed ls)
   where
@@ -162,7 +162,7 @@ routed_among floor before now x =
     among [] = refl
     among (d ∷ ds) = ap (λ b. eqb d.variable x || b) (among ds)
 
--- ---- what item 23 asks gives what a sync's law asks
+-- ---- what a sync asks of its caller gives what a sync's law asks
 
 -- trails that agree below the floor: the values differ at routed variables alone
 pub sync_values : (floor : ℕ) (before now : List Decision) (val : Values) → ((x : ℕ) → val x ≡ decided_value now x) → take floor before ≡ take floor now →

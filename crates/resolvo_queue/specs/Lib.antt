@@ -27,3 +27,4 @@ pub mod Tracked
 pub mod Tracking
 pub mod Trails
 pub mod WalkCounts
+pub mod Witnesses

@@ -1,5 +1,5 @@
 -- What contracts see of a queue, and how its calls change it. N are the names of packages, H the sets of them.
-use Rattle.std.specs.Prelude.{◌≡◌, ℕ, Bool, false, ◌==◌, if◌then◌else◌, List, [], ◌∷◌, ◌++◌, map, take, length, All, Option, Some, None}
+use Rattle.std.specs.Prelude.{◌≡◌, ℕ, Bool, false, ◌==◌, ◌≤◌, if◌then◌else◌, List, [], ◌∷◌, ◌++◌, map, take, length, All, Option, Some, None}
 use Rattle.std.specs.declared.vec.Vec.{Vec}
 use Rattle.typed_ids.specs.TotalMaps.{SameValues}
 use Rattle.providers.specs.Provider.{Universe, sets_of}
@@ -13,8 +13,10 @@ use Rattle.resolvo_queue.specs.References.{References, HasParts, rows_in}
 use Rattle.resolvo_queue.specs.Synced.{FindsConditions}
 use Rattle.resolvo_queue.specs.Synced.{IsSynced as KeepsQueued}
 use Rattle.resolvo_queue.specs.Tracking.{IsInOrder, Tracking, tracking_of}
+use Rattle.resolvo_queue.specs.Witnesses.{AreCandidates, AreWitnessed, Witnessed, witnessed}
 use Rattle.resolvo_queue.specs.declared.parent_value.ParentValue.{ParentValue}
 use Rattle.resolvo_queue.specs.declared.tracked_clauses.TrackedClauses.{TrackedClauses}
+use Rattle.resolvo_queue.specs.declared.witnesses.Witnesses.{Witnesses}
 use Rattle.resolvo_queue.specs.declared.requires_clause.RequiresClause.{RequiresClause}
 
 pub record Queue (N H : Type 0) : Type 0 where
@@ -30,10 +32,12 @@ pub record Queue (N H : Type 0) : Type 0 where
   pub hot : H
   -- what is kept beside: calls tell of it only what `StandsOn` says, and how often requirements were walked
   pub inside : Tracking
+  -- who may be falsified
+  pub witnesses : Witnessed
 
 -- a queue's value, by what it keeps
-abbrev pub queue_of : {N H A : Type 0} → TrackedClauses A → List (Vec N A) → H → List ParentValue → Queue N H
-queue_of tracked names hot since = record {
+abbrev pub queue_of : {N H A : Type 0} → TrackedClauses A → List (Vec N A) → H → List ParentValue → Witnesses A → Queue N H
+queue_of tracked names hot since witnesses = record {
   clauses = map clause_of tracked.index.clauses.items;
   names = map (λ own. own.items) names;
   trail = tracked.trail.items;
@@ -41,6 +45,7 @@ queue_of tracked names hot since = record {
   must_start_anew = tracked.must_start_anew;
   hot = hot;
   inside = tracking_of tracked;
+  witnesses = witnessed witnesses;
 }
 
 -- the value of each variable by a trail: that of its decision, undecided if there is none
@@ -113,9 +118,16 @@ AreNamed universe q = q.names ≡ map (λ c. map universe.set_name (sets_of univ
 abbrev pub OnlyHotScore : {N H : Type 0} → (H → N → Bool) → (N → ℕ) → Queue N H → Type 0
 OnlyHotScore {N} has scores q = (n : N) → has q.hot n ≡ false → scores n ≡ 0
 
+-- witnesses are candidates of their requirements, and unless the last sync was refused, what changed finds all clauses that may
+-- be falsified
+pub record FindsFalsified {N S A H : Type 0} (refs : References N S A) (q : Queue N H) : Type 0 where
+  pub candidates : AreCandidates refs.lists q.inside.occurrences q.witnesses.of
+  pub looked : q.witnesses.looked ≤ length q.inside.clauses
+  pub witnessed : q.must_start_anew ≡ false → AreWitnessed (clause_literals refs) q.inside.clauses (values_of q.trail) q.witnesses
+
 -- what the queue's clauses name is there, and as it was when they were registered: the variables of a condition find the
 -- clause, the rows of listed requirements are listed, and unless the last sync was refused, all clauses that may be
--- eligible are queued, and what is known of rows is right
+-- eligible are queued, what is known of rows is right, and all clauses that may be falsified are found by what changed
 pub record StandsOn {N S A H : Type 0} (refs : References N S A) (q : Queue N H) : Type 0 where
   pub clauses : q.clauses ≡ map clause_of q.inside.clauses
   pub parts : All (HasParts refs) q.clauses
@@ -123,6 +135,7 @@ pub record StandsOn {N S A H : Type 0} (refs : References N S A) (q : Queue N H)
   pub listed : IsListedWell refs.lists q.inside.occurrences q.inside.requirements
   pub synced : q.must_start_anew ≡ false →
       KeepsQueued q.inside.clauses (clause_literals refs) (rows_in refs) (values_of q.trail) (counts (values_of q.trail) q.since q.inside.clauses) q.inside.requirements q.inside.queued
+  pub falsified : FindsFalsified refs q
 
 -- what always holds of a queue
 pub record IsKept {N H : Type 0} (has : H → N → Bool) (q : Queue N H) : Type 0 where

@@ -126,3 +126,13 @@ pub record Heats (old now : Tracking) : Type 0 where
       ((d : TrackedClause) → literals (heated d) ≡ literals d) → ((d : TrackedClause) → counted (heated d) ≡ counted d) →
       IsSynced old.clauses literals rows_of val counted old.requirements old.queued →
       IsSynced now.clauses literals rows_of val counted now.requirements now.queued
+
+-- ---- how requirements are listed
+
+-- nothing changes but what is listed
+pub record OnlyLists (old now : Tracking) : Type 0 where
+  pub clauses : now.clauses ≡ old.clauses
+  pub by_parent : now.by_parent ≡ old.by_parent
+  pub by_condition : now.by_condition ≡ old.by_condition
+  pub requirements : now.requirements ≡ old.requirements
+  pub queued : now.queued ≡ old.queued

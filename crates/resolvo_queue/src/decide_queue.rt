@@ -38,6 +38,11 @@
 //! while scores are raised by the standard parameters only those are looked at that have a package that ever got one: the hot ones,
 //! which are queued a second time. Nothing is better than a frontier with one candidate, or with the largest score.
 //!
+//! A clause isn't falsified as long as one row of its requirement isn't false. So a requirement keeps a witness, a variable of
+//! such a row, and a clause is looked at only if it came since, or if a variable changed that is its parent, stands in its
+//! condition or is its requirement's witness ([`DecideQueue::falsified_since`]). The next decision then looks for other
+//! witnesses, in the same places.
+//!
 //! So the walks of a requirement can be counted. It owes those that were done, and one more while nothing is known of its
 //! rows. It owes the first as its first clause comes; a sync makes it owe at most one more, and only if a variable of its
 //! rows was routed, or the last sync was refused; and a question walks it at most once, by what it owes already.
@@ -46,7 +51,6 @@
 //! true, whatever was done before. A registration that is refused may leave a number in a list that belongs to no clause yet, which
 //! wakes one clause too many later.
 ghost use Rattle.std.specs.Prelude.{◌≡◌, ◌⊎◌, ◌+◌, ◌-◌, ◌<◌, ◌≤◌, ◌^◌, ◌↔◌, ◌≢◌, [], length, take, All, IsTrue, IsSome, IfSome, true, false, option_map, OnOk, OnErr, IfOk, IfErr};
-ghost use Rattle.std.specs.List.{list_any};
 ghost use Rattle.std.specs.Map.{lookup};
 ghost use Rattle.std.specs.Ordering.{nat_cmp};
 ghost use Rattle.typed_ids.specs.Refusals.{IsGrowthRefusal};
@@ -56,22 +60,27 @@ ghost use Rattle.providers.specs.Provider.{Universe};
 ghost use Rattle.providers.specs.Requirement.{same_requirement};
 ghost use Rattle.providers.specs.declared.requirement.Requirement.{Requirement as ARequirement};
 ghost use Rattle.decisions.specs.Decisions.{values_in};
+ghost use Rattle.resolvo_queue.specs.Listing.{IsListedWell};
 ghost use Rattle.resolvo_queue.specs.Names.{ColdLack};
 ghost use Rattle.resolvo_queue.specs.Pick.{eligible, pick, decided, DecidesUnbeaten};
 ghost use Rattle.resolvo_queue.specs.Queue.{AgreesBelow, AreNamed, HasTrail, IsNew, IsRegistered, IsSynced, IsUnchanged, OnlyHotScore, SameClauses, SameSync, StandsOn, values_of};
 ghost use Rattle.resolvo_queue.specs.References.{CanWalk, IsWalkable, Lists, References, literals_in, references, rows_in, score_in};
 ghost use Rattle.resolvo_queue.specs.Scan.{first_falsified, is_eligible, scan};
+ghost use Rattle.resolvo_queue.specs.Synced.{FindsConditions};
 ghost use Rattle.resolvo_queue.specs.WalkCounts.{HasNoneOf, WalksOnce, changed_from, owed, walks};
+ghost use Rattle.resolvo_queue.specs.Witnesses.{AreCandidates, HaveEntries, literals_by};
 
 use crate::condition::condition_of;
 use crate::deciding::next_offer;
 use crate::falsification::falsified_clause;
+use crate::names::{copied, has_hot_name};
 use crate::offer::decision_at;
 use crate::parent_value::{ParentValue, is_true};
 use crate::queue_decision::QueueDecision;
 use crate::requires_clause::RequiresClause;
 use crate::row_reader::RowReader;
 use crate::tracked_clauses::TrackedClauses;
+use crate::witnesses::Witnesses;
 use clauses::Disjunction;
 use decisions::{Decision, DecisionMap};
 use id_maps::{IdSet, SolverId};
@@ -93,6 +102,8 @@ pub struct DecideQueue<D: DependencyProvider> {
     hot_names: <D::NameId as SolverId<D::Alloc>>::Set,
     /// The parents that were registered since the last accepted sync.
     since: Vec<ParentValue, D::Alloc>,
+    /// What tells which clauses may be falsified.
+    witnesses: Witnesses<D::Alloc>,
 }
 
 impl<D: DependencyProvider> Model for DecideQueue<D> {
@@ -100,9 +111,9 @@ impl<D: DependencyProvider> Model for DecideQueue<D> {
 
     ghost Value = { Queue D.NameId D.NameId.Set };
 
-    ghost view = { λ q. queue_of q.tracked q.names.items q.hot_names q.since.items };
+    ghost view = { λ q. queue_of q.tracked q.names.items q.hot_names q.since.items q.witnesses };
 
-    ghost invariant = { λ q. IsKept D.NameId.Set.has (queue_of q.tracked q.names.items q.hot_names q.since.items) };
+    ghost invariant = { λ q. IsKept D.NameId.Set.has (queue_of q.tracked q.names.items q.hot_names q.since.items q.witnesses) };
 }
 
 impl<D: DependencyProvider> DecideQueue<D> {
@@ -119,6 +130,7 @@ impl<D: DependencyProvider> DecideQueue<D> {
                 alloc,
             ),
             since: Vec::new(alloc),
+            witnesses: Witnesses::new(alloc),
         }
     }
 
@@ -287,17 +299,93 @@ impl<D: DependencyProvider> DecideQueue<D> {
             owed self.new r ≡ owed self.old r }
     {
         let floor = floor.min(trail.len()).min(self.tracked.trail.len());
+        match self.witnesses.note_changes(&self.tracked, floor, trail) {
+            Ok(()) => {}
+            Err(refused) => {
+                self.tracked.must_start_anew = true;
+                return Err(refused);
+            }
+        }
         self.tracked.sync(floor, trail, map)?;
         self.since.clear();
         Ok(())
     }
 
+    /// Looks for a witness of each requirement whose clauses may be falsified, where none is. Refused, the changes are kept for
+    /// which it is to be done.
+    fn settle(
+        &mut self,
+        map: &DecisionMap<D::Alloc>,
+        reader: &RowReader<'_, D::Alloc>,
+        disjunctions: &Arena<DisjunctionId, Disjunction<D::Alloc>, D::Alloc>,
+    ) -> Result<(), StoreError>
+        requires entries { HaveEntries reader.now.lists disjunctions.now self.old.inside.clauses }
+        requires conditions { FindsConditions self.old.inside.clauses (literals_by disjunctions.now) self.old.inside.by_condition }
+        requires listed { IsListedWell reader.now.lists self.old.inside.occurrences self.old.inside.requirements }
+        requires candidates { AreCandidates reader.now.lists self.old.inside.occurrences self.old.witnesses.of }
+        ensures unchanged { IsUnchanged self.old self.new D.NameId.Set.has }
+        ensures records { self.new.inside.requirements ≡ self.old.inside.requirements }
+        ensures stands { (universe : Universe D.NameId D.SolvableId) → let refs = references universe reader.now.lists disjunctions.now in
+            StandsOn refs self.old → All (CanWalk refs) self.old.clauses → IsSynced (values_in map.now) self.old →
+            first_falsified (values_in map.now) (literals_in refs) (rows_in refs) self.old.clauses ≡ None → StandsOn refs self.new }
+        ensures memory { IfErr result (λ e. e ≡ OutOfMemory) }
+    {
+        self.tracked
+            .settle(&mut self.witnesses, map, reader, disjunctions)
+    }
+
+    /// The decision of an eligible clause which no other one beats.
+    fn pick(
+        &mut self,
+        map: &DecisionMap<D::Alloc>,
+        reader: &mut RowReader<'_, D::Alloc>,
+        disjunctions: &Arena<DisjunctionId, Disjunction<D::Alloc>, D::Alloc>,
+        scores: &<D::NameId as SolverId<D::Alloc>>::Scores,
+        largest: u64,
+        provider: &D,
+    ) -> Result<Option<QueueDecision>, StoreError>
+        requires synced { IsSynced (values_in map.now) self.old }
+        requires stands { StandsOn (references (D.universe provider.now) reader.old.lists disjunctions.now) self.old }
+        requires walkable { All (CanWalk (references (D.universe provider.now) reader.old.lists disjunctions.now)) self.old.clauses }
+        requires named { AreNamed (D.universe provider.now) self.old }
+        requires hot { OnlyHotScore D.NameId.Set.has (D.NameId.Scores.value_at scores.now) self.old }
+        requires largest { IsLargest nat_cmp 0 (D.NameId.Scores.value_at scores.now) largest }
+        ensures picked { let refs = references (D.universe provider.now) reader.old.lists disjunctions.now in
+            IfOk result (λ decision. decision ≡ option_map decided (pick (eligible (values_in map.now) (literals_in refs) (rows_in refs)
+            (score_in refs (D.NameId.Scores.value_at scores.now)) self.old.clauses))) }
+        ensures none { let refs = references (D.universe provider.now) reader.old.lists disjunctions.now in
+            IfOk result (λ decision. (decision ≡ None)
+            ↔ All (λ c. is_eligible (values_in map.now) (literals_in refs) (rows_in refs) c ≡ false) (scan self.old.clauses)) }
+        ensures unbeaten { let refs = references (D.universe provider.now) reader.old.lists disjunctions.now in
+            IfOk result (DecidesUnbeaten (eligible (values_in map.now) (literals_in refs) (rows_in refs)
+            (score_in refs (D.NameId.Scores.value_at scores.now)) self.old.clauses)) }
+        ensures memory { IfErr result (λ e. e ≡ OutOfMemory) }
+        ensures unchanged { IsUnchanged self.old self.new D.NameId.Set.has }
+        ensures lists { reader.new.lists ≡ reader.old.lists }
+        ensures stands { StandsOn (references (D.universe provider.now) reader.old.lists disjunctions.now) self.new }
+
+        // Whatever the result, the requirements that came to the reader's log were walked once each, and no walk more is owed.
+        ensures walks { WalksOnce self.old.inside.requirements self.new.inside.requirements reader.old.walked reader.new.walked }
+        ensures owed { SameValues (owed self.old) (owed self.new) }
+    {
+        let offer = next_offer(
+            &mut self.tracked,
+            map,
+            reader,
+            disjunctions,
+            scores,
+            largest,
+            provider,
+        )?;
+        Ok(decision_at(&offer))
+    }
+
     /// The decision to take where no clause is falsified, which [`DecideQueue::falsified`] tells: that of an eligible
     /// clause which no other one beats. The scores are the packages', and the largest of them is handed in.
     ///
-    /// A refusal leaves the clauses, the trail and the hot names as they were, and the reader its walks. Linear in the queued
-    /// clauses that turn out not to be eligible, which leave the queue, in the hot ones behind the first that is, and in
-    /// the rows of their requirements of which nothing was known.
+    /// A refusal leaves the clauses, the trail and the hot names as they were, and the reader its walks. Linear in the clauses
+    /// that changed variables find, in the queued clauses that turn out not to be eligible, which leave the queue, in the hot
+    /// ones behind the first that is, and in the rows of their requirements of which nothing was known.
     pub fn next_decision(
         &mut self,
         map: &DecisionMap<D::Alloc>,
@@ -333,16 +421,8 @@ impl<D: DependencyProvider> DecideQueue<D> {
         ensures walks { WalksOnce self.old.inside.requirements self.new.inside.requirements reader.old.walked reader.new.walked }
         ensures owed { SameValues (owed self.old) (owed self.new) }
     {
-        let offer = next_offer(
-            &mut self.tracked,
-            map,
-            reader,
-            disjunctions,
-            scores,
-            largest,
-            provider,
-        )?;
-        Ok(decision_at(&offer))
+        self.settle(map, reader, disjunctions)?;
+        self.pick(map, reader, disjunctions, scores, largest, provider)
     }
 
     /// The first falsified clause of the scan, if there is one. Takes no memory; linear in all clauses, and in the rows of
@@ -367,24 +447,39 @@ impl<D: DependencyProvider> DecideQueue<D> {
             provider,
         )
     }
-}
 
-/// A copy of items.
-fn copied<T: Copy + Drop, A: Allocator + Copy>(
-    alloc: A,
-    items: &[T],
-) -> Result<Vec<T, A>, StoreError>
-    ensures ok { IfOk result (λ copy. copy.items ≡ items.now) }
-    ensures memory { IfErr result (λ e. e ≡ OutOfMemory) }
-{
-    let mut copy = Vec::with_capacity(alloc, items.len())?;
-    copy.extend_from_slice(items)?;
-    Ok(copy)
-}
-
-/// Whether a name is hot.
-fn has_hot_name<N: SolverId<A>, A: Allocator + Copy>(hot_names: &N::Set, names: &[N]) -> bool
-    ensures { result ≡ list_any (N.Set.has hot_names.now) names.now }
-{
-    names.iter().any(|name| hot_names.contains(*name))
+    /// What [`DecideQueue::falsified`] answers. The trail's values are the map's, and the trail is that of the last accepted sync
+    /// below the floor. Takes no memory, and changes nothing; linear in what changed since the last decision or the last
+    /// accepted sync, in the clauses that this finds, and in their candidates up to the first that isn't false; after a
+    /// refused sync as `falsified`.
+    pub fn falsified_since(
+        &self,
+        floor: usize,
+        trail: &[Decision],
+        map: &DecisionMap<D::Alloc>,
+        lists: &RequirementMap<Vec<Vec<VariableId, D::Alloc>, D::Alloc>, D::Alloc>,
+        disjunctions: &Arena<DisjunctionId, Disjunction<D::Alloc>, D::Alloc>,
+        provider: &D,
+    ) -> Option<ClauseId>
+        requires values { SameValues (values_of trail.now) (values_in map.now) }
+        requires agrees { self.now.must_start_anew ≡ false → AgreesBelow floor trail.now self.now }
+        requires stands { StandsOn (references (D.universe provider.now) lists.now disjunctions.now) self.now }
+        requires walkable { All (CanWalk (references (D.universe provider.now) lists.now disjunctions.now)) self.now.clauses }
+        ensures { let refs = references (D.universe provider.now) lists.now disjunctions.now in
+            result ≡ option_map (λ c. c.clause_id) (first_falsified (values_in map.now) (literals_in refs) (rows_in refs) self.now.clauses) }
+    {
+        if self.tracked.must_start_anew {
+            return self.falsified(map, lists, disjunctions, provider);
+        }
+        let floor = floor.min(trail.len()).min(self.tracked.trail.len());
+        self.tracked.first_found(
+            &self.witnesses,
+            floor,
+            trail,
+            map,
+            lists,
+            disjunctions,
+            provider,
+        )
+    }
 }

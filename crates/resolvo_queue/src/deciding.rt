@@ -4,6 +4,7 @@ ghost use Rattle.typed_ids.specs.declared.error.StoreError.TheVariants.{OutOfMem
 ghost use Rattle.decisions.specs.Decisions.{values_in};
 ghost use Rattle.resolvo_queue.specs.Inspection.{offer_of};
 ghost use Rattle.resolvo_queue.specs.Listing.{IsListedWell};
+ghost use Rattle.resolvo_queue.specs.Occurrences.{KeepsListed};
 ghost use Rattle.resolvo_queue.specs.Positions.{has, is_after, IsBefore};
 ghost use Rattle.resolvo_queue.specs.Queued.{IsOfClause, set_of};
 ghost use Rattle.resolvo_queue.specs.Question.{clause_literals, AreUpTo, AreAskable};
@@ -49,6 +50,7 @@ fn look<I: Interner>(
     ensures at { IfOk result (λ o. IfSome o (λ b. b.position ≡ position)) }
     ensures fewer { IfOk result (λ o. o ≡ None → has tracked.old.queued.all position ≡ true → length tracked.new.queued.all < length tracked.old.queued.all) }
     ensures listed { IsListedWell reader.old.lists tracked.new.occurrences tracked.new.requirements }
+    ensures keeps_listed { KeepsListed tracked.old.occurrences tracked.new.occurrences }
     ensures once { WalksOnce tracked.old.requirements tracked.new.requirements reader.old.walked reader.new.walked }
     ensures owes { OwesSame tracked.old.requirements tracked.new.requirements }
     ensures found { SameFound tracked.old.requirements tracked.new.requirements }
@@ -107,6 +109,7 @@ fn first_eligible<I: Interner>(
     ensures picked { let refs = references (I.universe interner.now) reader.old.lists disjunctions.now in IfOk result (λ o. let picked = all_picked tracked.old.index.clauses.items (clause_literals refs) (rows_in refs) (values_in map.now) (score_in refs (I.NameId.Scores.value_at scores.now)) in
         MatchOption o (picked ≡ None) (λ b. picked ≡ rest_picked tracked.old.index.clauses.items (clause_literals refs) (rows_in refs) (values_in map.now) (score_in refs (I.NameId.Scores.value_at scores.now)) b.offer b.position)) }
     ensures listed { IsListedWell reader.old.lists tracked.new.occurrences tracked.new.requirements }
+    ensures keeps_listed { KeepsListed tracked.old.occurrences tracked.new.occurrences }
     ensures once { WalksOnce tracked.old.requirements tracked.new.requirements reader.old.walked reader.new.walked }
     ensures owes { OwesSame tracked.old.requirements tracked.new.requirements }
     ensures found { SameFound tracked.old.requirements tracked.new.requirements }
@@ -175,6 +178,7 @@ fn better_of<I: Interner>(
     requires ready { let refs = references (I.universe interner.now) reader.old.lists disjunctions.now in IsReady tracked.old.index.clauses.items (clause_literals refs) (rows_in refs) (values_in map.now) tracked.old.requirements tracked.old.queued }
     ensures better { let refs = references (I.universe interner.now) reader.old.lists disjunctions.now in IfOk result (λ b. (c : TrackedClause) → slice_get tracked.old.index.clauses.items position.number ≡ Some c → b.offer ≡ improved best.offer (offer_of (values_in map.now) (clause_literals refs) (rows_in refs) (score_in refs (I.NameId.Scores.value_at scores.now)) c)) }
     ensures listed { IsListedWell reader.old.lists tracked.new.occurrences tracked.new.requirements }
+    ensures keeps_listed { KeepsListed tracked.old.occurrences tracked.new.occurrences }
     ensures once { WalksOnce tracked.old.requirements tracked.new.requirements reader.old.walked reader.new.walked }
     ensures owes { OwesSame tracked.old.requirements tracked.new.requirements }
     ensures found { SameFound tracked.old.requirements tracked.new.requirements }
@@ -229,6 +233,7 @@ pub(crate) fn next_offer<I: Interner>(
     requires largest { let refs = references (I.universe interner.now) reader.old.lists disjunctions.now in AreUpTo largest (score_in refs (I.NameId.Scores.value_at scores.now)) }
     ensures picked { let refs = references (I.universe interner.now) reader.old.lists disjunctions.now in IfOk result (λ o. o ≡ (all_picked tracked.old.index.clauses.items (clause_literals refs) (rows_in refs) (values_in map.now) (score_in refs (I.NameId.Scores.value_at scores.now)))) }
     ensures listed { IsListedWell reader.old.lists tracked.new.occurrences tracked.new.requirements }
+    ensures keeps_listed { KeepsListed tracked.old.occurrences tracked.new.occurrences }
     ensures once { WalksOnce tracked.old.requirements tracked.new.requirements reader.old.walked reader.new.walked }
     ensures owes { OwesSame tracked.old.requirements tracked.new.requirements }
     ensures found { SameFound tracked.old.requirements tracked.new.requirements }

@@ -46,7 +46,7 @@ pub(crate) fn falsified_clause<I: Interner, A: Allocator + Copy>(
 }
 
 /// Whether a clause stands before another one in the scan, if there is one.
-fn comes_first(clause: &TrackedClause, other: &Option<TrackedClause>) -> bool
+pub(crate) fn comes_first(clause: &TrackedClause, other: &Option<TrackedClause>) -> bool
     ensures { result ≡ comes_first clause.now other.now }
 {
     match other {
@@ -56,7 +56,7 @@ fn comes_first(clause: &TrackedClause, other: &Option<TrackedClause>) -> bool
 }
 
 /// Whether a clause is falsified.
-fn is_falsified_clause<I: Interner, A: Allocator + Copy>(
+pub(crate) fn is_falsified_clause<I: Interner, A: Allocator + Copy>(
     clause: &TrackedClause,
     decisions: &DecisionMap<A>,
     lists: &RequirementMap<Vec<Vec<VariableId, A>, A>, A>,

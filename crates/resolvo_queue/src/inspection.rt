@@ -10,7 +10,7 @@ ghost use Rattle.resolvo_queue.specs.Question.{clause_literals};
 ghost use Rattle.resolvo_queue.specs.References.{IsWalkable, references};
 ghost use Rattle.resolvo_queue.specs.Inspection.{Learns, ListsOnly, eligible_frontier, may_be};
 ghost use Rattle.resolvo_queue.specs.Listing.{IsListedWell};
-ghost use Rattle.resolvo_queue.specs.Occurrences.{is_listed, GrowsWith};
+ghost use Rattle.resolvo_queue.specs.Occurrences.{is_listed, GrowsWith, KeepsListed};
 ghost use Rattle.resolvo_queue.specs.Tracked.{known_at, IsPlaceOf, OwesSame, SameFound};
 ghost use Rattle.resolvo_queue.specs.WalkCounts.{WalksOnce};
 
@@ -66,6 +66,7 @@ fn requirement_frontier<I: Interner, A: Allocator + Copy>(
     ensures learns { Learns requirement place (frontier (values_in map.now) (loaded_rows (I.universe interner.now) reader.old.lists requirement)) requirements.old requirements.new reader.old.walked reader.new.walked }
     ensures rows { reader.new.lists ≡ reader.old.lists }
     ensures listed { IsListedWell reader.old.lists occurrences.new requirements.new }
+    ensures keeps_listed { KeepsListed occurrences.old occurrences.new }
     ensures owes { OwesSame requirements.old requirements.new }
     ensures found { SameFound requirements.old requirements.new }
     ensures memory { IfErr result (λ e. e ≡ OutOfMemory) }
@@ -102,6 +103,7 @@ pub(crate) fn inspect<I: Interner, A: Allocator + Copy>(
     ensures learns { Learns clause.now.required clause.now.requirement (frontier (values_in map.now) (loaded_rows (I.universe interner.now) reader.old.lists clause.now.required)) requirements.old requirements.new reader.old.walked reader.new.walked }
     ensures rows { reader.new.lists ≡ reader.old.lists }
     ensures listed { IsListedWell reader.old.lists occurrences.new requirements.new }
+    ensures keeps_listed { KeepsListed occurrences.old occurrences.new }
     ensures owes { OwesSame requirements.old requirements.new }
     ensures found { SameFound requirements.old requirements.new }
     ensures memory { IfErr result (λ e. e ≡ OutOfMemory) }

@@ -7,8 +7,9 @@
 //!
 //! `decide_queue` has the queue, and `row_reader` the one way to the rows of requirements. `tracked_clauses` keeps the
 //! clauses, in the order of the scan by their `position`, and what may be eligible of them; `registering`, `heating`,
-//! `sync` and `deciding` are what is done with it, `falsification` goes through all of them, and `inspection`, `row_state`
-//! and `condition` look at one clause.
+//! `sync` and `deciding` are what is done with it. `witnesses` keeps what tells which of them may be falsified; `settling` looks
+//! for witnesses, and `looking` for a falsified clause; `falsification` goes through all clauses for it. `inspection`,
+//! `row_state` and `condition` look at one clause.
 #![tactic(auto)]
 
 mod candidate;
@@ -21,6 +22,8 @@ mod frontier;
 mod heating;
 mod inspection;
 mod lists_by_variable;
+mod looking;
+mod names;
 mod offer;
 mod parent_value;
 mod position;
@@ -33,11 +36,13 @@ mod requires_clause;
 mod routing;
 mod row_reader;
 mod row_state;
+mod settling;
 mod sync;
 mod tracked_clause;
 mod tracked_clauses;
 mod waking;
 mod walk_log;
+mod witnesses;
 
 pub use decide_queue::DecideQueue;
 pub use frontier::Frontier;

@@ -2,15 +2,18 @@
 //!
 //! A [`RowReader`] hands no row out: it answers a requirement's frontier, and puts the requirement to the variables of
 //! its rows. What a queue knows of rows it knows by these two calls.
-ghost use Rattle.std.specs.Prelude.{◌≡◌, [], ◌∷◌, ◌++◌, true, if◌then◌else◌, flat_map, IsSome, IfSome, OnOk, OnErr, IfErr};
+ghost use Rattle.std.specs.Prelude.{◌≡◌, [], ◌∷◌, ◌++◌, true, false, if◌then◌else◌, flat_map, Contains, IsSome, IfSome, MatchOption, OnOk, OnErr, IfErr};
+ghost use Rattle.std.specs.List.{list_all};
 ghost use Rattle.std.specs.Map.{lookup, keys_of};
 ghost use Rattle.typed_ids.specs.declared.error.StoreError.TheVariants.{OutOfMemory};
 ghost use Rattle.providers.specs.Requirement.{same_requirement};
 ghost use Rattle.providers.specs.declared.requirement.Requirement.{Requirement as ARequirement};
 ghost use Rattle.decisions.specs.Decisions.{values_in};
+ghost use Rattle.decisions.specs.Literals.{known_false};
 ghost use Rattle.resolvo_queue.specs.Occurrences.{GrowsWith, HasAll, is_listed, listing};
 ghost use Rattle.resolvo_queue.specs.References.{IsWalkable};
 ghost use Rattle.resolvo_queue.specs.Rows.{candidates, frontier, loaded_rows};
+ghost use Rattle.resolvo_queue.specs.Witnesses.{are_candidates_false};
 
 use crate::frontier::Frontier;
 use crate::lists_by_variable::ListsByVariable;
@@ -67,6 +70,19 @@ impl<'l, A: Allocator + Copy> RowReader<'l, A> {
             RowState::Undecided(frontier) => Some(frontier),
             RowState::Met | RowState::AllFalse => None,
         }
+    }
+
+    /// The variable of a row that isn't false, if there is one: which, is left open. Takes no memory.
+    pub(crate) fn not_false(
+        &self,
+        requirement: Requirement,
+        map: &DecisionMap<A>,
+    ) -> Option<VariableId>
+        requires { IsSome (lookup (same_requirement requirement) self.now.lists) }
+        ensures { MatchOption result (are_candidates_false self.now.lists (values_in map.now) requirement ≡ true)
+            (λ x. Contains (candidates self.now.lists requirement) x × (known_false (values_in map.now x) ≡ false)) }
+    {
+        not_false_in(&self.lists[requirement], map)
     }
 
     /// Puts a requirement to the variables of its rows, and counts it as listed from then on. Refused, it doesn't count
@@ -190,4 +206,36 @@ fn add_list<A: Allocator + Copy>(
         occurrences.add(*variable, requirement)?;
     }
     Ok(())
+}
+
+/// A variable of these lists that isn't false.
+fn not_false_in<A: Allocator + Copy>(
+    lists: &[Vec<VariableId, A>],
+    map: &DecisionMap<A>,
+) -> Option<VariableId>
+    ensures { MatchOption result (list_all (λ x. known_false (values_in map.now x)) (flat_map (λ l. l.items) lists.now) ≡ true)
+        (λ x. Contains (flat_map (λ l. l.items) lists.now) x × (known_false (values_in map.now x) ≡ false)) }
+{
+    for list in lists {
+        if let Some(variable) = not_false_of(list, map) {
+            return Some(variable);
+        }
+    }
+    None
+}
+
+/// A variable of one list that isn't false.
+fn not_false_of<A: Allocator + Copy>(
+    list: &[VariableId],
+    map: &DecisionMap<A>,
+) -> Option<VariableId>
+    ensures { MatchOption result (list_all (λ x. known_false (values_in map.now x)) list.now ≡ true)
+        (λ x. Contains list.now x × (known_false (values_in map.now x) ≡ false)) }
+{
+    for variable in list {
+        if map.value(*variable) != Some(false) {
+            return Some(*variable);
+        }
+    }
+    None
 }

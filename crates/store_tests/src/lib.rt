@@ -27,6 +27,8 @@ mod listed;
 #[cfg(test)]
 mod names;
 #[cfg(test)]
+mod no_memory;
+#[cfg(test)]
 mod obeys;
 #[cfg(test)]
 mod plays;

@@ -23,7 +23,7 @@ impl<D: DependencyProvider + Drop> ClauseStore<D> {
         ensures answered { IfOk result (λ reply. IsRefused (reply_of reply) → ⊥) }
         ensures provider { self.new.provider ≡ self.old.provider }
     {
-        if let Some(clause) = self.falsified() {
+        if let Some(clause) = self.falsified_since() {
             return Ok(Reply::Falsified(clause));
         }
         match self.next_decision() {
@@ -40,6 +40,20 @@ impl<D: DependencyProvider + Drop> ClauseStore<D> {
         ensures { result ≡ option_map (λ c. c.clause_id) (falsified_clause (⟦<D as AbstractStore>⟧.store self.now)) }
     {
         self.queue.falsified(
+            self.trail.map(),
+            &self.loaded,
+            &self.disjunctions,
+            self.cache.provider(),
+        )
+    }
+
+    /// What [`ClauseStore::falsified`] answers, found by what the trail changed by since the last decision. Takes no memory.
+    fn falsified_since(&self) -> Option<ClauseId>
+        ensures { result ≡ option_map (λ c. c.clause_id) (falsified_clause (⟦<D as AbstractStore>⟧.store self.now)) }
+    {
+        self.queue.falsified_since(
+            self.trail.sync_floor(),
+            self.trail.assignments(),
             self.trail.map(),
             &self.loaded,
             &self.disjunctions,

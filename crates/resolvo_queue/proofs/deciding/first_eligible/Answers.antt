@@ -46,6 +46,7 @@ loop-position-preserved g c =
           (subst (λ ls. IsReady c.loop-position.tracked.index.clauses.items (clause_literals refs) (loaded_rows universe ls) val c.look.new.tracked.requirements c.look.new.tracked.queued)
           c.loop-position.invariant.lists c.look.ensures.ready);
       listed = subst (λ ls. IsListedWell ls c.look.new.tracked.occurrences c.look.new.tracked.requirements) c.loop-position.invariant.lists c.look.ensures.listed;
+      keeps_listed = λ r h. c.look.ensures.keeps_listed r (c.loop-position.invariant.keeps_listed r h);
       once = walks_along _ _ _ _ _ _ c.loop-position.invariant.once c.look.ensures.once;
       owes = λ k. c.look.ensures.owes k ∙ c.loop-position.invariant.owes k;
       found = λ k. c.look.ensures.found k ∙ c.loop-position.invariant.found k;
@@ -60,6 +61,7 @@ pub loop-position-init : goal.loop-position-init
 loop-position-init g c = record {
   ready = c.requires.ready;
   listed = c.requires.listed;
+  keeps_listed = λ r h. h;
   once = walks_nothing _ _;
   owes = λ k. refl;
   found = λ k. refl;

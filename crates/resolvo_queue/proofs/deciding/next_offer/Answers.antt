@@ -42,6 +42,7 @@ loop-position-preserved g c =
       ready = subst (λ ix. IsReady ix.clauses.items lits (loaded_rows cat c.args.reader.now.lists) val c.better_of.new.tracked.requirements c.better_of.new.tracked.queued) c.loop-position.invariant.index
           (subst (λ ls. IsReady c.loop-position.tracked.index.clauses.items lits (loaded_rows cat ls) val c.better_of.new.tracked.requirements c.better_of.new.tracked.queued) c.loop-position.invariant.lists c.better_of.ensures.ready);
       listed = subst (λ ls. IsListedWell ls c.better_of.new.tracked.occurrences c.better_of.new.tracked.requirements) c.loop-position.invariant.lists c.better_of.ensures.listed;
+      keeps_listed = λ r h. c.better_of.ensures.keeps_listed r (c.loop-position.invariant.keeps_listed r h);
       once = walks_along _ _ _ _ _ _ c.loop-position.invariant.once c.better_of.ensures.once;
       owes = λ k. c.better_of.ensures.owes k ∙ c.loop-position.invariant.owes k;
       found = λ k. c.better_of.ensures.found k ∙ c.loop-position.invariant.found k;

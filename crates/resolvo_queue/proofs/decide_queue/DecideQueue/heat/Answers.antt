@@ -8,32 +8,32 @@ use Rattle.resolvo_queue.proofs.decide_queue.DecideQueue.heat.Goals.{in-Ok, in-E
 pub invariant_of-self : goal.invariant_of-self
 invariant_of-self g c =
     let inside = c.self.inside in
-    let before : Queue g.row.D-NameId.Denot g.row.D-NameId-Set.Denot = queue_of inside.tracked inside.names.items inside.hot_names inside.since.items in
-    let after : Queue g.row.D-NameId.Denot g.row.D-NameId-Set.Denot = queue_of c.heat_named.new.self inside.names.items inside.hot_names inside.since.items in
+    let before : Queue g.row.D-NameId.Denot g.row.D-NameId-Set.Denot = queue_of inside.tracked inside.names.items inside.hot_names inside.since.items inside.witnesses in
+    let after : Queue g.row.D-NameId.Denot g.row.D-NameId-Set.Denot = queue_of c.heat_named.new.self inside.names.items inside.hot_names inside.since.items inside.witnesses in
     kept_heated g.D.NameId.Set.IdSet.has before after c.heat_named.ensures.heats refl c.self.invariant refl refl
 
 pub invariant_of-self-2 : goal.invariant_of-self-2
 invariant_of-self-2 g c =
     let inside = c.self.inside in
-    let before : Queue g.row.D-NameId.Denot g.row.D-NameId-Set.Denot = queue_of inside.tracked inside.names.items inside.hot_names inside.since.items in
-    let after : Queue g.row.D-NameId.Denot g.row.D-NameId-Set.Denot = queue_of c.heat_named.new.self inside.names.items inside.hot_names inside.since.items in
+    let before : Queue g.row.D-NameId.Denot g.row.D-NameId-Set.Denot = queue_of inside.tracked inside.names.items inside.hot_names inside.since.items inside.witnesses in
+    let after : Queue g.row.D-NameId.Denot g.row.D-NameId-Set.Denot = queue_of c.heat_named.new.self inside.names.items inside.hot_names inside.since.items inside.witnesses in
     kept_heated g.D.NameId.Set.IdSet.has before after c.heat_named.ensures.heats refl c.self.invariant refl refl
 
 pub returns-in_err-insert-in-Err-clause-stands : goal.returns-in_err-insert-in-Err-clause-stands
 returns-in_err-insert-in-Err-clause-stands g c =
     let inside = c.self.inside in
-    let before : Queue g.row.D-NameId.Denot g.row.D-NameId-Set.Denot = queue_of inside.tracked inside.names.items inside.hot_names inside.since.items in
-    let after : Queue g.row.D-NameId.Denot g.row.D-NameId-Set.Denot = queue_of c.heat_named.new.self inside.names.items inside.hot_names inside.since.items in
+    let before : Queue g.row.D-NameId.Denot g.row.D-NameId-Set.Denot = queue_of inside.tracked inside.names.items inside.hot_names inside.since.items inside.witnesses in
+    let after : Queue g.row.D-NameId.Denot g.row.D-NameId-Set.Denot = queue_of c.heat_named.new.self inside.names.items inside.hot_names inside.since.items inside.witnesses in
     λ refs s. stands_heated g.D.NameId.Set.IdSet.has before after c.heat_named.ensures.heats refl refs (subst (StandsOn refs) (sym c.self.view_is) s)
-    c.heat_named.ensures.heats.clauses (ap (λ t. t.items) c.heat_named.ensures.same.1) c.heat_named.ensures.same.2
+    c.heat_named.ensures.heats.clauses (ap (λ t. t.items) c.heat_named.ensures.same.1) c.heat_named.ensures.same.2 refl
 
 pub returns-clause-stands : goal.returns-clause-stands
 returns-clause-stands g c =
     let inside = c.self.inside in
-    let before : Queue g.row.D-NameId.Denot g.row.D-NameId-Set.Denot = queue_of inside.tracked inside.names.items inside.hot_names inside.since.items in
-    let after : Queue g.row.D-NameId.Denot g.row.D-NameId-Set.Denot = queue_of c.heat_named.new.self inside.names.items inside.hot_names inside.since.items in
+    let before : Queue g.row.D-NameId.Denot g.row.D-NameId-Set.Denot = queue_of inside.tracked inside.names.items inside.hot_names inside.since.items inside.witnesses in
+    let after : Queue g.row.D-NameId.Denot g.row.D-NameId-Set.Denot = queue_of c.heat_named.new.self inside.names.items inside.hot_names inside.since.items inside.witnesses in
     λ refs s. stands_heated g.D.NameId.Set.IdSet.has before after c.heat_named.ensures.heats refl refs (subst (StandsOn refs) (sym c.self.view_is) s)
-    c.heat_named.ensures.heats.clauses (ap (λ t. t.items) c.heat_named.ensures.same.1) c.heat_named.ensures.same.2
+    c.heat_named.ensures.heats.clauses (ap (λ t. t.items) c.heat_named.ensures.same.1) c.heat_named.ensures.same.2 refl
 
 pub returns-clause-lacks : goal.returns-clause-lacks
 returns-clause-lacks g c =

@@ -7,14 +7,14 @@ use Rattle.resolvo_queue.proofs.decide_queue.DecideQueue.mark_name_hot.Goals as 
 pub returns-in_err-insert-clause-stands : goal.returns-in_err-insert-clause-stands
 returns-in_err-insert-clause-stands g c =
     let inside = c.self.inside in
-    let before : Queue g.row.D-NameId.Denot g.row.D-NameId-Set.Denot = queue_of inside.tracked inside.names.items inside.hot_names inside.since.items in
+    let before : Queue g.row.D-NameId.Denot g.row.D-NameId-Set.Denot = queue_of inside.tracked inside.names.items inside.hot_names inside.since.items inside.witnesses in
     λ refs s. stands_hot refs before c.insert.new.self (subst (StandsOn refs) (sym c.self.view_is) (c.heat.ensures.stands refs s))
 
 pub invariant_of-self-2 : goal.invariant_of-self-2
 invariant_of-self-2 g c =
     let inside = c.self.inside in
     let has = g.D.NameId.Set.IdSet.has in
-    let before : Queue g.row.D-NameId.Denot g.row.D-NameId-Set.Denot = queue_of inside.tracked inside.names.items inside.hot_names inside.since.items in
+    let before : Queue g.row.D-NameId.Denot g.row.D-NameId-Set.Denot = queue_of inside.tracked inside.names.items inside.hot_names inside.since.items inside.witnesses in
     kept_hot has before c.insert.new.self c.self.invariant
     (cold_still (has inside.hot_names) (has c.insert.new.self) c.args.name before.names before.inside.clauses c.in_ok-insert.ensures.ok c.self.invariant.cold
     (subst (λ (q : Queue g.row.D-NameId.Denot g.row.D-NameId-Set.Denot). ColdLack c.args.name q.names q.inside.clauses) (sym c.self.view_is) c.in_ok-heat.ensures.lacks))
@@ -22,5 +22,5 @@ invariant_of-self-2 g c =
 pub returns-clause-stands : goal.returns-clause-stands
 returns-clause-stands g c =
     let inside = c.self.inside in
-    let before : Queue g.row.D-NameId.Denot g.row.D-NameId-Set.Denot = queue_of inside.tracked inside.names.items inside.hot_names inside.since.items in
+    let before : Queue g.row.D-NameId.Denot g.row.D-NameId-Set.Denot = queue_of inside.tracked inside.names.items inside.hot_names inside.since.items inside.witnesses in
     λ refs s. stands_hot refs before c.insert.new.self (subst (StandsOn refs) (sym c.self.view_is) (c.heat.ensures.stands refs s))

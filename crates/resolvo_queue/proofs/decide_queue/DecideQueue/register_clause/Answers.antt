@@ -12,25 +12,25 @@ use Rattle.resolvo_queue.proofs.decide_queue.DecideQueue.register_clause.Goals a
 pub invariant_of-self-in_err-register : goal.invariant_of-self-in_err-register
 invariant_of-self-in_err-register g c =
     let inside = c.self.inside in
-    let before : Queue g.row.D-NameId.Denot g.row.D-NameId-Set.Denot = queue_of inside.tracked inside.names.items inside.hot_names inside.since.items in
-    let after : Queue g.row.D-NameId.Denot g.row.D-NameId-Set.Denot = queue_of c.register.new.self c.reserve.new.self.items inside.hot_names c.reserve-2.new.self.items in
+    let before : Queue g.row.D-NameId.Denot g.row.D-NameId-Set.Denot = queue_of inside.tracked inside.names.items inside.hot_names inside.since.items inside.witnesses in
+    let after : Queue g.row.D-NameId.Denot g.row.D-NameId-Set.Denot = queue_of c.register.new.self c.reserve.new.self.items inside.hot_names c.reserve-2.new.self.items inside.witnesses in
     kept_refused g.D.NameId.Set.IdSet.has before after c.in_err-register.ensures.err c.reserve-2.ensures.items c.self.invariant
     (ap (map (λ own. own.items)) c.reserve.ensures.items) refl
 
 pub returns-in_err-register-clause-stands : goal.returns-in_err-register-clause-stands
 returns-in_err-register-clause-stands g c =
     let inside = c.self.inside in
-    let before : Queue g.row.D-NameId.Denot g.row.D-NameId-Set.Denot = queue_of inside.tracked inside.names.items inside.hot_names inside.since.items in
-    let after : Queue g.row.D-NameId.Denot g.row.D-NameId-Set.Denot = queue_of c.register.new.self c.reserve.new.self.items inside.hot_names c.reserve-2.new.self.items in
+    let before : Queue g.row.D-NameId.Denot g.row.D-NameId-Set.Denot = queue_of inside.tracked inside.names.items inside.hot_names inside.since.items inside.witnesses in
+    let after : Queue g.row.D-NameId.Denot g.row.D-NameId-Set.Denot = queue_of c.register.new.self c.reserve.new.self.items inside.hot_names c.reserve-2.new.self.items inside.witnesses in
     λ universe lists has s. (let refs = references universe lists c.args.disjunctions.now in
     stands_refused g.D.NameId.Set.IdSet.has before after c.in_err-register.ensures.err c.reserve-2.ensures.items refs
-    (subst (StandsOn refs) (sym c.self.view_is) s) (ap (map clause_of) c.in_err-register.ensures.err.clauses) (ap (λ t. t.items) c.register.ensures.same.1) c.register.ensures.same.2)
+    (subst (StandsOn refs) (sym c.self.view_is) s) (ap (map clause_of) c.in_err-register.ensures.err.clauses) (ap (λ t. t.items) c.register.ensures.same.1) c.register.ensures.same.2 refl)
 
 pub invariant_of-self-2 : goal.invariant_of-self-2
 invariant_of-self-2 g c =
     let inside = c.self.inside in
-    let before : Queue g.row.D-NameId.Denot g.row.D-NameId-Set.Denot = queue_of inside.tracked inside.names.items inside.hot_names inside.since.items in
-    let after : Queue g.row.D-NameId.Denot g.row.D-NameId-Set.Denot = queue_of c.register.new.self c.push_reserved.new.self.items inside.hot_names c.push_reserved-2.new.self.items in
+    let before : Queue g.row.D-NameId.Denot g.row.D-NameId-Set.Denot = queue_of inside.tracked inside.names.items inside.hot_names inside.since.items inside.witnesses in
+    let after : Queue g.row.D-NameId.Denot g.row.D-NameId-Set.Denot = queue_of c.register.new.self c.push_reserved.new.self.items inside.hot_names c.push_reserved-2.new.self.items inside.witnesses in
     let few : length inside.tracked.index.clauses.items < 2 ^ 32 - 1 =
     not_full c.is_full.result (length c.args.self.now.clauses) (length inside.tracked.index.clauses.items) c.if-is_full.false c.is_full.ensures
     (ap (λ (q : Queue g.row.D-NameId.Denot g.row.D-NameId-Set.Denot). length q.clauses) (sym c.self.view_is) ∙ length-map inside.tracked.index.clauses.items clause_of) in
@@ -45,8 +45,8 @@ invariant_of-self-2 g c =
 pub returns-clause-ok : goal.returns-clause-ok
 returns-clause-ok g c =
     let inside = c.self.inside in
-    let before : Queue g.row.D-NameId.Denot g.row.D-NameId-Set.Denot = queue_of inside.tracked inside.names.items inside.hot_names inside.since.items in
-    let after : Queue g.row.D-NameId.Denot g.row.D-NameId-Set.Denot = queue_of c.register.new.self c.push_reserved.new.self.items inside.hot_names c.push_reserved-2.new.self.items in
+    let before : Queue g.row.D-NameId.Denot g.row.D-NameId-Set.Denot = queue_of inside.tracked inside.names.items inside.hot_names inside.since.items inside.witnesses in
+    let after : Queue g.row.D-NameId.Denot g.row.D-NameId-Set.Denot = queue_of c.register.new.self c.push_reserved.new.self.items inside.hot_names c.push_reserved-2.new.self.items inside.witnesses in
     let clause : RequiresClause = record { parent = c.args.parent; requirement = c.args.requirement; condition = c.args.condition; clause_id = c.args.clause_id } in
     subst (λ q. IsRegistered g.D.NameId.Set.IdSet.has clause c.args.names.now c.args.parent_value q after) c.self.view_is (record {
       clauses = registered_whole clause c.has_hot_name-is_hot.result c.is_true.result c.condition_of-literals.result.now before.inside after.inside c.in_ok-register.ensures.ok;
@@ -61,8 +61,8 @@ returns-clause-ok g c =
 pub returns-clause-stands : goal.returns-clause-stands
 returns-clause-stands g c =
     let inside = c.self.inside in
-    let before : Queue g.row.D-NameId.Denot g.row.D-NameId-Set.Denot = queue_of inside.tracked inside.names.items inside.hot_names inside.since.items in
-    let after : Queue g.row.D-NameId.Denot g.row.D-NameId-Set.Denot = queue_of c.register.new.self c.push_reserved.new.self.items inside.hot_names c.push_reserved-2.new.self.items in
+    let before : Queue g.row.D-NameId.Denot g.row.D-NameId-Set.Denot = queue_of inside.tracked inside.names.items inside.hot_names inside.since.items inside.witnesses in
+    let after : Queue g.row.D-NameId.Denot g.row.D-NameId-Set.Denot = queue_of c.register.new.self c.push_reserved.new.self.items inside.hot_names c.push_reserved-2.new.self.items inside.witnesses in
     let clause : RequiresClause = record { parent = c.args.parent; requirement = c.args.requirement; condition = c.args.condition; clause_id = c.args.clause_id } in
     λ universe lists has s. (let refs = references universe lists c.args.disjunctions.now in
     stands_registered g.D.NameId.Set.IdSet.has before after clause c.has_hot_name-is_hot.result c.is_true.result c.condition_of-literals.result.now c.args.names.now
@@ -71,7 +71,7 @@ returns-clause-stands g c =
     refs (subst (StandsOn refs) (sym c.self.view_is) s)
     (registered_whole clause c.has_hot_name-is_hot.result c.is_true.result c.condition_of-literals.result.now before.inside after.inside c.in_ok-register.ensures.ok)
     (ap (λ t. t.items) c.register.ensures.same.1) c.register.ensures.same.2 c.condition_of-literals.ensures
-    (record { lists = has; disjunction = c.requires }) c.is_true.ensures)
+    (record { lists = has; disjunction = c.requires }) c.is_true.ensures refl)
 
 pub returns-in_err-register-clause-walks : goal.returns-in_err-register-clause-walks
 returns-in_err-register-clause-walks g c = λ r. c.register.ensures.owes.walks r ∙ ap (λ (q : Queue g.row.D-NameId.Denot g.row.D-NameId-Set.Denot). walks q r) c.self.view_is

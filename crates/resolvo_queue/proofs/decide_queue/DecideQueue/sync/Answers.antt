@@ -1,4 +1,5 @@
-use Rattle.std.proofs.Common.{◌≡◌, ◌+◌, ◌≤◌, min, length, false, map, inl, inr, sym, ap, refl, subst, arith, ◌∙◌}
+use Rattle.std.proofs.Common.{◌≡◌, ◌+◌, ◌≤◌, min, length, true, false, map, take, inl, inr, sym, ap, refl, subst, arith, ◌∙◌}
+use Rattle.std.proofs.lemmas.List.{take-take}
 use Rattle.resolvo_queue.specs.Inspection.{clause_of}
 use Rattle.resolvo_queue.specs.Queue.{AgreesBelow, Queue, StandsOn, queue_of}
 use Rattle.resolvo_queue.specs.References.{rows_in}
@@ -11,11 +12,11 @@ use Rattle.resolvo_queue.proofs.decide_queue.DecideQueue.sync.Goals as goal
 pub sync-requires-clause-numbers : goal.sync-requires-clause-numbers
 sync-requires-clause-numbers g c = λ n d e. own_number c.self.inside.tracked.index.clauses.items c.self.invariant.order.located n d e
 
-pub invariant_of-self : goal.invariant_of-self
-invariant_of-self g c =
+pub invariant_of-self-in_err-sync : goal.invariant_of-self-in_err-sync
+invariant_of-self-in_err-sync g c =
     let inside = c.self.inside in
-    let before : Queue g.row.D-NameId.Denot g.row.D-NameId-Set.Denot = queue_of inside.tracked inside.names.items inside.hot_names inside.since.items in
-    let after : Queue g.row.D-NameId.Denot g.row.D-NameId-Set.Denot = queue_of c.sync.new.self inside.names.items inside.hot_names inside.since.items in
+    let before : Queue g.row.D-NameId.Denot g.row.D-NameId-Set.Denot = queue_of inside.tracked inside.names.items inside.hot_names inside.since.items inside.witnesses in
+    let after : Queue g.row.D-NameId.Denot g.row.D-NameId-Set.Denot = queue_of c.sync.new.self inside.names.items inside.hot_names inside.since.items c.note_changes.new.self in
     kept_still g.D.NameId.Set.IdSet.has before after c.self.invariant
     (order_after_sync before.inside after.inside (ap (λ ix. ix.clauses.items) c.sync.ensures.same.0) (ap (λ ix. ix.by_parent) c.sync.ensures.same.0)
     c.sync.ensures.only c.sync.ensures.grows c.self.invariant.order)
@@ -24,33 +25,52 @@ invariant_of-self g c =
 pub invariant_of-self-2 : goal.invariant_of-self-2
 invariant_of-self-2 g c =
     let inside = c.self.inside in
-    let before : Queue g.row.D-NameId.Denot g.row.D-NameId-Set.Denot = queue_of inside.tracked inside.names.items inside.hot_names inside.since.items in
-    let after : Queue g.row.D-NameId.Denot g.row.D-NameId-Set.Denot = queue_of c.sync.new.self inside.names.items inside.hot_names c.clear.new.self.items in
+    let before : Queue g.row.D-NameId.Denot g.row.D-NameId-Set.Denot = queue_of inside.tracked inside.names.items inside.hot_names inside.since.items inside.witnesses in
+    let after : Queue g.row.D-NameId.Denot g.row.D-NameId-Set.Denot = queue_of c.sync.new.self inside.names.items inside.hot_names c.clear.new.self.items c.note_changes.new.self in
     kept_still g.D.NameId.Set.IdSet.has before after c.self.invariant
     (order_after_sync before.inside after.inside (ap (λ ix. ix.clauses.items) c.sync.ensures.same.0) (ap (λ ix. ix.by_parent) c.sync.ensures.same.0)
     c.sync.ensures.only c.sync.ensures.grows c.self.invariant.order)
     (ap (λ ix. ix.clauses.items) c.sync.ensures.same.0) refl refl (inr c.clear.ensures.items)
 
+pub sync-requires-clause-agrees : goal.sync-requires-clause-agrees
+sync-requires-clause-agrees g c =
+    let inside = c.self.inside in
+    let before : Queue g.row.D-NameId.Denot g.row.D-NameId-Set.Denot = queue_of inside.tracked inside.names.items inside.hot_names inside.since.items inside.witnesses in
+    let less : c.min-floor.result ≤ c.args.floor = grind (arith, c.min.ensures, c.min-floor.ensures) in
+    λ fresh. (let agrees : AgreesBelow c.args.floor c.args.trail.now before =
+    subst (λ (q : Queue g.row.D-NameId.Denot g.row.D-NameId-Set.Denot). q.must_start_anew ≡ false → AgreesBelow c.args.floor c.args.trail.now q) (sym c.self.view_is) c.requires.agrees fresh in
+    sym (take-take c.min-floor.result c.args.floor before.trail less) ∙ (ap (take c.min-floor.result) agrees.trail ∙ take-take c.min-floor.result c.args.floor c.args.trail.now less))
+
+-- the variables couldn't be noted: the next sync looks at everything
+pub returns-in-Err-clause-stands : goal.returns-in-Err-clause-stands
+returns-in-Err-clause-stands g c =
+    let inside = c.self.inside in
+    let before : Queue g.row.D-NameId.Denot g.row.D-NameId-Set.Denot = queue_of inside.tracked inside.names.items inside.hot_names inside.since.items inside.witnesses in
+    let after : Queue g.row.D-NameId.Denot g.row.D-NameId-Set.Denot =
+    queue_of (record inside.tracked { must_start_anew = true }) inside.names.items inside.hot_names inside.since.items c.note_changes.new.self in
+    λ refs s. stands_behind g.D.NameId.Set.IdSet.has refs before after c.self.invariant (subst (StandsOn refs) (sym c.self.view_is) s)
+    refl refl refl refl (λ k. inl refl) refl c.note_changes.ensures.of c.note_changes.ensures.looked
+
 pub returns-in_err-sync-clause-stands : goal.returns-in_err-sync-clause-stands
 returns-in_err-sync-clause-stands g c =
     let inside = c.self.inside in
-    let before : Queue g.row.D-NameId.Denot g.row.D-NameId-Set.Denot = queue_of inside.tracked inside.names.items inside.hot_names inside.since.items in
-    let after : Queue g.row.D-NameId.Denot g.row.D-NameId-Set.Denot = queue_of c.sync.new.self inside.names.items inside.hot_names inside.since.items in
+    let before : Queue g.row.D-NameId.Denot g.row.D-NameId-Set.Denot = queue_of inside.tracked inside.names.items inside.hot_names inside.since.items inside.witnesses in
+    let after : Queue g.row.D-NameId.Denot g.row.D-NameId-Set.Denot = queue_of c.sync.new.self inside.names.items inside.hot_names inside.since.items c.note_changes.new.self in
     λ refs s. stands_behind g.D.NameId.Set.IdSet.has refs before after c.self.invariant (subst (StandsOn refs) (sym c.self.view_is) s)
     (ap (λ ix. map clause_of ix.clauses.items) c.sync.ensures.same.0) (ap (λ ix. ix.clauses.items) c.sync.ensures.same.0) (ap (λ ix. ix.by_condition) c.sync.ensures.same.0)
-    c.sync.ensures.same.1 c.sync.ensures.only c.in_err-sync.ensures.refused
+    c.sync.ensures.same.1 c.sync.ensures.only c.in_err-sync.ensures.refused c.note_changes.ensures.of c.note_changes.ensures.looked
 
 pub returns-clause-stands : goal.returns-clause-stands
 returns-clause-stands g c =
     let inside = c.self.inside in
-    let before : Queue g.row.D-NameId.Denot g.row.D-NameId-Set.Denot = queue_of inside.tracked inside.names.items inside.hot_names inside.since.items in
-    let after : Queue g.row.D-NameId.Denot g.row.D-NameId-Set.Denot = queue_of c.sync.new.self inside.names.items inside.hot_names c.clear.new.self.items in
+    let before : Queue g.row.D-NameId.Denot g.row.D-NameId-Set.Denot = queue_of inside.tracked inside.names.items inside.hot_names inside.since.items inside.witnesses in
+    let after : Queue g.row.D-NameId.Denot g.row.D-NameId-Set.Denot = queue_of c.sync.new.self inside.names.items inside.hot_names c.clear.new.self.items c.note_changes.new.self in
     let less : c.min-floor.result ≤ c.args.floor = grind (arith, c.min.ensures, c.min-floor.ensures) in
     λ refs s. stands_synced g.D.NameId.Set.IdSet.has refs before after c.self.invariant (subst (StandsOn refs) (sym c.self.view_is) s)
     (ap (λ ix. map clause_of ix.clauses.items) c.sync.ensures.same.0) (ap (λ ix. ix.clauses.items) c.sync.ensures.same.0) (ap (λ ix. ix.by_condition) c.sync.ensures.same.0)
     c.args.floor c.min-floor.result c.args.trail.now _ less
     (subst (λ (q : Queue g.row.D-NameId.Denot g.row.D-NameId-Set.Denot). q.must_start_anew ≡ false → AgreesBelow c.args.floor c.args.trail.now q) (sym c.self.view_is) c.requires.agrees)
-    c.requires.values c.sync.ensures.same.1 c.sync.ensures.only c.in_ok-sync.ensures.synced c.in_ok-sync.ensures.trail c.clear.ensures.items
+    c.requires.values c.sync.ensures.same.1 c.sync.ensures.only c.in_ok-sync.ensures.synced c.in_ok-sync.ensures.trail c.clear.ensures.items c.note_changes.ensures.of c.note_changes.ensures.looked c.in-Ok.ensures.anew c.in-Ok.ensures.ok
 
 pub returns-in_err-sync-clause-walks : goal.returns-in_err-sync-clause-walks
 returns-in_err-sync-clause-walks g c =
@@ -64,7 +84,7 @@ returns-in_err-sync-clause-owed g c =
 pub returns-in_err-sync-clause-owed_still : goal.returns-in_err-sync-clause-owed_still
 returns-in_err-sync-clause-owed_still g c =
     let inside = c.self.inside in
-    let before : Queue g.row.D-NameId.Denot g.row.D-NameId-Set.Denot = queue_of inside.tracked inside.names.items inside.hot_names inside.since.items in
+    let before : Queue g.row.D-NameId.Denot g.row.D-NameId-Set.Denot = queue_of inside.tracked inside.names.items inside.hot_names inside.since.items inside.witnesses in
     let floor_is : c.min-floor.result ≡ min (min c.args.floor (length c.args.trail.now)) (length before.trail) = grind (arith, c.min.ensures, c.min-floor.ensures) in
     λ accepted refs s r walkable none. (let was : before.must_start_anew ≡ false = ap (λ (q : Queue g.row.D-NameId.Denot g.row.D-NameId-Set.Denot). q.must_start_anew) c.self.view_is ∙ accepted in
     owed_kept refs before c.sync.new.self.requirements c.args.floor c.min-floor.result c.args.trail.now floor_is
@@ -85,7 +105,7 @@ returns-clause-owed g c =
 pub returns-clause-owed_still : goal.returns-clause-owed_still
 returns-clause-owed_still g c =
     let inside = c.self.inside in
-    let before : Queue g.row.D-NameId.Denot g.row.D-NameId-Set.Denot = queue_of inside.tracked inside.names.items inside.hot_names inside.since.items in
+    let before : Queue g.row.D-NameId.Denot g.row.D-NameId-Set.Denot = queue_of inside.tracked inside.names.items inside.hot_names inside.since.items inside.witnesses in
     let floor_is : c.min-floor.result ≡ min (min c.args.floor (length c.args.trail.now)) (length before.trail) = grind (arith, c.min.ensures, c.min-floor.ensures) in
     λ accepted refs s r walkable none. (let was : before.must_start_anew ≡ false = ap (λ (q : Queue g.row.D-NameId.Denot g.row.D-NameId-Set.Denot). q.must_start_anew) c.self.view_is ∙ accepted in
     owed_kept refs before c.sync.new.self.requirements c.args.floor c.min-floor.result c.args.trail.now floor_is

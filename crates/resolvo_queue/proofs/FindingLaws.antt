@@ -1,0 +1,160 @@
+-- What changed finds all clauses that may be falsified, after each call of a queue.
+use Rattle.std.proofs.Common.{◌≡◌, ◌≤◌, ℕ, length, length-append, arith, Bool, true, false, List, [], ◌∷◌, ◌++◌, map, None, Some, Result, Ok, Err, slice_get, sym, ap, refl, ◌∙◌, subst}
+use Rattle.std.specs.Prelude.{OnErr, OnOk}
+use Rattle.std.proofs.lemmas.List.{length-map}
+use Rattle.typed_ids.specs.TotalMaps.{SameValues}
+use Rattle.decisions.specs.Literals.{Values}
+use Rattle.decisions.specs.declared.decision.Decision.{Decision}
+use Rattle.providers.specs.declared.requirement.Requirement.{Requirement}
+use Rattle.clauses.specs.declared.disjunction.Disjunction.{Disjunction}
+use Rattle.resolvo_queue.specs.Falsified.{is_falsified_in}
+use Rattle.resolvo_queue.specs.Inspection.{clause_of}
+use Rattle.resolvo_queue.specs.Occurrences.{KeepsListed, Listed}
+use Rattle.resolvo_queue.specs.Possible.{SameElsewhere}
+use Rattle.resolvo_queue.specs.Queue.{FindsFalsified, Queue, values_of}
+use Rattle.resolvo_queue.specs.Question.{AreAskable, clause_literals}
+use Rattle.resolvo_queue.specs.References.{Lists, References, literals_in, references}
+use Rattle.resolvo_queue.specs.Routing.{variables_of}
+use Rattle.resolvo_queue.specs.Synced.{is_among}
+use Rattle.resolvo_queue.specs.Witnesses.{AreCandidates, AreNewSettled, AreSettled, AreWitnessed, Settles, Witnessed}
+use Rattle.resolvo_queue.specs.declared.requires_clause.RequiresClause.{RequiresClause}
+use Rattle.resolvo_queue.specs.declared.tracked_clause.TrackedClause.{TrackedClause}
+use Rattle.resolvo_queue.proofs.Members.{at_mapped}
+use Rattle.resolvo_queue.proofs.WitnessLaws.{witnessed_anew, witnessed_changed, witnessed_refused, witnessed_registered, witnessed_same, witnessed_settled}
+
+-- what is listed stays, and so do the witnesses
+candidates_kept : {A : Type 0} (lists : Lists A) (o o' : Listed) (ws ws' : List (Requirement × ℕ)) → KeepsListed o o' → ws' ≡ ws → AreCandidates lists o ws → AreCandidates lists o' ws'
+candidates_kept lists o o' ws ws' keeps same w =
+    subst (AreCandidates lists o') (sym same) (λ r x e. (let own = w r x e in (keeps r own.0, own.1)))
+
+pub keeps_same : (o o' : Listed) → o' ≡ o → KeepsListed o o'
+keeps_same o o' same = subst (KeepsListed o) (sym same) (λ r h. h)
+
+no_clause : (clauses : List TrackedClause) → clauses ≡ [] → {P : Type 0} → (n : ℕ) (c : TrackedClause) → slice_get clauses n ≡ Some c → P
+no_clause clauses none n c e = let bad : None ≡ Some c = ap (λ l. slice_get l n) (sym none) ∙ e in cc
+
+-- a queue without clauses
+pub finds_new : {N S A H : Type 0} (refs : References N S A) (q : Queue N H) → q.inside.clauses ≡ [] → q.witnesses.of ≡ [] → q.witnesses.looked ≡ 0 → FindsFalsified refs q
+finds_new refs q none of looked = record {
+  candidates = subst (AreCandidates refs.lists q.inside.occurrences) (sym of) (λ r x e. cc);
+  looked = subst (λ k. k ≤ length q.inside.clauses) (sym looked) (omega arith);
+  witnessed = λ accepted n c e. no_clause q.inside.clauses none n c e;
+}
+
+module _ {N S A H : Type 0} (refs : References N S A) (q q' : Queue N H) (finds : FindsFalsified refs q) (of : q'.witnesses.of ≡ q.witnesses.of) (looked : q'.witnesses.looked ≡ q.witnesses.looked)
+    (keeps : KeepsListed q.inside.occurrences q'.inside.occurrences) where
+  candidates_still : AreCandidates refs.lists q'.inside.occurrences q'.witnesses.of
+  candidates_still = candidates_kept refs.lists q.inside.occurrences q'.inside.occurrences q.witnesses.of q'.witnesses.of keeps of finds.candidates
+
+  looked_still : length q'.inside.clauses ≡ length q.inside.clauses → q'.witnesses.looked ≤ length q'.inside.clauses
+  looked_still same = subst (λ (x : ℕ × ℕ). x.0 ≤ x.1) (λ i. (sym looked i, sym same i)) finds.looked
+
+  -- after a refused sync only the witnesses are left
+  pub finds_behind : q'.inside.clauses ≡ q.inside.clauses → q'.must_start_anew ≡ true → FindsFalsified refs q'
+  finds_behind clauses anew = record {
+    candidates = candidates_still;
+    looked = looked_still (ap length clauses);
+    witnessed = λ accepted. absurd (differ (sym anew ∙ accepted));
+  }
+    where
+      differ : true ≡ false → ⊥
+      differ d = cc
+
+  module _ (anew : q'.must_start_anew ≡ q.must_start_anew) (trail : q'.trail ≡ q.trail) (changed : q'.witnesses.changed ≡ q.witnesses.changed) where
+    witnesses : q'.witnesses ≡ q.witnesses
+    witnesses = λ i. record { of = of i; changed = changed i; looked = looked i }
+
+    -- one clause more
+    pub finds_registered : (new : TrackedClause) → q'.inside.clauses ≡ q.inside.clauses ++ new ∷ [] → FindsFalsified refs q'
+    finds_registered new clauses = record {
+      candidates = candidates_still;
+      looked = subst (λ (x : ℕ × ℕ). x.0 ≤ x.1) (λ i. (sym looked i, sym (ap length clauses ∙ length-append q.inside.clauses (new ∷ [])) i)) (let le = finds.looked in omega (arith, le));
+      witnessed = λ accepted. subst (λ (x : List TrackedClause × (List Decision × Witnessed)). AreWitnessed (clause_literals refs) x.0 (values_of x.1.0) x.1.1) (λ i. (sym clauses i, (sym trail i, sym witnesses i)))
+          (witnessed_registered (clause_literals refs) q.inside.clauses (values_of q.trail) new q.witnesses finds.looked (finds.witnessed (sym anew ∙ accepted)));
+    }
+
+    -- the same clauses, but that they may be hot
+    pub finds_still : map clause_of q'.inside.clauses ≡ map clause_of q.inside.clauses → FindsFalsified refs q'
+    finds_still clauses = record {
+      candidates = candidates_still;
+      looked = looked_still (sym (length-map q'.inside.clauses clause_of) ∙ (ap length clauses ∙ length-map q.inside.clauses clause_of));
+      witnessed = λ accepted. subst (λ (x : List Decision × Witnessed). AreWitnessed (clause_literals refs) q'.inside.clauses (values_of x.0) x.1) (λ i. (sym trail i, sym witnesses i))
+          (witnessed_same (clause_literals refs) (clause_literals refs) q.inside.clauses q'.inside.clauses (values_of q.trail) q.witnesses
+          (λ n c e. (let was = at_mapped clause_of q.inside.clauses q'.inside.clauses n c (sym clauses) e in
+          (was.0, was.1, ap (λ (d : RequiresClause). d.parent) was.2, ap (λ (d : RequiresClause). d.requirement) was.2, ap (λ (d : RequiresClause). literals_in refs d.condition) was.2)))
+          (finds.witnessed (sym anew ∙ accepted)));
+    }
+
+  -- a sync, of what changed by it
+  pub finds_synced : (routed : List ℕ) (entries : List Decision) (now : Values) → q'.inside.clauses ≡ q.inside.clauses → q'.trail ≡ entries → now ≡ values_of entries →
+      (q.must_start_anew ≡ false → SameElsewhere (is_among routed) (values_of q.trail) now) →
+      (q.must_start_anew ≡ true → q'.witnesses.changed ≡ q.witnesses.changed ++ variables_of entries) →
+      (q.must_start_anew ≡ false → q'.witnesses.changed ≡ q.witnesses.changed ++ routed) → FindsFalsified refs q'
+  finds_synced routed entries now clauses trail values elsewhere anew changed = record {
+    candidates = candidates_still;
+    looked = looked_still (ap length clauses);
+    witnessed = λ accepted. subst (λ (x : List TrackedClause × List Decision). AreWitnessed (clause_literals refs) x.0 (values_of x.1) q'.witnesses) (λ i. (sym clauses i, sym trail i)) (go q.must_start_anew refl);
+  }
+    where
+      go : (b : Bool) → q.must_start_anew ≡ b → AreWitnessed (clause_literals refs) q.inside.clauses (values_of entries) q'.witnesses
+      go true e = witnessed_anew (clause_literals refs) q.inside.clauses entries q'.witnesses q.witnesses.changed (anew e)
+      go false e = subst (λ v. AreWitnessed (clause_literals refs) q.inside.clauses v q'.witnesses) values
+          (witnessed_changed (clause_literals refs) q.inside.clauses (values_of q.trail) now routed q.witnesses q'.witnesses (elsewhere e) of looked (changed e) (finds.witnessed e))
+
+-- a question, which lists requirements
+pub finds_asked : {N S A H : Type 0} (refs : References N S A) (q q' : Queue N H) → FindsFalsified refs q → KeepsListed q.inside.occurrences q'.inside.occurrences →
+    q'.inside.clauses ≡ q.inside.clauses → q'.trail ≡ q.trail → q'.must_start_anew ≡ q.must_start_anew → q'.witnesses ≡ q.witnesses → FindsFalsified refs q'
+finds_asked refs q q' finds keeps clauses trail anew witnesses =
+    finds_still refs q q' finds (ap (λ w. w.of) witnesses) (ap (λ w. w.looked) witnesses) keeps anew trail (ap (λ w. w.changed) witnesses) (ap (map clause_of) clauses)
+
+-- one disjunction more, where the literals of each clause are the same
+pub finds_with_disjunction : {N S A H : Type 0} (refs : References N S A) (q : Queue N H) (d : Disjunction A) →
+    ((n : ℕ) (c : TrackedClause) → slice_get q.inside.clauses n ≡ Some c → clause_literals refs c ≡ clause_literals (references refs.universe refs.lists (refs.disjunctions ++ d ∷ [])) c) →
+    FindsFalsified refs q → FindsFalsified (references refs.universe refs.lists (refs.disjunctions ++ d ∷ [])) q
+finds_with_disjunction refs q d same finds = record {
+  candidates = finds.candidates;
+  looked = finds.looked;
+  witnessed = λ accepted. witnessed_same (clause_literals refs) (clause_literals (references refs.universe refs.lists (refs.disjunctions ++ d ∷ []))) q.inside.clauses q.inside.clauses (values_of q.trail) q.witnesses
+      (λ n c e. (c, e, refl, refl, same n c e)) (finds.witnessed accepted);
+}
+
+-- ---- witnesses were looked for
+
+module _ {N S A H : Type 0} (refs : References N S A) (q q' : Queue N H) (finds : FindsFalsified refs q) (val : Values) (values : SameValues (values_of q.trail) val)
+    (settles : Settles refs.lists val q.inside.occurrences q'.inside.occurrences q.witnesses.of q'.witnesses.of)
+    (clauses : q'.inside.clauses ≡ q.inside.clauses) (trail : q'.trail ≡ q.trail) (anew : q'.must_start_anew ≡ q.must_start_anew) where
+  at_trail : val ≡ values_of q'.trail
+  at_trail = λ i x. (values x ∙ ap (λ ds. values_of ds x) (sym trail)) i
+
+  with_witnesses : AreWitnessed (clause_literals refs) q.inside.clauses val q'.witnesses → AreWitnessed (clause_literals refs) q'.inside.clauses (values_of q'.trail) q'.witnesses
+  with_witnesses w = subst (λ (x : List TrackedClause × Values). AreWitnessed (clause_literals refs) x.0 x.1 q'.witnesses) (λ i. (sym clauses i, at_trail i)) w
+
+  was_witnessed : q'.must_start_anew ≡ false → AreWitnessed (clause_literals refs) q.inside.clauses val q.witnesses
+  was_witnessed accepted = subst (λ v. AreWitnessed (clause_literals refs) q.inside.clauses v q.witnesses) (λ i x. sym (values x) i) (finds.witnessed (sym anew ∙ accepted))
+
+  -- for all that changed
+  pub finds_settled : AreAskable refs q.inside.clauses → q'.witnesses.looked ≡ length q.inside.clauses →
+      AreSettled refs.lists q.inside.clauses (clause_literals refs) val q.witnesses.changed q.witnesses.of q'.witnesses.of →
+      AreNewSettled refs.lists q.inside.clauses (clause_literals refs) val q.witnesses.looked q'.witnesses.of →
+      ((n : ℕ) (c : TrackedClause) → slice_get q.inside.clauses n ≡ Some c → is_falsified_in refs val c ≡ false) → FindsFalsified refs q'
+  finds_settled askable looked settled new_settled none = record {
+    candidates = settles.candidates finds.candidates;
+    looked = subst (λ (x : ℕ × List TrackedClause). x.0 ≤ length x.1) (λ i. (sym looked i, sym clauses i)) (omega arith);
+    witnessed = λ accepted. with_witnesses (witnessed_settled refs q.inside.clauses askable val q.witnesses q'.witnesses settles.better settled new_settled none (was_witnessed accepted));
+  }
+
+  -- or for some of it
+  pub finds_refused : q'.witnesses.changed ≡ q.witnesses.changed → q'.witnesses.looked ≡ q.witnesses.looked → FindsFalsified refs q'
+  finds_refused changed looked = record {
+    candidates = settles.candidates finds.candidates;
+    looked = subst (λ (x : ℕ × List TrackedClause). x.0 ≤ length x.1) (λ i. (sym looked i, sym clauses i)) finds.looked;
+    witnessed = λ accepted. with_witnesses (witnessed_refused (clause_literals refs) q.inside.clauses val q.witnesses q'.witnesses settles.better changed looked (was_witnessed accepted));
+  }
+
+  pub finds_after : {R E : Type 0} (result : Result R E) → OnOk result (q'.witnesses.looked ≡ length q.inside.clauses) →
+      OnOk result (AreSettled refs.lists q.inside.clauses (clause_literals refs) val q.witnesses.changed q.witnesses.of q'.witnesses.of) →
+      OnOk result (AreNewSettled refs.lists q.inside.clauses (clause_literals refs) val q.witnesses.looked q'.witnesses.of) →
+      OnErr result ((q'.witnesses.changed ≡ q.witnesses.changed) × (q'.witnesses.looked ≡ q.witnesses.looked)) → AreAskable refs q.inside.clauses →
+      ((n : ℕ) (c : TrackedClause) → slice_get q.inside.clauses n ≡ Some c → is_falsified_in refs val c ≡ false) → FindsFalsified refs q'
+  finds_after (Ok r) looked settled new_settled same askable none = finds_settled askable looked settled new_settled none
+  finds_after (Err e) looked settled new_settled same askable none = finds_refused same.0 same.1

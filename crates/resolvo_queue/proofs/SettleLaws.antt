@@ -1,0 +1,264 @@
+-- What looking for witnesses keeps, and what it reaches.
+use Rattle.std.proofs.Common.{◌≡◌, ℕ, zero, suc, ◌+◌, ◌<◌, ◌⊎◌, inl, inr, Bool, true, false, cond, List, [], ◌∷◌, ◌++◌, length, get_or, take, flat_map, Some, slice_get, sym, ap, refl, ◌∙◌, subst, arith}
+use Rattle.std.specs.Prelude.{Contains, IsSome}
+use Rattle.std.specs.List.{list_any}
+use Rattle.std.specs.Map.{lookup}
+use Rattle.std.proofs.lemmas.List.{take_more}
+use Rattle.std.proofs.lemmas.List.Elements.{Contains-append_left, Contains-append_right}
+use Rattle.decisions.specs.Literals.{Lit, Values, known_false}
+use Rattle.providers.specs.Requirement.{same_requirement}
+use Rattle.providers.specs.RequirementMap.{with_entry}
+use Rattle.providers.specs.declared.requirement.Requirement.{Requirement}
+use Rattle.resolvo_queue.specs.Index.{list_at}
+use Rattle.resolvo_queue.specs.Inspection.{ListsOnly}
+use Rattle.resolvo_queue.specs.Listing.{IsListedWell}
+use Rattle.resolvo_queue.specs.Occurrences.{Listed, is_listed, listing, GrowsWith, HasAll}
+use Rattle.resolvo_queue.specs.Order.{Stands, here, there}
+use Rattle.resolvo_queue.specs.References.{Lists}
+use Rattle.resolvo_queue.specs.Rows.{candidates}
+use Rattle.resolvo_queue.specs.Synced.{FindsConditions}
+use Rattle.resolvo_queue.specs.Tracked.{Tracked}
+use Rattle.resolvo_queue.specs.Witnesses.{AreCandidates, AreSettled, HasWitness, IsAsked, IsWitness, OnlyBetter, Settles, Touches, by_condition, by_parent, by_witness, witness}
+use Rattle.resolvo_queue.specs.declared.tracked_clause.TrackedClause.{TrackedClause}
+use Rattle.resolvo_queue.proofs.EntryLaws.{looked_up}
+use Rattle.resolvo_queue.proofs.ListingLaws.{candidate_has_lists, listed_more}
+use Rattle.resolvo_queue.proofs.Members.{contains_if_stands, stands_if_contains}
+use Rattle.resolvo_queue.proofs.OccurrenceLaws.{same_is, same_self}
+
+-- what one item has is among what all have
+pub among_items : {X Y : Type 0} (f : X → List Y) (xs : List X) (i : ℕ) (x : X) → i < length xs → x ≡ get_or xs i x → (y : Y) → Contains (f x) y →
+    Contains (flat_map f xs) y
+among_items f [] i x l e y s = absurd (omega (arith, l))
+among_items f (z ∷ zs) zero x l e y s = Contains-append_left (f z) (flat_map f zs) y (subst (λ w. Contains (f w) y) e s)
+among_items f (z ∷ zs) (suc i) x l e y s =
+    Contains-append_right (f z) (flat_map f zs) y (among_items f zs i x (omega (arith, l)) e y s)
+
+-- what stands in one list more stands in the earlier ones, or is the last
+stands_before : {X : Type 0} (xs : List X) (x y : X) → Stands y (xs ++ x ∷ []) → Stands y xs ⊎ (y ≡ x)
+stands_before [] x _ here = inr refl
+stands_before [] x y (there s) = elim s [ ]
+stands_before (z ∷ zs) x _ here = inl here
+stands_before (z ∷ zs) x y (there s) = elim (stands_before zs x y s) [ inl b ↦ inl (there b) | inr e ↦ inr e ]
+
+-- what stands among the first ones stands among those before, or was read now
+stands_taken : {X : Type 0} (xs : List X) (i : ℕ) (d y : X) → i < length xs → Stands y (take (i + 1) xs) → Stands y (take i xs) ⊎ (y ≡ get_or xs i d)
+stands_taken xs i d y within s = stands_before (take i xs) (get_or xs i d) y (subst (Stands y) (take_more xs i d within) s)
+
+-- ---- witnesses only get better
+
+module _ (val : Values) where
+  pub better_self : (ws : List (Requirement × ℕ)) → OnlyBetter val ws ws
+  better_self ws r = inl refl
+
+  pub better_both : (a b c : List (Requirement × ℕ)) → OnlyBetter val a b → OnlyBetter val b c → OnlyBetter val a c
+  better_both a b c f g r = elim (g r) [
+    | inl e ↦ (elim (f r) [ inl d ↦ inl (e ∙ d) | inr w ↦ inr (w.0, e ∙ w.1, w.2) ])
+    | inr w ↦ inr w
+  ]
+
+  -- a witness that isn't false stays such
+  pub still_witness : (a b : List (Requirement × ℕ)) → OnlyBetter val a b → (r : Requirement) → IsWitness val (witness a r) → IsWitness val (witness b r)
+  still_witness a b f r w = elim (f r) [ inl e ↦ (w.0, e ∙ w.1, w.2) | inr n ↦ n ]
+
+-- ---- a witness comes
+
+module _ (ws : List (Requirement × ℕ)) (q : Requirement) (x : ℕ) where
+  pub own_entry : witness (with_entry ws q x) q ≡ Some x
+  own_entry = looked_up ws q x q ∙ ap (λ b. cond b (Some x) (witness ws q)) (same_self q)
+
+  pub new_entry : (cs : List ℕ) → Contains cs x → (r : Requirement) (y : ℕ) → witness (with_entry ws q x) r ≡ Some y →
+      (witness ws r ≡ Some y) ⊎ ((r ≡ q) × Contains cs y)
+  new_entry cs s r y w = go (same_requirement r q) refl
+    where
+      inner : (a b : ℕ) → Some a ≡ Some b → a ≡ b
+      inner a b h = cc
+
+      go : (b : Bool) → same_requirement r q ≡ b → (witness ws r ≡ Some y) ⊎ ((r ≡ q) × Contains cs y)
+      go true e =
+          inr (same_is r q e, subst (Contains cs) (inner x y (sym (looked_up ws q x r ∙ ap (λ b. cond b (Some x) (witness ws r)) e) ∙ w)) s)
+      go false e = inl (sym (looked_up ws q x r ∙ ap (λ b. cond b (Some x) (witness ws r)) e) ∙ w)
+
+pub better_entry : (val : Values) (ws : List (Requirement × ℕ)) (q : Requirement) (x : ℕ) → known_false (val x) ≡ false → OnlyBetter val ws (with_entry ws q x)
+better_entry val ws q x n r = go (same_requirement r q) refl
+  where
+    go : (b : Bool) → same_requirement r q ≡ b → (witness (with_entry ws q x) r ≡ witness ws r) ⊎ IsWitness val (witness (with_entry ws q x) r)
+    go true e = inr (x, looked_up ws q x r ∙ ap (λ b. cond b (Some x) (witness ws r)) e, n)
+    go false e = inl (looked_up ws q x r ∙ ap (λ b. cond b (Some x) (witness ws r)) e)
+
+module _ {A : Type 0} (lists : Lists A) (val : Values) where
+  has_still : (a b : List (Requirement × ℕ)) → OnlyBetter val a b → (r : Requirement) → HasWitness lists val a r → HasWitness lists val b r
+  has_still a b f r h some = still_witness val a b f r (h some)
+
+  -- ---- what is settled, and what is listed for it
+
+  pub settles_self : (o : Listed) (ws : List (Requirement × ℕ)) → Settles lists val o o ws ws
+  settles_self o ws = record { better = better_self val ws; candidates = λ h. h; listed = λ ts h. h }
+
+  pub settles_both : (o p q : Listed) (a b c : List (Requirement × ℕ)) → Settles lists val o p a b → Settles lists val p q b c → Settles lists val o q a c
+  settles_both o p q a b c f g = record {
+    better = better_both val a b c f.better g.better;
+    candidates = λ h. g.candidates (f.candidates h);
+    listed = λ ts h. g.listed ts (f.listed ts h);
+  }
+
+  -- a requirement is listed, or that was refused
+  module _ (r : Requirement) (entry : IsSome (lookup (same_requirement r) lists)) (o p : Listed) (grows : GrowsWith r (candidates lists r) o p) (ws : List (Requirement × ℕ)) where
+    listing_settles : ListsOnly r (candidates lists r) o p → Settles lists val o p ws ws
+    listing_settles only = record {
+      better = better_self val ws;
+      candidates = λ h q x e. (let c = h q x e in (only.kept q c.0, c.1));
+      listed = λ ts. listed_more lists r o p ts entry grows only;
+    }
+
+    pub refused_settles : p.listed ≡ o.listed → Settles lists val o p ws ws
+    refused_settles e = listing_settles (record {
+      kept = λ q h. ap (list_any (same_requirement q)) e ∙ h;
+      added = λ q h. inl (sym (ap (list_any (same_requirement q)) e) ∙ h);
+    })
+
+    pub listed_settles : HasAll r (candidates lists r) p → ((q : Requirement) → is_listed p q ≡ cond (same_requirement q r) true (is_listed o q)) →
+        Settles lists val o p ws ws
+    listed_settles all e = listing_settles (record {
+      kept = λ q h. e q ∙ still (same_requirement q r) (is_listed o q) h;
+      added = λ q h. new q (same_requirement q r) refl (sym (e q) ∙ h);
+    })
+      where
+        still : (b l : Bool) → l ≡ true → cond b true l ≡ true
+        still true l h = refl
+        still false l h = h
+
+        new : (q : Requirement) (b : Bool) → same_requirement q r ≡ b → cond (same_requirement q r) true (is_listed o q) ≡ true →
+            (is_listed o q ≡ true) ⊎ ((q ≡ r) × HasAll r (candidates lists r) p)
+        new q true s h = inr (same_is q r s, all)
+        new q false s h = inl (sym (ap (λ b. cond b true (is_listed o q)) s) ∙ h)
+
+  -- a witness is looked for of a requirement that is listed
+  pub looking_settles : (r : Requirement) (o : Listed) → is_listed o r ≡ true → (a b : List (Requirement × ℕ)) → OnlyBetter val a b →
+      ((q : Requirement) (x : ℕ) → witness b q ≡ Some x → (witness a q ≡ Some x) ⊎ ((q ≡ r) × Contains (candidates lists r) x)) → Settles lists val o o a b
+  looking_settles r o l a b better new = record {
+    better = better;
+    candidates = λ h q x e. (elim (new q x e) [
+      | inl was ↦ h q x was
+      | inr n ↦ (ap (is_listed o) n.0 ∙ l, subst (λ y. Contains (candidates lists y) x) (sym n.0) n.1)
+    ]);
+    listed = λ ts w. w;
+  }
+
+  -- or of requirements whose witness a variable is
+  pub witnessed_settles : (v : ℕ) (o : Listed) (a b : List (Requirement × ℕ)) → OnlyBetter val a b →
+      ((q : Requirement) (x : ℕ) → witness b q ≡ Some x → (witness a q ≡ Some x) ⊎ ((witness a q ≡ Some v) × Contains (candidates lists q) x)) → Settles lists val o o a b
+  witnessed_settles v o a b better new = record {
+    better = better;
+    candidates = λ h q x e. elim (new q x e) [ inl was ↦ h q x was | inr n ↦ ((h q v n.0).0, n.1) ];
+    listed = λ ts w. w;
+  }
+
+  module _ (o : Listed) (ts : List Tracked) (well : IsListedWell lists o ts) where
+    pub listing_has_lists : (v : ℕ) (r : Requirement) → Stands r (listing o v) → IsSome (lookup (same_requirement r) lists)
+    listing_has_lists v r s = candidate_has_lists lists r v (well.none_else r v (contains_if_stands (listing o v) r s))
+
+    -- a requirement is found by its witness
+    pub witness_listed : (ws : List (Requirement × ℕ)) → AreCandidates lists o ws → (v : ℕ) (r : Requirement) → witness ws r ≡ Some v → Stands r (listing o v)
+    witness_listed ws h v r e = let c = h r v e in stands_if_contains (listing o v) r (well.all r c.0 v c.1)
+
+  -- ---- the requirements whose witness a variable is
+
+  pub looked_new : (v : ℕ) (q : Requirement) (first before now : List (Requirement × ℕ)) →
+      ((r : Requirement) (x : ℕ) → witness before r ≡ Some x → (witness first r ≡ Some x) ⊎ ((witness first r ≡ Some v) × Contains (candidates lists r) x)) →
+      witness before q ≡ Some v →
+      ((r : Requirement) (x : ℕ) → witness now r ≡ Some x → (witness before r ≡ Some x) ⊎ ((r ≡ q) × Contains (candidates lists q) x)) →
+      (r : Requirement) (x : ℕ) → witness now r ≡ Some x → (witness first r ≡ Some x) ⊎ ((witness first r ≡ Some v) × Contains (candidates lists r) x)
+  looked_new v q first before now new is more r x e = elim (more r x e) [
+    | inl b ↦ new r x b
+    | inr p ↦ inr (ap (witness first) p.0 ∙ was, subst (λ y. Contains (candidates lists y) x) (sym p.0) p.1)
+  ]
+    where
+      was : witness first q ≡ Some v
+      was = elim (new q v is) [ inl e ↦ e | inr p ↦ p.0 ]
+
+  module _ (v : ℕ) (listed : List Requirement) (i : ℕ) (d : Requirement) (within : i < length listed) (first before : List (Requirement × ℕ))
+      (settled : (r : Requirement) → Stands r (take i listed) → witness first r ≡ Some v → HasWitness lists val before r) where
+    pub looked_settled : (now : List (Requirement × ℕ)) → OnlyBetter val before now → HasWitness lists val now (get_or listed i d) →
+        (r : Requirement) → Stands r (take (i + 1) listed) → witness first r ≡ Some v → HasWitness lists val now r
+    looked_settled now better has r s e = elim (stands_taken listed i d r within s) [
+      | inl b ↦ has_still before now better r (settled r b e)
+      | inr same ↦ subst (HasWitness lists val now) (sym same) has
+    ]
+
+    -- it isn't the witness any more: there is one that isn't false
+    pub passed_settled : OnlyBetter val first before → (witness before (get_or listed i d) ≡ Some v → ⊥) →
+        (r : Requirement) → Stands r (take (i + 1) listed) → witness first r ≡ Some v → HasWitness lists val before r
+    passed_settled better other r s e = elim (stands_taken listed i d r within s) [
+      | inl b ↦ settled r b e
+      | inr same ↦ λ some. elim (better r) [ inl k ↦ absurd (other (ap (witness before) (sym same) ∙ (k ∙ e))) | inr w ↦ w ]
+    ]
+
+  -- ---- clauses
+
+  module _ (clauses : List TrackedClause) (literals : TrackedClause → List Lit) where
+    -- the numbered clauses that are asked have witnesses that aren't false
+    abbrev pub HaveWitnesses : List ℕ → List (Requirement × ℕ) → Type 0
+    HaveWitnesses numbers ws =
+        (n : ℕ) (c : TrackedClause) → Stands n numbers → slice_get clauses n ≡ Some c → IsAsked literals val c → HasWitness lists val ws c.required
+
+    pub next_number : (numbers : List ℕ) (i : ℕ) → i < length numbers → (a b : List (Requirement × ℕ)) → OnlyBetter val a b →
+        HaveWitnesses (take i numbers) a → ((c : TrackedClause) → slice_get clauses (get_or numbers i 0) ≡ Some c → IsAsked literals val c → HasWitness lists val b c.required) →
+        HaveWitnesses (take (i + 1) numbers) b
+    next_number numbers i within a b f before new n c s e asked = elim (stands_taken numbers i 0 n within s) [
+      | inl was ↦ has_still a b f c.required (before n c was e asked)
+      | inr same ↦ new c (ap (slice_get clauses) (sym same) ∙ e) asked
+    ]
+
+    pub this_number : (n : ℕ) (d : TrackedClause) → slice_get clauses n ≡ Some d → (ws : List (Requirement × ℕ)) →
+        (IsAsked literals val d → HasWitness lists val ws d.required) →
+        (c : TrackedClause) → slice_get clauses n ≡ Some c → IsAsked literals val c → HasWitness lists val ws c.required
+    this_number n d f ws h c e = subst (λ x. IsAsked literals val x → HasWitness lists val ws x.required) (inner d c (sym f ∙ e)) h
+      where
+        inner : (x y : TrackedClause) → Some x ≡ Some y → x ≡ y
+        inner x y k = cc
+
+    -- the clauses of one variable: those with it as their parent, in their condition, and as the witness
+    pub settled_by : (parents conditions : List (List ℕ)) →
+        ((n : ℕ) (c : TrackedClause) → slice_get clauses n ≡ Some c → Stands n (list_at parents c.parent)) → FindsConditions clauses literals conditions →
+        (v : ℕ) (first second third now : List (Requirement × ℕ)) → OnlyBetter val first second → OnlyBetter val second third → OnlyBetter val third now →
+        HaveWitnesses (list_at parents v) second → HaveWitnesses (list_at conditions v) third →
+        ((r : Requirement) → witness third r ≡ Some v → HasWitness lists val now r) → AreSettled lists clauses literals val (v ∷ []) first now
+    settled_by parents conditions of_parent of_condition v first second third now f g h by_p by_c by_w n c e asked t = go t.0 (stands_before [] v t.0 t.1) t.2
+      where
+        only : (u : ℕ) → Stands u [] ⊎ (u ≡ v) → u ≡ v
+        only u (inl s) = elim s [ ]
+        only u (inr same) = same
+
+        go : (u : ℕ) → Stands u [] ⊎ (u ≡ v) → Touches literals first u c → HasWitness lists val now c.required
+        go u s (by_parent p) =
+            has_still second now (better_both val second third now g h) c.required
+            (by_p n c (subst (λ x. Stands n (list_at parents x)) (p ∙ only u s) (of_parent n c e)) e asked)
+        go u s (by_condition l k p) =
+            has_still third now h c.required (by_c n c (subst (λ x. Stands n (list_at conditions x)) (p ∙ only u s) (of_condition n c e l k)) e asked)
+        go u s (by_witness p) = elim (better_both val first second third f g c.required) [
+          | inl same ↦ by_w c.required (same ∙ (p ∙ ap Some (only u s)))
+          | inr w ↦ λ some. still_witness val third now h c.required w
+        ]
+
+    -- one variable more; what it finds by the first witnesses it finds by later ones, or they aren't false
+    pub next_variable : (vs : List ℕ) (i v : ℕ) → i < length vs → v ≡ get_or vs i v → (first before now : List (Requirement × ℕ)) →
+        OnlyBetter val first before → OnlyBetter val before now → AreSettled lists clauses literals val (take i vs) first before →
+        AreSettled lists clauses literals val (v ∷ []) before now → AreSettled lists clauses literals val (take (i + 1) vs) first now
+    next_variable vs i v within read first before now f g old new n c e asked t = elim (stands_taken vs i v t.0 within t.1) [
+      | inl was ↦ has_still before now g c.required (old n c e asked (t.0, was, t.2))
+      | inr same ↦ go t.0 (same ∙ sym read) t.2
+    ]
+      where
+        go : (u : ℕ) → u ≡ v → Touches literals first u c → HasWitness lists val now c.required
+        go u same (by_parent p) = new n c e asked (v, here, by_parent (p ∙ same))
+        go u same (by_condition l k p) = new n c e asked (v, here, by_condition l k (p ∙ same))
+        go u same (by_witness p) = elim (f c.required) [
+          | inl k ↦ new n c e asked (v, here, by_witness (k ∙ (p ∙ ap Some same)))
+          | inr w ↦ λ some. still_witness val before now g c.required w
+        ]
+
+  -- numbers and clauses are read as slices
+  pub slices_have : (literals : TrackedClause → List Lit) (cs ds : List TrackedClause) (ns ms : List ℕ) → cs ≡ ds → ns ≡ ms → (ws : List (Requirement × ℕ)) →
+      HaveWitnesses cs literals ns ws → HaveWitnesses ds literals ms ws
+  slices_have literals cs ds ns ms e f ws h =
+      subst (λ x. HaveWitnesses ds literals x ws) f (subst (λ x. HaveWitnesses x literals ns ws) e h)

@@ -1,0 +1,108 @@
+-- Which clauses may be falsified: a requirement isn't, as long as its witness, a variable of one of its rows, isn't false.
+use Rattle.std.specs.Prelude.{◌≡◌, ◌⊎◌, ◌<◌, ◌≤◌, ℕ, Bool, true, false, List, [], Option, Some, slice_get, length, Contains, IfSome, IsSome}
+use Rattle.std.specs.List.{list_all}
+use Rattle.std.specs.Map.{lookup}
+use Rattle.decisions.specs.Literals.{Lit, Values, variable_of, known_true, known_false}
+use Rattle.providers.specs.Requirement.{same_requirement}
+use Rattle.providers.specs.declared.requirement.Requirement.{Requirement}
+use Rattle.clauses.specs.Clauses.{condition_literals}
+use Rattle.clauses.specs.Stored.{kept_in}
+use Rattle.clauses.specs.declared.disjunction.Disjunction.{Disjunction}
+use Rattle.resolvo_queue.specs.Listing.{IsListedWell}
+use Rattle.resolvo_queue.specs.Occurrences.{Listed, is_listed}
+use Rattle.resolvo_queue.specs.Order.{Stands}
+use Rattle.resolvo_queue.specs.References.{Lists}
+use Rattle.resolvo_queue.specs.Rows.{candidates}
+use Rattle.resolvo_queue.specs.Scan.{are_literals_false}
+use Rattle.resolvo_queue.specs.Tracked.{Tracked}
+use Rattle.resolvo_queue.specs.declared.tracked_clause.TrackedClause.{TrackedClause}
+use Rattle.resolvo_queue.specs.declared.witnesses.Witnesses.{Witnesses}
+
+-- the witnesses of requirements; the variables that changed since they were last looked for, and how many clauses there were then
+pub record Witnessed : Type 0 where
+  pub of : List (Requirement × ℕ)
+  pub changed : List ℕ
+  pub looked : ℕ
+
+abbrev pub witnessed : {A : Type 0} → Witnesses A → Witnessed
+witnessed w = record { of = w.of; changed = w.changed.items; looked = w.looked }
+
+abbrev pub witness : List (Requirement × ℕ) → Requirement → Option ℕ
+witness ws r = lookup (same_requirement r) ws
+
+-- there is a witness, and it isn't false
+abbrev pub IsWitness : Values → Option ℕ → Type 0
+IsWitness val o = (x : ℕ) × (o ≡ Some x) × (known_false (val x) ≡ false)
+
+-- a witness is a candidate of its requirement, which is listed
+abbrev pub AreCandidates : {A : Type 0} → Lists A → Listed → List (Requirement × ℕ) → Type 0
+AreCandidates lists o ws =
+    (r : Requirement) (x : ℕ) → witness ws r ≡ Some x → (is_listed o r ≡ true) × Contains (candidates lists r) x
+
+module _ (literals : TrackedClause → List Lit) where
+  -- the clause is found by a variable: it is the parent, stands in the condition, or is the requirement's witness
+  pub data Touches (ws : List (Requirement × ℕ)) (v : ℕ) (c : TrackedClause) : Type 0 where
+    by_parent : c.parent ≡ v → Touches ws v c
+    by_condition : (l : Lit) → Stands l (literals c) → variable_of l ≡ v → Touches ws v c
+    by_witness : witness ws c.required ≡ Some v → Touches ws v c
+
+  -- one of the variables finds the clause
+  abbrev pub AreTouching : List (Requirement × ℕ) → List ℕ → TrackedClause → Type 0
+  AreTouching ws variables c = (v : ℕ) × Stands v variables × Touches ws v c
+
+  -- the clause came since witnesses were last looked for, or a variable that changed finds it
+  abbrev pub IsToLookAt : Witnessed → ℕ → TrackedClause → Type 0
+  IsToLookAt w n c = (w.looked ≤ n) ⊎ AreTouching w.of w.changed c
+
+  -- the parent is true, and the literals of the condition are false
+  pub record IsAsked (val : Values) (c : TrackedClause) : Type 0 where
+    pub parent : known_true (val c.parent) ≡ true
+    pub condition : are_literals_false val (literals c) ≡ true
+
+  -- each clause whose parent is true and whose condition is met has a witness that isn't false, or is to be looked at
+  abbrev pub AreWitnessed : List TrackedClause → Values → Witnessed → Type 0
+  AreWitnessed clauses val w =
+      (n : ℕ) (c : TrackedClause) → slice_get clauses n ≡ Some c → IsAsked val c →
+      IsWitness val (witness w.of c.required) ⊎ IsToLookAt w n c
+
+-- all candidates of a requirement are false
+abbrev pub are_candidates_false : {A : Type 0} → Lists A → Values → Requirement → Bool
+are_candidates_false lists val r = list_all (λ x. known_false (val x)) (candidates lists r)
+
+-- ---- how witnesses are looked for
+
+-- a witness stays, or one that isn't false comes
+abbrev pub OnlyBetter : Values → (old new : List (Requirement × ℕ)) → Type 0
+OnlyBetter val old new = (r : Requirement) → (witness new r ≡ witness old r) ⊎ IsWitness val (witness new r)
+
+-- where the requirement has a candidate that isn't false, it has a witness that isn't
+abbrev pub HasWitness : {A : Type 0} → Lists A → Values → List (Requirement × ℕ) → Requirement → Type 0
+HasWitness lists val ws r = are_candidates_false lists val r ≡ false → IsWitness val (witness ws r)
+
+-- each clause that one of the variables finds, whose parent is true and whose condition is met, has a witness that isn't false
+-- where its requirement has a candidate that isn't
+abbrev pub AreSettled : {A : Type 0} → Lists A → List TrackedClause → (TrackedClause → List Lit) → Values → List ℕ → (old new : List (Requirement × ℕ)) → Type 0
+AreSettled lists clauses literals val variables old new =
+    (n : ℕ) (c : TrackedClause) → slice_get clauses n ≡ Some c → IsAsked literals val c → AreTouching literals old variables c →
+    HasWitness lists val new c.required
+
+-- each clause from a number on, whose parent is true and whose condition is met, has one where its requirement has such a candidate
+abbrev pub AreNewSettled : {A : Type 0} → Lists A → List TrackedClause → (TrackedClause → List Lit) → Values → (looked : ℕ) → List (Requirement × ℕ) → Type 0
+AreNewSettled lists clauses literals val looked ws =
+    (n : ℕ) (c : TrackedClause) → looked ≤ n → slice_get clauses n ≡ Some c → IsAsked literals val c → HasWitness lists val ws c.required
+
+-- the literals of a clause's condition
+abbrev pub literals_by : {A : Type 0} → List (Disjunction A) → TrackedClause → List Lit
+literals_by disjunctions c = condition_literals (kept_in [] [] disjunctions) c.condition
+
+-- the disjunction of each clause's condition is there, and lists of its requirement
+abbrev pub HaveEntries : {A : Type 0} → Lists A → List (Disjunction A) → List TrackedClause → Type 0
+HaveEntries lists disjunctions clauses =
+    (n : ℕ) (c : TrackedClause) → slice_get clauses n ≡ Some c →
+    IfSome c.condition (λ d. d < length disjunctions) × IsSome (lookup (same_requirement c.required) lists)
+
+-- witnesses are looked for, and for it requirements are listed
+pub record Settles {A : Type 0} (lists : Lists A) (val : Values) (o o' : Listed) (ws ws' : List (Requirement × ℕ)) : Type 0 where
+  pub better : OnlyBetter val ws ws'
+  pub candidates : AreCandidates lists o ws → AreCandidates lists o' ws'
+  pub listed : (ts : List Tracked) → IsListedWell lists o ts → IsListedWell lists o' ts

@@ -1,0 +1,96 @@
+//! A `Decide` asks for no memory where a clause is falsified.
+use crate::listed::lists_of;
+use crate::obeys::Obeys;
+use crate::script::{Example, clause};
+use crate::stores::dense_commands;
+use providers::{DependencyProvider, Interner};
+use refusing::Refusing;
+use resolvo_store::{ClauseStore, Command, Reply};
+use std::alloc::{Allocator, Global};
+use std::test::Fail;
+use test_checks::is_same;
+use typed_ids::{ClauseId, StoreError};
+
+/// What a last `Decide` replies and takes.
+#[derive(Clone, Copy, Debug, PartialEq, Eq)]
+struct Decided {
+    falsified: Option<ClauseId>,
+    asks_for_memory: bool,
+}
+
+/// The commands, and a `Decide` behind them.
+fn last_reply<N, S, A: Allocator, T: Obeys<N, S, A>>(
+    store: &mut T,
+    commands: &[Command<N, S, A>],
+    heap: &Refusing<Global>,
+) -> Decided {
+    for command in commands {
+        drop(store.obey(command));
+    }
+    heap.arm(1);
+    let reply = store.obey(&Command::Decide);
+    let asks_for_memory = !heap.is_armed();
+    heap.arm(0);
+    let falsified = match &reply {
+        Reply::Falsified(clause) => Some(*clause),
+        _ => None,
+    };
+    drop(reply);
+    Decided {
+        falsified,
+        asks_for_memory,
+    }
+}
+
+/// What a new store replies.
+fn new_decided<D: DependencyProvider + Drop>(
+    alloc: D::Alloc,
+    provider: D,
+    commands: &[Command<D::NameId, D::SolvableId, D::Alloc>],
+    heap: &Refusing<Global>,
+) -> Result<Decided, StoreError> {
+    let mut store = ClauseStore::new(alloc, provider)?;
+    let seen = last_reply(&mut store, commands, heap);
+    drop(store);
+    Ok(seen)
+}
+
+fn dense_decided(rt: &impl AllocGlobal, example: Example) -> Result<Decided, StoreError> {
+    let heap = Refusing::new(rt.alloc());
+    let seen = dense_trial(&heap, example);
+    drop(heap);
+    seen
+}
+
+fn dense_trial(heap: &Refusing<Global>, example: Example) -> Result<Decided, StoreError> {
+    let commands = dense_commands(heap, example)?;
+    let provider = lists_of(heap, example)?;
+    let seen = new_decided(heap, provider, commands.as_slice(), heap);
+    drop(commands);
+    seen
+}
+
+/// Falsified by a candidate, by none, and by a condition that came to hold after a decision was asked for; and where nothing
+/// is falsified, memory is asked for.
+#[test]
+fn a_falsified_decide_asks_for_no_memory(rt: HostRuntime) -> Result<(), Fail> {
+    let falsified = Decided {
+        falsified: Some(clause(1)),
+        asks_for_memory: false,
+    };
+    for example in [
+        Example::FalsifiedAfterRoot,
+        Example::NoCandidatesAfterRoot,
+        Example::ConditionFalsified,
+    ] {
+        is_same(dense_decided(&rt, example), Ok(falsified))?;
+    }
+    let undecided = Decided {
+        falsified: None,
+        asks_for_memory: true,
+    };
+    is_same(
+        dense_decided(&rt, Example::ConditionUndecided),
+        Ok(undecided),
+    )
+}
