@@ -1,1 +1,3 @@
+mod TrackedLemmas
 pub mod TruthLaws
+mod WalkLaws

@@ -1,5 +1,8 @@
-//! Callers that conclude laws: of the trail's floor, from the definitions of its calls, which are the contracts of
-//! `DecisionTracker`; and of what a clause that requires says, from the contract of `Clause::literals`.
+//! Callers that conclude laws from public contracts alone: of the trail's floor, from the definitions of its calls, which
+//! are the contracts of `DecisionTracker`; of what a clause that requires says, from the contract of `Clause::literals`; of
+//! what a new clause watches (`clause_laws`); of watch lists, with a walk over one that stands however they are kept
+//! (`watch_laws`, `walks`); and of variables that are tracked together with all their clauses (`tracked`). `computed` is what the
+//! definitions compute.
 #![tactic(auto)]
 
 ghost use Rattle.std.specs.Prelude.{IfOk};
@@ -7,12 +10,23 @@ ghost use Rattle.decisions.specs.Floor.{FloorIsLeast};
 ghost use Rattle.clauses.specs.Stored.{kept_in};
 ghost use Rattle.clause_callers.specs.Truth.{RequiresSays};
 
+mod clause_laws;
+mod computed;
+mod tracked;
+mod walks;
+mod watch_laws;
+
+pub use clause_laws::{are_equal, first_watches_are_two};
 use clauses::{Clause, Disjunction};
+pub use computed::examples;
 use decisions::Literal;
 use id_storage::Arena;
 use providers::RequirementMap;
 use std::alloc::Allocator;
+pub use tracked::TrackedVariables;
 use typed_ids::{DisjunctionId, LearntClauseId, StoreError, VariableId};
+pub use walks::{Rewatch, walk};
+pub use watch_laws::{cursors_are_walks, records_may_grow, room_may_be_left};
 
 /// The floor that `DecisionTracker::take_sync_floor` answers is the least number of decisions that there were since it
 /// was last taken, whatever calls came between.

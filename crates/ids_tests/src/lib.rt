@@ -8,6 +8,8 @@ mod chosen;
 #[cfg(test)]
 mod ids;
 #[cfg(test)]
+mod kept;
+#[cfg(test)]
 mod mapping;
 #[cfg(test)]
 mod maps;

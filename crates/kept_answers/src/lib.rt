@@ -5,7 +5,5 @@
 #![tactic(auto)]
 
 mod kept_answers;
-#[cfg(test)]
-mod tests;
 
 pub use kept_answers::KeptAnswers;

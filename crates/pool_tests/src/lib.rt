@@ -1,6 +1,9 @@
-//! Tests of the pool, of requirements and of their maps. The callers that they run are in `pool_callers`.
+//! Tests of the pool, of requirements and of their maps, and of conditions (`conditions`). The callers that they run are in
+//! `pool_callers`.
 #![tactic(auto)]
 
+#[cfg(test)]
+mod conditions;
 #[cfg(test)]
 mod maps;
 #[cfg(test)]

@@ -19,26 +19,29 @@ fn tracked<N: SolverId<A>, A: Allocator + Copy>(
     alloc: A,
     names: [N; 2],
 ) -> Result<[bool; 7], StoreError> {
-    let [first, second] = names;
     let mut trackers = NameTrackers::new(alloc);
+    let mut clauses = Vec::new(alloc);
+    let seen = track_each(&mut trackers, &mut clauses, names);
+    drop(clauses);
+    drop(trackers);
+    seen
+}
+
+fn track_each<N: SolverId<A>, A: Allocator + Copy>(
+    trackers: &mut NameTrackers<N, A>,
+    clauses: &mut Vec<(VariableId, VariableId, bool), A>,
+    [first, second]: [N; 2],
+) -> Result<[bool; 7], StoreError> {
     let one = VariableId::from_index(1);
     let two = VariableId::from_index(2);
+    let three = VariableId::from_index(3);
     let helper = VariableId::from_index(8);
-    let needed = [
-        track(&mut trackers, first, one, helper)?,
-        track(&mut trackers, first, two, helper)?,
-        track(
-            &mut trackers,
-            first,
-            VariableId::from_index(3),
-            VariableId::from_index(9),
-        )?,
-        track(&mut trackers, second, one, helper)?,
-    ];
-    let mut clauses = Vec::new(alloc);
-    trackers.clauses_for(second, two, Some(helper), &mut clauses)?;
+    let a = track(trackers, first, one, helper)?;
+    let b = track(trackers, first, two, helper)?;
+    let c = track(trackers, first, three, VariableId::from_index(9))?;
+    let d = track(trackers, second, one, helper)?;
+    trackers.clauses_for(second, two, Some(helper), clauses)?;
     let wanted = [(one, helper, false), (two, helper, true)];
-    let [a, b, c, d] = needed;
     Ok([
         a,
         b,
@@ -46,9 +49,7 @@ fn tracked<N: SolverId<A>, A: Allocator + Copy>(
         d,
         trackers.is_tracked(first, two),
         trackers.is_tracked(second, two),
-        clauses.get(0).copied() == Some(wanted[0])
-            && clauses.get(1).copied() == Some(wanted[1])
-            && clauses.len() == 2,
+        clauses.as_slice() == wanted.as_slice(),
     ])
 }
 
@@ -71,15 +72,24 @@ fn scored<N: SolverId<A>, A: Allocator + Copy>(
     alloc: A,
     names: [N; 2],
 ) -> Result<[[u64; 3]; 3], StoreError> {
-    let [first, second] = names;
     let mut scores = Scores::new(alloc);
-    bump(&mut scores, first, 5)?;
-    bump(&mut scores, second, 3)?;
-    let bumped = seen(&scores, names);
+    let seen = bump_each(&mut scores, names);
+    drop(scores);
+    seen
+}
+
+fn bump_each<N: SolverId<A>, A: Allocator + Copy>(
+    scores: &mut Scores<N, A>,
+    names: [N; 2],
+) -> Result<[[u64; 3]; 3], StoreError> {
+    let [first, second] = names;
+    bump(scores, first, 5)?;
+    bump(scores, second, 3)?;
+    let bumped = seen(scores, names);
     scores.decay(1, 2);
-    let decayed = seen(&scores, names);
-    bump(&mut scores, second, u64::MAX)?;
-    Ok([bumped, decayed, seen(&scores, names)])
+    let decayed = seen(scores, names);
+    bump(scores, second, u64::MAX)?;
+    Ok([bumped, decayed, seen(scores, names)])
 }
 
 #[test]

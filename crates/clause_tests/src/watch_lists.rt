@@ -1,0 +1,5 @@
+//! The watch lists: their calls in ample memory, and those that take memory where it is refused.
+
+mod ample;
+mod refused;
+mod seen;

@@ -1,0 +1,7 @@
+//! Conditions: normal forms in ample memory, where memory is refused, and of conditions that are nested deep; and what is
+//! put off until its condition holds.
+
+mod deferred;
+mod nested;
+mod normal_forms;
+mod refused;

@@ -1,0 +1,130 @@
+//! Normal forms, in ample memory.
+use conditions::convert_conditions_to_dnf;
+use pool_callers::is_met;
+use providers::Interner;
+use script_packages::read_catalogue;
+use std::alloc::Allocator;
+use std::test::Fail;
+use test_checks::sees;
+use typed_ids::{ConditionId, StoreError, VersionSetId};
+
+/// The version sets `a`, `b` and `c`, and conditions over them: 0 to 2 are the sets; 3 is `a and b`, 4 is `c and a`, 5 is
+/// `3 or 4`; 6 is `a or b`, 7 is `c or a`, 8 is `6 and 7`, 9 is `6 and c`.
+pub(crate) const CATALOGUE: &[u8] =
+    b"package p 1 2 3\nset p 1 2\nset p 2 3\nset p 3 4\ncondition set 0\ncondition set 1\ncondition set 2\ncondition and 0 1\ncondition and 2 0\ncondition or 3 4\ncondition or 0 1\ncondition or 2 0\ncondition and 6 7\ncondition and 6 2\nbegin\n";
+
+const A: Option<VersionSetId> = Some(VersionSetId(0));
+
+const B: Option<VersionSetId> = Some(VersionSetId(1));
+
+const C: Option<VersionSetId> = Some(VersionSetId(2));
+
+/// The lists of a normal form, each with its version sets; none past an end.
+pub(crate) type Form = [Option<[Option<VersionSetId>; 3]>; 5];
+
+/// `a or b`, and `c or a`.
+const SIXTH_AND_SEVENTH: Form = [
+    Some([A, C, None]),
+    Some([A, A, None]),
+    Some([B, C, None]),
+    Some([B, A, None]),
+    None,
+];
+
+#[test]
+fn conditions_have_their_normal_forms(rt: HostRuntime) -> Result<(), Fail> {
+    match read_catalogue(rt.alloc(), CATALOGUE) {
+        Ok(Some(catalogue)) => {
+            let seen = forms(rt.alloc(), &catalogue.packages);
+            drop(catalogue);
+            sees(seen, wanted())
+        }
+        _ => Err(Fail::new("the catalogue has a begin")),
+    }
+}
+
+fn wanted() -> [Form; 4] {
+    [
+        [Some([A, None, None]), None, None, None, None],
+        [Some([A, B, None]), Some([C, A, None]), None, None, None],
+        SIXTH_AND_SEVENTH,
+        [Some([A, C, None]), Some([B, C, None]), None, None, None],
+    ]
+}
+
+/// Each of the two conditions is met where it should be, as each of the eight ways to choose version sets shows.
+#[test]
+fn normal_forms_keep_the_truth(rt: HostRuntime) -> Result<(), Fail> {
+    match read_catalogue(rt.alloc(), CATALOGUE) {
+        Ok(Some(catalogue)) => {
+            let seen = met_by_each(rt.alloc(), &catalogue.packages);
+            drop(catalogue);
+            sees(seen, true)
+        }
+        _ => Err(Fail::new("the catalogue has a begin")),
+    }
+}
+
+fn met_by_each<I: Interner, A: Allocator + Copy>(
+    alloc: A,
+    interner: &I,
+) -> Result<bool, StoreError> {
+    let (fifth, eighth) = (ConditionId::new(5), ConditionId::new(8));
+    if !interner.knows_condition(fifth) || !interner.knows_condition(eighth) {
+        return Ok(false);
+    }
+    let mut agrees = true;
+    for number in 0..8u8 {
+        let (a, b, c) = (number & 1 > 0, number & 2 > 0, number & 4 > 0);
+        let met = is_met(alloc, fifth, interner, &[a, b, c])?;
+        agrees = agrees && met == ((a && b) || (c && a));
+        let met = is_met(alloc, eighth, interner, &[a, b, c])?;
+        agrees = agrees && met == ((a || b) && (c || a));
+    }
+    Ok(agrees)
+}
+
+/// Some of the conditions, in their normal form.
+fn forms<I: Interner, A: Allocator + Copy>(
+    alloc: A,
+    interner: &I,
+) -> Result<[Form; 4], StoreError> {
+    Ok([
+        form(alloc, interner, 0)?,
+        form(alloc, interner, 5)?,
+        form(alloc, interner, 8)?,
+        form(alloc, interner, 9)?,
+    ])
+}
+
+/// The normal form of the condition of this number; nothing, if the interner doesn't know it.
+pub(crate) fn form<I: Interner, A: Allocator + Copy>(
+    alloc: A,
+    interner: &I,
+    number: u16,
+) -> Result<Form, StoreError> {
+    let condition = ConditionId::new(u32::from(number));
+    if !interner.knows_condition(condition) {
+        return Ok([None; 5]);
+    }
+    let lists = convert_conditions_to_dnf(alloc, condition, interner)?;
+    let form = seen(&lists);
+    drop(lists);
+    Ok(form)
+}
+
+fn seen<A: Allocator>(lists: &[Vec<VersionSetId, A>]) -> Form {
+    let mut form = [None; 5];
+    for place in 0..5usize {
+        form[place] = lists.get(place).map(|list| sets(list));
+    }
+    form
+}
+
+fn sets(list: &[VersionSetId]) -> [Option<VersionSetId>; 3] {
+    let mut seen = [None; 3];
+    for place in 0..3usize {
+        seen[place] = list.get(place).copied();
+    }
+    seen
+}
