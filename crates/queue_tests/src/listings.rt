@@ -24,12 +24,15 @@ fn listed_by_their_rows(rt: HostRuntime) -> Result<(), Fail> {
     sees(both_listed(rt.alloc()), BOTH)
 }
 
+/// What is seen once both are listed.
 fn both_listed<A: Allocator + Copy>(heap: A) -> Result<Seen, StoreError> {
     let lists = some_lists(heap)?;
     let mut occurrences = Occurrences::new(heap);
-    list(&lists, SET, &mut occurrences)?;
-    list(&lists, UNION, &mut occurrences)?;
-    Ok(seen(&occurrences))
+    let listed = list_both(&lists, &mut occurrences);
+    let seen = seen(&occurrences);
+    drop(occurrences);
+    drop(lists);
+    listed.map(|()| seen)
 }
 
 /// Whether a request was refused while the requirements were listed, and what is seen once they are listed again.
@@ -58,35 +61,61 @@ fn listed_again_after_a_refusal(rt: HostRuntime) -> Result<(), Fail> {
     sees(fourth, wanted)
 }
 
-/// Lists the requirements in memory that refuses the request of this number, and then once more.
+/// What is seen in memory that refuses the request of this number.
 fn listed_again(heap: &Refusing<Global>, number: u64) -> Result<Again, StoreError> {
     let lists = some_lists(heap)?;
     let mut occurrences = Occurrences::new(heap);
+    let again = list_again(heap, number, &lists, &mut occurrences);
+    drop(occurrences);
+    drop(lists);
+    again
+}
+
+/// Lists the requirements while the request of this number is refused, and then once more.
+fn list_again<A: Allocator + Copy>(
+    heap: &Refusing<Global>,
+    number: u64,
+    lists: &Lists<A>,
+    occurrences: &mut Occurrences<A>,
+) -> Result<Again, StoreError> {
     heap.arm(number);
-    let of_set = list(&lists, SET, &mut occurrences);
-    let of_union = list(&lists, UNION, &mut occurrences);
+    let of_set = list(lists, SET, occurrences);
+    let of_union = list(lists, UNION, occurrences);
     heap.arm(0);
-    list(&lists, SET, &mut occurrences)?;
-    list(&lists, UNION, &mut occurrences)?;
+    list_both(lists, occurrences)?;
     let refused = Err(StoreError::OutOfMemory);
     Ok(Again {
         is_refused: of_set == refused || of_union == refused,
-        seen: seen(&occurrences),
+        seen: seen(occurrences),
     })
 }
 
+/// The lists of each requirement.
+type Lists<A> = RequirementMap<Vec<Vec<VariableId, A>, A>, A>;
+
 /// The lists of the set and of the union.
-fn some_lists<A: Allocator + Copy>(
-    heap: A,
-) -> Result<RequirementMap<Vec<Vec<VariableId, A>, A>, A>, StoreError> {
+fn some_lists<A: Allocator + Copy>(heap: A) -> Result<Lists<A>, StoreError> {
     let mut lists = RequirementMap::new(heap);
-    let mut of_set = Vec::new(heap);
-    of_set.push(list_of(heap, &[1, 2, 2])?)?;
-    let mut of_union = Vec::new(heap);
-    of_union.push(list_of(heap, &[2])?)?;
-    of_union.push(list_of(heap, &[3, 1])?)?;
-    lists.insert(SET, of_set)?;
-    lists.insert(UNION, of_union)?;
+    match add_lists(heap, &mut lists) {
+        Ok(()) => Ok(lists),
+        Err(error) => Err(error),
+    }
+}
+
+fn add_lists<A: Allocator + Copy>(heap: A, lists: &mut Lists<A>) -> Result<(), StoreError> {
+    lists.insert(SET, lists_of(heap, &[&[1, 2, 2]])?)?;
+    lists.insert(UNION, lists_of(heap, &[&[2], &[3, 1]])?)?;
+    Ok(())
+}
+
+fn lists_of<A: Allocator + Copy>(
+    heap: A,
+    given: &[&[u8]],
+) -> Result<Vec<Vec<VariableId, A>, A>, StoreError> {
+    let mut lists = Vec::new(heap);
+    for indexes in given {
+        lists.push(list_of(heap, indexes)?)?;
+    }
     Ok(lists)
 }
 
@@ -102,9 +131,18 @@ fn variable(index: u8) -> VariableId {
     VariableId::from_index(usize::from(index))
 }
 
+/// Reads the rows of both requirements.
+fn list_both<A: Allocator + Copy>(
+    lists: &Lists<A>,
+    occurrences: &mut Occurrences<A>,
+) -> Result<(), StoreError> {
+    list(lists, SET, occurrences)?;
+    list(lists, UNION, occurrences)
+}
+
 /// Reads the rows of a requirement that has lists.
 fn list<A: Allocator + Copy>(
-    lists: &RequirementMap<Vec<Vec<VariableId, A>, A>, A>,
+    lists: &Lists<A>,
     requirement: Requirement,
     occurrences: &mut Occurrences<A>,
 ) -> Result<(), StoreError> {

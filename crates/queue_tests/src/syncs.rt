@@ -5,7 +5,7 @@ use clauses::Disjunction;
 use decisions::{Decision, DecisionTracker};
 use id_storage::Arena;
 use plain_providers::Lists;
-use providers::Requirement;
+use providers::{DependencyProvider, Requirement};
 use refusing::Refusing;
 use resolvo_queue::DecideQueue;
 use std::alloc::{Allocator, Global};
@@ -31,20 +31,40 @@ fn calls_in_ample_memory(rt: HostRuntime) -> Result<(), Fail> {
         len: 2,
         is_full: false,
     };
-    sees(answered_by_new(rt.alloc()), wanted)
+    let names = [NameId::from_raw(0)];
+    sees(answered_by_new::<Lists<Global>>(rt.alloc(), &names), wanted)
 }
 
-fn answered_by_new<A: Allocator + Copy>(heap: A) -> Result<Answered, StoreError> {
-    let mut queue: DecideQueue<Lists<A>> = DecideQueue::new(heap);
+fn answered_by_new<D: DependencyProvider>(
+    heap: D::Alloc,
+    names: &[D::NameId],
+) -> Result<Answered, StoreError> {
+    let mut queue: DecideQueue<D> = DecideQueue::new(heap);
     let mut trail = DecisionTracker::new(heap);
     let disjunctions = Arena::new(heap);
+    let answered = make_each_call(&mut queue, &mut trail, names, &disjunctions);
+    drop(disjunctions);
+    drop(trail);
+    drop(queue);
+    answered
+}
+
+/// What a queue answers in the end, of which each call is made.
+fn make_each_call<D: DependencyProvider>(
+    queue: &mut DecideQueue<D>,
+    trail: &mut DecisionTracker<D::Alloc>,
+    names: &[D::NameId],
+    disjunctions: &Arena<DisjunctionId, Disjunction<D::Alloc>, D::Alloc>,
+) -> Result<Answered, StoreError> {
     queue.set_standard_activity_params(false);
-    register(&mut queue, 0, &disjunctions)?;
-    sync_anew(&mut queue, &trail)?;
-    decide(&mut trail, 0)?;
-    queue.mark_name_hot(NameId::from_raw(0))?;
-    register(&mut queue, 1, &disjunctions)?;
-    sync_anew(&mut queue, &trail)?;
+    register(queue, 0, names, disjunctions)?;
+    sync_anew(queue, trail)?;
+    decide(trail, 0)?;
+    for name in names {
+        queue.mark_name_hot(*name)?;
+    }
+    register(queue, 1, names, disjunctions)?;
+    sync_anew(queue, trail)?;
     Ok(Answered {
         is_empty: queue.is_empty(),
         len: queue.len(),
@@ -56,7 +76,7 @@ fn answered_by_new<A: Allocator + Copy>(heap: A) -> Result<Answered, StoreError>
 #[test]
 fn refused_and_asked_again(rt: HostRuntime) -> Result<(), Fail> {
     let heap = Refusing::new(rt.alloc());
-    let answers = asked_again(&heap, &heap);
+    let answers = asked_again::<Lists<&Refusing<Global>>>(&heap, &heap);
     drop(heap);
     is_same(answers, Ok((Err(StoreError::OutOfMemory), Ok(()))))
 }
@@ -64,19 +84,30 @@ fn refused_and_asked_again(rt: HostRuntime) -> Result<(), Fail> {
 type Answers = (Result<(), StoreError>, Result<(), StoreError>);
 
 /// The answers of a queue in memory of which the requests are counted here.
-fn asked_again<A: Allocator + Copy>(
-    heap: A,
+fn asked_again<D: DependencyProvider>(
+    heap: D::Alloc,
     requests: &Refusing<Global>,
 ) -> Result<Answers, StoreError> {
-    let mut queue: DecideQueue<Lists<A>> = DecideQueue::new(heap);
+    let mut queue: DecideQueue<D> = DecideQueue::new(heap);
     let mut trail = DecisionTracker::new(heap);
-    decide(&mut trail, 0)?;
-    decide(&mut trail, 1)?;
+    let answers = ask_again(&mut queue, &mut trail, requests);
+    drop(trail);
+    drop(queue);
+    answers
+}
+
+fn ask_again<D: DependencyProvider>(
+    queue: &mut DecideQueue<D>,
+    trail: &mut DecisionTracker<D::Alloc>,
+    requests: &Refusing<Global>,
+) -> Result<Answers, StoreError> {
+    decide(trail, 0)?;
+    decide(trail, 1)?;
     requests.arm(1);
-    let refused = sync_anew(&mut queue, &trail);
+    let refused = sync_anew(queue, trail);
     requests.arm(0);
     trail.undo_until(1);
-    let again = sync_anew(&mut queue, &trail);
+    let again = sync_anew(queue, trail);
     Ok((refused, again))
 }
 
@@ -93,10 +124,11 @@ fn decide<A: Allocator + Copy>(
     }
 }
 
-fn register<A: Allocator + Copy>(
-    queue: &mut DecideQueue<Lists<A>>,
+fn register<D: DependencyProvider>(
+    queue: &mut DecideQueue<D>,
     index: u8,
-    disjunctions: &Arena<DisjunctionId, Disjunction<A>, A>,
+    names: &[D::NameId],
+    disjunctions: &Arena<DisjunctionId, Disjunction<D::Alloc>, D::Alloc>,
 ) -> Result<(), StoreError> {
     let requirement = Requirement::Single(VersionSetId(0));
     let clause = ClauseId::from_index(usize::from(index));
@@ -105,7 +137,7 @@ fn register<A: Allocator + Copy>(
         requirement,
         None,
         clause,
-        &[NameId::from_raw(0)],
+        names,
         disjunctions,
         None,
     )
