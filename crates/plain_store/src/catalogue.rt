@@ -2,7 +2,7 @@
 use std::alloc::{AllocError, Global};
 
 /// A solvable: a version of a package. Its number is its place in the list.
-#[derive(Clone, Copy, Debug, PartialEq, Eq)]
+#[derive(Clone, Copy)]
 pub struct Package {
     /// The package's name.
     pub name: u16,
@@ -11,7 +11,7 @@ pub struct Package {
 }
 
 /// A version set: the versions of a package from `low` to below `high`. Its number is its place in the list.
-#[derive(Clone, Copy, Debug, PartialEq, Eq)]
+#[derive(Clone, Copy)]
 pub struct VersionRange {
     /// The package's name.
     pub name: u16,

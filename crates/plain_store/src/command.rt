@@ -64,7 +64,7 @@ pub enum Helper {
 }
 
 /// A command. The names are the product's.
-#[derive(Clone, Copy, Debug, PartialEq, Eq)]
+#[derive(Clone, Copy, Debug)]
 pub enum Command {
     /// A solvable.
     Variable(u16),

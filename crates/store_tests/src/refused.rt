@@ -5,6 +5,7 @@ use crate::given::literal_of;
 use crate::listed::lists_of;
 use crate::obeys::Obeys;
 use crate::script::{Example, clause, play_of, variable};
+use crate::second::alike::is_refused;
 use crate::stores::{Way, dense_commands, sparse_commands};
 use plain_providers::{SparseLists, SparseName, SparseSolvable};
 use providers::{DependencyProvider, Interner};
@@ -37,11 +38,6 @@ struct Agreement {
     refused: usize,
     /// Whether the store and its twin told the same.
     agrees: bool,
-}
-
-/// Whether the reply is want of memory.
-fn is_refused<A: Allocator>(reply: &Reply<A>) -> bool {
-    matches!(reply, Reply::Refused(StoreError::OutOfMemory))
 }
 
 /// Whether the store answers the command so.

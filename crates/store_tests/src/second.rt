@@ -1,7 +1,8 @@
 //! A clause store beside a second, naive one: both are given lists of commands that a recurrence makes, and reply alike.
 
-mod alike;
+pub(crate) mod alike;
 mod compared;
 mod given;
 mod listed;
+mod refusals;
 mod stores;

@@ -7,6 +7,14 @@ use std::alloc::Allocator;
 use std::test::Fail;
 use typed_ids::{ClauseId, DenseIndex, StoreError, VariableId};
 
+/// Whether a request for memory may have been refused.
+#[derive(Clone, Copy, PartialEq, Eq)]
+pub(crate) enum Memory {
+    Ample,
+    /// A command that was refused for it alone is passed over.
+    Refusing,
+}
+
 /// There are replies to the commands of a list, and they are alike; else the failure shows the list's number, the first
 /// command to which they aren't, and both replies.
 pub(crate) fn are_alike<A: Allocator>(
@@ -15,7 +23,7 @@ pub(crate) fn are_alike<A: Allocator>(
     wanted: &[Plain],
 ) -> Result<(), Fail> {
     let replies = replies?;
-    match first_unlike(&replies, wanted) {
+    match first_unlike(Memory::Ample, &replies, wanted) {
         None => Ok(()),
         Some(i) => Err(Fail::new(format_args!(
             "list {list}, command {i}, {:?}: the store replied {:?}, and the second one {:?}",
@@ -27,9 +35,14 @@ pub(crate) fn are_alike<A: Allocator>(
 }
 
 /// The place of the first reply that isn't alike. There are as many as are wanted.
-fn first_unlike<A: Allocator>(replies: &[Reply<A>], wanted: &[Plain]) -> Option<usize> {
+pub(crate) fn first_unlike<A: Allocator>(
+    memory: Memory,
+    replies: &[Reply<A>],
+    wanted: &[Plain],
+) -> Option<usize> {
     for (i, (reply, wanted)) in replies.iter().zip(wanted).enumerate() {
-        if !is_alike(reply, wanted) {
+        let is_passed_over = memory == Memory::Refusing && is_refused(reply);
+        if !is_passed_over && !is_alike(reply, wanted) {
             return Some(i);
         }
     }
@@ -38,6 +51,11 @@ fn first_unlike<A: Allocator>(replies: &[Reply<A>], wanted: &[Plain]) -> Option<
     } else {
         Some(replies.len().min(wanted.len()))
     }
+}
+
+/// Whether the reply is want of memory.
+pub(crate) fn is_refused<A: Allocator>(reply: &Reply<A>) -> bool {
+    matches!(reply, Reply::Refused(StoreError::OutOfMemory))
 }
 
 /// Whether the reply is alike.

@@ -1,0 +1,144 @@
+//! The same lists in memory of which a request is refused at every few commands, so that a `Decide` is refused while
+//! its queue is brought up to date. Other commands come before the next `Decide` then, undos among them.
+use crate::obeys::Obeys;
+use crate::second::alike::{Memory, first_unlike, is_refused};
+use crate::second::given::commands_of;
+use crate::second::listed::lists_of;
+use plain_store::{Catalogue, Drawn, draw, draw_packages};
+use providers::{DependencyProvider, Interner};
+use refusing::Refusing;
+use resolvo_store::{ClauseStore, Command, Reply};
+use std::alloc::{Allocator, Global};
+use std::test::Fail;
+use test_checks::is_same;
+use typed_ids::StoreError;
+
+/// How many lists there are.
+const LISTS: u64 = 500;
+
+/// What is seen of a store that is given a list in such memory.
+#[derive(Clone, Copy, Debug, PartialEq, Eq)]
+struct Seen {
+    /// The place of the first reply that isn't alike.
+    unlike: Option<usize>,
+    /// How many commands were refused for want of memory, and how many of them were a `Decide`.
+    refused: u64,
+    refused_decides: u64,
+}
+
+/// The number of the request that is refused at the command of this place; 0 where none is.
+fn request(list: u64, place: usize) -> u64 {
+    list.wrapping_add(place as u64).wrapping_mul(3) % 8
+}
+
+/// The reply to the command, while the request of this number is refused. A refused `Decide` is left so; every other
+/// refused command is given once more, since the commands behind it count on it.
+fn reply_to<N, S, A: Allocator, T: Obeys<N, S, A>>(
+    store: &mut T,
+    command: &Command<N, S, A>,
+    (heap, number): (&Refusing<Global>, u64),
+    seen: &mut Seen,
+) -> Reply<A> {
+    heap.arm(number);
+    let reply = store.obey(command);
+    heap.arm(0);
+    if !is_refused(&reply) {
+        return reply;
+    }
+    seen.refused = seen.refused.saturating_add(1);
+    match command {
+        Command::Decide => {
+            seen.refused_decides = seen.refused_decides.saturating_add(1);
+            reply
+        }
+        _ => {
+            drop(reply);
+            store.obey(command)
+        }
+    }
+}
+
+/// The replies to the list of this number.
+fn replies_of<N, S, A: Allocator + Copy, T: Obeys<N, S, A>>(
+    store: &mut T,
+    (room, heap): (A, &Refusing<Global>),
+    (list, commands): (u64, &[Command<N, S, A>]),
+    seen: &mut Seen,
+) -> Result<Vec<Reply<A>, A>, StoreError> {
+    let mut replies = Vec::new(room);
+    for (place, command) in commands.iter().enumerate() {
+        let reply = reply_to(store, command, (heap, request(list, place)), seen);
+        replies.push(reply)?;
+    }
+    Ok(replies)
+}
+
+/// The replies of a new store over the provider.
+fn new_replies<D: DependencyProvider + Drop>(
+    (room, heap): (D::Alloc, &Refusing<Global>),
+    provider: D,
+    given: (u64, &[Command<D::NameId, D::SolvableId, D::Alloc>]),
+    seen: &mut Seen,
+) -> Result<Vec<Reply<D::Alloc>, D::Alloc>, StoreError> {
+    let mut store = ClauseStore::new(room, provider)?;
+    let replies = replies_of(&mut store, (room, heap), given, seen);
+    drop(store);
+    replies
+}
+
+/// What is seen of a store over the packages that is given the commands.
+fn seen_in(
+    heap: &Refusing<Global>,
+    list: u64,
+    catalogue: &Catalogue,
+    drawn: &Drawn,
+) -> Result<Seen, StoreError> {
+    let mut seen = Seen {
+        unlike: None,
+        refused: 0,
+        refused_decides: 0,
+    };
+    let commands = commands_of(heap, &drawn.commands)?;
+    let provider = lists_of(heap, catalogue)?;
+    let replies = new_replies(
+        (heap, heap),
+        provider,
+        (list, commands.as_slice()),
+        &mut seen,
+    );
+    drop(commands);
+    match replies {
+        Ok(replies) => {
+            seen.unlike = first_unlike(Memory::Refusing, &replies, &drawn.replies);
+            drop(replies);
+            Ok(seen)
+        }
+        Err(error) => Err(error),
+    }
+}
+
+/// What is seen of a store that is given the list of this number.
+fn seen_of(alloc: Global, list: u64) -> Result<Seen, StoreError> {
+    let catalogue = draw_packages(alloc, list)?;
+    let drawn = draw(alloc, list)?;
+    let heap = Refusing::new(alloc);
+    let seen = seen_in(&heap, list, &catalogue, &drawn);
+    drop(heap);
+    drop(drawn);
+    drop(catalogue);
+    seen
+}
+
+/// What isn't refused is answered as the second store answers it, which is asked for no memory.
+#[test]
+fn stores_reply_alike_after_refusals(rt: HostRuntime) -> Result<(), Fail> {
+    let mut refused: u64 = 0;
+    let mut refused_decides: u64 = 0;
+    for list in 0..LISTS {
+        let seen = seen_of(rt.alloc(), list)?;
+        is_same((list, seen.unlike), (list, None))?;
+        refused = refused.saturating_add(seen.refused);
+        refused_decides = refused_decides.saturating_add(seen.refused_decides);
+    }
+    is_same((refused > 0, refused_decides > 0), (true, true))
+}
