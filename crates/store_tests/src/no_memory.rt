@@ -70,27 +70,34 @@ fn dense_trial(heap: &Refusing<Global>, example: Example) -> Result<Decided, Sto
     seen
 }
 
-/// Falsified by a candidate, by none, and by a condition that came to hold after a decision was asked for; and where nothing
-/// is falsified, memory is asked for.
+/// A clause is falsified by a candidate, by none, and by a condition that came to hold after a decision was asked for.
+const FALSIFIED: [Example; 3] = [
+    Example::FalsifiedAfterRoot,
+    Example::NoCandidatesAfterRoot,
+    Example::ConditionFalsified,
+];
+
 #[test]
 fn a_falsified_decide_asks_for_no_memory(rt: HostRuntime) -> Result<(), Fail> {
-    let falsified = Decided {
+    for example in FALSIFIED {
+        is_falsified(&rt, example)?;
+    }
+    asks_for_memory(&rt)
+}
+
+fn is_falsified(rt: &impl AllocGlobal, example: Example) -> Result<(), Fail> {
+    let wanted = Decided {
         falsified: Some(clause(1)),
         asks_for_memory: false,
     };
-    for example in [
-        Example::FalsifiedAfterRoot,
-        Example::NoCandidatesAfterRoot,
-        Example::ConditionFalsified,
-    ] {
-        is_same(dense_decided(&rt, example), Ok(falsified))?;
-    }
-    let undecided = Decided {
+    is_same(dense_decided(rt, example), Ok(wanted))
+}
+
+/// Where nothing is falsified, memory is asked for.
+fn asks_for_memory(rt: &impl AllocGlobal) -> Result<(), Fail> {
+    let wanted = Decided {
         falsified: None,
         asks_for_memory: true,
     };
-    is_same(
-        dense_decided(&rt, Example::ConditionUndecided),
-        Ok(undecided),
-    )
+    is_same(dense_decided(rt, Example::ConditionUndecided), Ok(wanted))
 }
