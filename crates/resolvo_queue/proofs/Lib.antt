@@ -1,6 +1,7 @@
 pub mod AfterLaws
 pub mod AskableLaws
 pub mod AskedLaws
+pub mod AskingLaws
 pub mod CallerLaws
 pub mod CountLaws
 pub mod DecisionLaws

@@ -1,23 +1,17 @@
--- The version set of an eligible clause's frontier is known.
-use Rattle.std.proofs.Common.{◌≡◌, Bool, true, false, ◌&&◌, cond, List, Option, None, Some, sym, ◌∙◌, subst, IfSome}
+-- The version set of a frontier is known.
+use Rattle.std.proofs.Common.{◌≡◌, true, Option, Result, Ok, Err, sym, subst, IfSome, IfOk}
+use Rattle.decisions.specs.Literals.{Values}
 use Rattle.providers.specs.Provider.{Universe, AreUnionSetsKnown, knows_requirement, sets_of}
-use Rattle.decisions.specs.Literals.{Lit, Values, known_true}
+use Rattle.providers.specs.declared.requirement.Requirement.{Requirement}
 use Rattle.resolvo_queue.specs.declared.frontier.Frontier.{Frontier}
-use Rattle.resolvo_queue.specs.declared.tracked_clause.TrackedClause.{TrackedClause}
-use Rattle.resolvo_queue.specs.Inspection.{eligible_frontier}
 use Rattle.resolvo_queue.specs.References.{Lists}
 use Rattle.resolvo_queue.specs.Rows.{frontier, lists_loaded, loaded_rows}
-use Rattle.resolvo_queue.specs.Scan.{are_literals_false}
 use Rattle.resolvo_queue.proofs.RowLaws.{frontier-known, sets_known}
 
-pub eligible_known : {N S A : Type 0} (universe : Universe N S) (lists : Lists A) (val : Values) (literals : TrackedClause → List Lit) (c : TrackedClause)
-    (found : Option Frontier) (f : Frontier) → AreUnionSetsKnown universe → knows_requirement universe c.required ≡ true →
-    found ≡ Some f → found ≡ eligible_frontier val literals (loaded_rows universe lists) c → universe.knows_set f.set ≡ true
-eligible_known universe lists val literals c found f unions known is eligible =
-    go (known_true (val c.parent) && are_literals_false val (literals c)) (frontier val (loaded_rows universe lists c.required))
-    (frontier-known (λ v. universe.knows_set v ≡ true) val (sets_of universe c.required) (lists_loaded lists c.required)
-    (sets_known universe unions c.required known)) (sym eligible ∙ is)
-  where
-    go : (b : Bool) (o : Option Frontier) → IfSome o (λ g. universe.knows_set g.set ≡ true) → cond b o None ≡ Some f → universe.knows_set f.set ≡ true
-    go true o h e = subst (λ p. IfSome p (λ g. universe.knows_set g.set ≡ true)) e h
-    go false o h e = let bad : None ≡ Some f = e in cc
+pub frontier_set : {N S A E : Type 0} (universe : Universe N S) (lists : Lists A) (val : Values) (r : Requirement) → AreUnionSetsKnown universe → knows_requirement universe r ≡ true →
+    (result : Result (Option Frontier) E) → IfOk result (λ f. f ≡ frontier val (loaded_rows universe lists r)) →
+    IfOk result (λ f. IfSome f (λ g. universe.knows_set g.set ≡ true))
+frontier_set universe lists val r unions known (Ok f) is =
+    subst (λ o. IfSome o (λ g. universe.knows_set g.set ≡ true)) (sym is)
+    (frontier-known (λ v. universe.knows_set v ≡ true) val (sets_of universe r) (lists_loaded lists r) (sets_known universe unions r known))
+frontier_set universe lists val r unions known (Err e) is = tt

@@ -1,3 +1,4 @@
+pub mod Asking
 pub mod Falsified
 pub mod Index
 pub mod Inspection

@@ -2,26 +2,25 @@
 ghost use Rattle.std.specs.Prelude.{◌≡◌, ◌<◌, Some, None, true, false, length, slice_get, option_map, IfSome, MatchOption, IfOk, IfErr};
 ghost use Rattle.typed_ids.specs.declared.error.StoreError.TheVariants.{OutOfMemory};
 ghost use Rattle.decisions.specs.Decisions.{values_in};
-ghost use Rattle.resolvo_queue.specs.Inspection.{offer_of};
-ghost use Rattle.resolvo_queue.specs.Listing.{IsListedWell};
-ghost use Rattle.resolvo_queue.specs.Occurrences.{KeepsListed};
+ghost use Rattle.resolvo_queue.specs.Asking.{CanBeAsked, OnlyWalks};
+ghost use Rattle.resolvo_queue.specs.Inspection.{offer_of, offer_with};
 ghost use Rattle.resolvo_queue.specs.Positions.{has, is_after, IsBefore};
 ghost use Rattle.resolvo_queue.specs.Queued.{IsOfClause, set_of};
-ghost use Rattle.resolvo_queue.specs.Question.{clause_literals, AreUpTo, AreAskable};
-ghost use Rattle.resolvo_queue.specs.Ready.{AreLocated, IsReady, IsDone, ColdHasNoScore, all_picked, rest_picked, improved};
+ghost use Rattle.resolvo_queue.specs.Question.{clause_literals, AreUpTo};
+ghost use Rattle.resolvo_queue.specs.Ready.{IsDone, ColdHasNoScore, all_picked, rest_picked, improved};
 ghost use Rattle.resolvo_queue.specs.References.{references, rows_in, score_in};
-ghost use Rattle.resolvo_queue.specs.Tracked.{OwesSame, SameFound};
-ghost use Rattle.resolvo_queue.specs.WalkCounts.{WalksOnce};
 ghost use Rattle.resolvo_queue.specs.declared.candidate.Candidate.{Candidate as ACandidate};
 ghost use Rattle.resolvo_queue.specs.declared.position.Position.{Position as APosition};
-ghost use Rattle.resolvo_queue.specs.declared.tracked_clause.TrackedClause.{TrackedClause};
+ghost use Rattle.resolvo_queue.specs.declared.tracked_clause.TrackedClause.{TrackedClause as ATrackedClause};
 
 use crate::candidate::Candidate;
+use crate::frontier::Frontier;
 use crate::inspection::inspect;
 use crate::offer::Offer;
 use crate::position::Position;
 use crate::requires_clause::RequiresClause;
 use crate::row_reader::RowReader;
+use crate::tracked_clause::TrackedClause;
 use crate::tracked_clauses::TrackedClauses;
 use clauses::Disjunction;
 use decisions::DecisionMap;
@@ -42,33 +41,21 @@ fn look<I: Interner>(
     interner: &I,
 ) -> Result<Option<Candidate>, StoreError>
     requires of { IsOfClause tracked.old.index.clauses.items position }
-    requires located { AreLocated tracked.old.index.clauses.items }
-    requires askable { let refs = references (I.universe interner.now) reader.old.lists disjunctions.now in AreAskable refs tracked.old.index.clauses.items }
-    requires listed { IsListedWell reader.old.lists tracked.old.occurrences tracked.old.requirements }
-    requires ready { let refs = references (I.universe interner.now) reader.old.lists disjunctions.now in IsReady tracked.old.index.clauses.items (clause_literals refs) (rows_in refs) (values_in map.now) tracked.old.requirements tracked.old.queued }
-    ensures offers { let refs = references (I.universe interner.now) reader.old.lists disjunctions.now in IfOk result (λ o. (c : TrackedClause) → slice_get tracked.old.index.clauses.items position.number ≡ Some c → option_map (λ (b : ACandidate). b.offer) o ≡ offer_of (values_in map.now) (clause_literals refs) (rows_in refs) (score_in refs (I.NameId.Scores.value_at scores.now)) c) }
+    requires asked { CanBeAsked (references (I.universe interner.now) reader.old.lists disjunctions.now) (values_in map.now) tracked.old }
+    ensures offers { let refs = references (I.universe interner.now) reader.old.lists disjunctions.now in IfOk result (λ o. (c : ATrackedClause) → slice_get tracked.old.index.clauses.items position.number ≡ Some c → option_map (λ (b : ACandidate). b.offer) o ≡ offer_of (values_in map.now) (clause_literals refs) (rows_in refs) (score_in refs (I.NameId.Scores.value_at scores.now)) c) }
     ensures at { IfOk result (λ o. IfSome o (λ b. b.position ≡ position)) }
     ensures fewer { IfOk result (λ o. o ≡ None → has tracked.old.queued.all position ≡ true → length tracked.new.queued.all < length tracked.old.queued.all) }
-    ensures listed { IsListedWell reader.old.lists tracked.new.occurrences tracked.new.requirements }
-    ensures keeps_listed { KeepsListed tracked.old.occurrences tracked.new.occurrences }
-    ensures once { WalksOnce tracked.old.requirements tracked.new.requirements reader.old.walked reader.new.walked }
-    ensures owes { OwesSame tracked.old.requirements tracked.new.requirements }
-    ensures found { SameFound tracked.old.requirements tracked.new.requirements }
-    ensures ready { let refs = references (I.universe interner.now) reader.old.lists disjunctions.now in IsReady tracked.old.index.clauses.items (clause_literals refs) (rows_in refs) (values_in map.now) tracked.new.requirements tracked.new.queued }
-    ensures index { tracked.new.index ≡ tracked.old.index }
-    ensures only_hot { tracked.new.only_hot ≡ tracked.old.only_hot }
-    ensures trail { tracked.new.trail ≡ tracked.old.trail }
-    ensures anew { tracked.new.must_start_anew ≡ tracked.old.must_start_anew }
-    ensures lists { reader.new.lists ≡ reader.old.lists }
+    ensures asked { CanBeAsked (references (I.universe interner.now) reader.old.lists disjunctions.now) (values_in map.now) tracked.new }
+    ensures walks { OnlyWalks tracked.old tracked.new reader.old reader.new }
     ensures memory { IfErr result (λ e. e ≡ OutOfMemory) }
 {
-    let clause = tracked.index.clauses[position.number as usize];
+    let clause = &tracked.index.clauses[position.number as usize];
     let found = inspect(
         &mut tracked.requirements,
         &mut tracked.occurrences,
         reader,
         disjunctions,
-        &clause,
+        clause,
         map,
         interner,
     )?;
@@ -79,17 +66,30 @@ fn look<I: Interner>(
         }
         Some(frontier) => Ok(Some(Candidate {
             position,
-            offer: Offer {
-                clause: RequiresClause {
-                    parent: clause.parent,
-                    requirement: clause.required,
-                    condition: clause.condition,
-                    clause_id: clause.clause_id,
-                },
-                frontier,
-                score: score_of(frontier.set, scores, interner),
-            },
+            offer: offer_at(clause, frontier, scores, interner),
         })),
+    }
+}
+
+/// What an eligible clause offers, by its frontier.
+fn offer_at<I: Interner>(
+    clause: &TrackedClause,
+    frontier: Frontier,
+    scores: &<I::NameId as SolverId<I::Alloc>>::Scores,
+    interner: &I,
+) -> Offer
+    requires { (I.universe interner.now).knows_set frontier.set ≡ true }
+    ensures { result ≡ offer_with (λ set. I.NameId.Scores.value_at scores.now ((I.universe interner.now).set_name set)) clause.now frontier }
+{
+    Offer {
+        clause: RequiresClause {
+            parent: clause.parent,
+            requirement: clause.required,
+            condition: clause.condition,
+            clause_id: clause.clause_id,
+        },
+        frontier,
+        score: score_of(frontier.set, scores, interner),
     }
 }
 
@@ -102,23 +102,11 @@ fn first_eligible<I: Interner>(
     scores: &<I::NameId as SolverId<I::Alloc>>::Scores,
     interner: &I,
 ) -> Result<Option<Candidate>, StoreError>
-    requires located { AreLocated tracked.old.index.clauses.items }
-    requires askable { let refs = references (I.universe interner.now) reader.old.lists disjunctions.now in AreAskable refs tracked.old.index.clauses.items }
-    requires listed { IsListedWell reader.old.lists tracked.old.occurrences tracked.old.requirements }
-    requires ready { let refs = references (I.universe interner.now) reader.old.lists disjunctions.now in IsReady tracked.old.index.clauses.items (clause_literals refs) (rows_in refs) (values_in map.now) tracked.old.requirements tracked.old.queued }
+    requires asked { CanBeAsked (references (I.universe interner.now) reader.old.lists disjunctions.now) (values_in map.now) tracked.old }
     ensures picked { let refs = references (I.universe interner.now) reader.old.lists disjunctions.now in IfOk result (λ o. let picked = all_picked tracked.old.index.clauses.items (clause_literals refs) (rows_in refs) (values_in map.now) (score_in refs (I.NameId.Scores.value_at scores.now)) in
         MatchOption o (picked ≡ None) (λ b. picked ≡ rest_picked tracked.old.index.clauses.items (clause_literals refs) (rows_in refs) (values_in map.now) (score_in refs (I.NameId.Scores.value_at scores.now)) b.offer b.position)) }
-    ensures listed { IsListedWell reader.old.lists tracked.new.occurrences tracked.new.requirements }
-    ensures keeps_listed { KeepsListed tracked.old.occurrences tracked.new.occurrences }
-    ensures once { WalksOnce tracked.old.requirements tracked.new.requirements reader.old.walked reader.new.walked }
-    ensures owes { OwesSame tracked.old.requirements tracked.new.requirements }
-    ensures found { SameFound tracked.old.requirements tracked.new.requirements }
-    ensures ready { let refs = references (I.universe interner.now) reader.old.lists disjunctions.now in IsReady tracked.old.index.clauses.items (clause_literals refs) (rows_in refs) (values_in map.now) tracked.new.requirements tracked.new.queued }
-    ensures index { tracked.new.index ≡ tracked.old.index }
-    ensures only_hot { tracked.new.only_hot ≡ tracked.old.only_hot }
-    ensures trail { tracked.new.trail ≡ tracked.old.trail }
-    ensures anew { tracked.new.must_start_anew ≡ tracked.old.must_start_anew }
-    ensures lists { reader.new.lists ≡ reader.old.lists }
+    ensures asked { CanBeAsked (references (I.universe interner.now) reader.old.lists disjunctions.now) (values_in map.now) tracked.new }
+    ensures walks { OnlyWalks tracked.old tracked.new reader.old reader.new }
     ensures memory { IfErr result (λ e. e ≡ OutOfMemory) }
 {
     while let Some(position) = tracked.queued.first() {
@@ -172,22 +160,10 @@ fn better_of<I: Interner>(
     interner: &I,
 ) -> Result<Candidate, StoreError>
     requires of { IsOfClause tracked.old.index.clauses.items position }
-    requires located { AreLocated tracked.old.index.clauses.items }
-    requires askable { let refs = references (I.universe interner.now) reader.old.lists disjunctions.now in AreAskable refs tracked.old.index.clauses.items }
-    requires listed { IsListedWell reader.old.lists tracked.old.occurrences tracked.old.requirements }
-    requires ready { let refs = references (I.universe interner.now) reader.old.lists disjunctions.now in IsReady tracked.old.index.clauses.items (clause_literals refs) (rows_in refs) (values_in map.now) tracked.old.requirements tracked.old.queued }
-    ensures better { let refs = references (I.universe interner.now) reader.old.lists disjunctions.now in IfOk result (λ b. (c : TrackedClause) → slice_get tracked.old.index.clauses.items position.number ≡ Some c → b.offer ≡ improved best.offer (offer_of (values_in map.now) (clause_literals refs) (rows_in refs) (score_in refs (I.NameId.Scores.value_at scores.now)) c)) }
-    ensures listed { IsListedWell reader.old.lists tracked.new.occurrences tracked.new.requirements }
-    ensures keeps_listed { KeepsListed tracked.old.occurrences tracked.new.occurrences }
-    ensures once { WalksOnce tracked.old.requirements tracked.new.requirements reader.old.walked reader.new.walked }
-    ensures owes { OwesSame tracked.old.requirements tracked.new.requirements }
-    ensures found { SameFound tracked.old.requirements tracked.new.requirements }
-    ensures ready { let refs = references (I.universe interner.now) reader.old.lists disjunctions.now in IsReady tracked.old.index.clauses.items (clause_literals refs) (rows_in refs) (values_in map.now) tracked.new.requirements tracked.new.queued }
-    ensures index { tracked.new.index ≡ tracked.old.index }
-    ensures only_hot { tracked.new.only_hot ≡ tracked.old.only_hot }
-    ensures trail { tracked.new.trail ≡ tracked.old.trail }
-    ensures anew { tracked.new.must_start_anew ≡ tracked.old.must_start_anew }
-    ensures lists { reader.new.lists ≡ reader.old.lists }
+    requires asked { CanBeAsked (references (I.universe interner.now) reader.old.lists disjunctions.now) (values_in map.now) tracked.old }
+    ensures better { let refs = references (I.universe interner.now) reader.old.lists disjunctions.now in IfOk result (λ b. (c : ATrackedClause) → slice_get tracked.old.index.clauses.items position.number ≡ Some c → b.offer ≡ improved best.offer (offer_of (values_in map.now) (clause_literals refs) (rows_in refs) (score_in refs (I.NameId.Scores.value_at scores.now)) c)) }
+    ensures asked { CanBeAsked (references (I.universe interner.now) reader.old.lists disjunctions.now) (values_in map.now) tracked.new }
+    ensures walks { OnlyWalks tracked.old tracked.new reader.old reader.new }
     ensures memory { IfErr result (λ e. e ≡ OutOfMemory) }
 {
     let parent = tracked.index.clauses[position.number as usize].parent;
@@ -225,24 +201,12 @@ pub(crate) fn next_offer<I: Interner>(
     largest: u64,
     interner: &I,
 ) -> Result<Option<Offer>, StoreError>
-    requires located { AreLocated tracked.old.index.clauses.items }
-    requires askable { let refs = references (I.universe interner.now) reader.old.lists disjunctions.now in AreAskable refs tracked.old.index.clauses.items }
-    requires listed { IsListedWell reader.old.lists tracked.old.occurrences tracked.old.requirements }
-    requires ready { let refs = references (I.universe interner.now) reader.old.lists disjunctions.now in IsReady tracked.old.index.clauses.items (clause_literals refs) (rows_in refs) (values_in map.now) tracked.old.requirements tracked.old.queued }
+    requires asked { CanBeAsked (references (I.universe interner.now) reader.old.lists disjunctions.now) (values_in map.now) tracked.old }
     requires cold { let refs = references (I.universe interner.now) reader.old.lists disjunctions.now in ColdHasNoScore tracked.old.index.clauses.items (clause_literals refs) (rows_in refs) (values_in map.now) (score_in refs (I.NameId.Scores.value_at scores.now)) }
     requires largest { let refs = references (I.universe interner.now) reader.old.lists disjunctions.now in AreUpTo largest (score_in refs (I.NameId.Scores.value_at scores.now)) }
     ensures picked { let refs = references (I.universe interner.now) reader.old.lists disjunctions.now in IfOk result (λ o. o ≡ (all_picked tracked.old.index.clauses.items (clause_literals refs) (rows_in refs) (values_in map.now) (score_in refs (I.NameId.Scores.value_at scores.now)))) }
-    ensures listed { IsListedWell reader.old.lists tracked.new.occurrences tracked.new.requirements }
-    ensures keeps_listed { KeepsListed tracked.old.occurrences tracked.new.occurrences }
-    ensures once { WalksOnce tracked.old.requirements tracked.new.requirements reader.old.walked reader.new.walked }
-    ensures owes { OwesSame tracked.old.requirements tracked.new.requirements }
-    ensures found { SameFound tracked.old.requirements tracked.new.requirements }
-    ensures ready { let refs = references (I.universe interner.now) reader.old.lists disjunctions.now in IsReady tracked.old.index.clauses.items (clause_literals refs) (rows_in refs) (values_in map.now) tracked.new.requirements tracked.new.queued }
-    ensures index { tracked.new.index ≡ tracked.old.index }
-    ensures only_hot { tracked.new.only_hot ≡ tracked.old.only_hot }
-    ensures trail { tracked.new.trail ≡ tracked.old.trail }
-    ensures anew { tracked.new.must_start_anew ≡ tracked.old.must_start_anew }
-    ensures lists { reader.new.lists ≡ reader.old.lists }
+    ensures asked { CanBeAsked (references (I.universe interner.now) reader.old.lists disjunctions.now) (values_in map.now) tracked.new }
+    ensures walks { OnlyWalks tracked.old tracked.new reader.old reader.new }
     ensures memory { IfErr result (λ e. e ≡ OutOfMemory) }
 {
     let mut best = match first_eligible(tracked, map, reader, disjunctions, scores, interner)? {

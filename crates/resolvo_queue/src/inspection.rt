@@ -98,6 +98,7 @@ pub(crate) fn inspect<I: Interner, A: Allocator + Copy>(
     requires listed { IsListedWell reader.old.lists occurrences.old requirements.old }
     requires right { (f : _) → known_at requirements.old clause.now.requirement ≡ Some f → f ≡ frontier (values_in map.now) (loaded_rows (I.universe interner.now) reader.old.lists clause.now.required) }
     ensures eligible { IfOk result (λ f. f ≡ eligible_frontier (values_in map.now) (clause_literals (references (I.universe interner.now) reader.old.lists disjunctions.now)) (loaded_rows (I.universe interner.now) reader.old.lists) clause.now) }
+    ensures set { IfOk result (λ f. IfSome f (λ g. (I.universe interner.now).knows_set g.set ≡ true)) }
     ensures possible { IfOk result (λ f. may_be (values_in map.now) (clause_literals (references (I.universe interner.now) reader.old.lists disjunctions.now)) requirements.new clause.now ≡ is_some f) }
     ensures once { WalksOnce requirements.old requirements.new reader.old.walked reader.new.walked }
     ensures learns { Learns clause.now.required clause.now.requirement (frontier (values_in map.now) (loaded_rows (I.universe interner.now) reader.old.lists clause.now.required)) requirements.old requirements.new reader.old.walked reader.new.walked }

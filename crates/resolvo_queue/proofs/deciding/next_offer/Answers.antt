@@ -2,27 +2,28 @@ use Rattle.std.proofs.Common.{◌≡◌, Some, slice_get, subst, sym, ap, ◌∙
 use Rattle.decisions.specs.Decisions.{values_in}
 use Rattle.resolvo_queue.specs.Rows.{loaded_rows}
 use Rattle.resolvo_queue.specs.Inspection.{offer_of}
-use Rattle.resolvo_queue.specs.Listing.{IsListedWell}
-use Rattle.resolvo_queue.specs.Question.{clause_literals, IsAskable}
+use Rattle.resolvo_queue.specs.Question.{clause_literals}
+use Rattle.resolvo_queue.specs.Queued.{IsOfClause}
 use Rattle.resolvo_queue.specs.References.{references, score_in}
-use Rattle.resolvo_queue.specs.Ready.{IsReady, improved}
-use Rattle.resolvo_queue.proofs.DecisionLaws.{behind_falls, done_picked, rival_of, rival_step}
+use Rattle.resolvo_queue.specs.Ready.{improved}
+use Rattle.resolvo_queue.proofs.AskingLaws.{asked_by, of_clause, only_walks_along, ready_by}
+use Rattle.resolvo_queue.proofs.DecisionLaws.{behind_falls, done_picked, rival_step}
 use Rattle.resolvo_queue.proofs.ReadyLaws.{match_none}
-use Rattle.resolvo_queue.proofs.WalkCountLaws.{walks_along}
 use Rattle.resolvo_queue.proofs.deciding.next_offer.Goals as goal
 
-pub better_of-requires-clause-askable : goal.better_of-requires-clause-askable
-better_of-requires-clause-askable g c =
-    λ n d s. subst (λ ls. IsAskable (references (g.I.Interner.universe c.args.interner.now) ls c.args.disjunctions.now) d) (sym c.loop-position.invariant.lists)
-    (c.requires.askable n d (subst (λ ix. slice_get ix.clauses.items n ≡ Some d) c.loop-position.invariant.index s))
+pub better_of-requires-clause-of : goal.better_of-requires-clause-of
+better_of-requires-clause-of g c =
+    of_clause (references (g.I.Interner.universe c.args.interner.now) c.args.reader.now.lists c.args.disjunctions.now) (values_in c.args.map.now) c.loop-position.tracked c.loop-position.invariant.asked c.loop-position.tracked.only_hot c.in-Some-next_rival.position c.in-Some-next_rival.ensures.none
+
+pub better_of-requires-clause-asked : goal.better_of-requires-clause-asked
+better_of-requires-clause-asked g c =
+    asked_by (g.I.Interner.universe c.args.interner.now) c.args.reader.now.lists c.loop-position.reader.lists c.args.disjunctions.now (values_in c.args.map.now) c.loop-position.tracked (sym c.loop-position.invariant.walks.lists) c.loop-position.invariant.asked
 
 pub loop-position-smaller : goal.loop-position-smaller
 loop-position-smaller g c =
-    behind_falls c.args.tracked.now.index.clauses.items c.requires.located c.loop-position.cursor c.in-Some-next_rival.position
-    (rival_of c.args.tracked.now.index.clauses.items (clause_literals (references (g.I.Interner.universe c.args.interner.now) c.args.reader.now.lists c.args.disjunctions.now)) (loaded_rows (g.I.Interner.universe c.args.interner.now) c.args.reader.now.lists)
-    (values_in c.args.map.now) (score_in (references (g.I.Interner.universe c.args.interner.now) c.args.reader.now.lists c.args.disjunctions.now) (g.I.NameId.Scores.IdMap.value_at c.args.scores.now)) c.requires.located c.requires.cold c.args.largest c.requires.largest
-    c.loop-position.tracked.requirements c.loop-position.tracked.queued c.loop-position.invariant.ready c.loop-position.tracked.only_hot c.loop-position.best.offer
-    c.in-Some-next_rival.position c.in-Some-next_rival.ensures.none)
+    behind_falls c.args.tracked.now.index.clauses.items c.requires.asked.located c.loop-position.cursor c.in-Some-next_rival.position
+    (subst (λ ix. IsOfClause ix.clauses.items c.in-Some-next_rival.position) c.loop-position.invariant.walks.index
+    (of_clause (references (g.I.Interner.universe c.args.interner.now) c.args.reader.now.lists c.args.disjunctions.now) (values_in c.args.map.now) c.loop-position.tracked c.loop-position.invariant.asked c.loop-position.tracked.only_hot c.in-Some-next_rival.position c.in-Some-next_rival.ensures.none))
     c.in-Some-next_rival.ensures.behind
 
 pub loop-position-preserved : goal.loop-position-preserved
@@ -33,24 +34,14 @@ loop-position-preserved g c =
     let score = score_in (references (g.I.Interner.universe c.args.interner.now) c.args.reader.now.lists c.args.disjunctions.now) (g.I.NameId.Scores.IdMap.value_at c.args.scores.now) in
     record {
       picked = c.loop-position.invariant.picked
-          ∙ rival_step c.args.tracked.now.index.clauses.items lits (loaded_rows cat c.args.reader.now.lists) val score c.requires.located c.requires.cold c.args.largest c.requires.largest
-          c.loop-position.tracked.requirements c.loop-position.tracked.queued c.loop-position.invariant.ready c.loop-position.tracked.only_hot c.loop-position.best.offer
+          ∙ rival_step c.args.tracked.now.index.clauses.items lits (loaded_rows cat c.args.reader.now.lists) val score c.requires.asked.located c.requires.cold c.args.largest c.requires.largest
+          c.loop-position.tracked.requirements c.loop-position.tracked.queued (ready_by (references (g.I.Interner.universe c.args.interner.now) c.args.reader.now.lists c.args.disjunctions.now) (values_in c.args.map.now) c.loop-position.tracked c.args.tracked.now c.loop-position.invariant.walks.index c.loop-position.invariant.asked) c.loop-position.tracked.only_hot c.loop-position.best.offer
           c.loop-position.cursor c.in-Some-next_rival.position c.in-Some-next_rival.ensures.none c.in-Some-next_rival.ensures.behind c.in-Some-next_rival.ensures.least
           c.in_ok-best.best.offer
-          (λ d s. c.in_ok-best.ensures.better d (subst (λ ix. slice_get ix.clauses.items c.in-Some-next_rival.position.number ≡ Some d) (sym c.loop-position.invariant.index) s)
-          ∙ ap (λ ls. improved c.loop-position.best.offer (offer_of val lits (loaded_rows cat ls) score d)) c.loop-position.invariant.lists);
-      ready = subst (λ ix. IsReady ix.clauses.items lits (loaded_rows cat c.args.reader.now.lists) val c.better_of.new.tracked.requirements c.better_of.new.tracked.queued) c.loop-position.invariant.index
-          (subst (λ ls. IsReady c.loop-position.tracked.index.clauses.items lits (loaded_rows cat ls) val c.better_of.new.tracked.requirements c.better_of.new.tracked.queued) c.loop-position.invariant.lists c.better_of.ensures.ready);
-      listed = subst (λ ls. IsListedWell ls c.better_of.new.tracked.occurrences c.better_of.new.tracked.requirements) c.loop-position.invariant.lists c.better_of.ensures.listed;
-      keeps_listed = λ r h. c.better_of.ensures.keeps_listed r (c.loop-position.invariant.keeps_listed r h);
-      once = walks_along _ _ _ _ _ _ c.loop-position.invariant.once c.better_of.ensures.once;
-      owes = λ k. c.better_of.ensures.owes k ∙ c.loop-position.invariant.owes k;
-      found = λ k. c.better_of.ensures.found k ∙ c.loop-position.invariant.found k;
-      index = c.better_of.ensures.index ∙ c.loop-position.invariant.index;
-      only_hot = c.better_of.ensures.only_hot ∙ c.loop-position.invariant.only_hot;
-      trail = c.better_of.ensures.trail ∙ c.loop-position.invariant.trail;
-      anew = c.better_of.ensures.anew ∙ c.loop-position.invariant.anew;
-      lists = c.better_of.ensures.lists ∙ c.loop-position.invariant.lists;
+          (λ d s. c.in_ok-best.ensures.better d (subst (λ ix. slice_get ix.clauses.items c.in-Some-next_rival.position.number ≡ Some d) (sym c.loop-position.invariant.walks.index) s)
+          ∙ ap (λ ls. improved c.loop-position.best.offer (offer_of val lits (loaded_rows cat ls) score d)) c.loop-position.invariant.walks.lists);
+      asked = asked_by (g.I.Interner.universe c.args.interner.now) c.loop-position.reader.lists c.args.reader.now.lists c.args.disjunctions.now (values_in c.args.map.now) c.better_of.new.tracked c.loop-position.invariant.walks.lists c.better_of.ensures.asked;
+      walks = only_walks_along c.args.tracked.now c.loop-position.tracked c.better_of.new.tracked c.args.reader.now c.loop-position.reader c.better_of.new.reader c.loop-position.invariant.walks c.better_of.ensures.walks;
     }
 
 pub returns-clause-picked : goal.returns-clause-picked
@@ -60,19 +51,14 @@ returns-clause-picked g c =
     let val = values_in c.args.map.now in
     let score = score_in (references (g.I.Interner.universe c.args.interner.now) c.args.reader.now.lists c.args.disjunctions.now) (g.I.NameId.Scores.IdMap.value_at c.args.scores.now) in
     sym (c.loop-position.invariant.picked
-    ∙ done_picked c.args.tracked.now.index.clauses.items lits (loaded_rows cat c.args.reader.now.lists) val score c.requires.located c.requires.cold c.args.largest c.requires.largest
-    c.loop-position.tracked.requirements c.loop-position.tracked.queued c.loop-position.invariant.ready c.loop-position.tracked.only_hot c.loop-position.best.offer c.loop-position.cursor
+    ∙ done_picked c.args.tracked.now.index.clauses.items lits (loaded_rows cat c.args.reader.now.lists) val score c.requires.asked.located c.requires.cold c.args.largest c.requires.largest
+    c.loop-position.tracked.requirements c.loop-position.tracked.queued (ready_by (references (g.I.Interner.universe c.args.interner.now) c.args.reader.now.lists c.args.disjunctions.now) (values_in c.args.map.now) c.loop-position.tracked c.args.tracked.now c.loop-position.invariant.walks.index c.loop-position.invariant.asked) c.loop-position.tracked.only_hot c.loop-position.best.offer c.loop-position.cursor
     (match_none c.next_rival.result _ _ c.in_default.is c.next_rival.ensures.none))
 
-pub better_of-requires-clause-ready : goal.better_of-requires-clause-ready
-better_of-requires-clause-ready g c =
-    let universe = g.I.Interner.universe c.args.interner.now in
-    let refs = references universe c.args.reader.now.lists c.args.disjunctions.now in
-    let val = values_in c.args.map.now in
-    subst (λ ls. IsReady c.loop-position.tracked.index.clauses.items (clause_literals refs) (loaded_rows universe ls) val c.loop-position.tracked.requirements c.loop-position.tracked.queued)
-    (sym c.loop-position.invariant.lists)
-    (subst (λ ix. IsReady ix.clauses.items (clause_literals refs) (loaded_rows universe c.args.reader.now.lists) val c.loop-position.tracked.requirements c.loop-position.tracked.queued)
-    (sym c.loop-position.invariant.index) c.loop-position.invariant.ready)
+pub returns-in_err-best-clause-asked : goal.returns-in_err-best-clause-asked
+returns-in_err-best-clause-asked g c =
+    asked_by (g.I.Interner.universe c.args.interner.now) c.loop-position.reader.lists c.args.reader.now.lists c.args.disjunctions.now (values_in c.args.map.now) c.better_of.new.tracked c.loop-position.invariant.walks.lists c.better_of.ensures.asked
 
-pub returns-in_err-best-clause-once : goal.returns-in_err-best-clause-once
-returns-in_err-best-clause-once g c = walks_along _ _ _ _ _ _ c.loop-position.invariant.once c.better_of.ensures.once
+pub returns-in_err-best-clause-walks : goal.returns-in_err-best-clause-walks
+returns-in_err-best-clause-walks g c =
+    only_walks_along c.args.tracked.now c.loop-position.tracked c.better_of.new.tracked c.args.reader.now c.loop-position.reader c.better_of.new.reader c.loop-position.invariant.walks c.better_of.ensures.walks

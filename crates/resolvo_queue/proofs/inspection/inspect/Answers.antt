@@ -1,3 +1,5 @@
+use Rattle.decisions.specs.Decisions.{values_in}
+use Rattle.resolvo_queue.proofs.OfferedLaws.{frontier_set}
 use Rattle.resolvo_queue.proofs.WalkCountLaws.{walks_nothing}
 use Rattle.resolvo_queue.proofs.inspection.inspect.Goals as goal
 
@@ -6,3 +8,8 @@ returns-in_default-clause-once g c = walks_nothing c.args.requirements.now c.arg
 
 pub returns-then-not-is_met-clause-once : goal.returns-then-not-is_met-clause-once
 returns-then-not-is_met-clause-once g c = walks_nothing c.args.requirements.now c.args.reader.now.walked
+
+pub returns-clause-set : goal.returns-clause-set
+returns-clause-set g c =
+    frontier_set (g.I.Interner.universe c.args.interner.now) c.args.reader.now.lists (values_in c.args.map.now) c.args.clause.now.required
+    (g.met.I.Interner.union_sets_known c.args.interner.now) c.requires.walkable.known c.requirement_frontier.result c.requirement_frontier.ensures.frontier

@@ -9,27 +9,26 @@ use Rattle.resolvo_queue.specs.References.{CanWalk, literals_in, references, row
 use Rattle.resolvo_queue.specs.WalkCounts.{WalksOnce, owed}
 use Rattle.resolvo_queue.proofs.AfterLaws.{kept_still, order_asked, ready_asked, stands_asked}
 use Rattle.resolvo_queue.proofs.AskableLaws.{askable_tracked, cold_sets, cold_without_score}
+use Rattle.resolvo_queue.proofs.AskingLaws.{ready_by}
 use Rattle.resolvo_queue.proofs.FindingLaws.{finds_asked}
 use Rattle.resolvo_queue.proofs.PickLaws.{decides_unbeaten, none_decided}
 use Rattle.resolvo_queue.proofs.ScannedLaws.{picked_of_registered}
 use Rattle.resolvo_queue.proofs.decide_queue.DecideQueue.pick.Goals as goal
 
-pub next_offer-requires-clause-askable : goal.next_offer-requires-clause-askable
-next_offer-requires-clause-askable g c =
+pub next_offer-requires-clause-asked : goal.next_offer-requires-clause-asked
+next_offer-requires-clause-asked g c =
     let inside = c.self.inside in
     let before : Queue g.row.D-NameId.Denot g.row.D-NameId-Set.Denot = queue_of inside.tracked inside.names.items inside.hot_names inside.since.items inside.witnesses in
     let refs = references (g.D.Interner.universe c.args.provider.now) c.args.reader.now.lists c.args.disjunctions.now in
     let stands : StandsOn refs before = subst (StandsOn refs) (sym c.self.view_is) c.requires.stands in
-    askable_tracked refs inside.tracked.index.clauses.items stands.parts
-    (subst (λ (q : Queue g.row.D-NameId.Denot g.row.D-NameId-Set.Denot). All (CanWalk refs) q.clauses) (sym c.self.view_is) c.requires.walkable)
-
-pub next_offer-requires-clause-ready : goal.next_offer-requires-clause-ready
-next_offer-requires-clause-ready g c =
-    let inside = c.self.inside in
-    let before : Queue g.row.D-NameId.Denot g.row.D-NameId-Set.Denot = queue_of inside.tracked inside.names.items inside.hot_names inside.since.items inside.witnesses in
-    let refs = references (g.D.Interner.universe c.args.provider.now) c.args.reader.now.lists c.args.disjunctions.now in
-    ready_asked g.D.NameId.Set.IdSet.has refs before before c.self.invariant (subst (StandsOn refs) (sym c.self.view_is) c.requires.stands) refl refl refl
-    (values_in c.args.map.now) (subst (IsSynced (values_in c.args.map.now)) (sym c.self.view_is) c.requires.synced)
+    record {
+      located = c.self.invariant.order.located;
+      askable = askable_tracked refs inside.tracked.index.clauses.items stands.parts
+          (subst (λ (q : Queue g.row.D-NameId.Denot g.row.D-NameId-Set.Denot). All (CanWalk refs) q.clauses) (sym c.self.view_is) c.requires.walkable);
+      listed = stands.listed;
+      ready = ready_asked g.D.NameId.Set.IdSet.has refs before before c.self.invariant stands refl refl refl
+          (values_in c.args.map.now) (subst (IsSynced (values_in c.args.map.now)) (sym c.self.view_is) c.requires.synced);
+    }
 
 pub next_offer-requires-clause-cold : goal.next_offer-requires-clause-cold
 next_offer-requires-clause-cold g c =
@@ -50,8 +49,8 @@ invariant_of-self g c =
     let refs = references (g.D.Interner.universe c.args.provider.now) c.args.reader.now.lists c.args.disjunctions.now in
     kept_still g.D.NameId.Set.IdSet.has before after c.self.invariant
     (order_asked before.inside after.inside (clause_literals refs) (rows_in refs) (values_in c.args.map.now)
-    (ap (λ ix. ix.clauses.items) c.next_offer.ensures.index) (ap (λ ix. ix.by_parent) c.next_offer.ensures.index) c.next_offer.ensures.found c.next_offer.ensures.ready c.self.invariant.order)
-    (ap (λ ix. ix.clauses.items) c.next_offer.ensures.index) refl refl (inl refl)
+    (ap (λ ix. ix.clauses.items) c.next_offer.ensures.walks.index) (ap (λ ix. ix.by_parent) c.next_offer.ensures.walks.index) c.next_offer.ensures.walks.found (ready_by refs (values_in c.args.map.now) c.next_offer.new.tracked inside.tracked c.next_offer.ensures.walks.index c.next_offer.ensures.asked) c.self.invariant.order)
+    (ap (λ ix. ix.clauses.items) c.next_offer.ensures.walks.index) refl refl (inl refl)
 
 pub invariant_of-self-2 : goal.invariant_of-self-2
 invariant_of-self-2 g c =
@@ -61,8 +60,8 @@ invariant_of-self-2 g c =
     let refs = references (g.D.Interner.universe c.args.provider.now) c.args.reader.now.lists c.args.disjunctions.now in
     kept_still g.D.NameId.Set.IdSet.has before after c.self.invariant
     (order_asked before.inside after.inside (clause_literals refs) (rows_in refs) (values_in c.args.map.now)
-    (ap (λ ix. ix.clauses.items) c.next_offer.ensures.index) (ap (λ ix. ix.by_parent) c.next_offer.ensures.index) c.next_offer.ensures.found c.next_offer.ensures.ready c.self.invariant.order)
-    (ap (λ ix. ix.clauses.items) c.next_offer.ensures.index) refl refl (inl refl)
+    (ap (λ ix. ix.clauses.items) c.next_offer.ensures.walks.index) (ap (λ ix. ix.by_parent) c.next_offer.ensures.walks.index) c.next_offer.ensures.walks.found (ready_by refs (values_in c.args.map.now) c.next_offer.new.tracked inside.tracked c.next_offer.ensures.walks.index c.next_offer.ensures.asked) c.self.invariant.order)
+    (ap (λ ix. ix.clauses.items) c.next_offer.ensures.walks.index) refl refl (inl refl)
 
 pub returns-in_err-offer-clause-stands : goal.returns-in_err-offer-clause-stands
 returns-in_err-offer-clause-stands g c =
@@ -70,13 +69,13 @@ returns-in_err-offer-clause-stands g c =
     let before : Queue g.row.D-NameId.Denot g.row.D-NameId-Set.Denot = queue_of inside.tracked inside.names.items inside.hot_names inside.since.items inside.witnesses in
     let after : Queue g.row.D-NameId.Denot g.row.D-NameId-Set.Denot = queue_of c.next_offer.new.tracked inside.names.items inside.hot_names inside.since.items inside.witnesses in
     let refs = references (g.D.Interner.universe c.args.provider.now) c.args.reader.now.lists c.args.disjunctions.now in
-    let index = c.next_offer.ensures.index in
+    let index = c.next_offer.ensures.walks.index in
     let stands : StandsOn refs before = subst (StandsOn refs) (sym c.self.view_is) c.requires.stands in
     stands_asked g.D.NameId.Set.IdSet.has refs before after c.self.invariant stands
     (ap (λ ix. map clause_of ix.clauses.items) index) (ap (λ ix. ix.clauses.items) index) (ap (λ ix. ix.by_condition) index)
     (values_in c.args.map.now) (subst (IsSynced (values_in c.args.map.now)) (sym c.self.view_is) c.requires.synced)
-    (ap (λ t. t.items) c.next_offer.ensures.trail) refl c.next_offer.ensures.listed c.next_offer.ensures.ready
-    (finds_asked refs before after stands.falsified c.next_offer.ensures.keeps_listed (ap (λ ix. ix.clauses.items) index) (ap (λ t. t.items) c.next_offer.ensures.trail) c.next_offer.ensures.anew refl)
+    (ap (λ t. t.items) c.next_offer.ensures.walks.trail) refl c.next_offer.ensures.asked.listed (ready_by refs (values_in c.args.map.now) c.next_offer.new.tracked inside.tracked c.next_offer.ensures.walks.index c.next_offer.ensures.asked)
+    (finds_asked refs before after stands.falsified c.next_offer.ensures.walks.keeps_listed (ap (λ ix. ix.clauses.items) index) (ap (λ t. t.items) c.next_offer.ensures.walks.trail) c.next_offer.ensures.walks.anew refl)
 
 pub returns-clause-stands : goal.returns-clause-stands
 returns-clause-stands g c =
@@ -84,13 +83,13 @@ returns-clause-stands g c =
     let before : Queue g.row.D-NameId.Denot g.row.D-NameId-Set.Denot = queue_of inside.tracked inside.names.items inside.hot_names inside.since.items inside.witnesses in
     let after : Queue g.row.D-NameId.Denot g.row.D-NameId-Set.Denot = queue_of c.next_offer.new.tracked inside.names.items inside.hot_names inside.since.items inside.witnesses in
     let refs = references (g.D.Interner.universe c.args.provider.now) c.args.reader.now.lists c.args.disjunctions.now in
-    let index = c.next_offer.ensures.index in
+    let index = c.next_offer.ensures.walks.index in
     let stands : StandsOn refs before = subst (StandsOn refs) (sym c.self.view_is) c.requires.stands in
     stands_asked g.D.NameId.Set.IdSet.has refs before after c.self.invariant stands
     (ap (λ ix. map clause_of ix.clauses.items) index) (ap (λ ix. ix.clauses.items) index) (ap (λ ix. ix.by_condition) index)
     (values_in c.args.map.now) (subst (IsSynced (values_in c.args.map.now)) (sym c.self.view_is) c.requires.synced)
-    (ap (λ t. t.items) c.next_offer.ensures.trail) refl c.next_offer.ensures.listed c.next_offer.ensures.ready
-    (finds_asked refs before after stands.falsified c.next_offer.ensures.keeps_listed (ap (λ ix. ix.clauses.items) index) (ap (λ t. t.items) c.next_offer.ensures.trail) c.next_offer.ensures.anew refl)
+    (ap (λ t. t.items) c.next_offer.ensures.walks.trail) refl c.next_offer.ensures.asked.listed (ready_by refs (values_in c.args.map.now) c.next_offer.new.tracked inside.tracked c.next_offer.ensures.walks.index c.next_offer.ensures.asked)
+    (finds_asked refs before after stands.falsified c.next_offer.ensures.walks.keeps_listed (ap (λ ix. ix.clauses.items) index) (ap (λ t. t.items) c.next_offer.ensures.walks.trail) c.next_offer.ensures.walks.anew refl)
 
 pub returns-clause-picked : goal.returns-clause-picked
 returns-clause-picked g c =
@@ -124,15 +123,15 @@ returns-clause-unbeaten g c =
 pub returns-in_err-offer-clause-walks : goal.returns-in_err-offer-clause-walks
 returns-in_err-offer-clause-walks g c =
     subst (λ (q : Queue g.row.D-NameId.Denot g.row.D-NameId-Set.Denot). WalksOnce q.inside.requirements c.next_offer.new.tracked.requirements c.args.reader.now.walked c.next_offer.new.reader.walked)
-    c.self.view_is c.next_offer.ensures.once
+    c.self.view_is c.next_offer.ensures.walks.once
 
 pub returns-in_err-offer-clause-owed : goal.returns-in_err-offer-clause-owed
-returns-in_err-offer-clause-owed g c = λ r. c.next_offer.ensures.once.owed r ∙ ap (λ (q : Queue g.row.D-NameId.Denot g.row.D-NameId-Set.Denot). owed q r) c.self.view_is
+returns-in_err-offer-clause-owed g c = λ r. c.next_offer.ensures.walks.once.owed r ∙ ap (λ (q : Queue g.row.D-NameId.Denot g.row.D-NameId-Set.Denot). owed q r) c.self.view_is
 
 pub returns-clause-walks : goal.returns-clause-walks
 returns-clause-walks g c =
     subst (λ (q : Queue g.row.D-NameId.Denot g.row.D-NameId-Set.Denot). WalksOnce q.inside.requirements c.next_offer.new.tracked.requirements c.args.reader.now.walked c.next_offer.new.reader.walked)
-    c.self.view_is c.next_offer.ensures.once
+    c.self.view_is c.next_offer.ensures.walks.once
 
 pub returns-clause-owed : goal.returns-clause-owed
-returns-clause-owed g c = λ r. c.next_offer.ensures.once.owed r ∙ ap (λ (q : Queue g.row.D-NameId.Denot g.row.D-NameId-Set.Denot). owed q r) c.self.view_is
+returns-clause-owed g c = λ r. c.next_offer.ensures.walks.once.owed r ∙ ap (λ (q : Queue g.row.D-NameId.Denot g.row.D-NameId-Set.Denot). owed q r) c.self.view_is
