@@ -1,7 +1,6 @@
 -- What looking for witnesses keeps, and what it reaches.
 use Rattle.std.proofs.Common.{◌≡◌, ℕ, zero, suc, ◌+◌, ◌<◌, ◌⊎◌, inl, inr, Bool, true, false, cond, List, [], ◌∷◌, ◌++◌, length, get_or, take, flat_map, Some, slice_get, sym, ap, refl, ◌∙◌, subst, arith}
 use Rattle.std.specs.Prelude.{Contains, IsSome}
-use Rattle.std.specs.List.{list_any}
 use Rattle.std.specs.Map.{lookup}
 use Rattle.std.proofs.lemmas.List.{take_more}
 use Rattle.std.proofs.lemmas.List.Elements.{Contains-append_left, Contains-append_right}
@@ -12,7 +11,7 @@ use Rattle.providers.specs.declared.requirement.Requirement.{Requirement}
 use Rattle.resolvo_queue.specs.Index.{list_at}
 use Rattle.resolvo_queue.specs.Inspection.{ListsOnly}
 use Rattle.resolvo_queue.specs.Listing.{IsListedWell}
-use Rattle.resolvo_queue.specs.Occurrences.{Listed, is_listed, listing, GrowsWith, HasAll}
+use Rattle.resolvo_queue.specs.Occurrences.{Listed, is_listed, listing, GrowsWith}
 use Rattle.resolvo_queue.specs.Order.{Stands, here, there}
 use Rattle.resolvo_queue.specs.References.{Lists}
 use Rattle.resolvo_queue.specs.Rows.{candidates}
@@ -101,36 +100,14 @@ module _ {A : Type 0} (lists : Lists A) (val : Values) where
     listed = λ ts h. g.listed ts (f.listed ts h);
   }
 
-  -- a requirement is listed, or that was refused
+  -- a requirement is listed, unless it was or that is refused
   module _ (r : Requirement) (entry : IsSome (lookup (same_requirement r) lists)) (o p : Listed) (grows : GrowsWith r (candidates lists r) o p) (ws : List (Requirement × ℕ)) where
-    listing_settles : ListsOnly r (candidates lists r) o p → Settles lists val o p ws ws
+    pub listing_settles : ListsOnly r (candidates lists r) o p → Settles lists val o p ws ws
     listing_settles only = record {
       better = better_self val ws;
       candidates = λ h q x e. (let c = h q x e in (only.kept q c.0, c.1));
       listed = λ ts. listed_more lists r o p ts entry grows only;
     }
-
-    pub refused_settles : p.listed ≡ o.listed → Settles lists val o p ws ws
-    refused_settles e = listing_settles (record {
-      kept = λ q h. ap (list_any (same_requirement q)) e ∙ h;
-      added = λ q h. inl (sym (ap (list_any (same_requirement q)) e) ∙ h);
-    })
-
-    pub listed_settles : HasAll r (candidates lists r) p → ((q : Requirement) → is_listed p q ≡ cond (same_requirement q r) true (is_listed o q)) →
-        Settles lists val o p ws ws
-    listed_settles all e = listing_settles (record {
-      kept = λ q h. e q ∙ still (same_requirement q r) (is_listed o q) h;
-      added = λ q h. new q (same_requirement q r) refl (sym (e q) ∙ h);
-    })
-      where
-        still : (b l : Bool) → l ≡ true → cond b true l ≡ true
-        still true l h = refl
-        still false l h = h
-
-        new : (q : Requirement) (b : Bool) → same_requirement q r ≡ b → cond (same_requirement q r) true (is_listed o q) ≡ true →
-            (is_listed o q ≡ true) ⊎ ((q ≡ r) × HasAll r (candidates lists r) p)
-        new q true s h = inr (same_is q r s, all)
-        new q false s h = inl (sym (ap (λ b. cond b true (is_listed o q)) s) ∙ h)
 
   -- a witness is looked for of a requirement that is listed
   pub looking_settles : (r : Requirement) (o : Listed) → is_listed o r ≡ true → (a b : List (Requirement × ℕ)) → OnlyBetter val a b →

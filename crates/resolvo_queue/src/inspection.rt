@@ -26,8 +26,8 @@ use providers::{Interner, Requirement};
 use std::alloc::Allocator;
 use typed_ids::{DisjunctionId, StoreError};
 
-/// Lists a requirement that isn't listed.
-fn list_once<A: Allocator + Copy>(
+/// Lists a requirement, unless it is listed. This is the one place where rows are read for that.
+pub(crate) fn list_once<A: Allocator + Copy>(
     occurrences: &mut Occurrences<A>,
     reader: &RowReader<'_, A>,
     requirement: Requirement,
@@ -36,6 +36,7 @@ fn list_once<A: Allocator + Copy>(
     ensures grows { GrowsWith requirement (candidates reader.now.lists requirement) occurrences.old occurrences.new }
     ensures lists { ListsOnly requirement (candidates reader.now.lists requirement) occurrences.old occurrences.new }
     ensures listed { OnOk result (is_listed occurrences.new requirement ≡ true) }
+    ensures once { is_listed occurrences.old requirement ≡ true → occurrences.new ≡ occurrences.old }
     ensures memory { IfErr result (λ e. e ≡ OutOfMemory) }
 {
     if occurrences.is_listed(requirement) {

@@ -17,6 +17,7 @@ ghost use Rattle.resolvo_queue.specs.declared.tracked_clause.TrackedClause.{Trac
 
 use crate::clause_index::ClauseIndex;
 use crate::condition::is_met;
+use crate::inspection::list_once;
 use crate::looking::is_witness;
 use crate::row_reader::{Occurrences, RowReader};
 use crate::tracked_clause::TrackedClause;
@@ -102,9 +103,7 @@ fn settle_clause<A: Allocator + Copy>(
     if !is_asked(clause, map, disjunctions) {
         return Ok(());
     }
-    if !occurrences.is_listed(clause.required) {
-        reader.list(clause.required, occurrences)?;
-    }
+    list_once(occurrences, reader, clause.required)?;
     settle_requirement(witnesses, clause.required, map, reader)
 }
 
