@@ -1,5 +1,7 @@
 pub mod CacheLemmas
+pub mod FilteringLemmas
 pub mod HintLemmas
 pub mod IdLemmas
 pub mod KeptListLemmas
 pub mod ListedLemmas
+pub mod SortingLemmas

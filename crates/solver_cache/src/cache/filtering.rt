@@ -33,7 +33,14 @@ impl<D: DependencyProvider + Drop> SolverCache<D> {
                 kind: ListKind::Matching,
                 place,
             }),
-            None => self.find_matching(set),
+            None => {
+                let found = self.filtered(set, false)?;
+                let place = self.matching.insert(set, found)?;
+                Ok(ListId {
+                    kind: ListKind::Matching,
+                    place,
+                })
+            }
         }
     }
 
@@ -56,46 +63,15 @@ impl<D: DependencyProvider + Drop> SolverCache<D> {
                 kind: ListKind::NonMatching,
                 place,
             }),
-            None => self.find_non_matching(set),
+            None => {
+                let found = self.filtered(set, true)?;
+                let place = self.non_matching.insert(set, found)?;
+                Ok(ListId {
+                    kind: ListKind::NonMatching,
+                    place,
+                })
+            }
         }
-    }
-
-    /// Filters the candidates that a version set holds, and keeps them.
-    fn find_matching(&mut self, set: VersionSetId) -> Result<ListId, CacheError<D::Cancel>>
-        requires known { (D.universe self.old.provider).knows_set set ≡ true }
-        requires new { is_kept (same_set set) self.old.matching ≡ false }
-        ensures matched { OnOk result (IsMatched (⟦<D as ProviderFunctions>⟧.functions self.old.provider) D.SolvableId.Set.has self.old set self.new) }
-        ensures list { IfOk result (λ id. list_at self.new id ≡ Some (matching (D.universe self.old.provider) (D.answers self.old.provider) set)) }
-        ensures refused { IfErr result (λ e. let p = ⟦<D as ProviderFunctions>⟧.functions self.old.provider in
-            IsRefusedOf (is_set_asked p self.old set) (lacks_candidates p self.new (p.universe.set_name set)) self.old e self.new) }
-        ensures later { IsLater D.SolvableId.Set.has self.old self.new }
-        ensures asked { OnOk result (is_set_asked (⟦<D as ProviderFunctions>⟧.functions self.old.provider) self.new set ≡ true) }
-    {
-        let found = self.filtered(set, false)?;
-        let place = self.matching.insert(set, found)?;
-        Ok(ListId {
-            kind: ListKind::Matching,
-            place,
-        })
-    }
-
-    /// Filters those that it doesn't hold, and keeps them.
-    fn find_non_matching(&mut self, set: VersionSetId) -> Result<ListId, CacheError<D::Cancel>>
-        requires known { (D.universe self.old.provider).knows_set set ≡ true }
-        requires new { is_kept (same_set set) self.old.non_matching ≡ false }
-        ensures unmatched { OnOk result (IsUnmatched (⟦<D as ProviderFunctions>⟧.functions self.old.provider) D.SolvableId.Set.has self.old set self.new) }
-        ensures list { IfOk result (λ id. list_at self.new id ≡ Some (non_matching (D.universe self.old.provider) (D.answers self.old.provider) set)) }
-        ensures refused { IfErr result (λ e. let p = ⟦<D as ProviderFunctions>⟧.functions self.old.provider in
-            IsRefusedOf (is_set_asked p self.old set) (lacks_candidates p self.new (p.universe.set_name set)) self.old e self.new) }
-        ensures later { IsLater D.SolvableId.Set.has self.old self.new }
-        ensures asked { OnOk result (is_set_asked (⟦<D as ProviderFunctions>⟧.functions self.old.provider) self.new set ≡ true) }
-    {
-        let found = self.filtered(set, true)?;
-        let place = self.non_matching.insert(set, found)?;
-        Ok(ListId {
-            kind: ListKind::NonMatching,
-            place,
-        })
     }
 
     /// The candidates of its package that a version set holds, or, if `inverse`, the others.

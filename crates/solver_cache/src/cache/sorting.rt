@@ -63,34 +63,22 @@ impl<D: DependencyProvider + Drop> SolverCache<D> {
                 kind: ListKind::Sorted,
                 place,
             }),
-            None => self.sort(set),
+            None => {
+                let id = self.get_or_cache_matching_candidates(set)?;
+                let favored = self.favored(set);
+                let list = in_order(
+                    &self.provider,
+                    self.alloc,
+                    self.matching_list(set, id),
+                    favored,
+                )?;
+                let place = self.sorted.insert(Requirement::Single(set), list)?;
+                Ok(ListId {
+                    kind: ListKind::Sorted,
+                    place,
+                })
+            }
         }
-    }
-
-    /// Sorts the candidates that a version set holds, and keeps them.
-    fn sort(&mut self, set: VersionSetId) -> Result<ListId, CacheError<D::Cancel>>
-        requires known { (D.universe self.old.provider).knows_set set ≡ true }
-        requires new { is_kept (same_requirement (Single set)) self.old.sorted ≡ false }
-        ensures sorted { OnOk result (IsSorted (⟦<D as ProviderFunctions>⟧.functions self.old.provider) D.SolvableId.Set.has self.old set self.new) }
-        ensures list { IfOk result (λ id. list_at self.new id ≡ Some (sorted (D.universe self.old.provider) (D.answers self.old.provider) D.SolvableId.eq set)) }
-        ensures refused { IfErr result (λ e. let p = ⟦<D as ProviderFunctions>⟧.functions self.old.provider in
-            IsRefusedOf (is_set_asked p self.old set) (lacks_candidates p self.new (p.universe.set_name set)) self.old e self.new) }
-        ensures later { IsLater D.SolvableId.Set.has self.old self.new }
-        ensures asked { OnOk result (is_set_asked (⟦<D as ProviderFunctions>⟧.functions self.old.provider) self.new set ≡ true) }
-    {
-        let id = self.get_or_cache_matching_candidates(set)?;
-        let favored = self.favored(set);
-        let list = in_order(
-            &self.provider,
-            self.alloc,
-            self.matching_list(set, id),
-            favored,
-        )?;
-        let place = self.sorted.insert(Requirement::Single(set), list)?;
-        Ok(ListId {
-            kind: ListKind::Sorted,
-            place,
-        })
     }
 
     /// The candidates of a union.
@@ -110,28 +98,15 @@ impl<D: DependencyProvider + Drop> SolverCache<D> {
                 kind: ListKind::Sorted,
                 place,
             }),
-            None => self.join(union),
+            None => {
+                let list = self.joined(union)?;
+                let place = self.sorted.insert(Requirement::Union(union), list)?;
+                Ok(ListId {
+                    kind: ListKind::Sorted,
+                    place,
+                })
+            }
         }
-    }
-
-    /// Joins the candidates of a union's version sets, and keeps them.
-    fn join(&mut self, union: VersionSetUnionId) -> Result<ListId, CacheError<D::Cancel>>
-        requires known { (D.universe self.old.provider).knows_union union ≡ true }
-        requires new { is_kept (same_requirement (Union union)) self.old.sorted ≡ false }
-        ensures sorted { OnOk result (IsRequirementSorted (⟦<D as ProviderFunctions>⟧.functions self.old.provider) D.SolvableId.Set.has self.old (Union union) self.new) }
-        ensures list { IfOk result (λ id. list_at self.new id ≡ Some (sorted_of (⟦<D as ProviderFunctions>⟧.functions self.old.provider) (Union union))) }
-        ensures refused { IfErr result (λ e. IsRefusedOfSets (⟦<D as ProviderFunctions>⟧.functions self.old.provider)
-            ((D.universe self.old.provider).union_sets union) self.old e self.new) }
-        ensures later { IsLater D.SolvableId.Set.has self.old self.new }
-        ensures asked { OnOk result (All (λ v. is_set_asked (⟦<D as ProviderFunctions>⟧.functions self.old.provider) self.new v ≡ true)
-            ((D.universe self.old.provider).union_sets union)) }
-    {
-        let list = self.joined(union)?;
-        let place = self.sorted.insert(Requirement::Union(union), list)?;
-        Ok(ListId {
-            kind: ListKind::Sorted,
-            place,
-        })
     }
 
     /// The candidates of a union's version sets, one set after the other.
@@ -172,8 +147,10 @@ impl<D: DependencyProvider + Drop> SolverCache<D> {
         ensures fit { OnOk result (let p = ⟦<D as ProviderFunctions>⟧.functions self.old.provider in
             list_any (λ v. p.is_large_name (p.universe.set_name v)) (sets_of p.universe requirement) ≡ false) }
     {
-        let mut sets = Vec::new(self.alloc);
-        sets.extend_from_slice(requirement.version_sets(&self.provider).as_slice())?;
+        let sets = Vec::from_slice(
+            self.alloc,
+            requirement.version_sets(&self.provider).as_slice(),
+        )?;
         let mut ids = Vec::new(self.alloc);
         self.sort_all(&sets, &mut ids)?;
         // What is true of each cache is true of this one: a look at a field tells it.
@@ -266,8 +243,7 @@ fn in_order<D: DependencyProvider>(
     ensures ok { IfOk result (λ list. list.items ≡ favored_first D.SolvableId.eq favored ((D.answers provider.now).order solvables.now)) }
     ensures memory { IfErr result (λ e. e ≡ OutOfMemory) }
 {
-    let mut list = Vec::new(alloc);
-    list.extend_from_slice(solvables)?;
+    let mut list = Vec::from_slice(alloc, solvables)?;
     provider.sort_candidates(alloc, &mut list)?;
     put_favored_first(&mut list, favored);
     Ok(list)

@@ -1,6 +1,20 @@
-use Rattle.std.proofs.Common.{◌∙◌, sym, true≢false}
-use Rattle.solver_cache.proofs.CacheLemmas.{found_non_matching}
+use Rattle.std.proofs.Common.{◌≡◌, ◌∙◌, true, false, ap, subst, sym, true≢false}
+use Rattle.providers.specs.Provider.{non_matching}
+use Rattle.solver_cache.specs.Cache.{is_kept, is_set_asked, same_set}
+use Rattle.solver_cache.specs.Functions.{Provider, gathered}
+use Rattle.solver_cache.specs.Questions.{IsLater}
+use Rattle.solver_cache.specs.declared.error.CacheError.TheVariants.{Store}
+use Rattle.solver_cache.proofs.CacheLemmas.{found_non_matching, handed_on, more_non_matching, none_of, once_new, right_unmatched, value_last}
+use Rattle.solver_cache.proofs.FilteringLemmas.{asked_non_matching, later_non_matching, memory_refused}
+use Rattle.solver_cache.proofs.cache.SolverCache.get_or_cache_non_matching_candidates.Given.{Over}
 use Rattle.solver_cache.proofs.cache.SolverCache.get_or_cache_non_matching_candidates.Goals as goal
+
+-- the provider's functions
+abbrev provided : (g : Over) → g.row.D.Denot → Provider g.row.D-NameId.Denot g.row.D-SolvableId.Denot
+provided g = gathered g.D.NameId.PartialEq.eq g.D.SolvableId.PartialEq.eq g.D.NameId.Slots.IdMap.is_too_large g.D.SolvableId.Slots.IdMap.is_too_large
+    g.D.SolvableId.Set.IdSet.is_too_large g.D.NameId.SolverId.are_many g.D.Interner.universe g.D.DependencyProvider.answers
+
+-- what is kept
 
 pub returns-in-Some-clause-list : goal.returns-in-Some-clause-list
 returns-in-Some-clause-list g c =
@@ -10,5 +24,68 @@ pub returns-in-Some-clause-asked : goal.returns-in-Some-clause-asked
 returns-in-Some-clause-asked g c =
     rw (sym c.self.view_is) ((found_non_matching _ _ c.self.invariant c.args.set c.in-Some.place (sym c.in-Some.ensures.found) c.in-Some.ensures.list).1)
 
-pub returns-in-None-clause-kept : goal.returns-in-None-clause-kept
-returns-in-None-clause-kept g c = λ kept. absurd (true≢false (sym kept ∙ rw (sym c.self.view_is) (sym c.in-None.ensures.found)))
+-- where the package isn't answered for
+
+pub returns-in_err-found-in-None-clause-kept : goal.returns-in_err-found-in-None-clause-kept
+returns-in_err-found-in-None-clause-kept g c = λ kept. absurd (true≢false (sym kept ∙ rw (sym c.self.view_is) (sym c.in-None.ensures.found)))
+
+-- where the list isn't kept
+
+pub insert-requires : goal.insert-requires
+insert-requires g c =
+    let set = c.args.set in
+    let old = c.args.self.now in
+    let new : is_kept (same_set set) old.non_matching ≡ false = rw (sym c.self.view_is) (sym c.in-None.ensures.found) in
+    let p = provided g old.provider in
+    none_of _ (ap (λ v. is_kept (same_set set) v.non_matching) c.self-in-None.view_is
+    ∙ ap (is_kept (same_set set)) (asked_non_matching g.D.SolvableId.Set.IdSet.has p (p.universe.set_name set) old c.filtered.new.self c.in_ok-found-in-None.ensures.package) ∙ new)
+
+pub returns-in_err-place-in-None-clause-kept : goal.returns-in_err-place-in-None-clause-kept
+returns-in_err-place-in-None-clause-kept g c = λ kept. absurd (true≢false (sym kept ∙ rw (sym c.self.view_is) (sym c.in-None.ensures.found)))
+
+pub returns-in_err-place-in-None-clause-refused : goal.returns-in_err-place-in-None-clause-refused
+returns-in_err-place-in-None-clause-refused g c =
+    handed_on _ c.from_residual-in_err-place-in-None.result (Store c.in_err-place-in-None.field-0.0) c.from_residual-in_err-place-in-None.ensures.1
+    (memory_refused _ c.in_err-place-in-None.field-0.0 c.in_err-place-in-None.ensures.memory)
+
+pub returns-in_err-place-in-None-clause-later : goal.returns-in_err-place-in-None-clause-later
+returns-in_err-place-in-None-clause-later g c =
+    rw c.in_err-place-in-None.ensures.err (subst (λ v. IsLater g.D.SolvableId.Set.IdSet.has c.args.self.now v) (sym c.self-in-None.view_is) c.in_ok-found-in-None.ensures.later)
+
+-- where it is
+
+pub invariant_of-self-in-None : goal.invariant_of-self-in-None
+invariant_of-self-in-None g c =
+    let set = c.args.set in
+    let q = c.self-in-None.inside.provider in
+    let mid = c.filtered.new.self in
+    let same : q ≡ c.args.self.now.provider = ap (λ v. v.provider) c.self-in-None.view_is ∙ c.in_ok-found-in-None.ensures.later.provider in
+    let asked : is_set_asked (provided g q) mid set ≡ true =
+    ap (λ r. is_set_asked (provided g r) mid set) same ∙ c.in_ok-found-in-None.ensures.asked in
+    rw c.in_ok-place-in-None.ensures.ok (right_unmatched _ _ c.self-in-None.invariant set c.in_ok-found-in-None.found.items
+    (c.in_ok-found-in-None.ensures.list ∙ ap (λ r. non_matching (provided g r).universe (provided g r).answers set) (sym same))
+    (ap (λ v. is_set_asked (provided g q) v set) c.self-in-None.view_is ∙ asked))
+
+pub returns-in_ok-place-in-None-clause-unmatched : goal.returns-in_ok-place-in-None-clause-unmatched
+returns-in_ok-place-in-None-clause-unmatched g c =
+    let new : is_kept (same_set c.args.set) c.args.self.now.non_matching ≡ false = rw (sym c.self.view_is) (sym c.in-None.ensures.found) in
+    once_new _ _ _ _ new (
+      c.filtered.new.self,
+      c.in_ok-found-in-None.ensures.package,
+      rw (c.in_ok-place-in-None.ensures.ok, sym c.in_ok-found-in-None.ensures.list) (more_non_matching _ _ c.self-in-None.view_is c.args.set c.in_ok-found-in-None.found.items),
+    )
+
+pub returns-in_ok-place-in-None-clause-list : goal.returns-in_ok-place-in-None-clause-list
+returns-in_ok-place-in-None-clause-list g c =
+    rw (c.in_ok-place-in-None.ensures.ok, c.in_ok-place-in-None.ensures.place, sym c.in_ok-found-in-None.ensures.list) (value_last c.self-in-None.inside.non_matching c.args.set c.in_ok-found-in-None.found.items)
+
+pub returns-in_ok-place-in-None-clause-later : goal.returns-in_ok-place-in-None-clause-later
+returns-in_ok-place-in-None-clause-later g c =
+    let has = g.D.SolvableId.Set.IdSet.has in
+    let old = c.args.self.now in
+    rw c.in_ok-place-in-None.ensures.ok (later_non_matching has old _ c.args.set c.in_ok-found-in-None.found.items
+    (subst (λ v. IsLater has old v) (sym c.self-in-None.view_is) c.in_ok-found-in-None.ensures.later))
+
+pub returns-in_ok-place-in-None-clause-asked : goal.returns-in_ok-place-in-None-clause-asked
+returns-in_ok-place-in-None-clause-asked g c =
+    ap (λ v. is_set_asked (provided g c.args.self.now.provider) v c.args.set) c.self-in-None.view_is ∙ c.in_ok-found-in-None.ensures.asked

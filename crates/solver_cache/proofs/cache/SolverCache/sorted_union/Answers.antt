@@ -1,9 +1,22 @@
-use Rattle.std.proofs.Common.{◌∙◌, sym, ap, true≢false}
+use Rattle.std.proofs.Common.{◌≡◌, ◌∙◌, Some, true, false, ap, subst, sym, true≢false}
 use Rattle.std.specs.Map.{lookup}
+use Rattle.std.specs.Prelude.{All}
+use Rattle.providers.specs.Requirement.{same_requirement}
 use Rattle.providers.specs.declared.requirement.Requirement.TheVariants.{Union}
-use Rattle.solver_cache.specs.Cache.{is_kept}
-use Rattle.solver_cache.proofs.CacheLemmas.{found_sorted, same_is}
+use Rattle.solver_cache.specs.Cache.{is_kept, is_set_asked, sorted_of}
+use Rattle.solver_cache.specs.Functions.{Provider, gathered}
+use Rattle.solver_cache.specs.Questions.{IsLater}
+use Rattle.solver_cache.proofs.CacheLemmas.{found_sorted, more_list, more_sorted, none_of, once_new, right_sorted, same_is, union_still_new, value_last}
+use Rattle.solver_cache.proofs.SortingLemmas.{later_sorted, not_kept}
+use Rattle.solver_cache.proofs.cache.SolverCache.sorted_union.Given.{Over}
 use Rattle.solver_cache.proofs.cache.SolverCache.sorted_union.Goals as goal
+
+-- the provider's functions
+abbrev provided : (g : Over) → g.row.D.Denot → Provider g.row.D-NameId.Denot g.row.D-SolvableId.Denot
+provided g = gathered g.D.NameId.PartialEq.eq g.D.SolvableId.PartialEq.eq g.D.NameId.Slots.IdMap.is_too_large g.D.SolvableId.Slots.IdMap.is_too_large
+    g.D.SolvableId.Set.IdSet.is_too_large g.D.NameId.SolverId.are_many g.D.Interner.universe g.D.DependencyProvider.answers
+
+-- what is kept
 
 pub returns-in-Some-clause-list : goal.returns-in-Some-clause-list
 returns-in-Some-clause-list g c =
@@ -19,6 +32,62 @@ returns-in-Some-clause-asked g c =
     rw (sym c.self.view_is) ((found_sorted _ _ c.self.invariant (Union c.args.union) c.in-Some.place
     (ap (λ t. is_kept t kept) (sym alike) ∙ sym c.in-Some.ensures.found) (c.in-Some.ensures.list ∙ ap (λ t. lookup t kept) alike)).1)
 
-pub returns-in-None-clause-kept : goal.returns-in-None-clause-kept
-returns-in-None-clause-kept g c = λ kept.
-    absurd (true≢false (sym kept ∙ rw (sym c.self.view_is) (ap (λ t. is_kept t c.self.inside.sorted) (sym (same_is (Union c.args.union))) ∙ sym c.in-None.ensures.found)))
+-- only what isn't kept is refused
+
+pub returns-in_err-list-in-None-clause-kept : goal.returns-in_err-list-in-None-clause-kept
+returns-in_err-list-in-None-clause-kept g c = λ kept.
+    absurd (true≢false (sym kept ∙ rw (sym c.self.view_is) (not_kept (Union c.args.union) c.self.inside.sorted c.in-None.ensures.found)))
+
+pub returns-in_err-place-in-None-clause-kept : goal.returns-in_err-place-in-None-clause-kept
+returns-in_err-place-in-None-clause-kept g c = λ kept.
+    absurd (true≢false (sym kept ∙ rw (sym c.self.view_is) (not_kept (Union c.args.union) c.self.inside.sorted c.in-None.ensures.found)))
+
+-- where the list is kept
+
+pub insert-requires : goal.insert-requires
+insert-requires g c =
+    let u = c.args.union in
+    let r = Union u in
+    let old = c.args.self.now in
+    let mid = c.joined.new.self in
+    let p = provided g old.provider in
+    let new : is_kept (same_requirement r) old.sorted ≡ false = rw (sym c.self.view_is) (not_kept r c.self.inside.sorted c.in-None.ensures.found) in
+    let still : is_kept (same_requirement r) mid.sorted ≡ false =
+    union_still_new g.D.SolvableId.Set.IdSet.has p u (p.universe.union_sets u) old mid c.in_ok-list-in-None.ensures.sorted new in
+    none_of _ (ap (λ t. is_kept t c.self-in-None.inside.sorted) (same_is r) ∙ ap (λ v. is_kept (same_requirement r) v.sorted) c.self-in-None.view_is ∙ still)
+
+pub invariant_of-self-in-None : goal.invariant_of-self-in-None
+invariant_of-self-in-None g c =
+    let u = c.args.union in
+    let r = Union u in
+    let old = c.args.self.now in
+    let mid = c.joined.new.self in
+    let q = c.self-in-None.inside.provider in
+    let same : q ≡ old.provider = ap (λ v. v.provider) c.self-in-None.view_is ∙ c.in_ok-list-in-None.ensures.later.provider in
+    rw c.in_ok-place-in-None.ensures.ok (right_sorted _ _ c.self-in-None.invariant r c.in_ok-list-in-None.list.items
+    (c.in_ok-list-in-None.ensures.list ∙ ap (λ q. sorted_of (provided g q) r) (sym same))
+    (subst (λ st. All (λ v. is_set_asked (provided g q) st v ≡ true) ((provided g q).universe.union_sets u)) (sym c.self-in-None.view_is)
+    (subst (λ q. All (λ v. is_set_asked (provided g q) mid v ≡ true) ((provided g q).universe.union_sets u)) (sym same) c.in_ok-list-in-None.ensures.asked)))
+
+pub returns-in_ok-place-in-None-clause-sorted : goal.returns-in_ok-place-in-None-clause-sorted
+returns-in_ok-place-in-None-clause-sorted g c =
+    let r = Union c.args.union in
+    let mid = c.joined.new.self in
+    let new : is_kept (same_requirement r) c.args.self.now.sorted ≡ false = rw (sym c.self.view_is) (not_kept r c.self.inside.sorted c.in-None.ensures.found) in
+    once_new _ _ _ _ new (
+      mid,
+      c.in_ok-list-in-None.ensures.sorted,
+      rw c.in_ok-place-in-None.ensures.ok (more_sorted _ _ c.self-in-None.view_is r c.in_ok-list-in-None.list.items ∙ more_list mid r _ _ c.in_ok-list-in-None.ensures.list),
+    )
+
+pub returns-in_ok-place-in-None-clause-list : goal.returns-in_ok-place-in-None-clause-list
+returns-in_ok-place-in-None-clause-list g c =
+    rw (c.in_ok-place-in-None.ensures.ok, c.in_ok-place-in-None.ensures.place)
+    (value_last c.self-in-None.inside.sorted (Union c.args.union) c.in_ok-list-in-None.list.items ∙ ap Some c.in_ok-list-in-None.ensures.list)
+
+pub returns-in_ok-place-in-None-clause-later : goal.returns-in_ok-place-in-None-clause-later
+returns-in_ok-place-in-None-clause-later g c =
+    let has = g.D.SolvableId.Set.IdSet.has in
+    let old = c.args.self.now in
+    rw c.in_ok-place-in-None.ensures.ok (later_sorted has old _ (Union c.args.union) c.in_ok-list-in-None.list.items
+    (subst (λ v. IsLater has old v) (sym c.self-in-None.view_is) c.in_ok-list-in-None.ensures.later))
