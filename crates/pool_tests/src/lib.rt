@@ -1,9 +1,9 @@
-//! Tests of the pool, of requirements and of their maps, and of conditions (`conditions`). The callers that they run are in
+//! Tests of the pool, of requirements and of their maps, and of conditions (`condition_calls`). The callers that they run are in
 //! `pool_callers`.
 #![tactic(auto)]
 
 #[cfg(test)]
-mod conditions;
+mod condition_calls;
 #[cfg(test)]
 mod maps;
 #[cfg(test)]

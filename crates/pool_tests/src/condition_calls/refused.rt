@@ -1,5 +1,5 @@
 //! Memory refused at each request in turn. A refused conversion answers so, and made again it answers what ample memory does.
-use crate::conditions::normal_forms::{CATALOGUE, Form, form};
+use crate::condition_calls::normal_forms::{CATALOGUE, Form, form};
 use providers::Interner;
 use refusing::Refusing;
 use script_packages::read_catalogue;
