@@ -1,19 +1,20 @@
 -- A queue after clauses became hot, after a sync, and at and after a question.
-use Rattle.std.proofs.Common.{◌≡◌, ◌≢◌, ℕ, ◌+◌, ◌-◌, ◌≤◌, ◌<◌, Bool, true, false, ◌||◌, ltb, ◌⊎◌, inl, inr, List, [], ◌∷◌, ◌++◌, map, take, drop, get_or, length, Option, None, Some, slice_get, option_map, sym, ap, refl, ◌∙◌, subst, arith, take-append-drop}
+use Rattle.std.proofs.Common.{◌≡◌, ◌≢◌, ℕ, ◌+◌, ◌-◌, ◌≤◌, ◌<◌, Bool, true, false, ◌||◌, ltb, ◌⊎◌, inl, inr, List, [], ◌++◌, map, take, drop, get_or, length, Option, None, Some, Result, Ok, Err, slice_get, option_map, sym, ap, refl, ◌∙◌, subst, arith, take-append-drop}
 use Rattle.std.specs.Prelude.{All}
 use Rattle.std.specs.Option.{option_or}
 use Rattle.std.proofs.lemmas.Bool.{ltb-false, ltb-true}
 use Rattle.std.proofs.lemmas.List.{length-map, take-take}
-use Rattle.std.proofs.lemmas.List.Elements.{All-cons, All-nil}
 use Rattle.std.proofs.lemmas.Option.{slice_get_cases, slice_get_within}
 use Rattle.typed_ids.specs.TotalMaps.{IsUpdate, SameValues}
+use Rattle.typed_ids.specs.declared.error.StoreError.{StoreError}
+use Rattle.typed_ids.specs.declared.error.StoreError.TheVariants.{IdSpace}
 use Rattle.decisions.specs.Literals.{Lit, Values, known_true, variable_of}
 use Rattle.decisions.specs.declared.decision.Decision.{Decision}
 use Rattle.providers.specs.declared.requirement.Requirement.{Requirement}
 use Rattle.resolvo_queue.specs.Index.{list_at}
 use Rattle.resolvo_queue.specs.Inspection.{clause_of}
 use Rattle.resolvo_queue.specs.Listing.{IsListedWell}
-use Rattle.resolvo_queue.specs.Names.{AreCold, AreLast, ColdLack, counted_value, counts, has_name, names_at, value_in}
+use Rattle.resolvo_queue.specs.Names.{AreCold, AreLast, ColdLack, counted_value, counts, names_at, value_in}
 use Rattle.resolvo_queue.specs.Occurrences.{listing}
 use Rattle.resolvo_queue.specs.Order.{Stands}
 use Rattle.resolvo_queue.specs.Positions.{has}
@@ -92,18 +93,14 @@ pub cold_still : {N : Type 0} (hot hot' : N → Bool) (name : N) (names : List (
     ColdLack name names cs → AreCold hot' names cs
 cold_still hot hot' name names cs update cold lacks n c e cool k d lt = update.1 (get_or (names_at names n) k d) (lacks n c e cool k d lt) ∙ cold n c e cool k d lt
 
--- who lacks a name by comparing lacks it
-pub lacks_name : {N : Type 0} (eq : N → N → Bool) → ((a : N) → eq a a ≡ true) → (name : N) (names : List N) → has_name eq name names ≡ false → All (λ m. m ≢ name) names
-lacks_name eq self name [] h = All-nil (λ m. m ≢ name)
-lacks_name eq self name (x ∷ xs) h = go (eq x name) refl h (lacks_name eq self name xs)
-  where
-    go : (b : Bool) → eq x name ≡ b → (b || has_name eq name xs) ≡ false → (has_name eq name xs ≡ false → All (λ m. m ≢ name) xs) → All (λ m. m ≢ name) (x ∷ xs)
-    go true e f more = cc
-    go false e f more = All-cons (λ m. m ≢ name) x xs (λ same. let bad : eq x name ≡ true = ap (eq x) (sym same) ∙ self x in cc) (more f)
-
 -- a name that was hot is lacked by all that aren't
 pub lacks_hot : {N : Type 0} (hot : N → Bool) (name : N) → hot name ≡ true → (names : List N) → All (λ m. hot m ≡ false) names → All (λ m. m ≢ name) names
 lacks_hot hot name is names cold k d lt same = let bad : hot name ≡ false = ap hot (sym same) ∙ cold k d lt in cc
+
+-- a name that came to a set isn't too large for it
+pub fits_if_ok : {T : Type 0} (is_too_large : Bool) (res : Result T StoreError) (x : T) → res ≡ Ok x → (is_too_large ≡ true → res ≡ Err IdSpace) → is_too_large ≡ false
+fits_if_ok true res x ok large = let bad : Ok x ≡ Err IdSpace = sym ok ∙ large refl in cc
+fits_if_ok false res x ok large = refl
 
 -- one name more is hot, or its insertion was refused
 pub kept_hot : {N H : Type 0} (has : H → N → Bool) (q : Queue N H) (hot : H) → IsKept has q → AreCold (has hot) q.names q.inside.clauses → IsKept has (record q { hot = hot })

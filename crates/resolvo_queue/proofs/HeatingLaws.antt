@@ -1,10 +1,8 @@
 -- Clauses that become hot: nothing else changes, and what always holds is kept.
-use Rattle.std.proofs.Common.{◌≡◌, ◌≢◌, ℕ, zero, suc, ◌+◌, ◌<◌, ◌≤◌, ◌^◌, Bool, true, false, cond, eqb, ltb, ltb-true, ltb-false, ◌⊎◌, inl, inr, List, [], ◌∷◌, length, map, set, get_or, Option, Some, None, MatchOption, slice_get, sym, ap, refl, ◌∙◌, subst, arith}
-use Rattle.std.specs.declared.vec.Vec.{Vec}
-use Rattle.std.proofs.lemmas.List.{get_or-map}
+use Rattle.std.proofs.Common.{◌≡◌, ℕ, zero, suc, ◌+◌, ◌<◌, ◌≤◌, ◌^◌, Bool, true, false, cond, eqb, ◌⊎◌, inl, inr, List, [], ◌∷◌, length, map, set, get_or, take, Option, Some, None, MatchOption, Result, Ok, Err, OnOk, OnErr, slice_get, sym, ap, refl, ◌∙◌, subst, arith}
+use Rattle.std.proofs.lemmas.List.{take_more}
 use Rattle.resolvo_queue.specs.Index.{list_at}
 use Rattle.resolvo_queue.specs.Inspection.{clause_of}
-use Rattle.resolvo_queue.specs.Names.{has_name, names_at}
 use Rattle.resolvo_queue.specs.Order.{Stands}
 use Rattle.resolvo_queue.specs.Positions.{has, same_position}
 use Rattle.resolvo_queue.specs.Queued.{Queued, GrowsBy, IsOfClause, HaveNumbers, heated}
@@ -16,6 +14,7 @@ use Rattle.resolvo_queue.specs.declared.position.Position.{Position}
 use Rattle.resolvo_queue.specs.declared.tracked_clause.TrackedClause.{TrackedClause}
 use Rattle.resolvo_queue.proofs.HeatLaws.{heated_synced, set_or_elsewhere}
 use Rattle.resolvo_queue.proofs.QueuedLaws.{added_grows, read_at, within_clauses}
+use Rattle.resolvo_queue.proofs.RegisteredLaws.{stands_cases}
 
 same_some : {X : Type 0} (x y : X) → Some x ≡ Some y → x ≡ y
 same_some x y e = cc
@@ -159,11 +158,6 @@ set_heated [] n c is = refl
 set_heated (x ∷ xs) zero c is = ap (λ y. heated y ∷ map heated xs) (sym (same_some x c is))
 set_heated (x ∷ xs) (suc n) c is = ap (λ ys. heated x ∷ ys) (set_heated xs n c is)
 
-set_length : {X : Type 0} (xs : List X) (n : ℕ) (y : X) → length (set xs n y) ≡ length xs
-set_length [] n y = refl
-set_length (x ∷ xs) zero y = refl
-set_length (x ∷ xs) (suc n) y = let h : length (set xs n y) ≡ length xs = set_length xs n y in omega arith
-
 module _ (t : Tracking) (n : ℕ) (c : TrackedClause) (is : slice_get t.clauses n ≡ Some c) (q : Queued) (grows : GrowsBy (λ p. same_position c.position p ≡ true) t.queued q) where
   of_clauses : IsInOrder t → GrowsBy (IsOfClause t.clauses) t.queued q
   of_clauses order = added_grows t.clauses (numbered t.clauses order.located) n c is t.queued q grows
@@ -211,50 +205,47 @@ module _ (t : Tracking) (n : ℕ) (c : TrackedClause) (is : slice_get t.clauses 
   heats_one c' (inl e) = subst (λ cs. Heats t (record t { clauses = cs; queued = q })) (sym (ap (set t.clauses n) e ∙ set_itself t.clauses n c is)) heats_left
   heats_one c' (inr h) = subst (λ x. Heats t (record t { clauses = set t.clauses n x; queued = q })) (sym h.0) (heats_this h.1)
 
--- ---- the loop
+-- ---- a clause that was read
 
-module _ (first t : Tracking) (n : ℕ) (c c' : TrackedClause) (within : n < length t.clauses) (read : c ≡ get_or t.clauses n c)
-    (q : Queued) (grows : GrowsBy (λ p. same_position c.position p ≡ true) t.queued q)
-    (becomes : (c' ≡ c) ⊎ ((c' ≡ heated c) × (has t.queued.all c.position ≡ true → has q.hot c.position ≡ true))) where
-  pub heats_more : Heats first t → Heats first (record t { clauses = set t.clauses n c'; queued = q })
-  heats_more old =
-      heats_both first t (record t { clauses = set t.clauses n c'; queued = q }) old (heats_one t n c (read_at t.clauses n c within read) q grows c' becomes)
+module _ (t : Tracking) (n : ℕ) (c c' : TrackedClause) (within : n < length t.clauses) (read : c ≡ get_or t.clauses n c) (q : Queued)
+    (grows : GrowsBy (λ p. same_position c.position p ≡ true) t.queued q) {T E : Type 0} where
+  pub heats_read : (res : Result T E) → OnOk res (has t.queued.all c.position ≡ true → has q.hot c.position ≡ true) → OnOk res (c' ≡ heated c) → OnErr res (c' ≡ c) →
+      Heats t (record t { clauses = set t.clauses n c'; queued = q })
+  heats_read (Ok x) into hot same = heats_one t n c (read_at t.clauses n c within read) q grows c' (inr (hot, into))
+  heats_read (Err x) into hot same = heats_one t n c (read_at t.clauses n c within read) q grows c' (inl same)
 
--- one clause more that isn't hot only if it lacks the name
-pub cold_more : {N : Type 0} (eq : N → N → Bool) (name : N) (names : List (List N)) (cs : List TrackedClause) (n : ℕ) (c' : TrackedClause) (own : List N) →
-    own ≡ names_at names n → (has_name eq name own ≡ true → c'.is_hot ≡ true) →
-    ((m : ℕ) (d : TrackedClause) → m < n → slice_get cs m ≡ Some d → d.is_hot ≡ false → has_name eq name (names_at names m) ≡ false) →
-    (m : ℕ) (d : TrackedClause) → m < n + 1 → slice_get (set cs n c') m ≡ Some d → d.is_hot ≡ false → has_name eq name (names_at names m) ≡ false
-cold_more eq name names cs n c' own is hot old m d less at cold = elim (set_or_elsewhere cs n c' m d at) [
-  | inl new ↦
-      ap (λ k. has_name eq name (names_at names k)) new.1
-      ∙ (ap (has_name eq name) (sym is) ∙ not_hot (has_name eq name own) c'.is_hot hot (ap (λ (x : TrackedClause). x.is_hot) new.0 ∙ cold))
-  | inr was ↦ old m d (let ne = was.1 in below m n less ne) was.0 cold
+pub hot_read : {T E : Type 0} (cs : List TrackedClause) (n : ℕ) (c c' : TrackedClause) (res : Result T E) → OnOk res (c' ≡ heated c) →
+    OnOk res ((d : TrackedClause) → slice_get (set cs n c') n ≡ Some d → d.is_hot ≡ true)
+hot_read cs n c c' (Ok x) hot = λ d is. elim (set_or_elsewhere cs n c' n d is) [
+  | inl new ↦ ap (λ (y : TrackedClause). y.is_hot) (sym new.0 ∙ hot)
+  | inr was ↦ absurd (was.1 refl)
 ]
+hot_read cs n c c' (Err x) hot = tt
+
+-- ---- one clause after another
+
+-- what was hot is
+still_hot : (old now : Tracking) → Heats old now → (n : ℕ) → ((d : TrackedClause) → slice_get old.clauses n ≡ Some d → d.is_hot ≡ true) →
+    (c : TrackedClause) → slice_get now.clauses n ≡ Some c → c.is_hot ≡ true
+still_hot old now heats n hot c is = go c.is_hot refl
   where
-    not_hot : (a b : Bool) → (a ≡ true → b ≡ true) → b ≡ false → a ≡ false
-    not_hot true b h e = let bad : true ≡ false = sym (h refl) ∙ e in cc
-    not_hot false b h e = refl
+    go : (b : Bool) → c.is_hot ≡ b → c.is_hot ≡ true
+    go true e = e
+    go false e = hot c (heats.cold n c is e)
 
-    below : (i j : ℕ) → i < j + 1 → i ≢ j → i < j
-    below i j h ne = go (ltb i j) refl
-      where
-        go : (b : Bool) → ltb i j ≡ b → i < j
-        go true e = ltb-true i j e
-        go false e = absurd (ne (let f = ltb-false i j e in omega (arith, f, h)))
+pub hot_more : (old now : Tracking) → Heats old now → (numbers : List ℕ) (i : ℕ) → i < length numbers →
+    ((n : ℕ) (c : TrackedClause) → Stands n (take i numbers) → slice_get old.clauses n ≡ Some c → c.is_hot ≡ true) →
+    ((c : TrackedClause) → slice_get now.clauses (get_or numbers i 0) ≡ Some c → c.is_hot ≡ true) →
+    (n : ℕ) (c : TrackedClause) → Stands n (take (i + 1) numbers) → slice_get now.clauses n ≡ Some c → c.is_hot ≡ true
+hot_more old now heats numbers i within before this n c s is =
+    elim (stands_cases (take i numbers) (get_or numbers i 0) n (subst (Stands n) (take_more numbers i 0 within) s)) [
+      | inl h ↦ still_hot old now heats n (λ d at. before n d h at) c is
+      | inr e ↦ this c (ap (slice_get now.clauses) (sym e) ∙ is)
+    ]
 
--- the names that were read are the clause's
-pub names_read : {N A : Type 0} (names : List (Vec N A)) (n : ℕ) (v : Vec N A) (own : List N) → n < length names → v ≡ get_or names n v → own ≡ v.items →
-    own ≡ names_at (map (λ (w : Vec N A). w.items) names) n
-names_read {N} {A} names n v own within read is =
-    is ∙ (ap (λ (w : Vec N A). w.items) read ∙ sym (get_or-map (λ (w : Vec N A). w.items) names n v [] within))
+-- a number past the end
+pub hot_past : (cs : List TrackedClause) (n : ℕ) → length cs ≤ n → (c : TrackedClause) → slice_get cs n ≡ Some c → c.is_hot ≡ true
+hot_past cs n past c is = absurd (let h : n < length cs = within_clauses cs n c is in omega (arith, h, past))
 
-pub still_as_many : (cs : List TrackedClause) (n : ℕ) (c' : TrackedClause) (many : ℕ) → length cs ≡ many → length (set cs n c') ≡ many
-still_as_many cs n c' many e = set_length cs n c' ∙ e
-
--- all were gone through
-pub all_cold : {N : Type 0} (eq : N → N → Bool) (name : N) (names : List (List N)) (cs : List TrackedClause) (n many : ℕ) → length cs ≡ many → many ≤ n →
-    ((m : ℕ) (d : TrackedClause) → m < n → slice_get cs m ≡ Some d → d.is_hot ≡ false → has_name eq name (names_at names m) ≡ false) →
-    (m : ℕ) (d : TrackedClause) → slice_get cs m ≡ Some d → d.is_hot ≡ false → has_name eq name (names_at names m) ≡ false
-all_cold eq name names cs n many count past cold m d is e =
-    cold m d (let h : m < length cs = within_clauses cs m d is in omega (arith, h, count, past)) is e
+pub none_within : {X P : Type 0} (xs : List X) (i : ℕ) → i < length xs → xs ≡ [] → P
+none_within xs i within none = absurd (let h : i < 0 = subst (λ l. i < length l) none within in omega (arith, h))

@@ -2,6 +2,7 @@ pub mod AfterLaws
 pub mod AskableLaws
 pub mod AskedLaws
 pub mod AskingLaws
+pub mod ByNameLaws
 pub mod CallerLaws
 pub mod CountLaws
 pub mod DecisionLaws

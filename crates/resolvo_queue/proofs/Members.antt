@@ -22,6 +22,11 @@ contains_if_stands (y ∷ ys) x (there s) =
 pub same_some : {X : Type 0} (a b : X) → Some a ≡ Some b → a ≡ b
 same_some a b s = cc
 
+pub stands_at : {X : Type 0} (xs : List X) (n : ℕ) (x : X) → slice_get xs n ≡ Some x → Stands x xs
+stands_at [] n x is = cc
+stands_at (y ∷ ys) zero x is = subst (λ z. Stands z (y ∷ ys)) (same_some y x is) here
+stands_at (y ∷ ys) (suc n) x is = there (stands_at ys n x is)
+
 -- what stands at a place stands there with the same parts
 pub at_mapped : {X Y : Type 0} (f : X → Y) (xs ys : List X) (n : ℕ) (y : X) → map f xs ≡ map f ys → slice_get ys n ≡ Some y →
     (x : X) × (slice_get xs n ≡ Some x) × (f x ≡ f y)

@@ -18,7 +18,7 @@ pub stands_last : {X : Type 0} (xs : List X) (x : X) → Stands x (xs ++ x ∷ [
 stands_last [] x = here
 stands_last (y ∷ ys) x = there (stands_last ys x)
 
-stands_cases : {X : Type 0} (xs : List X) (y x : X) → Stands x (xs ++ y ∷ []) → Stands x xs ⊎ (x ≡ y)
+pub stands_cases : {X : Type 0} (xs : List X) (y x : X) → Stands x (xs ++ y ∷ []) → Stands x xs ⊎ (x ≡ y)
 stands_cases [] y x here = inr refl
 stands_cases [] y x (there s) = elim s [ ]
 stands_cases (z ∷ zs) y x here = inl here

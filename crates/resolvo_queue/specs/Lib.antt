@@ -1,4 +1,5 @@
 pub mod Asking
+pub mod ByName
 pub mod Falsified
 pub mod Index
 pub mod Inspection

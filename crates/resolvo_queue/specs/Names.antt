@@ -1,15 +1,11 @@
 -- The names of clauses' packages, and the parents registered since a sync.
 use Rattle.std.specs.Prelude.{◌≡◌, ◌≢◌, ℕ, ◌+◌, ◌-◌, ◌≤◌, Bool, false, nat_lt, if◌then◌else◌, List, [], length, All, Option, Some, None, slice_get, slice_index_or}
-use Rattle.std.specs.List.{list_any}
 use Rattle.decisions.specs.Literals.{Values, known_true}
 use Rattle.resolvo_queue.specs.declared.parent_value.ParentValue.{ParentValue}
 use Rattle.resolvo_queue.specs.declared.tracked_clause.TrackedClause.{TrackedClause}
 
 abbrev pub names_at : {N : Type 0} → List (List N) → ℕ → List N
 names_at names n = slice_index_or names n []
-
-abbrev pub has_name : {N : Type 0} → (N → N → Bool) → N → List N → Bool
-has_name eq name names = list_any (λ other. eq other name) names
 
 -- a clause that isn't hot has no hot name
 abbrev pub AreCold : {N : Type 0} → (N → Bool) → List (List N) → List TrackedClause → Type 0

@@ -36,7 +36,8 @@
 //! rows only if nothing is known of them, and after they were listed, so that a later sync finds them. What isn't eligible
 //! leaves the queue; the first clause that is, is the best so far. Behind it only a clause with a higher score is better, so
 //! while scores are raised by the standard parameters only those are looked at that have a package that ever got one: the hot ones,
-//! which are queued a second time. Nothing is better than a frontier with one candidate, or with the largest score.
+//! which are queued a second time. A name finds its clauses when it gets its first score. Nothing is better than a frontier
+//! with one candidate, or with the largest score.
 //!
 //! A clause isn't falsified as long as one row of its requirement isn't false. So a requirement keeps a witness, a variable of
 //! such a row, and a clause is looked at only if it came since, or if a variable changed that is its parent, stands in its
@@ -49,8 +50,8 @@
 //!
 //! A sync that is refused is remembered: the next one forgets all that is known and queues all clauses whose parent is
 //! true, whatever was done before. A registration that is refused may leave a number in a list that belongs to no clause yet, which
-//! wakes one clause too many later.
-ghost use Rattle.std.specs.Prelude.{◌≡◌, ◌⊎◌, ◌+◌, ◌-◌, ◌<◌, ◌≤◌, ◌^◌, ◌↔◌, ◌≢◌, [], length, take, All, IsTrue, IsSome, IfSome, true, false, option_map, OnOk, OnErr, IfOk, IfErr};
+//! wakes one clause too many later, or makes it hot.
+ghost use Rattle.std.specs.Prelude.{◌≡◌, ◌⊎◌, ◌+◌, ◌-◌, ◌<◌, ◌≤◌, ◌^◌, ◌↔◌, ◌≢◌, [], length, take, All, IsTrue, IsOk, IsSome, IfSome, true, false, option_map, OnOk, OnErr, IfOk, IfErr};
 ghost use Rattle.std.specs.Map.{lookup};
 ghost use Rattle.std.specs.Ordering.{nat_cmp};
 ghost use Rattle.typed_ids.specs.Refusals.{IsGrowthRefusal};
@@ -70,6 +71,7 @@ ghost use Rattle.resolvo_queue.specs.Synced.{FindsConditions};
 ghost use Rattle.resolvo_queue.specs.WalkCounts.{HasNoneOf, WalksOnce, changed_from, owed, walks};
 ghost use Rattle.resolvo_queue.specs.Witnesses.{AreCandidates, HaveEntries, literals_by};
 
+use crate::clauses_by_name::ClausesByName;
 use crate::condition::condition_of;
 use crate::deciding::next_offer;
 use crate::falsification::falsified_clause;
@@ -99,6 +101,8 @@ pub struct DecideQueue<D: DependencyProvider> {
     tracked: TrackedClauses<D::Alloc>,
     /// The names that were handed in with each clause.
     names: Vec<Vec<D::NameId, D::Alloc>, D::Alloc>,
+    /// Who has a name. Numbers of clauses that were refused may be among them.
+    by_name: ClausesByName<D::NameId, D::Alloc>,
     hot_names: <D::NameId as SolverId<D::Alloc>>::Set,
     /// The parents that were registered since the last accepted sync.
     since: Vec<ParentValue, D::Alloc>,
@@ -107,13 +111,16 @@ pub struct DecideQueue<D: DependencyProvider> {
 }
 
 impl<D: DependencyProvider> Model for DecideQueue<D> {
+    ghost use Rattle.std.specs.Prelude.{map};
+    ghost use Rattle.resolvo_queue.specs.ByName.{AreEntered, numbers_under};
     ghost use Rattle.resolvo_queue.specs.Queue.{IsKept, Queue, queue_of};
 
     ghost Value = { Queue D.NameId D.NameId.Set };
 
     ghost view = { λ q. queue_of q.tracked q.names.items q.hot_names q.since.items q.witnesses };
 
-    ghost invariant = { λ q. IsKept D.NameId.Set.has (queue_of q.tracked q.names.items q.hot_names q.since.items q.witnesses) };
+    ghost invariant = { λ q. IsKept D.NameId.Set.has (queue_of q.tracked q.names.items q.hot_names q.since.items q.witnesses)
+        × AreEntered D.NameId.Slots.is_too_large (numbers_under D.NameId.Slots.value_at q.by_name) (map (λ own. own.items) q.names.items) };
 }
 
 impl<D: DependencyProvider> DecideQueue<D> {
@@ -126,6 +133,7 @@ impl<D: DependencyProvider> DecideQueue<D> {
         DecideQueue {
             tracked: TrackedClauses::new(alloc),
             names: Vec::new(alloc),
+            by_name: ClausesByName::new(alloc),
             hot_names: <<D::NameId as SolverId<D::Alloc>>::Set as IdSet<D::NameId, D::Alloc>>::new(
                 alloc,
             ),
@@ -211,6 +219,8 @@ impl<D: DependencyProvider> DecideQueue<D> {
         let names = copied(*self.names.allocator(), names)?;
         self.names.reserve(1)?;
         self.since.reserve(1)?;
+        let number = self.names.len() as u32;
+        self.by_name.enter(names.as_slice(), number)?;
         let is_hot = has_hot_name(&self.hot_names, names.as_slice());
         let literals = condition_of(&condition, disjunctions);
         self.tracked
@@ -224,7 +234,7 @@ impl<D: DependencyProvider> DecideQueue<D> {
     }
 
     /// Tells that a package has a score. A name stays hot. Refused, it changes nothing that an answer can show. The first time
-    /// for a name it is linear in the names of all clauses.
+    /// for a name it is linear in the clauses that have it.
     pub fn mark_name_hot(&mut self, name: D::NameId) -> Result<(), StoreError>
         ensures ok { OnOk result (IsUpdate (D.NameId.Set.has self.old.hot) name true (D.NameId.Set.has self.new.hot)) }
         ensures err { OnErr result (SameValues (D.NameId.Set.has self.old.hot) (D.NameId.Set.has self.new.hot)) }
@@ -241,32 +251,22 @@ impl<D: DependencyProvider> DecideQueue<D> {
         Ok(())
     }
 
-    /// Makes the clauses hot that have the name, unless it is hot already. Where the name is too large for a set of names,
-    /// a refusal says that.
+    /// Makes the clauses hot that have the name, unless it is hot already. A name that no set can hold isn't refused here: no
+    /// clause is found by it.
     fn heat(&mut self, name: D::NameId) -> Result<(), StoreError>
-        ensures lacks { OnOk result (ColdLack name self.new.names self.new.inside.clauses) }
+        ensures lacks { OnOk result (D.NameId.Set.is_too_large name ≡ false → ColdLack name self.new.names self.new.inside.clauses) }
         ensures clauses { SameClauses self.old self.new }
         ensures synced { SameSync self.old self.new }
         ensures hot { self.new.hot ≡ self.old.hot }
         ensures records { self.new.inside.requirements ≡ self.old.inside.requirements }
-        ensures refused { IfErr result (IsGrowthRefusal (D.NameId.Set.is_too_large name)) }
-        ensures too_large { OnErr result (IsTrue (D.NameId.Set.is_too_large name) → result ≡ Err IdSpace) }
+        ensures memory { IfErr result (λ e. e ≡ OutOfMemory) }
+        ensures fits { IsTrue (D.NameId.Set.is_too_large name) → IsOk result }
         ensures stands { (refs : References D.NameId D.SolvableId D.Alloc) → StandsOn refs self.old → StandsOn refs self.new }
     {
         if self.hot_names.contains(name) {
             return Ok(());
         }
-        match self.tracked.heat_named(self.names.as_slice(), name) {
-            Ok(()) => Ok(()),
-            Err(refused) => {
-                let mut names = <<D::NameId as SolverId<D::Alloc>>::Set as IdSet<
-                    D::NameId,
-                    D::Alloc,
-                >>::new(*self.names.allocator());
-                names.insert(name)?;
-                Err(refused)
-            }
-        }
+        self.tracked.heat_clauses(self.by_name.at(name))
     }
 
     /// Brings the queue up to date with a trail, whose values the map has. The trail is that of the last accepted call

@@ -22,7 +22,7 @@ first_found-requires-clause-look g c =
     let refs = references (g.D.Interner.universe c.args.provider.now) c.args.lists.now c.args.disjunctions.now in
     let stands : StandsOn refs before = subst (StandsOn refs) (sym c.self.view_is) c.requires.stands in
     record {
-      order = c.self.invariant.order;
+      order = c.self.invariant.0.order;
       conditions = stands.conditions;
       listed = stands.listed;
       candidates = stands.falsified.candidates;
@@ -45,7 +45,7 @@ first_found-requires-clause-found g c =
     let accepted : before.must_start_anew ≡ false = c.if-self.false in
     let differ : SameElsewhere (is_among routed) (values_of before.trail) (values_in c.args.map.now) =
     subst (λ v. SameElsewhere (is_among routed) v (values_in c.args.map.now)) (λ i x. decided_is before.trail x i)
-    (elsewhere g.D.NameId.Set.IdSet.has refs before before c.self.invariant stands refl refl refl c.args.floor c.min-floor.result c.args.trail.now (values_in c.args.map.now)
+    (elsewhere g.D.NameId.Set.IdSet.has refs before before c.self.invariant.0 stands refl refl refl c.args.floor c.min-floor.result c.args.trail.now (values_in c.args.map.now)
     less agrees c.requires.values accepted) in
     let after : Witnessed = record { of = before.witnesses.of; changed = before.witnesses.changed ++ routed; looked = before.witnesses.looked } in
     falsified_found refs before.inside.clauses askable (values_in c.args.map.now) before.inside.occurrences after stands.falsified.candidates

@@ -22,11 +22,11 @@ next_offer-requires-clause-asked g c =
     let refs = references (g.D.Interner.universe c.args.provider.now) c.args.reader.now.lists c.args.disjunctions.now in
     let stands : StandsOn refs before = subst (StandsOn refs) (sym c.self.view_is) c.requires.stands in
     record {
-      located = c.self.invariant.order.located;
+      located = c.self.invariant.0.order.located;
       askable = askable_tracked refs inside.tracked.index.clauses.items stands.parts
           (subst (λ (q : Queue g.row.D-NameId.Denot g.row.D-NameId-Set.Denot). All (CanWalk refs) q.clauses) (sym c.self.view_is) c.requires.walkable);
       listed = stands.listed;
-      ready = ready_asked g.D.NameId.Set.IdSet.has refs before before c.self.invariant stands refl refl refl
+      ready = ready_asked g.D.NameId.Set.IdSet.has refs before before c.self.invariant.0 stands refl refl refl
           (values_in c.args.map.now) (subst (IsSynced (values_in c.args.map.now)) (sym c.self.view_is) c.requires.synced);
     }
 
@@ -38,7 +38,7 @@ next_offer-requires-clause-cold g c =
     let refs = references universe c.args.reader.now.lists c.args.disjunctions.now in
     cold_without_score universe c.args.reader.now.lists (values_in c.args.map.now) (clause_literals refs) (g.D.NameId.Set.IdSet.has inside.hot_names)
     (g.D.NameId.Scores.IdMap.value_at c.args.scores.now) inside.tracked.index.clauses.items
-    (cold_sets universe g.D.NameId.Set.IdSet.has before refl (subst (AreNamed universe) (sym c.self.view_is) c.requires.named) c.self.invariant)
+    (cold_sets universe g.D.NameId.Set.IdSet.has before refl (subst (AreNamed universe) (sym c.self.view_is) c.requires.named) c.self.invariant.0)
     (subst (OnlyHotScore g.D.NameId.Set.IdSet.has (g.D.NameId.Scores.IdMap.value_at c.args.scores.now)) (sym c.self.view_is) c.requires.hot)
 
 pub invariant_of-self : goal.invariant_of-self
@@ -46,22 +46,26 @@ invariant_of-self g c =
     let inside = c.self.inside in
     let before : Queue g.row.D-NameId.Denot g.row.D-NameId-Set.Denot = queue_of inside.tracked inside.names.items inside.hot_names inside.since.items inside.witnesses in
     let after : Queue g.row.D-NameId.Denot g.row.D-NameId-Set.Denot = queue_of c.next_offer.new.tracked inside.names.items inside.hot_names inside.since.items inside.witnesses in
-    let refs = references (g.D.Interner.universe c.args.provider.now) c.args.reader.now.lists c.args.disjunctions.now in
-    kept_still g.D.NameId.Set.IdSet.has before after c.self.invariant
-    (order_asked before.inside after.inside (clause_literals refs) (rows_in refs) (values_in c.args.map.now)
-    (ap (λ ix. ix.clauses.items) c.next_offer.ensures.walks.index) (ap (λ ix. ix.by_parent) c.next_offer.ensures.walks.index) c.next_offer.ensures.walks.found (ready_by refs (values_in c.args.map.now) c.next_offer.new.tracked inside.tracked c.next_offer.ensures.walks.index c.next_offer.ensures.asked) c.self.invariant.order)
-    (ap (λ ix. ix.clauses.items) c.next_offer.ensures.walks.index) refl refl (inl refl)
+    let refs = references (g.D.Interner.universe c.args.provider.now) c.args.reader.now.lists c.args.disjunctions.now in (
+      kept_still g.D.NameId.Set.IdSet.has before after c.self.invariant.0
+          (order_asked before.inside after.inside (clause_literals refs) (rows_in refs) (values_in c.args.map.now)
+          (ap (λ ix. ix.clauses.items) c.next_offer.ensures.walks.index) (ap (λ ix. ix.by_parent) c.next_offer.ensures.walks.index) c.next_offer.ensures.walks.found (ready_by refs (values_in c.args.map.now) c.next_offer.new.tracked inside.tracked c.next_offer.ensures.walks.index c.next_offer.ensures.asked) c.self.invariant.0.order)
+          (ap (λ ix. ix.clauses.items) c.next_offer.ensures.walks.index) refl refl (inl refl),
+      c.self.invariant.1,
+    )
 
 pub invariant_of-self-2 : goal.invariant_of-self-2
 invariant_of-self-2 g c =
     let inside = c.self.inside in
     let before : Queue g.row.D-NameId.Denot g.row.D-NameId-Set.Denot = queue_of inside.tracked inside.names.items inside.hot_names inside.since.items inside.witnesses in
     let after : Queue g.row.D-NameId.Denot g.row.D-NameId-Set.Denot = queue_of c.next_offer.new.tracked inside.names.items inside.hot_names inside.since.items inside.witnesses in
-    let refs = references (g.D.Interner.universe c.args.provider.now) c.args.reader.now.lists c.args.disjunctions.now in
-    kept_still g.D.NameId.Set.IdSet.has before after c.self.invariant
-    (order_asked before.inside after.inside (clause_literals refs) (rows_in refs) (values_in c.args.map.now)
-    (ap (λ ix. ix.clauses.items) c.next_offer.ensures.walks.index) (ap (λ ix. ix.by_parent) c.next_offer.ensures.walks.index) c.next_offer.ensures.walks.found (ready_by refs (values_in c.args.map.now) c.next_offer.new.tracked inside.tracked c.next_offer.ensures.walks.index c.next_offer.ensures.asked) c.self.invariant.order)
-    (ap (λ ix. ix.clauses.items) c.next_offer.ensures.walks.index) refl refl (inl refl)
+    let refs = references (g.D.Interner.universe c.args.provider.now) c.args.reader.now.lists c.args.disjunctions.now in (
+      kept_still g.D.NameId.Set.IdSet.has before after c.self.invariant.0
+          (order_asked before.inside after.inside (clause_literals refs) (rows_in refs) (values_in c.args.map.now)
+          (ap (λ ix. ix.clauses.items) c.next_offer.ensures.walks.index) (ap (λ ix. ix.by_parent) c.next_offer.ensures.walks.index) c.next_offer.ensures.walks.found (ready_by refs (values_in c.args.map.now) c.next_offer.new.tracked inside.tracked c.next_offer.ensures.walks.index c.next_offer.ensures.asked) c.self.invariant.0.order)
+          (ap (λ ix. ix.clauses.items) c.next_offer.ensures.walks.index) refl refl (inl refl),
+      c.self.invariant.1,
+    )
 
 pub returns-in_err-offer-clause-stands : goal.returns-in_err-offer-clause-stands
 returns-in_err-offer-clause-stands g c =
@@ -71,7 +75,7 @@ returns-in_err-offer-clause-stands g c =
     let refs = references (g.D.Interner.universe c.args.provider.now) c.args.reader.now.lists c.args.disjunctions.now in
     let index = c.next_offer.ensures.walks.index in
     let stands : StandsOn refs before = subst (StandsOn refs) (sym c.self.view_is) c.requires.stands in
-    stands_asked g.D.NameId.Set.IdSet.has refs before after c.self.invariant stands
+    stands_asked g.D.NameId.Set.IdSet.has refs before after c.self.invariant.0 stands
     (ap (λ ix. map clause_of ix.clauses.items) index) (ap (λ ix. ix.clauses.items) index) (ap (λ ix. ix.by_condition) index)
     (values_in c.args.map.now) (subst (IsSynced (values_in c.args.map.now)) (sym c.self.view_is) c.requires.synced)
     (ap (λ t. t.items) c.next_offer.ensures.walks.trail) refl c.next_offer.ensures.asked.listed (ready_by refs (values_in c.args.map.now) c.next_offer.new.tracked inside.tracked c.next_offer.ensures.walks.index c.next_offer.ensures.asked)
@@ -85,7 +89,7 @@ returns-clause-stands g c =
     let refs = references (g.D.Interner.universe c.args.provider.now) c.args.reader.now.lists c.args.disjunctions.now in
     let index = c.next_offer.ensures.walks.index in
     let stands : StandsOn refs before = subst (StandsOn refs) (sym c.self.view_is) c.requires.stands in
-    stands_asked g.D.NameId.Set.IdSet.has refs before after c.self.invariant stands
+    stands_asked g.D.NameId.Set.IdSet.has refs before after c.self.invariant.0 stands
     (ap (λ ix. map clause_of ix.clauses.items) index) (ap (λ ix. ix.clauses.items) index) (ap (λ ix. ix.by_condition) index)
     (values_in c.args.map.now) (subst (IsSynced (values_in c.args.map.now)) (sym c.self.view_is) c.requires.synced)
     (ap (λ t. t.items) c.next_offer.ensures.walks.trail) refl c.next_offer.ensures.asked.listed (ready_by refs (values_in c.args.map.now) c.next_offer.new.tracked inside.tracked c.next_offer.ensures.walks.index c.next_offer.ensures.asked)

@@ -18,7 +18,7 @@ pub settle-requires-clause-entries : goal.settle-requires-clause-entries
 settle-requires-clause-entries g c = subst (λ (q : Queue g.row.D-NameId.Denot g.row.D-NameId-Set.Denot). HaveEntries c.args.reader.now.lists c.args.disjunctions.now q.inside.clauses) (sym c.self.view_is) c.requires.entries
 
 pub settle-requires-clause-order : goal.settle-requires-clause-order
-settle-requires-clause-order g c = c.self.invariant.order
+settle-requires-clause-order g c = c.self.invariant.0.order
 
 pub settle-requires-clause-conditions : goal.settle-requires-clause-conditions
 settle-requires-clause-conditions g c =
@@ -37,10 +37,12 @@ invariant_of-self g c =
     let inside = c.self.inside in
     let before : Queue g.row.D-NameId.Denot g.row.D-NameId-Set.Denot = queue_of inside.tracked inside.names.items inside.hot_names inside.since.items inside.witnesses in
     let after : Queue g.row.D-NameId.Denot g.row.D-NameId-Set.Denot = queue_of c.settle.new.self inside.names.items inside.hot_names inside.since.items c.settle.new.witnesses in
-    let same = c.settle.ensures.same in
-    kept_still g.D.NameId.Set.IdSet.has before after c.self.invariant
-    (order_listed before.inside after.inside (only_lists inside.tracked c.settle.new.self same.0 same.1 same.2) c.self.invariant.order)
-    (ap (λ ix. ix.clauses.items) same.0) refl refl (inl refl)
+    let same = c.settle.ensures.same in (
+      kept_still g.D.NameId.Set.IdSet.has before after c.self.invariant.0
+          (order_listed before.inside after.inside (only_lists inside.tracked c.settle.new.self same.0 same.1 same.2) c.self.invariant.0.order)
+          (ap (λ ix. ix.clauses.items) same.0) refl refl (inl refl),
+      c.self.invariant.1,
+    )
 
 pub returns-clause-records : goal.returns-clause-records
 returns-clause-records g c = c.settle.ensures.same.2 ∙ ap (λ (q : Queue g.row.D-NameId.Denot g.row.D-NameId-Set.Denot). q.inside.requirements) c.self.view_is

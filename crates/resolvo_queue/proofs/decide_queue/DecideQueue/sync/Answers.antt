@@ -10,27 +10,31 @@ use Rattle.resolvo_queue.proofs.OwedLaws.{owed_kept, owes_one_more}
 use Rattle.resolvo_queue.proofs.decide_queue.DecideQueue.sync.Goals as goal
 
 pub sync-requires-clause-numbers : goal.sync-requires-clause-numbers
-sync-requires-clause-numbers g c = λ n d e. own_number c.self.inside.tracked.index.clauses.items c.self.invariant.order.located n d e
+sync-requires-clause-numbers g c = λ n d e. own_number c.self.inside.tracked.index.clauses.items c.self.invariant.0.order.located n d e
 
 pub invariant_of-self-in_err-sync : goal.invariant_of-self-in_err-sync
 invariant_of-self-in_err-sync g c =
     let inside = c.self.inside in
     let before : Queue g.row.D-NameId.Denot g.row.D-NameId-Set.Denot = queue_of inside.tracked inside.names.items inside.hot_names inside.since.items inside.witnesses in
-    let after : Queue g.row.D-NameId.Denot g.row.D-NameId-Set.Denot = queue_of c.sync.new.self inside.names.items inside.hot_names inside.since.items c.note_changes.new.self in
-    kept_still g.D.NameId.Set.IdSet.has before after c.self.invariant
-    (order_after_sync before.inside after.inside (ap (λ ix. ix.clauses.items) c.sync.ensures.same.0) (ap (λ ix. ix.by_parent) c.sync.ensures.same.0)
-    c.sync.ensures.only c.sync.ensures.grows c.self.invariant.order)
-    (ap (λ ix. ix.clauses.items) c.sync.ensures.same.0) refl refl (inl refl)
+    let after : Queue g.row.D-NameId.Denot g.row.D-NameId-Set.Denot = queue_of c.sync.new.self inside.names.items inside.hot_names inside.since.items c.note_changes.new.self in (
+      kept_still g.D.NameId.Set.IdSet.has before after c.self.invariant.0
+          (order_after_sync before.inside after.inside (ap (λ ix. ix.clauses.items) c.sync.ensures.same.0) (ap (λ ix. ix.by_parent) c.sync.ensures.same.0)
+          c.sync.ensures.only c.sync.ensures.grows c.self.invariant.0.order)
+          (ap (λ ix. ix.clauses.items) c.sync.ensures.same.0) refl refl (inl refl),
+      c.self.invariant.1,
+    )
 
 pub invariant_of-self-2 : goal.invariant_of-self-2
 invariant_of-self-2 g c =
     let inside = c.self.inside in
     let before : Queue g.row.D-NameId.Denot g.row.D-NameId-Set.Denot = queue_of inside.tracked inside.names.items inside.hot_names inside.since.items inside.witnesses in
-    let after : Queue g.row.D-NameId.Denot g.row.D-NameId-Set.Denot = queue_of c.sync.new.self inside.names.items inside.hot_names c.clear.new.self.items c.note_changes.new.self in
-    kept_still g.D.NameId.Set.IdSet.has before after c.self.invariant
-    (order_after_sync before.inside after.inside (ap (λ ix. ix.clauses.items) c.sync.ensures.same.0) (ap (λ ix. ix.by_parent) c.sync.ensures.same.0)
-    c.sync.ensures.only c.sync.ensures.grows c.self.invariant.order)
-    (ap (λ ix. ix.clauses.items) c.sync.ensures.same.0) refl refl (inr c.clear.ensures.items)
+    let after : Queue g.row.D-NameId.Denot g.row.D-NameId-Set.Denot = queue_of c.sync.new.self inside.names.items inside.hot_names c.clear.new.self.items c.note_changes.new.self in (
+      kept_still g.D.NameId.Set.IdSet.has before after c.self.invariant.0
+          (order_after_sync before.inside after.inside (ap (λ ix. ix.clauses.items) c.sync.ensures.same.0) (ap (λ ix. ix.by_parent) c.sync.ensures.same.0)
+          c.sync.ensures.only c.sync.ensures.grows c.self.invariant.0.order)
+          (ap (λ ix. ix.clauses.items) c.sync.ensures.same.0) refl refl (inr c.clear.ensures.items),
+      c.self.invariant.1,
+    )
 
 pub sync-requires-clause-agrees : goal.sync-requires-clause-agrees
 sync-requires-clause-agrees g c =
@@ -48,7 +52,7 @@ returns-in-Err-clause-stands g c =
     let before : Queue g.row.D-NameId.Denot g.row.D-NameId-Set.Denot = queue_of inside.tracked inside.names.items inside.hot_names inside.since.items inside.witnesses in
     let after : Queue g.row.D-NameId.Denot g.row.D-NameId-Set.Denot =
     queue_of (record inside.tracked { must_start_anew = true }) inside.names.items inside.hot_names inside.since.items c.note_changes.new.self in
-    λ refs s. stands_behind g.D.NameId.Set.IdSet.has refs before after c.self.invariant (subst (StandsOn refs) (sym c.self.view_is) s)
+    λ refs s. stands_behind g.D.NameId.Set.IdSet.has refs before after c.self.invariant.0 (subst (StandsOn refs) (sym c.self.view_is) s)
     refl refl refl refl (λ k. inl refl) refl c.note_changes.ensures.of c.note_changes.ensures.looked
 
 pub returns-in_err-sync-clause-stands : goal.returns-in_err-sync-clause-stands
@@ -56,7 +60,7 @@ returns-in_err-sync-clause-stands g c =
     let inside = c.self.inside in
     let before : Queue g.row.D-NameId.Denot g.row.D-NameId-Set.Denot = queue_of inside.tracked inside.names.items inside.hot_names inside.since.items inside.witnesses in
     let after : Queue g.row.D-NameId.Denot g.row.D-NameId-Set.Denot = queue_of c.sync.new.self inside.names.items inside.hot_names inside.since.items c.note_changes.new.self in
-    λ refs s. stands_behind g.D.NameId.Set.IdSet.has refs before after c.self.invariant (subst (StandsOn refs) (sym c.self.view_is) s)
+    λ refs s. stands_behind g.D.NameId.Set.IdSet.has refs before after c.self.invariant.0 (subst (StandsOn refs) (sym c.self.view_is) s)
     (ap (λ ix. map clause_of ix.clauses.items) c.sync.ensures.same.0) (ap (λ ix. ix.clauses.items) c.sync.ensures.same.0) (ap (λ ix. ix.by_condition) c.sync.ensures.same.0)
     c.sync.ensures.same.1 c.sync.ensures.only c.in_err-sync.ensures.refused c.note_changes.ensures.of c.note_changes.ensures.looked
 
@@ -66,7 +70,7 @@ returns-clause-stands g c =
     let before : Queue g.row.D-NameId.Denot g.row.D-NameId-Set.Denot = queue_of inside.tracked inside.names.items inside.hot_names inside.since.items inside.witnesses in
     let after : Queue g.row.D-NameId.Denot g.row.D-NameId-Set.Denot = queue_of c.sync.new.self inside.names.items inside.hot_names c.clear.new.self.items c.note_changes.new.self in
     let less : c.min-floor.result ≤ c.args.floor = grind (arith, c.min.ensures, c.min-floor.ensures) in
-    λ refs s. stands_synced g.D.NameId.Set.IdSet.has refs before after c.self.invariant (subst (StandsOn refs) (sym c.self.view_is) s)
+    λ refs s. stands_synced g.D.NameId.Set.IdSet.has refs before after c.self.invariant.0 (subst (StandsOn refs) (sym c.self.view_is) s)
     (ap (λ ix. map clause_of ix.clauses.items) c.sync.ensures.same.0) (ap (λ ix. ix.clauses.items) c.sync.ensures.same.0) (ap (λ ix. ix.by_condition) c.sync.ensures.same.0)
     c.args.floor c.min-floor.result c.args.trail.now _ less
     (subst (λ (q : Queue g.row.D-NameId.Denot g.row.D-NameId-Set.Denot). q.must_start_anew ≡ false → AgreesBelow c.args.floor c.args.trail.now q) (sym c.self.view_is) c.requires.agrees)
