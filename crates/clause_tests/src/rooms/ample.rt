@@ -53,21 +53,6 @@ fn track_each<N: SolverId<A>, A: Allocator + Copy>(
     ])
 }
 
-#[test]
-fn dense_names_have_trackers(rt: HostRuntime) -> Result<(), Fail> {
-    let names = [NameId::from_raw(5), NameId::from_raw(3)];
-    sees(tracked::<NameId, Global>(rt.alloc(), names), TRACKED)
-}
-
-#[test]
-fn sparse_names_have_trackers(rt: HostRuntime) -> Result<(), Fail> {
-    let names: [SparseId<NameTag>; 2] = [SparseId::from_raw(u32::MAX), SparseId::from_raw(0)];
-    sees(
-        tracked::<SparseId<NameTag>, Global>(rt.alloc(), names),
-        TRACKED,
-    )
-}
-
 fn scored<N: SolverId<A>, A: Allocator + Copy>(
     alloc: A,
     names: [N; 2],
@@ -92,17 +77,26 @@ fn bump_each<N: SolverId<A>, A: Allocator + Copy>(
     Ok([bumped, decayed, seen(scores, names)])
 }
 
-#[test]
-fn dense_names_have_scores(rt: HostRuntime) -> Result<(), Fail> {
-    let names = [NameId::from_raw(5), NameId::from_raw(3)];
-    sees(scored::<NameId, Global>(rt.alloc(), names), SCORES)
+/// What is seen of trackers, and of scores. A test names a kind of ids once, since the proof then spells out all that stands
+/// on it.
+fn kept<N: SolverId<A>, A: Allocator + Copy>(
+    alloc: A,
+    names: [N; 2],
+) -> Result<([bool; 7], [[u64; 3]; 3]), StoreError> {
+    Ok((tracked(alloc, names)?, scored(alloc, names)?))
 }
 
 #[test]
-fn sparse_names_have_scores(rt: HostRuntime) -> Result<(), Fail> {
+fn dense_names_have_trackers_and_scores(rt: HostRuntime) -> Result<(), Fail> {
+    let names = [NameId::from_raw(5), NameId::from_raw(3)];
+    sees(kept::<NameId, Global>(rt.alloc(), names), (TRACKED, SCORES))
+}
+
+#[test]
+fn sparse_names_have_trackers_and_scores(rt: HostRuntime) -> Result<(), Fail> {
     let names: [SparseId<NameTag>; 2] = [SparseId::from_raw(u32::MAX), SparseId::from_raw(0)];
     sees(
-        scored::<SparseId<NameTag>, Global>(rt.alloc(), names),
-        SCORES,
+        kept::<SparseId<NameTag>, Global>(rt.alloc(), names),
+        (TRACKED, SCORES),
     )
 }

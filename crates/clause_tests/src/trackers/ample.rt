@@ -33,14 +33,25 @@ const FOUR: [BitClause; 8] = [
     (4, 12, true),
 ];
 
+// Two of them come again, which changes nothing.
 #[test]
 fn four_variables_have_eight_clauses(rt: HostRuntime) -> Result<(), Fail> {
     let mut numbers = TrackedNumbers::new(rt.alloc());
-    let added = four_are_added(&mut numbers);
-    let clauses = numbers.clauses();
+    let seen = six_are_added(&mut numbers);
     drop(numbers);
-    sees(added, [NEW, NEW_WITH_HELPER, NEW_WITH_HELPER, NEW])?;
-    sees(Ok(clauses), listed(&FOUR))
+    let four = ([NEW, NEW_WITH_HELPER, NEW_WITH_HELPER, NEW], listed(&FOUR));
+    sees(seen, (four, ([TRACKED, TRACKED], listed(&FOUR))))
+}
+
+/// Additions, and the clauses behind the last of them.
+type Additions<const N: usize> = ([Added; N], [Option<BitClause>; LISTED]);
+
+fn six_are_added<A: Allocator + Copy>(
+    numbers: &mut TrackedNumbers<A>,
+) -> Result<(Additions<4>, Additions<2>), StoreError> {
+    let four = (four_are_added(numbers)?, numbers.clauses());
+    let again = [numbers.add(2, 14)?, numbers.add(4, 15)?];
+    Ok((four, (again, numbers.clauses())))
 }
 
 fn four_are_added<A: Allocator + Copy>(
@@ -61,23 +72,6 @@ fn listed(clauses: &[BitClause]) -> [Option<BitClause>; LISTED] {
         seen[index] = clauses.get(index).copied();
     }
     seen
-}
-
-#[test]
-fn a_tracked_variable_changes_nothing(rt: HostRuntime) -> Result<(), Fail> {
-    let mut numbers = TrackedNumbers::new(rt.alloc());
-    let added = added_twice(&mut numbers);
-    let clauses = numbers.clauses();
-    drop(numbers);
-    sees(added, [TRACKED, TRACKED])?;
-    sees(Ok(clauses), listed(&FOUR))
-}
-
-fn added_twice<A: Allocator + Copy>(
-    numbers: &mut TrackedNumbers<A>,
-) -> Result<[Added; 2], StoreError> {
-    four_are_added(numbers)?;
-    Ok([numbers.add(2, 14)?, numbers.add(4, 15)?])
 }
 
 #[test]

@@ -2,8 +2,7 @@
 use crate::variable_calls::made::{knows_clause, knows_variable, variables_of};
 use clauses::Clause;
 use providers::{Interner, Requirement};
-use script_packages::{Packages, read_catalogue};
-use std::process::Abort;
+use script_packages::read_catalogue;
 use std::test::Fail;
 use test_checks::is_same;
 use typed_ids::{
@@ -27,73 +26,50 @@ fn name() -> NameId {
     NameId::from_raw(1)
 }
 
-/// The texts of all variables, each with a line's end behind it.
-fn variable_texts<I: Interner>(
-    heap: I::Alloc,
+/// Appends the texts of all variables, each with a line's end behind it.
+fn display_variables<I: Interner>(
     interner: &I,
     variables: &VariableMap<I::NameId, I::SolvableId, I::Alloc>,
-) -> Result<String<I::Alloc>, StoreError> {
-    let mut text = String::new(heap);
+    out: &mut String<I::Alloc>,
+) -> Result<(), StoreError> {
     for index in 0..variables.count() {
         let variable = VariableId::from_index(index);
         if knows_variable(interner, variables, variable) {
-            variable.display(variables, interner, &mut text)?;
-            text.push_str("\n")?;
+            variable.display(variables, interner, out)?;
+            out.push_str("\n")?;
         }
     }
-    Ok(text)
+    Ok(())
 }
 
-/// The variables of these origins have these texts, behind the root's.
-fn have_variable_texts<I: Interner>(
-    heap: I::Alloc,
-    interner: &I,
-    origins: &[VariableOrigin<I::NameId, I::SolvableId>],
-    wanted: &str,
-) -> Result<(), Fail> {
-    let variables = variables_of(heap, origins)?;
-    let seen = variable_texts(heap, interner, &variables);
-    drop(variables);
-    let text = seen?;
-    let ended = is_same(text.as_str(), wanted);
-    drop(text);
-    ended
-}
-
-/// Each kind of variable.
-fn of_each_kind(rt: &impl AllocGlobal, packages: &Packages) -> Result<(), Fail> {
-    let set = VersionSetId(0);
-    let origins = [
-        VariableOrigin::AtLeastOne(name()),
-        VariableOrigin::ConstrainsViolation(set),
-        VariableOrigin::RequiresGate(Requirement::Single(set)),
-        VariableOrigin::ForbidMultiple(name()),
-        solvable(1),
-    ];
-    let wanted =
-        "root\nany-of(a)\nconstrains-violation(a >=1, <2)\nrequires-gate(a >=1, <2)\nforbid-multiple(a)\na 1\n";
-    have_variable_texts(rt.alloc(), packages, &origins, wanted)
-}
-
-/// The texts of the clauses, each with a line's end behind it.
-fn clause_texts<I: Interner>(
-    heap: I::Alloc,
+/// Appends the texts of the clauses, each with a line's end behind it.
+fn display_clauses<I: Interner>(
     interner: &I,
     variables: &VariableMap<I::NameId, I::SolvableId, I::Alloc>,
     clauses: &[Clause<I::NameId>],
-) -> Result<String<I::Alloc>, StoreError> {
-    let mut text = String::new(heap);
+    out: &mut String<I::Alloc>,
+) -> Result<(), StoreError> {
     for clause in clauses {
         if knows_clause(interner, variables, *clause) {
-            clause.display(variables, interner, &mut text)?;
-            text.push_str("\n")?;
+            clause.display(variables, interner, out)?;
+            out.push_str("\n")?;
         }
     }
-    Ok(text)
+    Ok(())
 }
 
-/// Clauses over variables of these origins have these texts.
-fn have_clause_texts<I: Interner>(
+fn display_both<I: Interner>(
+    interner: &I,
+    variables: &VariableMap<I::NameId, I::SolvableId, I::Alloc>,
+    clauses: &[Clause<I::NameId>],
+    out: &mut String<I::Alloc>,
+) -> Result<(), StoreError> {
+    display_variables(interner, variables, out)?;
+    display_clauses(interner, variables, clauses, out)
+}
+
+/// The root, variables of these origins, and clauses over them have these texts.
+fn have_texts<I: Interner>(
     heap: I::Alloc,
     interner: &I,
     origins: &[VariableOrigin<I::NameId, I::SolvableId>],
@@ -101,10 +77,10 @@ fn have_clause_texts<I: Interner>(
     wanted: &str,
 ) -> Result<(), Fail> {
     let variables = variables_of(heap, origins)?;
-    let seen = clause_texts(heap, interner, &variables, clauses);
+    let mut text = String::new(heap);
+    let displayed = display_both(interner, &variables, clauses, &mut text);
     drop(variables);
-    let text = seen?;
-    let ended = is_same(text.as_str(), wanted);
+    let ended = is_same((displayed, text.as_str()), (Ok(()), wanted));
     drop(text);
     ended
 }
@@ -113,71 +89,74 @@ fn variable(index: u16) -> VariableId {
     VariableId::from_index(index as usize)
 }
 
-fn of_no_pair(rt: &impl AllocGlobal, packages: &Packages) -> Result<(), Fail> {
-    let clauses = [
-        Clause::InstallRoot,
-        Clause::Learnt(LearntClauseId::from_index(0)),
-        Clause::Excluded(variable(1), StringId(0)),
-    ];
-    let wanted =
-        "InstallRoot\nLearnt(LearntClauseId(0))\nExcluded(any-of(a)(VariableId(2)), old)\n";
-    let origins = [VariableOrigin::AtLeastOne(name())];
-    have_clause_texts(rt.alloc(), packages, &origins, &clauses, wanted)
-}
-
-fn of_requirements(rt: &impl AllocGlobal, packages: &Packages) -> Result<(), Fail> {
-    let asked = Requirement::Single(VersionSetId(1));
-    let disjunction = DisjunctionId::from_index(0);
-    let clauses = [
-        Clause::Requires(variable(1), None, asked),
-        Clause::Requires(variable(1), Some(disjunction), asked),
-    ];
-    let wanted =
-        "Requires(p 1(VariableId(2)), a >=1, <3, condition=None)\nRequires(p 1(VariableId(2)), a >=1, <3, condition=Some(DisjunctionId(1)))\n";
-    have_clause_texts(rt.alloc(), packages, &[solvable(0)], &clauses, wanted)
-}
-
-fn of_pairs(rt: &impl AllocGlobal, packages: &Packages) -> Result<(), Fail> {
-    let set = VersionSetId(1);
-    let (first, second, violation, any, forbid) = (
-        variable(1),
-        variable(2),
-        variable(3),
-        variable(4),
-        variable(5),
-    );
-    let origins = [
+/// A variable of each kind: p 1, a 1, a 2, and the helpers.
+fn origins() -> [Origin; 7] {
+    let set = VersionSetId(0);
+    [
+        solvable(0),
         solvable(1),
         solvable(2),
-        VariableOrigin::ConstrainsViolation(set),
         VariableOrigin::AtLeastOne(name()),
+        VariableOrigin::ConstrainsViolation(set),
+        VariableOrigin::RequiresGate(Requirement::Single(set)),
         VariableOrigin::ForbidMultiple(name()),
-    ];
-    let clauses = [
+    ]
+}
+
+/// A clause of each kind over these variables, and a requirement under a condition.
+fn clauses() -> [Clause<NameId>; 11] {
+    let (parent, first, second) = (variable(1), variable(2), variable(3));
+    let (any, violation, forbid) = (variable(4), variable(5), variable(7));
+    let set = VersionSetId(1);
+    let asked = Requirement::Single(set);
+    let condition = Some(DisjunctionId::from_index(0));
+    [
+        Clause::InstallRoot,
+        Clause::Requires(parent, None, asked),
+        Clause::Requires(parent, condition, asked),
+        Clause::ForbidMultipleInstances(second, forbid.positive(), name()),
         Clause::Constrains(first, second, set),
         Clause::ConstrainsExcluded(first, violation, set),
         Clause::ConstrainsParent(second, violation, set),
-        Clause::ForbidMultipleInstances(second, forbid.positive(), name()),
         Clause::Lock(first, second),
+        Clause::Learnt(LearntClauseId::from_index(0)),
+        Clause::Excluded(any, StringId(0)),
         Clause::AnyOf(any, first),
-    ];
-    let wanted =
-        "Constrains(a 1(VariableId(2)), a 2(VariableId(3)), >=1, <3)\nConstrainsExcluded(a 1(VariableId(2)), constrains-violation(a >=1, <3)(VariableId(4)), >=1, <3)\nConstrainsParent(a 2(VariableId(3)), constrains-violation(a >=1, <3)(VariableId(4)), >=1, <3)\nForbidMultipleInstances(a 2(VariableId(3)), forbid-multiple(a)(Literal(11)), a)\nLock(a 1(VariableId(2)), a 2(VariableId(3)))\nAnyOf(any-of(a)(VariableId(5)), a 1(VariableId(2)))\n";
-    have_clause_texts(rt.alloc(), packages, &origins, &clauses, wanted)
+    ]
 }
 
-fn have_texts(rt: &impl AllocGlobal, packages: &Packages) -> Result<(), Fail> {
-    of_each_kind(rt, packages)?;
-    of_no_pair(rt, packages)?;
-    of_requirements(rt, packages)?;
-    of_pairs(rt, packages)
-}
+const TEXTS: &str = "root
+p 1
+a 1
+a 2
+any-of(a)
+constrains-violation(a >=1, <2)
+requires-gate(a >=1, <2)
+forbid-multiple(a)
+InstallRoot
+Requires(p 1(VariableId(2)), a >=1, <3, condition=None)
+Requires(p 1(VariableId(2)), a >=1, <3, condition=Some(DisjunctionId(1)))
+ForbidMultipleInstances(a 2(VariableId(4)), forbid-multiple(a)(Literal(15)), a)
+Constrains(a 1(VariableId(3)), a 2(VariableId(4)), >=1, <3)
+ConstrainsExcluded(a 1(VariableId(3)), constrains-violation(a >=1, <2)(VariableId(6)), >=1, <3)
+ConstrainsParent(a 2(VariableId(4)), constrains-violation(a >=1, <2)(VariableId(6)), >=1, <3)
+Lock(a 1(VariableId(3)), a 2(VariableId(4)))
+Learnt(LearntClauseId(0))
+Excluded(any-of(a)(VariableId(5)), old)
+AnyOf(any-of(a)(VariableId(5)), a 1(VariableId(3)))
+";
 
 #[test]
 fn variables_and_clauses_have_texts(rt: HostRuntime) -> Result<(), Fail> {
     match read_catalogue(rt.alloc(), CATALOGUE) {
         Ok(Some(catalogue)) => {
-            let ended = have_texts(&rt, &catalogue.packages);
+            let ended = have_texts(
+                rt.alloc(),
+                &catalogue.packages,
+                &origins(),
+                &clauses(),
+                TEXTS,
+            );
             drop(catalogue);
             ended
         }
