@@ -14,7 +14,7 @@ pub(crate) struct Ids<N, S> {
 }
 
 /// A question to a cache. Packages and solvables are told by their places, and version sets by their numbers.
-#[derive(Clone, Copy, Debug, PartialEq, Eq)]
+#[derive(Clone, Copy)]
 pub(crate) enum Question {
     /// The candidates of a package.
     Candidates(usize),
@@ -96,10 +96,14 @@ impl<D: DependencyProvider<Cancel = u32> + Counting + Drop> Asks<D::NameId, D::S
 
 /// The place of a solvable, if there is one.
 fn place_of<S: PartialEq>(ids: &[S], solvable: Option<&S>) -> Option<usize> {
-    match solvable {
-        Some(solvable) => ids.iter().position(|id| *id == *solvable),
-        None => None,
+    if let Some(solvable) = solvable {
+        for (place, id) in ids.iter().enumerate() {
+            if *id == *solvable {
+                return Some(place);
+            }
+        }
     }
+    None
 }
 
 fn shown<S: PartialEq>(ids: &[S], list: &[S]) -> Seen {

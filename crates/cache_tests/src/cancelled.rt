@@ -6,9 +6,23 @@ use crate::row::{CANDIDATES, MATCHING, NON_MATCHING, SORTED, available};
 use asking_providers::Stops;
 use std::test::Fail;
 
-// What was answered is answered again, and what it is enough for; nothing else is.
 #[test]
-fn a_stopped_question_changes_nothing(rt: HostRuntime) -> Result<(), Fail> {
+fn each_stop_hands_over_its_own_value_and_changes_nothing(rt: HostRuntime) -> Result<(), Fail> {
+    // The value that is handed over is the one that the provider answered to this question.
+    let mut always = PLAIN;
+    always.stops = Stops::Always;
+    let steps: [Step; 6] = [
+        (Question::Candidates(0), Seen::Cancelled(0)),
+        (Question::Candidates(0), Seen::Cancelled(1)),
+        (Question::Matching(0), Seen::Cancelled(2)),
+        (Question::NonMatching(0), Seen::Cancelled(3)),
+        (Question::Sorted(0), Seen::Cancelled(4)),
+        (Question::Needs(0), Seen::Cancelled(5)),
+    ];
+    dense_gives(&rt, always, &steps, counts(0, 0, 6))?;
+    // What was answered is answered again, and what it is enough for; nothing else is.
+    let mut after_first = PLAIN;
+    after_first.stops = Stops::AfterFirst;
     let steps: [Step; 12] = [
         CANDIDATES,
         CANDIDATES,
@@ -23,14 +37,10 @@ fn a_stopped_question_changes_nothing(rt: HostRuntime) -> Result<(), Fail> {
         (Question::Candidates(1), Seen::Cancelled(7)),
         (Question::Matching(1), Seen::Cancelled(7)),
     ];
-    let mut setup = PLAIN;
-    setup.stops = Stops::AfterFirst;
-    dense_gives(&rt, setup, &steps, counts(1, 0, 6))
-}
-
-// A stopped question marks no hint.
-#[test]
-fn a_question_that_was_stopped_is_answered_later(rt: HostRuntime) -> Result<(), Fail> {
+    dense_gives(&rt, after_first, &steps, counts(1, 0, 6))?;
+    // A question that was stopped is answered later, and marks no hint before.
+    let mut at_first = with_hint(Hint::All);
+    at_first.stops = Stops::AtFirst;
     let steps: [Step; 6] = [
         (Question::Sorted(0), Seen::Cancelled(7)),
         available(2, false),
@@ -39,23 +49,5 @@ fn a_question_that_was_stopped_is_answered_later(rt: HostRuntime) -> Result<(), 
         MATCHING,
         CANDIDATES,
     ];
-    let mut setup = with_hint(Hint::All);
-    setup.stops = Stops::AtFirst;
-    dense_gives(&rt, setup, &steps, counts(1, 0, 2))
-}
-
-// The value that is handed over is the one that the provider answered to this question.
-#[test]
-fn each_stop_hands_over_its_own_value(rt: HostRuntime) -> Result<(), Fail> {
-    let steps: [Step; 6] = [
-        (Question::Candidates(0), Seen::Cancelled(0)),
-        (Question::Candidates(0), Seen::Cancelled(1)),
-        (Question::Matching(0), Seen::Cancelled(2)),
-        (Question::NonMatching(0), Seen::Cancelled(3)),
-        (Question::Sorted(0), Seen::Cancelled(4)),
-        (Question::Needs(0), Seen::Cancelled(5)),
-    ];
-    let mut setup = PLAIN;
-    setup.stops = Stops::Always;
-    dense_gives(&rt, setup, &steps, counts(0, 0, 6))
+    dense_gives(&rt, at_first, &steps, counts(1, 0, 2))
 }

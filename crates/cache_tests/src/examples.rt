@@ -80,7 +80,10 @@ fn lists_of<A: Allocator + Copy>(alloc: A, favored: Option<u32>) -> Result<Lists
         packages: Vec::from_array(alloc, packages)?,
         ranges: Vec::from_array(alloc, ranges)?,
         unions: Vec::new(alloc),
-        favored: favored.map(SolvableId::from_raw),
+        favored: match favored {
+            Some(number) => Some(SolvableId::from_raw(number)),
+            None => None,
+        },
     };
     let sets = Vec::from_array(alloc, [VersionSetId(0), VersionSetId(1)])?;
     match lists.unions.push(sets) {
@@ -103,7 +106,10 @@ pub(crate) fn dense_provider<A: Allocator + Copy>(
         }
     };
     let lists = lists_of(alloc, setup.favored)?;
-    let locked = setup.locked.map(SolvableId::from_raw);
+    let locked = match setup.locked {
+        Some(number) => Some(SolvableId::from_raw(number)),
+        None => None,
+    };
     Ok(Asking::new(lists, setup.listing, hint, locked, setup.stops))
 }
 
@@ -124,22 +130,45 @@ pub(crate) fn sparse_provider<A: Allocator + Copy>(
         }
     };
     let lists = SparseLists(lists_of(alloc, setup.favored)?);
-    let locked = setup.locked.map(SparseSolvable::from_raw);
+    let locked = match setup.locked {
+        Some(number) => Some(SparseSolvable::from_raw(number)),
+        None => None,
+    };
     Ok(Asking::new(lists, setup.listing, hint, locked, setup.stops))
 }
 
 /// Packages 0, 1 and 8, of which there isn't the last, and solvables 0 to 3 and 70, which isn't known.
 pub(crate) fn dense_ids() -> Ids<NameId, SolvableId> {
     Ids {
-        names: [0, 1, 8].map(NameId::from_raw),
-        solvables: [0, 1, 2, 3, 70].map(SolvableId::from_raw),
+        names: [
+            NameId::from_raw(0),
+            NameId::from_raw(1),
+            NameId::from_raw(8),
+        ],
+        solvables: [
+            SolvableId::from_raw(0),
+            SolvableId::from_raw(1),
+            SolvableId::from_raw(2),
+            SolvableId::from_raw(3),
+            SolvableId::from_raw(70),
+        ],
     }
 }
 
 /// The same by sparse ids.
 pub(crate) fn sparse_ids() -> Ids<SparseName, SparseSolvable> {
     Ids {
-        names: [0, 1, 8].map(SparseName::from_raw),
-        solvables: [0, 1, 2, 3, 70].map(SparseSolvable::from_raw),
+        names: [
+            SparseName::from_raw(0),
+            SparseName::from_raw(1),
+            SparseName::from_raw(8),
+        ],
+        solvables: [
+            SparseSolvable::from_raw(0),
+            SparseSolvable::from_raw(1),
+            SparseSolvable::from_raw(2),
+            SparseSolvable::from_raw(3),
+            SparseSolvable::from_raw(70),
+        ],
     }
 }

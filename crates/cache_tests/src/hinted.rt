@@ -21,25 +21,14 @@ fn marks(rt: &impl AllocGlobal, hint: Hint, marked: [bool; 3]) -> Result<(), Fai
     dense_gives(rt, with_hint(hint), &steps, counts(1, 0, 1))
 }
 
-// The last of these names a solvable of another package and one that isn't known.
 #[test]
 fn a_hint_marks_the_candidates_that_it_names(rt: HostRuntime) -> Result<(), Fail> {
-    let hints = [
-        (Hint::None, [false, false, false]),
-        (Hint::All, [true, true, true]),
-        (Hint::Some(0, 2), [true, false, true]),
-        (Hint::Some(3, 70), [false, false, false]),
-    ];
-    for (hint, marked) in hints {
-        marks(&rt, hint, marked)?;
-    }
-    Ok(())
-}
-
-// Solvable 3 is of package 1, and solvable 70, at place 4, isn't known: both are said to be at hand, and nothing else
-// changes.
-#[test]
-fn hints_of_foreign_solvables_do_no_harm(rt: HostRuntime) -> Result<(), Fail> {
+    marks(&rt, Hint::None, [false, false, false])?;
+    marks(&rt, Hint::All, [true, true, true])?;
+    marks(&rt, Hint::Some(0, 2), [true, false, true])?;
+    // This one names solvable 3, which is of package 1, and solvable 70, which isn't known.
+    marks(&rt, Hint::Some(3, 70), [false, false, false])?;
+    // Both, of which the latter is at place 4, are said to be at hand, and nothing else changes.
     let steps: [Step; 6] = [
         CANDIDATES,
         SORTED,

@@ -1,6 +1,6 @@
 //! Memory refused at each request in turn. A cache to which a request is refused answers what one in ample memory does.
 use crate::asks::{Asks, Ids, Question, Seen};
-use crate::examples::{Hint, Setup, with_hint};
+use crate::examples::{Hint, with_hint};
 use crate::played::{Play, Step, dense_play, first_unwanted};
 use crate::row::{CANDIDATES, FAVORED, MATCHING, NON_MATCHING, available};
 use refusing::Refusing;
@@ -17,17 +17,9 @@ struct Trial<'t> {
     number: u64,
 }
 
-/// What is seen of a cache to which a request may be refused.
-#[derive(Clone, Copy, Debug, PartialEq, Eq)]
-struct Refusal {
-    /// The number of the request, and whether it came.
-    number: u64,
-    is_met: bool,
-    /// How many questions were refused for want of memory.
-    refused: usize,
-    /// Whether the others were answered as wanted, and at the end each.
-    agrees: bool,
-}
+/// What is seen of a cache to which a request may be refused: the number of the request, and whether it came; how many
+/// questions were refused for want of memory; and whether the others were answered as wanted, and at the end each.
+type Refusal = (u64, bool, usize, bool);
 
 /// How many questions are refused, and whether the others are answered as wanted. A refused question is asked again once
 /// those before it were.
@@ -56,63 +48,45 @@ impl<N, S> Play<N, S> for Trial<'_> {
         let is_met = !self.heap.is_armed();
         self.heap.arm(0);
         let again = first_unwanted(cache, ids, self.steps).is_none();
-        Refusal {
-            number: self.number,
-            is_met,
-            refused,
-            agrees: agrees && again,
-        }
+        (self.number, is_met, refused, agrees && again)
     }
 }
 
 fn dense_seen(rt: &impl AllocGlobal, steps: &[Step], number: u64) -> Result<Refusal, StoreError> {
+    // Something is favored and all is hinted.
+    let mut setup = with_hint(Hint::All);
+    setup.favored = Some(0);
     let heap = Refusing::new(rt.alloc());
     let trial = Trial {
         steps,
         heap: &heap,
         number,
     };
-    let seen = dense_play(&heap, setup(), &trial);
+    let seen = dense_play(&heap, setup, &trial);
     drop(trial);
     drop(heap);
     seen
 }
 
-/// Something is favored and all is hinted.
-fn setup() -> Setup {
-    let mut setup = with_hint(Hint::All);
-    setup.favored = Some(0);
-    setup
-}
-
-/// Whether the request came; then one question was refused.
-fn is_as_wanted(seen: Result<Refusal, StoreError>, number: u64) -> Result<bool, Fail> {
-    let is_met = seen?.is_met;
-    let wanted = Refusal {
-        number,
-        is_met,
-        refused: usize::from(is_met),
-        agrees: true,
-    };
-    is_same(seen, Ok(wanted))?;
-    Ok(is_met)
-}
-
-/// Each request is refused in turn: there are more than five, and fewer than a thousand.
+/// Each request is refused in turn: there are more than five, and fewer than a thousand. If the request came, one question was
+/// refused.
 fn each_is_refused(rt: &impl AllocGlobal, steps: &[Step]) -> Result<(), Fail> {
     for number in 1..1000u64 {
-        if !is_as_wanted(dense_seen(rt, steps, number), number)? {
+        let seen = dense_seen(rt, steps, number)?;
+        let is_met = seen.1;
+        is_same(seen, (number, is_met, usize::from(is_met), true))?;
+        if !is_met {
             return is_same(number > 5, true);
         }
     }
     Err(Fail::new("each cache met a refusal"))
 }
 
-// Each question of package 0. A refused one may have marked some of its candidates as at hand, so the question about one
-// of them, which nothing else makes so, comes last, when none is refused any more. A solvable of another package is
-// never marked.
 #[test]
 fn requests_of_each_question_are_refused(rt: HostRuntime) -> Result<(), Fail> {
+    // Each question of package 0. A refused one may have marked some of its candidates as at hand, so the question about one
+    // of them, which nothing else makes so, comes last, when none is refused any more. A solvable of another package is
+    // never marked.
     let steps = [
         available(3, false),
         NON_MATCHING,
@@ -122,12 +96,8 @@ fn requests_of_each_question_are_refused(rt: HostRuntime) -> Result<(), Fail> {
         (Question::Needs(1), Seen::IsKnown(true)),
         available(2, true),
     ];
-    each_is_refused(&rt, &steps)
-}
-
-// The same of union 0, which asks for both packages: the solvable that is never marked is one that isn't known.
-#[test]
-fn requests_of_a_union_are_refused(rt: HostRuntime) -> Result<(), Fail> {
+    each_is_refused(&rt, &steps)?;
+    // The same of union 0, which asks for both packages: the solvable that is never marked is one that isn't known.
     let steps = [
         available(4, false),
         (

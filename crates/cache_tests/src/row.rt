@@ -69,20 +69,11 @@ fn hinted(favored: Option<u32>) -> Setup {
 // A favored candidate is the best.
 #[test]
 fn each_question_is_asked_once(rt: HostRuntime) -> Result<(), Fail> {
-    for (favored, sorted) in [(None, SORTED), (Some(0), FAVORED)] {
-        dense_gives(&rt, hinted(favored), &everything(sorted), counts(1, 1, 2))?;
-    }
-    Ok(())
-}
-
-#[test]
-fn sparse_ids_are_answered_the_same(rt: HostRuntime) -> Result<(), Fail> {
-    sparse_gives(&rt, hinted(Some(0)), &everything(FAVORED), counts(1, 1, 2))
-}
-
-// The sorted list is asked for first: all that it needs is asked for on the way.
-#[test]
-fn a_sorted_list_finds_its_package(rt: HostRuntime) -> Result<(), Fail> {
+    dense_gives(&rt, hinted(None), &everything(SORTED), counts(1, 1, 2))?;
+    dense_gives(&rt, hinted(Some(0)), &everything(FAVORED), counts(1, 1, 2))?;
+    // Sparse ids are answered the same.
+    sparse_gives(&rt, hinted(Some(0)), &everything(FAVORED), counts(1, 1, 2))?;
+    // The sorted list is asked for first: all that it needs is asked for on the way.
     let steps = [SORTED, MATCHING, CANDIDATES, NON_MATCHING, SORTED];
     dense_gives(&rt, PLAIN, &steps, counts(1, 0, 1))
 }

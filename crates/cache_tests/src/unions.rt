@@ -20,35 +20,21 @@ const SINGLE: Step = (
 const STOPPED: Step = (Question::Union(0), Seen::Cancelled(7));
 
 #[test]
-fn a_union_lists_its_sets_in_turn(rt: HostRuntime) -> Result<(), Fail> {
+fn a_union_lists_its_sets_in_turn_until_a_stop(rt: HostRuntime) -> Result<(), Fail> {
     let steps = [UNION, SINGLE, SORTED, UNION];
     dense_gives(&rt, PLAIN, &steps, counts(2, 0, 2))?;
-    sparse_gives(&rt, PLAIN, &steps, counts(2, 0, 2))
-}
-
-#[test]
-fn an_unknown_union_is_told(rt: HostRuntime) -> Result<(), Fail> {
+    sparse_gives(&rt, PLAIN, &steps, counts(2, 0, 2))?;
+    // An unknown union is told.
     let unknown: Step = (Question::Union(1), Seen::Unknown);
-    dense_gives(&rt, PLAIN, &[unknown], counts(0, 0, 0))
-}
-
-// The first set is answered and the second stopped: what was found of the first is kept, and its provider not asked again.
-#[test]
-fn a_stop_between_the_sets_ends_the_question(rt: HostRuntime) -> Result<(), Fail> {
-    let mut setup = PLAIN;
-    setup.stops = Stops::AfterFirst;
-    dense_gives(
-        &rt,
-        setup,
-        &[STOPPED, SORTED, SINGLE, STOPPED],
-        counts(1, 0, 3),
-    )
-}
-
-// The value of the first question is handed over, and no set is asked about.
-#[test]
-fn a_stop_at_the_first_set_ends_the_question(rt: HostRuntime) -> Result<(), Fail> {
-    let mut setup = PLAIN;
-    setup.stops = Stops::AtFirst;
-    dense_gives(&rt, setup, &[STOPPED, UNION], counts(2, 0, 3))
+    dense_gives(&rt, PLAIN, &[unknown], counts(0, 0, 0))?;
+    // The first set is answered and the second stopped: what was found of the first is kept, and its provider not asked
+    // again.
+    let mut between = PLAIN;
+    between.stops = Stops::AfterFirst;
+    let steps = [STOPPED, SORTED, SINGLE, STOPPED];
+    dense_gives(&rt, between, &steps, counts(1, 0, 3))?;
+    // The value of the first question is handed over, and no set is asked about.
+    let mut at_first = PLAIN;
+    at_first.stops = Stops::AtFirst;
+    dense_gives(&rt, at_first, &[STOPPED, UNION], counts(2, 0, 3))
 }

@@ -6,56 +6,25 @@ use std::test::Fail;
 use test_checks::sees;
 use typed_ids::{DenseIndex, InsertError, SolvableId, StoreError};
 
+const READ_BY_IDS: TwoValues = (true, [(0, Some(30)), (1, Some(40))], [Some(31), Some(40)]);
+
+const WALKED_TOLD_AND_CLEARED: ThreeValues = (
+    [Some((0, 9)), Some((1, 8)), Some((2, 7)), None, None],
+    true,
+    ((3, 24), (Some(5), 4), 25),
+    (0, true, Ok(0), 1),
+);
+
 #[test]
-fn ids_end_after_the_last_of_16_bits(rt: HostRuntime) -> Result<(), Fail> {
+fn values_are_kept_by_ids_until_these_end(rt: HostRuntime) -> Result<(), Fail> {
+    sees(two_values::<SolvableId, Global>(rt.alloc()), READ_BY_IDS)?;
+    sees(three_values(rt.alloc()), WALKED_TOLD_AND_CLEARED)?;
+    // The ids of 16 bits end after the last.
     let refusal = InsertError {
         error: StoreError::IdSpace,
         value: 5,
     };
     sees(all_ids(rt.alloc()), (None, Err(refusal), 65536))
-}
-
-/// Adds a value for each id of 16 bits, and one more: the first place whose value gets another id, what the last one is
-/// answered, and the number of values.
-fn all_ids<A: Allocator + Copy>(
-    alloc: A,
-) -> Result<(Option<u64>, Result<u16, InsertError<u64>>, usize), StoreError> {
-    let mut arena: Arena<u16, u64, A> = Arena::new(alloc);
-    let misplaced = first_misplaced(&mut arena);
-    let (full, len) = (arena.alloc(5), arena.len());
-    drop(arena);
-    Ok((misplaced?, full, len))
-}
-
-/// Adds a value for each id of 16 bits: the first place whose value gets another id.
-fn first_misplaced<A: Allocator + Copy>(
-    arena: &mut Arena<u16, u64, A>,
-) -> Result<Option<u64>, StoreError> {
-    for place in 0..65536 {
-        let id = arena.alloc(place + 7)?;
-        if u64::from(id) != place {
-            return Ok(Some(place));
-        }
-    }
-    Ok(None)
-}
-
-#[test]
-fn room_for_more_than_2_to_the_40_is_refused(rt: HostRuntime) {
-    let refused: Result<Arena<u64, u8, Global>, StoreError> = Arena::with_capacity(
-        rt.alloc(),
-        (1 << 40) + 1,
-    );
-    assert_eq!(rt; refused.err(), Some(StoreError::IdSpace));
-}
-
-#[test]
-fn values_are_read_by_their_ids(rt: HostRuntime) -> Result<(), Fail> {
-    let seen = two_values::<SolvableId, Global>(rt.alloc());
-    sees(
-        seen,
-        (true, [(0, Some(30)), (1, Some(40))], [Some(31), Some(40)]),
-    )
 }
 
 /// Whether a new arena is empty; the indexes of two ids, and the values read by them; and these values once the first
@@ -94,14 +63,6 @@ fn value_of<TId: DenseIndex, A: Allocator>(arena: &Arena<TId, u16, A>, id: TId) 
     }
 }
 
-#[test]
-fn three_values_are_walked_told_and_cleared(rt: HostRuntime) -> Result<(), Fail> {
-    let first_five = [Some((0, 9)), Some((1, 8)), Some((2, 7)), None, None];
-    let told = ((3, 24), (Some(5), 4), 25);
-    let cleared = (0, true, Ok(0), 1);
-    sees(three_values(rt.alloc()), (first_five, true, told, cleared))
-}
-
 /// What is seen of an arena of three values, where each part is seen of what the one before it left.
 type ThreeValues = (FirstFive, bool, Told, Cleared);
 
@@ -118,23 +79,30 @@ type Cleared = (usize, bool, Result<u16, InsertError<u16>>, usize);
 
 fn three_values<A: Allocator + Copy>(alloc: A) -> Result<ThreeValues, StoreError> {
     let mut arena = Arena::new(alloc);
-    let filled = fill(&mut arena, &[9, 8, 7]);
-    let first_five = first_five(&arena);
-    let is_listed = is_listed(alloc, &arena);
-    let (told, cleared) = (told(&mut arena), cleared(&mut arena));
+    let seen = of_three(alloc, &mut arena);
     drop(arena);
-    filled?;
-    Ok((first_five, is_listed?, told, cleared))
+    seen
 }
 
-fn fill<A: Allocator + Copy>(
+fn of_three<A: Allocator + Copy>(
+    alloc: A,
     arena: &mut Arena<u16, u16, A>,
-    values: &[u16],
-) -> Result<(), StoreError> {
-    for value in values {
-        arena.alloc(*value)?;
+) -> Result<ThreeValues, StoreError> {
+    for value in [9, 8, 7] {
+        arena.alloc(value)?;
     }
-    Ok(())
+    let first_five = first_five(arena);
+    let is_listed = is_listed(alloc, arena)?;
+    let before = (count(arena), total(arena));
+    let next = (added(arena, 5), arena.len());
+    if arena.len() > 1 {
+        replace(arena, 1, 4);
+    }
+    let told = (before, next, total(arena));
+    arena.clear();
+    let (len, is_empty) = (arena.len(), arena.is_empty());
+    let cleared = (len, is_empty, arena.alloc(6), arena.len());
+    Ok((first_five, is_listed, told, cleared))
 }
 
 fn first_five<A: Allocator>(arena: &Arena<u16, u16, A>) -> FirstFive {
@@ -165,17 +133,27 @@ fn is_listed<A: Allocator + Copy>(
     Ok(list.as_slice() == [(0, 9), (1, 8), (2, 7)].as_slice())
 }
 
-fn told<A: Allocator + Copy>(arena: &mut Arena<u16, u16, A>) -> Told {
-    let before = (count(arena), total(arena));
-    let next = (added(arena, 5), arena.len());
-    if arena.len() > 1 {
-        replace(arena, 1, 4);
-    }
-    (before, next, total(arena))
+/// Adds a value for each id of 16 bits, and one more: the first place whose value gets another id, what the last one is
+/// answered, and the number of values.
+fn all_ids<A: Allocator + Copy>(
+    alloc: A,
+) -> Result<(Option<u64>, Result<u16, InsertError<u64>>, usize), StoreError> {
+    let mut arena: Arena<u16, u64, A> = Arena::new(alloc);
+    let misplaced = first_misplaced(&mut arena);
+    let (full, len) = (arena.alloc(5), arena.len());
+    drop(arena);
+    Ok((misplaced?, full, len))
 }
 
-fn cleared<A: Allocator + Copy>(arena: &mut Arena<u16, u16, A>) -> Cleared {
-    arena.clear();
-    let (len, is_empty) = (arena.len(), arena.is_empty());
-    (len, is_empty, arena.alloc(6), arena.len())
+/// Adds a value for each id of 16 bits: the first place whose value gets another id.
+fn first_misplaced<A: Allocator + Copy>(
+    arena: &mut Arena<u16, u64, A>,
+) -> Result<Option<u64>, StoreError> {
+    for place in 0..65536 {
+        let id = arena.alloc(place + 7)?;
+        if u64::from(id) != place {
+            return Ok(Some(place));
+        }
+    }
+    Ok(None)
 }

@@ -6,7 +6,7 @@ use ids_callers::{SetAnswers, set_answers};
 use std::alloc::{Allocator, Global};
 use std::test::Fail;
 use test_checks::{is_same, sees};
-use typed_ids::{DenseId, NameId, NameTag, SparseId, StoreError};
+use typed_ids::{NameId, NameTag, SparseId, StoreError};
 
 /// What a map to scores reads at three keys, and as the largest value: as it is made, once it is written at the first and
 /// the last of them, and once its values are halved.
@@ -100,8 +100,13 @@ fn slots_in<K: Copy, A: Allocator + Copy, M: IdMap<K, Slot, A>>(
     Ok([made, written, emptied])
 }
 
+/// A name whose number may be any.
+type Name = SparseId<NameTag>;
+
 #[test]
-fn dense_ids_choose_vectors(rt: HostRuntime) -> Result<(), Fail> {
+fn ids_choose_their_maps_and_sets(rt: HostRuntime) -> Result<(), Fail> {
+    let alloc = rt.alloc();
+    // Dense ids choose vectors.
     let scored = [
         NameId::from_raw(3),
         NameId::from_raw(4),
@@ -109,80 +114,34 @@ fn dense_ids_choose_vectors(rt: HostRuntime) -> Result<(), Fail> {
     ];
     let slotted = [NameId::from_raw(5), NameId::from_raw(2)];
     let (key, other) = (NameId::from_raw(64), NameId::from_raw(127));
-    let chosen = chosen::<NameId, Global>(rt.alloc(), scored, slotted, key, other);
-    sees(chosen, (SCORES, SLOTS, SET))
-}
-
-/// A name whose number may be any.
-type Name = SparseId<NameTag>;
-
-#[test]
-fn sparse_ids_choose_tables(rt: HostRuntime) -> Result<(), Fail> {
+    let dense = chosen::<NameId, Global>(alloc, scored, slotted, key, other);
+    sees(dense, (SCORES, SLOTS, SET))?;
+    // Sparse ids choose tables.
     let scored = [Name::from_raw(3), Name::from_raw(4), Name::from_raw(5)];
     let slotted = [Name::from_raw(5), Name::from_raw(1 << 31)];
     let (key, other) = (Name::from_raw(64), Name::from_raw(127));
-    let chosen = chosen::<Name, Global>(rt.alloc(), scored, slotted, key, other);
-    sees(chosen, (SCORES, SLOTS, SET))
-}
-
-#[test]
-fn tables_are_kept_by_numbers_of_16_bits(rt: HostRuntime) -> Result<(), Fail> {
+    let sparse = chosen::<Name, Global>(alloc, scored, slotted, key, other);
+    sees(sparse, (SCORES, SLOTS, SET))?;
+    // Tables are kept by numbers of 16 bits, and of 64.
     let keys: [SparseId<NameTag, u16>; 3] = [
         SparseId::from_raw(65535),
         SparseId::from_raw(0),
         SparseId::from_raw(256),
     ];
     sees(
-        scores::<SparseId<NameTag, u16>, Global>(rt.alloc(), keys),
+        scores::<SparseId<NameTag, u16>, Global>(alloc, keys),
         SCORES,
-    )
-}
-
-#[test]
-fn tables_are_kept_by_numbers_of_64_bits(rt: HostRuntime) -> Result<(), Fail> {
+    )?;
     let keys: [SparseId<NameTag, u64>; 3] = [
         SparseId::from_raw(u64::MAX),
         SparseId::from_raw(1 << 40),
         SparseId::from_raw(1 << 32),
     ];
     sees(
-        scores::<SparseId<NameTag, u64>, Global>(rt.alloc(), keys),
+        scores::<SparseId<NameTag, u64>, Global>(alloc, keys),
         SCORES,
-    )
-}
-
-#[test]
-fn vectors_and_dense_sets_end_at_2_to_the_40(rt: HostRuntime) -> Result<(), Fail> {
-    let far: DenseId<NameTag, u64> = DenseId::from_raw(1 << 40);
-    let refused = far_written::<DenseId<NameTag, u64>, Global>(rt.alloc(), far);
-    is_same(
-        refused,
-        (
-            (Err(StoreError::IdSpace), 0),
-            (Err(StoreError::IdSpace), false),
-        ),
-    )
-}
-
-/// What a new map answers to a value, and what it then keeps at its key; and what a new set answers to the key, and whether
-/// it then has it.
-type Far = (
-    (Result<(), StoreError>, u64),
-    (Result<bool, StoreError>, bool),
-);
-
-fn far_written<K: SolverId<A>, A: Allocator + Copy>(alloc: A, far: K) -> Far {
-    let mut map = K::Scores::new(alloc);
-    let in_map = (map.set(far, 7), map.get(far));
-    drop(map);
-    let mut set = K::Set::new(alloc);
-    let in_set = (set.insert(far), set.contains(far));
-    drop(set);
-    (in_map, in_set)
-}
-
-#[test]
-fn a_slot_keeps_its_number() -> Result<(), Fail> {
+    )?;
+    // A slot keeps its number.
     let numbers = [
         Slot::default().number(),
         Slot::new(Some(3)).number(),

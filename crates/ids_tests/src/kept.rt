@@ -46,13 +46,9 @@ fn keep_both<K: SolverId<A>, A: Allocator + Copy>(
 }
 
 #[test]
-fn answers_are_kept_by_dense_names(rt: HostRuntime) -> Result<(), Fail> {
-    let keys = [NameId::from_raw(5), NameId::from_raw(3)];
-    sees(keep_both(rt.alloc(), keys), KEPT)
-}
-
-#[test]
-fn answers_are_kept_by_sparse_names(rt: HostRuntime) -> Result<(), Fail> {
-    let keys: [SparseId<NameTag>; 2] = [SparseId::from_raw(u32::MAX), SparseId::from_raw(0)];
-    sees(keep_both(rt.alloc(), keys), KEPT)
+fn answers_are_kept_by_dense_and_by_sparse_names(rt: HostRuntime) -> Result<(), Fail> {
+    let dense = [NameId::from_raw(5), NameId::from_raw(3)];
+    sees(keep_both(rt.alloc(), dense), KEPT)?;
+    let sparse: [SparseId<NameTag>; 2] = [SparseId::from_raw(u32::MAX), SparseId::from_raw(0)];
+    sees(keep_both(rt.alloc(), sparse), KEPT)
 }

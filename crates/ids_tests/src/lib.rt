@@ -6,6 +6,8 @@ mod arena;
 #[cfg(test)]
 mod chosen;
 #[cfg(test)]
+mod far;
+#[cfg(test)]
 mod ids;
 #[cfg(test)]
 mod kept;
@@ -16,8 +18,8 @@ mod maps;
 #[cfg(test)]
 mod one_refusal;
 #[cfg(test)]
-mod refusals;
-#[cfg(test)]
 mod refused_defaults;
 #[cfg(test)]
 mod sets;
+#[cfg(test)]
+mod texts;

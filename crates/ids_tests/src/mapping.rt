@@ -1,4 +1,4 @@
-//! Maps of ids, by the calls: what they answer in ample memory, and where their slots end.
+//! Maps of ids, by the calls: what they answer in ample memory.
 ghost use Rattle.std.specs.Prelude.{◌<◌};
 
 use id_storage::{Mapping, MappingIter};
@@ -6,31 +6,34 @@ use ids_callers::{clear, count_up, exchange, find_at_least};
 use std::alloc::{Allocator, Global};
 use std::test::Fail;
 use test_checks::{is_same, sees};
-use typed_ids::{DenseId, DenseIndex, InsertError, SolvableId, StoreError};
+use typed_ids::{DenseIndex, SolvableId, StoreError};
 
-/// A domain of ids that are wider than any map.
-struct Wide;
-
-/// A map grows chunk by chunk as it gets two values, is walked, changed, and walked past an empty slot.
 #[test]
-fn a_map_of_two_chunks_is_walked_and_changed(rt: HostRuntime) -> Result<(), Fail> {
-    let growth = (
-        (0, 128, true),
-        (None, Some(10)),
-        (1, 128),
-        (None, Some(20)),
-        (2, 256),
-    );
-    let walk = [Some((0, 10)), Some((128, 20)), None];
-    let changes = (Some(128), Some(0), Some(0), true);
-    let past_empty = (Some(11), 1, [Some((128, 0)), None, None]);
-    let seen = two_chunks(
-        rt.alloc(),
-        SolvableId::from_raw(0),
-        SolvableId::from_raw(128),
-        SolvableId::from_raw(127),
-    );
-    sees(seen, (growth, walk, changes, past_empty))
+fn maps_have_chunks_that_are_filled_walked_and_changed(rt: HostRuntime) -> Result<(), Fail> {
+    let alloc = rt.alloc();
+    // Chunks have 128 slots, and a map starts with whole ones.
+    is_same(Mapping::<SolvableId, u32>::chunk_and_offset(300), (2, 44))?;
+    let slots = [
+        slots_of(alloc, 0),
+        slots_of(alloc, 128),
+        slots_of(alloc, 129),
+        slots_of(alloc, (1 << 40) + 1),
+    ];
+    is_same(slots, [Ok(128), Ok(128), Ok(256), Err(StoreError::IdSpace)])?;
+    // A map grows chunk by chunk as it gets two values, is walked, changed, and walked past an empty slot.
+    let (first, second) = (SolvableId::from_raw(0), SolvableId::from_raw(128));
+    let seen = two_chunks(alloc, first, second, SolvableId::from_raw(127));
+    sees(seen, TWO_CHUNKS)?;
+    // A value is exchanged in its slot, room for another one lasts, and a default is asked for once.
+    let (near, far) = (SolvableId::from_raw(7), SolvableId::from_raw(300));
+    let seen = three_slots(alloc, near, far, SolvableId::from_raw(500));
+    sees(seen, THREE_SLOTS)
+}
+
+/// How many slots a map with this capacity has.
+fn slots_of<A: Allocator>(alloc: A, n: usize) -> Result<usize, StoreError> {
+    let mapping: Mapping<SolvableId, u32, A> = Mapping::with_capacity(alloc, n)?;
+    Ok(mapping.slots())
 }
 
 /// What is seen of a map, where each part is seen of what the one before it left.
@@ -56,6 +59,19 @@ type Changes = (Option<usize>, Option<usize>, Option<u32>, bool);
 /// What taking the first of two values out answers, how many are left, and the walk over them.
 type PastEmpty = (Option<u32>, usize, Walk);
 
+const TWO_CHUNKS: TwoChunks = (
+    (
+        (0, 128, true),
+        (None, Some(10)),
+        (1, 128),
+        (None, Some(20)),
+        (2, 256),
+    ),
+    [Some((0, 10)), Some((128, 20)), None],
+    (Some(128), Some(0), Some(0), true),
+    (Some(11), 1, [Some((128, 0)), None, None]),
+);
+
 fn two_chunks<TId: DenseIndex>(
     alloc: Global,
     first: TId,
@@ -63,32 +79,37 @@ fn two_chunks<TId: DenseIndex>(
     empty: TId,
 ) -> Result<TwoChunks, StoreError> {
     let mut mapping: Mapping<TId, u32> = Mapping::new(alloc)?;
-    let growth = growth(&mut mapping, first, second);
-    let both = walk(&mapping);
-    let changes = changes(&mut mapping, first, second, empty);
-    let (taken, left) = (mapping.unset(first), mapping.len());
-    let past_empty = (taken, left, walk(&mapping));
+    let seen = of_two_chunks(&mut mapping, first, second, empty);
     drop(mapping);
-    Ok((growth?, both, changes?, past_empty))
+    seen
 }
 
-fn growth<TId: DenseIndex, A: Allocator>(
-    mapping: &mut Mapping<TId, u32, A>,
+fn of_two_chunks<TId: DenseIndex>(
+    mapping: &mut Mapping<TId, u32>,
     first: TId,
     second: TId,
-) -> Result<Growth, StoreError> {
-    let empty = (mapping.len(), mapping.slots(), mapping.is_empty());
+    empty: TId,
+) -> Result<TwoChunks, StoreError> {
+    let new = (mapping.len(), mapping.slots(), mapping.is_empty());
     let earlier = mapping.insert(first, 10)?;
     let put = (earlier, mapping.get(first).copied());
     let one = (mapping.len(), mapping.slots());
     let earlier = mapping.insert(second, 20)?;
     let put_second = (earlier, mapping.get(second).copied());
+    let two = (mapping.len(), mapping.capacity());
+    let both = walk(mapping);
+    let above = index_of(find_at_least(mapping, 11));
+    count_up(mapping, first)?;
+    let first_above = index_of(find_at_least(mapping, 11));
+    clear(mapping, second);
+    let cleared = mapping.get(second).copied();
+    let lends_nothing = mapping.get_mut(empty).is_none();
+    let (taken, left) = (mapping.unset(first), mapping.len());
     Ok((
-        empty,
-        put,
-        one,
-        put_second,
-        (mapping.len(), mapping.capacity()),
+        (new, put, one, put_second, two),
+        both,
+        (above, first_above, cleared, lends_nothing),
+        (taken, left, walk(mapping)),
     ))
 }
 
@@ -105,25 +126,6 @@ fn next<TId: DenseIndex>(pairs: &mut MappingIter<'_, TId, u32>) -> Option<(usize
     }
 }
 
-fn changes<TId: DenseIndex>(
-    mapping: &mut Mapping<TId, u32>,
-    first: TId,
-    second: TId,
-    empty: TId,
-) -> Result<Changes, StoreError> {
-    let above = index_of(find_at_least(mapping, 11));
-    count_up(mapping, first)?;
-    let first_above = index_of(find_at_least(mapping, 11));
-    clear(mapping, second);
-    let cleared = mapping.get(second).copied();
-    Ok((
-        above,
-        first_above,
-        cleared,
-        mapping.get_mut(empty).is_none(),
-    ))
-}
-
 /// The index of an id, if there is one.
 fn index_of<TId: DenseIndex>(id: Option<TId>) -> Option<usize> {
     match id {
@@ -132,83 +134,8 @@ fn index_of<TId: DenseIndex>(id: Option<TId>) -> Option<usize> {
     }
 }
 
-#[test]
-fn chunks_have_128_slots() -> Result<(), Fail> {
-    is_same(Mapping::<SolvableId, u32>::chunk_and_offset(300), (2, 44))
-}
-
-#[test]
-fn a_map_starts_with_whole_chunks(rt: HostRuntime) -> Result<(), Fail> {
-    let alloc = rt.alloc();
-    let slots = [
-        slots_of(alloc, 0),
-        slots_of(alloc, 128),
-        slots_of(alloc, 129),
-        slots_of(alloc, (1 << 40) + 1),
-    ];
-    is_same(slots, [Ok(128), Ok(128), Ok(256), Err(StoreError::IdSpace)])
-}
-
-/// How many slots a map with this capacity has.
-fn slots_of<A: Allocator>(alloc: A, n: usize) -> Result<usize, StoreError> {
-    let mapping: Mapping<SolvableId, u32, A> = Mapping::with_capacity(alloc, n)?;
-    Ok(mapping.slots())
-}
-
-#[test]
-fn an_index_too_large_is_refused(rt: HostRuntime) -> Result<(), Fail> {
-    let refusal = InsertError {
-        error: StoreError::IdSpace,
-        value: 7,
-    };
-    let far: DenseId<Wide, u64> = DenseId::from_raw(1 << 40);
-    sees(too_large(rt.alloc(), far), (Err(refusal), 128, true, false))
-}
-
-/// What an index past the slots is answered, and how many slots there are then; whether a default at it is refused, and
-/// whether it is asked for.
-fn too_large<TId: DenseIndex, A: Allocator>(
-    alloc: A,
-    far: TId,
-) -> Result<(Result<Option<u32>, InsertError<u32>>, usize, bool, bool), StoreError> {
-    let mut mapping: Mapping<TId, u32, A> = Mapping::new(alloc)?;
-    let (answer, slots) = (mapping.insert(far, 7), mapping.slots());
-    let (lent, is_called) = lent(&mut mapping, far, 5);
-    drop(mapping);
-    Ok((answer, slots, lent.is_none(), is_called))
-}
-
-/// Which value is lent where this is the default, and whether that is asked for.
-fn lent<TId: DenseIndex, A: Allocator>(
-    mapping: &mut Mapping<TId, u32, A>,
-    id: TId,
-    default: u32,
-) -> (Option<u32>, bool) {
-    let mut is_called = false;
-    let lent = mapping.get_or_insert_with(id, || {
-        is_called = true;
-        default
-    });
-    let value = match lent {
-        Ok(value) => Some(*value),
-        Err(_) => None,
-    };
-    (value, is_called)
-}
-
-/// A value is exchanged in its slot, room for another one lasts, and a default is asked for once.
-#[test]
-fn slots_are_exchanged_made_and_given_a_default(rt: HostRuntime) -> Result<(), Fail> {
-    let exchanged = ([None, Some(3)], Some(4));
-    let room = ((0, 384), None, Some(1), None);
-    let defaults = (Some(5), (Some(5), false), (2, 512));
-    let (near, far) = (SolvableId::from_raw(7), SolvableId::from_raw(300));
-    let seen = three_slots(rt.alloc(), near, far, SolvableId::from_raw(500));
-    sees(seen, (exchanged, room, defaults))
-}
-
 /// What is seen of a map, where each part is seen of what the one before it left.
-type ThreeSlots = (Exchanged, Room, Defaults);
+type ThreeSlots = (Exchanged, Room, Lent);
 
 /// What two values that are put at an id are answered, and what is then taken out.
 type Exchanged = ([Option<u32>; 2], Option<u32>);
@@ -219,7 +146,13 @@ type Room = ((usize, usize), Option<u32>, Option<u32>, Option<u32>);
 
 /// What a map keeps of a default that is counted up; which value is lent then in place of another default, and whether
 /// that one is asked for; and the numbers of values and slots.
-type Defaults = (Option<u32>, (Option<u32>, bool), (usize, usize));
+type Lent = (Option<u32>, (Option<u32>, bool), (usize, usize));
+
+const THREE_SLOTS: ThreeSlots = (
+    ([None, Some(3)], Some(4)),
+    ((0, 384), None, Some(1), None),
+    (Some(5), (Some(5), false), (2, 512)),
+);
 
 fn three_slots<TId: DenseIndex>(
     alloc: Global,
@@ -235,30 +168,46 @@ fn three_slots<TId: DenseIndex>(
         exchange(&mut mapping, near, 4),
     ];
     let taken = mapping.unset(near);
-    let room = room(&mut mapping, far);
-    let defaults = defaults(&mut mapping, farther);
+    let seen = room_and_default(&mut mapping, far, farther);
     drop(mapping);
-    Ok(((exchanged, taken), room?, defaults?))
+    let (room, lent) = seen?;
+    Ok(((exchanged, taken), room, lent))
 }
 
-fn room<TId: DenseIndex, A: Allocator>(
+fn room_and_default<TId: DenseIndex, A: Allocator>(
     mapping: &mut Mapping<TId, u32, A>,
-    id: TId,
-) -> Result<Room, StoreError> {
-    mapping.make_room(id)?;
+    far: TId,
+    farther: TId,
+) -> Result<(Room, Lent), StoreError> {
+    mapping.make_room(far)?;
     let made = (mapping.len(), mapping.slots());
-    let first = mapping.insert(id, 1)?;
-    let taken = mapping.unset(id);
-    Ok((made, first, taken, mapping.insert(id, 2)?))
+    let first = mapping.insert(far, 1)?;
+    let taken = mapping.unset(far);
+    let second = mapping.insert(far, 2)?;
+    let value = mapping.get_or_insert_with(farther, || 4)?;
+    *value = value.saturating_add(1);
+    let kept = mapping.get(farther).copied();
+    let lent = lent(mapping, farther, 9);
+    Ok((
+        (made, first, taken, second),
+        (kept, lent, (mapping.len(), mapping.slots())),
+    ))
 }
 
-fn defaults<TId: DenseIndex, A: Allocator>(
+/// Which value is lent where this is the default, and whether that is asked for.
+pub(crate) fn lent<TId: DenseIndex, A: Allocator>(
     mapping: &mut Mapping<TId, u32, A>,
     id: TId,
-) -> Result<Defaults, StoreError> {
-    let value = mapping.get_or_insert_with(id, || 4)?;
-    *value = value.saturating_add(1);
-    let kept = mapping.get(id).copied();
-    let lent = lent(mapping, id, 9);
-    Ok((kept, lent, (mapping.len(), mapping.slots())))
+    default: u32,
+) -> (Option<u32>, bool) {
+    let mut is_called = false;
+    let lent = mapping.get_or_insert_with(id, || {
+        is_called = true;
+        default
+    });
+    let value = match lent {
+        Ok(value) => Some(*value),
+        Err(_) => None,
+    };
+    (value, is_called)
 }

@@ -8,8 +8,14 @@ use typed_ids::{DenseId, NameId, NameTag, SparseId, StoreError};
 /// A name whose number may be any.
 type Name = SparseId<NameTag>;
 
+/// The map to scores that a name of that kind chooses for itself.
+type Table = <Name as SolverId<Global>>::Scores;
+
 #[test]
-fn a_value_of_no_key_is_not_the_largest(rt: HostRuntime) -> Result<(), Fail> {
+fn maps_keep_values_and_tell_the_largest(rt: HostRuntime) -> Result<(), Fail> {
+    // A table keeps its values as it grows.
+    sees(grown::<Global, Table>(rt.alloc()), (None, 700))?;
+    // A value of no key is not the largest.
     let mut map: Vec<u64> = Vec::new(rt.alloc());
     let all = largest_of_two(&mut map, NameId::from_raw(65535), NameId::from_raw(65536));
     let narrow = IdMap::<DenseId<NameTag, u16>, u64, Global>::largest(&map);
@@ -29,40 +35,26 @@ fn largest_of_two<K: Copy, A: Allocator + Copy, M: IdMap<K, u64, A>>(
     Ok(map.largest())
 }
 
-/// The map to scores that a name of that kind chooses for itself.
-type Table = <Name as SolverId<Global>>::Scores;
-
-#[test]
-fn a_table_keeps_its_values_as_it_grows(rt: HostRuntime) -> Result<(), Fail> {
-    sees(grown::<Global, Table>(rt.alloc()), (None, 700))
-}
-
 /// The first number whose key has another value than was written, with that value; and the largest value.
-fn grown<A: Allocator + Copy, M: IdMap<Name, u64, A>>(
-    alloc: A,
-) -> Result<(Option<(u32, u64)>, u64), StoreError> {
+type Grown = (Option<(u32, u64)>, u64);
+
+fn grown<A: Allocator + Copy, M: IdMap<Name, u64, A>>(alloc: A) -> Result<Grown, StoreError> {
     let mut map = M::new(alloc);
-    let written = write_each::<A, M>(&mut map);
-    let (lost, largest) = (first_lost::<A, M>(&map), map.largest());
+    let seen = grow::<A, M>(&mut map);
     drop(map);
-    written?;
-    Ok((lost, largest))
+    seen
 }
 
-/// Writes the values 1 to 700 at the multiples of 1000.
-fn write_each<A: Allocator + Copy, M: IdMap<Name, u64, A>>(map: &mut M) -> Result<(), StoreError> {
+/// Writes the values 1 to 700 at the multiples of 1000, and reads them.
+fn grow<A: Allocator + Copy, M: IdMap<Name, u64, A>>(map: &mut M) -> Result<Grown, StoreError> {
     for number in 0..700u32 {
         map.set(Name::from_raw(number * 1000), u64::from(number) + 1)?;
     }
-    Ok(())
-}
-
-fn first_lost<A: Allocator + Copy, M: IdMap<Name, u64, A>>(map: &M) -> Option<(u32, u64)> {
     for number in 0..700u32 {
         let value = map.get(Name::from_raw(number * 1000));
         if value != u64::from(number) + 1 {
-            return Some((number, value));
+            return Ok((Some((number, value)), map.largest()));
         }
     }
-    None
+    Ok((None, map.largest()))
 }

@@ -1,18 +1,14 @@
 //! Mappings to which each request of memory is refused in turn: a refused default isn't asked for.
+use crate::mapping::lent;
 use id_storage::Mapping;
 use refusing::Refusing;
 use std::alloc::Allocator;
 use std::test::Fail;
 use test_checks::is_same;
-use typed_ids::{DenseIndex, SolvableId, StoreError};
+use typed_ids::{SolvableId, StoreError};
 
 #[test]
 fn a_refused_default_is_not_asked_for(rt: HostRuntime) -> Result<(), Fail> {
-    let wanted = Growth {
-        refused: 1,
-        is_refused_in_part: false,
-        kept: SOLVABLES - 1,
-    };
     for number in 1..100u64 {
         let heap = Refusing::new(rt.alloc());
         let growth = growth_refused(&heap, number);
@@ -21,7 +17,7 @@ fn a_refused_default_is_not_asked_for(rt: HostRuntime) -> Result<(), Fail> {
         if !is_refused {
             return is_same(number > 4, true);
         }
-        is_same(growth, Ok(wanted))?;
+        is_same(growth, Ok((1, false, SOLVABLES - 1)))?;
     }
     Err(Fail::new("each map met a refusal"))
 }
@@ -30,16 +26,9 @@ fn a_refused_default_is_not_asked_for(rt: HostRuntime) -> Result<(), Fail> {
 const SOLVABLES: u32 = 20;
 
 /// What is seen of a new map that is given a default at each solvable, with so many slots between them that it grows
-/// more than once.
-#[derive(Clone, Copy, Debug, PartialEq, Eq)]
-struct Growth {
-    /// How many calls were refused.
-    refused: u32,
-    /// Whether one of these asked for its default, left a value, or made slots.
-    is_refused_in_part: bool,
-    /// How many solvables then have their default.
-    kept: u32,
-}
+/// more than once: how many calls were refused; whether one of these asked for its default, left a value, or made slots;
+/// and how many solvables then have their default.
+type Growth = (u32, bool, u32);
 
 /// What is seen where the request of this number after the map is made is refused.
 fn growth_refused<B: Allocator>(heap: &Refusing<B>, number: u64) -> Result<Growth, StoreError> {
@@ -55,46 +44,23 @@ fn grow<A: Allocator>(mapping: &mut Mapping<SolvableId, u32, A>) -> Growth {
     let mut is_refused_in_part = false;
     for number in 0..SOLVABLES {
         let slots = mapping.slots();
-        let (is_lent, is_asked) = asked(mapping, spaced(number), number);
-        if !is_lent {
+        let (value, is_asked) = lent(mapping, spaced(number), number);
+        if value.is_none() {
             refused = refused.saturating_add(1);
             let is_left = mapping.get(spaced(number)).is_some() || mapping.slots() != slots;
             is_refused_in_part = is_refused_in_part || is_asked || is_left;
         }
     }
-    Growth {
-        refused,
-        is_refused_in_part,
-        kept: kept_of(mapping),
-    }
-}
-
-/// A solvable, where 99 others lie between it and the next.
-fn spaced(number: u32) -> SolvableId {
-    SolvableId::from_raw(number.saturating_mul(100))
-}
-
-/// Whether an id's value is lent, and whether its default is asked for.
-fn asked<TId: DenseIndex, A: Allocator>(
-    mapping: &mut Mapping<TId, u32, A>,
-    id: TId,
-    default: u32,
-) -> (bool, bool) {
-    let mut is_asked = false;
-    let lent = mapping.get_or_insert_with(id, || {
-        is_asked = true;
-        default
-    });
-    (lent.is_ok(), is_asked)
-}
-
-/// How many solvables have their default.
-fn kept_of<A: Allocator>(mapping: &Mapping<SolvableId, u32, A>) -> u32 {
     let mut kept: u32 = 0;
     for number in 0..SOLVABLES {
         if mapping.get(spaced(number)).copied() == Some(number) {
             kept = kept.saturating_add(1);
         }
     }
-    kept
+    (refused, is_refused_in_part, kept)
+}
+
+/// A solvable, where 99 others lie between it and the next.
+fn spaced(number: u32) -> SolvableId {
+    SolvableId::from_raw(number.saturating_mul(100))
 }

@@ -12,7 +12,8 @@ use test_checks::{is_same, sees};
 use typed_ids::{DenseIndex, NameId, SolvableId, SolvableIdOrRoot, StoreError};
 
 #[test]
-fn dense_sets_keep_each_side_of_a_word(rt: HostRuntime) -> Result<(), Fail> {
+fn sets_tell_their_keys_apart(rt: HostRuntime) -> Result<(), Fail> {
+    // A dense set has the numbers at each side of a word.
     let others = [
         NameId::from_raw(64),
         NameId::from_raw(127),
@@ -27,7 +28,25 @@ fn dense_sets_keep_each_side_of_a_word(rt: HostRuntime) -> Result<(), Fail> {
     sees(
         marks,
         ([true, true, false], [true, true], [false, false, false]),
-    )
+    )?;
+    // The root is no solvable, and no solvable is the root.
+    let solvable = SolvableIdOrRoot::from(SolvableId::from_raw(0));
+    let root_first = answers(rt.alloc(), SolvableIdOrRoot::root(), solvable);
+    sees(root_first, SET)?;
+    let solvable = SolvableIdOrRoot::from(SolvableId::from_raw(0));
+    let solvable_first = answers(rt.alloc(), solvable, SolvableIdOrRoot::root());
+    sees(solvable_first, SET)?;
+    // A set that names no allocator takes the global one.
+    let mut set: WithRootSet<SolvableId> = WithRootSet::new(rt.alloc());
+    let added = added(&mut set, SolvableId::from_raw(0));
+    drop(set);
+    sees(added, [true, true, false])?;
+    // A key gives its solvable back.
+    let seventh = SolvableId::from_raw(7);
+    let key = SolvableIdOrRoot::from(seventh);
+    let root: SolvableIdOrRoot<SolvableId> = SolvableIdOrRoot::root();
+    is_same([key.solvable(), root.solvable()], [Some(seventh), None])?;
+    is_same(key == root, false)
 }
 
 /// What a set answers to two ids, and to the first once more; and whether it then has the two, and three others.
@@ -60,20 +79,6 @@ fn inserted<Id: DenseIndex, A: Allocator + Copy>(
     Ok([set.insert(low)?, set.insert(high)?, set.insert(low)?])
 }
 
-#[test]
-fn the_root_is_no_solvable(rt: HostRuntime) -> Result<(), Fail> {
-    let solvable = SolvableIdOrRoot::from(SolvableId::from_raw(0));
-    let answers = answers(rt.alloc(), SolvableIdOrRoot::root(), solvable);
-    sees(answers, SET)
-}
-
-#[test]
-fn a_solvable_is_not_the_root(rt: HostRuntime) -> Result<(), Fail> {
-    let solvable = SolvableIdOrRoot::from(SolvableId::from_raw(0));
-    let answers = answers(rt.alloc(), solvable, SolvableIdOrRoot::root());
-    sees(answers, SET)
-}
-
 /// What a set that may have the root says of two keys.
 fn answers<S: SolverId<A>, A: Allocator + Copy>(
     alloc: A,
@@ -85,15 +90,6 @@ fn answers<S: SolverId<A>, A: Allocator + Copy>(
     set_answers::<SolvableIdOrRoot<S>, A, WithRootSet<S, A>>(alloc, key, other)
 }
 
-// A set that names no allocator takes the global one.
-#[test]
-fn the_root_is_put_beside_solvables(rt: HostRuntime) -> Result<(), Fail> {
-    let mut set: WithRootSet<SolvableId> = WithRootSet::new(rt.alloc());
-    let added = added(&mut set, SolvableId::from_raw(0));
-    drop(set);
-    sees(added, [true, true, false])
-}
-
 /// Whether the root, a solvable and the root again are new.
 fn added<S: SolverId<A>, A: Allocator + Copy>(
     set: &mut WithRootSet<S, A>,
@@ -102,15 +98,6 @@ fn added<S: SolverId<A>, A: Allocator + Copy>(
     let root = set.insert(SolvableIdOrRoot::Root)?;
     let solvable = set.insert(SolvableIdOrRoot::Solvable(solvable))?;
     Ok([root, solvable, set.insert(SolvableIdOrRoot::Root)?])
-}
-
-#[test]
-fn keys_give_their_solvable_back() -> Result<(), Fail> {
-    let solvable = SolvableId::from_raw(7);
-    let key = SolvableIdOrRoot::from(solvable);
-    let root: SolvableIdOrRoot<SolvableId> = SolvableIdOrRoot::root();
-    is_same([key.solvable(), root.solvable()], [Some(solvable), None])?;
-    is_same(key == root, false)
 }
 
 #[test]

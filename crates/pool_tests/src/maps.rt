@@ -1,6 +1,6 @@
 //! Maps of requirements, by the calls, in ample memory and where memory is refused.
 use pool_callers::{clear, count_up};
-use providers::{ConditionalRequirement, Requirement, RequirementMap};
+use providers::{Requirement, RequirementMap};
 use refusing::Refusing;
 use std::alloc::Allocator;
 use std::cell::Cell;
@@ -11,49 +11,49 @@ use typed_ids::{InsertError, StoreError, VersionSetId, VersionSetUnionId};
 #[test]
 fn a_map_keeps_values(rt: HostRuntime) -> Result<(), Fail> {
     let wanted = ([None, Some(1), Some(7)], [Some(0), Some(1), None, Some(1)]);
-    sees(kept(rt.alloc()), wanted)
+    sees(kept(rt.alloc()), wanted)?;
+    // A map that names no allocator takes the global one.
+    let mut map: RequirementMap<bool> = RequirementMap::new(rt.alloc());
+    let is_put = map.insert(Requirement::default(), true).is_ok();
+    let kept = map.get(Requirement::default()).copied();
+    drop(map);
+    is_same((is_put, kept), (true, Some(true)))
 }
 
-/// What a map answers as it is counted, and what it keeps once it is cleared.
-fn kept<A: Allocator + Copy>(alloc: A) -> Result<([Option<u32>; 3], [Option<u32>; 4]), StoreError> {
+/// What a map answers to two values of a set, and what it keeps of the set once that is counted, and so is a union; and
+/// what it keeps of the set, the union and a requirement that it doesn't have, once the first and the last are cleared,
+/// and at the union's place.
+type Kept = ([Option<u32>; 3], [Option<u32>; 4]);
+
+fn kept<A: Allocator + Copy>(alloc: A) -> Result<Kept, StoreError> {
     let set = Requirement::from(VersionSetId(3));
     let union = Requirement::from(VersionSetUnionId(3));
     let mut map: RequirementMap<u32, A> = RequirementMap::new(alloc);
-    let counted = counted(&mut map, set, union);
-    let kept = kept_once_cleared(&mut map, set, union);
+    let kept = counted_and_cleared(&mut map, set, union);
     drop(map);
-    Ok((counted?, kept))
+    kept
 }
 
-/// What a new map answers to two values of a set, and what it keeps of the set once it is counted, and so is the union.
-fn counted<A: Allocator + Copy>(
+fn counted_and_cleared<A: Allocator + Copy>(
     map: &mut RequirementMap<u32, A>,
     set: Requirement,
     union: Requirement,
-) -> Result<[Option<u32>; 3], StoreError> {
+) -> Result<Kept, StoreError> {
     let earlier = map.insert(set, 1)?;
     let later = map.insert(set, 6)?;
     count_up(map, set)?;
     count_up(map, union)?;
-    Ok([earlier, later, map.get(set).copied()])
-}
-
-/// What a map keeps of a set, a union and a requirement that it doesn't have, once the first and the last are cleared,
-/// and at the union's place.
-fn kept_once_cleared<A: Allocator + Copy>(
-    map: &mut RequirementMap<u32, A>,
-    set: Requirement,
-    union: Requirement,
-) -> [Option<u32>; 4] {
+    let counted = [earlier, later, map.get(set).copied()];
     let absent = Requirement::default();
     clear(map, set);
     clear(map, absent);
-    [
+    let kept = [
         map.get(set).copied(),
         map.get(union).copied(),
         map.get(absent).copied(),
         at_place(map, union),
-    ]
+    ];
+    Ok((counted, kept))
 }
 
 /// What a map has in a requirement's place, if it has one.
@@ -69,15 +69,28 @@ fn at_place<A: Allocator + Copy>(
 }
 
 #[test]
-fn a_refused_map_hands_the_value_back(rt: HostRuntime) {
+fn a_refused_map_hands_its_value_back_and_asks_for_none(rt: HostRuntime) -> Result<(), Fail> {
     let heap = Refusing::new(rt.alloc());
-    let (inserted, counted, kept) = refused(&heap, Requirement::default());
+    let seen = refused(&heap, Requirement::default());
+    drop(heap);
     let refusal = InsertError {
         error: StoreError::OutOfMemory,
         value: 4,
     };
-    assert_eq!(rt; inserted, Err(refusal));
-    assert_eq!(rt; (counted, kept), (Err(StoreError::OutOfMemory), None));
+    let wanted = (Err(refusal), Err(StoreError::OutOfMemory), None);
+    is_same(seen, wanted)?;
+    // Each request is refused in turn, as a map grows.
+    for number in 1..100u64 {
+        let heap = Refusing::new(rt.alloc());
+        let grown = grown(&heap, number);
+        let is_refused = !heap.is_armed();
+        drop(heap);
+        if !is_refused {
+            return is_same(number > 10, true);
+        }
+        is_same(grown, (1, false, SETS - 1))?;
+    }
+    Err(Fail::new("each map met a refusal"))
 }
 
 /// What a refused insertion and a refused count are answered, and what the map then keeps.
@@ -99,39 +112,12 @@ fn refused<B: Allocator>(
     (inserted, counted, kept)
 }
 
-#[test]
-fn a_refused_map_asks_for_no_value(rt: HostRuntime) -> Result<(), Fail> {
-    let wanted = Growth {
-        refused: 1,
-        is_refused_in_part: false,
-        kept: SETS - 1,
-    };
-    for number in 1..100u64 {
-        let heap = Refusing::new(rt.alloc());
-        let grown = grown(&heap, number);
-        let is_refused = !heap.is_armed();
-        drop(heap);
-        if !is_refused {
-            return is_same(number > 10, true);
-        }
-        is_same(grown, wanted)?;
-    }
-    Err(Fail::new("each map met a refusal"))
-}
-
 /// How many version sets a map is given a default at, so that it grows more than once.
 const SETS: u32 = 40;
 
-/// What is seen of a new map that is given a default at each version set.
-#[derive(Clone, Copy, Debug, PartialEq, Eq)]
-struct Growth {
-    /// How many calls were refused.
-    refused: u32,
-    /// Whether one of these asked for its default, or left an entry.
-    is_refused_in_part: bool,
-    /// How many version sets then have their default.
-    kept: u32,
-}
+/// What is seen of a new map that is given a default at each version set: how many calls were refused; whether one of these
+/// asked for its default, or left an entry; and how many version sets then have their default.
+type Growth = (u32, bool, u32);
 
 /// What is seen where the request of this number is refused.
 fn grown<B: Allocator>(heap: &Refusing<B>, number: u64) -> Growth {
@@ -152,11 +138,13 @@ fn grow<A: Allocator + Copy>(map: &mut RequirementMap<u32, A>) -> Growth {
             is_refused_in_part = is_refused_in_part || is_asked || value_of(map, set).is_some();
         }
     }
-    Growth {
-        refused,
-        is_refused_in_part,
-        kept: kept_of(map),
+    let mut kept: u32 = 0;
+    for set in 0..SETS {
+        if value_of(map, set) == Some(set) {
+            kept = kept.saturating_add(1);
+        }
     }
+    (refused, is_refused_in_part, kept)
 }
 
 /// Whether a version set's value is lent, and whether its default is asked for, which is the set's number.
@@ -171,22 +159,4 @@ fn asked<A: Allocator + Copy>(map: &mut RequirementMap<u32, A>, set: u32) -> (bo
 
 fn value_of<A: Allocator + Copy>(map: &RequirementMap<u32, A>, set: u32) -> Option<u32> {
     map.get(Requirement::from(VersionSetId(set))).copied()
-}
-
-/// How many version sets have their default.
-fn kept_of<A: Allocator + Copy>(map: &RequirementMap<u32, A>) -> u32 {
-    let mut kept: u32 = 0;
-    for set in 0..SETS {
-        if value_of(map, set) == Some(set) {
-            kept = kept.saturating_add(1);
-        }
-    }
-    kept
-}
-
-#[test]
-fn requirements_are_asked_for_always_or_on_a_condition(rt: HostRuntime) {
-    let always = ConditionalRequirement::from(VersionSetId(0));
-    assert_eq!(rt; always.requirement, Requirement::default());
-    assert_eq!(rt; always.condition, None);
 }

@@ -3,7 +3,7 @@ use package_pool::VersionSet;
 
 /// A key with a note, which `==` doesn't read.
 #[derive(Drop)]
-#[derive_where(Debug, PartialEq, Eq, Hash)]
+#[derive_where(PartialEq, Eq, Hash)]
 pub(crate) struct Noted {
     pub(crate) key: u32,
     #[derive_where(skip)]

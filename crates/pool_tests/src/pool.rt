@@ -2,6 +2,7 @@
 ghost use Rattle.std.specs.Prelude.{◌<◌, length};
 
 use crate::noted::{Noted, with_note};
+use crate::twice::of_each_kind;
 use package_pool::{NameText, Pool};
 use providers::{Condition, LogicalOperator};
 use std::alloc::Global;
@@ -16,19 +17,38 @@ pub(crate) fn owned(alloc: Global, text: &str) -> Result<String, StoreError> {
     Ok(String::from_str(alloc, text)?)
 }
 
+#[test]
+fn equal_values_stand_once_and_others_are_new(rt: HostRuntime) -> Result<(), Fail> {
+    let (strings, names) = (([0, 1, 0], true, false), ([0, 1, 0], true, false));
+    sees(
+        strings_and_names(rt.alloc()),
+        (strings, names, [Some(1), None]),
+    )?;
+    // Solvables and unions are new each time.
+    let wanted = (
+        ([Some(0), Some(1)], Some(30), 2),
+        ([Some(0), Some(1)], true),
+        ([Some(0), Some(0)], true),
+    );
+    sees(of_one_package(rt.alloc()), wanted)?;
+    // The first of equal values stands.
+    let wanted = (
+        ([0, 0, 1], Some(1)),
+        Some(([0, 1, 0], [Some((1, 0)), Some((2, 1))], false)),
+    );
+    sees(first_of_equals(rt.alloc()), wanted)?;
+    let wanted = [
+        Some([0, 0, 1]),
+        Some([0, 0, 1]),
+        Some([0, 0, 1]),
+        Some([1, 1, 1]),
+    ];
+    sees(of_each_kind(rt.alloc()), wanted)
+}
+
 /// The numbers of `a`, `b` and `a` once more; whether the second is of the pool, with its text; and whether the pool
 /// knows a third.
 type Twice = ([u32; 3], bool, bool);
-
-#[test]
-fn strings_and_names_stand_once(rt: HostRuntime) -> Result<(), Fail> {
-    let wanted = (
-        ([0, 1, 0], true, false),
-        ([0, 1, 0], true, false),
-        [Some(1), None],
-    );
-    sees(strings_and_names(rt.alloc()), wanted)
-}
 
 /// What is seen of strings, and of names; and the numbers of a name that is there and of one that isn't.
 fn strings_and_names(alloc: Global) -> Result<(Twice, Twice, [Option<u32>; 2]), StoreError> {
@@ -45,18 +65,14 @@ fn strings(alloc: Global, pool: &mut Pool<Noted>) -> Result<Twice, StoreError> {
     let a = string_id(alloc, pool, "a")?;
     let b = string_id(alloc, pool, "b")?;
     let again = string_id(alloc, pool, "a")?;
+    let is_kept = pool.knows_string(b) && pool.resolve_string(b) == "b";
     let knows_third = pool.knows_string(StringId(2));
-    Ok(([a.0, b.0, again.0], is_string(pool, b, "b"), knows_third))
+    Ok(([a.0, b.0, again.0], is_kept, knows_third))
 }
 
 fn string_id(alloc: Global, pool: &mut Pool<Noted>, text: &str) -> Result<StringId, StoreError> {
     let text = owned(alloc, text)?;
     Ok(pool.intern_string(text)?)
-}
-
-/// Whether the string is of the pool and has this text.
-fn is_string(pool: &Pool<Noted>, string: StringId, text: &str) -> bool {
-    pool.knows_string(string) && pool.resolve_string(string) == text
 }
 
 fn names(alloc: Global, pool: &mut Pool<Noted>) -> Result<Twice, StoreError> {
@@ -103,65 +119,41 @@ fn looked_up(alloc: Global, pool: &Pool<Noted>, text: &str) -> Result<Option<u32
     }
 }
 
-#[test]
-fn solvables_and_unions_are_new_each_time(rt: HostRuntime) -> Result<(), Fail> {
-    let wanted = (
-        ([Some(0), Some(1)], Some(30), 2),
-        ([Some(0), Some(1)], true),
-        ([Some(0), Some(0)], true),
-    );
-    let seen = of_one_package(rt.alloc(), 7, with_note(1, 1));
-    sees(seen, wanted)
-}
-
-/// The numbers of two solvables, the second's payload, and how many there are.
+/// The numbers of two solvables, the second's payload, and how many going over them gives.
 type Solvables = ([Option<u32>; 2], Option<u32>, usize);
 
 /// Two numbers, and whether what was given is kept.
 type Numbers = ([Option<u32>; 2], bool);
 
 /// What is seen of the solvables, unions and conditions of one package that has one version set.
-fn of_one_package(
-    alloc: Global,
-    name: u32,
-    set: Noted,
-) -> Result<(Solvables, Numbers, Numbers), StoreError> {
+fn of_one_package(alloc: Global) -> Result<(Solvables, Numbers, Numbers), StoreError> {
     let mut pool: Pool<Noted, u32> = Pool::new(alloc);
-    let seen = of_name(&mut pool, name, set);
+    let seen = of_name(&mut pool);
     drop(pool);
     seen
 }
 
-fn of_name(
-    pool: &mut Pool<Noted, u32>,
-    name: u32,
-    set: Noted,
-) -> Result<(Solvables, Numbers, Numbers), StoreError> {
-    let (name, set) = name_and_set(pool, name, set)?;
+fn of_name(pool: &mut Pool<Noted, u32>) -> Result<(Solvables, Numbers, Numbers), StoreError> {
+    let name = pool.intern_package_name(7)?;
+    let set = pool.intern_version_set(name, with_note(1, 1))?;
     let solvables = solvables(pool, name)?;
     let unions = unions(pool, set)?;
     Ok((solvables, unions, conditions(pool, set)?))
 }
 
-/// The ids of a name and of its version set.
-fn name_and_set(
-    pool: &mut Pool<Noted, u32>,
-    name: u32,
-    set: Noted,
-) -> Result<(NameId, VersionSetId), StoreError> {
-    match pool.intern_package_name(name) {
-        Ok(name) => Ok((name, pool.intern_version_set(name, set)?)),
-        Err(refused) => {
-            drop(set);
-            Err(refused.into())
-        }
-    }
-}
-
 fn solvables(pool: &mut Pool<Noted, u32>, name: NameId) -> Result<Solvables, StoreError> {
     let numbers = [new_solvable(pool, name)?, new_solvable(pool, name)?];
-    let payload = payload(pool, SolvableId::from_raw(1));
-    Ok((numbers, payload, solvable_count(pool)))
+    let second = SolvableId::from_raw(1);
+    let payload = if pool.knows_solvable(second) {
+        Some(pool.resolve_solvable(second).payload)
+    } else {
+        None
+    };
+    let mut count: usize = 0;
+    for _ in pool.iter_solvables() {
+        count = count.saturating_add(1);
+    }
+    Ok((numbers, payload, count))
 }
 
 /// The number of a new solvable with the payload 30, if the name is of the pool.
@@ -172,27 +164,11 @@ fn new_solvable(pool: &mut Pool<Noted, u32>, name: NameId) -> Result<Option<u32>
     Ok(Some(pool.intern_solvable(name, 30)?.into_raw()))
 }
 
-/// The payload of a solvable of the pool.
-fn payload(pool: &Pool<Noted, u32>, solvable: SolvableId) -> Option<u32> {
-    if pool.knows_solvable(solvable) {
-        Some(pool.resolve_solvable(solvable).payload)
-    } else {
-        None
-    }
-}
-
-/// How many solvables going over them gives.
-fn solvable_count(pool: &Pool<Noted, u32>) -> usize {
-    let mut count: usize = 0;
-    for _ in pool.iter_solvables() {
-        count = count.saturating_add(1);
-    }
-    count
-}
-
 fn unions(pool: &mut Pool<Noted, u32>, set: VersionSetId) -> Result<Numbers, StoreError> {
     let numbers = [new_union(pool, set)?, new_union(pool, set)?];
-    let is_last = is_union(pool, VersionSetUnionId(1), &[set, set, set]);
+    let last = VersionSetUnionId(1);
+    let is_last = pool.knows_union(last)
+        && pool.resolve_version_set_union(last) == [set, set, set].as_slice();
     Ok((numbers, is_last))
 }
 
@@ -204,26 +180,17 @@ fn new_union(pool: &mut Pool<Noted, u32>, set: VersionSetId) -> Result<Option<u3
     Ok(Some(pool.intern_version_set_union(set, &[set, set])?.0))
 }
 
-/// Whether the union is of the pool and has these sets.
-fn is_union(pool: &Pool<Noted, u32>, union: VersionSetUnionId, sets: &[VersionSetId]) -> bool {
-    pool.knows_union(union) && pool.resolve_version_set_union(union) == sets
-}
-
 fn conditions(pool: &mut Pool<Noted, u32>, set: VersionSetId) -> Result<Numbers, StoreError> {
     let numbers = [condition_of(pool, set)?, condition_of(pool, set)?];
-    let is_first = is_condition(pool, ConditionId::new(0), Condition::Requirement(set));
-    Ok((numbers, is_first && keeps_binary(pool)?))
-}
-
-/// Whether the pool keeps what joins its first condition with itself, if that is of the pool.
-fn keeps_binary(pool: &mut Pool<Noted, u32>) -> Result<bool, StoreError> {
     let first = ConditionId::new(0);
     if !pool.knows_condition(first) {
-        return Ok(false);
+        return Ok((numbers, false));
     }
+    let is_first = *pool.resolve_condition(first) == Condition::Requirement(set);
     let id = pool.intern_condition(Condition::Binary(LogicalOperator::Or, first, first))?;
     let joined = Condition::Binary(LogicalOperator::Or, first, first);
-    Ok(is_condition(pool, id, joined))
+    let is_joined = pool.knows_condition(id) && *pool.resolve_condition(id) == joined;
+    Ok((numbers, is_first && is_joined))
 }
 
 /// The number of the condition of a version set, if the set is of the pool.
@@ -233,20 +200,6 @@ fn condition_of(pool: &mut Pool<Noted, u32>, set: VersionSetId) -> Result<Option
     }
     let id = pool.intern_condition(Condition::Requirement(set))?;
     Ok(Some(id.as_u32()))
-}
-
-/// Whether the condition is of the pool and is this one.
-fn is_condition(pool: &Pool<Noted, u32>, id: ConditionId, condition: Condition) -> bool {
-    pool.knows_condition(id) && *pool.resolve_condition(id) == condition
-}
-
-#[test]
-fn the_first_of_equal_values_stands(rt: HostRuntime) -> Result<(), Fail> {
-    let wanted = (
-        ([0, 0, 1], Some(1)),
-        Some(([0, 1, 0], [Some((1, 0)), Some((2, 1))], false)),
-    );
-    sees(first_of_equals(rt.alloc()), wanted)
 }
 
 /// The numbers of three names, of which the second equals the first, and the first one's note.
@@ -270,16 +223,12 @@ fn first_names(pool: &mut Pool<Noted, Noted>) -> Result<FirstNames, StoreError> 
     let again = pool.intern_package_name(with_note(7, 2))?;
     let other = pool.intern_package_name(with_note(8, 3))?;
     let numbers = [name.into_raw(), again.into_raw(), other.into_raw()];
-    Ok((numbers, name_note(pool, name)))
-}
-
-/// The note of a name of the pool.
-fn name_note(pool: &Pool<Noted, Noted>, name: NameId) -> Option<u32> {
-    if pool.knows_name(name) {
+    let note = if pool.knows_name(name) {
         Some(pool.resolve_package_name(name).note)
     } else {
         None
-    }
+    };
+    Ok((numbers, note))
 }
 
 fn first_sets(pool: &mut Pool<Noted, Noted>) -> Result<Option<FirstSets>, StoreError> {

@@ -1,47 +1,48 @@
-//! The debug texts of requirements, with conditions and without, and of conditions; and a map of requirements that names no allocator.
-use providers::{Condition, ConditionalRequirement, LogicalOperator, Requirement, RequirementMap};
-use std::alloc::{AllocError, Global};
-use std::process::Abort;
+//! Requirements, with conditions and without, and conditions: their parts, and the debug texts of these.
+use providers::{Condition, ConditionalRequirement, LogicalOperator, Requirement};
+use std::alloc::AllocError;
 use std::test::Fail;
-use test_checks::sees;
-use typed_ids::{ConditionId, StoreError, VersionSetId, VersionSetUnionId};
+use test_checks::is_same;
+use typed_ids::{ConditionId, VersionSetId, VersionSetUnionId};
+
+const PARTS: &str =
+    "Single(VersionSetId(3)) Union(VersionSetUnionId(4)) And Or Binary(Or, ConditionId(1), ConditionId(6)) Requirement(VersionSetId(2))";
+
+const CONDITIONAL_PARTS: &str =
+    "[ConditionalRequirement { condition: Some(ConditionId(1)), requirement: Single(VersionSetId(3)) }, ConditionalRequirement { condition: None, requirement: Single(VersionSetId(3)) }, ConditionalRequirement { condition: None, requirement: Single(VersionSetId(3)) }, ConditionalRequirement { condition: None, requirement: Union(VersionSetUnionId(4)) }]";
 
 /// What was written is this text.
-fn is_text(rt: &impl Abort, shown: Result<String, AllocError>, text: &str) -> Result<(), Fail> {
+pub(crate) fn is_text(shown: Result<String, AllocError>, text: &str) -> Result<(), Fail> {
     let shown = shown?;
-    assert_eq!(rt; shown.as_str(), text);
-    Ok(())
+    let is_shown = is_same(shown.as_str(), text);
+    drop(shown);
+    is_shown
 }
 
 #[test]
-fn requirements_and_conditions_show_their_parts(rt: HostRuntime) -> Result<(), Fail> {
-    let set = Requirement::Single(VersionSetId(3));
-    let union = Requirement::Union(VersionSetUnionId(4));
+fn requirements_and_conditions_keep_and_show_their_parts(rt: HostRuntime) -> Result<(), Fail> {
+    // A version set alone is asked for always.
+    let always = ConditionalRequirement::from(VersionSetId(0));
+    is_same(always.requirement, Requirement::default())?;
+    is_same(always.condition, None)?;
+    // Requirements and conditions.
+    let (set, union) = (VersionSetId(3), VersionSetUnionId(4));
     let either = Condition::Binary(
         LogicalOperator::Or,
         ConditionId::new(0),
         ConditionId::new(5),
     );
-    let asked = Condition::Requirement(VersionSetId(2));
     let shown = format!(in rt.alloc();
         "{:?} {:?} {:?} {:?} {:?} {:?}",
-        set,
-        union,
+        Requirement::Single(set),
+        Requirement::Union(union),
         LogicalOperator::And,
         LogicalOperator::Or,
         either,
-        asked
+        Condition::Requirement(VersionSetId(2))
     );
-    is_text(
-        &rt,
-        shown,
-        "Single(VersionSetId(3)) Union(VersionSetUnionId(4)) And Or Binary(Or, ConditionId(1), ConditionId(6)) Requirement(VersionSetId(2))",
-    )
-}
-
-#[test]
-fn conditional_requirements_show_their_parts(rt: HostRuntime) -> Result<(), Fail> {
-    let (set, union) = (VersionSetId(3), VersionSetUnionId(4));
+    is_text(shown, PARTS)?;
+    // Requirements with a condition, and without.
     let asked = Requirement::Single(set);
     let shown = [
         asked.with_condition(ConditionId::new(0)),
@@ -49,26 +50,5 @@ fn conditional_requirements_show_their_parts(rt: HostRuntime) -> Result<(), Fail
         ConditionalRequirement::from(set),
         ConditionalRequirement::from(union),
     ];
-    is_text(
-        &rt,
-        format!(in rt.alloc(); "{shown:?}"),
-        "[ConditionalRequirement { condition: Some(ConditionId(1)), requirement: Single(VersionSetId(3)) }, ConditionalRequirement { condition: None, requirement: Single(VersionSetId(3)) }, ConditionalRequirement { condition: None, requirement: Single(VersionSetId(3)) }, ConditionalRequirement { condition: None, requirement: Union(VersionSetUnionId(4)) }]",
-    )
-}
-
-/// What a map keeps of a requirement.
-fn kept(alloc: Global) -> Result<Option<bool>, StoreError> {
-    let mut map: RequirementMap<bool> = RequirementMap::new(alloc);
-    let ended = map.insert(Requirement::default(), true);
-    let kept = map.get(Requirement::default()).copied();
-    drop(map);
-    match ended {
-        Ok(_) => Ok(kept),
-        Err(refused) => Err(refused.error),
-    }
-}
-
-#[test]
-fn a_map_takes_the_global_allocator(rt: HostRuntime) -> Result<(), Fail> {
-    sees(kept(rt.alloc()), Some(true))
+    is_text(format!(in rt.alloc(); "{shown:?}"), CONDITIONAL_PARTS)
 }

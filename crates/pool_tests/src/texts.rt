@@ -6,18 +6,12 @@ use pool_callers::FewWords;
 use providers::{Interner, Requirement, RootText};
 use std::alloc::Global;
 use std::marker::PhantomData;
-use std::process::Abort;
 use std::test::Fail;
+use test_checks::is_same;
 use typed_ids::{NameId, SolvableId, SolvableIdOrRoot, VersionSetId, VersionSetUnionId};
-
-/// What is shown is this text.
-fn is_text(rt: &impl Abort, shown: Option<&str>, text: &str) {
-    assert_eq!(rt; shown, Some(text));
-}
 
 /// A requirement's text is this one, behind what is there.
 fn shows_requirement<I: Interner>(
-    rt: &impl Abort,
     heap: I::Alloc,
     interner: &I,
     requirement: Requirement,
@@ -27,14 +21,14 @@ fn shows_requirement<I: Interner>(
 {
     let mut out = String::from_str(heap, "needs ")?;
     let ended = requirement.display(interner, &mut out);
-    is_text(rt, out.strip_prefix("needs "), text);
+    let is_shown = is_same(out.strip_prefix("needs "), Some(text));
     drop(out);
+    is_shown?;
     Ok(ended?)
 }
 
 /// The merged solvables' text is this one.
 fn shows_solvables<I: Interner>(
-    rt: &impl Abort,
     heap: I::Alloc,
     interner: &I,
     solvables: &[I::SolvableId],
@@ -44,14 +38,14 @@ fn shows_solvables<I: Interner>(
 {
     let mut out = String::new(heap);
     let ended = interner.display_merged_solvables(solvables, &mut out);
-    is_text(rt, Some(out.as_str()), text);
+    let is_shown = is_same(out.as_str(), text);
     drop(out);
+    is_shown?;
     Ok(ended?)
 }
 
 /// A key's text is this one.
 fn shows_key<I: Interner>(
-    rt: &impl Abort,
     heap: I::Alloc,
     interner: &I,
     key: SolvableIdOrRoot<I::SolvableId>,
@@ -61,8 +55,9 @@ fn shows_key<I: Interner>(
 {
     let mut out = String::new(heap);
     let ended = key.display(interner, &mut out);
-    is_text(rt, Some(out.as_str()), text);
+    let is_shown = is_same(out.as_str(), text);
     drop(out);
+    is_shown?;
     Ok(ended?)
 }
 
@@ -76,7 +71,6 @@ struct Sets {
 
 /// The texts of requirements; of solvables together, of none, and of the keys of the root and of the second solvable.
 fn shows_each<I: Interner>(
-    rt: &impl Abort,
     heap: I::Alloc,
     interner: &I,
     sets: Sets,
@@ -89,13 +83,13 @@ fn shows_each<I: Interner>(
     requires solvables { All (λ s. (I.universe interner.now).knows_solvable s ≡ true) solvables.now }
     requires two { (I.universe interner.now).knows_solvable two ≡ true }
 {
-    shows_requirement(rt, heap, interner, sets.set, "a >=1, <3")?;
-    shows_requirement(rt, heap, interner, sets.empty, "a")?;
-    shows_requirement(rt, heap, interner, sets.union, "a >=1, <3 | a >=1, <3")?;
-    shows_solvables(rt, heap, interner, solvables, "a a 1 | a 2")?;
-    shows_solvables(rt, heap, interner, &[], "")?;
-    shows_key(rt, heap, interner, SolvableIdOrRoot::Root, "root")?;
-    shows_key(rt, heap, interner, SolvableIdOrRoot::Solvable(two), "a 2")
+    shows_requirement(heap, interner, sets.set, "a >=1, <3")?;
+    shows_requirement(heap, interner, sets.empty, "a")?;
+    shows_requirement(heap, interner, sets.union, "a >=1, <3 | a >=1, <3")?;
+    shows_solvables(heap, interner, solvables, "a a 1 | a 2")?;
+    shows_solvables(heap, interner, &[], "")?;
+    shows_key(heap, interner, SolvableIdOrRoot::Root, "root")?;
+    shows_key(heap, interner, SolvableIdOrRoot::Solvable(two), "a 2")
 }
 
 #[test]
@@ -114,5 +108,5 @@ fn requirements_and_solvables_have_texts(rt: HostRuntime) -> Result<(), Fail> {
         union: Requirement::Union(VersionSetUnionId(0)),
     };
     let (one, two) = (SolvableId::from_raw(0), SolvableId::from_raw(1));
-    shows_each(&rt, rt.alloc(), &words, sets, &[two, one, two], two)
+    shows_each(rt.alloc(), &words, sets, &[two, one, two], two)
 }

@@ -1,4 +1,4 @@
-//! The generic caller with ample memory, and with names and version sets of which `==` reads a part.
+//! What the generic caller sees in ample memory, and with names and version sets of which `==` reads a part.
 use crate::noted::{Noted, with_note};
 use crate::pool::owned;
 use package_pool::{Pool, Solvable};
@@ -7,26 +7,13 @@ use pool_callers::{
 };
 use providers::Condition;
 use std::alloc::Global;
-use std::test::Fail;
-use test_checks::sees;
 use typed_ids::{NameId, StoreError, VersionSetId};
 
 /// The numbers of two ids, and the note of what the first stands for, or 1 where it is the text or condition that came.
 type Numbers = Option<[u32; 3]>;
 
-#[test]
-fn equal_values_get_the_id_of_the_first(rt: HostRuntime) -> Result<(), Fail> {
-    let wanted = [
-        Some([0, 0, 1]),
-        Some([0, 0, 1]),
-        Some([0, 0, 1]),
-        Some([1, 1, 1]),
-    ];
-    sees(of_each_kind(rt.alloc()), wanted)
-}
-
 /// What is seen of names, version sets, conditions and strings.
-fn of_each_kind(alloc: Global) -> Result<[Numbers; 4], StoreError> {
+pub(crate) fn of_each_kind(alloc: Global) -> Result<[Numbers; 4], StoreError> {
     let mut pool: Pool<Noted, Noted> = Pool::new(alloc);
     let names = names(alloc, &mut pool);
     let sets = sets(&mut pool, NameId::from_raw(0));

@@ -19,20 +19,28 @@ enum Before {
 /// How many lists a normal form has, and how many version sets are in the first of them.
 type Size = (usize, usize);
 
-/// One list with each version set.
+/// One list with each version set; but not of 2^64 of them.
 #[test]
-fn conjunctions_may_be_nested_deep(rt: HostRuntime) -> Result<(), Fail> {
+fn conjunctions_may_be_nested_deep_but_not_too_large(rt: HostRuntime) -> Result<(), Fail> {
     let joined = Ok((1, 100_001));
     is_same(nested(rt.alloc(), "and", Before::Left)?, joined)?;
-    is_same(nested(rt.alloc(), "and", Before::Right)?, joined)
+    is_same(nested(rt.alloc(), "and", Before::Right)?, joined)?;
+    is_same(
+        doubled(rt.alloc(), "and", 16)?,
+        Err(StoreError::OutOfMemory),
+    )
 }
 
-/// A list for each version set.
+/// A list for each version set; but no 2^64 lists.
 #[test]
-fn disjunctions_may_be_nested_deep(rt: HostRuntime) -> Result<(), Fail> {
+fn disjunctions_may_be_nested_deep_but_not_too_large(rt: HostRuntime) -> Result<(), Fail> {
     let listed = Ok((100_001, 1));
     is_same(nested(rt.alloc(), "or", Before::Left)?, listed)?;
-    is_same(nested(rt.alloc(), "or", Before::Right)?, listed)
+    is_same(nested(rt.alloc(), "or", Before::Right)?, listed)?;
+    is_same(
+        doubled(rt.alloc(), "or", 1000)?,
+        Err(StoreError::OutOfMemory),
+    )
 }
 
 /// The size of a normal form at a depth of 100,000.
@@ -41,19 +49,6 @@ fn nested(alloc: Global, word: &str, before: Before) -> Result<Result<Size, Stor
     let seen = size_in(alloc, alloc, text.as_bytes(), 100_000);
     drop(text);
     seen
-}
-
-/// 2^64 version sets, and 2^64 lists.
-#[test]
-fn large_normal_forms_are_refused(rt: HostRuntime) -> Result<(), Fail> {
-    is_same(
-        doubled(rt.alloc(), "and", 16)?,
-        Err(StoreError::OutOfMemory),
-    )?;
-    is_same(
-        doubled(rt.alloc(), "or", 1000)?,
-        Err(StoreError::OutOfMemory),
-    )
 }
 
 /// The size of a normal form that doubles 64 times, where the request of this number is refused.

@@ -1,4 +1,5 @@
-//! Normal forms, in ample memory.
+//! Normal forms.
+use crate::condition_calls::refused::each_is_refused;
 use conditions::convert_conditions_to_dnf;
 use pool_callers::is_met;
 use providers::Interner;
@@ -10,7 +11,7 @@ use typed_ids::{ConditionId, StoreError, VersionSetId};
 
 /// The version sets `a`, `b` and `c`, and conditions over them: 0 to 2 are the sets; 3 is `a and b`, 4 is `c and a`, 5 is
 /// `3 or 4`; 6 is `a or b`, 7 is `c or a`, 8 is `6 and 7`, 9 is `6 and c`.
-pub(crate) const CATALOGUE: &[u8] =
+const CATALOGUE: &[u8] =
     b"package p 1 2 3\nset p 1 2\nset p 2 3\nset p 3 4\ncondition set 0\ncondition set 1\ncondition set 2\ncondition and 0 1\ncondition and 2 0\ncondition or 3 4\ncondition or 0 1\ncondition or 2 0\ncondition and 6 7\ncondition and 6 2\nbegin\n";
 
 const A: Option<VersionSetId> = Some(VersionSetId(0));
@@ -31,40 +32,31 @@ const SIXTH_AND_SEVENTH: Form = [
     None,
 ];
 
+/// The normal forms of the conditions 0, 5, 8 and 9.
+const FORMS: [Form; 4] = [
+    [Some([A, None, None]), None, None, None, None],
+    [Some([A, B, None]), Some([C, A, None]), None, None, None],
+    SIXTH_AND_SEVENTH,
+    [Some([A, C, None]), Some([B, C, None]), None, None, None],
+];
+
 #[test]
-fn conditions_have_their_normal_forms(rt: HostRuntime) -> Result<(), Fail> {
+fn conditions_have_normal_forms_that_keep_the_truth(rt: HostRuntime) -> Result<(), Fail> {
     match read_catalogue(rt.alloc(), CATALOGUE) {
         Ok(Some(catalogue)) => {
             let seen = forms(rt.alloc(), &catalogue.packages);
+            let agrees = met_by_each(rt.alloc(), &catalogue.packages);
+            let refused = each_is_refused(rt.alloc(), &catalogue.packages);
             drop(catalogue);
-            sees(seen, wanted())
+            refused?;
+            sees(seen, FORMS)?;
+            sees(agrees, true)
         }
         _ => Err(Fail::new("the catalogue has a begin")),
     }
 }
 
-fn wanted() -> [Form; 4] {
-    [
-        [Some([A, None, None]), None, None, None, None],
-        [Some([A, B, None]), Some([C, A, None]), None, None, None],
-        SIXTH_AND_SEVENTH,
-        [Some([A, C, None]), Some([B, C, None]), None, None, None],
-    ]
-}
-
-/// Each of the two conditions is met where it should be, as each of the eight ways to choose version sets shows.
-#[test]
-fn normal_forms_keep_the_truth(rt: HostRuntime) -> Result<(), Fail> {
-    match read_catalogue(rt.alloc(), CATALOGUE) {
-        Ok(Some(catalogue)) => {
-            let seen = met_by_each(rt.alloc(), &catalogue.packages);
-            drop(catalogue);
-            sees(seen, true)
-        }
-        _ => Err(Fail::new("the catalogue has a begin")),
-    }
-}
-
+/// Whether each of the two conditions is met where it should be, as each of the eight ways to choose version sets shows.
 fn met_by_each<I: Interner, A: Allocator + Copy>(
     alloc: A,
     interner: &I,
@@ -116,7 +108,9 @@ pub(crate) fn form<I: Interner, A: Allocator + Copy>(
 fn seen<A: Allocator>(lists: &[Vec<VersionSetId, A>]) -> Form {
     let mut form = [None; 5];
     for place in 0..5usize {
-        form[place] = lists.get(place).map(|list| sets(list));
+        if let Some(list) = lists.get(place) {
+            form[place] = Some(sets(list));
+        }
     }
     form
 }

@@ -1,37 +1,19 @@
 //! Memory refused at each request in turn. A refused conversion answers so, and made again it answers what ample memory does.
-use crate::condition_calls::normal_forms::{CATALOGUE, Form, form};
+use crate::condition_calls::normal_forms::{Form, form};
 use providers::Interner;
 use refusing::Refusing;
-use script_packages::read_catalogue;
 use std::alloc::Global;
 use std::test::Fail;
 use test_checks::is_same;
 use typed_ids::StoreError;
 
-/// What is seen of a conversion to which a request may be refused.
-#[derive(Clone, Copy, Debug, PartialEq, Eq)]
-struct Refusal {
-    /// The number of the request, and whether it came.
-    number: u64,
-    is_met: bool,
-    first: Result<Form, StoreError>,
-    again: Result<Form, StoreError>,
-}
+/// What is seen of a conversion to which a request may be refused: the number of the request, and whether it came; and the
+/// answers to the conversion, and to one that is made again.
+type Refusal = (u64, bool, [Result<Form, StoreError>; 2]);
 
-// A request is the room for an alternative, for the two lists of one, for a list's sets, or for the lists that are done.
-#[test]
-fn refused_conversions_answer_so(rt: HostRuntime) -> Result<(), Fail> {
-    match read_catalogue(rt.alloc(), CATALOGUE) {
-        Ok(Some(catalogue)) => {
-            let ended = each_is_refused(rt.alloc(), &catalogue.packages);
-            drop(catalogue);
-            ended
-        }
-        _ => Err(Fail::new("the catalogue has a begin")),
-    }
-}
-
-fn each_is_refused<I: Interner>(alloc: Global, interner: &I) -> Result<(), Fail> {
+/// Each request that the conversion of condition 8 makes is refused in turn. A request is the room for an alternative, for
+/// the two lists of one, for a list's sets, or for the lists that are done.
+pub(crate) fn each_is_refused<I: Interner>(alloc: Global, interner: &I) -> Result<(), Fail> {
     for number in 1..100u64 {
         if !is_as_wanted(alloc, interner, number)? {
             return is_same(number > 8, true);
@@ -46,18 +28,13 @@ fn is_as_wanted<I: Interner>(alloc: Global, interner: &I, number: u64) -> Result
     let seen = seen_at(&heap, interner, number);
     drop(heap);
     let ample = form(alloc, interner, 8);
-    let wanted = Refusal {
-        number,
-        is_met: seen.is_met,
-        first: if seen.is_met {
-            Err(StoreError::OutOfMemory)
-        } else {
-            ample
-        },
-        again: ample,
+    let first = if seen.1 {
+        Err(StoreError::OutOfMemory)
+    } else {
+        ample
     };
-    is_same(seen, wanted)?;
-    Ok(seen.is_met)
+    is_same(seen, (number, seen.1, [first, ample]))?;
+    Ok(seen.1)
 }
 
 fn seen_at<I: Interner>(heap: &Refusing<Global>, interner: &I, number: u64) -> Refusal {
@@ -65,10 +42,5 @@ fn seen_at<I: Interner>(heap: &Refusing<Global>, interner: &I, number: u64) -> R
     let first = form(heap, interner, 8);
     let is_met = !heap.is_armed();
     heap.arm(0);
-    Refusal {
-        number,
-        is_met,
-        first,
-        again: form(heap, interner, 8),
-    }
+    (number, is_met, [first, form(heap, interner, 8)])
 }
