@@ -3,7 +3,7 @@ use crate::catalogue::Requirement;
 use std::alloc::{AllocError, Global};
 
 /// A variable, or its negation.
-#[derive(Clone, Copy, PartialEq, Eq)]
+#[derive(Clone, Copy, Debug, PartialEq, Eq)]
 pub struct Literal {
     /// The variable.
     pub variable: u16,
@@ -30,7 +30,7 @@ impl Literal {
 }
 
 /// Up to four literals, so that a command owns nothing.
-#[derive(Clone, Copy)]
+#[derive(Clone, Copy, Debug, PartialEq, Eq)]
 pub struct Literals {
     /// The literals, and behind them whatever stands there.
     pub list: [Literal; 4],
@@ -53,7 +53,7 @@ impl Literals {
 }
 
 /// What a helper variable stands for.
-#[derive(Clone, Copy)]
+#[derive(Clone, Copy, Debug, PartialEq, Eq)]
 pub enum Helper {
     /// Some solvable of the package.
     AtLeastOne(u16),
@@ -64,7 +64,7 @@ pub enum Helper {
 }
 
 /// A command. The names are the product's.
-#[derive(Clone, Copy)]
+#[derive(Clone, Copy, Debug)]
 pub enum Command {
     /// A solvable.
     Variable(u16),

@@ -3,7 +3,7 @@ use crate::command::Command;
 use crate::reply::{Decision, Reply};
 
 /// What a reply may be, as the tests count it: each is of one kind, and some are of another one beside it.
-#[derive(Clone, Copy)]
+#[derive(Clone, Copy, Debug, PartialEq, Eq)]
 pub enum Kind {
     /// A variable.
     Variable,

@@ -1,7 +1,7 @@
 //! Replies in plain numbers.
 
 /// An entry of the trail, without its level.
-#[derive(Clone, Copy)]
+#[derive(Clone, Copy, Debug, PartialEq, Eq)]
 pub struct Assignment {
     /// The variable.
     pub variable: u16,
@@ -12,7 +12,7 @@ pub struct Assignment {
 }
 
 /// What to decide next.
-#[derive(Clone, Copy)]
+#[derive(Clone, Copy, Debug, PartialEq, Eq)]
 pub struct Decision {
     /// The variable to be made true.
     pub candidate: u16,
@@ -33,7 +33,7 @@ pub struct Decision {
 }
 
 /// A reply. The names are the product's.
-#[derive(Drop)]
+#[derive(Debug, Drop)]
 pub enum Reply {
     /// The variable.
     Variable(u16),

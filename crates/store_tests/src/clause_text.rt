@@ -116,13 +116,13 @@ fn learnt_and_unknown_clauses_have_their_texts(rt: HostRuntime) -> Result<(), Fa
     let literals = vec![in rt.alloc(); Literal::new(variable(0), true)]?;
     let commands = [Command::Root, Command::Learnt(literals)];
     tells(
-        &rt,
+        rt.alloc(),
         &commands,
         clause(1),
         (Ok(()), "is Learnt(LearntClauseId(0))"),
     )?;
     tells(
-        &rt,
+        rt.alloc(),
         &commands,
         clause(2),
         (Err(StoreError::UnknownId), "is "),

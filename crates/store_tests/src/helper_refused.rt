@@ -48,10 +48,11 @@ fn answered<N, S, A: Allocator, T: Obeys<N, S, A>>(
 }
 
 /// Two variables of solvables, the first of which is tracked; then memory is refused to the tracking of the other one.
-#[derive(Clone, Copy)]
+#[derive(Drop)]
 struct Tracking<'t, N, S> {
     name: N,
-    solvables: [S; 2],
+    first: S,
+    second: S,
     heap: &'t Refusing<Global>,
     /// The number of the request.
     number: u64,
@@ -61,12 +62,12 @@ impl<N: Copy, S: Copy, A: Allocator> Visit<N, S, A> for Tracking<'_, N, S> {
     type Told = Seen;
 
     fn visit<T: Obeys<N, S, A>>(&self, store: &mut T) -> Seen {
-        let [first, second] = self.solvables;
-        let tracking = Command::AtMostOnce(self.name, variable(2));
-        let helper = Command::Helper(HelperOrigin::AtLeastOne(self.name));
-        answered(store, &Command::Variable(first));
-        answered(store, &Command::Variable(second));
-        answered(store, &Command::AtMostOnce(self.name, variable(1)));
+        let name = self.name;
+        let tracking = Command::AtMostOnce(name, variable(2));
+        let helper = Command::Helper(HelperOrigin::AtLeastOne(name));
+        answered(store, &Command::Variable(self.first));
+        answered(store, &Command::Variable(self.second));
+        answered(store, &Command::AtMostOnce(name, variable(1)));
         self.heap.arm(self.number);
         let refused = answered(store, &tracking);
         let is_met = !self.heap.is_armed();
@@ -92,11 +93,14 @@ fn dense_trial(heap: &Refusing<Global>, number: u64) -> Result<Seen, StoreError>
     let lists = lists_of(heap, Example::TwoNames)?;
     let tracking = Tracking {
         name: NameId::from_raw(0),
-        solvables: [SolvableId::from_raw(0), SolvableId::from_raw(1)],
+        first: SolvableId::from_raw(0),
+        second: SolvableId::from_raw(1),
         heap,
         number,
     };
-    dense_visited(heap, lists, &tracking)
+    let seen = dense_visited(heap, lists, &tracking);
+    drop(tracking);
+    seen
 }
 
 /// The refused tracking leaves variable 3 to the next helper variable, and takes variable 4 for its helper the next time.

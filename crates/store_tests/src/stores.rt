@@ -8,7 +8,7 @@ use crate::visits::{Visit, dense_visited, sparse_visited};
 use crate::wanted::first_unwanted;
 use plain_providers::{SparseName, SparseSolvable};
 use resolvo_store::{Command, Reply};
-use std::alloc::Allocator;
+use std::alloc::{Allocator, Global};
 use std::test::Fail;
 use test_checks::is_same;
 use typed_ids::{ClauseId, NameId, SolvableId, StoreError};
@@ -22,21 +22,23 @@ pub(crate) enum Way {
     Run,
 }
 
-/// New stores over the examples' lists, one with dense ids and one with sparse ones, reply as wanted.
+/// New stores over the examples' lists, with dense ids and with sparse ones, reply as wanted. A failure names the example.
 pub(crate) fn are_given(
     rt: &impl AllocGlobal,
-    examples: &[(&str, Example)],
+    examples: &[(&'static str, Example)],
     way: Way,
 ) -> Result<(), Fail> {
     for (name, example) in examples {
-        let (dense, sparse) = (
-            dense_told(rt.alloc(), *example, way),
-            sparse_told(rt.alloc(), *example, way),
-        );
-        let wanted = Ok(wanted(*example));
-        is_same((*name, dense, sparse), (*name, wanted, wanted))?;
+        is_given(rt.alloc(), *name, *example, way)?;
     }
     Ok(())
+}
+
+fn is_given(alloc: Global, name: &str, example: Example, way: Way) -> Result<(), Fail> {
+    let dense = dense_told(alloc, example, way);
+    is_same((name, dense), (name, Ok(wanted(example))))?;
+    let sparse = sparse_told(alloc, example, way);
+    is_same((name, sparse), (name, Ok(wanted(example))))
 }
 
 /// What is to be told: the candidates, as many replies as commands and all as wanted, the literals of the clauses, and at

@@ -4,7 +4,7 @@ use crate::reply::{Decision, Reply};
 use std::alloc::AllocError;
 
 /// What a clause says of a decision.
-#[derive(Clone, Copy)]
+#[derive(Clone, Copy, PartialEq, Eq)]
 enum State {
     /// Its parent isn't true, or something else meets it.
     Closed,
