@@ -35,15 +35,17 @@ pub(crate) fn are_given(
 }
 
 fn is_given(alloc: Global, name: &str, example: Example, way: Way) -> Result<(), Fail> {
-    let dense = dense_told(alloc, example, way);
-    is_same((name, dense), (name, Ok(wanted(example))))?;
-    let sparse = sparse_told(alloc, example, way);
-    is_same((name, sparse), (name, Ok(wanted(example))))
+    is_told(name, example, dense_told(alloc, example, way))?;
+    is_told(name, example, sparse_told(alloc, example, way))
+}
+
+fn is_told(name: &str, example: Example, told: Result<Told, StoreError>) -> Result<(), Fail> {
+    is_same((name, told), (name, Ok(told_of(example))))
 }
 
 /// What is to be told: the candidates, as many replies as commands and all as wanted, the literals of the clauses, and at
 /// the end the root's value, none of variable 2, and the falsified clause.
-fn wanted(example: Example) -> Told {
+fn told_of(example: Example) -> Told {
     let wanted = play_of(example);
     let falsified = match wanted.falsified {
         Some(place) => Some(clause(place)),
