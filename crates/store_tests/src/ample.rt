@@ -1,8 +1,7 @@
 //! Each call that takes memory, once with ample memory: none of them is refused, and the answers are as wanted. (A body
-//! that always answers want of memory would meet any contract.) What owns memory is generic in the allocator, so that a
+//! that always answers want of memory would meet any contract.) The store's own calls are in `worked`. What owns memory is generic in the allocator, so that a
 //! test names it once.
-use crate::script::{Example, clause, single, variable};
-use crate::stores::{Way, dense_gives, sparse_gives};
+use crate::script::{clause, single, variable};
 use decisions::{AddFault, Decision, DecisionMap, DecisionTracker};
 use id_maps::{IdMap, Slot, SolverId};
 use providers::RequirementMap;
@@ -13,18 +12,14 @@ use typed_ids::{DefaultValue, NameId, SolvableId, StoreError, VariableId};
 use variables::VariableMap;
 
 #[test]
-fn total_maps_keep_numbers(rt: HostRuntime) -> Result<(), Fail> {
+fn total_maps_keep_numbers_and_slots(rt: HostRuntime) -> Result<(), Fail> {
     let names = [
         NameId::from_raw(5),
         NameId::from_raw(9),
         NameId::from_raw(70),
     ];
     let kept = kept_by_new::<NameId, u64, Global, Vec<u64>>(rt.alloc(), names, 4);
-    is_same(kept, Ok([4, 0, 0]))
-}
-
-#[test]
-fn total_maps_keep_slots(rt: HostRuntime) -> Result<(), Fail> {
+    is_same(kept, Ok([4, 0, 0]))?;
     let solvables = [
         SolvableId::from_raw(1),
         SolvableId::from_raw(2),
@@ -127,11 +122,6 @@ fn variables_seen<N: Copy, S: SolverId<A>, A: Allocator + Copy>(
     Ok((interned, [before, after]))
 }
 
-#[test]
-fn maps_of_decisions_keep_values(rt: HostRuntime) -> Result<(), Fail> {
-    is_same(kept_decision(rt.alloc()), Ok(Some(false)))
-}
-
 /// What a new map keeps of a variable that it is told is false.
 fn kept_decision<A: Allocator + Copy>(heap: A) -> Result<Option<bool>, StoreError> {
     let mut map = DecisionMap::new(heap);
@@ -143,7 +133,8 @@ fn kept_decision<A: Allocator + Copy>(heap: A) -> Result<Option<bool>, StoreErro
 }
 
 #[test]
-fn the_trail_takes_decisions(rt: HostRuntime) -> Result<(), Fail> {
+fn maps_and_trails_keep_decisions(rt: HostRuntime) -> Result<(), Fail> {
+    is_same(kept_decision(rt.alloc()), Ok(Some(false)))?;
     let (taken, kept) = trail_seen(rt.alloc());
     is_same(taken, (Ok(true), Ok(false)))?;
     is_same(kept, (Some(true), 7))
@@ -161,13 +152,3 @@ fn trail_seen<A: Allocator + Copy>(heap: A) -> (Taken, (Option<bool>, u32)) {
 }
 
 type Taken = (Result<bool, AddFault>, Result<bool, AddFault>);
-
-#[test]
-fn a_store_obeys_each_command(rt: HostRuntime) -> Result<(), Fail> {
-    dense_gives(&rt, Example::EachCommand, Way::Steps)
-}
-
-#[test]
-fn a_store_of_sparse_ids_obeys_each_command(rt: HostRuntime) -> Result<(), Fail> {
-    sparse_gives(&rt, Example::EachCommand, Way::Steps)
-}

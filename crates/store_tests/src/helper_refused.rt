@@ -3,9 +3,9 @@
 use crate::listed::lists_of;
 use crate::obeys::Obeys;
 use crate::script::{Example, variable};
-use providers::{DependencyProvider, Interner};
+use crate::visits::{Visit, dense_visited};
 use refusing::Refusing;
-use resolvo_store::{ClauseStore, Command, HelperOrigin, Reply};
+use resolvo_store::{Command, HelperOrigin, Reply};
 use std::alloc::{Allocator, Global};
 use std::test::Fail;
 use test_checks::is_same;
@@ -48,43 +48,38 @@ fn answered<N, S, A: Allocator, T: Obeys<N, S, A>>(
 }
 
 /// Two variables of solvables, the first of which is tracked; then memory is refused to the tracking of the other one.
-fn seen_of<N: Copy, S: Copy, A: Allocator, T: Obeys<N, S, A>>(
-    store: &mut T,
+#[derive(Drop)]
+struct Tracking<'t, N, S> {
     name: N,
-    [first, second]: [S; 2],
-    heap: &Refusing<Global>,
+    first: S,
+    second: S,
+    heap: &'t Refusing<Global>,
+    /// The number of the request.
     number: u64,
-) -> Seen {
-    let tracking = Command::AtMostOnce(name, variable(2));
-    let helper = Command::Helper(HelperOrigin::AtLeastOne(name));
-    answered(store, &Command::Variable(first));
-    answered(store, &Command::Variable(second));
-    answered(store, &Command::AtMostOnce(name, variable(1)));
-    heap.arm(number);
-    let refused = answered(store, &tracking);
-    let is_met = !heap.is_armed();
-    heap.arm(0);
-    Seen {
-        refused,
-        helper: answered(store, &helper),
-        again: answered(store, &tracking),
-        other: answered(store, &helper),
-        is_met,
-    }
 }
 
-/// What is seen of a new store.
-fn new_seen<D: DependencyProvider + Drop>(
-    alloc: D::Alloc,
-    (provider, name): (D, D::NameId),
-    solvables: [D::SolvableId; 2],
-    heap: &Refusing<Global>,
-    number: u64,
-) -> Result<Seen, StoreError> {
-    let mut store = ClauseStore::new(alloc, provider)?;
-    let seen = seen_of(&mut store, name, solvables, heap, number);
-    drop(store);
-    Ok(seen)
+impl<N: Copy, S: Copy, A: Allocator> Visit<N, S, A> for Tracking<'_, N, S> {
+    type Told = Seen;
+
+    fn visit<T: Obeys<N, S, A>>(&self, store: &mut T) -> Seen {
+        let name = self.name;
+        let tracking = Command::AtMostOnce(name, variable(2));
+        let helper = Command::Helper(HelperOrigin::AtLeastOne(name));
+        answered(store, &Command::Variable(self.first));
+        answered(store, &Command::Variable(self.second));
+        answered(store, &Command::AtMostOnce(name, variable(1)));
+        self.heap.arm(self.number);
+        let refused = answered(store, &tracking);
+        let is_met = !self.heap.is_armed();
+        self.heap.arm(0);
+        Seen {
+            refused,
+            helper: answered(store, &helper),
+            again: answered(store, &tracking),
+            other: answered(store, &helper),
+            is_met,
+        }
+    }
 }
 
 fn dense_seen(rt: &impl AllocGlobal, number: u64) -> Result<Seen, StoreError> {
@@ -95,15 +90,17 @@ fn dense_seen(rt: &impl AllocGlobal, number: u64) -> Result<Seen, StoreError> {
 }
 
 fn dense_trial(heap: &Refusing<Global>, number: u64) -> Result<Seen, StoreError> {
-    let provider = lists_of(heap, Example::TwoNames)?;
-    let solvables = [SolvableId::from_raw(0), SolvableId::from_raw(1)];
-    new_seen(
-        heap,
-        (provider, NameId::from_raw(0)),
-        solvables,
+    let lists = lists_of(heap, Example::TwoNames)?;
+    let tracking = Tracking {
+        name: NameId::from_raw(0),
+        first: SolvableId::from_raw(0),
+        second: SolvableId::from_raw(1),
         heap,
         number,
-    )
+    };
+    let seen = dense_visited(heap, lists, &tracking);
+    drop(tracking);
+    seen
 }
 
 /// The refused tracking leaves variable 3 to the next helper variable, and takes variable 4 for its helper the next time.

@@ -47,6 +47,8 @@ mod stores;
 #[cfg(test)]
 mod tracking;
 #[cfg(test)]
+mod visits;
+#[cfg(test)]
 mod wanted;
 #[cfg(test)]
 mod watches;

@@ -1,9 +1,9 @@
 //! Commands that name a package which the provider doesn't know, over the packages of a script's catalogue, whose provider
 //! knows the names that it lists and no other.
+use crate::obeys::Obeys;
 use crate::script::variable;
-use providers::DependencyProvider;
-use resolvo_store::{ClauseStore, Command, HelperOrigin, Reply};
-use script_packages::read_catalogue;
+use crate::visits::{Visit, catalogue_visited};
+use resolvo_store::{Command, HelperOrigin, Reply};
 use std::alloc::{Allocator, Global};
 use std::test::Fail;
 use test_checks::is_same;
@@ -50,37 +50,28 @@ fn refused_for<A: Allocator>(replies: &[Reply<A>]) -> Refusals {
     ]
 }
 
-/// How many replies a new store gives to the commands, and what it refuses of them.
-fn refused<D: DependencyProvider + Drop>(
-    heap: D::Alloc,
-    provider: D,
-    commands: &[Command<D::NameId, D::SolvableId, D::Alloc>],
-) -> Result<(usize, Refusals), StoreError> {
-    let mut store = ClauseStore::new(heap, provider)?;
-    let seen = refused_by(&mut store, commands);
-    drop(store);
-    seen
-}
+/// Commands in one run.
+#[derive(Drop)]
+struct Run<'r, N, S, A: Allocator>(&'r [Command<N, S, A>]);
 
-fn refused_by<D: DependencyProvider + Drop>(
-    store: &mut ClauseStore<D>,
-    commands: &[Command<D::NameId, D::SolvableId, D::Alloc>],
-) -> Result<(usize, Refusals), StoreError> {
-    let replies = store.run(commands)?;
-    let seen = (replies.len(), refused_for(&replies));
-    drop(replies);
-    Ok(seen)
+impl<N, S, A: Allocator> Visit<N, S, A> for Run<'_, N, S, A> {
+    /// How many replies there are, and what is refused.
+    type Told = Result<(usize, Refusals), StoreError>;
+
+    fn visit<T: Obeys<N, S, A>>(&self, store: &mut T) -> Result<(usize, Refusals), StoreError> {
+        let replies = store.obey_all(self.0)?;
+        let told = (replies.len(), refused_for(&replies));
+        drop(replies);
+        Ok(told)
+    }
 }
 
 #[test]
 fn names_are_known_or_refused(rt: HostRuntime) -> Result<(), Fail> {
     let unknown = Some(StoreError::UnknownId);
     let wanted = [unknown, unknown, unknown, None, unknown, None, None, None];
-    match read_catalogue(rt.alloc(), CATALOGUE) {
-        Ok(Some(catalogue)) => {
-            let seen = refused(rt.alloc(), catalogue.packages, &commands());
-            is_same(seen, Ok((8, wanted)))
-        }
-        _ => Err(Fail::new("the catalogue has a begin")),
-    }
+    let commands = commands();
+    let told = catalogue_visited(rt.alloc(), CATALOGUE, &Run(&commands));
+    drop(commands);
+    is_same(told?, Ok((8, wanted)))
 }

@@ -3,9 +3,9 @@ use crate::listed::lists_of;
 use crate::obeys::Obeys;
 use crate::script::{Example, clause};
 use crate::stores::dense_commands;
-use providers::{DependencyProvider, Interner};
+use crate::visits::{Visit, dense_visited};
 use refusing::Refusing;
-use resolvo_store::{ClauseStore, Command, Reply};
+use resolvo_store::{Command, Reply};
 use std::alloc::{Allocator, Global};
 use std::test::Fail;
 use test_checks::is_same;
@@ -18,41 +18,34 @@ struct Decided {
     asks_for_memory: bool,
 }
 
-/// The commands, and a `Decide` behind them.
-fn last_reply<N, S, A: Allocator, T: Obeys<N, S, A>>(
-    store: &mut T,
-    commands: &[Command<N, S, A>],
-    heap: &Refusing<Global>,
-) -> Decided {
-    for command in commands {
-        drop(store.obey(command));
-    }
-    heap.arm(1);
-    let reply = store.obey(&Command::Decide);
-    let asks_for_memory = !heap.is_armed();
-    heap.arm(0);
-    let falsified = match &reply {
-        Reply::Falsified(clause) => Some(*clause),
-        _ => None,
-    };
-    drop(reply);
-    Decided {
-        falsified,
-        asks_for_memory,
-    }
+/// Commands that come before the last `Decide`.
+#[derive(Drop)]
+struct Before<'b, N, S, A: Allocator> {
+    commands: &'b [Command<N, S, A>],
+    heap: &'b Refusing<Global>,
 }
 
-/// What a new store replies.
-fn new_decided<D: DependencyProvider + Drop>(
-    alloc: D::Alloc,
-    provider: D,
-    commands: &[Command<D::NameId, D::SolvableId, D::Alloc>],
-    heap: &Refusing<Global>,
-) -> Result<Decided, StoreError> {
-    let mut store = ClauseStore::new(alloc, provider)?;
-    let seen = last_reply(&mut store, commands, heap);
-    drop(store);
-    Ok(seen)
+impl<N, S, A: Allocator> Visit<N, S, A> for Before<'_, N, S, A> {
+    type Told = Decided;
+
+    fn visit<T: Obeys<N, S, A>>(&self, store: &mut T) -> Decided {
+        for command in self.commands {
+            drop(store.obey(command));
+        }
+        self.heap.arm(1);
+        let reply = store.obey(&Command::Decide);
+        let asks_for_memory = !self.heap.is_armed();
+        self.heap.arm(0);
+        let falsified = match &reply {
+            Reply::Falsified(clause) => Some(*clause),
+            _ => None,
+        };
+        drop(reply);
+        Decided {
+            falsified,
+            asks_for_memory,
+        }
+    }
 }
 
 fn dense_decided(rt: &impl AllocGlobal, example: Example) -> Result<Decided, StoreError> {
@@ -63,9 +56,14 @@ fn dense_decided(rt: &impl AllocGlobal, example: Example) -> Result<Decided, Sto
 }
 
 fn dense_trial(heap: &Refusing<Global>, example: Example) -> Result<Decided, StoreError> {
+    let lists = lists_of(heap, example)?;
     let commands = dense_commands(heap, example)?;
-    let provider = lists_of(heap, example)?;
-    let seen = new_decided(heap, provider, commands.as_slice(), heap);
+    let before = Before {
+        commands: &commands,
+        heap,
+    };
+    let seen = dense_visited(heap, lists, &before);
+    drop(before);
     drop(commands);
     seen
 }

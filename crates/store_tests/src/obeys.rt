@@ -28,6 +28,12 @@ pub(crate) trait Obeys<N, S, A: Allocator> {
     /// The next decision, where no clause is falsified.
     fn decision(&mut self) -> Result<Option<QueueDecision>, StoreError>;
 
+    /// How many candidates the provider lists of the name.
+    fn candidate_count(&self, alloc: A, name: N) -> Result<usize, StoreError>;
+
+    /// Appends the clause's text.
+    fn display_clause(&self, clause: ClauseId, out: &mut String<A>) -> Result<(), StoreError>;
+
     /// Whether the clause has these literals.
     fn has_literals(&self, place: u16, wanted: &[GivenLiteral]) -> Result<bool, StoreError>;
 }
@@ -61,6 +67,22 @@ impl<D: DependencyProvider + Drop> Obeys<D::NameId, D::SolvableId, D::Alloc> for
             Some(_) => Ok(None),
             None => self.next_decision(),
         }
+    }
+
+    fn candidate_count(&self, alloc: D::Alloc, name: D::NameId) -> Result<usize, StoreError> {
+        match self.provider().get_candidates(alloc, name) {
+            Ok(Some(found)) => Ok(found.candidates.len()),
+            Ok(None) => Ok(0),
+            Err(error) => Err(error),
+        }
+    }
+
+    fn display_clause(
+        &self,
+        clause: ClauseId,
+        out: &mut String<D::Alloc>,
+    ) -> Result<(), StoreError> {
+        ClauseStore::display_clause(self, clause, out)
     }
 
     fn has_literals(&self, place: u16, wanted: &[GivenLiteral]) -> Result<bool, StoreError> {

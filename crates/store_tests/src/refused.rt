@@ -236,16 +236,10 @@ fn sparse_beside<A: Allocator + Copy>(
     new_beside(heap, ample, (provider, other), trial)
 }
 
-/// Whether the request came; then one command was refused, but for a run whose first request is refused, that for the
-/// room for the replies: it is refused whole.
-fn is_as_wanted(
-    seen: Result<Agreement, StoreError>,
-    example: Example,
-    way: Way,
-    number: u64,
-) -> Result<bool, Fail> {
-    let is_met = seen?.is_met;
-    let wanted = Agreement {
+/// What is wanted where the request came, or didn't: if it came, one command was refused, but for a run whose first request
+/// is refused, that for the room for the replies: it is refused whole.
+fn wanted((_, example, way): Case, number: u64, is_met: bool) -> Agreement {
+    Agreement {
         number,
         is_met,
         answered: match way {
@@ -254,31 +248,31 @@ fn is_as_wanted(
         },
         refused: usize::from(is_met),
         agrees: true,
-    };
-    is_same(seen, Ok(wanted))?;
-    Ok(is_met)
+    }
 }
 
-/// Each request is refused in turn: there are more than two, and fewer than a thousand.
-fn dense_refused(rt: &impl AllocGlobal, example: Example, way: Way) -> Result<(), Fail> {
+/// Each request is refused in turn: there are more than two, and fewer than a thousand. A failure shows the place of the
+/// case.
+fn are_refused_in_turn(rt: &impl AllocGlobal, place: usize, case: Case) -> Result<(), Fail> {
     for number in 1..1000u64 {
-        let seen = dense_seen(rt, example, way, number);
-        if !is_as_wanted(seen, example, way, number)? {
-            return is_same(number > 3, true);
+        let seen = seen_of(rt, case, number)?;
+        let wanted = wanted(case, number, seen.is_met);
+        is_same((place, seen), (place, wanted))?;
+        if !seen.is_met {
+            return is_same((place, number > 3), (place, true));
         }
     }
     Err(Fail::new("each store met a refusal"))
 }
 
-fn dense_seen(
-    rt: &impl AllocGlobal,
-    example: Example,
-    way: Way,
-    number: u64,
-) -> Result<Agreement, StoreError> {
+fn seen_of(rt: &impl AllocGlobal, case: Case, number: u64) -> Result<Agreement, StoreError> {
     let heap = Refusing::new(rt.alloc());
     let ample = Refusing::new(rt.alloc());
-    let seen = dense_trial(&heap, &ample, example, way, number);
+    let (ids, example, way) = case;
+    let seen = match ids {
+        Ids::Dense => dense_trial(&heap, &ample, example, way, number),
+        Ids::Sparse => sparse_trial(&heap, &ample, example, way, number),
+    };
     drop(ample);
     drop(heap);
     seen
@@ -304,30 +298,6 @@ fn dense_trial(
     seen
 }
 
-fn sparse_refused(rt: &impl AllocGlobal, example: Example, way: Way) -> Result<(), Fail> {
-    for number in 1..1000u64 {
-        let seen = sparse_seen(rt, example, way, number);
-        if !is_as_wanted(seen, example, way, number)? {
-            return is_same(number > 3, true);
-        }
-    }
-    Err(Fail::new("each store met a refusal"))
-}
-
-fn sparse_seen(
-    rt: &impl AllocGlobal,
-    example: Example,
-    way: Way,
-    number: u64,
-) -> Result<Agreement, StoreError> {
-    let heap = Refusing::new(rt.alloc());
-    let ample = Refusing::new(rt.alloc());
-    let seen = sparse_trial(&heap, &ample, example, way, number);
-    drop(ample);
-    drop(heap);
-    seen
-}
-
 fn sparse_trial(
     heap: &Refusing<Global>,
     ample: &Refusing<Global>,
@@ -348,70 +318,48 @@ fn sparse_trial(
     seen
 }
 
-#[test]
-fn two_packages_are_refused(rt: HostRuntime) -> Result<(), Fail> {
-    dense_refused(&rt, Example::TwoPackages, Way::Steps)?;
-    dense_refused(&rt, Example::TwoPackages, Way::Run)
+/// The kind of the ids of packages and solvables.
+#[derive(Clone, Copy)]
+enum Ids {
+    Dense,
+    Sparse,
 }
 
-#[test]
-fn one_package_is_refused(rt: HostRuntime) -> Result<(), Fail> {
-    dense_refused(&rt, Example::OnePackage, Way::Steps)?;
-    dense_refused(&rt, Example::OnePackage, Way::Run)
-}
+/// Stores over these ids are given the commands of an example in this way.
+type Case = (Ids, Example, Way);
+
+const CASES: [Case; 25] = [
+    (Ids::Dense, Example::TwoPackages, Way::Steps),
+    (Ids::Dense, Example::TwoPackages, Way::Run),
+    (Ids::Dense, Example::OnePackage, Way::Steps),
+    (Ids::Dense, Example::OnePackage, Way::Run),
+    (Ids::Dense, Example::SetTwice, Way::Steps),
+    (Ids::Sparse, Example::SetTwice, Way::Run),
+    (Ids::Dense, Example::Trail, Way::Steps),
+    (Ids::Sparse, Example::Trail, Way::Run),
+    (Ids::Dense, Example::MovedWatches, Way::Steps),
+    (Ids::Sparse, Example::MovedWatches, Way::Run),
+    (Ids::Dense, Example::FourTracked, Way::Steps),
+    (Ids::Sparse, Example::TwoNames, Way::Steps),
+    (Ids::Dense, Example::TwoNames, Way::Run),
+    (Ids::Dense, Example::WaitsForCondition, Way::Steps),
+    (Ids::Dense, Example::ConditionOpens, Way::Run),
+    (Ids::Sparse, Example::ConditionWatches, Way::Steps),
+    (Ids::Dense, Example::BestSoFar, Way::Steps),
+    (Ids::Dense, Example::BestSoFar, Way::Run),
+    (Ids::Sparse, Example::ScoresFall, Way::Steps),
+    (Ids::Dense, Example::Helpers, Way::Run),
+    (Ids::Sparse, Example::Helpers, Way::Steps),
+    (Ids::Dense, Example::EachCommand, Way::Steps),
+    (Ids::Dense, Example::EachCommand, Way::Run),
+    (Ids::Sparse, Example::EachCommand, Way::Steps),
+    (Ids::Sparse, Example::EachCommand, Way::Run),
+];
 
 #[test]
-fn a_union_of_one_set_twice_is_refused(rt: HostRuntime) -> Result<(), Fail> {
-    dense_refused(&rt, Example::SetTwice, Way::Steps)?;
-    sparse_refused(&rt, Example::SetTwice, Way::Run)
-}
-
-#[test]
-fn a_trail_is_refused(rt: HostRuntime) -> Result<(), Fail> {
-    dense_refused(&rt, Example::Trail, Way::Steps)?;
-    sparse_refused(&rt, Example::Trail, Way::Run)
-}
-
-#[test]
-fn watches_are_refused(rt: HostRuntime) -> Result<(), Fail> {
-    dense_refused(&rt, Example::MovedWatches, Way::Steps)?;
-    sparse_refused(&rt, Example::MovedWatches, Way::Run)
-}
-
-#[test]
-fn tracking_is_refused(rt: HostRuntime) -> Result<(), Fail> {
-    dense_refused(&rt, Example::FourTracked, Way::Steps)?;
-    sparse_refused(&rt, Example::TwoNames, Way::Steps)?;
-    dense_refused(&rt, Example::TwoNames, Way::Run)
-}
-
-#[test]
-fn conditions_are_refused(rt: HostRuntime) -> Result<(), Fail> {
-    dense_refused(&rt, Example::WaitsForCondition, Way::Steps)?;
-    dense_refused(&rt, Example::ConditionOpens, Way::Run)?;
-    sparse_refused(&rt, Example::ConditionWatches, Way::Steps)
-}
-
-#[test]
-fn scores_are_refused(rt: HostRuntime) -> Result<(), Fail> {
-    dense_refused(&rt, Example::BestSoFar, Way::Steps)?;
-    dense_refused(&rt, Example::BestSoFar, Way::Run)?;
-    sparse_refused(&rt, Example::ScoresFall, Way::Steps)
-}
-
-#[test]
-fn helpers_and_clauses_are_refused(rt: HostRuntime) -> Result<(), Fail> {
-    dense_refused(&rt, Example::Helpers, Way::Run)?;
-    sparse_refused(&rt, Example::Helpers, Way::Steps)
-}
-
-#[test]
-fn each_command_is_refused(rt: HostRuntime) -> Result<(), Fail> {
-    dense_refused(&rt, Example::EachCommand, Way::Steps)?;
-    dense_refused(&rt, Example::EachCommand, Way::Run)
-}
-
-#[test]
-fn each_command_over_sparse_ids_is_refused(rt: HostRuntime) -> Result<(), Fail> {
-    sparse_refused(&rt, Example::EachCommand, Way::Steps)
+fn refused_commands_leave_the_store_as_it_was(rt: HostRuntime) -> Result<(), Fail> {
+    for (place, case) in CASES.iter().enumerate() {
+        are_refused_in_turn(&rt, place, *case)?;
+    }
+    Ok(())
 }

@@ -52,11 +52,7 @@ fn commands_show_their_operands(rt: HostRuntime) -> Result<(), Fail> {
         "Rewatch(ClauseId(1), Literal(3), Literal(6))",
     )?;
     shows(&rt, Command::Watchers(from), "Watchers(Literal(3))")?;
-    shows(&rt, Command::Decide, "Decide")
-}
-
-#[test]
-fn commands_show_conditions_and_scores(rt: HostRuntime) -> Result<(), Fail> {
+    shows(&rt, Command::Decide, "Decide")?;
     let literals = vec![in rt.alloc(); Literal::new(variable(1), false)]?;
     let condition = ConditionId::from_index(0);
     shows(
@@ -97,16 +93,12 @@ fn lists(alloc: Global) -> Result<Vec<Vec<VariableId>>, StoreError> {
 }
 
 #[test]
-fn replies_say_variables_and_clauses(rt: HostRuntime) -> Result<(), Fail> {
+fn replies_say_variables_clauses_and_tracking(rt: HostRuntime) -> Result<(), Fail> {
     says(&rt, Reply::Variable(variable(2)), "variable 2")?;
     says(&rt, Reply::Loaded(lists(rt.alloc())?), "loaded 1,20 -")?;
     says(&rt, Reply::Clause(clause(0), false), "clause 0")?;
     says(&rt, Reply::Clause(clause(2), true), "clause 2 conflict")?;
-    says(&rt, Reply::Falsified(clause(1)), "falsified 1")
-}
-
-#[test]
-fn replies_say_disjunctions_and_tracking(rt: HostRuntime) -> Result<(), Fail> {
+    says(&rt, Reply::Falsified(clause(1)), "falsified 1")?;
     let disjunction = DisjunctionId::from_index(3);
     says(&rt, Reply::Disjunction(disjunction), "disjunction 3")?;
     says(&rt, Reply::Tracked(true, 2), "tracked yes 2")?;
@@ -114,7 +106,7 @@ fn replies_say_disjunctions_and_tracking(rt: HostRuntime) -> Result<(), Fail> {
 }
 
 #[test]
-fn replies_say_assignments(rt: HostRuntime) -> Result<(), Fail> {
+fn replies_say_assignments_watchers_and_decisions(rt: HostRuntime) -> Result<(), Fail> {
     says(&rt, Reply::Assigned, "assigned")?;
     says(&rt, Reply::Already, "already")?;
     says(&rt, Reply::Clash, "clash")?;
@@ -123,19 +115,11 @@ fn replies_say_assignments(rt: HostRuntime) -> Result<(), Fail> {
     says(&rt, Reply::Undone(None), "undone")?;
     let next = Decision::new(variable(1), true, clause(0));
     says(&rt, Reply::Next(Some(next)), "next 1 true 0")?;
-    says(&rt, Reply::Next(None), "next none")
-}
-
-#[test]
-fn replies_say_watchers(rt: HostRuntime) -> Result<(), Fail> {
+    says(&rt, Reply::Next(None), "next none")?;
     says(&rt, Reply::Done, "done")?;
     let watchers = vec![in rt.alloc(); clause(4), clause(3), clause(1)]?;
     says(&rt, Reply::Watchers(watchers), "watchers 4 3 1")?;
-    says(&rt, Reply::Watchers(Vec::new(rt.alloc())), "watchers -")
-}
-
-#[test]
-fn replies_say_decisions_and_refusals(rt: HostRuntime) -> Result<(), Fail> {
+    says(&rt, Reply::Watchers(Vec::new(rt.alloc())), "watchers -")?;
     let decision = QueueDecision {
         candidate: variable(3),
         required_by: variable(0),

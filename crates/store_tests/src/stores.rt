@@ -1,15 +1,14 @@
-//! New stores that are given the commands of an example, and what is seen of them. What is shared is generic in the
-//! provider, and only two functions name a provider of lists: a proof spells out a provider's traits wherever a call
-//! names it. What is seen is compared once, behind all that is owned.
+//! New stores that are given the commands of an example, and what is seen of them. What is seen is compared once, behind
+//! all that is owned.
 use crate::given::{GivenLiteral, Known, commands_of};
 use crate::listed::lists_of;
-use crate::obeys::{Obeys, Seen};
-use crate::script::{Example, Step, clause, play_of};
+use crate::obeys::Obeys;
+use crate::script::{Example, clause, play_of};
+use crate::visits::{Visit, dense_visited, sparse_visited};
 use crate::wanted::first_unwanted;
-use plain_providers::{SparseLists, SparseName, SparseSolvable};
-use providers::{DependencyProvider, Interner};
-use resolvo_store::{ClauseStore, Command, Reply};
-use std::alloc::Allocator;
+use plain_providers::{SparseName, SparseSolvable};
+use resolvo_store::{Command, Reply};
+use std::alloc::{Allocator, Global};
 use std::test::Fail;
 use test_checks::is_same;
 use typed_ids::{ClauseId, NameId, SolvableId, StoreError};
@@ -23,49 +22,37 @@ pub(crate) enum Way {
     Run,
 }
 
-/// What is seen of a new store that was given commands.
-#[derive(Drop)]
-struct Played<A: Allocator> {
-    /// How many candidates the provider lists of package 0.
-    count: Result<usize, StoreError>,
-    replies: Result<Vec<Reply<A>, A>, StoreError>,
-    /// The place of the first clause whose literals aren't as wanted.
-    unwanted_clause: Result<Option<usize>, StoreError>,
-    end: Seen,
-}
-
-/// A new store over the example's lists replies as wanted.
-pub(crate) fn dense_gives(rt: &impl AllocGlobal, example: Example, way: Way) -> Result<(), Fail> {
-    is_as_wanted(dense_play(rt.alloc(), rt.alloc(), example, way), example)
-}
-
-/// The same of a store whose ids are sparse.
-pub(crate) fn sparse_gives(rt: &impl AllocGlobal, example: Example, way: Way) -> Result<(), Fail> {
-    is_as_wanted(sparse_play(rt.alloc(), rt.alloc(), example, way), example)
-}
-
-/// What was seen is as wanted: the candidates, the replies, the literals of the clauses, and at the end the root's value,
-/// none of variable 2, and the falsified clause.
-fn is_as_wanted<A: Allocator>(
-    played: Result<Played<A>, StoreError>,
-    example: Example,
+/// New stores over the examples' lists, with dense ids and with sparse ones, reply as wanted. A failure names the example.
+pub(crate) fn are_given(
+    rt: &impl AllocGlobal,
+    examples: &[(&'static str, Example)],
+    way: Way,
 ) -> Result<(), Fail> {
+    for (name, example) in examples {
+        is_given(rt.alloc(), *name, *example, way)?;
+    }
+    Ok(())
+}
+
+fn is_given(alloc: Global, name: &str, example: Example, way: Way) -> Result<(), Fail> {
+    is_told(name, example, dense_told(alloc, example, way))?;
+    is_told(name, example, sparse_told(alloc, example, way))
+}
+
+fn is_told(name: &str, example: Example, told: Result<Told, StoreError>) -> Result<(), Fail> {
+    is_same((name, told), (name, Ok(told_of(example))))
+}
+
+/// What is to be told: the candidates, as many replies as commands and all as wanted, the literals of the clauses, and at
+/// the end the root's value, none of variable 2, and the falsified clause.
+fn told_of(example: Example) -> Told {
     let wanted = play_of(example);
-    let told = match played {
-        Ok(played) => {
-            let told = told(&played, wanted.steps);
-            drop(played);
-            told
-        }
-        Err(error) => Err(error),
-    };
     let falsified = match wanted.falsified {
         Some(place) => Some(clause(place)),
         None => None,
     };
     let end = (wanted.root, None, falsified);
-    let count = wanted.candidates;
-    is_same(told, Ok((count, wanted.steps.len(), (None, None), end)))
+    (wanted.candidates, wanted.steps.len(), (None, None), end)
 }
 
 /// The values of the root and of variable 2, and the falsified clause.
@@ -73,20 +60,6 @@ type End = (Option<bool>, Option<bool>, Option<ClauseId>);
 
 /// How many candidates and replies there are, the first reply and the first clause that aren't as wanted, and the end.
 type Told = (usize, usize, (Option<usize>, Option<usize>), End);
-
-fn told<A: Allocator>(played: &Played<A>, wanted: &[Step]) -> Result<Told, StoreError> {
-    let count = played.count?;
-    let unwanted_clause = played.unwanted_clause?;
-    match &played.replies {
-        Ok(replies) => {
-            let unwanted = first_unwanted(replies, wanted);
-            let [root, _, second, _] = played.end.values;
-            let end = (root, second, played.end.falsified);
-            Ok((count, replies.len(), (unwanted, unwanted_clause), end))
-        }
-        Err(error) => Err(*error),
-    }
-}
 
 /// The example's commands.
 pub(crate) fn dense_commands<A: Allocator + Copy>(
@@ -130,106 +103,76 @@ pub(crate) fn sparse_commands<A: Allocator + Copy>(
     commands_of(alloc, known, play_of(example).steps)
 }
 
-/// What is seen of a new store over the example's lists that is given its commands. They, and the replies to steps, are
-/// kept in the room.
-fn dense_play<A: Allocator + Copy>(
-    heap: A,
-    room: A,
+/// What is told of a new store over the example's lists that is given its commands.
+fn dense_told<A: Allocator + Copy>(
+    alloc: A,
     example: Example,
     way: Way,
-) -> Result<Played<A>, StoreError> {
-    let commands = dense_commands(room, example)?;
-    let played = dense_played(heap, room, example, &commands, way);
+) -> Result<Told, StoreError> {
+    let lists = lists_of(alloc, example)?;
+    let commands = dense_commands(alloc, example)?;
+    let given = Commands {
+        commands: &commands,
+        example,
+        way,
+        alloc,
+        name: NameId::from_raw(0),
+    };
+    let told = dense_visited(alloc, lists, &given);
+    drop(given);
     drop(commands);
-    played
-}
-
-fn dense_played<A: Allocator + Copy>(
-    heap: A,
-    room: A,
-    example: Example,
-    commands: &[Command<NameId, SolvableId, A>],
-    way: Way,
-) -> Result<Played<A>, StoreError> {
-    let provider = (lists_of(heap, example)?, NameId::from_raw(0));
-    play(heap, room, provider, (example, commands), way)
+    told?
 }
 
 /// The same of a store over the example's lists with sparse ids.
-fn sparse_play<A: Allocator + Copy>(
-    heap: A,
-    room: A,
+fn sparse_told<A: Allocator + Copy>(
+    alloc: A,
     example: Example,
     way: Way,
-) -> Result<Played<A>, StoreError> {
-    let commands = sparse_commands(room, example)?;
-    let played = sparse_played(heap, room, example, &commands, way);
-    drop(commands);
-    played
-}
-
-fn sparse_played<A: Allocator + Copy>(
-    heap: A,
-    room: A,
-    example: Example,
-    commands: &[Command<SparseName, SparseSolvable, A>],
-    way: Way,
-) -> Result<Played<A>, StoreError> {
-    let lists = SparseLists(lists_of(heap, example)?);
-    play(
-        heap,
-        room,
-        (lists, SparseName::from_raw(0)),
-        (example, commands),
+) -> Result<Told, StoreError> {
+    let lists = lists_of(alloc, example)?;
+    let commands = sparse_commands(alloc, example)?;
+    let given = Commands {
+        commands: &commands,
+        example,
         way,
-    )
-}
-
-/// What is seen of a new store over the provider.
-fn play<D: DependencyProvider + Drop>(
-    heap: D::Alloc,
-    room: D::Alloc,
-    (provider, name): (D, D::NameId),
-    (example, commands): (Example, &[Command<D::NameId, D::SolvableId, D::Alloc>]),
-    way: Way,
-) -> Result<Played<D::Alloc>, StoreError> {
-    let mut store = ClauseStore::new(heap, provider)?;
-    let count = candidate_count(heap, store.provider(), name);
-    let played = obeyed(&mut store, count, room, (example, commands), way);
-    drop(store);
-    Ok(played)
-}
-
-/// How many candidates the provider lists of the name.
-fn candidate_count<D: DependencyProvider>(
-    heap: D::Alloc,
-    provider: &D,
-    name: D::NameId,
-) -> Result<usize, StoreError> {
-    match provider.get_candidates(heap, name) {
-        Ok(Some(found)) => Ok(found.candidates.len()),
-        Ok(None) => Ok(0),
-        Err(error) => Err(error),
-    }
-}
-
-/// What is seen of a store that is given commands.
-fn obeyed<N, S, A: Allocator + Copy, T: Obeys<N, S, A>>(
-    store: &mut T,
-    count: Result<usize, StoreError>,
-    room: A,
-    (example, commands): (Example, &[Command<N, S, A>]),
-    way: Way,
-) -> Played<A> {
-    let replies = match way {
-        Way::Steps => steps(store, room, commands),
-        Way::Run => store.obey_all(commands),
+        alloc,
+        name: SparseName::from_raw(0),
     };
-    Played {
-        count,
-        replies,
-        unwanted_clause: first_unwanted_clause(store, play_of(example).clauses),
-        end: store.seen(),
+    let told = sparse_visited(alloc, lists, &given);
+    drop(given);
+    drop(commands);
+    told?
+}
+
+/// The commands of an example, and how a store is given them.
+#[derive(Drop)]
+struct Commands<'c, N, S, A: Allocator> {
+    commands: &'c [Command<N, S, A>],
+    example: Example,
+    way: Way,
+    alloc: A,
+    /// The name of package 0.
+    name: N,
+}
+
+impl<N: Copy, S, A: Allocator + Copy> Visit<N, S, A> for Commands<'_, N, S, A> {
+    type Told = Result<Told, StoreError>;
+
+    fn visit<T: Obeys<N, S, A>>(&self, store: &mut T) -> Result<Told, StoreError> {
+        let count = store.candidate_count(self.alloc, self.name)?;
+        let replies = match self.way {
+            Way::Steps => steps(store, self.alloc, self.commands)?,
+            Way::Run => store.obey_all(self.commands)?,
+        };
+        let wanted = play_of(self.example);
+        let (answered, unwanted) = (replies.len(), first_unwanted(&replies, wanted.steps));
+        drop(replies);
+        let unwanted_clause = first_unwanted_clause(store, wanted.clauses)?;
+        let seen = store.seen();
+        let [root, _, second, _] = seen.values;
+        let end = (root, second, seen.falsified);
+        Ok((count, answered, (unwanted, unwanted_clause), end))
     }
 }
 
@@ -251,10 +194,10 @@ fn first_unwanted_clause<N, S, A: Allocator, T: Obeys<N, S, A>>(
 /// The replies to the commands in turn.
 fn steps<N, S, A: Allocator + Copy, T: Obeys<N, S, A>>(
     store: &mut T,
-    room: A,
+    alloc: A,
     commands: &[Command<N, S, A>],
 ) -> Result<Vec<Reply<A>, A>, StoreError> {
-    let mut replies = Vec::new(room);
+    let mut replies = Vec::new(alloc);
     for command in commands {
         replies.push(store.obey(command))?;
     }

@@ -146,23 +146,16 @@ fn after_another() -> [Step<SolvableId>; 6] {
     ]
 }
 
+// Of a new store, and beside what is loaded.
 #[test]
 fn a_union_is_stopped_at_its_second_package(rt: HostRuntime) -> Result<(), Fail> {
-    is_stopped_at_the_second(&rt, &[], &after_alone())
-}
-
-#[test]
-fn a_union_is_stopped_beside_what_is_loaded(rt: HostRuntime) -> Result<(), Fail> {
+    is_stopped_at_the_second(&rt, &[], &after_alone())?;
     is_stopped_at_the_second(&rt, &[loads(1, two(1, 2))], &after_another())
 }
 
 #[test]
 fn a_union_is_refused_at_its_second_package(rt: HostRuntime) -> Result<(), Fail> {
-    is_refused_at_the_second(&rt, &[], &after_alone())
-}
-
-#[test]
-fn a_union_is_refused_beside_what_is_loaded(rt: HostRuntime) -> Result<(), Fail> {
+    is_refused_at_the_second(&rt, &[], &after_alone())?;
     is_refused_at_the_second(&rt, &[loads(1, two(1, 2))], &after_another())
 }
 

@@ -36,7 +36,7 @@ impl Read for Failing<'_> {
 /// How many bytes are written where the reader fails so, and the exit status.
 fn answered_by(alloc: Global, kind: ErrorKind) -> (usize, u8) {
     let mut reader = Failing {
-        left: REFUSALS,
+        left: REFUSALS.as_bytes(),
         is_interrupted: false,
         kind,
     };
@@ -124,8 +124,8 @@ impl Write for Full {
 type Written = ((u8, usize, bool), (usize, usize));
 
 /// What is seen of a writer with so much room, to which a script is answered.
-fn written(alloc: Global, (text, answer): (&[u8], &[u8]), room: usize) -> Written {
-    let mut reader = text;
+fn written(alloc: Global, (text, answer): (&str, &str), room: usize) -> Written {
+    let mut reader = text.as_bytes();
     let mut writer = Full {
         taken: Vec::new(alloc),
         room,
@@ -133,7 +133,7 @@ fn written(alloc: Global, (text, answer): (&[u8], &[u8]), room: usize) -> Writte
         flushed: 0,
     };
     let ended = script(alloc, &mut reader, &mut writer);
-    let is_beginning = answer.starts_with(writer.taken.as_slice());
+    let is_beginning = answer.as_bytes().starts_with(writer.taken.as_slice());
     let taken = (status(&ended), writer.taken.len(), is_beginning);
     (taken, (writer.flushes, writer.flushed))
 }
@@ -141,7 +141,7 @@ fn written(alloc: Global, (text, answer): (&[u8], &[u8]), room: usize) -> Writte
 /// Over a writer with each of these rooms the script is answered so.
 fn are_written(
     alloc: Global,
-    answered: (&[u8], &[u8]),
+    answered: (&str, &str),
     wanted: &[(usize, Written)],
 ) -> Result<(), Fail> {
     for (room, seen) in wanted {
@@ -150,7 +150,13 @@ fn are_written(
     Ok(())
 }
 
-/// What a writer took before it failed is a beginning of the answer. A whole answer is flushed once, at its end.
+/// A script with an unreadable line, and its answer of thirty bytes.
+const UNREADABLE: &str = "begin\ndecide\nfly\n";
+
+const UNREADABLE_ANSWER: &str = "no decision\nline 3 unreadable\n";
+
+/// What a writer took before it failed is a beginning of the answer. A whole answer is flushed once, at its end. The line
+/// that names an unreadable one is written and flushed as others are.
 #[test]
 fn a_writer_fails(rt: HostRuntime) -> Result<(), Fail> {
     let length = REFUSALS_ANSWER.len();
@@ -162,17 +168,7 @@ fn a_writer_fails(rt: HostRuntime) -> Result<(), Fail> {
         (length, ((2, length, true), (1, length))),
         (1000, ((0, length, true), (1, length))),
     ];
-    are_written(rt.alloc(), (REFUSALS, REFUSALS_ANSWER), &wanted)
-}
-
-/// A script with an unreadable line, and its answer of thirty bytes.
-const UNREADABLE: &[u8] = b"begin\ndecide\nfly\n";
-
-const UNREADABLE_ANSWER: &[u8] = b"no decision\nline 3 unreadable\n";
-
-/// The line that names an unreadable one is written and flushed as others are.
-#[test]
-fn an_unreadable_line_is_written(rt: HostRuntime) -> Result<(), Fail> {
+    are_written(rt.alloc(), (REFUSALS, REFUSALS_ANSWER), &wanted)?;
     let wanted = [
         (12, ((2, 12, true), (0, 0))),
         (29, ((2, 29, true), (0, 0))),

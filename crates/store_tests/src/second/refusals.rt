@@ -4,10 +4,10 @@ use crate::obeys::Obeys;
 use crate::second::alike::{Memory, first_unlike, is_refused};
 use crate::second::given::commands_of;
 use crate::second::listed::lists_of;
+use crate::visits::{Visit, dense_visited};
 use plain_store::{Catalogue, Drawn, draw, draw_packages};
-use providers::{DependencyProvider, Interner};
 use refusing::Refusing;
-use resolvo_store::{ClauseStore, Command, Reply};
+use resolvo_store::{Command, Reply};
 use std::alloc::{Allocator, Global};
 use std::test::Fail;
 use test_checks::is_same;
@@ -58,63 +58,57 @@ fn reply_to<N, S, A: Allocator, T: Obeys<N, S, A>>(
     }
 }
 
-/// The replies to the list of this number.
-fn replies_of<N, S, A: Allocator + Copy, T: Obeys<N, S, A>>(
-    store: &mut T,
-    (room, heap): (A, &Refusing<Global>),
-    (list, commands): (u64, &[Command<N, S, A>]),
-    seen: &mut Seen,
-) -> Result<Vec<Reply<A>, A>, StoreError> {
-    let mut replies = Vec::new(room);
-    for (place, command) in commands.iter().enumerate() {
-        let reply = reply_to(store, command, (heap, request(list, place)), seen);
-        replies.push(reply)?;
-    }
-    Ok(replies)
+/// The list of this number, in memory of which requests are refused.
+#[derive(Drop)]
+struct List<'l, N, S, A: Allocator> {
+    number: u64,
+    commands: &'l [Command<N, S, A>],
+    wanted: &'l [plain_store::Reply],
+    heap: &'l Refusing<Global>,
+    room: A,
 }
 
-/// The replies of a new store over the provider.
-fn new_replies<D: DependencyProvider + Drop>(
-    (room, heap): (D::Alloc, &Refusing<Global>),
-    provider: D,
-    given: (u64, &[Command<D::NameId, D::SolvableId, D::Alloc>]),
-    seen: &mut Seen,
-) -> Result<Vec<Reply<D::Alloc>, D::Alloc>, StoreError> {
-    let mut store = ClauseStore::new(room, provider)?;
-    let replies = replies_of(&mut store, (room, heap), given, seen);
-    drop(store);
-    replies
+impl<N, S, A: Allocator + Copy> Visit<N, S, A> for List<'_, N, S, A> {
+    type Told = Result<Seen, StoreError>;
+
+    fn visit<T: Obeys<N, S, A>>(&self, store: &mut T) -> Result<Seen, StoreError> {
+        let mut seen = Seen {
+            unlike: None,
+            refused: 0,
+            refused_decides: 0,
+        };
+        let mut replies = Vec::new(self.room);
+        for (place, command) in self.commands.iter().enumerate() {
+            let number = request(self.number, place);
+            let reply = reply_to(store, command, (self.heap, number), &mut seen);
+            replies.push(reply)?;
+        }
+        seen.unlike = first_unlike(Memory::Refusing, &replies, self.wanted);
+        drop(replies);
+        Ok(seen)
+    }
 }
 
 /// What is seen of a store over the packages that is given the commands.
 fn seen_in(
     heap: &Refusing<Global>,
-    list: u64,
+    number: u64,
     catalogue: &Catalogue,
     drawn: &Drawn,
 ) -> Result<Seen, StoreError> {
-    let mut seen = Seen {
-        unlike: None,
-        refused: 0,
-        refused_decides: 0,
-    };
+    let lists = lists_of(heap, catalogue)?;
     let commands = commands_of(heap, &drawn.commands)?;
-    let provider = lists_of(heap, catalogue)?;
-    let replies = new_replies(
-        (heap, heap),
-        provider,
-        (list, commands.as_slice()),
-        &mut seen,
-    );
+    let list = List {
+        number,
+        commands: &commands,
+        wanted: &drawn.replies,
+        heap,
+        room: heap,
+    };
+    let seen = dense_visited(heap, lists, &list);
+    drop(list);
     drop(commands);
-    match replies {
-        Ok(replies) => {
-            seen.unlike = first_unlike(Memory::Refusing, &replies, &drawn.replies);
-            drop(replies);
-            Ok(seen)
-        }
-        Err(error) => Err(error),
-    }
+    seen?
 }
 
 /// What is seen of a store that is given the list of this number.

@@ -1,23 +1,24 @@
-//! New stores that are given commands in one run. One function owns the stores, and two name a provider of lists.
+//! New stores that are given commands in one run.
+use crate::obeys::Obeys;
 use crate::second::given::commands_of;
 use crate::second::listed::lists_of;
-use plain_providers::SparseLists;
+use crate::visits::{Visit, dense_visited, sparse_visited};
 use plain_store::{Catalogue, Command as Plain};
-use providers::{DependencyProvider, Interner};
-use resolvo_store::{ClauseStore, Command, Reply};
+use resolvo_store::{Command, Reply};
 use std::alloc::Allocator;
 use typed_ids::StoreError;
 
-/// The replies of a new store over the provider.
-fn replies_of<D: DependencyProvider + Drop>(
-    alloc: D::Alloc,
-    provider: D,
-    commands: &[Command<D::NameId, D::SolvableId, D::Alloc>],
-) -> Result<Vec<Reply<D::Alloc>, D::Alloc>, StoreError> {
-    let mut store = ClauseStore::new(alloc, provider)?;
-    let replies = store.run(commands);
-    drop(store);
-    replies
+/// Commands in one run.
+#[derive(Drop)]
+struct Run<'r, N, S, A: Allocator>(&'r [Command<N, S, A>]);
+
+impl<N, S, A: Allocator> Visit<N, S, A> for Run<'_, N, S, A> {
+    /// The replies.
+    type Told = Result<Vec<Reply<A>, A>, StoreError>;
+
+    fn visit<T: Obeys<N, S, A>>(&self, store: &mut T) -> Result<Vec<Reply<A>, A>, StoreError> {
+        store.obey_all(self.0)
+    }
 }
 
 /// The replies of a new store whose ids are dense.
@@ -26,11 +27,11 @@ pub(crate) fn dense_replies<A: Allocator + Copy>(
     catalogue: &Catalogue,
     given: &[Plain],
 ) -> Result<Vec<Reply<A>, A>, StoreError> {
+    let lists = lists_of(alloc, catalogue)?;
     let commands = commands_of(alloc, given)?;
-    let provider = lists_of(alloc, catalogue)?;
-    let replies = replies_of(alloc, provider, &commands);
+    let replies = dense_visited(alloc, lists, &Run(&commands));
     drop(commands);
-    replies
+    replies?
 }
 
 /// The same of a store whose ids are sparse.
@@ -39,9 +40,9 @@ pub(crate) fn sparse_replies<A: Allocator + Copy>(
     catalogue: &Catalogue,
     given: &[Plain],
 ) -> Result<Vec<Reply<A>, A>, StoreError> {
+    let lists = lists_of(alloc, catalogue)?;
     let commands = commands_of(alloc, given)?;
-    let provider = SparseLists(lists_of(alloc, catalogue)?);
-    let replies = replies_of(alloc, provider, &commands);
+    let replies = sparse_visited(alloc, lists, &Run(&commands));
     drop(commands);
-    replies
+    replies?
 }
