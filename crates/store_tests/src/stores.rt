@@ -40,7 +40,12 @@ fn is_given(alloc: Global, name: &str, example: Example, way: Way) -> Result<(),
 }
 
 fn is_told(name: &str, example: Example, told: Result<Told, StoreError>) -> Result<(), Fail> {
-    is_same((name, told), (name, Ok(told_of(example))))
+    let wanted = Ok(told_of(example));
+    if told == wanted {
+        Ok(())
+    } else {
+        Err(Fail::new(format_args!("{name}: saw {told:?}, and wanted {wanted:?}")))
+    }
 }
 
 /// What is to be told: the candidates, as many replies as commands and all as wanted, the literals of the clauses, and at
