@@ -137,13 +137,13 @@ pub(crate) fn move_to_front(list: &mut Vec<u16>, wanted: u16) -> Result<(), Allo
 
 /// Removes the first one that is this; answers whether there was one.
 pub(crate) fn remove_first(list: &mut Vec<u16>, wanted: u16) -> bool {
-    match list.iter().position(|other| *other == wanted) {
-        Some(place) if place < list.len() => {
+    for (place, other) in list.iter().enumerate() {
+        if *other == wanted {
             list.remove(place);
-            true
+            return true;
         }
-        _ => false,
     }
+    false
 }
 
 /// The number of a place. No list of the tests is so long that it would be another's.

@@ -3,4 +3,5 @@
 mod clause_commands;
 mod score_commands;
 mod tests;
+mod uses;
 mod wanted;

@@ -1,5 +1,5 @@
 //! The commands that make helper variables and clauses, and those that go over the trail, as a program gives them.
-use crate::doors_runs::tests::{played, shelf, single, variable};
+use crate::doors_runs::uses::{Given, shelf_played, single, variable};
 use crate::doors_runs::wanted::Wanted;
 use resolvo_clauses::Literal;
 use resolvo_ids::{ClauseId, NameId, SolvableId, StringId, VersionSetId};
@@ -7,9 +7,6 @@ use resolvo_store::{Command, HelperOrigin};
 use std::alloc::{Allocator, Global};
 use std::test::Fail;
 use test_checks::is_same;
-
-/// A command over the shelf.
-type Given<A> = Command<NameId, SolvableId, A>;
 
 /// A variable for each of two solvables and for each kind of helper, and a clause of each kind.
 fn clauses<A: Allocator>(learnt: Vec<Literal, A>) -> [Given<A>; 15] {
@@ -54,19 +51,18 @@ const ADDED: [Wanted; 15] = [
 
 #[test]
 fn helpers_and_clauses_of_each_kind_are_made(rt: HostRuntime) -> Result<(), Fail> {
-    let shelf = shelf(rt.alloc())?;
     let literals = [
         Literal::new(variable(1), true),
         Literal::new(variable(2), false),
     ];
     let commands = clauses(Vec::from_array(rt.alloc(), literals)?);
-    let compared = played(rt.alloc(), shelf, &commands, &ADDED);
+    let compared = shelf_played(rt.alloc(), &commands, &ADDED);
     drop(commands);
     is_same(compared, Ok((15, None)))
 }
 
 /// Two assignments are handed out and taken back; while the second one is there a clause that forbids it is a conflict.
-fn trail() -> [Command<NameId, SolvableId, Global>; 11] {
+fn trail() -> [Given<Global>; 11] {
     let root = variable(0);
     let installed = ClauseId::install_root();
     [
@@ -100,7 +96,6 @@ const GONE_OVER: [Wanted; 11] = [
 
 #[test]
 fn a_trail_is_gone_over_and_taken_back(rt: HostRuntime) -> Result<(), Fail> {
-    let shelf = shelf(rt.alloc())?;
-    let compared = played(rt.alloc(), shelf, &trail(), &GONE_OVER);
+    let compared = shelf_played(rt.alloc(), &trail(), &GONE_OVER);
     is_same(compared, Ok((11, None)))
 }

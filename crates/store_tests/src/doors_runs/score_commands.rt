@@ -1,15 +1,12 @@
 //! The commands for conditions, for variables of which at most one is true, and for scores, as a program gives them.
-use crate::doors_runs::tests::{played, shelf, single, variable};
+use crate::doors_runs::uses::{Given, shelf_played, single, variable};
 use crate::doors_runs::wanted::{Chosen, Wanted};
 use resolvo_clauses::Literal;
-use resolvo_ids::{ClauseId, ConditionId, DenseIndex, DisjunctionId, NameId, SolvableId};
+use resolvo_ids::{ClauseId, ConditionId, DenseIndex, DisjunctionId, NameId};
 use resolvo_store::Command;
 use std::alloc::Allocator;
 use std::test::Fail;
 use test_checks::is_same;
-
-/// A command over the shelf.
-type Given<A> = Command<NameId, SolvableId, A>;
 
 /// Both packages are required, and the second one once more where the first one has no candidate that is true. At most one
 /// version of the first one is. The second one gets a score, which falls to nothing.
@@ -68,13 +65,12 @@ const ANSWERED: [Wanted; 16] = [
 
 #[test]
 fn conditions_tracking_and_scores_are_answered(rt: HostRuntime) -> Result<(), Fail> {
-    let shelf = shelf(rt.alloc())?;
     let literals = [
         Literal::new(variable(1), false),
         Literal::new(variable(2), false),
     ];
     let commands = commands(Vec::from_array(rt.alloc(), literals)?);
-    let compared = played(rt.alloc(), shelf, &commands, &ANSWERED);
+    let compared = shelf_played(rt.alloc(), &commands, &ANSWERED);
     drop(commands);
     is_same(compared, Ok((16, None)))
 }
