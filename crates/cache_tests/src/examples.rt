@@ -1,18 +1,19 @@
 //! The lists of the tests, and how a provider answers from them.
 use crate::asks::Ids;
 use asking_providers::{Asking, Listing, Stops};
-use plain_providers::{Lists, Package, SparseLists, SparseName, SparseSolvable, VersionRange};
-use providers::HintDependenciesAvailable;
+use plain_providers::{Lists, Package, SparseName, SparseSolvable, VersionRange};
+use providers::{DependencyProvider, HintDependenciesAvailable, Interner};
 use std::alloc::{AllocError, Allocator};
-use typed_ids::{NameId, SolvableId, VersionSetId};
+use typed_ids::{NameId, SolvableId, StoreError, VersionSetId};
 
-/// How a provider answers. Solvables are told by their numbers.
+/// How a provider answers. Solvables are told by their places among the tests' ids.
 #[derive(Clone, Copy)]
 pub(crate) struct Setup {
+    /// The number of the favored one.
     pub(crate) favored: Option<u32>,
     pub(crate) hint: Hint,
     /// The locked candidate, which is excluded too.
-    pub(crate) locked: Option<u32>,
+    pub(crate) locked: Option<usize>,
     pub(crate) listing: Listing,
     pub(crate) stops: Stops,
 }
@@ -23,7 +24,7 @@ pub(crate) enum Hint {
     None,
     All,
     /// For these two.
-    Some(u32, u32),
+    Some(usize, usize),
 }
 
 /// Nothing is favored, hinted or stopped.
@@ -42,9 +43,16 @@ pub(crate) fn with_hint(hint: Hint) -> Setup {
     setup
 }
 
+/// Nothing is favored or hinted, and the provider stops so.
+pub(crate) fn stopping(stops: Stops) -> Setup {
+    let mut setup = PLAIN;
+    setup.stops = stops;
+    setup
+}
+
 /// Package 0 has solvables 0, 1 and 2 of versions 1, 2 and 3, and package 1 has solvable 3. Set 0 holds versions 1 and 2
 /// of package 0, and set 1 version 1 of package 1. Union 0 is of set 0, and then set 1.
-fn lists_of<A: Allocator + Copy>(alloc: A, favored: Option<u32>) -> Result<Lists<A>, AllocError> {
+pub(crate) fn lists_of<A: Allocator + Copy>(alloc: A, favored: Option<u32>) -> Result<Lists<A>, AllocError> {
     let (first, second) = (NameId::from_raw(0), NameId::from_raw(1));
     let packages = [
         Package {
@@ -92,49 +100,46 @@ fn lists_of<A: Allocator + Copy>(alloc: A, favored: Option<u32>) -> Result<Lists
     }
 }
 
-/// The provider of these lists.
-pub(crate) fn dense_provider<A: Allocator + Copy>(
-    alloc: A,
+/// A provider of the lists, whose ids these are, that answers so.
+pub(crate) fn asking<D: DependencyProvider + Drop>(
+    alloc: D::Alloc,
+    lists: D,
+    ids: &Ids<D::NameId, D::SolvableId>,
     setup: Setup,
-) -> Result<Asking<Lists<A>>, AllocError> {
+) -> Result<Asking<D>, StoreError> {
     let hint = match setup.hint {
         Hint::None => HintDependenciesAvailable::None,
         Hint::All => HintDependenciesAvailable::All,
         Hint::Some(first, second) => {
-            let hinted = [SolvableId::from_raw(first), SolvableId::from_raw(second)];
-            HintDependenciesAvailable::Some(Vec::from_array(alloc, hinted)?)
+            HintDependenciesAvailable::Some(solvables_at(alloc, &ids.solvables, [first, second])?)
         }
     };
-    let lists = lists_of(alloc, setup.favored)?;
     let locked = match setup.locked {
-        Some(number) => Some(SolvableId::from_raw(number)),
+        Some(place) => solvable_at(&ids.solvables, place),
         None => None,
     };
     Ok(Asking::new(lists, setup.listing, hint, locked, setup.stops))
 }
 
-/// The same with sparse ids.
-pub(crate) fn sparse_provider<A: Allocator + Copy>(
-    alloc: A,
-    setup: Setup,
-) -> Result<Asking<SparseLists<A>>, AllocError> {
-    let hint = match setup.hint {
-        Hint::None => HintDependenciesAvailable::None,
-        Hint::All => HintDependenciesAvailable::All,
-        Hint::Some(first, second) => {
-            let hinted = [
-                SparseSolvable::from_raw(first),
-                SparseSolvable::from_raw(second),
-            ];
-            HintDependenciesAvailable::Some(Vec::from_array(alloc, hinted)?)
-        }
-    };
-    let lists = SparseLists(lists_of(alloc, setup.favored)?);
-    let locked = match setup.locked {
-        Some(number) => Some(SparseSolvable::from_raw(number)),
+fn solvable_at<S: Copy>(ids: &[S], place: usize) -> Option<S> {
+    match ids.get(place) {
+        Some(id) => Some(*id),
         None => None,
-    };
-    Ok(Asking::new(lists, setup.listing, hint, locked, setup.stops))
+    }
+}
+
+fn solvables_at<S: Copy, A: Allocator>(
+    alloc: A,
+    ids: &[S],
+    places: [usize; 2],
+) -> Result<Vec<S, A>, StoreError> {
+    let mut found = Vec::new(alloc);
+    for place in places {
+        if let Some(id) = ids.get(place) {
+            found.push(*id)?;
+        }
+    }
+    Ok(found)
 }
 
 /// Packages 0, 1 and 8, of which there isn't the last, and solvables 0 to 3 and 70, which isn't known.

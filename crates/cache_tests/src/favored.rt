@@ -2,7 +2,7 @@
 //! that there isn't.
 use crate::asks::{Question, Seen};
 use crate::examples::{PLAIN, Setup};
-use crate::played::{Step, counts, dense_gives};
+use crate::played::{Step, counts, dense_cases};
 use crate::row::{CANDIDATES, MATCHING, NON_MATCHING, SORTED};
 use asking_providers::Listing;
 use std::test::Fail;
@@ -47,31 +47,44 @@ fn favoring(favored: u32) -> Setup {
     setup
 }
 
+/// Each candidate is listed twice.
+fn twice(favored: Option<u32>) -> Setup {
+    let mut setup = PLAIN;
+    setup.favored = favored;
+    setup.listing = Listing::Twice;
+    setup
+}
+
+/// This one is locked and excluded.
+fn locking(locked: usize) -> Setup {
+    let mut setup = PLAIN;
+    setup.locked = Some(locked);
+    setup
+}
+
 #[test]
 fn lists_have_what_is_listed_and_the_favored_one_first(rt: HostRuntime) -> Result<(), Fail> {
     // Nothing is changed by favoring solvable 2, which is outside the set, solvable 3, which is of package 1, or solvable 70,
     // which isn't known.
-    let steps = [CANDIDATES, MATCHING, NON_MATCHING, SORTED];
-    dense_gives(&rt, favoring(2), &steps, counts(1, 0, 1))?;
-    dense_gives(&rt, favoring(3), &steps, counts(1, 0, 1))?;
-    dense_gives(&rt, favoring(70), &steps, counts(1, 0, 1))?;
-    // Each candidate is listed twice.
-    let mut twice = PLAIN;
-    twice.listing = Listing::Twice;
-    dense_gives(&rt, twice, &REPEATED, counts(1, 0, 1))?;
-    let mut twice = favoring(0);
-    twice.listing = Listing::Twice;
-    dense_gives(&rt, twice, &MOVED_ONCE, counts(1, 0, 1))?;
+    let plain = [CANDIDATES, MATCHING, NON_MATCHING, SORTED];
     // A locked candidate and an excluded one are kept, and change no list.
-    let extras: Step = (Question::Extras(0), Seen::Extras(Some(1), 1, Some(1)));
-    let steps = [CANDIDATES, extras, MATCHING, NON_MATCHING, SORTED, extras];
-    let mut locked = PLAIN;
-    locked.locked = Some(1);
-    dense_gives(&rt, locked, &steps, counts(1, 0, 1))?;
+    let extras = (Question::Extras(0), Seen::Extras(Some(1), 1, Some(1)));
+    let with_extras = [CANDIDATES, extras, MATCHING, NON_MATCHING, SORTED, extras];
     // A package that there isn't has no candidates.
-    let none: Step = (
+    let none = (
         Question::Candidates(2),
         Seen::Solvables(0, [None, None, None, None]),
     );
-    dense_gives(&rt, PLAIN, &[none, none], counts(1, 0, 1))
+    dense_cases(
+        &rt,
+        &[
+            (favoring(2), &plain, counts(1, 0, 1)),
+            (favoring(3), &plain, counts(1, 0, 1)),
+            (favoring(70), &plain, counts(1, 0, 1)),
+            (twice(None), &REPEATED, counts(1, 0, 1)),
+            (twice(Some(0)), &MOVED_ONCE, counts(1, 0, 1)),
+            (locking(1), &with_extras, counts(1, 0, 1)),
+            (PLAIN, &[none, none], counts(1, 0, 1)),
+        ],
+    )
 }

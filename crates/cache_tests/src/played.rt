@@ -1,13 +1,13 @@
 //! New caches that are asked questions in turn. What is seen is compared once, behind all that is owned.
 use crate::asks::{Asks, Ids, Question, Seen};
-use crate::examples::{Setup, dense_ids, dense_provider, sparse_ids, sparse_provider};
-use asking_providers::{Asking, Counting, Counts};
-use plain_providers::{SparseName, SparseSolvable};
+use crate::examples::{Setup, asking, dense_ids, lists_of, sparse_ids};
+use asking_providers::{Counting, Counts};
+use plain_providers::{SparseLists, SparseName, SparseSolvable};
 use providers::{DependencyProvider, Interner};
 use solver_cache::SolverCache;
 use std::alloc::Allocator;
 use std::test::Fail;
-use test_checks::sees;
+use test_checks::is_same;
 use typed_ids::{NameId, SolvableId, StoreError};
 
 /// A question, and the answer that is wanted.
@@ -76,14 +76,16 @@ fn play_new<
     told
 }
 
-/// The same over a provider that counts. Only here the counting one is named, for each inner one: a proof spells it out.
+/// The same over the lists, whose ids these are. Only here the provider that counts is named, over any lists: a proof spells
+/// it out.
 fn play_counted<D: DependencyProvider + Drop, P: Play<D::NameId, D::SolvableId>>(
     alloc: D::Alloc,
-    provider: Asking<D>,
+    lists: D,
     ids: &Ids<D::NameId, D::SolvableId>,
-    play: &P,
-) -> P::Told {
-    play_new(alloc, provider, ids, play)
+    (setup, play): (Setup, &P),
+) -> Result<P::Told, StoreError> {
+    let provider = asking(alloc, lists, ids, setup)?;
+    Ok(play_new(alloc, provider, ids, play))
 }
 
 /// The same over a few packages with dense ids.
@@ -92,8 +94,8 @@ pub(crate) fn dense_play<A: Allocator + Copy, P: Play<NameId, SolvableId>>(
     setup: Setup,
     play: &P,
 ) -> Result<P::Told, StoreError> {
-    let provider = dense_provider(alloc, setup)?;
-    Ok(play_counted(alloc, provider, &dense_ids(), play))
+    let lists = lists_of(alloc, setup.favored)?;
+    play_counted(alloc, lists, &dense_ids(), (setup, play))
 }
 
 /// The same with sparse ids.
@@ -102,28 +104,27 @@ fn sparse_play<A: Allocator + Copy, P: Play<SparseName, SparseSolvable>>(
     setup: Setup,
     play: &P,
 ) -> Result<P::Told, StoreError> {
-    let provider = sparse_provider(alloc, setup)?;
-    Ok(play_counted(alloc, provider, &sparse_ids(), play))
+    let lists = SparseLists(lists_of(alloc, setup.favored)?);
+    play_counted(alloc, lists, &sparse_ids(), (setup, play))
 }
 
-/// A new cache answers as wanted, and the provider is asked so often.
-pub(crate) fn dense_gives(
-    rt: &impl AllocGlobal,
-    setup: Setup,
-    steps: &[Step],
-    wanted: Counts,
-) -> Result<(), Fail> {
-    let told = dense_play(rt.alloc(), setup, &Script { steps });
-    sees(told, (None, wanted))
+/// How a provider answers, the steps of a new cache over it, and how often it is asked.
+pub(crate) type Case<'c> = (Setup, &'c [Step], Counts);
+
+/// Each new cache answers as wanted. A failure tells the place of the case.
+pub(crate) fn dense_cases(rt: &impl AllocGlobal, cases: &[Case<'_>]) -> Result<(), Fail> {
+    for (place, (setup, steps, counts)) in cases.iter().enumerate() {
+        let told = dense_play(rt.alloc(), *setup, &Script { steps: *steps });
+        is_same((place, told), (place, Ok((None, *counts))))?;
+    }
+    Ok(())
 }
 
 /// The same of one whose ids are sparse.
-pub(crate) fn sparse_gives(
+pub(crate) fn sparse_case(
     rt: &impl AllocGlobal,
-    setup: Setup,
-    steps: &[Step],
-    wanted: Counts,
+    (setup, steps, counts): Case<'_>,
 ) -> Result<(), Fail> {
     let told = sparse_play(rt.alloc(), setup, &Script { steps });
-    sees(told, (None, wanted))
+    is_same(told, Ok((None, counts)))
 }

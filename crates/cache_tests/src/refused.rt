@@ -2,7 +2,7 @@
 use crate::asks::{Asks, Ids, Question, Seen};
 use crate::examples::{Hint, with_hint};
 use crate::played::{Play, Step, dense_play, first_unwanted};
-use crate::row::{CANDIDATES, FAVORED, MATCHING, NON_MATCHING, available};
+use crate::row::{CANDIDATES, FAVORED, MATCHING, NON_MATCHING};
 use refusing::Refusing;
 use std::alloc::Global;
 use std::test::Fail;
@@ -82,41 +82,43 @@ fn each_is_refused(rt: &impl AllocGlobal, steps: &[Step]) -> Result<(), Fail> {
     Err(Fail::new("each cache met a refusal"))
 }
 
+/// Each question of package 0. A refused one may have marked some of its candidates as at hand, so the question about one of
+/// them, which nothing else makes so, comes last, when none is refused any more. A solvable of another package is never
+/// marked.
+const OF_A_PACKAGE: [Step; 7] = [
+    (Question::IsAvailable(3), Seen::IsAvailable(false)),
+    NON_MATCHING,
+    FAVORED,
+    CANDIDATES,
+    MATCHING,
+    (Question::Needs(1), Seen::IsKnown(true)),
+    (Question::IsAvailable(2), Seen::IsAvailable(true)),
+];
+
+/// The same of union 0, which asks for both packages: the solvable that is never marked is one that isn't known.
+const OF_A_UNION: [Step; 6] = [
+    (Question::IsAvailable(4), Seen::IsAvailable(false)),
+    (
+        Question::Union(0),
+        Seen::Solvables(3, [Some(0), Some(1), Some(3), None]),
+    ),
+    (
+        Question::Sorted(1),
+        Seen::Solvables(1, [Some(3), None, None, None]),
+    ),
+    (
+        Question::Single(0),
+        Seen::Solvables(2, [Some(0), Some(1), None, None]),
+    ),
+    (
+        Question::NonMatching(1),
+        Seen::Solvables(0, [None, None, None, None]),
+    ),
+    (Question::IsAvailable(3), Seen::IsAvailable(true)),
+];
+
 #[test]
 fn requests_of_each_question_are_refused(rt: HostRuntime) -> Result<(), Fail> {
-    // Each question of package 0. A refused one may have marked some of its candidates as at hand, so the question about one
-    // of them, which nothing else makes so, comes last, when none is refused any more. A solvable of another package is
-    // never marked.
-    let steps = [
-        available(3, false),
-        NON_MATCHING,
-        FAVORED,
-        CANDIDATES,
-        MATCHING,
-        (Question::Needs(1), Seen::IsKnown(true)),
-        available(2, true),
-    ];
-    each_is_refused(&rt, &steps)?;
-    // The same of union 0, which asks for both packages: the solvable that is never marked is one that isn't known.
-    let steps = [
-        available(4, false),
-        (
-            Question::Union(0),
-            Seen::Solvables(3, [Some(0), Some(1), Some(3), None]),
-        ),
-        (
-            Question::Sorted(1),
-            Seen::Solvables(1, [Some(3), None, None, None]),
-        ),
-        (
-            Question::Single(0),
-            Seen::Solvables(2, [Some(0), Some(1), None, None]),
-        ),
-        (
-            Question::NonMatching(1),
-            Seen::Solvables(0, [None, None, None, None]),
-        ),
-        available(3, true),
-    ];
-    each_is_refused(&rt, &steps)
+    each_is_refused(&rt, &OF_A_PACKAGE)?;
+    each_is_refused(&rt, &OF_A_UNION)
 }

@@ -1,7 +1,7 @@
 //! One package, asked everything twice: at dense ids and at sparse ones.
 use crate::asks::{Question, Seen};
 use crate::examples::{Hint, PLAIN, Setup, with_hint};
-use crate::played::{Step, counts, dense_gives, sparse_gives};
+use crate::played::{Step, counts, dense_cases, sparse_case};
 use std::test::Fail;
 
 // What is wanted of package 0 and of set 0.
@@ -69,11 +69,17 @@ fn hinted(favored: Option<u32>) -> Setup {
 // A favored candidate is the best.
 #[test]
 fn each_question_is_asked_once(rt: HostRuntime) -> Result<(), Fail> {
-    dense_gives(&rt, hinted(None), &everything(SORTED), counts(1, 1, 2))?;
-    dense_gives(&rt, hinted(Some(0)), &everything(FAVORED), counts(1, 1, 2))?;
-    // Sparse ids are answered the same.
-    sparse_gives(&rt, hinted(Some(0)), &everything(FAVORED), counts(1, 1, 2))?;
+    let (plain, favored) = (everything(SORTED), everything(FAVORED));
     // The sorted list is asked for first: all that it needs is asked for on the way.
-    let steps = [SORTED, MATCHING, CANDIDATES, NON_MATCHING, SORTED];
-    dense_gives(&rt, PLAIN, &steps, counts(1, 0, 1))
+    let backwards = [SORTED, MATCHING, CANDIDATES, NON_MATCHING, SORTED];
+    dense_cases(
+        &rt,
+        &[
+            (hinted(None), &plain, counts(1, 1, 2)),
+            (hinted(Some(0)), &favored, counts(1, 1, 2)),
+            (PLAIN, &backwards, counts(1, 0, 1)),
+        ],
+    )?;
+    // Sparse ids are answered the same.
+    sparse_case(&rt, (hinted(Some(0)), &favored, counts(1, 1, 2)))
 }

@@ -1,7 +1,7 @@
 //! Requirements: of one version set, and of a union.
 use crate::asks::{Question, Seen};
-use crate::examples::PLAIN;
-use crate::played::{Step, counts, dense_gives, sparse_gives};
+use crate::examples::{PLAIN, stopping};
+use crate::played::{Step, counts, dense_cases, sparse_case};
 use crate::row::SORTED;
 use asking_providers::Stops;
 use std::test::Fail;
@@ -21,20 +21,22 @@ const STOPPED: Step = (Question::Union(0), Seen::Cancelled(7));
 
 #[test]
 fn a_union_lists_its_sets_in_turn_until_a_stop(rt: HostRuntime) -> Result<(), Fail> {
-    let steps = [UNION, SINGLE, SORTED, UNION];
-    dense_gives(&rt, PLAIN, &steps, counts(2, 0, 2))?;
-    sparse_gives(&rt, PLAIN, &steps, counts(2, 0, 2))?;
+    let in_turn = [UNION, SINGLE, SORTED, UNION];
     // An unknown union is told.
-    let unknown: Step = (Question::Union(1), Seen::Unknown);
-    dense_gives(&rt, PLAIN, &[unknown], counts(0, 0, 0))?;
+    let unknown = [(Question::Union(1), Seen::Unknown)];
     // The first set is answered and the second stopped: what was found of the first is kept, and its provider not asked
     // again.
-    let mut between = PLAIN;
-    between.stops = Stops::AfterFirst;
-    let steps = [STOPPED, SORTED, SINGLE, STOPPED];
-    dense_gives(&rt, between, &steps, counts(1, 0, 3))?;
+    let between = [STOPPED, SORTED, SINGLE, STOPPED];
     // The value of the first question is handed over, and no set is asked about.
-    let mut at_first = PLAIN;
-    at_first.stops = Stops::AtFirst;
-    dense_gives(&rt, at_first, &[STOPPED, UNION], counts(2, 0, 3))
+    let at_first = [STOPPED, UNION];
+    dense_cases(
+        &rt,
+        &[
+            (PLAIN, &in_turn, counts(2, 0, 2)),
+            (PLAIN, &unknown, counts(0, 0, 0)),
+            (stopping(Stops::AfterFirst), &between, counts(1, 0, 3)),
+            (stopping(Stops::AtFirst), &at_first, counts(2, 0, 3)),
+        ],
+    )?;
+    sparse_case(&rt, (PLAIN, &in_turn, counts(2, 0, 2)))
 }

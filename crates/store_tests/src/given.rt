@@ -1,6 +1,7 @@
 //! Commands that are given, in plain numbers, and what makes commands of them. They own nothing, so that a list of them is
 //! a constant.
 use crate::script::{Step, clause, variable};
+use crate::visits::Numbered;
 use decisions::Literal;
 use providers::Requirement;
 use resolvo_store::{Command, HelperOrigin};
@@ -10,7 +11,7 @@ use typed_ids::{ConditionId, DenseIndex, DisjunctionId, StoreError, StringId, Ve
 /// A command that is given. Variables and clauses are told by their places.
 #[derive(Clone, Copy)]
 pub(crate) enum Given {
-    /// The variable of one of the first four solvables.
+    /// The variable of a solvable.
     Variable(u16),
     Helper(Helper),
     Load(Requirement),
@@ -18,7 +19,7 @@ pub(crate) enum Given {
     Disjunction(&'static [GivenLiteral], u16),
     /// A clause that is added.
     Add(Kind),
-    /// A variable is tracked under the first name, the second or the third.
+    /// A variable is tracked under a name.
     AtMostOnce(u16, u16),
     Assign(u16, bool, u16, u32),
     UndoLast,
@@ -63,34 +64,25 @@ pub(crate) enum Kind {
 /// A variable, and whether it is negated.
 pub(crate) type GivenLiteral = (u16, bool);
 
-/// The ids of packages 0, 1 and 2, and of four solvables.
-#[derive(Clone, Copy)]
-pub(crate) struct Known<N, S> {
-    pub(crate) names: [N; 3],
-    pub(crate) solvables: [S; 4],
-}
-
 /// The commands of these steps, in order.
-pub(crate) fn commands_of<N: Copy, S: Copy, A: Allocator + Copy>(
+pub(crate) fn commands_of<N: Numbered, S: Numbered, A: Allocator + Copy>(
     alloc: A,
-    known: Known<N, S>,
     steps: &[Step],
 ) -> Result<Vec<Command<N, S, A>, A>, StoreError> {
     let mut commands = Vec::new(alloc);
     for (given, _) in steps {
-        commands.push(command_of(alloc, known, *given)?)?;
+        commands.push(command_of(alloc, *given)?)?;
     }
     Ok(commands)
 }
 
-fn command_of<N: Copy, S: Copy, A: Allocator + Copy>(
+fn command_of<N: Numbered, S: Numbered, A: Allocator + Copy>(
     alloc: A,
-    known: Known<N, S>,
     given: Given,
 ) -> Result<Command<N, S, A>, StoreError> {
     match given {
-        Given::Variable(place) => Ok(Command::Variable(solvable_at(known.solvables, place))),
-        Given::Helper(helper) => Ok(Command::Helper(helper_of(name_at(known.names, 0), helper))),
+        Given::Variable(place) => Ok(Command::Variable(S::numbered(place))),
+        Given::Helper(helper) => Ok(Command::Helper(helper_of(helper))),
         Given::Load(requirement) => Ok(Command::Load(requirement)),
         Given::Disjunction(literals, condition) => Ok(Command::Disjunction(
             literals_of(alloc, literals)?,
@@ -98,7 +90,7 @@ fn command_of<N: Copy, S: Copy, A: Allocator + Copy>(
         )),
         Given::Add(given) => added(alloc, given),
         Given::AtMostOnce(name, place) => {
-            Ok(Command::AtMostOnce(name_at(known.names, name), variable(place)))
+            Ok(Command::AtMostOnce(N::numbered(name), variable(place)))
         }
         Given::Assign(place, value, reason, level) => Ok(Command::Assign(
             variable(place),
@@ -109,7 +101,7 @@ fn command_of<N: Copy, S: Copy, A: Allocator + Copy>(
         Given::UndoLast => Ok(Command::UndoLast),
         Given::UndoUntil(level) => Ok(Command::UndoUntil(level)),
         Given::Unpropagated => Ok(Command::Unpropagated),
-        Given::Bump(name, amount) => Ok(Command::Bump(name_at(known.names, name), amount)),
+        Given::Bump(name, amount) => Ok(Command::Bump(N::numbered(name), amount)),
         Given::Decay(numerator, denominator) => Ok(Command::Decay(numerator, denominator)),
         Given::Standard(standard) => Ok(Command::Standard(standard)),
         Given::Rewatch(place, from, to) => Ok(Command::Rewatch(
@@ -122,28 +114,9 @@ fn command_of<N: Copy, S: Copy, A: Allocator + Copy>(
     }
 }
 
-fn name_at<N: Copy>(names: [N; 3], place: u16) -> N {
-    let [first, second, third] = names;
-    match place {
-        0 => first,
-        1 => second,
-        _ => third,
-    }
-}
-
-fn solvable_at<S: Copy>(solvables: [S; 4], place: u16) -> S {
-    let [first, second, third, fourth] = solvables;
-    match place {
-        0 => first,
-        1 => second,
-        2 => third,
-        _ => fourth,
-    }
-}
-
-fn helper_of<N: Copy>(name: N, helper: Helper) -> HelperOrigin<N> {
+fn helper_of<N: Numbered>(helper: Helper) -> HelperOrigin<N> {
     match helper {
-        Helper::AtLeastOne => HelperOrigin::AtLeastOne(name),
+        Helper::AtLeastOne => HelperOrigin::AtLeastOne(N::numbered(0)),
         Helper::ConstrainsViolation(set) => { HelperOrigin::ConstrainsViolation(VersionSetId(set)) }
         Helper::RequiresGate(requirement) => HelperOrigin::RequiresGate(requirement),
     }

@@ -3,7 +3,7 @@
 use crate::listed::lists_of;
 use crate::obeys::Obeys;
 use crate::script::{Example, variable};
-use crate::visits::{Visit, dense_visited};
+use crate::visits::{DenseIds, IdKind, Visit};
 use refusing::Refusing;
 use resolvo_store::{Command, HelperOrigin, Reply};
 use std::alloc::{Allocator, Global};
@@ -98,7 +98,7 @@ fn dense_trial(heap: &Refusing<Global>, number: u64) -> Result<Seen, StoreError>
         heap,
         number,
     };
-    let seen = dense_visited(heap, lists, &tracking);
+    let seen = DenseIds::visited(heap, lists, &tracking);
     drop(tracking);
     seen
 }

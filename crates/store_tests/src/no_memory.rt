@@ -1,9 +1,9 @@
 //! A `Decide` asks for no memory where a clause is falsified.
+use crate::given::commands_of;
 use crate::listed::lists_of;
 use crate::obeys::Obeys;
-use crate::script::{Example, clause};
-use crate::stores::dense_commands;
-use crate::visits::{Visit, dense_visited};
+use crate::script::{Example, clause, play_of};
+use crate::visits::{DenseIds, IdKind, Visit};
 use refusing::Refusing;
 use resolvo_store::{Command, Reply};
 use std::alloc::{Allocator, Global};
@@ -57,12 +57,12 @@ fn dense_decided(rt: &impl AllocGlobal, example: Example) -> Result<Decided, Sto
 
 fn dense_trial(heap: &Refusing<Global>, example: Example) -> Result<Decided, StoreError> {
     let lists = lists_of(heap, example)?;
-    let commands = dense_commands(heap, example)?;
+    let commands = commands_of(heap, play_of(example).steps)?;
     let before = Before {
         commands: &commands,
         heap,
     };
-    let seen = dense_visited(heap, lists, &before);
+    let seen = DenseIds::visited(heap, lists, &before);
     drop(before);
     drop(commands);
     seen

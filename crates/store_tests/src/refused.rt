@@ -1,12 +1,13 @@
 //! Memory refused at each request in turn, of each list of commands. Beside the store to which a request is refused there
 //! is a twin in ample memory, to which the refused command isn't given: the store must tell the same as its twin. In
 //! steps both are then given the command once more, in a run they aren't.
-use crate::given::literal_of;
+use crate::given::{commands_of, literal_of};
 use crate::listed::lists_of;
 use crate::obeys::Obeys;
 use crate::script::{Example, clause, play_of, variable};
 use crate::second::alike::is_refused;
-use crate::stores::{Way, dense_commands, sparse_commands};
+use crate::stores::Way;
+use crate::visits::{DenseIds, IdKind, SparseIds};
 use plain_providers::{SparseLists, SparseName, SparseSolvable};
 use providers::{DependencyProvider, Interner};
 use refusing::Refusing;
@@ -213,27 +214,40 @@ fn new_twin_beside<D: DependencyProvider + Drop>(
     Ok(seen)
 }
 
-fn dense_beside<A: Allocator + Copy>(
-    heap: A,
-    ample: A,
-    example: Example,
-    trial: &Trial<'_, NameId, SolvableId, A>,
-) -> Result<Agreement, StoreError> {
-    let provider = lists_of(heap, example)?;
-    let other = lists_of(ample, example)?;
-    new_beside(heap, ample, (provider, other), trial)
+/// A kind of ids that two stores may have, of which one is the other's twin.
+trait Twins: IdKind {
+    fn beside<A: Allocator + Copy>(
+        heap: A,
+        ample: A,
+        example: Example,
+        trial: &Trial<'_, Self::Name, Self::Solvable, A>,
+    ) -> Result<Agreement, StoreError>;
 }
 
-/// The same of stores whose ids are sparse.
-fn sparse_beside<A: Allocator + Copy>(
-    heap: A,
-    ample: A,
-    example: Example,
-    trial: &Trial<'_, SparseName, SparseSolvable, A>,
-) -> Result<Agreement, StoreError> {
-    let provider = SparseLists(lists_of(heap, example)?);
-    let other = SparseLists(lists_of(ample, example)?);
-    new_beside(heap, ample, (provider, other), trial)
+impl Twins for DenseIds {
+    fn beside<A: Allocator + Copy>(
+        heap: A,
+        ample: A,
+        example: Example,
+        trial: &Trial<'_, NameId, SolvableId, A>,
+    ) -> Result<Agreement, StoreError> {
+        let provider = lists_of(heap, example)?;
+        let other = lists_of(ample, example)?;
+        new_beside(heap, ample, (provider, other), trial)
+    }
+}
+
+impl Twins for SparseIds {
+    fn beside<A: Allocator + Copy>(
+        heap: A,
+        ample: A,
+        example: Example,
+        trial: &Trial<'_, SparseName, SparseSolvable, A>,
+    ) -> Result<Agreement, StoreError> {
+        let provider = SparseLists(lists_of(heap, example)?);
+        let other = SparseLists(lists_of(ample, example)?);
+        new_beside(heap, ample, (provider, other), trial)
+    }
 }
 
 /// What is wanted where the request came, or didn't: if it came, one command was refused, but for a run whose first request
@@ -270,49 +284,29 @@ fn seen_of(rt: &impl AllocGlobal, case: Case, number: u64) -> Result<Agreement, 
     let ample = Refusing::new(rt.alloc());
     let (ids, example, way) = case;
     let seen = match ids {
-        Ids::Dense => dense_trial(&heap, &ample, example, way, number),
-        Ids::Sparse => sparse_trial(&heap, &ample, example, way, number),
+        Ids::Dense => trial_of::<DenseIds>(&heap, &ample, example, way, number),
+        Ids::Sparse => trial_of::<SparseIds>(&heap, &ample, example, way, number),
     };
     drop(ample);
     drop(heap);
     seen
 }
 
-fn dense_trial(
+fn trial_of<K: Twins>(
     heap: &Refusing<Global>,
     ample: &Refusing<Global>,
     example: Example,
     way: Way,
     number: u64,
 ) -> Result<Agreement, StoreError> {
-    let commands = dense_commands(ample, example)?;
+    let commands = commands_of(ample, play_of(example).steps)?;
     let trial = Trial {
         commands: &commands,
         way,
         heap,
         number,
     };
-    let seen = dense_beside(heap, ample, example, &trial);
-    drop(trial);
-    drop(commands);
-    seen
-}
-
-fn sparse_trial(
-    heap: &Refusing<Global>,
-    ample: &Refusing<Global>,
-    example: Example,
-    way: Way,
-    number: u64,
-) -> Result<Agreement, StoreError> {
-    let commands = sparse_commands(ample, example)?;
-    let trial = Trial {
-        commands: &commands,
-        way,
-        heap,
-        number,
-    };
-    let seen = sparse_beside(heap, ample, example, &trial);
+    let seen = K::beside(heap, ample, example, &trial);
     drop(trial);
     drop(commands);
     seen

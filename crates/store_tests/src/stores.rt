@@ -1,17 +1,16 @@
 //! New stores that are given the commands of an example, and what is seen of them. What is seen is compared once, behind
 //! all that is owned.
-use crate::given::{GivenLiteral, Known, commands_of};
+use crate::given::{GivenLiteral, commands_of};
 use crate::listed::lists_of;
 use crate::obeys::Obeys;
 use crate::script::{Example, clause, play_of};
-use crate::visits::{Visit, dense_visited, sparse_visited};
+use crate::visits::{DenseIds, IdKind, Numbered, SparseIds, Visit};
 use crate::wanted::first_unwanted;
-use plain_providers::{SparseName, SparseSolvable};
 use resolvo_store::{Command, Reply};
 use std::alloc::{Allocator, Global};
 use std::test::Fail;
 use test_checks::is_same;
-use typed_ids::{ClauseId, NameId, SolvableId, StoreError};
+use typed_ids::{ClauseId, StoreError};
 
 /// How a store is given commands.
 #[derive(Clone, Copy)]
@@ -35,8 +34,8 @@ pub(crate) fn are_given(
 }
 
 fn is_given(alloc: Global, name: &str, example: Example, way: Way) -> Result<(), Fail> {
-    is_told(name, example, dense_told(alloc, example, way))?;
-    is_told(name, example, sparse_told(alloc, example, way))
+    is_told(name, example, told::<DenseIds, Global>(alloc, example, way))?;
+    is_told(name, example, told::<SparseIds, Global>(alloc, example, way))
 }
 
 fn is_told(name: &str, example: Example, told: Result<Told, StoreError>) -> Result<(), Fail> {
@@ -66,85 +65,22 @@ type End = (Option<bool>, Option<bool>, Option<ClauseId>);
 /// How many candidates and replies there are, the first reply and the first clause that aren't as wanted, and the end.
 type Told = (usize, usize, (Option<usize>, Option<usize>), End);
 
-/// The example's commands.
-pub(crate) fn dense_commands<A: Allocator + Copy>(
-    alloc: A,
-    example: Example,
-) -> Result<Vec<Command<NameId, SolvableId, A>, A>, StoreError> {
-    let known = Known {
-        names: [
-            NameId::from_raw(0),
-            NameId::from_raw(1),
-            NameId::from_raw(2),
-        ],
-        solvables: [
-            SolvableId::from_raw(0),
-            SolvableId::from_raw(1),
-            SolvableId::from_raw(2),
-            SolvableId::from_raw(3),
-        ],
-    };
-    commands_of(alloc, known, play_of(example).steps)
-}
-
-/// The same with sparse ids.
-pub(crate) fn sparse_commands<A: Allocator + Copy>(
-    alloc: A,
-    example: Example,
-) -> Result<Vec<Command<SparseName, SparseSolvable, A>, A>, StoreError> {
-    let known = Known {
-        names: [
-            SparseName::from_raw(0),
-            SparseName::from_raw(1),
-            SparseName::from_raw(2),
-        ],
-        solvables: [
-            SparseSolvable::from_raw(0),
-            SparseSolvable::from_raw(1),
-            SparseSolvable::from_raw(2),
-            SparseSolvable::from_raw(3),
-        ],
-    };
-    commands_of(alloc, known, play_of(example).steps)
-}
-
-/// What is told of a new store over the example's lists that is given its commands.
-fn dense_told<A: Allocator + Copy>(
+/// What is told of a new store over the example's lists, whose ids are of the kind, that is given its commands.
+fn told<K: IdKind, A: Allocator + Copy>(
     alloc: A,
     example: Example,
     way: Way,
 ) -> Result<Told, StoreError> {
     let lists = lists_of(alloc, example)?;
-    let commands = dense_commands(alloc, example)?;
+    let commands = commands_of(alloc, play_of(example).steps)?;
     let given = Commands {
         commands: &commands,
         example,
         way,
         alloc,
-        name: NameId::from_raw(0),
+        name: K::Name::numbered(0),
     };
-    let told = dense_visited(alloc, lists, &given);
-    drop(given);
-    drop(commands);
-    told?
-}
-
-/// The same of a store over the example's lists with sparse ids.
-fn sparse_told<A: Allocator + Copy>(
-    alloc: A,
-    example: Example,
-    way: Way,
-) -> Result<Told, StoreError> {
-    let lists = lists_of(alloc, example)?;
-    let commands = sparse_commands(alloc, example)?;
-    let given = Commands {
-        commands: &commands,
-        example,
-        way,
-        alloc,
-        name: SparseName::from_raw(0),
-    };
-    let told = sparse_visited(alloc, lists, &given);
+    let told = K::visited(alloc, lists, &given);
     drop(given);
     drop(commands);
     told?

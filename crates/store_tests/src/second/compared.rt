@@ -1,6 +1,7 @@
 //! Lists of commands that are given to both stores.
 use crate::second::alike::are_alike;
-use crate::second::stores::{dense_replies, sparse_replies};
+use crate::second::stores::replies;
+use crate::visits::{DenseIds, SparseIds};
 use plain_store::{Catalogue, Counts, Drawn, KIND_COUNT, KINDS, count, draw, draw_packages};
 use std::alloc::Global;
 use std::test::Fail;
@@ -19,12 +20,12 @@ fn are_answered_alike(
     let commands = drawn.commands.as_slice();
     are_alike(
         (list, commands),
-        dense_replies(alloc, catalogue, commands),
+        replies::<DenseIds, Global>(alloc, catalogue, commands),
         &drawn.replies,
     )?;
     are_alike(
         (list, commands),
-        sparse_replies(alloc, catalogue, commands),
+        replies::<SparseIds, Global>(alloc, catalogue, commands),
         &drawn.replies,
     )
 }

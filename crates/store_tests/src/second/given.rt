@@ -1,30 +1,14 @@
 //! Commands of the product, made of commands in plain numbers.
+use crate::visits::Numbered;
 use decisions::Literal;
 use plain_store::{Command as Plain, Helper, Literals, Requirement as PlainRequirement};
 use providers::Requirement;
 use resolvo_store::{Command, HelperOrigin};
 use std::alloc::Allocator;
 use typed_ids::{
-    ClauseId, ConditionId, DenseId, DenseIndex, DisjunctionId, SparseId, StoreError, StringId,
-    VariableId, VersionSetId, VersionSetUnionId,
+    ClauseId, ConditionId, DenseIndex, DisjunctionId, StoreError, StringId, VariableId,
+    VersionSetId, VersionSetUnionId,
 };
-
-/// An id of a name or of a solvable, by its number.
-pub(crate) trait Numbered: Copy {
-    fn numbered(number: u16) -> Self;
-}
-
-impl<Tag> Numbered for DenseId<Tag> {
-    fn numbered(number: u16) -> DenseId<Tag> {
-        DenseId::from_raw(u32::from(number))
-    }
-}
-
-impl<Tag> Numbered for SparseId<Tag> {
-    fn numbered(number: u16) -> SparseId<Tag> {
-        SparseId::from_raw(u32::from(number))
-    }
-}
 
 /// The commands, in order.
 pub(crate) fn commands_of<N: Numbered, S: Numbered, A: Allocator + Copy>(

@@ -4,7 +4,7 @@ use crate::obeys::Obeys;
 use crate::second::alike::{Memory, first_unlike, is_refused};
 use crate::second::given::commands_of;
 use crate::second::listed::lists_of;
-use crate::visits::{Visit, dense_visited};
+use crate::visits::{DenseIds, IdKind, Visit};
 use plain_store::{Catalogue, Drawn, draw, draw_packages};
 use refusing::Refusing;
 use resolvo_store::{Command, Reply};
@@ -105,7 +105,7 @@ fn seen_in(
         heap,
         room: heap,
     };
-    let seen = dense_visited(heap, lists, &list);
+    let seen = DenseIds::visited(heap, lists, &list);
     drop(list);
     drop(commands);
     seen?

@@ -2,7 +2,7 @@
 use crate::obeys::Obeys;
 use crate::second::given::commands_of;
 use crate::second::listed::lists_of;
-use crate::visits::{Visit, dense_visited, sparse_visited};
+use crate::visits::{IdKind, Visit};
 use plain_store::{Catalogue, Command as Plain};
 use resolvo_store::{Command, Reply};
 use std::alloc::Allocator;
@@ -21,28 +21,15 @@ impl<N, S, A: Allocator> Visit<N, S, A> for Run<'_, N, S, A> {
     }
 }
 
-/// The replies of a new store whose ids are dense.
-pub(crate) fn dense_replies<A: Allocator + Copy>(
+/// The replies of a new store whose ids are of the kind.
+pub(crate) fn replies<K: IdKind, A: Allocator + Copy>(
     alloc: A,
     catalogue: &Catalogue,
     given: &[Plain],
 ) -> Result<Vec<Reply<A>, A>, StoreError> {
     let lists = lists_of(alloc, catalogue)?;
     let commands = commands_of(alloc, given)?;
-    let replies = dense_visited(alloc, lists, &Run(&commands));
-    drop(commands);
-    replies?
-}
-
-/// The same of a store whose ids are sparse.
-pub(crate) fn sparse_replies<A: Allocator + Copy>(
-    alloc: A,
-    catalogue: &Catalogue,
-    given: &[Plain],
-) -> Result<Vec<Reply<A>, A>, StoreError> {
-    let lists = lists_of(alloc, catalogue)?;
-    let commands = commands_of(alloc, given)?;
-    let replies = sparse_visited(alloc, lists, &Run(&commands));
+    let replies = K::visited(alloc, lists, &Run(&commands));
     drop(commands);
     replies?
 }
