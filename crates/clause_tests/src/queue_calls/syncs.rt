@@ -1,6 +1,6 @@
 //! Queues that are brought up to date with a trail, in ample memory and where a request is refused.
 
-use crate::anew::sync_anew;
+use crate::queue_anew::sync_anew;
 use clauses::Disjunction;
 use decisions::{Decision, DecisionTracker};
 use id_storage::Arena;
