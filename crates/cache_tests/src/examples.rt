@@ -52,7 +52,10 @@ pub(crate) fn stopping(stops: Stops) -> Setup {
 
 /// Package 0 has solvables 0, 1 and 2 of versions 1, 2 and 3, and package 1 has solvable 3. Set 0 holds versions 1 and 2
 /// of package 0, and set 1 version 1 of package 1. Union 0 is of set 0, and then set 1.
-pub(crate) fn lists_of<A: Allocator + Copy>(alloc: A, favored: Option<u32>) -> Result<Lists<A>, AllocError> {
+pub(crate) fn lists_of<A: Allocator + Copy>(
+    alloc: A,
+    favored: Option<u32>,
+) -> Result<Lists<A>, AllocError> {
     let (first, second) = (NameId::from_raw(0), NameId::from_raw(1));
     let packages = [
         Package {

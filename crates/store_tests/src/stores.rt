@@ -35,7 +35,11 @@ pub(crate) fn are_given(
 
 fn is_given(alloc: Global, name: &str, example: Example, way: Way) -> Result<(), Fail> {
     is_told(name, example, told::<DenseIds, Global>(alloc, example, way))?;
-    is_told(name, example, told::<SparseIds, Global>(alloc, example, way))
+    is_told(
+        name,
+        example,
+        told::<SparseIds, Global>(alloc, example, way),
+    )
 }
 
 fn is_told(name: &str, example: Example, told: Result<Told, StoreError>) -> Result<(), Fail> {

@@ -49,6 +49,7 @@ impl<Tag> Numbered for SparseId<Tag> {
 /// A kind of ids that stores over lists may have.
 pub(crate) trait IdKind {
     type Name: Numbered;
+
     type Solvable: Numbered;
 
     /// What is told of a new store over the lists.
@@ -65,6 +66,7 @@ pub(crate) struct SparseIds;
 
 impl IdKind for DenseIds {
     type Name = NameId;
+
     type Solvable = SolvableId;
 
     fn visited<A: Allocator + Copy, V: Visit<NameId, SolvableId, A>>(
@@ -78,6 +80,7 @@ impl IdKind for DenseIds {
 
 impl IdKind for SparseIds {
     type Name = SparseName;
+
     type Solvable = SparseSolvable;
 
     fn visited<A: Allocator + Copy, V: Visit<SparseName, SparseSolvable, A>>(
