@@ -51,13 +51,13 @@ pub fn obey_watched<D: DependencyProvider + Drop>(
     store.run(commands)
 }
 
-/// Obeys commands in turn. Whatever was refused, the clauses of each name can then be met by choosing helpers exactly when at
+/// Obeys a list of commands. Whatever was refused, the clauses of each name can then be met by choosing helpers exactly when at
 /// most one of the variables that are tracked under it is true.
 pub fn obey_forbids_two<D: DependencyProvider + Drop>(
     store: &mut ClauseStore<D>,
-    commands: &[Command<D::NameId, D::SolvableId, D::Alloc>],
+    list: &[Command<D::NameId, D::SolvableId, D::Alloc>],
 ) -> Result<Vec<Reply<D::Alloc>, D::Alloc>, StoreError>
     ensures { ForbidsTwo (⟦<D as AbstractStore>⟧.store store.new) }
 {
-    store.run(commands)
+    store.run(list)
 }
