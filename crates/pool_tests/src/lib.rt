@@ -1,5 +1,5 @@
-//! Tests of the pool, of requirements and of their maps, and of conditions (`condition_calls`). The callers that they run are in
-//! `pool_callers`.
+//! Tests of the pool, of requirements and of their maps, of conditions (`condition_calls`), and of what the example of a
+//! provider reads a text as (`read_index`). The callers that they run are in `pool_callers`.
 #![tactic(auto)]
 
 #[cfg(test)]
@@ -10,6 +10,8 @@ mod maps;
 mod noted;
 #[cfg(test)]
 mod pool;
+#[cfg(test)]
+mod read_index;
 #[cfg(test)]
 mod shown;
 #[cfg(test)]

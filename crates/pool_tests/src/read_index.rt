@@ -1,4 +1,4 @@
-//! Tests of what a text is read as.
+//! What `small_index` reads a text as. The tests are in no crate of their own, since each crate that starts a proof anew is dear.
 ghost use Rattle.std.specs.Prelude.{◌<◌, ◌^◌};
 
 use resolvo_ids::{ConditionId, DenseIndex, SolvableId, StoreError, VersionSetId};
