@@ -11,13 +11,15 @@ use std::alloc::{AllocError, Global};
 /// How many commands a list has, behind a few that it may begin with.
 const COMMANDS: usize = 60;
 
-/// Commands, and the second store's replies.
+/// Commands, and what the second store tells.
 #[derive(Drop)]
 pub struct Drawn {
     /// The commands.
     pub commands: Vec<Command>,
     /// The reply to each.
     pub replies: Vec<Reply>,
+    /// The literals of each clause that is then there.
+    pub clauses: Vec<Vec<Literal>>,
 }
 
 /// The packages of the list of this number.
@@ -27,7 +29,7 @@ pub fn draw_packages(alloc: Global, list: u64) -> Result<Catalogue, AllocError> 
     catalogue_of(alloc, &mut recurrence, sizes)
 }
 
-/// The list of commands of this number, and what a new second store over its packages replies.
+/// The list of commands of this number, and what a new second store over its packages tells.
 pub fn draw(alloc: Global, list: u64) -> Result<Drawn, AllocError> {
     let mut recurrence = Recurrence::new(list);
     let sizes = Sizes::of(&mut recurrence);
@@ -36,6 +38,7 @@ pub fn draw(alloc: Global, list: u64) -> Result<Drawn, AllocError> {
     let mut drawn = Drawn {
         commands: Vec::new(alloc),
         replies: Vec::new(alloc),
+        clauses: Vec::new(alloc),
     };
     let ended = drawn.draw_all(&mut store, &mut recurrence, sizes);
     drop(store);
@@ -107,7 +110,7 @@ impl Drawn {
             let command = next_command(recurrence, store, sizes);
             self.give(store, command)?;
         }
-        Ok(())
+        store.list_clauses(&mut self.clauses)
     }
 }
 

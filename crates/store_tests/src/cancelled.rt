@@ -1,7 +1,6 @@
 //! Tests of what a clause store asks of its provider, and of loads that the provider stops.
 
 mod examples;
-mod obeys;
 mod played;
 mod refused;
 mod stopped;

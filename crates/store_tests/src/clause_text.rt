@@ -1,6 +1,6 @@
 //! The texts of registered clauses, over the packages of a script's catalogue.
+use crate::given::{clause, single, variable};
 use crate::obeys::Obeys;
-use crate::script::{clause, single, variable};
 use crate::visits::{Visit, catalogue_visited};
 use decisions::Literal;
 use resolvo_store::{Command, HelperOrigin};

@@ -1,20 +1,19 @@
 //! What the tests ask of a store. What they share is generic in it, since a proof over a type parameter is much shorter
 //! than one over the store's own type.
-use crate::given::{GivenLiteral, literal_of};
-use crate::script::{clause, variable};
+use crate::given::variable;
 use decisions::Literal;
-use providers::{DependencyProvider, Interner};
+use providers::DependencyProvider;
 use resolvo_queue::QueueDecision;
 use resolvo_store::{ClauseStore, Command, Reply};
 use std::alloc::Allocator;
 use typed_ids::{ClauseId, StoreError};
 
 /// What a store tells of itself without memory.
-#[derive(Clone, Copy, Debug, PartialEq, Eq)]
+#[derive(Clone, Copy, PartialEq, Eq)]
 pub(crate) struct Seen {
     /// The values of the root and of the next three variables.
-    pub(crate) values: [Option<bool>; 4],
-    pub(crate) falsified: Option<ClauseId>,
+    values: [Option<bool>; 4],
+    falsified: Option<ClauseId>,
 }
 
 /// A store over a provider with names `N` and solvables `S`.
@@ -28,14 +27,11 @@ pub(crate) trait Obeys<N, S, A: Allocator> {
     /// The next decision, where no clause is falsified.
     fn decision(&mut self) -> Result<Option<QueueDecision>, StoreError>;
 
-    /// How many candidates the provider lists of the name.
-    fn candidate_count(&self, alloc: A, name: N) -> Result<usize, StoreError>;
-
     /// Appends the clause's text.
     fn display_clause(&self, clause: ClauseId, out: &mut String<A>) -> Result<(), StoreError>;
 
-    /// Whether the clause has these literals.
-    fn has_literals(&self, place: u16, wanted: &[GivenLiteral]) -> Result<bool, StoreError>;
+    /// The literals of the clause, if it is known.
+    fn literals(&self, clause: ClauseId) -> Result<Option<Vec<Literal, A>>, StoreError>;
 }
 
 impl<D: DependencyProvider + Drop> Obeys<D::NameId, D::SolvableId, D::Alloc> for ClauseStore<D> {
@@ -69,14 +65,6 @@ impl<D: DependencyProvider + Drop> Obeys<D::NameId, D::SolvableId, D::Alloc> for
         }
     }
 
-    fn candidate_count(&self, alloc: D::Alloc, name: D::NameId) -> Result<usize, StoreError> {
-        match self.provider().get_candidates(alloc, name) {
-            Ok(Some(found)) => Ok(found.candidates.len()),
-            Ok(None) => Ok(0),
-            Err(error) => Err(error),
-        }
-    }
-
     fn display_clause(
         &self,
         clause: ClauseId,
@@ -85,25 +73,7 @@ impl<D: DependencyProvider + Drop> Obeys<D::NameId, D::SolvableId, D::Alloc> for
         ClauseStore::display_clause(self, clause, out)
     }
 
-    fn has_literals(&self, place: u16, wanted: &[GivenLiteral]) -> Result<bool, StoreError> {
-        match self.literals(clause(place))? {
-            Some(literals) => {
-                let has_them = are_literals(&literals, wanted);
-                drop(literals);
-                Ok(has_them)
-            }
-            None => Ok(false),
-        }
+    fn literals(&self, clause: ClauseId) -> Result<Option<Vec<Literal, D::Alloc>>, StoreError> {
+        ClauseStore::literals(self, clause)
     }
-}
-
-/// Whether these are the literals.
-fn are_literals(literals: &[Literal], wanted: &[GivenLiteral]) -> bool {
-    for (i, literal) in literals.iter().enumerate() {
-        match wanted.get(i) {
-            Some(wanted) if *literal == literal_of(*wanted) => {}
-            _ => return false,
-        }
-    }
-    literals.len() == wanted.len()
 }

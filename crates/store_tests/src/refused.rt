@@ -1,14 +1,14 @@
-//! Memory refused at each request in turn, of each list of commands. Beside the store to which a request is refused there
-//! is a twin in ample memory, to which the refused command isn't given: the store must tell the same as its twin. In
-//! steps both are then given the command once more, in a run they aren't.
-use crate::given::{commands_of, literal_of};
+//! Memory refused at each request in turn, of some of the drawn lists of commands. Beside the store to which a request is
+//! refused there is a twin in ample memory, to which the refused command isn't given: the store must tell the same as its
+//! twin. In steps both are then given the command once more, in a run they aren't.
+use crate::given::{clause, commands_of, variable};
 use crate::listed::lists_of;
 use crate::obeys::Obeys;
-use crate::script::{Example, clause, play_of, variable};
 use crate::second::alike::is_refused;
-use crate::stores::Way;
 use crate::visits::{DenseIds, IdKind, SparseIds};
+use decisions::Literal;
 use plain_providers::{SparseLists, SparseName, SparseSolvable};
+use plain_store::{Catalogue, Command as Plain, Drawn, draw, draw_packages};
 use providers::{DependencyProvider, Interner};
 use refusing::Refusing;
 use resolvo_store::{ClauseStore, Command, Reply};
@@ -16,6 +16,18 @@ use std::alloc::{Allocator, Global};
 use std::test::Fail;
 use test_checks::is_same;
 use typed_ids::{NameId, SolvableId, StoreError};
+
+/// How many lists there are.
+const LISTS: u64 = 16;
+
+/// How a store is given commands.
+#[derive(Clone, Copy)]
+enum Way {
+    /// By steps.
+    Steps,
+    /// In one run.
+    Run,
+}
 
 /// Commands that are given to a store in some way, to which a request is refused.
 #[derive(Drop)]
@@ -28,17 +40,102 @@ struct Trial<'t, N, S, A: Allocator> {
 }
 
 /// What is seen of a store beside its twin.
-#[derive(Clone, Copy, Debug, PartialEq, Eq)]
+#[derive(Clone, Copy)]
 struct Agreement {
-    /// The number of the request, and whether it came.
-    number: u64,
+    /// Whether the request came.
     is_met: bool,
-    /// How many commands were answered: all, but for a run that is refused whole.
-    answered: usize,
-    /// How many were refused for want of memory.
-    refused: usize,
+    /// Whether all commands were answered: so it is, but for a run that is refused whole.
+    is_answered: bool,
+    refused: Refused,
     /// Whether the store and its twin told the same.
     agrees: bool,
+}
+
+/// How many commands were refused for want of memory, and the place of the last one.
+#[derive(Clone, Copy)]
+struct Refused {
+    count: u32,
+    place: usize,
+}
+
+const NONE: Refused = Refused { count: 0, place: 0 };
+
+impl Refused {
+    fn add(&mut self, place: usize) {
+        self.count = self.count.saturating_add(1);
+        self.place = place;
+    }
+}
+
+/// All commands, by their names in scripts.
+const NAMES: [&str; 24] = [
+    "variable",
+    "helper",
+    "load",
+    "disjunction",
+    "requires",
+    "root",
+    "constrains",
+    "constrains-excluded",
+    "constrains-parent",
+    "lock",
+    "exclude",
+    "any-of",
+    "learnt",
+    "at-most-once",
+    "assign",
+    "undo-last",
+    "undo-until",
+    "unpropagated",
+    "bump",
+    "decay",
+    "standard",
+    "rewatch",
+    "watchers",
+    "decide",
+];
+
+/// Those to which a request is refused somewhere: that to others comes too seldom.
+const REFUSED: [&str; 10] = [
+    "load",
+    "disjunction",
+    "requires",
+    "root",
+    "learnt",
+    "at-most-once",
+    "assign",
+    "bump",
+    "watchers",
+    "decide",
+];
+
+fn name_of(command: Plain) -> &'static str {
+    match command {
+        Plain::Variable(_) => "variable",
+        Plain::Helper(_) => "helper",
+        Plain::Load(_) => "load",
+        Plain::Disjunction(..) => "disjunction",
+        Plain::Requires(..) => "requires",
+        Plain::Root => "root",
+        Plain::Constrains(..) => "constrains",
+        Plain::ConstrainsExcluded(..) => "constrains-excluded",
+        Plain::ConstrainsParent(..) => "constrains-parent",
+        Plain::Lock(..) => "lock",
+        Plain::Exclude(..) => "exclude",
+        Plain::AnyOf(..) => "any-of",
+        Plain::Learnt(_) => "learnt",
+        Plain::AtMostOnce(..) => "at-most-once",
+        Plain::Assign(..) => "assign",
+        Plain::UndoLast => "undo-last",
+        Plain::UndoUntil(_) => "undo-until",
+        Plain::Unpropagated => "unpropagated",
+        Plain::Bump(..) => "bump",
+        Plain::Decay(..) => "decay",
+        Plain::Standard(_) => "standard",
+        Plain::Rewatch(..) => "rewatch",
+        Plain::Watchers(_) => "watchers",
+        Plain::Decide => "decide",
+    }
 }
 
 /// Whether the store answers the command so.
@@ -75,8 +172,8 @@ fn know_alike<N: Copy, S: Copy, A: Allocator, T: Obeys<N, S, A>>(
     for i in 0..16u16 {
         let of_variable = Command::Assign(variable(i), true, clause(0), 0);
         let of_clause = Command::Assign(variable(0), true, clause(i), 0);
-        let of_positive = Command::Watchers(literal_of((i, false)));
-        let of_negative = Command::Watchers(literal_of((i, true)));
+        let of_positive = Command::Watchers(Literal::new(variable(i), false));
+        let of_negative = Command::Watchers(Literal::new(variable(i), true));
         is_alike = is_alike
             && obey_alike(store, twin, &of_variable)
             && obey_alike(store, twin, &of_clause)
@@ -110,13 +207,13 @@ fn steps_beside<N: Copy, S: Copy, A: Allocator, T: Obeys<N, S, A>>(
     store: &mut T,
     twin: &mut T,
     commands: &[Command<N, S, A>],
-) -> (usize, bool) {
-    let mut refused: usize = 0;
+) -> (Refused, bool) {
+    let mut refused = NONE;
     let mut agrees = true;
     for (i, command) in commands.iter().enumerate() {
         let reply = store.obey(command);
         let is_alike = if is_refused(&reply) {
-            refused = refused.saturating_add(1);
+            refused.add(i);
             tell_alike(store, twin, &commands[..i]) && obey_alike(store, twin, command)
         } else {
             answers(twin, command, &reply) && store.seen() == twin.seen()
@@ -132,12 +229,12 @@ fn replies_beside<N, S, A: Allocator, T: Obeys<N, S, A>>(
     twin: &mut T,
     commands: &[Command<N, S, A>],
     replies: &[Reply<A>],
-) -> (usize, bool) {
-    let mut refused: usize = 0;
-    let mut agrees = true;
-    for (command, reply) in commands.iter().zip(replies) {
+) -> (Refused, bool) {
+    let mut refused = NONE;
+    let mut agrees = replies.len() == commands.len();
+    for (i, (command, reply)) in commands.iter().zip(replies).enumerate() {
         if is_refused(reply) {
-            refused = refused.saturating_add(1);
+            refused.add(i);
         } else {
             agrees = agrees && answers(twin, command, reply);
         }
@@ -145,26 +242,22 @@ fn replies_beside<N, S, A: Allocator, T: Obeys<N, S, A>>(
     (refused, agrees)
 }
 
-/// How many commands are answered, how many are refused, and whether the store agrees with its twin so far.
+/// Whether the commands are answered, what is refused, and whether the store agrees with its twin so far.
 fn given<N: Copy, S: Copy, A: Allocator, T: Obeys<N, S, A>>(
     store: &mut T,
     twin: &mut T,
     commands: &[Command<N, S, A>],
     way: Way,
-) -> (usize, usize, bool) {
+) -> (bool, (Refused, bool)) {
     match way {
-        Way::Steps => {
-            let (refused, agrees) = steps_beside(store, twin, commands);
-            (commands.len(), refused, agrees)
-        }
+        Way::Steps => (true, steps_beside(store, twin, commands)),
         Way::Run => match store.obey_all(commands) {
             Ok(replies) => {
-                let (refused, agrees) = replies_beside(twin, commands, &replies);
-                let answered = replies.len();
+                let beside = replies_beside(twin, commands, &replies);
                 drop(replies);
-                (answered, refused, agrees)
+                (true, beside)
             }
-            Err(_) => (0, 1, true),
+            Err(_) => (false, (NONE, true)),
         },
     }
 }
@@ -176,14 +269,13 @@ fn compared<N: Copy, S: Copy, A: Allocator, T: Obeys<N, S, A>>(
     trial: &Trial<'_, N, S, A>,
 ) -> Agreement {
     trial.heap.arm(trial.number);
-    let (answered, refused, agrees) = given(store, twin, trial.commands, trial.way);
+    let (is_answered, (refused, agrees)) = given(store, twin, trial.commands, trial.way);
     let is_met = !trial.heap.is_armed();
     trial.heap.arm(0);
-    let loaded = if answered == 0 { &[] } else { trial.commands };
+    let loaded = if is_answered { trial.commands } else { &[] };
     Agreement {
-        number: trial.number,
         is_met,
-        answered,
+        is_answered,
         refused,
         agrees: agrees && tell_alike(store, twin, loaded),
     }
@@ -219,7 +311,7 @@ trait Twins: IdKind {
     fn beside<A: Allocator + Copy>(
         heap: A,
         ample: A,
-        example: Example,
+        catalogue: &Catalogue,
         trial: &Trial<'_, Self::Name, Self::Solvable, A>,
     ) -> Result<Agreement, StoreError>;
 }
@@ -228,11 +320,11 @@ impl Twins for DenseIds {
     fn beside<A: Allocator + Copy>(
         heap: A,
         ample: A,
-        example: Example,
+        catalogue: &Catalogue,
         trial: &Trial<'_, NameId, SolvableId, A>,
     ) -> Result<Agreement, StoreError> {
-        let provider = lists_of(heap, example)?;
-        let other = lists_of(ample, example)?;
+        let provider = lists_of(heap, catalogue)?;
+        let other = lists_of(ample, catalogue)?;
         new_beside(heap, ample, (provider, other), trial)
     }
 }
@@ -241,51 +333,31 @@ impl Twins for SparseIds {
     fn beside<A: Allocator + Copy>(
         heap: A,
         ample: A,
-        example: Example,
+        catalogue: &Catalogue,
         trial: &Trial<'_, SparseName, SparseSolvable, A>,
     ) -> Result<Agreement, StoreError> {
-        let provider = SparseLists(lists_of(heap, example)?);
-        let other = SparseLists(lists_of(ample, example)?);
+        let provider = SparseLists(lists_of(heap, catalogue)?);
+        let other = SparseLists(lists_of(ample, catalogue)?);
         new_beside(heap, ample, (provider, other), trial)
     }
 }
 
-/// What is wanted where the request came, or didn't: if it came, one command was refused, but for a run whose first request
-/// is refused, that for the room for the replies: it is refused whole.
-fn wanted((_, example, way): Case, number: u64, is_met: bool) -> Agreement {
-    Agreement {
-        number,
-        is_met,
-        answered: match way {
-            Way::Run if number == 1 => 0,
-            _ => play_of(example).steps.len(),
-        },
-        refused: usize::from(is_met),
-        agrees: true,
-    }
-}
-
-/// Each request is refused in turn: there are more than two, and fewer than a thousand. A failure shows the place of the
-/// case.
-fn are_refused_in_turn(rt: &impl AllocGlobal, place: usize, case: Case) -> Result<(), Fail> {
-    for number in 1..1000u64 {
-        let seen = seen_of(rt, case, number)?;
-        let wanted = wanted(case, number, seen.is_met);
-        is_same((place, seen), (place, wanted))?;
-        if !seen.is_met {
-            return is_same((place, number > 3), (place, true));
-        }
-    }
-    Err(Fail::new("each store met a refusal"))
-}
-
-fn seen_of(rt: &impl AllocGlobal, case: Case, number: u64) -> Result<Agreement, StoreError> {
-    let heap = Refusing::new(rt.alloc());
-    let ample = Refusing::new(rt.alloc());
-    let (ids, example, way) = case;
-    let seen = match ids {
-        Ids::Dense => trial_of::<DenseIds>(&heap, &ample, example, way, number),
-        Ids::Sparse => trial_of::<SparseIds>(&heap, &ample, example, way, number),
+/// What is seen where the request of this number is refused to the list. Of four lists one is given to stores of either
+/// kind of ids, by steps or in a run.
+fn seen_of(
+    alloc: Global,
+    list: u64,
+    (catalogue, drawn): (&Catalogue, &Drawn),
+    number: u64,
+) -> Result<Agreement, StoreError> {
+    let heap = Refusing::new(alloc);
+    let ample = Refusing::new(alloc);
+    let way = if list % 2 == 0 { Way::Steps } else { Way::Run };
+    let trial = (way, number);
+    let seen = if list % 4 < 2 {
+        trial_of::<DenseIds>((&heap, &ample), catalogue, drawn, trial)
+    } else {
+        trial_of::<SparseIds>((&heap, &ample), catalogue, drawn, trial)
     };
     drop(ample);
     drop(heap);
@@ -293,67 +365,93 @@ fn seen_of(rt: &impl AllocGlobal, case: Case, number: u64) -> Result<Agreement, 
 }
 
 fn trial_of<K: Twins>(
-    heap: &Refusing<Global>,
-    ample: &Refusing<Global>,
-    example: Example,
-    way: Way,
-    number: u64,
+    (heap, ample): (&Refusing<Global>, &Refusing<Global>),
+    catalogue: &Catalogue,
+    drawn: &Drawn,
+    (way, number): (Way, u64),
 ) -> Result<Agreement, StoreError> {
-    let commands = commands_of(ample, play_of(example).steps)?;
+    let commands = commands_of(ample, &drawn.commands)?;
     let trial = Trial {
         commands: &commands,
         way,
         heap,
         number,
     };
-    let seen = K::beside(heap, ample, example, &trial);
+    let seen = K::beside(heap, ample, catalogue, &trial);
     drop(trial);
     drop(commands);
     seen
 }
 
-/// The kind of the ids of packages and solvables.
+/// How often each of `NAMES` was given, and each of `REFUSED` refused.
 #[derive(Clone, Copy)]
-enum Ids {
-    Dense,
-    Sparse,
+struct Counts {
+    given: [u32; 24],
+    refused: [u32; 10],
 }
 
-/// Stores over these ids are given the commands of an example in this way.
-type Case = (Ids, Example, Way);
+fn count(names: &[&'static str], counts: &mut [u32], command: Plain) {
+    let wanted = name_of(command);
+    for (name, count) in names.iter().zip(counts) {
+        if *name == wanted {
+            *count = count.saturating_add(1);
+        }
+    }
+}
 
-const CASES: [Case; 25] = [
-    (Ids::Dense, Example::TwoPackages, Way::Steps),
-    (Ids::Dense, Example::TwoPackages, Way::Run),
-    (Ids::Dense, Example::OnePackage, Way::Steps),
-    (Ids::Dense, Example::OnePackage, Way::Run),
-    (Ids::Dense, Example::SetTwice, Way::Steps),
-    (Ids::Sparse, Example::SetTwice, Way::Run),
-    (Ids::Dense, Example::Trail, Way::Steps),
-    (Ids::Sparse, Example::Trail, Way::Run),
-    (Ids::Dense, Example::MovedWatches, Way::Steps),
-    (Ids::Sparse, Example::MovedWatches, Way::Run),
-    (Ids::Dense, Example::FourTracked, Way::Steps),
-    (Ids::Sparse, Example::TwoNames, Way::Steps),
-    (Ids::Dense, Example::TwoNames, Way::Run),
-    (Ids::Dense, Example::WaitsForCondition, Way::Steps),
-    (Ids::Dense, Example::ConditionOpens, Way::Run),
-    (Ids::Sparse, Example::ConditionWatches, Way::Steps),
-    (Ids::Dense, Example::BestSoFar, Way::Steps),
-    (Ids::Dense, Example::BestSoFar, Way::Run),
-    (Ids::Sparse, Example::ScoresFall, Way::Steps),
-    (Ids::Dense, Example::Helpers, Way::Run),
-    (Ids::Sparse, Example::Helpers, Way::Steps),
-    (Ids::Dense, Example::EachCommand, Way::Steps),
-    (Ids::Dense, Example::EachCommand, Way::Run),
-    (Ids::Sparse, Example::EachCommand, Way::Steps),
-    (Ids::Sparse, Example::EachCommand, Way::Run),
-];
-
-#[test]
-fn refused_commands_leave_the_store_as_it_was(rt: HostRuntime) -> Result<(), Fail> {
-    for (place, case) in CASES.iter().enumerate() {
-        are_refused_in_turn(&rt, place, *case)?;
+fn are_counted(names: &[&'static str], counts: &[u32]) -> Result<(), Fail> {
+    for (name, count) in names.iter().zip(counts) {
+        is_same((*name, *count > 0), (*name, true))?;
     }
     Ok(())
+}
+
+/// Each request is refused in turn: there are more than three, and fewer than ten thousand. If it came, one command was
+/// refused, but for a run whose first request, that for the room for the replies, is refused: it is refused whole.
+fn are_refused_in_turn(
+    alloc: Global,
+    list: u64,
+    (catalogue, drawn): (&Catalogue, &Drawn),
+    counts: &mut Counts,
+) -> Result<(), Fail> {
+    for number in 1..10000u64 {
+        let seen = seen_of(alloc, list, (catalogue, drawn), number)?;
+        let is_whole = seen.is_answered || (list % 2 == 1 && number == 1);
+        let wanted = u32::from(seen.is_met && seen.is_answered);
+        let shown = (list, number, (is_whole, seen.agrees, seen.refused.count));
+        is_same(shown, (list, number, (true, true, wanted)))?;
+        if !seen.is_met {
+            return is_same((list, number > 3), (list, true));
+        }
+        if let Some(command) = drawn.commands.get(seen.refused.place) {
+            count(&REFUSED, &mut counts.refused, *command);
+        }
+    }
+    Err(Fail::new("each store met a refusal"))
+}
+
+/// Every command is given, and those that mostly take memory are refused it.
+#[test]
+fn refused_commands_leave_the_store_as_it_was(rt: HostRuntime) -> Result<(), Fail> {
+    let mut counts = Counts {
+        given: [0; 24],
+        refused: [0; 10],
+    };
+    for list in 0..LISTS {
+        is_list_refused_in_turn(rt.alloc(), list, &mut counts)?;
+    }
+    are_counted(&NAMES, &counts.given)?;
+    are_counted(&REFUSED, &counts.refused)
+}
+
+fn is_list_refused_in_turn(alloc: Global, list: u64, counts: &mut Counts) -> Result<(), Fail> {
+    let catalogue = draw_packages(alloc, list)?;
+    let drawn = draw(alloc, list)?;
+    for command in &drawn.commands {
+        count(&NAMES, &mut counts.given, *command);
+    }
+    let ended = are_refused_in_turn(alloc, list, (&catalogue, &drawn), counts);
+    drop(drawn);
+    drop(catalogue);
+    ended
 }

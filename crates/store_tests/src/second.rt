@@ -2,7 +2,5 @@
 
 pub(crate) mod alike;
 mod compared;
-mod given;
-mod listed;
 mod refusals;
 mod stores;

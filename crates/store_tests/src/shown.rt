@@ -1,5 +1,5 @@
 //! The debug texts of commands, and the texts of replies.
-use crate::script::{clause, single, variable};
+use crate::given::{clause, single, variable};
 use decisions::{Decision, Literal};
 use resolvo_queue::QueueDecision;
 use resolvo_store::{Command, HelperOrigin, Reply};

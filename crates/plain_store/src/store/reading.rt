@@ -57,6 +57,14 @@ impl PlainStore {
         }
     }
 
+    /// Appends the literals of each clause.
+    pub(crate) fn list_clauses(&self, lists: &mut Vec<Vec<Literal>>) -> Result<(), AllocError> {
+        for clause in &self.clauses {
+            lists.push(Vec::from_slice(self.alloc, &clause.literals)?)?;
+        }
+        Ok(())
+    }
+
     /// What a clause watches.
     pub fn watches_of(&self, clause: u16) -> Option<Watches> {
         match self.clauses.get(usize::from(clause)) {

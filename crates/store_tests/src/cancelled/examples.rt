@@ -1,13 +1,10 @@
-//! The provider of the tests, commands, and the replies that are wanted.
-use crate::cancelled::obeys::{Asked, Row, Seen};
+//! The provider of the tests, and the commands that they give.
 use asking_providers::{Asking, Counts, Listing, Stops};
 use plain_providers::{Lists, Package, VersionRange};
-use providers::{HintDependenciesAvailable, Requirement};
+use plain_store::{Command, Requirement};
+use providers::HintDependenciesAvailable;
 use std::alloc::{AllocError, Allocator};
-use typed_ids::{NameId, StoreError, VersionSetId, VersionSetUnionId};
-
-/// A command, and the reply that is wanted.
-pub(crate) type Step<S> = (Asked<S>, Seen);
+use typed_ids::{NameId, VersionSetId};
 
 fn package(name: u32, version: u32) -> Package {
     Package {
@@ -60,7 +57,7 @@ pub(crate) fn dense_provider<A: Allocator + Copy>(
 
 /// The provider was asked for the candidates of so many packages, and so often whether to stop; what a solvable needs no
 /// store asks.
-pub(crate) fn counts(candidates: u32, cancels: u32) -> Counts {
+pub(crate) const fn counts(candidates: u32, cancels: u32) -> Counts {
     Counts {
         candidates,
         dependencies: 0,
@@ -68,57 +65,19 @@ pub(crate) fn counts(candidates: u32, cancels: u32) -> Counts {
     }
 }
 
-pub(crate) fn single(set: u32) -> Requirement {
-    Requirement::Single(VersionSetId(set))
-}
+pub(crate) const LOADS_FIRST: Command = Command::Load(Requirement::Single(0));
 
-pub(crate) fn union(index: u32) -> Requirement {
-    Requirement::Union(VersionSetUnionId(index))
-}
+pub(crate) const LOADS_SECOND: Command = Command::Load(Requirement::Single(1));
 
-/// No variable.
-pub(crate) const NONE: Row = [None; 3];
+pub(crate) const LOADS_THIRD: Command = Command::Load(Requirement::Single(2));
 
-pub(crate) fn one(variable: usize) -> Row {
-    [Some(variable), None, None]
-}
+pub(crate) const LOADS_UNION: Command = Command::Load(Requirement::Union(0));
 
-pub(crate) fn two(first: usize, second: usize) -> Row {
-    [Some(first), Some(second), None]
-}
+/// A clause of the root for each, which is taken where it is loaded.
+pub(crate) const REQUIRES_FIRST: Command = Command::Requires(0, Requirement::Single(0), None);
 
-/// The variable of a solvable is this one.
-pub(crate) fn variable<S>(solvable: S, place: usize) -> Step<S> {
-    (Asked::Variable(solvable), Seen::Variable(place))
-}
+pub(crate) const REQUIRES_SECOND: Command = Command::Requires(0, Requirement::Single(1), None);
 
-/// The version set is loaded, and has this list.
-pub(crate) fn loads<S>(set: u32, list: Row) -> Step<S> {
-    (Asked::Load(single(set)), Seen::Loaded(1, [list, NONE]))
-}
+pub(crate) const REQUIRES_THIRD: Command = Command::Requires(0, Requirement::Single(2), None);
 
-/// Union 0 is loaded, and has these lists.
-pub(crate) fn loads_union<S>(lists: [Row; 2]) -> Step<S> {
-    (Asked::Load(union(0)), Seen::Loaded(2, lists))
-}
-
-/// The load of the requirement is stopped.
-pub(crate) fn stops<S>(requirement: Requirement) -> Step<S> {
-    (
-        Asked::Load(requirement),
-        Seen::Refused(StoreError::Cancelled),
-    )
-}
-
-/// The requirement isn't loaded: no clause of it is taken.
-pub(crate) fn is_not_loaded<S>(requirement: Requirement) -> Step<S> {
-    (
-        Asked::Requires(requirement),
-        Seen::Refused(StoreError::NotLoaded),
-    )
-}
-
-/// The requirement is loaded: the clause of it gets this place.
-pub(crate) fn is_loaded<S>(requirement: Requirement, clause: usize) -> Step<S> {
-    (Asked::Requires(requirement), Seen::Clause(clause))
-}
+pub(crate) const REQUIRES_UNION: Command = Command::Requires(0, Requirement::Union(0), None);

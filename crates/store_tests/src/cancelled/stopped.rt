@@ -1,92 +1,157 @@
 //! Loads that the provider stops, and those that it isn't asked about. The provider is asked whether to stop once for each
 //! package, before it is asked for the candidates.
 use crate::cancelled::examples::{
-    NONE, counts, is_loaded, is_not_loaded, loads, loads_union, one, single, stops, two, union,
-    variable,
+    LOADS_FIRST, LOADS_SECOND, LOADS_THIRD, LOADS_UNION, REQUIRES_FIRST, REQUIRES_SECOND,
+    REQUIRES_THIRD, counts,
 };
-use crate::cancelled::obeys::Seen;
-use crate::cancelled::played::{dense_gives, dense_run_gives};
-use asking_providers::Stops;
+use crate::cancelled::played::{Counted, Play, dense_play};
+use crate::given::commands_of;
+use crate::replies::{lines_of_run, lines_of_steps};
+use asking_providers::{Counts, Stops};
+use plain_store::Command as Plain;
 use resolvo_store::Command;
+use std::alloc::{Allocator, Global};
 use std::test::Fail;
-use typed_ids::{SolvableId, StoreError};
+use test_checks::is_same;
 
-#[test]
-fn a_stopped_load_succeeds_the_next_time(rt: HostRuntime) -> Result<(), Fail> {
-    let steps = [
-        stops(single(0)),
-        is_not_loaded(single(0)),
-        loads(0, two(1, 2)),
-        is_loaded(single(0), 0),
-    ];
-    dense_gives(&rt, Stops::AtFirst, &steps, counts(1, 2))
+/// When the provider stops, commands, the replies that are wanted, and how often the provider is asked for a package's
+/// candidates and whether to stop.
+struct Row {
+    stops: Stops,
+    commands: &'static [Plain],
+    replies: &'static str,
+    asked: (u32, u32),
 }
 
-// Set 1 is of the package of set 0, so that nobody asks whether to stop. Solvable 4 then gets the next variable.
-#[test]
-fn a_package_that_was_asked_for_is_not_stopped(rt: HostRuntime) -> Result<(), Fail> {
-    let steps = [
-        loads(0, two(1, 2)),
-        loads(1, two(3, 1)),
-        stops(single(2)),
-        is_not_loaded(single(2)),
-        stops(single(2)),
-        variable(SolvableId::from_raw(4), 4),
-        loads(0, two(1, 2)),
-        stops(union(0)),
-        is_loaded(single(1), 0),
-    ];
-    dense_gives(&rt, Stops::AfterFirst, &steps, counts(1, 4))
+const ROWS: [Row; 7] = [
+    // A load that was stopped succeeds the next time.
+    Row {
+        stops: Stops::AtFirst,
+        commands: &[LOADS_FIRST, REQUIRES_FIRST, LOADS_FIRST, REQUIRES_FIRST],
+        replies: "refused 12\nrefused 5\nloaded 1,2\nclause 0\n",
+        asked: (1, 2),
+    },
+    // Set 1 is of the package of set 0, so that nobody asks whether to stop. Solvable 4 then gets the next variable.
+    Row {
+        stops: Stops::AfterFirst,
+        commands: &[
+            LOADS_FIRST,
+            LOADS_SECOND,
+            LOADS_THIRD,
+            REQUIRES_THIRD,
+            LOADS_THIRD,
+            Plain::Variable(4),
+            LOADS_FIRST,
+            LOADS_UNION,
+            REQUIRES_SECOND,
+        ],
+        replies: "loaded 1,2\nloaded 3,1\nrefused 12\nrefused 5\nrefused 12\nvariable 4\nloaded 1,2\nrefused 12\nclause 0\n",
+        asked: (1, 4),
+    },
+    // The commands after a refused one are obeyed.
+    Row {
+        stops: Stops::AfterFirst,
+        commands: &[LOADS_FIRST, LOADS_THIRD, LOADS_SECOND, LOADS_UNION],
+        replies: "loaded 1,2\nrefused 12\nloaded 3,1\nrefused 12\n",
+        asked: (1, 3),
+    },
+    // The provider hands over 0 at the first question, and 2 at the third.
+    Row {
+        stops: Stops::EveryOther,
+        commands: &[
+            LOADS_FIRST,
+            LOADS_FIRST,
+            LOADS_UNION,
+            LOADS_SECOND,
+            LOADS_UNION,
+            LOADS_THIRD,
+        ],
+        replies: "refused 12\nloaded 1,2\nrefused 12\nloaded 3,1\nloaded 1,2 4\nloaded 4\n",
+        asked: (2, 4),
+    },
+    // What is loaded is answered by the store, and what is of a package that was asked for by the cache.
+    Row {
+        stops: Stops::Never,
+        commands: &[LOADS_FIRST, LOADS_FIRST, LOADS_SECOND, LOADS_FIRST],
+        replies: "loaded 1,2\nloaded 1,2\nloaded 3,1\nloaded 1,2\n",
+        asked: (1, 1),
+    },
+    Row {
+        stops: Stops::Never,
+        commands: &[
+            LOADS_THIRD,
+            LOADS_UNION,
+            LOADS_UNION,
+            LOADS_SECOND,
+            LOADS_THIRD,
+        ],
+        replies: "loaded 1\nloaded 2,3 1\nloaded 2,3 1\nloaded 4,2\nloaded 1\n",
+        asked: (2, 2),
+    },
+    // A provider that always stops is never asked for a package.
+    Row {
+        stops: Stops::Always,
+        commands: &[LOADS_FIRST, LOADS_UNION, Plain::Decide],
+        replies: "refused 12\nrefused 12\nno decision\n",
+        asked: (0, 2),
+    },
+];
+
+/// Commands in turn and in one run, each in a store of its own.
+#[derive(Clone, Copy)]
+enum Way {
+    Steps,
+    Run,
 }
 
-// The commands after a refused one are obeyed.
-#[test]
-fn a_run_goes_on_after_a_stopped_load(rt: HostRuntime) -> Result<(), Fail> {
-    let commands = [
-        Command::Load(single(0)),
-        Command::Load(single(2)),
-        Command::Load(single(1)),
-        Command::Load(union(0)),
-    ];
-    let wanted = [
-        Seen::Loaded(1, [two(1, 2), NONE]),
-        Seen::Refused(StoreError::Cancelled),
-        Seen::Loaded(1, [two(3, 1), NONE]),
-        Seen::Refused(StoreError::Cancelled),
-    ];
-    dense_run_gives(&rt, Stops::AfterFirst, &commands, &wanted, counts(1, 3))
+/// Commands that are given so, and what is wanted. A failure shows the row's place.
+#[derive(Drop)]
+struct Script<'s, N, S, A: Allocator> {
+    place: usize,
+    way: Way,
+    alloc: A,
+    commands: &'s [Command<N, S, A>],
+    replies: &'static str,
+    asked: Counts,
 }
 
-// The provider hands over 0 at the first question, and 2 at the third.
-#[test]
-fn loads_go_on_between_stops_of_different_values(rt: HostRuntime) -> Result<(), Fail> {
-    let steps = [
-        stops(single(0)),
-        loads(0, two(1, 2)),
-        stops(union(0)),
-        loads(1, two(3, 1)),
-        loads_union([two(1, 2), one(4)]),
-        loads(2, one(4)),
-    ];
-    dense_gives(&rt, Stops::EveryOther, &steps, counts(2, 4))
+impl<N, S, A: Allocator + Copy> Play<N, S, A> for Script<'_, N, S, A> {
+    type Told = Result<(), Fail>;
+
+    fn play<T: Counted<N, S, A>>(&self, store: &mut T) -> Result<(), Fail> {
+        let lines = match self.way {
+            Way::Steps => lines_of_steps(store, self.alloc, self.commands)?,
+            Way::Run => lines_of_run(store, self.alloc, self.commands)?,
+        };
+        let seen = (self.place, lines.as_str(), store.counts());
+        let ended = is_same(seen, (self.place, self.replies, self.asked));
+        drop(lines);
+        ended
+    }
 }
 
-// What is loaded is answered by the store, and what is of a package that was asked for by the cache.
+fn is_answered(alloc: Global, place: usize, row: &Row, way: Way) -> Result<(), Fail> {
+    let commands = commands_of(alloc, row.commands)?;
+    let (candidates, cancels) = row.asked;
+    let script = Script {
+        place,
+        way,
+        alloc,
+        commands: &commands,
+        replies: row.replies,
+        asked: counts(candidates, cancels),
+    };
+    let ended = dense_play(alloc, row.stops, &script);
+    drop(script);
+    drop(commands);
+    ended?
+}
+
 #[test]
-fn a_package_is_asked_for_once(rt: HostRuntime) -> Result<(), Fail> {
-    let of_one = [
-        loads(0, two(1, 2)),
-        loads(0, two(1, 2)),
-        loads(1, two(3, 1)),
-        loads(0, two(1, 2)),
-    ];
-    dense_gives(&rt, Stops::Never, &of_one, counts(1, 1))?;
-    let of_both = [
-        loads(2, one(1)),
-        loads_union([two(2, 3), one(1)]),
-        loads_union([two(2, 3), one(1)]),
-        loads(1, two(4, 2)),
-        loads(2, one(1)),
-    ];
-    dense_gives(&rt, Stops::Never, &of_both, counts(2, 2))
+fn loads_are_stopped_and_asked_for_once(rt: HostRuntime) -> Result<(), Fail> {
+    for (place, row) in ROWS.iter().enumerate() {
+        is_answered(rt.alloc(), place, row, Way::Steps)?;
+        is_answered(rt.alloc(), place, row, Way::Run)?;
+    }
+    Ok(())
 }

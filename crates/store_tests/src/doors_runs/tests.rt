@@ -1,8 +1,7 @@
 //! The library as a program uses it: a run, searches, questions, and what is read of helpers and clauses.
 use crate::doors_runs::uses::{
-    Asked, Given, Read, Searched, Use, Used, shelf_played, shelf_used, single, variable,
+    Asked, Given, Played, Read, Searched, Use, Used, shelf_used, single, variable,
 };
-use crate::doors_runs::wanted::{Chosen, Wanted};
 use doors_tests::{AskFault, SearchEnd};
 use resolvo_ids::{ClauseId, DenseIndex, NameId, StoreError, VariableId};
 use resolvo_store::Command;
@@ -29,39 +28,21 @@ fn commands() -> [Given<Global>; 11] {
     ]
 }
 
-const WANTED: [Wanted; 11] = [
-    Wanted::Loaded(2),
-    Wanted::Loaded(1),
-    Wanted::Clause(0),
-    Wanted::Clause(1),
-    Wanted::NoDecision,
-    Wanted::Assigned,
-    Wanted::Decided(Chosen {
-        candidate: 1,
-        clause: 0,
-        score: 0,
-        count: 2,
-    }),
-    Wanted::Assigned,
-    Wanted::Decided(Chosen {
-        candidate: 3,
-        clause: 1,
-        score: 0,
-        count: 1,
-    }),
-    Wanted::Undone,
-    Wanted::Decided(Chosen {
-        candidate: 1,
-        clause: 0,
-        score: 0,
-        count: 2,
-    }),
-];
+const WANTED: &str =
+    "loaded 1,2\nloaded 3\nclause 0\nclause 1\nno decision\nassigned\ndecided 1 by 0 clause 0 score 0 count 2\nassigned\ndecided 3 by 0 clause 1 score 0 count 1\nundone\ndecided 1 by 0 clause 0 score 0 count 2\n";
 
 #[test]
 fn a_run_is_answered_line_by_line(rt: HostRuntime) -> Result<(), Fail> {
-    let compared = shelf_played(rt.alloc(), &commands(), &WANTED);
-    is_same(compared, Ok((11, None)))
+    let commands = commands();
+    let played = Played {
+        alloc: rt.alloc(),
+        commands: &commands,
+        wanted: WANTED,
+    };
+    let ended = shelf_used(rt.alloc(), &played);
+    drop(played);
+    drop(commands);
+    ended?
 }
 
 /// A search for both packages; one after it where the first candidate requires a package that has no release; and one

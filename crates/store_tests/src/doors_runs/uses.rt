@@ -1,6 +1,6 @@
 //! What is done with new stores over the shelf. One function owns these stores, and one other names their provider: the
 //! proofs of such functions are long.
-use crate::doors_runs::wanted::{Compared, Wanted, compared};
+use crate::replies::lines_of;
 use doors_tests::{
     AskFault, Release, SearchEnd, Shelf, Since, ask, give, require, rule_out, search,
 };
@@ -11,6 +11,8 @@ use resolvo_ids::{
 use resolvo_pool::{DependencyProvider, Requirement};
 use resolvo_store::{ClauseStore, Command, HelperOrigin, Reply};
 use std::alloc::{Allocator, Global};
+use std::test::Fail;
+use test_checks::is_same;
 
 /// A command over the shelf.
 pub(crate) type Given<A> = Command<NameId, SolvableId, A>;
@@ -80,12 +82,12 @@ pub(crate) type Read = (bool, Option<(VariableId, bool)>);
 /// What is asked of a store. What asks is generic in it: a proof over a type parameter is much shorter than one over the
 /// store's own type.
 pub(crate) trait Used<N, S, A: Allocator> {
-    /// What one run answers to the commands, compared with what is wanted.
-    fn run_compared(
+    /// The lines of what one run answers to the commands.
+    fn lines_of_run(
         &mut self,
+        alloc: A,
         commands: &[Command<N, S, A>],
-        wanted: &[Wanted],
-    ) -> Result<Compared, StoreError>;
+    ) -> Result<String<A>, StoreError>;
 
     fn require_set(&mut self, parent: VariableId, set: u32) -> Result<ClauseId, StoreError>;
 
@@ -108,15 +110,13 @@ pub(crate) trait Used<N, S, A: Allocator> {
 }
 
 impl<D: DependencyProvider + Drop> Used<D::NameId, D::SolvableId, D::Alloc> for ClauseStore<D> {
-    fn run_compared(
+    fn lines_of_run(
         &mut self,
+        alloc: D::Alloc,
         commands: &[Command<D::NameId, D::SolvableId, D::Alloc>],
-        wanted: &[Wanted],
-    ) -> Result<Compared, StoreError> {
+    ) -> Result<String<D::Alloc>, StoreError> {
         let replies = self.run(commands)?;
-        let compared = compared(&replies, wanted);
-        drop(replies);
-        Ok(compared)
+        Ok(lines_of(alloc, &replies)?)
     }
 
     fn require_set(&mut self, parent: VariableId, set: u32) -> Result<ClauseId, StoreError> {
@@ -189,29 +189,21 @@ fn stands_for<N: PartialEq + Copy, S: Copy>(origin: Option<VariableOrigin<N, S>>
     }
 }
 
-/// One run, whose replies are compared with what is wanted.
+/// One run, whose lines are compared with what is wanted.
 #[derive(Drop)]
 pub(crate) struct Played<'p, N, S, A: Allocator> {
+    pub(crate) alloc: A,
     pub(crate) commands: &'p [Command<N, S, A>],
-    pub(crate) wanted: &'p [Wanted],
+    pub(crate) wanted: &'p str,
 }
 
-impl<N, S, A: Allocator> Use<N, S, A> for Played<'_, N, S, A> {
-    type Seen = Compared;
+impl<N, S, A: Allocator + Copy> Use<N, S, A> for Played<'_, N, S, A> {
+    type Seen = Result<(), Fail>;
 
-    fn seen<T: Used<N, S, A>>(&self, store: &mut T) -> Result<Compared, StoreError> {
-        store.run_compared(self.commands, self.wanted)
+    fn seen<T: Used<N, S, A>>(&self, store: &mut T) -> Result<Result<(), Fail>, StoreError> {
+        let lines = store.lines_of_run(self.alloc, self.commands)?;
+        let ended = is_same(lines.as_str(), self.wanted);
+        drop(lines);
+        Ok(ended)
     }
-}
-
-/// What one run of a new store over the shelf answers, compared with what is wanted.
-pub(crate) fn shelf_played(
-    alloc: Global,
-    commands: &[Given<Global>],
-    wanted: &[Wanted],
-) -> Result<Compared, StoreError> {
-    let played = Played { commands, wanted };
-    let compared = shelf_used(alloc, &played);
-    drop(played);
-    compared
 }

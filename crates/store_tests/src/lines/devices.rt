@@ -1,5 +1,4 @@
 //! Readers and writers that fail, and what they got.
-use crate::lines::answers::{REFUSALS, REFUSALS_ANSWER};
 use script_text::read_within;
 use scripts::{ScriptFault, script, status};
 use std::alloc::Global;
@@ -7,6 +6,13 @@ use std::io;
 use std::io::{Error, ErrorKind, Read, Write};
 use std::test::Fail;
 use test_checks::is_same;
+
+/// Refusals, a clause that is falsified, and what takes that back.
+const REFUSALS: &str =
+    "package a 1 2\nset a 1 3\nbegin\nrequires 0 s0\nload s0\nload u0\nrequires 0 s0 0\nrequires 0 s0\nassign 0 true 0 0\nassign 0 true 0 1\nassign 1 false 0 1\nassign 2 false 0 1\ndecide\nundo-until 0\ndecide\n";
+
+const REFUSALS_ANSWER: &str =
+    "refused 5\nloaded 1,2\nrefused 3\nrefused 3\nclause 0\nrefused 4\nassigned\nassigned\nassigned\nfalsified 0\nundone\nno decision\n";
 
 /// Gives its text byte by byte, with an interruption before each, and then fails.
 #[derive(Drop)]

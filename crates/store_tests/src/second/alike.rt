@@ -1,10 +1,12 @@
 //! Whether replies of the store are those of the second one.
+use crate::second::stores::Told;
 use decisions::Decision;
-use plain_store::{Assignment, Command, Reply as Plain};
+use plain_store::{Assignment, Drawn, Reply as Plain};
 use resolvo_queue::QueueDecision;
 use resolvo_store::Reply;
 use std::alloc::Allocator;
 use std::test::Fail;
+use test_checks::is_same;
 use typed_ids::{ClauseId, DenseIndex, StoreError, VariableId};
 
 /// Whether a request for memory may have been refused.
@@ -15,21 +17,21 @@ pub(crate) enum Memory {
     Refusing,
 }
 
-/// There are replies to the commands of a list, and they are alike; else the failure shows the list's number, the first
-/// command to which they aren't, and both replies.
+/// There are replies to the commands of the list, and they are alike; else the failure shows the list's number, the first
+/// command to which they aren't, and both replies. And so are the clauses that are then there.
 pub(crate) fn are_alike<A: Allocator>(
-    (list, commands): (u64, &[Command]),
-    replies: Result<Vec<Reply<A>, A>, StoreError>,
-    wanted: &[Plain],
+    list: u64,
+    drawn: &Drawn,
+    told: Result<Told<A>, StoreError>,
 ) -> Result<(), Fail> {
-    let replies = replies?;
-    match first_unlike(Memory::Ample, &replies, wanted) {
-        None => Ok(()),
+    let (replies, unlike_clause) = told?;
+    match first_unlike(Memory::Ample, &replies, &drawn.replies) {
+        None => is_same((list, unlike_clause), (list, None)),
         Some(i) => Err(Fail::new(format_args!(
             "list {list}, command {i}, {:?}: the store replied {:?}, and the second one {:?}",
-            commands.get(i),
+            drawn.commands.get(i),
             replies.get(i),
-            wanted.get(i)
+            drawn.replies.get(i)
         ))),
     }
 }

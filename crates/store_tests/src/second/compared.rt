@@ -1,6 +1,6 @@
 //! Lists of commands that are given to both stores.
 use crate::second::alike::are_alike;
-use crate::second::stores::replies;
+use crate::second::stores::told;
 use crate::visits::{DenseIds, SparseIds};
 use plain_store::{Catalogue, Counts, Drawn, KIND_COUNT, KINDS, count, draw, draw_packages};
 use std::alloc::Global;
@@ -10,23 +10,22 @@ use test_checks::is_same;
 /// How many lists there are.
 const LISTS: u64 = 2000;
 
-/// The store replies to the list as the second one does, by dense ids and by sparse ones.
+/// The store replies to the list as the second one does, and has the same clauses then, by dense ids and by sparse ones.
 fn are_answered_alike(
     alloc: Global,
     list: u64,
     catalogue: &Catalogue,
     drawn: &Drawn,
 ) -> Result<(), Fail> {
-    let commands = drawn.commands.as_slice();
     are_alike(
-        (list, commands),
-        replies::<DenseIds, Global>(alloc, catalogue, commands),
-        &drawn.replies,
+        list,
+        drawn,
+        told::<DenseIds, Global>(alloc, catalogue, drawn),
     )?;
     are_alike(
-        (list, commands),
-        replies::<SparseIds, Global>(alloc, catalogue, commands),
-        &drawn.replies,
+        list,
+        drawn,
+        told::<SparseIds, Global>(alloc, catalogue, drawn),
     )
 }
 
