@@ -22,7 +22,7 @@ pub struct VersionRange {
 }
 
 /// A version set, or a union of such.
-#[derive(Clone, Copy, Debug, PartialEq, Eq)]
+#[derive(Clone, Copy, PartialEq, Eq)]
 pub enum Requirement {
     /// A version set.
     Single(u16),

@@ -3,7 +3,7 @@ use crate::catalogue::Requirement;
 use std::alloc::{AllocError, Global};
 
 /// A variable, or its negation.
-#[derive(Clone, Copy, Debug, PartialEq, Eq)]
+#[derive(Clone, Copy, PartialEq, Eq)]
 pub struct Literal {
     /// The variable.
     pub variable: u16,
@@ -30,7 +30,7 @@ impl Literal {
 }
 
 /// Up to four literals, so that a command owns nothing.
-#[derive(Clone, Copy, Debug, PartialEq, Eq)]
+#[derive(Clone, Copy)]
 pub struct Literals {
     /// The literals, and behind them whatever stands there.
     pub list: [Literal; 4],
@@ -53,7 +53,7 @@ impl Literals {
 }
 
 /// What a helper variable stands for.
-#[derive(Clone, Copy, Debug, PartialEq, Eq)]
+#[derive(Clone, Copy)]
 pub enum Helper {
     /// Some solvable of the package.
     AtLeastOne(u16),
@@ -64,7 +64,7 @@ pub enum Helper {
 }
 
 /// A command. The names are the product's.
-#[derive(Clone, Copy, Debug)]
+#[derive(Clone, Copy)]
 pub enum Command {
     /// A solvable.
     Variable(u16),
@@ -114,4 +114,36 @@ pub enum Command {
     Watchers(Literal),
     /// What to decide next.
     Decide,
+}
+
+impl Command {
+    /// Its name in a script.
+    pub fn name(self) -> &'static str {
+        match self {
+            Command::Variable(_) => "variable",
+            Command::Helper(_) => "helper",
+            Command::Load(_) => "load",
+            Command::Disjunction(..) => "disjunction",
+            Command::Requires(..) => "requires",
+            Command::Root => "root",
+            Command::Constrains(..) => "constrains",
+            Command::ConstrainsExcluded(..) => "constrains-excluded",
+            Command::ConstrainsParent(..) => "constrains-parent",
+            Command::Lock(..) => "lock",
+            Command::Exclude(..) => "exclude",
+            Command::AnyOf(..) => "any-of",
+            Command::Learnt(_) => "learnt",
+            Command::AtMostOnce(..) => "at-most-once",
+            Command::Assign(..) => "assign",
+            Command::UndoLast => "undo-last",
+            Command::UndoUntil(_) => "undo-until",
+            Command::Unpropagated => "unpropagated",
+            Command::Bump(..) => "bump",
+            Command::Decay(..) => "decay",
+            Command::Standard(_) => "standard",
+            Command::Rewatch(..) => "rewatch",
+            Command::Watchers(_) => "watchers",
+            Command::Decide => "decide",
+        }
+    }
 }

@@ -109,35 +109,6 @@ const REFUSED: [&str; 10] = [
     "decide",
 ];
 
-fn name_of(command: Plain) -> &'static str {
-    match command {
-        Plain::Variable(_) => "variable",
-        Plain::Helper(_) => "helper",
-        Plain::Load(_) => "load",
-        Plain::Disjunction(..) => "disjunction",
-        Plain::Requires(..) => "requires",
-        Plain::Root => "root",
-        Plain::Constrains(..) => "constrains",
-        Plain::ConstrainsExcluded(..) => "constrains-excluded",
-        Plain::ConstrainsParent(..) => "constrains-parent",
-        Plain::Lock(..) => "lock",
-        Plain::Exclude(..) => "exclude",
-        Plain::AnyOf(..) => "any-of",
-        Plain::Learnt(_) => "learnt",
-        Plain::AtMostOnce(..) => "at-most-once",
-        Plain::Assign(..) => "assign",
-        Plain::UndoLast => "undo-last",
-        Plain::UndoUntil(_) => "undo-until",
-        Plain::Unpropagated => "unpropagated",
-        Plain::Bump(..) => "bump",
-        Plain::Decay(..) => "decay",
-        Plain::Standard(_) => "standard",
-        Plain::Rewatch(..) => "rewatch",
-        Plain::Watchers(_) => "watchers",
-        Plain::Decide => "decide",
-    }
-}
-
 /// Whether the store answers the command so.
 fn answers<N, S, A: Allocator, T: Obeys<N, S, A>>(
     store: &mut T,
@@ -391,7 +362,7 @@ struct Counts {
 }
 
 fn count(names: &[&'static str], counts: &mut [u32], command: Plain) {
-    let wanted = name_of(command);
+    let wanted = command.name();
     for (name, count) in names.iter().zip(counts) {
         if *name == wanted {
             *count = count.saturating_add(1);

@@ -17,8 +17,8 @@ pub(crate) enum Memory {
     Refusing,
 }
 
-/// There are replies to the commands of the list, and they are alike; else the failure shows the list's number, the first
-/// command to which they aren't, and both replies. And so are the clauses that are then there.
+/// There are replies to the commands of the list, and they are alike; else the failure shows the list's number, the place
+/// and the name of the first command to which they aren't, and both replies. And so are the clauses that are then there.
 pub(crate) fn are_alike<A: Allocator>(
     list: u64,
     drawn: &Drawn,
@@ -29,7 +29,7 @@ pub(crate) fn are_alike<A: Allocator>(
         None => is_same((list, unlike_clause), (list, None)),
         Some(i) => Err(Fail::new(format_args!(
             "list {list}, command {i}, {:?}: the store replied {:?}, and the second one {:?}",
-            drawn.commands.get(i),
+            drawn.commands.get(i).map(|command| command.name()),
             replies.get(i),
             drawn.replies.get(i)
         ))),
