@@ -1,5 +1,5 @@
 -- What a provider of plain lists answers. A package's number is its place in the list.
-use Rattle.std.specs.Prelude.{◌≡◌, ℕ, ◌<◌, ◌≤◌, ◌+◌, Bool, true, false, ◌&&◌, ◌==◌, if◌then◌else◌, nat_le, nat_lt, List, [], ◌∷◌, codes, length, slice_index_or, All}
+use Rattle.std.specs.Prelude.{◌≡◌, ℕ, ◌<◌, ◌≤◌, ◌+◌, Bool, true, false, ◌&&◌, ◌==◌, if◌then◌else◌, nat_le, nat_lt, List, [], ◌∷◌, codes, length, reverse, slice_index_or, All, Option}
 use Rattle.std.specs.List.{AllByRecursion, list_all}
 use Rattle.std.proofs.lemmas.List.Elements.{All-from_recursion}
 use Rattle.std.proofs.Common.{arith, rules, cond, refl}
@@ -7,6 +7,9 @@ use Rattle.typed_ids.specs.declared.version_set_id.VersionSetId.{VersionSetId}
 use Rattle.typed_ids.specs.declared.version_set_union_id.VersionSetUnionId.{VersionSetUnionId}
 use Rattle.providers.specs.declared.condition.Condition.{Condition}
 use Rattle.providers.specs.declared.condition.Condition.TheVariants.{Requirement}
+use Rattle.providers.specs.Dependencies.{Known}
+use Rattle.providers.specs.Provider.{Universe, Answers}
+use Rattle.providers.specs.Texts.{Texts}
 use Rattle.plain_providers.specs.declared.lists.Package.{Package}
 use Rattle.plain_providers.specs.declared.lists.VersionRange.{VersionRange}
 
@@ -41,6 +44,39 @@ set_condition n = Requirement (record { 0 = n })
 
 abbrev pub is_within : VersionRange → ℕ → Bool
 is_within r version = nat_le r.low version && nat_lt version r.high
+
+-- which ids the lists know, dense or sparse, and how they belong together
+abbrev pub universe_of : List Package → List VersionRange → List (List VersionSetId) → Universe ℕ ℕ
+universe_of packages ranges unions = record {
+  knows_string = λ s. s.0 == 0;
+  knows_name = λ n. true;
+  knows_solvable = λ s. nat_lt s (length packages);
+  knows_set = λ v. nat_lt v.0 (length ranges);
+  knows_union = λ u. nat_lt u.0 (length unions) && are_known (length ranges) (union_at unions u);
+  knows_condition = λ c. nat_lt c (length ranges);
+  solvable_name = λ s. (package_at packages s).name;
+  set_name = λ v. (range_at ranges v).name;
+  union_sets = λ u. union_at unions u;
+  condition = λ c. set_condition c;
+}
+
+abbrev pub listed_texts : Texts ℕ ℕ
+listed_texts = record {
+  solvable = λ s. every_name;
+  name = λ n. every_name;
+  version_set = λ v. [];
+  string = λ s. [];
+}
+
+-- what the lists answer
+abbrev pub answers_of : List Package → List VersionRange → Option ℕ → Answers ℕ ℕ
+answers_of packages ranges favored = record {
+  candidates = λ n. places_of n 0 packages;
+  matches = λ v s. is_within (range_at ranges v) (package_at packages s).version;
+  favored = λ n. favored;
+  order = λ list. reverse list;
+  needs = λ s. Known [] [];
+}
 
 -- nothing is known where nothing is
 pub none_known : {P : Type 0} → false ≡ true → P

@@ -1,9 +1,9 @@
 //! A provider of plain lists.
-ghost use Rattle.std.specs.Prelude.{◌≡◌, ◌<◌, ◌≤◌, ◌^◌, ◌==◌, ◌&&◌, [], Some, true, All, map, length, reverse, refl, IfOk, OnOk, OnErr, IfErr, nat_lt};
+ghost use Rattle.std.specs.Prelude.{◌≡◌, ◌<◌, ◌≤◌, ◌^◌, Some, All, map, length, refl, IfOk, OnOk, OnErr, IfErr};
 ghost use Rattle.typed_ids.specs.declared.error.StoreError.TheVariants.{OutOfMemory};
 ghost use Rattle.providers.specs.Provider.{filtered};
 ghost use Rattle.providers.specs.Texts.{IsAppended, IsSameText};
-ghost use Rattle.plain_providers.specs.Listed.{places_of, package_at, range_at, union_at, are_known, is_within, every_name, set_condition};
+ghost use Rattle.plain_providers.specs.Listed.{places_of, package_at, union_at, are_known, is_within, every_name};
 
 use providers::{
     Candidates, Condition, Dependencies, DependencyProvider, Interner, KnownDependencies,
@@ -15,7 +15,7 @@ use typed_ids::{
 };
 
 /// A solvable: a version of a package. Its id is its place in the list.
-#[derive(Clone, Copy, Debug, PartialEq, Eq)]
+#[derive(Clone, Copy)]
 pub struct Package {
     /// The package.
     pub name: NameId,
@@ -24,7 +24,7 @@ pub struct Package {
 }
 
 /// The versions of a package from `low` to below `high`. A version set's id is its place in the list.
-#[derive(Clone, Copy, Debug, PartialEq, Eq)]
+#[derive(Clone, Copy)]
 pub struct VersionRange {
     /// The package.
     pub name: NameId,
@@ -56,27 +56,11 @@ impl<A: Allocator + Copy> Interner for Lists<A> {
 
     type SolvableId = SolvableId;
 
-    ghost use Rattle.plain_providers.specs.Listed.{unions_known};
+    ghost use Rattle.plain_providers.specs.Listed.{universe_of, listed_texts, unions_known};
 
-    ghost universe = { λ p. record {
-      knows_string = λ s. s.0 == 0;
-      knows_name = λ n. true;
-      knows_solvable = λ s. nat_lt s (length p.packages.items);
-      knows_set = λ v. nat_lt v.0 (length p.ranges.items);
-      knows_union = λ u. nat_lt u.0 (length p.unions.items) && are_known (length p.ranges.items) (union_at (map (λ l. l.items) p.unions.items) u);
-      knows_condition = λ c. nat_lt c (length p.ranges.items);
-      solvable_name = λ s. (package_at p.packages.items s).name;
-      set_name = λ v. (range_at p.ranges.items v).name;
-      union_sets = λ u. union_at (map (λ l. l.items) p.unions.items) u;
-      condition = λ c. set_condition c;
-    } };
+    ghost universe = { λ p. universe_of p.packages.items p.ranges.items (map (λ l. l.items) p.unions.items) };
 
-    ghost texts = { λ p. record {
-      solvable = λ s. every_name;
-      name = λ n. every_name;
-      version_set = λ v. [];
-      string = λ s. [];
-    } };
+    ghost texts = { λ p. listed_texts };
 
     ghost own_merged = { λ p list. Some every_name };
 
@@ -172,18 +156,11 @@ impl<A: Allocator + Copy> Interner for Lists<A> {
 
 impl<A: Allocator + Copy> DependencyProvider for Lists<A> {
     ghost use Rattle.std.proofs.lemmas.List.Sorted.{IsPermutation-reverse};
-    ghost use Rattle.plain_providers.specs.Listed.{places_known};
-    ghost use Rattle.providers.specs.Dependencies.{Known};
+    ghost use Rattle.plain_providers.specs.Listed.{answers_of, places_known};
 
     type Cancel = ();
 
-    ghost answers = { λ p. record {
-      candidates = λ n. places_of n 0 p.packages.items;
-      matches = λ v s. is_within (range_at p.ranges.items v) (package_at p.packages.items s).version;
-      favored = λ n. p.favored;
-      order = λ list. reverse list;
-      needs = λ s. Known [] [];
-    } };
+    ghost answers = { λ p. answers_of p.packages.items p.ranges.items p.favored };
 
     ghost candidates_known = { λ p n. places_known n p.packages.items };
 
@@ -222,6 +199,10 @@ impl<A: Allocator + Copy> DependencyProvider for Lists<A> {
     fn sort_candidates(&self, _alloc: A, solvables: &mut [SolvableId]) -> Result<(), StoreError> {
         solvables.reverse();
         Ok(())
+    }
+
+    fn should_cancel_with_value(&self) -> Option<()> {
+        None
     }
 }
 

@@ -1,5 +1,5 @@
 //! A provider of plain lists whose ids are sparse.
-ghost use Rattle.std.specs.Prelude.{◌≡◌, map, length, refl, IfOk, IfErr};
+ghost use Rattle.std.specs.Prelude.{◌≡◌, map, length, refl, Some, IfOk, IfErr};
 ghost use Rattle.typed_ids.specs.declared.error.StoreError.TheVariants.{OutOfMemory};
 
 use crate::lists::{Lists, append_name};
@@ -28,13 +28,13 @@ impl<A: Allocator + Copy> Interner for SparseLists<A> {
 
     type SolvableId = SparseSolvable;
 
-    ghost use Rattle.plain_providers.specs.Listed.{union_at, unions_known};
+    ghost use Rattle.plain_providers.specs.Listed.{universe_of, union_at, listed_texts, every_name, unions_known};
 
-    ghost universe = { λ p. ⟦<Lists<A> as Interner>⟧.universe p.0 };
+    ghost universe = { λ p. universe_of p.0.packages.items p.0.ranges.items (map (λ l. l.items) p.0.unions.items) };
 
-    ghost texts = { λ p. ⟦<Lists<A> as Interner>⟧.texts p.0 };
+    ghost texts = { λ p. listed_texts };
 
-    ghost own_merged = { λ p list. ⟦<Lists<A> as Interner>⟧.own_merged p.0 list };
+    ghost own_merged = { λ p list. Some every_name };
 
     ghost solvable_names_known = { λ p s h. refl };
 
@@ -86,26 +86,26 @@ impl<A: Allocator + Copy> Interner for SparseLists<A> {
 
     fn display_solvable(
         &self,
-        solvable: SparseSolvable,
+        _solvable: SparseSolvable,
         out: &mut String<A>,
     ) -> Result<(), StoreError> {
-        self.0.display_solvable(dense_solvable(solvable), out)
+        append_name(out)
     }
 
-    fn display_name(&self, name: SparseName, out: &mut String<A>) -> Result<(), StoreError> {
-        self.0.display_name(dense_name(name), out)
+    fn display_name(&self, _name: SparseName, out: &mut String<A>) -> Result<(), StoreError> {
+        append_name(out)
     }
 
     fn display_version_set(
         &self,
-        set: VersionSetId,
-        out: &mut String<A>,
+        _set: VersionSetId,
+        _out: &mut String<A>,
     ) -> Result<(), StoreError> {
-        self.0.display_version_set(set, out)
+        Ok(())
     }
 
-    fn display_string(&self, string: StringId, out: &mut String<A>) -> Result<(), StoreError> {
-        self.0.display_string(string, out)
+    fn display_string(&self, _string: StringId, _out: &mut String<A>) -> Result<(), StoreError> {
+        Ok(())
     }
 
     fn display_solvable_name(
@@ -127,11 +127,11 @@ impl<A: Allocator + Copy> Interner for SparseLists<A> {
 
 impl<A: Allocator + Copy> DependencyProvider for SparseLists<A> {
     ghost use Rattle.std.proofs.lemmas.List.Sorted.{IsPermutation-reverse};
-    ghost use Rattle.plain_providers.specs.Listed.{places_known};
+    ghost use Rattle.plain_providers.specs.Listed.{answers_of, places_known};
 
     type Cancel = ();
 
-    ghost answers = { λ p. ⟦<Lists<A> as DependencyProvider>⟧.answers p.0 };
+    ghost answers = { λ p. answers_of p.0.packages.items p.0.ranges.items p.0.favored };
 
     ghost candidates_known = { λ p n. places_known n p.0.packages.items };
 
@@ -181,6 +181,10 @@ impl<A: Allocator + Copy> DependencyProvider for SparseLists<A> {
     ) -> Result<(), StoreError> {
         solvables.reverse();
         Ok(())
+    }
+
+    fn should_cancel_with_value(&self) -> Option<()> {
+        None
     }
 }
 
