@@ -1,6 +1,8 @@
 //! A provider that counts what it is asked.
-ghost use Rattle.std.specs.Prelude.{◌≡◌, true, All, IfOk, IfErr, OnOk, OnErr};
+ghost use Rattle.std.specs.Prelude.{◌≡◌, [], Some, true, IfOk, IfErr};
 ghost use Rattle.typed_ids.specs.declared.error.StoreError.TheVariants.{OutOfMemory};
+ghost use Rattle.providers.specs.Provider.{candidates_of, favored_of};
+ghost use Rattle.asking_providers.specs.Listing.{listed, all_listed};
 
 use crate::listing::Listing;
 use crate::stops::{Stops, counted};
@@ -12,9 +14,9 @@ use std::alloc::Allocator;
 use std::cell::Cell;
 use typed_ids::{ConditionId, StoreError, StringId, VersionSetId, VersionSetUnionId};
 
-/// Another provider, whose answers it gives. It counts the questions, hints what it is told to, locks and excludes the
-/// one that it is told to, and stops when it is told to. For a package without candidates and without a favored one it
-/// answers that there isn't such a package.
+/// Another provider, whose answers it gives; but each of its texts is empty. It counts the questions, hints what it is told
+/// to, locks and excludes the one that it is told to, and stops when it is told to. For a package without candidates and
+/// without a favored one it answers that there isn't such a package.
 #[derive(Drop)]
 pub struct Asking<D: DependencyProvider> {
     inner: D,
@@ -85,11 +87,9 @@ impl<D: DependencyProvider> Interner for Asking<D> {
 
     ghost universe = { λ p. D.universe p.inner };
 
-    ghost texts = { λ p. D.texts p.inner };
+    ghost texts = { λ p. record { solvable = λ s. []; name = λ n. []; version_set = λ v. []; string = λ s. [] } };
 
-    ghost own_solvable_name = { λ p s. D.own_solvable_name p.inner s };
-
-    ghost own_merged = { λ p list. D.own_merged p.inner list };
+    ghost own_merged = { λ p list. Some [] };
 
     ghost solvable_names_known = { λ p. D.solvable_names_known p.inner };
 
@@ -141,52 +141,54 @@ impl<D: DependencyProvider> Interner for Asking<D> {
 
     fn display_solvable(
         &self,
-        solvable: D::SolvableId,
-        out: &mut String<D::Alloc>,
+        _solvable: D::SolvableId,
+        _out: &mut String<D::Alloc>,
     ) -> Result<(), StoreError> {
-        self.inner.display_solvable(solvable, out)
+        Ok(())
     }
 
-    fn display_name(&self, name: D::NameId, out: &mut String<D::Alloc>) -> Result<(), StoreError> {
-        self.inner.display_name(name, out)
+    fn display_name(
+        &self,
+        _name: D::NameId,
+        _out: &mut String<D::Alloc>,
+    ) -> Result<(), StoreError> {
+        Ok(())
     }
 
     fn display_version_set(
         &self,
-        set: VersionSetId,
-        out: &mut String<D::Alloc>,
+        _set: VersionSetId,
+        _out: &mut String<D::Alloc>,
     ) -> Result<(), StoreError> {
-        self.inner.display_version_set(set, out)
+        Ok(())
     }
 
     fn display_string(
         &self,
-        string: StringId,
-        out: &mut String<D::Alloc>,
+        _string: StringId,
+        _out: &mut String<D::Alloc>,
     ) -> Result<(), StoreError> {
-        self.inner.display_string(string, out)
+        Ok(())
     }
 
     fn display_solvable_name(
         &self,
-        solvable: D::SolvableId,
-        out: &mut String<D::Alloc>,
+        _solvable: D::SolvableId,
+        _out: &mut String<D::Alloc>,
     ) -> Result<(), StoreError> {
-        self.inner.display_solvable_name(solvable, out)
+        Ok(())
     }
 
     fn display_merged_solvables(
         &self,
-        solvables: &[D::SolvableId],
-        out: &mut String<D::Alloc>,
+        _solvables: &[D::SolvableId],
+        _out: &mut String<D::Alloc>,
     ) -> Result<(), StoreError> {
-        self.inner.display_merged_solvables(solvables, out)
+        Ok(())
     }
 }
 
 impl<D: DependencyProvider> DependencyProvider for Asking<D> {
-    ghost use Rattle.asking_providers.specs.Listing.{listed, all_listed};
-
     type Cancel = u32;
 
     ghost answers = { λ p. record (D.answers p.inner) {
@@ -214,21 +216,8 @@ impl<D: DependencyProvider> DependencyProvider for Asking<D> {
         name: D::NameId,
     ) -> Result<Option<Candidates<D::SolvableId, D::Alloc>>, StoreError> {
         let _number = counted(&self.candidates);
-        let Some(inner) = self.inner.get_candidates(alloc, name)? else {
-            return Ok(None);
-        };
-        if inner.candidates.is_empty() && inner.favored.is_none() {
-            return Ok(None);
-        }
-        let mut found = Candidates::new(alloc);
-        found.candidates = self.listing.of(alloc, &inner.candidates)?;
-        found.favored = inner.favored;
-        found.locked = self.locked;
-        if let Some(locked) = self.locked {
-            found.excluded.push((locked, StringId(0)))?;
-        }
-        found.hint_dependencies_available = copied(alloc, &self.hint)?;
-        Ok(Some(found))
+        let inner = self.inner.get_candidates(alloc, name)?;
+        found_so(alloc, inner, self.listing, self.locked, &self.hint)
     }
 
     fn sort_candidates(
@@ -251,6 +240,35 @@ impl<D: DependencyProvider> DependencyProvider for Asking<D> {
     fn should_cancel_with_value(&self) -> Option<u32> {
         self.stops.at(counted(&self.cancels))
     }
+}
+
+/// What another provider found of a package, listed so often, with this one locked and excluded, and with this hint. It has
+/// a function of its own, since a proof over a provider spells out the provider at each call.
+fn found_so<S: Copy, A: Allocator + Copy>(
+    alloc: A,
+    inner: Option<Candidates<S, A>>,
+    listing: Listing,
+    locked: Option<S>,
+    hint: &HintDependenciesAvailable<S, A>,
+) -> Result<Option<Candidates<S, A>>, StoreError>
+    ensures candidates { IfOk result (λ found. candidates_of found ≡ listed listing (candidates_of inner)) }
+    ensures favored { IfOk result (λ found. favored_of found ≡ favored_of inner) }
+    ensures err { IfErr result (λ e. e ≡ OutOfMemory) }
+{
+    let Some(mut found) = inner else {
+        return Ok(None);
+    };
+    if found.candidates.is_empty() && found.favored.is_none() {
+        return Ok(None);
+    }
+    let candidates = listing.of(alloc, &found.candidates)?;
+    found.candidates = candidates;
+    found.locked = locked;
+    if let Some(locked) = locked {
+        found.excluded.push((locked, StringId(0)))?;
+    }
+    found.hint_dependencies_available = copied(alloc, hint)?;
+    Ok(Some(found))
 }
 
 /// A hint again.

@@ -7,7 +7,7 @@ use std::alloc::Allocator;
 use typed_ids::StoreError;
 
 /// How often a provider lists the candidates of a package.
-#[derive(Clone, Copy, Debug, PartialEq, Eq)]
+#[derive(Clone, Copy)]
 pub enum Listing {
     /// Once.
     Once,

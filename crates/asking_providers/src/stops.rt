@@ -2,7 +2,7 @@
 use std::cell::Cell;
 
 /// When a provider stops whoever asks, and with which value. Its questions whether to stop are counted from 0.
-#[derive(Clone, Copy, Debug, PartialEq, Eq)]
+#[derive(Clone, Copy)]
 pub enum Stops {
     /// At no question.
     Never,
