@@ -1,12 +1,14 @@
-//! The maps and the sets that ids choose for themselves: the same calls for each kind of ids, in ample memory.
+//! The maps and the sets that ids choose for themselves, and the answers that are kept by them: the same calls for each kind
+//! of ids, in ample memory.
 ghost use Rattle.std.specs.Prelude.{◌≡◌, ◌≢◌, ◌/◌};
 
 use id_maps::{IdMap, IdSet, Slot, SolverId};
 use ids_callers::{SetAnswers, set_answers};
+use kept_answers::KeptAnswers;
 use std::alloc::{Allocator, Global};
 use std::test::Fail;
-use test_checks::{is_same, sees};
-use typed_ids::{NameId, NameTag, SparseId, StoreError};
+use test_checks::sees;
+use typed_ids::{CandidatesId, NameId, NameTag, SparseId, StoreError};
 
 /// What a map to scores reads at three keys, and as the largest value: as it is made, once it is written at the first and
 /// the last of them, and once its values are halved.
@@ -28,23 +30,27 @@ pub(crate) const SET: SetAnswers = SetAnswers {
     has_other: false,
 };
 
-/// What the ids' map to scores answers at three of them, their map to slots at two, and their set of a key and another one.
+/// What is kept about two questions before, between and after their answers come.
+type Kept = [[Option<u16>; 2]; 3];
+
+const KEPT: Kept = [[None, None], [Some(30), None], [Some(30), Some(40)]];
+
+/// What the ids' map to scores answers at three of them, their map to slots at two, and their set of a key and another one;
+/// and the answers that are kept by these two.
+type Chosen = (Scores, Slots, SetAnswers, Kept);
+
 fn chosen<K: SolverId<A>, A: Allocator + Copy>(
     alloc: A,
     scored: [K; 3],
-    slotted: [K; 2],
     key: K,
     other: K,
-) -> Result<(Scores, Slots, SetAnswers), StoreError>
+) -> Result<Chosen, StoreError>
     requires { other ≢ key }
 {
     let scores = scores::<K, A>(alloc, scored)?;
-    let slots = slots::<K, A>(alloc, slotted)?;
-    Ok((
-        scores,
-        slots,
-        set_answers::<K, A, K::Set>(alloc, key, other)?,
-    ))
+    let slots = slots::<K, A>(alloc, [key, other])?;
+    let set = set_answers::<K, A, K::Set>(alloc, key, other)?;
+    Ok((scores, slots, set, kept(alloc, [key, other])?))
 }
 
 fn scores<K: SolverId<A>, A: Allocator + Copy>(
@@ -100,57 +106,69 @@ fn slots_in<K: Copy, A: Allocator + Copy, M: IdMap<K, Slot, A>>(
     Ok([made, written, emptied])
 }
 
+fn kept<K: SolverId<A>, A: Allocator + Copy>(alloc: A, keys: [K; 2]) -> Result<Kept, StoreError> {
+    let mut kept = KeptAnswers::new(alloc);
+    let seen = keep_both(&mut kept, keys);
+    drop(kept);
+    seen
+}
+
+/// Keeps 30 for the first key and 40 for the second.
+fn keep_both<K: SolverId<A>, A: Allocator + Copy>(
+    kept: &mut KeptAnswers<CandidatesId, K, u16, A>,
+    [first, second]: [K; 2],
+) -> Result<Kept, StoreError> {
+    let before = [answer(kept, first), answer(kept, second)];
+    keep(kept, first, 30)?;
+    let between = [answer(kept, first), answer(kept, second)];
+    keep(kept, second, 40)?;
+    Ok([before, between, [answer(kept, first), answer(kept, second)]])
+}
+
+/// Keeps an answer, unless one is kept.
+fn keep<K: SolverId<A>, A: Allocator + Copy>(
+    kept: &mut KeptAnswers<CandidatesId, K, u16, A>,
+    key: K,
+    answer: u16,
+) -> Result<(), StoreError> {
+    if kept.find(key).is_none() {
+        kept.insert(key, answer)?;
+    }
+    Ok(())
+}
+
+fn answer<K: SolverId<A>, A: Allocator + Copy>(
+    kept: &KeptAnswers<CandidatesId, K, u16, A>,
+    key: K,
+) -> Option<u16> {
+    match kept.find(key) {
+        Some(id) => Some(kept[id]),
+        None => None,
+    }
+}
+
 /// A name whose number may be any.
 type Name = SparseId<NameTag>;
 
+const CHOSEN: Chosen = (SCORES, SLOTS, SET, KEPT);
+
+/// Dense ids choose vectors, and sparse ones tables.
 #[test]
 fn ids_choose_their_maps_and_sets(rt: HostRuntime) -> Result<(), Fail> {
-    let alloc = rt.alloc();
-    // Dense ids choose vectors.
     let scored = [
         NameId::from_raw(3),
         NameId::from_raw(4),
         NameId::from_raw(5),
     ];
-    let slotted = [NameId::from_raw(5), NameId::from_raw(2)];
     let (key, other) = (NameId::from_raw(64), NameId::from_raw(127));
-    let dense = chosen::<NameId, Global>(alloc, scored, slotted, key, other);
-    sees(dense, (SCORES, SLOTS, SET))?;
-    // Sparse ids choose tables.
+    sees(
+        chosen::<NameId, Global>(rt.alloc(), scored, key, other),
+        CHOSEN,
+    )?;
     let scored = [Name::from_raw(3), Name::from_raw(4), Name::from_raw(5)];
-    let slotted = [Name::from_raw(5), Name::from_raw(1 << 31)];
-    let (key, other) = (Name::from_raw(64), Name::from_raw(127));
-    let sparse = chosen::<Name, Global>(alloc, scored, slotted, key, other);
-    sees(sparse, (SCORES, SLOTS, SET))?;
-    // Tables are kept by numbers of 16 bits, and of 64.
-    let keys: [SparseId<NameTag, u16>; 3] = [
-        SparseId::from_raw(65535),
-        SparseId::from_raw(0),
-        SparseId::from_raw(256),
-    ];
+    let (key, other) = (Name::from_raw(64), Name::from_raw(1 << 31));
     sees(
-        scores::<SparseId<NameTag, u16>, Global>(alloc, keys),
-        SCORES,
-    )?;
-    let keys: [SparseId<NameTag, u64>; 3] = [
-        SparseId::from_raw(u64::MAX),
-        SparseId::from_raw(1 << 40),
-        SparseId::from_raw(1 << 32),
-    ];
-    sees(
-        scores::<SparseId<NameTag, u64>, Global>(alloc, keys),
-        SCORES,
-    )?;
-    // A slot keeps its number.
-    let numbers = [
-        Slot::default().number(),
-        Slot::new(Some(3)).number(),
-        Slot::new(Some(0)).number(),
-    ];
-    is_same(numbers, [None, Some(3), Some(0)])?;
-    let are_same = [
-        Slot::new(None) == Slot::default(),
-        Slot::new(Some(0)) == Slot::default(),
-    ];
-    is_same(are_same, [true, false])
+        chosen::<Name, Global>(rt.alloc(), scored, key, other),
+        CHOSEN,
+    )
 }

@@ -6,15 +6,9 @@ mod arena;
 #[cfg(test)]
 mod chosen;
 #[cfg(test)]
-mod far;
-#[cfg(test)]
 mod ids;
 #[cfg(test)]
-mod kept;
-#[cfg(test)]
 mod mapping;
-#[cfg(test)]
-mod maps;
 #[cfg(test)]
 mod one_refusal;
 #[cfg(test)]

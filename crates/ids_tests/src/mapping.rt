@@ -1,116 +1,96 @@
 //! Maps of ids, by the calls: what they answer in ample memory.
-ghost use Rattle.std.specs.Prelude.{◌<◌};
-
 use id_storage::{Mapping, MappingIter};
 use ids_callers::{clear, count_up, exchange, find_at_least};
 use std::alloc::{Allocator, Global};
 use std::test::Fail;
-use test_checks::{is_same, sees};
+use test_checks::sees;
 use typed_ids::{DenseIndex, SolvableId, StoreError};
 
+/// Chunks have 128 slots, and a map starts with one, or with as many as it is to have room for. It grows chunk by chunk.
 #[test]
 fn maps_have_chunks_that_are_filled_walked_and_changed(rt: HostRuntime) -> Result<(), Fail> {
-    let alloc = rt.alloc();
-    // Chunks have 128 slots, and a map starts with whole ones.
-    is_same(Mapping::<SolvableId, u32>::chunk_and_offset(300), (2, 44))?;
-    let slots = [
-        slots_of(alloc, 0),
-        slots_of(alloc, 128),
-        slots_of(alloc, 129),
-        slots_of(alloc, (1 << 40) + 1),
+    let ids = [
+        SolvableId::from_raw(0),
+        SolvableId::from_raw(128),
+        SolvableId::from_raw(300),
+        SolvableId::from_raw(500),
     ];
-    is_same(slots, [Ok(128), Ok(128), Ok(256), Err(StoreError::IdSpace)])?;
-    // A map grows chunk by chunk as it gets two values, is walked, changed, and walked past an empty slot.
-    let (first, second) = (SolvableId::from_raw(0), SolvableId::from_raw(128));
-    let seen = two_chunks(alloc, first, second, SolvableId::from_raw(127));
-    sees(seen, TWO_CHUNKS)?;
-    // A value is exchanged in its slot, room for another one lasts, and a default is asked for once.
-    let (near, far) = (SolvableId::from_raw(7), SolvableId::from_raw(300));
-    let seen = three_slots(alloc, near, far, SolvableId::from_raw(500));
-    sees(seen, THREE_SLOTS)
+    sees(seen(rt.alloc(), ids), (256, TWO_CHUNKS, ROOM, LENT))
+}
+
+/// How many slots a map for 129 values has; what is seen of a map of two of the ids, and then of room for the third and a
+/// default at the fourth.
+fn seen<TId: DenseIndex>(
+    alloc: Global,
+    [first, second, third, fourth]: [TId; 4],
+) -> Result<(usize, TwoChunks, Room, Lent), StoreError> {
+    let slots = slots_for::<TId>(alloc, 129)?;
+    let mut mapping: Mapping<TId, u32> = Mapping::new(alloc)?;
+    let two = of_two_chunks(&mut mapping, first, second);
+    let room = room(&mut mapping, third);
+    let lent = default_lent(&mut mapping, fourth);
+    drop(mapping);
+    Ok((slots, two?, room?, lent?))
 }
 
 /// How many slots a map with this capacity has.
-fn slots_of<A: Allocator>(alloc: A, n: usize) -> Result<usize, StoreError> {
-    let mapping: Mapping<SolvableId, u32, A> = Mapping::with_capacity(alloc, n)?;
+fn slots_for<TId: DenseIndex>(alloc: Global, capacity: usize) -> Result<usize, StoreError> {
+    let mapping: Mapping<TId, u32> = Mapping::with_capacity(alloc, capacity)?;
     Ok(mapping.slots())
 }
 
 /// What is seen of a map, where each part is seen of what the one before it left.
-type TwoChunks = (Growth, Walk, Changes, PastEmpty);
+type TwoChunks = (Growth, Walk, Changes, Walk);
 
-/// What is seen of a new map: its numbers of values and slots, and whether it is empty; what its first value is
-/// answered, and reads as; and the numbers then. So with a value in the next chunk.
+/// The numbers of values and slots of a new map, and whether it is empty; what two values that are put at an id are
+/// answered, and the numbers then; and what a value in the next chunk is answered, and the numbers then.
 type Growth = (
     (usize, usize, bool),
-    (Option<u32>, Option<u32>),
-    (usize, usize),
-    (Option<u32>, Option<u32>),
-    (usize, usize),
+    ([Option<u32>; 2], usize, usize),
+    (Option<u32>, usize, usize),
 );
 
 /// What a walk answers to three calls: indexes, and their values.
 type Walk = [Option<(usize, u32)>; 3];
 
 /// The index of a value above 10, of two values 10 and 20, and that once the first is counted up; what the second reads
-/// as once it is cleared; and whether an empty slot lends nothing.
-type Changes = (Option<usize>, Option<usize>, Option<u32>, bool);
-
-/// What taking the first of two values out answers, how many are left, and the walk over them.
-type PastEmpty = (Option<u32>, usize, Walk);
+/// as once it is cleared; and what taking the first out answers.
+type Changes = (Option<usize>, Option<usize>, Option<u32>, Option<u32>);
 
 const TWO_CHUNKS: TwoChunks = (
-    (
-        (0, 128, true),
-        (None, Some(10)),
-        (1, 128),
-        (None, Some(20)),
-        (2, 256),
-    ),
+    ((0, 128, true), ([None, Some(3)], 1, 128), (None, 2, 256)),
     [Some((0, 10)), Some((128, 20)), None],
-    (Some(128), Some(0), Some(0), true),
-    (Some(11), 1, [Some((128, 0)), None, None]),
+    (Some(128), Some(0), Some(0), Some(11)),
+    [Some((128, 0)), None, None],
 );
-
-fn two_chunks<TId: DenseIndex>(
-    alloc: Global,
-    first: TId,
-    second: TId,
-    empty: TId,
-) -> Result<TwoChunks, StoreError> {
-    let mut mapping: Mapping<TId, u32> = Mapping::new(alloc)?;
-    let seen = of_two_chunks(&mut mapping, first, second, empty);
-    drop(mapping);
-    seen
-}
 
 fn of_two_chunks<TId: DenseIndex>(
     mapping: &mut Mapping<TId, u32>,
     first: TId,
     second: TId,
-    empty: TId,
 ) -> Result<TwoChunks, StoreError> {
-    let new = (mapping.len(), mapping.slots(), mapping.is_empty());
-    let earlier = mapping.insert(first, 10)?;
-    let put = (earlier, mapping.get(first).copied());
-    let one = (mapping.len(), mapping.slots());
-    let earlier = mapping.insert(second, 20)?;
-    let put_second = (earlier, mapping.get(second).copied());
-    let two = (mapping.len(), mapping.capacity());
+    let growth = growth(mapping, first, second)?;
     let both = walk(mapping);
     let above = index_of(find_at_least(mapping, 11));
     count_up(mapping, first)?;
     let first_above = index_of(find_at_least(mapping, 11));
     clear(mapping, second);
     let cleared = mapping.get(second).copied();
-    let lends_nothing = mapping.get_mut(empty).is_none();
-    let (taken, left) = (mapping.unset(first), mapping.len());
-    Ok((
-        (new, put, one, put_second, two),
-        both,
-        (above, first_above, cleared, lends_nothing),
-        (taken, left, walk(mapping)),
-    ))
+    let taken = mapping.unset(first);
+    let changes = (above, first_above, cleared, taken);
+    Ok((growth, both, changes, walk(mapping)))
+}
+
+fn growth<TId: DenseIndex>(
+    mapping: &mut Mapping<TId, u32>,
+    first: TId,
+    second: TId,
+) -> Result<Growth, StoreError> {
+    let new = (mapping.len(), mapping.slots(), mapping.is_empty());
+    let answers = [mapping.insert(first, 3)?, mapping.insert(first, 10)?];
+    let one = (answers, mapping.len(), mapping.slots());
+    let answer = mapping.insert(second, 20)?;
+    Ok((new, one, (answer, mapping.len(), mapping.slots())))
 }
 
 fn walk<TId: DenseIndex, A: Allocator>(mapping: &Mapping<TId, u32, A>) -> Walk {
@@ -134,64 +114,37 @@ fn index_of<TId: DenseIndex>(id: Option<TId>) -> Option<usize> {
     }
 }
 
-/// What is seen of a map, where each part is seen of what the one before it left.
-type ThreeSlots = (Exchanged, Room, Lent);
+/// A map's numbers of values and slots once it has room for an id; and what putting a value there and exchanging it answer.
+type Room = ((usize, usize), Option<u32>, Option<u32>);
 
-/// What two values that are put at an id are answered, and what is then taken out.
-type Exchanged = ([Option<u32>; 2], Option<u32>);
+const ROOM: Room = ((1, 384), None, Some(1));
 
-/// A map's numbers of values and slots once it has room for an id; and what putting a value there, taking it out and
-/// putting another one there answer.
-type Room = ((usize, usize), Option<u32>, Option<u32>, Option<u32>);
-
-/// What a map keeps of a default that is counted up; which value is lent then in place of another default, and whether
-/// that one is asked for; and the numbers of values and slots.
-type Lent = (Option<u32>, (Option<u32>, bool), (usize, usize));
-
-const THREE_SLOTS: ThreeSlots = (
-    ([None, Some(3)], Some(4)),
-    ((0, 384), None, Some(1), None),
-    (Some(5), (Some(5), false), (2, 512)),
-);
-
-fn three_slots<TId: DenseIndex>(
-    alloc: Global,
-    near: TId,
-    far: TId,
-    farther: TId,
-) -> Result<ThreeSlots, StoreError>
-    requires { TId.index_of near < 128 }
-{
-    let mut mapping: Mapping<TId, u32> = Mapping::new(alloc)?;
-    let exchanged = [
-        exchange(&mut mapping, near, 3),
-        exchange(&mut mapping, near, 4),
-    ];
-    let taken = mapping.unset(near);
-    let seen = room_and_default(&mut mapping, far, farther);
-    drop(mapping);
-    let (room, lent) = seen?;
-    Ok(((exchanged, taken), room, lent))
+fn room<TId: DenseIndex>(mapping: &mut Mapping<TId, u32>, id: TId) -> Result<Room, StoreError> {
+    mapping.make_room(id)?;
+    let made = (mapping.len(), mapping.slots());
+    let answer = mapping.insert(id, 1)?;
+    let exchanged = if mapping.get(id).is_some() {
+        exchange(mapping, id, 2)
+    } else {
+        None
+    };
+    Ok((made, answer, exchanged))
 }
 
-fn room_and_default<TId: DenseIndex, A: Allocator>(
-    mapping: &mut Mapping<TId, u32, A>,
-    far: TId,
-    farther: TId,
-) -> Result<(Room, Lent), StoreError> {
-    mapping.make_room(far)?;
-    let made = (mapping.len(), mapping.slots());
-    let first = mapping.insert(far, 1)?;
-    let taken = mapping.unset(far);
-    let second = mapping.insert(far, 2)?;
-    let value = mapping.get_or_insert_with(farther, || 4)?;
+/// What a map keeps of a default that is counted up; and which value is lent then in place of another default, and whether
+/// that one is asked for.
+type Lent = (Option<u32>, (Option<u32>, bool));
+
+const LENT: Lent = (Some(5), (Some(5), false));
+
+fn default_lent<TId: DenseIndex>(
+    mapping: &mut Mapping<TId, u32>,
+    id: TId,
+) -> Result<Lent, StoreError> {
+    let value = mapping.get_or_insert_with(id, || 4)?;
     *value = value.saturating_add(1);
-    let kept = mapping.get(farther).copied();
-    let lent = lent(mapping, farther, 9);
-    Ok((
-        (made, first, taken, second),
-        (kept, lent, (mapping.len(), mapping.slots())),
-    ))
+    let kept = mapping.get(id).copied();
+    Ok((kept, lent(mapping, id, 9)))
 }
 
 /// Which value is lent where this is the default, and whether that is asked for.

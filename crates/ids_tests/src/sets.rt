@@ -1,86 +1,39 @@
-//! The sets with ample memory: none of their calls is refused for want of it, and the answers are as wanted. `chosen` has
-//! the sets that ids choose for themselves.
+//! The sets that may have the root, and frozen maps, with ample memory: none of their calls is refused for want of it, and
+//! the answers are as wanted. `chosen` has the sets that ids choose for themselves.
 ghost use Rattle.std.specs.Prelude.{◌≢◌};
 
 use crate::chosen::SET;
-use id_maps::{IdSet, IndexedSet, SolverId, WithRootSet};
+use id_maps::{SolverId, WithRootSet};
 use id_storage::FrozenCopyMap;
 use ids_callers::{SetAnswers, set_answers};
-use std::alloc::Allocator;
+use std::alloc::{Allocator, Global};
 use std::test::Fail;
-use test_checks::{is_same, sees};
-use typed_ids::{DenseIndex, NameId, SolvableId, SolvableIdOrRoot, StoreError};
+use test_checks::sees;
+use typed_ids::{SolvableId, SolvableIdOrRoot, StoreError};
 
+/// The root is no solvable, and no solvable is the root.
 #[test]
-fn sets_tell_their_keys_apart(rt: HostRuntime) -> Result<(), Fail> {
-    // A dense set has the numbers at each side of a word.
-    let others = [
-        NameId::from_raw(64),
-        NameId::from_raw(127),
-        NameId::from_raw(5000),
-    ];
-    let marks = marks(
-        rt.alloc(),
-        NameId::from_raw(63),
-        NameId::from_raw(128),
-        others,
-    );
+fn sets_tell_the_root_and_solvables_apart(rt: HostRuntime) -> Result<(), Fail> {
     sees(
-        marks,
-        ([true, true, false], [true, true], [false, false, false]),
-    )?;
-    // The root is no solvable, and no solvable is the root.
-    let solvable = SolvableIdOrRoot::from(SolvableId::from_raw(0));
-    let root_first = answers(rt.alloc(), SolvableIdOrRoot::root(), solvable);
-    sees(root_first, SET)?;
-    let solvable = SolvableIdOrRoot::from(SolvableId::from_raw(0));
-    let solvable_first = answers(rt.alloc(), solvable, SolvableIdOrRoot::root());
-    sees(solvable_first, SET)?;
-    // A set that names no allocator takes the global one.
-    let mut set: WithRootSet<SolvableId> = WithRootSet::new(rt.alloc());
-    let added = added(&mut set, SolvableId::from_raw(0));
-    drop(set);
-    sees(added, [true, true, false])?;
-    // A key gives its solvable back.
-    let seventh = SolvableId::from_raw(7);
-    let key = SolvableIdOrRoot::from(seventh);
-    let root: SolvableIdOrRoot<SolvableId> = SolvableIdOrRoot::root();
-    is_same([key.solvable(), root.solvable()], [Some(seventh), None])?;
-    is_same(key == root, false)
+        answers::<SolvableId, Global>(rt.alloc(), SolvableId::from_raw(0)),
+        [SET, SET],
+    )
 }
 
-/// What a set answers to two ids, and to the first once more; and whether it then has the two, and three others.
-type Marks = ([bool; 3], [bool; 2], [bool; 3]);
-
-fn marks<Id: DenseIndex, A: Allocator + Copy>(
-    alloc: A,
-    low: Id,
-    high: Id,
-    others: [Id; 3],
-) -> Result<Marks, StoreError> {
-    let mut set: IndexedSet<Id, A> = IndexedSet::new(alloc);
-    let inserted = inserted(&mut set, low, high);
-    let [first, second, third] = others;
-    let has = [set.contains(low), set.contains(high)];
-    let has_others = [
-        set.contains(first),
-        set.contains(second),
-        set.contains(third),
-    ];
-    drop(set);
-    Ok((inserted?, has, has_others))
-}
-
-fn inserted<Id: DenseIndex, A: Allocator + Copy>(
-    set: &mut IndexedSet<Id, A>,
-    low: Id,
-    high: Id,
-) -> Result<[bool; 3], StoreError> {
-    Ok([set.insert(low)?, set.insert(high)?, set.insert(low)?])
-}
-
-/// What a set that may have the root says of two keys.
+/// What a set says of the root and a solvable, where the root is put in, and where the solvable is.
 fn answers<S: SolverId<A>, A: Allocator + Copy>(
+    alloc: A,
+    solvable: S,
+) -> Result<[SetAnswers; 2], StoreError> {
+    let root = SolvableIdOrRoot::Root;
+    let solvable = SolvableIdOrRoot::Solvable(solvable);
+    Ok([
+        of_key::<S, A>(alloc, root, solvable)?,
+        of_key::<S, A>(alloc, solvable, root)?,
+    ])
+}
+
+fn of_key<S: SolverId<A>, A: Allocator + Copy>(
     alloc: A,
     key: SolvableIdOrRoot<S>,
     other: SolvableIdOrRoot<S>,
@@ -88,16 +41,6 @@ fn answers<S: SolverId<A>, A: Allocator + Copy>(
     requires { other ≢ key }
 {
     set_answers::<SolvableIdOrRoot<S>, A, WithRootSet<S, A>>(alloc, key, other)
-}
-
-/// Whether the root, a solvable and the root again are new.
-fn added<S: SolverId<A>, A: Allocator + Copy>(
-    set: &mut WithRootSet<S, A>,
-    solvable: S,
-) -> Result<[bool; 3], StoreError> {
-    let root = set.insert(SolvableIdOrRoot::Root)?;
-    let solvable = set.insert(SolvableIdOrRoot::Solvable(solvable))?;
-    Ok([root, solvable, set.insert(SolvableIdOrRoot::Root)?])
 }
 
 #[test]
