@@ -37,7 +37,7 @@ pub(crate) enum Question {
 }
 
 /// An answer, copied out.
-#[derive(Clone, Copy, Debug, PartialEq, Eq)]
+#[derive(Clone, Copy, PartialEq)]
 pub(crate) enum Seen {
     /// So many solvables, and the first four of them.
     Solvables(usize, [Option<usize>; 4]),

@@ -1,7 +1,7 @@
 //! Providers that ask to stop.
 use crate::asks::{Question, Seen};
 use crate::examples::{Hint, stopping, with_hint};
-use crate::played::{Step, counts, dense_cases};
+use crate::played::{Step, cases_hold, counts};
 use crate::row::{CANDIDATES, MATCHING, NON_MATCHING, SORTED};
 use asking_providers::Stops;
 use std::test::Fail;
@@ -46,7 +46,7 @@ const AT_FIRST: [Step; 6] = [
 fn each_stop_hands_over_its_own_value_and_changes_nothing(rt: HostRuntime) -> Result<(), Fail> {
     let mut at_first = with_hint(Hint::All);
     at_first.stops = Stops::AtFirst;
-    dense_cases(
+    cases_hold(
         &rt,
         &[
             (stopping(Stops::Always), &ALWAYS, counts(0, 0, 6)),

@@ -1,7 +1,7 @@
 //! The lists of the tests, and how a provider answers from them.
 use crate::asks::Ids;
 use asking_providers::{Asking, Listing, Stops};
-use plain_providers::{Lists, Package, SparseName, SparseSolvable, VersionRange};
+use plain_providers::{Lists, Package, VersionRange};
 use providers::{DependencyProvider, HintDependenciesAvailable, Interner};
 use std::alloc::{AllocError, Allocator};
 use typed_ids::{NameId, SolvableId, StoreError, VersionSetId};
@@ -146,7 +146,7 @@ fn solvables_at<S: Copy, A: Allocator>(
 }
 
 /// Packages 0, 1 and 8, of which there isn't the last, and solvables 0 to 3 and 70, which isn't known.
-pub(crate) fn dense_ids() -> Ids<NameId, SolvableId> {
+pub(crate) fn listed_ids() -> Ids<NameId, SolvableId> {
     Ids {
         names: [
             NameId::from_raw(0),
@@ -159,24 +159,6 @@ pub(crate) fn dense_ids() -> Ids<NameId, SolvableId> {
             SolvableId::from_raw(2),
             SolvableId::from_raw(3),
             SolvableId::from_raw(70),
-        ],
-    }
-}
-
-/// The same by sparse ids.
-pub(crate) fn sparse_ids() -> Ids<SparseName, SparseSolvable> {
-    Ids {
-        names: [
-            SparseName::from_raw(0),
-            SparseName::from_raw(1),
-            SparseName::from_raw(8),
-        ],
-        solvables: [
-            SparseSolvable::from_raw(0),
-            SparseSolvable::from_raw(1),
-            SparseSolvable::from_raw(2),
-            SparseSolvable::from_raw(3),
-            SparseSolvable::from_raw(70),
         ],
     }
 }

@@ -2,7 +2,7 @@
 //! that there isn't.
 use crate::asks::{Question, Seen};
 use crate::examples::{PLAIN, Setup};
-use crate::played::{Step, counts, dense_cases};
+use crate::played::{Step, cases_hold, counts};
 use crate::row::{CANDIDATES, MATCHING, NON_MATCHING, SORTED};
 use asking_providers::Listing;
 use std::test::Fail;
@@ -75,7 +75,7 @@ fn lists_have_what_is_listed_and_the_favored_one_first(rt: HostRuntime) -> Resul
         Question::Candidates(2),
         Seen::Solvables(0, [None, None, None, None]),
     );
-    dense_cases(
+    cases_hold(
         &rt,
         &[
             (favoring(2), &plain, counts(1, 0, 1)),

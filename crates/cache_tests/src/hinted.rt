@@ -1,7 +1,7 @@
 //! Hints of which dependencies are at hand.
 use crate::asks::{Question, Seen};
 use crate::examples::{Hint, with_hint};
-use crate::played::{Step, counts, dense_cases};
+use crate::played::{Step, cases_hold, counts};
 use crate::row::{CANDIDATES, SORTED, available};
 use std::test::Fail;
 
@@ -35,7 +35,7 @@ fn a_hint_marks_the_candidates_that_it_names(rt: HostRuntime) -> Result<(), Fail
     let both = marks([true, false, true]);
     // This one names solvable 3, which is of package 1, and one that isn't known.
     let outside = with_hint(Hint::Some(3, 4));
-    dense_cases(
+    cases_hold(
         &rt,
         &[
             (with_hint(Hint::None), &none, counts(1, 0, 1)),

@@ -1,5 +1,5 @@
-//! Tests of the solver's cache, over providers of plain lists that count what they are asked: with dense ids, with sparse
-//! ones, and where memory is refused.
+//! Tests of the solver's cache, over a provider of plain lists that counts what it is asked: in ample memory, and where
+//! memory is refused. The ids are dense; caches by sparse ids are those of the stores of `store_tests`.
 #![tactic(auto)]
 
 #[cfg(test)]

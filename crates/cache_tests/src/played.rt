@@ -1,8 +1,7 @@
 //! New caches that are asked questions in turn. What is seen is compared once, behind all that is owned.
 use crate::asks::{Asks, Ids, Question, Seen};
-use crate::examples::{Setup, asking, dense_ids, lists_of, sparse_ids};
+use crate::examples::{Setup, asking, listed_ids, lists_of};
 use asking_providers::{Counting, Counts};
-use plain_providers::{SparseLists, SparseName, SparseSolvable};
 use providers::{DependencyProvider, Interner};
 use solver_cache::SolverCache;
 use std::alloc::Allocator;
@@ -13,8 +12,8 @@ use typed_ids::{NameId, SolvableId, StoreError};
 /// A question, and the answer that is wanted.
 pub(crate) type Step = (Question, Seen);
 
-/// The place of the first unwanted answer, with the answer.
-pub(crate) type Unwanted = Option<(usize, Seen)>;
+/// The place of the first unwanted answer.
+pub(crate) type Unwanted = Option<usize>;
 
 /// What a test does with a new cache. One function owns the caches of all tests, since its proof is long.
 pub(crate) trait Play<N, S> {
@@ -49,7 +48,7 @@ pub(crate) fn counts(candidates: u32, dependencies: u32, cancels: u32) -> Counts
     }
 }
 
-/// The first answer that isn't as wanted.
+/// The place of the first answer that isn't as wanted.
 pub(crate) fn first_unwanted<N, S, T: Asks<N, S>>(
     cache: &mut T,
     ids: &Ids<N, S>,
@@ -59,7 +58,7 @@ pub(crate) fn first_unwanted<N, S, T: Asks<N, S>>(
     for (i, (question, wanted)) in steps.iter().enumerate() {
         let seen = cache.ask(ids, *question);
         if unwanted.is_none() && seen != *wanted {
-            unwanted = Some((i, seen));
+            unwanted = Some(i);
         }
     }
     unwanted
@@ -88,43 +87,24 @@ fn play_counted<D: DependencyProvider + Drop, P: Play<D::NameId, D::SolvableId>>
     Ok(play_new(alloc, provider, ids, play))
 }
 
-/// The same over a few packages with dense ids.
-pub(crate) fn dense_play<A: Allocator + Copy, P: Play<NameId, SolvableId>>(
+/// The same over a few packages.
+pub(crate) fn play_over_lists<A: Allocator + Copy, P: Play<NameId, SolvableId>>(
     alloc: A,
     setup: Setup,
     play: &P,
 ) -> Result<P::Told, StoreError> {
     let lists = lists_of(alloc, setup.favored)?;
-    play_counted(alloc, lists, &dense_ids(), (setup, play))
-}
-
-/// The same with sparse ids.
-fn sparse_play<A: Allocator + Copy, P: Play<SparseName, SparseSolvable>>(
-    alloc: A,
-    setup: Setup,
-    play: &P,
-) -> Result<P::Told, StoreError> {
-    let lists = SparseLists(lists_of(alloc, setup.favored)?);
-    play_counted(alloc, lists, &sparse_ids(), (setup, play))
+    play_counted(alloc, lists, &listed_ids(), (setup, play))
 }
 
 /// How a provider answers, the steps of a new cache over it, and how often it is asked.
 pub(crate) type Case<'c> = (Setup, &'c [Step], Counts);
 
-/// Each new cache answers as wanted. A failure tells the place of the case.
-pub(crate) fn dense_cases(rt: &impl AllocGlobal, cases: &[Case<'_>]) -> Result<(), Fail> {
+/// Each new cache answers as wanted. A failure tells the place of the case, and of the first unwanted answer.
+pub(crate) fn cases_hold(rt: &impl AllocGlobal, cases: &[Case<'_>]) -> Result<(), Fail> {
     for (place, (setup, steps, counts)) in cases.iter().enumerate() {
-        let told = dense_play(rt.alloc(), *setup, &Script { steps: *steps });
+        let told = play_over_lists(rt.alloc(), *setup, &Script { steps: *steps });
         is_same((place, told), (place, Ok((None, *counts))))?;
     }
     Ok(())
-}
-
-/// The same of one whose ids are sparse.
-pub(crate) fn sparse_case(
-    rt: &impl AllocGlobal,
-    (setup, steps, counts): Case<'_>,
-) -> Result<(), Fail> {
-    let told = sparse_play(rt.alloc(), setup, &Script { steps });
-    is_same(told, Ok((None, counts)))
 }

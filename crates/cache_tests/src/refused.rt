@@ -1,7 +1,7 @@
 //! Memory refused at each request in turn. A cache to which a request is refused answers what one in ample memory does.
 use crate::asks::{Asks, Ids, Question, Seen};
 use crate::examples::{Hint, with_hint};
-use crate::played::{Play, Step, dense_play, first_unwanted};
+use crate::played::{Play, Step, first_unwanted, play_over_lists};
 use crate::row::{CANDIDATES, FAVORED, MATCHING, NON_MATCHING};
 use refusing::Refusing;
 use std::alloc::Global;
@@ -52,7 +52,7 @@ impl<N, S> Play<N, S> for Trial<'_> {
     }
 }
 
-fn dense_seen(rt: &impl AllocGlobal, steps: &[Step], number: u64) -> Result<Refusal, StoreError> {
+fn seen_at(rt: &impl AllocGlobal, steps: &[Step], number: u64) -> Result<Refusal, StoreError> {
     // Something is favored and all is hinted.
     let mut setup = with_hint(Hint::All);
     setup.favored = Some(0);
@@ -62,7 +62,7 @@ fn dense_seen(rt: &impl AllocGlobal, steps: &[Step], number: u64) -> Result<Refu
         heap: &heap,
         number,
     };
-    let seen = dense_play(&heap, setup, &trial);
+    let seen = play_over_lists(&heap, setup, &trial);
     drop(trial);
     drop(heap);
     seen
@@ -72,7 +72,7 @@ fn dense_seen(rt: &impl AllocGlobal, steps: &[Step], number: u64) -> Result<Refu
 /// refused.
 fn each_is_refused(rt: &impl AllocGlobal, steps: &[Step]) -> Result<(), Fail> {
     for number in 1..1000u64 {
-        let seen = dense_seen(rt, steps, number)?;
+        let seen = seen_at(rt, steps, number)?;
         let is_met = seen.1;
         is_same(seen, (number, is_met, usize::from(is_met), true))?;
         if !is_met {

@@ -1,7 +1,7 @@
-//! One package, asked everything twice: at dense ids and at sparse ones.
+//! One package, asked everything twice.
 use crate::asks::{Question, Seen};
 use crate::examples::{Hint, PLAIN, Setup, with_hint};
-use crate::played::{Step, counts, dense_cases, sparse_case};
+use crate::played::{Step, cases_hold, counts};
 use std::test::Fail;
 
 // What is wanted of package 0 and of set 0.
@@ -72,14 +72,12 @@ fn each_question_is_asked_once(rt: HostRuntime) -> Result<(), Fail> {
     let (plain, favored) = (everything(SORTED), everything(FAVORED));
     // The sorted list is asked for first: all that it needs is asked for on the way.
     let backwards = [SORTED, MATCHING, CANDIDATES, NON_MATCHING, SORTED];
-    dense_cases(
+    cases_hold(
         &rt,
         &[
             (hinted(None), &plain, counts(1, 1, 2)),
             (hinted(Some(0)), &favored, counts(1, 1, 2)),
             (PLAIN, &backwards, counts(1, 0, 1)),
         ],
-    )?;
-    // Sparse ids are answered the same.
-    sparse_case(&rt, (hinted(Some(0)), &favored, counts(1, 1, 2)))
+    )
 }

@@ -1,7 +1,7 @@
 //! Requirements: of one version set, and of a union.
 use crate::asks::{Question, Seen};
 use crate::examples::{PLAIN, stopping};
-use crate::played::{Step, counts, dense_cases, sparse_case};
+use crate::played::{Step, cases_hold, counts};
 use crate::row::SORTED;
 use asking_providers::Stops;
 use std::test::Fail;
@@ -29,7 +29,7 @@ fn a_union_lists_its_sets_in_turn_until_a_stop(rt: HostRuntime) -> Result<(), Fa
     let between = [STOPPED, SORTED, SINGLE, STOPPED];
     // The value of the first question is handed over, and no set is asked about.
     let at_first = [STOPPED, UNION];
-    dense_cases(
+    cases_hold(
         &rt,
         &[
             (PLAIN, &in_turn, counts(2, 0, 2)),
@@ -37,6 +37,5 @@ fn a_union_lists_its_sets_in_turn_until_a_stop(rt: HostRuntime) -> Result<(), Fa
             (stopping(Stops::AfterFirst), &between, counts(1, 0, 3)),
             (stopping(Stops::AtFirst), &at_first, counts(2, 0, 3)),
         ],
-    )?;
-    sparse_case(&rt, (PLAIN, &in_turn, counts(2, 0, 2)))
+    )
 }
