@@ -3,5 +3,5 @@
 
 mod deferred;
 mod nested;
-mod normal_forms;
-mod refused;
+pub(crate) mod normal_forms;
+pub(crate) mod refused;

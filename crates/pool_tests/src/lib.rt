@@ -1,7 +1,9 @@
-//! Tests of the pool, of requirements and of their maps, of conditions (`condition_calls`), and of what the example of a
-//! provider reads a text as (`read_index`). The callers that they run are in `pool_callers`.
+//! Tests of the pool, of requirements and of their maps, of conditions (`condition_calls`) and of texts (`catalogue`), and of
+//! what the example of a provider reads a text as (`read_index`). The callers that they run are in `pool_callers`.
 #![tactic(auto)]
 
+#[cfg(test)]
+mod catalogue;
 #[cfg(test)]
 mod condition_calls;
 #[cfg(test)]
@@ -16,5 +18,3 @@ mod read_index;
 mod shown;
 #[cfg(test)]
 mod texts;
-#[cfg(test)]
-mod twice;

@@ -1,19 +1,14 @@
 //! The pool with ample memory: none of its calls is refused, and the answers are as wanted.
-ghost use Rattle.std.specs.Prelude.{◌<◌, length};
-
 use crate::noted::{Noted, with_note};
-use crate::twice::of_each_kind;
 use package_pool::{NameText, Pool};
 use providers::{Condition, LogicalOperator};
 use std::alloc::Global;
 use std::test::Fail;
 use test_checks::sees;
-use typed_ids::{
-    ConditionId, NameId, SolvableId, StoreError, StringId, VersionSetId, VersionSetUnionId,
-};
+use typed_ids::{NameId, StoreError, StringId, VersionSetId};
 
 /// The text, in memory of its own.
-pub(crate) fn owned(alloc: Global, text: &str) -> Result<String, StoreError> {
+fn owned(alloc: Global, text: &str) -> Result<String, StoreError> {
     Ok(String::from_str(alloc, text)?)
 }
 
@@ -24,26 +19,16 @@ fn equal_values_stand_once_and_others_are_new(rt: HostRuntime) -> Result<(), Fai
         strings_and_names(rt.alloc()),
         (strings, names, [Some(1), None]),
     )?;
-    // Solvables and unions are new each time.
     let wanted = (
-        ([Some(0), Some(1)], Some(30), 2),
-        ([Some(0), Some(1)], true),
-        ([Some(0), Some(0)], true),
+        // The first of equal values stands.
+        ([0, 0, 1], 1),
+        ([0, 1, 0], [(1, 0), (2, 1)], false),
+        // Solvables and unions are new each time.
+        ([0, 1], 30, 2),
+        ([0, 1], true),
+        ([0, 0], true),
     );
-    sees(of_one_package(rt.alloc()), wanted)?;
-    // The first of equal values stands.
-    let wanted = (
-        ([0, 0, 1], Some(1)),
-        Some(([0, 1, 0], [Some((1, 0)), Some((2, 1))], false)),
-    );
-    sees(first_of_equals(rt.alloc()), wanted)?;
-    let wanted = [
-        Some([0, 0, 1]),
-        Some([0, 0, 1]),
-        Some([0, 0, 1]),
-        Some([1, 1, 1]),
-    ];
-    sees(of_each_kind(rt.alloc()), wanted)
+    sees(each_kind(rt.alloc()), wanted)
 }
 
 /// The numbers of `a`, `b` and `a` once more; whether the second is of the pool, with its text; and whether the pool
@@ -119,149 +104,122 @@ fn looked_up(alloc: Global, pool: &Pool<Noted>, text: &str) -> Result<Option<u32
     }
 }
 
+/// The numbers of three names, of which the second equals the first, and the first one's note.
+type Names = ([u32; 3], u32);
+
+/// The numbers of a version set of two names, which comes again with the first; the notes and names of the first two;
+/// and whether the pool knows a third.
+type Sets = ([u32; 3], [(u32, u32); 2], bool);
+
 /// The numbers of two solvables, the second's payload, and how many going over them gives.
-type Solvables = ([Option<u32>; 2], Option<u32>, usize);
+type Solvables = ([u32; 2], u32, usize);
 
 /// Two numbers, and whether what was given is kept.
-type Numbers = ([Option<u32>; 2], bool);
+type Numbers = ([u32; 2], bool);
 
-/// What is seen of the solvables, unions and conditions of one package that has one version set.
-fn of_one_package(alloc: Global) -> Result<(Solvables, Numbers, Numbers), StoreError> {
-    let mut pool: Pool<Noted, u32> = Pool::new(alloc);
-    let seen = of_name(&mut pool);
+/// What is seen of names and version sets, and of the solvables, unions and conditions of the first ones.
+type Kinds = (Names, Sets, Solvables, Numbers, Numbers);
+
+fn each_kind(alloc: Global) -> Result<Kinds, StoreError> {
+    let mut pool: Pool<Noted, Noted> = Pool::new(alloc);
+    let seen = kinds_in(&mut pool);
     drop(pool);
     seen
 }
 
-fn of_name(pool: &mut Pool<Noted, u32>) -> Result<(Solvables, Numbers, Numbers), StoreError> {
-    let name = pool.intern_package_name(7)?;
-    let set = pool.intern_version_set(name, with_note(1, 1))?;
-    let solvables = solvables(pool, name)?;
-    let unions = unions(pool, set)?;
-    Ok((solvables, unions, conditions(pool, set)?))
+fn kinds_in(pool: &mut Pool<Noted, Noted>) -> Result<Kinds, StoreError> {
+    let names = first_names(pool)?;
+    let sets = first_sets(pool)?;
+    let solvables = solvables(pool)?;
+    let unions = unions(pool)?;
+    Ok((names, sets, solvables, unions, conditions(pool)?))
 }
 
-fn solvables(pool: &mut Pool<Noted, u32>, name: NameId) -> Result<Solvables, StoreError> {
-    let numbers = [new_solvable(pool, name)?, new_solvable(pool, name)?];
-    let second = SolvableId::from_raw(1);
+fn first_names(pool: &mut Pool<Noted, Noted>) -> Result<Names, StoreError> {
+    let name = pool.intern_package_name(with_note(7, 1))?;
+    let again = pool.intern_package_name(with_note(7, 2))?;
+    let other = pool.intern_package_name(with_note(8, 3))?;
+    let numbers = [name.into_raw(), again.into_raw(), other.into_raw()];
+    if !pool.knows_name(name) {
+        return Err(StoreError::UnknownId);
+    }
+    Ok((numbers, pool.resolve_package_name(name).note))
+}
+
+fn first_sets(pool: &mut Pool<Noted, Noted>) -> Result<Sets, StoreError> {
+    let (name, other) = (NameId::from_raw(0), NameId::from_raw(1));
+    if !pool.knows_name(name) || !pool.knows_name(other) {
+        return Err(StoreError::UnknownId);
+    }
+    let first = pool.intern_version_set(name, with_note(5, 1))?;
+    let second = pool.intern_version_set(other, with_note(5, 2))?;
+    let third = pool.intern_version_set(name, with_note(5, 3))?;
+    let noted = [
+        set_note(pool, VersionSetId(0))?,
+        set_note(pool, VersionSetId(1))?,
+    ];
+    let knows_third = pool.knows_version_set(VersionSetId(2));
+    Ok(([first.0, second.0, third.0], noted, knows_third))
+}
+
+/// The note of a version set of the pool, and the number of its package's name.
+fn set_note(pool: &Pool<Noted, Noted>, set: VersionSetId) -> Result<(u32, u32), StoreError> {
+    if !pool.knows_version_set(set) {
+        return Err(StoreError::UnknownId);
+    }
+    let name = pool.resolve_version_set_package_name(set);
+    Ok((pool.resolve_version_set(set).note, name.into_raw()))
+}
+
+/// Two solvables of the first name.
+fn solvables(pool: &mut Pool<Noted, Noted>) -> Result<Solvables, StoreError> {
+    let name = NameId::from_raw(0);
+    if !pool.knows_name(name) {
+        return Err(StoreError::UnknownId);
+    }
+    let first = pool.intern_solvable(name, 20)?;
+    let second = pool.intern_solvable(name, 30)?;
     let payload = if pool.knows_solvable(second) {
-        Some(pool.resolve_solvable(second).payload)
+        pool.resolve_solvable(second).payload
     } else {
-        None
+        0
     };
     let mut count: usize = 0;
     for _ in pool.iter_solvables() {
         count = count.saturating_add(1);
     }
-    Ok((numbers, payload, count))
+    Ok(([first.into_raw(), second.into_raw()], payload, count))
 }
 
-/// The number of a new solvable with the payload 30, if the name is of the pool.
-fn new_solvable(pool: &mut Pool<Noted, u32>, name: NameId) -> Result<Option<u32>, StoreError> {
-    if !pool.knows_name(name) {
-        return Ok(None);
-    }
-    Ok(Some(pool.intern_solvable(name, 30)?.into_raw()))
-}
-
-fn unions(pool: &mut Pool<Noted, u32>, set: VersionSetId) -> Result<Numbers, StoreError> {
-    let numbers = [new_union(pool, set)?, new_union(pool, set)?];
-    let last = VersionSetUnionId(1);
-    let is_last = pool.knows_union(last)
-        && pool.resolve_version_set_union(last) == [set, set, set].as_slice();
-    Ok((numbers, is_last))
-}
-
-/// The number of a new union of a version set three times, if the set is of the pool.
-fn new_union(pool: &mut Pool<Noted, u32>, set: VersionSetId) -> Result<Option<u32>, StoreError> {
+/// Two unions of the first version set three times.
+fn unions(pool: &mut Pool<Noted, Noted>) -> Result<Numbers, StoreError> {
+    let set = VersionSetId(0);
     if !pool.knows_version_set(set) {
-        return Ok(None);
+        return Err(StoreError::UnknownId);
     }
-    Ok(Some(pool.intern_version_set_union(set, &[set, set])?.0))
+    let first = pool.intern_version_set_union(set, &[set, set])?;
+    let second = pool.intern_version_set_union(set, &[set, set])?;
+    let is_kept = pool.knows_union(second)
+        && pool.resolve_version_set_union(second) == [set, set, set].as_slice();
+    Ok(([first.0, second.0], is_kept))
 }
 
-fn conditions(pool: &mut Pool<Noted, u32>, set: VersionSetId) -> Result<Numbers, StoreError> {
-    let numbers = [condition_of(pool, set)?, condition_of(pool, set)?];
-    let first = ConditionId::new(0);
+/// The condition of the first version set twice, and one that joins it with itself.
+fn conditions(pool: &mut Pool<Noted, Noted>) -> Result<Numbers, StoreError> {
+    let set = VersionSetId(0);
+    if !pool.knows_version_set(set) {
+        return Err(StoreError::UnknownId);
+    }
+    let first = pool.intern_condition(Condition::Requirement(set))?;
+    let again = pool.intern_condition(Condition::Requirement(set))?;
+    let numbers = [first.as_u32(), again.as_u32()];
     if !pool.knows_condition(first) {
         return Ok((numbers, false));
     }
     let is_first = *pool.resolve_condition(first) == Condition::Requirement(set);
-    let id = pool.intern_condition(Condition::Binary(LogicalOperator::Or, first, first))?;
     let joined = Condition::Binary(LogicalOperator::Or, first, first);
-    let is_joined = pool.knows_condition(id) && *pool.resolve_condition(id) == joined;
+    let id = pool.intern_condition(joined)?;
+    let is_joined = pool.knows_condition(id)
+        && *pool.resolve_condition(id) == Condition::Binary(LogicalOperator::Or, first, first);
     Ok((numbers, is_first && is_joined))
-}
-
-/// The number of the condition of a version set, if the set is of the pool.
-fn condition_of(pool: &mut Pool<Noted, u32>, set: VersionSetId) -> Result<Option<u32>, StoreError> {
-    if !pool.knows_version_set(set) {
-        return Ok(None);
-    }
-    let id = pool.intern_condition(Condition::Requirement(set))?;
-    Ok(Some(id.as_u32()))
-}
-
-/// The numbers of three names, of which the second equals the first, and the first one's note.
-type FirstNames = ([u32; 3], Option<u32>);
-
-/// The numbers of a version set of two names, which comes again with the first; the notes and names of the first two;
-/// and whether the pool knows a third.
-type FirstSets = ([u32; 3], [Option<(u32, u32)>; 2], bool);
-
-/// What is seen of names, and of version sets if the names are of the pool.
-fn first_of_equals(alloc: Global) -> Result<(FirstNames, Option<FirstSets>), StoreError> {
-    let mut pool: Pool<Noted, Noted> = Pool::new(alloc);
-    let names = first_names(&mut pool);
-    let sets = first_sets(&mut pool);
-    drop(pool);
-    Ok((names?, sets?))
-}
-
-fn first_names(pool: &mut Pool<Noted, Noted>) -> Result<FirstNames, StoreError> {
-    let name = pool.intern_package_name(with_note(7, 1))?;
-    let again = pool.intern_package_name(with_note(7, 2))?;
-    let other = pool.intern_package_name(with_note(8, 3))?;
-    let numbers = [name.into_raw(), again.into_raw(), other.into_raw()];
-    let note = if pool.knows_name(name) {
-        Some(pool.resolve_package_name(name).note)
-    } else {
-        None
-    };
-    Ok((numbers, note))
-}
-
-fn first_sets(pool: &mut Pool<Noted, Noted>) -> Result<Option<FirstSets>, StoreError> {
-    let (name, other) = (NameId::from_raw(0), NameId::from_raw(1));
-    if !pool.knows_name(name) || !pool.knows_name(other) {
-        return Ok(None);
-    }
-    let numbers = sets(pool, name, other)?;
-    let notes = [
-        set_note(pool, VersionSetId(0)),
-        set_note(pool, VersionSetId(1)),
-    ];
-    let knows_third = pool.knows_version_set(VersionSetId(2));
-    Ok(Some((numbers, notes, knows_third)))
-}
-
-/// The numbers of a set of two names, which comes again with the first.
-fn sets(pool: &mut Pool<Noted, Noted>, name: NameId, other: NameId) -> Result<[u32; 3], StoreError>
-    requires name { name < length pool.old.names }
-    requires other { other < length pool.old.names }
-{
-    let first = pool.intern_version_set(name, with_note(5, 1))?;
-    let second = pool.intern_version_set(other, with_note(5, 2))?;
-    let third = pool.intern_version_set(name, with_note(5, 3))?;
-    Ok([first.0, second.0, third.0])
-}
-
-/// The note of a version set of the pool, and the number of its package's name.
-fn set_note(pool: &Pool<Noted, Noted>, set: VersionSetId) -> Option<(u32, u32)> {
-    if pool.knows_version_set(set) {
-        let name = pool.resolve_version_set_package_name(set);
-        Some((pool.resolve_version_set(set).note, name.into_raw()))
-    } else {
-        None
-    }
 }

@@ -1,7 +1,6 @@
 //! What `small_index` reads a text as. The tests are in no crate of their own, since each crate that starts a proof anew is dear.
-ghost use Rattle.std.specs.Prelude.{◌<◌, ◌^◌};
-
-use resolvo_ids::{ConditionId, DenseIndex, SolvableId, StoreError, VersionSetId};
+use crate::texts::{shows_key, shows_solvables};
+use resolvo_ids::{ConditionId, SolvableId, SolvableIdOrRoot, StoreError, VersionSetId};
 use resolvo_pool::{
     ConditionalRequirement, Dependencies, DependencyProvider, Interner, Requirement,
 };
@@ -19,9 +18,13 @@ b 2
 ";
 
 /// The candidates of the package whose versions the set holds: how many, the first and the last.
-type Seen = (usize, Option<SolvableId>, Option<SolvableId>);
+type Seen<S> = (usize, Option<S>, Option<S>);
 
-fn candidates(alloc: Global, index: &SmallIndex, set: VersionSetId) -> Result<Seen, StoreError> {
+fn candidates<D: DependencyProvider>(
+    alloc: D::Alloc,
+    index: &D,
+    set: VersionSetId,
+) -> Result<Seen<D::SolvableId>, StoreError> {
     if !index.knows_version_set(set) {
         return Err(StoreError::UnknownId);
     }
@@ -34,25 +37,14 @@ fn candidates(alloc: Global, index: &SmallIndex, set: VersionSetId) -> Result<Se
     }
 }
 
-#[test]
-fn candidates_are_a_packages_versions(rt: HostRuntime) -> Result<(), Fail> {
-    let index = read(rt.alloc(), TEXT)?;
-    let of_b = candidates(rt.alloc(), &index, VersionSetId(0));
-    let of_c = candidates(rt.alloc(), &index, VersionSetId(2));
-    drop(index);
-    let first = SolvableId::from_index(2);
-    let last = SolvableId::from_index(3);
-    sees(of_b, (2, Some(first), Some(last)))?;
-    sees(of_c, (0, None, None))
-}
-
 /// What a solvable needs: the first requirement, and the first limit.
 type Needed = (Option<ConditionalRequirement>, Option<VersionSetId>);
 
-fn needed(alloc: Global, index: &SmallIndex, place: usize) -> Result<Needed, StoreError>
-    requires { place < 2 ^ 32 }
-{
-    let solvable = SolvableId::from_index(place);
+fn needed<D: DependencyProvider>(
+    alloc: D::Alloc,
+    index: &D,
+    solvable: D::SolvableId,
+) -> Result<Needed, StoreError> {
     if !index.knows_solvable(solvable) {
         return Err(StoreError::UnknownId);
     }
@@ -65,19 +57,58 @@ fn needed(alloc: Global, index: &SmallIndex, place: usize) -> Result<Needed, Sto
     }
 }
 
+/// The candidates for the first version set and the third, and what the first two solvables need.
+type Answers<S> = (Seen<S>, Seen<S>, Needed, Needed);
+
+fn answers<D: DependencyProvider>(
+    alloc: D::Alloc,
+    index: &D,
+    [first, second]: [D::SolvableId; 2],
+) -> Result<Answers<D::SolvableId>, StoreError> {
+    Ok((
+        candidates(alloc, index, VersionSetId(0))?,
+        candidates(alloc, index, VersionSetId(2))?,
+        needed(alloc, index, first)?,
+        needed(alloc, index, second)?,
+    ))
+}
+
+/// The texts of two solvables together, and of the second as a key. The text of a solvable's name, and that of several
+/// solvables, are those that the trait has by default.
+fn shows_solvable_texts(
+    alloc: Global,
+    index: &SmallIndex,
+    one: SolvableId,
+    two: SolvableId,
+) -> Result<(), Fail> {
+    if !index.knows_solvable(one) || !index.knows_solvable(two) {
+        return Err(Fail::new("a solvable isn't known"));
+    }
+    shows_solvables(alloc, index, &[two, one, two], "b b 1 | b 2")?;
+    shows_key(alloc, index, SolvableIdOrRoot::Solvable(two), "b 2")
+}
+
 #[test]
-fn a_version_needs_what_its_line_says(rt: HostRuntime) -> Result<(), Fail> {
+fn an_index_answers_what_its_lines_say(rt: HostRuntime) -> Result<(), Fail> {
+    let (first, second) = (SolvableId::from_raw(0), SolvableId::from_raw(1));
+    let (one, two) = (SolvableId::from_raw(2), SolvableId::from_raw(3));
     let index = read(rt.alloc(), TEXT)?;
-    let first = needed(rt.alloc(), &index, 0);
-    let second = needed(rt.alloc(), &index, 1);
+    let seen = answers(rt.alloc(), &index, [first, second]);
+    let shown = shows_solvable_texts(rt.alloc(), &index, one, two);
     drop(index);
+    shown?;
     let always = ConditionalRequirement::from(VersionSetId(0));
     let sometimes = ConditionalRequirement {
         condition: Some(ConditionId::new(0)),
         requirement: Requirement::Single(VersionSetId(1)),
     };
-    sees(first, (Some(always), None))?;
-    sees(second, (Some(sometimes), Some(VersionSetId(3))))
+    let wanted = (
+        (2, Some(one), Some(two)),
+        (0, None, None),
+        (Some(always), None),
+        (Some(sometimes), Some(VersionSetId(3))),
+    );
+    sees(seen, wanted)
 }
 
 /// The fault of a text, if it has one.
@@ -90,10 +121,13 @@ fn fault(alloc: Global, text: &str) -> Option<IndexFault> {
 
 #[test]
 fn an_unreadable_line_is_named(rt: HostRuntime) -> Result<(), Fail> {
+    let faults = [
+        fault(rt.alloc(), TEXT),
+        fault(rt.alloc(), "a 1\n\na\n"),
+        fault(rt.alloc(), "a 1\na 2\na x"),
+        fault(rt.alloc(), "a 1\na 2\na 3 needs b 1-3"),
+        fault(rt.alloc(), "a 1\na 2\na 3 needs b 1..3 if c"),
+    ];
     let third = Some(IndexFault::Unreadable(3));
-    is_same(fault(rt.alloc(), TEXT), None)?;
-    is_same(fault(rt.alloc(), "a 1\n\na\n"), third)?;
-    is_same(fault(rt.alloc(), "a 1\na 2\na x"), third)?;
-    is_same(fault(rt.alloc(), "a 1\na 2\na 3 needs b 1-3"), third)?;
-    is_same(fault(rt.alloc(), "a 1\na 2\na 3 needs b 1..3 if c"), third)
+    is_same(faults, [None, third, third, third, third])
 }

@@ -9,7 +9,6 @@ use test_checks::is_same;
 use typed_ids::{ConditionId, StoreError};
 
 /// Where a condition joins the one before it. At its other side there is a version set.
-#[derive(Clone, Copy)]
 enum Before {
     Left,
     Right,
@@ -19,51 +18,48 @@ enum Before {
 /// How many lists a normal form has, and how many version sets are in the first of them.
 type Size = (usize, usize);
 
-/// One list with each version set; but not of 2^64 of them.
-#[test]
-fn conjunctions_may_be_nested_deep_but_not_too_large(rt: HostRuntime) -> Result<(), Fail> {
-    let joined = Ok((1, 100_001));
-    is_same(nested(rt.alloc(), "and", Before::Left)?, joined)?;
-    is_same(nested(rt.alloc(), "and", Before::Right)?, joined)?;
-    is_same(
-        doubled(rt.alloc(), "and", 16)?,
+/// The word that joins, and where; so many conditions that join the one before them; the number of the request that is
+/// refused, if one is; and the answer.
+type Case = (&'static str, Before, u32, u64, Result<Size, StoreError>);
+
+/// One list with each version set, or a list for each version set; but neither of 2^64 of them.
+const CASES: [Case; 6] = [
+    ("and", Before::Left, 100_000, 0, Ok((1, 100_001))),
+    ("and", Before::Right, 100_000, 0, Ok((1, 100_001))),
+    (
+        "and",
+        Before::BothSides,
+        64,
+        16,
         Err(StoreError::OutOfMemory),
-    )
-}
-
-/// A list for each version set; but no 2^64 lists.
-#[test]
-fn disjunctions_may_be_nested_deep_but_not_too_large(rt: HostRuntime) -> Result<(), Fail> {
-    let listed = Ok((100_001, 1));
-    is_same(nested(rt.alloc(), "or", Before::Left)?, listed)?;
-    is_same(nested(rt.alloc(), "or", Before::Right)?, listed)?;
-    is_same(
-        doubled(rt.alloc(), "or", 1000)?,
+    ),
+    ("or", Before::Left, 100_000, 0, Ok((100_001, 1))),
+    ("or", Before::Right, 100_000, 0, Ok((100_001, 1))),
+    (
+        "or",
+        Before::BothSides,
+        64,
+        1000,
         Err(StoreError::OutOfMemory),
-    )
-}
+    ),
+];
 
-/// The size of a normal form at a depth of 100,000.
-fn nested(alloc: Global, word: &str, before: Before) -> Result<Result<Size, StoreError>, Fail> {
-    let text = catalogue(alloc, word, before, 100_000)?;
-    let seen = size_in(alloc, alloc, text.as_bytes(), 100_000);
-    drop(text);
-    seen
-}
-
-/// The size of a normal form that doubles 64 times, where the request of this number is refused.
-fn doubled(alloc: Global, word: &str, number: u64) -> Result<Result<Size, StoreError>, Fail> {
-    let text = catalogue(alloc, word, Before::BothSides, 64)?;
-    let heap = Refusing::new(alloc);
-    heap.arm(number);
-    let seen = size_in(alloc, &heap, text.as_bytes(), 64);
-    drop(heap);
-    drop(text);
-    seen
+#[test]
+fn conditions_may_be_nested_deep_but_not_too_large(rt: HostRuntime) -> Result<(), Fail> {
+    for (place, (word, before, depth, refused, wanted)) in CASES.iter().enumerate() {
+        let text = catalogue(rt.alloc(), word, before, *depth)?;
+        let heap = Refusing::new(rt.alloc());
+        heap.arm(*refused);
+        let seen = size_in(rt.alloc(), &heap, text.as_bytes(), *depth);
+        drop(heap);
+        drop(text);
+        is_same((place, seen?), (place, *wanted))?;
+    }
+    Ok(())
 }
 
 /// A version set, its condition, and so many conditions that join the one before them.
-fn catalogue(alloc: Global, word: &str, before: Before, depth: u32) -> Result<String, Fail> {
+fn catalogue(alloc: Global, word: &str, before: &Before, depth: u32) -> Result<String, Fail> {
     let mut text = String::from_str(alloc, "package p 1\nset p 1 2\ncondition set 0\n")?;
     for number in 0..depth {
         let (left, right) = match before {

@@ -1,18 +1,9 @@
-//! Normal forms.
-use crate::condition_calls::refused::each_is_refused;
+//! Normal forms, as `catalogue` asks for them.
 use conditions::convert_conditions_to_dnf;
 use pool_callers::is_met;
 use providers::Interner;
-use script_packages::read_catalogue;
 use std::alloc::Allocator;
-use std::test::Fail;
-use test_checks::sees;
 use typed_ids::{ConditionId, StoreError, VersionSetId};
-
-/// The version sets `a`, `b` and `c`, and conditions over them: 0 to 2 are the sets; 3 is `a and b`, 4 is `c and a`, 5 is
-/// `3 or 4`; 6 is `a or b`, 7 is `c or a`, 8 is `6 and 7`, 9 is `6 and c`.
-const CATALOGUE: &[u8] =
-    b"package p 1 2 3\nset p 1 2\nset p 2 3\nset p 3 4\ncondition set 0\ncondition set 1\ncondition set 2\ncondition and 0 1\ncondition and 2 0\ncondition or 3 4\ncondition or 0 1\ncondition or 2 0\ncondition and 6 7\ncondition and 6 2\nbegin\n";
 
 const A: Option<VersionSetId> = Some(VersionSetId(0));
 
@@ -33,31 +24,15 @@ const SIXTH_AND_SEVENTH: Form = [
 ];
 
 /// The normal forms of the conditions 0, 5, 8 and 9.
-const FORMS: [Form; 4] = [
+pub(crate) const FORMS: [Form; 4] = [
     [Some([A, None, None]), None, None, None, None],
     [Some([A, B, None]), Some([C, A, None]), None, None, None],
     SIXTH_AND_SEVENTH,
     [Some([A, C, None]), Some([B, C, None]), None, None, None],
 ];
 
-#[test]
-fn conditions_have_normal_forms_that_keep_the_truth(rt: HostRuntime) -> Result<(), Fail> {
-    match read_catalogue(rt.alloc(), CATALOGUE) {
-        Ok(Some(catalogue)) => {
-            let seen = forms(rt.alloc(), &catalogue.packages);
-            let agrees = met_by_each(rt.alloc(), &catalogue.packages);
-            let refused = each_is_refused(rt.alloc(), &catalogue.packages);
-            drop(catalogue);
-            refused?;
-            sees(seen, FORMS)?;
-            sees(agrees, true)
-        }
-        _ => Err(Fail::new("the catalogue has a begin")),
-    }
-}
-
 /// Whether each of the two conditions is met where it should be, as each of the eight ways to choose version sets shows.
-fn met_by_each<I: Interner, A: Allocator + Copy>(
+pub(crate) fn met_by_each<I: Interner, A: Allocator + Copy>(
     alloc: A,
     interner: &I,
 ) -> Result<bool, StoreError> {
@@ -77,7 +52,7 @@ fn met_by_each<I: Interner, A: Allocator + Copy>(
 }
 
 /// Some of the conditions, in their normal form.
-fn forms<I: Interner, A: Allocator + Copy>(
+pub(crate) fn forms<I: Interner, A: Allocator + Copy>(
     alloc: A,
     interner: &I,
 ) -> Result<[Form; 4], StoreError> {
