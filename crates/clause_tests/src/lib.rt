@@ -23,4 +23,3 @@ mod trail;
 mod variable_calls;
 #[cfg(test)]
 mod watch_lists;
-mod watched_clauses;

@@ -1,5 +1,5 @@
-//! The watch lists: their calls in ample memory, and those that take memory where it is refused.
+//! The watch lists: a walk that moves watches, in ample memory, and the calls that take memory where it is refused.
 
 mod ample;
 mod refused;
-mod seen;
+mod watched_clauses;

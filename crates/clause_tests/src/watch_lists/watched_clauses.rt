@@ -1,0 +1,160 @@
+//! Watch lists and the records of all clauses, kept together as a store keeps them.
+ghost use Rattle.std.specs.Prelude.{◌≡◌, ◌==◌, false, IfSome, IfOk};
+ghost use Rattle.decisions.specs.Literals.{Pos};
+ghost use Rattle.watch_map.specs.WatchLists.{AreWatched};
+ghost use Rattle.watch_map.specs.WatchCalls.{StandsIn};
+
+use decisions::Literal;
+use std::alloc::Allocator;
+use std::marker::Model;
+use typed_ids::{ClauseId, DenseIndex, StoreError, VariableId};
+use watch_map::{WatchMap, WatchMapCursor, WatchedLiterals};
+
+/// Clauses that watch the positive literals of two variables each. They count up from 0.
+#[derive(Drop)]
+pub(crate) struct WatchedClauses<A: Allocator + Copy> {
+    map: WatchMap<A>,
+    watches: Vec<Option<WatchedLiterals>, A>,
+}
+
+/// The lists and the records, which belong to them.
+impl<A: Allocator + Copy> Model for WatchedClauses<A> {
+    ghost use Rattle.watch_map.specs.WatchLists.{WatchLists, Watches, AreWatched};
+
+    ghost Value = { WatchLists × Watches };
+
+    ghost view = { λ c. (c.map, c.watches.items) };
+
+    ghost invariant = { λ c. AreWatched c.map c.watches.items };
+}
+
+/// How many variables are watched, and the lists of four of them.
+pub(crate) type Seen = (usize, [usize; 4]);
+
+impl<A: Allocator + Copy> WatchedClauses<A> {
+    /// No clauses.
+    pub(crate) fn new(alloc: A) -> Result<Self, StoreError> {
+        Ok(WatchedClauses {
+            map: WatchMap::new(alloc)?,
+            watches: Vec::new(alloc),
+        })
+    }
+
+    /// Adds a clause that watches two different variables.
+    pub(crate) fn add(&mut self, first: u16, second: u16) -> Result<(), StoreError>
+        requires { (first == second) ≡ false }
+    {
+        let index = self.watches.len();
+        if !ClauseId::in_range(index) {
+            return Err(StoreError::IdSpace);
+        }
+        self.watches.reserve(1)?;
+        let clause_id = ClauseId::from_index(index);
+        let mut watched = WatchedLiterals::new(positive(first), positive(second));
+        self.map.start_watching(&mut watched, clause_id)?;
+        self.watches.push_reserved(Some(watched));
+        Ok(())
+    }
+
+    /// Makes room in a variable's list.
+    pub(crate) fn make_room(&mut self, variable: u16) -> Result<(), StoreError> {
+        self.map.make_room(positive(variable))
+    }
+
+    /// Walks a variable's list: its first and its third clause are to watch another variable in its place.
+    pub(crate) fn move_first_and_third(&mut self, from: u16, to: u16) -> Result<(), StoreError> {
+        let (from, to) = (positive(from), positive(to));
+        move_first_and_third(&mut self.map, self.watches.as_mut_slice(), from, to)
+    }
+
+    /// What is seen of these variables.
+    pub(crate) fn look_at(&self, [first, second, third, fourth]: [u16; 4]) -> Seen {
+        let lists = [
+            self.list(first),
+            self.list(second),
+            self.list(third),
+            self.list(fourth),
+        ];
+        (self.map.len(), lists)
+    }
+
+    /// The first clauses of a variable's list as the digits of a number: 31 are the third clause and the first.
+    fn list(&self, variable: u16) -> usize {
+        let mut digits: usize = 0;
+        let mut cursor = self.map.cursor(self.watches.as_slice(), positive(variable));
+        'clauses: for _ in 0..9 {
+            let Some(at) = cursor else {
+                return digits;
+            };
+            let digit = at.clause_id().to_index().saturating_add(1);
+            digits = digits.saturating_mul(10).saturating_add(digit);
+            cursor = at.next(&self.map, self.watches.as_slice());
+        }
+        digits
+    }
+}
+
+/// Walks a literal's list: its first and its third clause are to watch another literal in its place.
+fn move_first_and_third<A: Allocator + Copy>(
+    map: &mut WatchMap<A>,
+    watches: &mut [Option<WatchedLiterals>],
+    from: Literal,
+    to: Literal,
+) -> Result<(), StoreError>
+    requires { AreWatched map.old watches.old }
+    ensures { AreWatched map.new watches.new }
+{
+    let first = map.cursor(watches, from);
+    let second = moved(map, watches, first, to)?;
+    let third = passed(map, watches, second);
+    moved(map, watches, third, to)?;
+    Ok(())
+}
+
+/// Lets the clause at the cursor, if there is one, watch another literal, unless it watches that already. The cursor at the
+/// clause behind it.
+fn moved<A: Allocator + Copy>(
+    map: &mut WatchMap<A>,
+    watches: &mut [Option<WatchedLiterals>],
+    cursor: Option<WatchMapCursor>,
+    to: Literal,
+) -> Result<Option<WatchMapCursor>, StoreError>
+    requires watched { AreWatched map.old watches.old }
+    requires stands { IfSome cursor (λ at. StandsIn at map.old watches.old) }
+    ensures watched { AreWatched map.new watches.new }
+    ensures stands { IfOk result (λ next. IfSome next (λ at. StandsIn at map.new watches.new)) }
+{
+    let Some(at) = cursor else {
+        return Ok(None);
+    };
+    let [first, second] = at.watched_literals(watches).watched_literals;
+    if first == to || second == to {
+        return Ok(at.next(map, watches));
+    }
+    match at.update(map, watches, to) {
+        Ok(next) => Ok(next),
+        Err(refused) => Err(refused.error),
+    }
+}
+
+/// The cursor at the clause behind that of the cursor.
+fn passed<A: Allocator + Copy>(
+    map: &WatchMap<A>,
+    watches: &[Option<WatchedLiterals>],
+    cursor: Option<WatchMapCursor>,
+) -> Option<WatchMapCursor>
+    requires { IfSome cursor (λ at. StandsIn at map.now watches.now) }
+    ensures { IfSome result (λ at. StandsIn at map.now watches.now) }
+{
+    match cursor {
+        Some(at) => at.next(map, watches),
+        None => None,
+    }
+}
+
+/// The positive literal of a variable.
+fn positive(variable: u16) -> Literal
+    ensures { result ≡ Pos variable }
+{
+    Literal::new(VariableId::from_index(usize::from(variable)), false)
+}
