@@ -1,6 +1,5 @@
 //! Tests of the list of clauses: its calls in ample memory, and those that take memory where it is refused.
 
 mod ample;
-mod moved;
 mod refused;
 mod seen;

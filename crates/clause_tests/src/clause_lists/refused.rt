@@ -1,72 +1,56 @@
 //! Memory refused at each request in turn. Beside the list to which a request is refused there is a twin in ample memory,
 //! which isn't asked what is refused: the list must tell the same as its twin. Asked again, it succeeds.
-use crate::clause_lists::seen::{clause_id, lock, look_at, negations, negative, positive};
+use crate::clause_lists::seen::{lock, look_at, negations, negative, positive};
 use clause_list::ClauseList;
 use refusing::Refusing;
 use std::alloc::{Allocator, Global};
 use std::test::Fail;
-use test_checks::is_same;
-use typed_ids::{NameId, StoreError};
+use test_checks::sees;
+use typed_ids::{ClauseId, DenseIndex, NameId, StoreError};
 
-/// What is seen of a list to which a request may be refused.
-#[derive(Clone, Copy, Debug, PartialEq, Eq)]
-struct Refusal {
-    /// The number of the request, and whether it came.
-    number: u64,
-    is_met: bool,
-    /// How many calls were refused for want of memory.
-    refused: usize,
-    /// Whether each of those left the list as it was, and then succeeded; and whether in the end the list is as its twin.
-    agrees: bool,
-}
+/// What is seen of a list to which a request may be refused: whether the request came; how many calls were refused; and
+/// whether each of those left the list as it was, and then succeeded, and in the end the list is as its twin.
+type Refusal = (bool, usize, bool);
 
 // A request that is refused is the room for a clause, that for what it watches, that in a literal's list, the copy of its
 // literals, the room for that copy, or the list of clauses that is answered.
 #[test]
 fn refused_calls_leave_the_list_as_it_was(rt: HostRuntime) -> Result<(), Fail> {
     for number in 1..100u64 {
-        if !is_as_wanted(rt.alloc(), number)? {
-            return is_same(number > 8, true);
+        let seen = refused_at(rt.alloc(), number);
+        if number > 8 && seen == Ok((false, 0, true)) {
+            return Ok(());
         }
+        sees(seen, (true, 1, true))?;
     }
     Err(Fail::new("each list met a refusal"))
 }
 
-/// Whether the request of this number came; then one call was refused.
-fn is_as_wanted(alloc: Global, number: u64) -> Result<bool, Fail> {
-    let heap = Refusing::new(alloc);
-    let ample = Refusing::new(alloc);
-    let seen = seen_at(&heap, &ample, number);
-    drop(ample);
+/// What is seen where the request of this number is refused.
+fn refused_at(ample: Global, number: u64) -> Result<Refusal, StoreError> {
+    let heap = Refusing::new(ample);
+    let seen = seen_in(&heap, ample, &heap, number);
     drop(heap);
-    let is_met = seen?.is_met;
-    let wanted = Refusal {
-        number,
-        is_met,
-        refused: usize::from(is_met),
-        agrees: true,
-    };
-    is_same(seen, Ok(wanted))?;
-    Ok(is_met)
+    seen
 }
 
-/// What is seen where the request of this number is refused.
-fn seen_at(
+/// What is seen of a new list, whose requests are counted here, beside a new twin.
+fn seen_in<A: Allocator + Copy, B: Allocator + Copy>(
+    counted: A,
+    ample: B,
     heap: &Refusing<Global>,
-    ample: &Refusing<Global>,
     number: u64,
 ) -> Result<Refusal, StoreError> {
-    let mut list = ClauseList::new(heap)?;
-    let seen = seen_beside_new(heap, &mut list, ample, number);
+    let mut list = ClauseList::new(counted)?;
+    let seen = seen_beside_new(&mut list, ample, heap, number);
     drop(list);
     seen
 }
 
-/// What is seen of the list beside a new twin.
-fn seen_beside_new<A: Allocator + Copy>(
-    heap: &Refusing<Global>,
+fn seen_beside_new<A: Allocator + Copy, B: Allocator + Copy>(
     list: &mut ClauseList<NameId, A>,
-    ample: A,
+    ample: B,
+    heap: &Refusing<Global>,
     number: u64,
 ) -> Result<Refusal, StoreError> {
     let mut twin = ClauseList::new(ample)?;
@@ -76,43 +60,37 @@ fn seen_beside_new<A: Allocator + Copy>(
     heap.arm(0);
     let is_twin = look_at(list) == look_at(&twin);
     drop(twin);
-    Ok(Refusal {
-        number,
-        is_met,
-        refused,
-        agrees: agrees && is_twin,
-    })
+    Ok((is_met, refused, agrees && is_twin))
 }
 
 /// The calls that take memory.
-#[derive(Clone, Copy)]
 enum Call {
     /// A clause that watches the negations of variables 0 and 2.
     Add,
+    /// The same clause, for which room is made before.
+    AddReserved,
     /// A learnt clause that watches the negations of variables 1 and 3.
     Learn,
-    MakeRoom,
-    /// The learnt clause of this index is to watch variable 2 in the place of the negation of 1.
+    /// The clause of this index is to watch the second literal in the place of the first one, as learnt ones can.
     Rewatch(u16),
     Watchers,
 }
 
 /// Makes each call, and once more where it is refused. How many are refused, and whether each of those left the list as it
 /// was and then succeeded.
-fn filled<A: Allocator + Copy>(
+fn filled<A: Allocator + Copy, B: Allocator + Copy>(
     list: &mut ClauseList<NameId, A>,
-    twin: &mut ClauseList<NameId, A>,
+    twin: &mut ClauseList<NameId, B>,
 ) -> (usize, bool) {
     let mut refused: usize = 0;
     let mut agrees = true;
-    for call in [
+    for call in &[
         Call::Add,
         Call::Learn,
         Call::Rewatch(1),
         Call::Watchers,
         Call::Learn,
-        Call::MakeRoom,
-        Call::Add,
+        Call::AddReserved,
         Call::Rewatch(2),
         Call::Add,
         Call::Learn,
@@ -131,17 +109,24 @@ fn filled<A: Allocator + Copy>(
 
 fn made<A: Allocator + Copy>(
     list: &mut ClauseList<NameId, A>,
-    call: Call,
+    call: &Call,
 ) -> Result<(), StoreError> {
     match call {
         Call::Add => {
             list.add(lock(), Some(negations(0, 2)))?;
         }
+        Call::AddReserved => {
+            let watches = Some(negations(2, 4));
+            list.make_room(&watches)?;
+            list.push_reserved(lock(), watches);
+        }
         Call::Learn => {
             list.learn(&[negative(1), positive(2), negative(3)])?;
         }
-        Call::MakeRoom => list.make_room(&Some(negations(2, 4)))?,
-        Call::Rewatch(clause) => list.rewatch(clause_id(clause), negative(1), positive(2))?,
+        Call::Rewatch(clause) => {
+            let id = ClauseId::from_index(usize::from(*clause));
+            list.rewatch(id, negative(1), positive(2))?;
+        }
         Call::Watchers => {
             let found = list.watchers(negative(3))?;
             drop(found);
