@@ -32,18 +32,6 @@ pub(crate) fn made<N: Copy, S: SolverId<A>, A: Allocator + Copy>(
     }
 }
 
-/// A new map, and in it a variable of each origin in turn.
-pub(crate) fn variables_of<N: Copy, S: SolverId<A>, A: Allocator + Copy>(
-    heap: A,
-    origins: &[VariableOrigin<N, S>],
-) -> Result<VariableMap<N, S, A>, StoreError> {
-    let mut variables = VariableMap::new(heap)?;
-    for origin in origins {
-        made(&mut variables, *origin)?;
-    }
-    Ok(variables)
-}
-
 fn knows_requirement<I: Interner>(interner: &I, requirement: Requirement) -> bool
     ensures { result ≡ knows_requirement (I.universe interner.now) requirement }
 {

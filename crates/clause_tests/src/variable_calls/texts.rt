@@ -1,5 +1,5 @@
 //! The texts of variables and of clauses.
-use crate::variable_calls::made::{knows_clause, knows_variable, variables_of};
+use crate::variable_calls::made::{knows_clause, knows_variable, made};
 use clauses::Clause;
 use providers::{Interner, Requirement};
 use script_packages::read_catalogue;
@@ -13,7 +13,7 @@ use variable_info::VariableInfo;
 use variables::{VariableMap, VariableOrigin};
 
 /// Names p and a; solvables p 1, a 1 and a 2; two version sets; a string.
-const CATALOGUE: &[u8] = b"package p 1\npackage a 1 2\nset a 1 2\nset a 1 3\nstring old\nbegin\n";
+const CATALOGUE: &str = "package p 1\npackage a 1 2\nset a 1 2\nset a 1 3\nstring old\nbegin\n";
 
 /// The origin of a variable of the catalogue's packages.
 type Origin = VariableOrigin<NameId, SolvableId>;
@@ -26,14 +26,15 @@ fn name() -> NameId {
     NameId::from_raw(1)
 }
 
-/// Appends the texts of all variables, each with a line's end behind it.
+/// Makes a variable of each origin in turn, and appends its text, with a line's end behind it.
 fn display_variables<I: Interner>(
     interner: &I,
-    variables: &VariableMap<I::NameId, I::SolvableId, I::Alloc>,
+    variables: &mut VariableMap<I::NameId, I::SolvableId, I::Alloc>,
+    origins: &[VariableOrigin<I::NameId, I::SolvableId>],
     out: &mut String<I::Alloc>,
 ) -> Result<(), StoreError> {
-    for index in 0..variables.count() {
-        let variable = VariableId::from_index(index);
+    for origin in origins {
+        let variable = made(variables, *origin)?;
         if knows_variable(interner, variables, variable) {
             variable.display(variables, interner, out)?;
             out.push_str("\n")?;
@@ -58,17 +59,7 @@ fn display_clauses<I: Interner>(
     Ok(())
 }
 
-fn display_both<I: Interner>(
-    interner: &I,
-    variables: &VariableMap<I::NameId, I::SolvableId, I::Alloc>,
-    clauses: &[Clause<I::NameId>],
-    out: &mut String<I::Alloc>,
-) -> Result<(), StoreError> {
-    display_variables(interner, variables, out)?;
-    display_clauses(interner, variables, clauses, out)
-}
-
-/// The root, variables of these origins, and clauses over them have these texts.
+/// Variables of these origins, made one after the other, and clauses over them have these texts.
 fn have_texts<I: Interner>(
     heap: I::Alloc,
     interner: &I,
@@ -76,11 +67,13 @@ fn have_texts<I: Interner>(
     clauses: &[Clause<I::NameId>],
     wanted: &str,
 ) -> Result<(), Fail> {
-    let variables = variables_of(heap, origins)?;
+    let mut variables = VariableMap::new(heap)?;
     let mut text = String::new(heap);
-    let displayed = display_both(interner, &variables, clauses, &mut text);
+    let variables_shown = display_variables(interner, &mut variables, origins, &mut text);
+    let clauses_shown = display_clauses(interner, &variables, clauses, &mut text);
     drop(variables);
-    let ended = is_same((displayed, text.as_str()), (Ok(()), wanted));
+    let seen = (variables_shown, clauses_shown, text.as_str());
+    let ended = is_same(seen, (Ok(()), Ok(()), wanted));
     drop(text);
     ended
 }
@@ -89,13 +82,15 @@ fn variable(index: u16) -> VariableId {
     VariableId::from_index(index as usize)
 }
 
-/// A variable of each kind: p 1, a 1, a 2, and the helpers.
-fn origins() -> [Origin; 7] {
+/// The root, p 1, a 1, a 2, and p 1 again, which has a variable already; then the helpers.
+fn origins() -> [Origin; 9] {
     let set = VersionSetId(0);
     [
+        VariableOrigin::Root,
         solvable(0),
         solvable(1),
         solvable(2),
+        solvable(0),
         VariableOrigin::AtLeastOne(name()),
         VariableOrigin::ConstrainsViolation(set),
         VariableOrigin::RequiresGate(Requirement::Single(set)),
@@ -129,6 +124,7 @@ const TEXTS: &str = "root
 p 1
 a 1
 a 2
+p 1
 any-of(a)
 constrains-violation(a >=1, <2)
 requires-gate(a >=1, <2)
@@ -148,7 +144,7 @@ AnyOf(any-of(a)(VariableId(5)), a 1(VariableId(3)))
 
 #[test]
 fn variables_and_clauses_have_texts(rt: HostRuntime) -> Result<(), Fail> {
-    match read_catalogue(rt.alloc(), CATALOGUE) {
+    match read_catalogue(rt.alloc(), CATALOGUE.as_bytes()) {
         Ok(Some(catalogue)) => {
             let ended = have_texts(
                 rt.alloc(),
