@@ -10,7 +10,6 @@ mod clause_lists;
 mod literals;
 #[cfg(test)]
 mod new_clauses;
-mod queue_anew;
 #[cfg(test)]
 mod queue_calls;
 #[cfg(test)]

@@ -1,5 +1,5 @@
 //! Tests of the calls of a queue that no store makes, or makes in ample memory alone: which requirements a variable's
-//! listing has (`listings`, which reads rows into occurrences), and a queue that is brought up to date after refusals
+//! listing has (`listings`, which reads rows into occurrences), and a queue that is brought up to date after a refusal
 //! (`syncs`).
 
 mod listings;

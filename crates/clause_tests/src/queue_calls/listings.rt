@@ -19,88 +19,71 @@ type Seen = [(bool, bool); 4];
 /// The variables 1 and 2 are rows of the set, 2, 3 and 1 of the union, and 0 is no row.
 const BOTH: Seen = [(false, false), (true, true), (true, true), (false, true)];
 
+/// Whether a request was refused while the requirements were listed, and what is seen once they are listed again.
+type Again = (bool, Seen);
+
+/// Both are listed in ample memory, and, whatever request is refused, by the next listing.
 #[test]
 fn listed_by_their_rows(rt: HostRuntime) -> Result<(), Fail> {
-    sees(both_listed(rt.alloc()), BOTH)
+    for number in 0..5u64 {
+        sees(listed_at(rt.alloc(), number), (number > 0, BOTH))?;
+    }
+    Ok(())
 }
 
-/// What is seen once both are listed.
-fn both_listed<A: Allocator + Copy>(heap: A) -> Result<Seen, StoreError> {
-    let lists = some_lists(heap)?;
-    let mut occurrences = Occurrences::new(heap);
-    let listed = list_both(&lists, &mut occurrences);
-    let seen = seen(&occurrences);
-    drop(occurrences);
-    drop(lists);
-    listed.map(|()| seen)
-}
-
-/// Whether a request was refused while the requirements were listed, and what is seen once they are listed again.
-#[derive(Clone, Copy, Debug, PartialEq, Eq)]
-struct Again {
-    is_refused: bool,
-    seen: Seen,
-}
-
-/// Whatever request is refused, the next listing lists all.
-#[test]
-fn listed_again_after_a_refusal(rt: HostRuntime) -> Result<(), Fail> {
-    let heap = Refusing::new(rt.alloc());
-    let first = listed_again(&heap, 1);
-    let second = listed_again(&heap, 2);
-    let third = listed_again(&heap, 3);
-    let fourth = listed_again(&heap, 4);
+/// What is seen where the request of this number is refused, and none at 0.
+fn listed_at(alloc: Global, number: u64) -> Result<Again, StoreError> {
+    let heap = Refusing::new(alloc);
+    let again = listed_in(&heap, &heap, number);
     drop(heap);
-    let wanted = Again {
-        is_refused: true,
-        seen: BOTH,
-    };
-    sees(first, wanted)?;
-    sees(second, wanted)?;
-    sees(third, wanted)?;
-    sees(fourth, wanted)
+    again
 }
 
-/// What is seen in memory that refuses the request of this number.
-fn listed_again(heap: &Refusing<Global>, number: u64) -> Result<Again, StoreError> {
-    let lists = some_lists(heap)?;
-    let mut occurrences = Occurrences::new(heap);
-    let again = list_again(heap, number, &lists, &mut occurrences);
+/// What is seen in memory of which the requests are counted here.
+fn listed_in<A: Allocator + Copy>(
+    counted: A,
+    heap: &Refusing<Global>,
+    number: u64,
+) -> Result<Again, StoreError> {
+    let mut lists = RequirementMap::new(counted);
+    let mut occurrences = Occurrences::new(counted);
+    let again = list_again(counted, heap, number, &mut lists, &mut occurrences);
     drop(occurrences);
     drop(lists);
     again
 }
 
-/// Lists the requirements while the request of this number is refused, and then once more.
+/// Lists the requirements, once they have lists, while the request of this number is refused, and once more where it came.
 fn list_again<A: Allocator + Copy>(
+    counted: A,
     heap: &Refusing<Global>,
     number: u64,
-    lists: &Lists<A>,
+    lists: &mut Lists<A>,
     occurrences: &mut Occurrences<A>,
 ) -> Result<Again, StoreError> {
+    add_lists(counted, lists)?;
     heap.arm(number);
-    let of_set = list(lists, SET, occurrences);
-    let of_union = list(lists, UNION, occurrences);
+    let is_refused = is_one_refused(lists, occurrences);
     heap.arm(0);
-    list_both(lists, occurrences)?;
-    let refused = Err(StoreError::OutOfMemory);
-    Ok(Again {
-        is_refused: of_set == refused || of_union == refused,
-        seen: seen(occurrences),
-    })
+    if is_refused && is_one_refused(lists, occurrences) {
+        return Err(StoreError::OutOfMemory);
+    }
+    Ok((is_refused, seen(occurrences)))
+}
+
+/// Reads the rows of both requirements. Whether one was refused.
+fn is_one_refused<A: Allocator + Copy>(lists: &Lists<A>, occurrences: &mut Occurrences<A>) -> bool {
+    let mut is_refused = false;
+    for requirement in [SET, UNION] {
+        if list(lists, requirement, occurrences) == Err(StoreError::OutOfMemory) {
+            is_refused = true;
+        }
+    }
+    is_refused
 }
 
 /// The lists of each requirement.
 type Lists<A> = RequirementMap<Vec<Vec<VariableId, A>, A>, A>;
-
-/// The lists of the set and of the union.
-fn some_lists<A: Allocator + Copy>(heap: A) -> Result<Lists<A>, StoreError> {
-    let mut lists = RequirementMap::new(heap);
-    match add_lists(heap, &mut lists) {
-        Ok(()) => Ok(lists),
-        Err(error) => Err(error),
-    }
-}
 
 fn add_lists<A: Allocator + Copy>(heap: A, lists: &mut Lists<A>) -> Result<(), StoreError> {
     lists.insert(SET, lists_of(heap, &[&[1, 2, 2]])?)?;
@@ -129,15 +112,6 @@ fn list_of<A: Allocator + Copy>(heap: A, indexes: &[u8]) -> Result<Vec<VariableI
 
 fn variable(index: u8) -> VariableId {
     VariableId::from_index(usize::from(index))
-}
-
-/// Reads the rows of both requirements.
-fn list_both<A: Allocator + Copy>(
-    lists: &Lists<A>,
-    occurrences: &mut Occurrences<A>,
-) -> Result<(), StoreError> {
-    list(lists, SET, occurrences)?;
-    list(lists, UNION, occurrences)
 }
 
 /// Reads the rows of a requirement that has lists.

@@ -1,6 +1,4 @@
-//! Queues that are brought up to date with a trail, in ample memory and where a request is refused.
-
-use crate::queue_anew::sync_anew;
+//! A queue of which each call is made, and that is brought up to date with a trail where a request was refused.
 use clauses::Disjunction;
 use decisions::{Decision, DecisionTracker};
 use id_storage::Arena;
@@ -10,105 +8,88 @@ use refusing::Refusing;
 use resolvo_queue::DecideQueue;
 use std::alloc::{Allocator, Global};
 use std::test::Fail;
-use test_checks::{is_same, sees};
+use test_checks::sees;
 use typed_ids::{
     ClauseId, DenseIndex, DisjunctionId, NameId, StoreError, VariableId, VersionSetId,
 };
 
-/// What a queue answers.
-#[derive(Clone, Copy, Debug, PartialEq, Eq)]
-struct Answered {
-    is_empty: bool,
-    len: usize,
-    is_full: bool,
-}
+/// What a queue answers to a sync that is refused, and to the next one, once the trail is longer; and how many clauses it
+/// has.
+type Answers = (Result<(), StoreError>, Result<(), StoreError>, usize);
 
-/// Each call that takes memory is accepted in ample memory.
+/// Each call that takes memory is accepted in ample memory, and a sync that was refused is accepted when it is asked again.
 #[test]
-fn calls_in_ample_memory(rt: HostRuntime) -> Result<(), Fail> {
-    let wanted = Answered {
-        is_empty: false,
-        len: 2,
-        is_full: false,
-    };
-    let names = [NameId::from_raw(0)];
-    sees(answered_by_new::<Lists<Global>>(rt.alloc(), &names), wanted)
-}
-
-fn answered_by_new<D: DependencyProvider>(
-    heap: D::Alloc,
-    names: &[D::NameId],
-) -> Result<Answered, StoreError> {
-    let mut queue: DecideQueue<D> = DecideQueue::new(heap);
-    let mut trail = DecisionTracker::new(heap);
-    let disjunctions = Arena::new(heap);
-    let answered = make_each_call(&mut queue, &mut trail, names, &disjunctions);
-    drop(disjunctions);
-    drop(trail);
-    drop(queue);
-    answered
-}
-
-/// What a queue answers in the end, of which each call is made.
-fn make_each_call<D: DependencyProvider>(
-    queue: &mut DecideQueue<D>,
-    trail: &mut DecisionTracker<D::Alloc>,
-    names: &[D::NameId],
-    disjunctions: &Arena<DisjunctionId, Disjunction<D::Alloc>, D::Alloc>,
-) -> Result<Answered, StoreError> {
-    queue.set_standard_activity_params(false);
-    register(queue, 0, names, disjunctions)?;
-    sync_anew(queue, trail)?;
-    decide(trail, 0)?;
-    for name in names {
-        queue.mark_name_hot(*name)?;
-    }
-    register(queue, 1, names, disjunctions)?;
-    sync_anew(queue, trail)?;
-    Ok(Answered {
-        is_empty: queue.is_empty(),
-        len: queue.len(),
-        is_full: queue.is_full(),
-    })
-}
-
-/// A refused call is answered so, with the trail changed before the next one, which is accepted.
-#[test]
-fn refused_and_asked_again(rt: HostRuntime) -> Result<(), Fail> {
+fn calls_are_accepted_after_a_refusal(rt: HostRuntime) -> Result<(), Fail> {
     let heap = Refusing::new(rt.alloc());
-    let answers = asked_again::<Lists<&Refusing<Global>>>(&heap, &heap);
+    let names = [NameId::from_raw(0)];
+    let answers = answers_of_new::<Lists<&Refusing<Global>>>(&heap, &heap, &names);
     drop(heap);
-    is_same(answers, Ok((Err(StoreError::OutOfMemory), Ok(()))))
+    sees(answers, (Err(StoreError::OutOfMemory), Ok(()), 2))
 }
-
-type Answers = (Result<(), StoreError>, Result<(), StoreError>);
 
 /// The answers of a queue in memory of which the requests are counted here.
-fn asked_again<D: DependencyProvider>(
-    heap: D::Alloc,
-    requests: &Refusing<Global>,
+fn answers_of_new<D: DependencyProvider>(
+    counted: D::Alloc,
+    heap: &Refusing<Global>,
+    names: &[D::NameId],
 ) -> Result<Answers, StoreError> {
-    let mut queue: DecideQueue<D> = DecideQueue::new(heap);
-    let mut trail = DecisionTracker::new(heap);
-    let answers = ask_again(&mut queue, &mut trail, requests);
+    let mut queue: DecideQueue<D> = DecideQueue::new(counted);
+    let mut trail = DecisionTracker::new(counted);
+    let disjunctions = Arena::new(counted);
+    let answers = answers_of(&mut queue, &mut trail, heap, names, &disjunctions);
+    drop(disjunctions);
     drop(trail);
     drop(queue);
     answers
 }
 
-fn ask_again<D: DependencyProvider>(
+fn answers_of<D: DependencyProvider>(
     queue: &mut DecideQueue<D>,
     trail: &mut DecisionTracker<D::Alloc>,
-    requests: &Refusing<Global>,
+    heap: &Refusing<Global>,
+    names: &[D::NameId],
+    disjunctions: &Arena<DisjunctionId, Disjunction<D::Alloc>, D::Alloc>,
 ) -> Result<Answers, StoreError> {
+    let len = registered(queue, names, disjunctions)?;
+    let (refused, again) = synced_twice(queue, trail, heap)?;
+    Ok((refused, again, len))
+}
+
+/// How many clauses a queue has once two are registered, of packages that are hot.
+fn registered<D: DependencyProvider>(
+    queue: &mut DecideQueue<D>,
+    names: &[D::NameId],
+    disjunctions: &Arena<DisjunctionId, Disjunction<D::Alloc>, D::Alloc>,
+) -> Result<usize, StoreError> {
+    for index in 0..2u8 {
+        register(queue, index, names, disjunctions)?;
+    }
+    for name in names {
+        queue.mark_name_hot(*name)?;
+    }
+    Ok(queue.len())
+}
+
+/// The answers to a sync that is refused, and to the next one, with the trail changed between them.
+fn synced_twice<D: DependencyProvider>(
+    queue: &mut DecideQueue<D>,
+    trail: &mut DecisionTracker<D::Alloc>,
+    heap: &Refusing<Global>,
+) -> Result<(Result<(), StoreError>, Result<(), StoreError>), StoreError> {
     decide(trail, 0)?;
-    decide(trail, 1)?;
-    requests.arm(1);
+    heap.arm(1);
     let refused = sync_anew(queue, trail);
-    requests.arm(0);
-    trail.undo_until(1);
-    let again = sync_anew(queue, trail);
-    Ok((refused, again))
+    heap.arm(0);
+    decide(trail, 1)?;
+    Ok((refused, sync_anew(queue, trail)))
+}
+
+/// Brings a queue up to date with a trail of which it knows nothing.
+fn sync_anew<D: DependencyProvider>(
+    queue: &mut DecideQueue<D>,
+    trail: &DecisionTracker<D::Alloc>,
+) -> Result<(), StoreError> {
+    queue.sync(0, trail.assignments(), trail.map())
 }
 
 /// Gives a variable a value at the level after its index.
