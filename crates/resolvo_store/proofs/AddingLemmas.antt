@@ -1,7 +1,8 @@
 -- Adding clauses: what the list of clauses answers makes a step.
 use Rattle.std.proofs.Common.{◌≡◌, ℕ, ◌<◌, ◌-◌, ◌^◌, Bool, true, false, cond, not, List, [], ◌∷◌, ◌++◌, length, Option, None, Some, Result, Ok, Err, refl, arith, sym, ◌∙◌, ap, subst}
 use Rattle.std.specs.List.{list_all}
-use Rattle.std.specs.Prelude.{IsTrue, ◌&&◌, is_some, is_none, nat_le, find, option_map, slice_get, unwrap_or, MatchOption, IfOk, IfSome, OnOk, OnErr, IfErr, IsErrAnd}
+use Rattle.std.specs.Option.{option_map_or}
+use Rattle.std.specs.Prelude.{IsTrue, ◌&&◌, is_some, is_none, nat_le, nat_lt, find, option_map, slice_get, unwrap_or, MatchOption, IfOk, IfSome, OnOk, OnErr, IfErr, IsErrAnd}
 use Rattle.std.proofs.lemmas.Bool.Decides.{nat_tests}
 use Rattle.typed_ids.specs.Refusals.{IsGrowthRefusal}
 use Rattle.typed_ids.specs.declared.error.StoreError.{StoreError}
@@ -18,7 +19,8 @@ use Rattle.clause_list.specs.ClauseList.{Clauses, two_or_none, with_clause as pu
 use Rattle.resolvo_store.specs.declared.reply.Reply.{Reply as ProgramReply}
 use Rattle.resolvo_store.specs.Command.{Command, Disjunction, Learnt, Requires, Bump, Rewatch, Watchers, Reply, ClauseIs, Done, WatchersAre, Refused, IsRefused, reply_of, answer_of}
 use Rattle.resolvo_store.specs.Store.{Store, Provider, Kept, store_of, values, kept_literals, clause_literals, watched_by, lists_of}
-use Rattle.resolvo_store.specs.Refusals.{first_refusal, are_disjunctions_out, are_clauses_out, is_learnt_out, clause_refusals, is_bad_learnt, may_rewatch, knows_clause, knows_literal, knows_variable, knows_disjunction, negates_parent}
+use Rattle.resolvo_store.specs.Refusals.{first_refusal, are_disjunctions_out, are_clauses_out, is_learnt_out, clause_refusals, is_bad_learnt, may_rewatch, knows_clause, knows_literal, knows_variable, knows_pair, knows_disjunction, negates_parent}
+use Rattle.resolvo_store.specs.Adding.{is_direct, adding, names_known}
 use Rattle.resolvo_store.specs.Outcome.{outcome, adds_clause, with_clause, with_learnt, with_registered, with_rewatched}
 use Rattle.resolvo_store.specs.Step.{Step, IsAnswered, lacks_ids, takes_no_memory}
 
@@ -76,6 +78,17 @@ pub none_yet : (b : Bool) (e : StoreError) (rs : List (Bool × StoreError)) → 
 none_yet false e rs h = refl
 none_yet true e rs h = (let no : true ≡ false = h in cc)
 
+-- one that applies is the first
+pub found_first : (b : Bool) (e : StoreError) (rs : List (Bool × StoreError)) → b ≡ true → first_of ((b, e) ∷ rs) ≡ Some e
+found_first true e rs h = refl
+found_first false e rs h = (let no : false ≡ true = h in cc)
+
+-- three tests don't hold where the last doesn't
+last_fails : (a b d : Bool) → d ≡ false → (a && (b && d)) ≡ false
+last_fails true true d h = h
+last_fails true false d h = refl
+last_fails false b d h = refl
+
 pub ids_alone : (out : Bool) → first_of ((out, IdSpace) ∷ []) ≡ cond out (Some IdSpace) None
 ids_alone true = refl
 ids_alone false = refl
@@ -86,6 +99,33 @@ module _ {N S : Type 0} (st : Store N S) where
   -- nothing is unknown: no clause id is left, or nothing is foreseen
   pub first_if_known : (known : Bool) → known ≡ true → first_of (clause_refusals st known) ≡ cond (are_clauses_out st) (Some IdSpace) None
   first_if_known known h = none_yet (not known) UnknownId ((are_clauses_out st, IdSpace) ∷ []) (ap not h) ∙ ids_alone (are_clauses_out st)
+
+  -- the same of a clause that a command names whole
+  pub first_of_direct : (c : Clause N) → is_direct c ≡ true → names_known st.provider.universe (length st.origins) c ≡ true
+      → first_refusal st (adding c) ≡ cond (are_clauses_out st) (Some IdSpace) None
+  first_of_direct Kind.InstallRoot direct known = first_if_known true known
+  first_of_direct (Kind.Constrains a b v) direct known = first_if_known (knows_pair st a b && st.provider.universe.knows_set v) known
+  first_of_direct (Kind.ConstrainsExcluded a b v) direct known = first_if_known (knows_pair st a b && st.provider.universe.knows_set v) known
+  first_of_direct (Kind.ConstrainsParent a b v) direct known = first_if_known (knows_pair st a b && st.provider.universe.knows_set v) known
+  first_of_direct (Kind.Lock a b) direct known = first_if_known (knows_pair st a b) known
+  first_of_direct (Kind.Excluded a reason) direct known = first_if_known (knows_variable st a && st.provider.universe.knows_string reason) known
+  first_of_direct (Kind.AnyOf a b) direct known = first_if_known (knows_pair st a b) known
+  first_of_direct (Kind.Requires parent d r) direct known = (let no : false ≡ true = direct in cc)
+  first_of_direct (Kind.ForbidMultipleInstances a l n) direct known = (let no : false ≡ true = direct in cc)
+  first_of_direct (Kind.Learnt id) direct known = (let no : false ≡ true = direct in cc)
+
+  -- it lacks no other ids, takes memory, and adds the clause
+  pub direct_adds : (c : Clause N) → is_direct c ≡ true → (lacks_ids st (adding c) ≡ false) × (takes_no_memory st (adding c) ≡ false) × (adds_clause st c ≡ outcome st (adding c))
+  direct_adds Kind.InstallRoot direct = (refl, refl, refl)
+  direct_adds (Kind.Constrains a b v) direct = (refl, refl, refl)
+  direct_adds (Kind.ConstrainsExcluded a b v) direct = (refl, refl, refl)
+  direct_adds (Kind.ConstrainsParent a b v) direct = (refl, refl, refl)
+  direct_adds (Kind.Lock a b) direct = (refl, refl, refl)
+  direct_adds (Kind.Excluded a reason) direct = (refl, refl, refl)
+  direct_adds (Kind.AnyOf a b) direct = (refl, refl, refl)
+  direct_adds (Kind.Requires parent d r) direct = absurd (let no : false ≡ true = direct in cc)
+  direct_adds (Kind.ForbidMultipleInstances a l n) direct = absurd (let no : false ≡ true = direct in cc)
+  direct_adds (Kind.Learnt id) direct = absurd (let no : false ≡ true = direct in cc)
 
   -- nothing is wrong with the literals of a learnt clause
   pub first_of_learnt : (ls : List Lit) → list_all (knows_literal st) ls ≡ true → is_bad_learnt ls ≡ false
@@ -98,6 +138,66 @@ module _ {N S : Type 0} (st : Store N S) where
   pub disjunction_known : (d : Option ℕ) → knows_disjunction st d ≡ true → IfSome d (λ i. i < length st.disjunctions)
   disjunction_known None known = tt
   disjunction_known (Some i) known = (let within : i < length st.disjunctions = grind (arith, nat_tests, known) in within)
+
+  -- a refusal that is foreseen
+  pub step_foreseen : (c : Command N S) (e : StoreError) → first_refusal st c ≡ Some e → Step st c (Refused e) st
+  step_foreseen c e first = subst (λ o. MatchOption o (IsAnswered st c (Refused e) st) (λ x. (Refused e ≡ Refused x) × (st ≡ st))) (sym first) (refl, refl)
+
+  -- whether a disjunction is kept, where there are as many
+  kept_same : (d : Option ℕ) (disjunctions : ℕ) → disjunctions ≡ length st.disjunctions → option_map_or (λ x. nat_lt x disjunctions) d true ≡ knows_disjunction st d
+  kept_same None disjunctions same = refl
+  kept_same (Some x) disjunctions same = ap (nat_lt x) same
+
+  module _ (parent : ℕ) (r : Requirement) (d : Option ℕ) where
+    -- whether all is known that a requires clause names
+    abbrev pub is_all_known : Bool
+    is_all_known = knows_variable st parent && (knows_requirement st.provider.universe r && knows_disjunction st d)
+
+    abbrev is_queue_full : Bool
+    is_queue_full = nat_le (2 ^ 32 - 1) (length st.requires)
+
+    pub all_known_is : (disjunctions : ℕ) → disjunctions ≡ length st.disjunctions
+        → (nat_lt parent (length st.origins) && (knows_requirement st.provider.universe r && option_map_or (λ x. nat_lt x disjunctions) d true)) ≡ is_all_known
+    all_known_is disjunctions same = ap (λ b. knows_variable st parent && (knows_requirement st.provider.universe r && b)) (kept_same d disjunctions same)
+
+    -- each of it is known then
+    pub each_known : is_all_known ≡ true → (knows_requirement st.provider.universe r ≡ true) × (parent < length st.origins) × IfSome d (λ x. x < length st.disjunctions)
+    each_known known =
+        let parts = both (knows_variable st parent) (knows_requirement st.provider.universe r && knows_disjunction st d) known in
+        let two = both (knows_requirement st.provider.universe r) (knows_disjunction st d) parts.1 in
+        let within : parent < length st.origins = (let test = parts.0 in grind (arith, nat_tests, test)) in
+        (two.0, within, disjunction_known d two.1)
+
+    abbrev with_room : List (Bool × StoreError)
+    with_room = (is_queue_full, TooManyClauses) ∷ (are_clauses_out st, IdSpace) ∷ []
+
+    abbrev beside_parent : List (Bool × StoreError)
+    beside_parent = (negates_parent st parent d, NegatesParent) ∷ with_room
+
+    -- the first refusal of a requires clause, by the first test that applies
+    pub first_of_unknown : is_all_known ≡ false → first_refusal st (Requires parent r d) ≡ Some UnknownId
+    first_of_unknown known = found_first (not is_all_known) UnknownId ((is_none (lists_of st r), NotLoaded) ∷ beside_parent) (ap not known)
+
+    to_loaded : is_all_known ≡ true → first_refusal st (Requires parent r d) ≡ first_of ((is_none (lists_of st r), NotLoaded) ∷ beside_parent)
+    to_loaded known = none_yet (not is_all_known) UnknownId ((is_none (lists_of st r), NotLoaded) ∷ beside_parent) (ap not known)
+
+    pub first_of_unloaded : is_all_known ≡ true → is_some (lists_of st r) ≡ false → first_refusal st (Requires parent r d) ≡ Some NotLoaded
+    first_of_unloaded known loaded = to_loaded known ∙ found_first (is_none (lists_of st r)) NotLoaded beside_parent (none_there (lists_of st r) loaded)
+      where
+        none_there : {X : Type 0} (o : Option X) → is_some o ≡ false → is_none o ≡ true
+        none_there None h = refl
+        none_there (Some x) h = (let no : true ≡ false = h in cc)
+
+    to_parent : is_all_known ≡ true → is_some (lists_of st r) ≡ true → first_refusal st (Requires parent r d) ≡ first_of beside_parent
+    to_parent known loaded = to_loaded known ∙ none_yet (is_none (lists_of st r)) NotLoaded beside_parent (not_none (lists_of st r) loaded)
+
+    pub first_of_negating : is_all_known ≡ true → is_some (lists_of st r) ≡ true → negates_parent st parent d ≡ true → first_refusal st (Requires parent r d) ≡ Some NegatesParent
+    first_of_negating known loaded negates = to_parent known loaded ∙ found_first (negates_parent st parent d) NegatesParent with_room negates
+
+    pub first_of_full : is_all_known ≡ true → is_some (lists_of st r) ≡ true → negates_parent st parent d ≡ false → is_queue_full ≡ true
+        → first_refusal st (Requires parent r d) ≡ Some TooManyClauses
+    first_of_full known loaded apart full =
+        to_parent known loaded ∙ none_yet (negates_parent st parent d) NegatesParent with_room apart ∙ found_first is_queue_full TooManyClauses ((are_clauses_out st, IdSpace) ∷ []) full
 
   -- a requires clause of what is known and loaded, whose condition doesn't negate its parent, has room in the queue
   pub first_of_requires : (parent : ℕ) (r : Requirement) (disjunction : Option ℕ)
@@ -139,6 +239,13 @@ module _ {N S : Type 0} (st : Store N S) where
       by_tests true true = refl
       by_tests true false = refl
       by_tests false b = refl
+
+  -- one that isn't the clause's
+  pub without_literal : (c : ℕ) (from to : Lit) → (knows_clause st c && (knows_literal st from && knows_literal st to)) ≡ true
+      → is_literal_in to (clause_literals st c) ≡ false → first_refusal st (Rewatch c from to) ≡ Some BadWatch
+  without_literal c from to known none =
+      none_yet (not (knows_clause st c && (knows_literal st from && knows_literal st to))) UnknownId ((not (may_rewatch st c from to), BadWatch) ∷ []) (ap not known)
+      ∙ found_first (not (may_rewatch st c from to)) BadWatch [] (ap not (last_fails (is_literal_in from (watched_by st c)) (not (is_literal_in to (watched_by st c))) (is_literal_in to (clause_literals st c)) none))
 
   -- a watch was moved
   pub step_rewatched : (c : ℕ) (from to : Lit) (can : Bool) {after : Store N S} → first_refusal st (Rewatch c from to) ≡ cond can None (Some BadWatch) → IsTrue can
@@ -268,28 +375,29 @@ module _ {D N S C : Type 0} (provided : D → Provider N S) (scored : C → N �
       step_refused (store kept) c out e first memory (growth_refusal out e refused (λ h. cc (ids_out h)))
       (ap (λ l. with_both kept l requires) err ∙ ap (with_both kept (clauses_kept kept)) left)
 
-  -- where the list is asked to add a clause that isn't registered
-  pub step_added : {A : Type 0} (c : Command N S) (clause : Clause N) (watch : Option (List Lit)) (conflict : Bool) (result : Result (ProgramReply A) StoreError)
-      (cs : Clauses N) {kept old : Kept D N S C} (is : kept ≡ old)
-      → first_refusal (store old) c ≡ cond (are_clauses_out (store old)) (Some IdSpace) None → lacks_ids (store kept) c ≡ false → takes_no_memory (store kept) c ≡ false
-      → adds_clause (store kept) clause ≡ outcome (store kept) c
+  -- where the list is asked to add a clause that the command names whole
+  pub step_added : {A : Type 0} (clause : Clause N) (watch : Option (List Lit)) (conflict : Bool) (result : Result (ProgramReply A) StoreError)
+      (cs : Clauses N) {kept old : Kept D N S C} (is : kept ≡ old) → is_direct clause ≡ true
+      → names_known (provided kept.provider).universe (length kept.origins) clause ≡ true
       → watch ≡ first_watches (kept_literals (store kept)) (values (store kept)) clause → conflict ≡ is_conflict (kept_literals (store kept)) (values (store kept)) clause
       → IfOk result (λ reply. reply_of reply ≡ ClauseIs (length kept.clauses) conflict)
       → OnOk result (cs ≡ pushed (clauses_kept kept) clause watch)
       → OnErr result (cs ≡ clauses_kept kept)
       → IfErr result (IsGrowthRefusal (are_clauses_out (store kept))) → (IsTrue (are_clauses_out (store kept)) → result ≡ Err IdSpace)
-      → Step (store old) c (answer_of result) (with_both kept cs kept.requires)
-  step_added c clause watch conflict result cs {kept} {old} is first lacks memory makes w k said ok err refused ids_out =
+      → Step (store old) (adding clause) (answer_of result) (with_both kept cs kept.requires)
+  step_added clause watch conflict result cs {kept} {old} is direct known w k said ok err refused ids_out =
+      let c : Command N S = adding clause in
       let more : Clauses N = pushed (clauses_kept kept) clause watch in
+      let adds = direct_adds (store kept) clause direct in
       subst (λ o. Step (store o) c (answer_of result) (with_both kept cs kept.requires)) is
       (answered c conflict (are_clauses_out (store kept)) result kept cs more kept.requires kept.requires
-      (subst (λ o. first_refusal (store o) c ≡ cond (are_clauses_out (store o)) (Some IdSpace) None) (sym is) first) lacks memory
-      (ap (ClauseIs (length kept.clauses)) k ∙ ap (λ o. o.reply) makes)
-      (with_made (store kept) clause w ∙ ap (λ o. o.store) makes) said ok (always result refl) err (always_err result refl) refused ids_out)
+      (first_of_direct (store kept) clause direct known) adds.0 adds.1
+      (ap (ClauseIs (length kept.clauses)) k ∙ ap (λ o. o.reply) adds.2)
+      (with_made (store kept) clause w ∙ ap (λ o. o.store) adds.2) said ok (always result refl) err (always_err result refl) refused ids_out)
 
   -- where it is asked to add a learnt one
   pub step_learnt : {A : Type 0} (ls : List Lit) (result : Result (ProgramReply A) StoreError) (cs : Clauses N) {kept old : Kept D N S C} (is : kept ≡ old)
-      → first_refusal (store old) (Learnt ls) ≡ cond (is_learnt_out (store old)) (Some IdSpace) None
+      → first_refusal (store kept) (Learnt ls) ≡ cond (is_learnt_out (store kept)) (Some IdSpace) None
       → IfOk result (λ reply. reply_of reply ≡ ClauseIs (length kept.clauses) false)
       → OnOk result (cs ≡ learnt_one (clauses_kept kept) ls)
       → OnErr result (cs ≡ clauses_kept kept)
@@ -299,7 +407,7 @@ module _ {D N S C : Type 0} (provided : D → Provider N S) (scored : C → N �
       let more : Clauses N = learnt_one (clauses_kept kept) ls in
       subst (λ o. Step (store o) (Learnt ls) (answer_of result) (with_both kept cs kept.requires)) is
       (answered (Learnt ls) false (is_learnt_out (store kept)) result kept cs more kept.requires kept.requires
-      (subst (λ o. first_refusal (store o) (Learnt ls) ≡ cond (is_learnt_out (store o)) (Some IdSpace) None) (sym is) first) refl refl
+      first refl refl
       refl (ap (λ x. with_clause (with_learnt (store kept) ls) (Kind.Learnt (length kept.learnt)) (two_or_none x)) (learnt_watches (store kept) ls))
       said ok (always result refl) err (always_err result refl) refused ids_out)
 
@@ -307,8 +415,8 @@ module _ {D N S C : Type 0} (provided : D → Provider N S) (scored : C → N �
   pub step_registered : {A : Type 0} (parent : ℕ) (r : Requirement) (disjunction : Option ℕ) {clause : Clause N} (watch : Option (List Lit)) (conflict : Bool)
       (result : Result (ProgramReply A) StoreError) (cs : Clauses N) (requires : List RequiresClause) {kept old : Kept D N S C} (is : kept ≡ old)
       → clause ≡ Kind.Requires parent disjunction r
-      → first_refusal (store old) (Requires parent r disjunction) ≡ cond (are_clauses_out (store old)) (Some IdSpace) None
-      → watch ≡ first_watches (kept_literals (store old)) (values (store old)) clause → conflict ≡ is_conflict (kept_literals (store old)) (values (store old)) clause
+      → first_refusal (store kept) (Requires parent r disjunction) ≡ cond (are_clauses_out (store kept)) (Some IdSpace) None
+      → watch ≡ first_watches (kept_literals (store kept)) (values (store kept)) clause → conflict ≡ is_conflict (kept_literals (store kept)) (values (store kept)) clause
       → IfOk result (λ reply. reply_of reply ≡ ClauseIs (length kept.clauses) conflict)
       → OnOk result (cs ≡ pushed (clauses_kept kept) clause watch)
       → OnOk result (requires ≡ kept.requires ++ record { parent = parent; requirement = r; condition = disjunction; clause_id = length kept.clauses } ∷ [])
@@ -319,13 +427,9 @@ module _ {D N S C : Type 0} (provided : D → Provider N S) (scored : C → N �
       let c : Command N S = Requires parent r disjunction in
       let st : Store N S = with_registered (store kept) parent r disjunction in
       let more : Clauses N = pushed (clauses_kept kept) clause watch in
-      let at_kept : watch ≡ first_watches (kept_literals (store kept)) (values (store kept)) clause =
-      subst (λ o. watch ≡ first_watches (kept_literals (store o)) (values (store o)) clause) (sym is) w in
-      let conflicts : conflict ≡ is_conflict (kept_literals (store kept)) (values (store kept)) clause =
-      subst (λ o. conflict ≡ is_conflict (kept_literals (store o)) (values (store o)) clause) (sym is) k in
       subst (λ o. Step (store o) c (answer_of result) (with_both kept cs requires)) is
       (answered c conflict (are_clauses_out (store kept)) result kept cs more requires
       (kept.requires ++ record { parent = parent; requirement = r; condition = disjunction; clause_id = length kept.clauses } ∷ [])
-      (subst (λ o. first_refusal (store o) c ≡ cond (are_clauses_out (store o)) (Some IdSpace) None) (sym is) first) refl refl
-      (ap (ClauseIs (length kept.clauses)) conflicts ∙ ap (λ x. (adds_clause st x).reply) kind)
-      (with_made st clause at_kept ∙ ap (λ x. (adds_clause st x).store) kind) said ok queued err left refused ids_out)
+      first refl refl
+      (ap (ClauseIs (length kept.clauses)) k ∙ ap (λ x. (adds_clause st x).reply) kind)
+      (with_made st clause w ∙ ap (λ x. (adds_clause st x).store) kind) said ok queued err left refused ids_out)

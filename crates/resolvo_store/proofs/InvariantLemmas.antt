@@ -18,7 +18,6 @@ use Rattle.variables.specs.Variables.{with_variables, interned_variable}
 use Rattle.decisions.specs.Trail.{Entry, Trail, val, pushed, floor_taken, AddsEntry}
 use Rattle.decisions.specs.declared.decision_tracker.AddFault.{AddFault}
 use Rattle.decisions.specs.Literals.{Lit}
-use Rattle.clauses.specs.ClauseTexts.{IsKnownClause}
 use Rattle.clauses.specs.declared.clause.Clause.{Clause}
 use Rattle.clauses.specs.declared.clause.Clause.TheVariants as Kind
 use Rattle.clauses.specs.Clauses.{first_watches}
@@ -45,7 +44,8 @@ use Rattle.resolvo_store.proofs.ListLemmas.{items_of, lookup-none, insert-kept, 
 use Rattle.solver_cache.specs.Cache.{Cache, is_set_asked}
 use Rattle.solver_cache.specs.Questions.{IsLater}
 use Rattle.solver_cache.proofs.CacheLemmas.{asked_later}
-use Rattle.resolvo_store.proofs.KnownLemmas.{IsKnownSolvable, IsLawful}
+use Rattle.resolvo_store.specs.Adding.{is_direct, names_known}
+use Rattle.resolvo_store.proofs.KnownLemmas.{IsKnownSolvable, IsLawful, known_direct}
 use Rattle.resolvo_store.proofs.SoundLaws.{IsSound-scored, IsSound-pushed, IsSound-added, IsSound-disjunction, IsSound-learnt, IsSound-requires, IsSound-rewatched, IsSound-with_variables, IsSound-interned}
 
 -- what comes of success, or of failure
@@ -81,6 +81,19 @@ with_list st cs = record st { clauses = cs.clauses; watches = cs.watches; learnt
 pub forbidden_bits : {N S : Type 0} (name : N) (st : Store N S) (cs : List (BitClause ℕ)) → with_list st (with_forbidden name (list_of st) cs) ≡ with_bits name st cs
 forbidden_bits name st [] = refl
 forbidden_bits name st (c ∷ cs) = forbidden_bits name (adds_clause st (forbidding name c)).store cs
+
+-- a clause that a command names whole is plain
+plain_direct : {N : Type 0} (c : Clause N) → is_direct c ≡ true → IsPlain c
+plain_direct Kind.InstallRoot direct = record { unregistered = λ id. refl; untracked = λ named. refl }
+plain_direct (Kind.Constrains a b v) direct = record { unregistered = λ id. refl; untracked = λ named. refl }
+plain_direct (Kind.ConstrainsExcluded a aux v) direct = record { unregistered = λ id. refl; untracked = λ named. refl }
+plain_direct (Kind.ConstrainsParent a aux v) direct = record { unregistered = λ id. refl; untracked = λ named. refl }
+plain_direct (Kind.Lock locked other) direct = record { unregistered = λ id. refl; untracked = λ named. refl }
+plain_direct (Kind.Excluded a reason) direct = record { unregistered = λ id. refl; untracked = λ named. refl }
+plain_direct (Kind.AnyOf selected other) direct = record { unregistered = λ id. refl; untracked = λ named. refl }
+plain_direct (Kind.Requires parent d r) direct = absurd (let no : false ≡ true = direct in cc)
+plain_direct (Kind.ForbidMultipleInstances a l n) direct = absurd (let no : false ≡ true = direct in cc)
+plain_direct (Kind.Learnt id) direct = absurd (let no : false ≡ true = direct in cc)
 
 -- a new queue, without clauses, may be asked
 pub new_may_ask : {N S A Q : Type 0} {has : Q → N → Bool} (queue : Queue N Q) (refs : References N S A) (trail : Trail) → IsNew has queue → ((any : References N S A) → StandsOn any queue)
@@ -195,14 +208,14 @@ module _ {D N S A H Q : Type 0} {has : Q → N → Bool} {st : Store N S} {loade
     ];
   }
 
-  -- after a clause was to be added that isn't registered
-  pub after_plain : {T E : Type 0} (c kind : Clause N) (watch : Option (List Lit)) {cs : Clauses N} (result : Result T E)
-      → watch ≡ first_watches (kept_literals st) (values st) c → c ≡ kind → IsKnownClause st.provider.universe st.origins kind → IsPlain kind
+  -- after a clause was to be added that its command names whole
+  pub after_direct : {T E : Type 0} (c : Clause N) (watch : Option (List Lit)) {cs : Clauses N} (result : Result T E)
+      → is_direct c ≡ true → names_known st.provider.universe (length st.origins) c ≡ true → watch ≡ first_watches (kept_literals st) (values st) c
       → OnOk result (cs ≡ list_added clauses_now c watch) → OnErr result (cs ≡ clauses_now) → IsConsistent has (with_clauses cs) loaded disjunctions cache queue trail
-  after_plain c kind watch result watches same_kind known plain ok err =
+  after_direct c watch result direct known watches ok err =
       after_change (list_added clauses_now c watch) result
       (subst (λ w. IsSound (with_clauses (list_added clauses_now c w))) (sym watches)
-      (subst (λ d. IsSound (with_clauses (list_added clauses_now d (first_watches (kept_literals st) (values st) d)))) (sym same_kind) (IsSound-added st is.sound kind known plain))) ok err
+      (IsSound-added st is.sound c (known_direct st.provider.universe st.origins is.sound.origins_known c known) (plain_direct c direct))) ok err
 
   -- after one was to be learnt
   pub after_learnt : {T E : Type 0} (ls : List Lit) {cs : Clauses N} (result : Result T E)

@@ -15,6 +15,7 @@ use Rattle.variable_info.specs.VariableTexts.{knows_origin}
 use Rattle.clauses.specs.ClauseTexts.{IsKnown, IsKnownClause}
 use Rattle.clauses.specs.declared.clause.Clause.{Clause}
 use Rattle.clauses.specs.declared.clause.Clause.TheVariants as Kind
+use Rattle.resolvo_store.specs.Adding.{names_known}
 use Rattle.resolvo_store.specs.Store.{Provider}
 use Rattle.resolvo_store.proofs.AddingLemmas.{both}
 
@@ -74,25 +75,34 @@ module _ {N S : Type 0} (universe : Universe N S) where
 
   -- by the tests of a command that adds a clause
   module _ (os : List (VariableOrigin N S)) (all : All IsKnownOrigin os) where
-    pub known_one : (v : ℕ) → nat_lt v (length os) ≡ true → IsKnown universe os v
+    known_one : (v : ℕ) → nat_lt v (length os) ≡ true → IsKnown universe os v
     known_one v test = variable_known os all v (let within : v < length os = grind (arith, nat_tests, test) in within)
 
-    pub known_two : (v w : ℕ) → (nat_lt v (length os) && nat_lt w (length os)) ≡ true → IsKnown universe os v × IsKnown universe os w
+    known_two : (v w : ℕ) → (nat_lt v (length os) && nat_lt w (length os)) ≡ true → IsKnown universe os v × IsKnown universe os w
     known_two v w test =
         let tests = both (nat_lt v (length os)) (nat_lt w (length os)) test in
         (known_one v tests.0, known_one w tests.1)
 
-    pub known_three : (v w : ℕ) (third : Bool) → ((nat_lt v (length os) && nat_lt w (length os)) && third) ≡ true
+    known_three : (v w : ℕ) (third : Bool) → ((nat_lt v (length os) && nat_lt w (length os)) && third) ≡ true
         → IsKnown universe os v × IsKnown universe os w × (third ≡ true)
     known_three v w third test =
         let tests = both (nat_lt v (length os) && nat_lt w (length os)) third test in
         let two = known_two v w tests.0 in
         (two.0, two.1, tests.1)
 
-    pub known_excluded : (v : ℕ) (second : Bool) → (nat_lt v (length os) && second) ≡ true → IsKnown universe os v × (second ≡ true)
-    known_excluded v second test =
-        let tests = both (nat_lt v (length os)) second test in
-        (known_one v tests.0, tests.1)
+    pub known_direct : (c : Clause N) → names_known universe (length os) c ≡ true → IsKnownClause universe os c
+    known_direct Kind.InstallRoot test = tt
+    known_direct (Kind.Constrains a b v) test = known_three a b (universe.knows_set v) test
+    known_direct (Kind.ConstrainsExcluded a aux v) test = known_three a aux (universe.knows_set v) test
+    known_direct (Kind.ConstrainsParent a aux v) test = known_three a aux (universe.knows_set v) test
+    known_direct (Kind.Lock locked other) test = known_two locked other test
+    known_direct (Kind.Excluded a reason) test =
+        let tests = both (nat_lt a (length os)) (universe.knows_string reason) test in
+        (known_one a tests.0, tests.1)
+    known_direct (Kind.AnyOf selected other) test = known_two selected other test
+    known_direct (Kind.Requires parent d r) test = absurd (let no : false ≡ true = test in cc)
+    known_direct (Kind.ForbidMultipleInstances a l n) test = absurd (let no : false ≡ true = test in cc)
+    known_direct (Kind.Learnt id) test = tt
 
 -- ---- candidates
 

@@ -25,7 +25,7 @@ use Rattle.resolvo_store.specs.Sound.{IsSound, IsLoaded, IsRegistered, IsAssigne
 use Rattle.resolvo_store.proofs.AddingLemmas.{both, failed, disjunction_known}
 use Rattle.resolvo_store.proofs.SoundLaws.{IsSound-with_variable, IsSound-interned, IsSound-added, IsSound-helper, IsSound-requires, IsSound-disjunction, IsSound-learnt, IsSound-scored, IsSound-rewatched, IsSound-assigned, IsSound-without_newest, IsSound-kept_until, IsSound-hands_next}
 use Rattle.resolvo_store.proofs.TrackedLaws.{IsSound-tracked}
-use Rattle.resolvo_store.proofs.KnownLemmas.{IsKnownOrigin, IsLawful, known_two, known_three, known_excluded, all_known}
+use Rattle.resolvo_store.proofs.KnownLemmas.{IsKnownOrigin, IsLawful, known_direct, all_known}
 
 -- ---- refusals
 
@@ -80,22 +80,22 @@ module _ {N S : Type 0} (st : Store N S) (sound : IsSound st) (lawful : IsLawful
       IsSound-requires st sound parent disjunction r requirement.0 known (is_there (lists_of st r) tests.1.0) (disjunction_known st disjunction requirement.1)
   IsSound-outcome Root none = IsSound-added st sound Kind.InstallRoot tt (record { unregistered = λ id. refl; untracked = λ named. refl })
   IsSound-outcome (Constrains parent forbidden v) none =
-      let known = known_three universe st.origins sound.origins_known parent forbidden _ (passed _ (test_of (Constrains parent forbidden v) none).0) in
+      let known = known_direct universe st.origins sound.origins_known (Kind.Constrains parent forbidden v) (passed _ (test_of (Constrains parent forbidden v) none).0) in
       IsSound-added st sound (Kind.Constrains parent forbidden v) known (record { unregistered = λ id. refl; untracked = λ named. refl })
   IsSound-outcome (ConstrainsExcluded candidate aux v) none =
-      let known = known_three universe st.origins sound.origins_known candidate aux _ (passed _ (test_of (ConstrainsExcluded candidate aux v) none).0) in
+      let known = known_direct universe st.origins sound.origins_known (Kind.ConstrainsExcluded candidate aux v) (passed _ (test_of (ConstrainsExcluded candidate aux v) none).0) in
       IsSound-added st sound (Kind.ConstrainsExcluded candidate aux v) known (record { unregistered = λ id. refl; untracked = λ named. refl })
   IsSound-outcome (ConstrainsParent parent aux v) none =
-      let known = known_three universe st.origins sound.origins_known parent aux _ (passed _ (test_of (ConstrainsParent parent aux v) none).0) in
+      let known = known_direct universe st.origins sound.origins_known (Kind.ConstrainsParent parent aux v) (passed _ (test_of (ConstrainsParent parent aux v) none).0) in
       IsSound-added st sound (Kind.ConstrainsParent parent aux v) known (record { unregistered = λ id. refl; untracked = λ named. refl })
   IsSound-outcome (Lock locked other) none =
-      let known = known_two universe st.origins sound.origins_known locked other (passed _ (test_of (Lock locked other) none).0) in
+      let known = known_direct universe st.origins sound.origins_known (Kind.Lock locked other) (passed _ (test_of (Lock locked other) none).0) in
       IsSound-added st sound (Kind.Lock locked other) known (record { unregistered = λ id. refl; untracked = λ named. refl })
   IsSound-outcome (Exclude v reason) none =
-      let known = known_excluded universe st.origins sound.origins_known v _ (passed _ (test_of (Exclude v reason) none).0) in
+      let known = known_direct universe st.origins sound.origins_known (Kind.Excluded v reason) (passed _ (test_of (Exclude v reason) none).0) in
       IsSound-added st sound (Kind.Excluded v reason) known (record { unregistered = λ id. refl; untracked = λ named. refl })
   IsSound-outcome (AnyOf selected other) none =
-      let known = known_two universe st.origins sound.origins_known selected other (passed _ (test_of (AnyOf selected other) none).0) in
+      let known = known_direct universe st.origins sound.origins_known (Kind.AnyOf selected other) (passed _ (test_of (AnyOf selected other) none).0) in
       IsSound-added st sound (Kind.AnyOf selected other) known (record { unregistered = λ id. refl; untracked = λ named. refl })
   IsSound-outcome (Learnt ls) none = IsSound-learnt st sound ls
   IsSound-outcome (Assign v value clause level) none =

@@ -1,3 +1,4 @@
+pub mod Adding
 pub mod Command
 pub mod CommandLaws
 pub mod ForbidsTwo

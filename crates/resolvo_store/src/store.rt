@@ -12,7 +12,8 @@
 //! - `store/assigning.rt`: `Assign`, `UndoLast`, `UndoUntil` and `Unpropagated`, which change the trail;
 //! - `store/watching.rt`: `Rewatch` and `Watchers`, which move a watch and tell who watches;
 //! - `store/deciding.rt`: `Decide`, which changes nothing that is seen, and its two halves as calls of their own;
-//! - `store/reading.rt`: no commands, but what is read beside the replies.
+//! - `store/reading.rt`: no commands, but what is read beside the replies;
+//! - `store/known.rt`: no commands, but tests of what they name.
 //!
 //! Each method's contract is the step of its command. So a method takes back what it changed before it was refused, as a
 //! `Load` gives up the variables that it made; or it makes room first, as a `Requires` does before it registers its clause.
@@ -23,6 +24,7 @@ ghost use Rattle.decisions.specs.Trail.{val};
 mod adding;
 mod assigning;
 mod deciding;
+mod known;
 mod loading;
 mod reading;
 mod registering;
@@ -34,7 +36,7 @@ use crate::abstract_store::AbstractStore;
 use crate::command::Command;
 use crate::reply::Reply;
 use clause_list::ClauseList;
-use clauses::Disjunction;
+use clauses::{Clause, Disjunction};
 use decisions::DecisionTracker;
 use id_maps::{IdMap, IdSet, SolverId};
 use id_storage::Arena;
@@ -181,6 +183,19 @@ impl<D: DependencyProvider + Drop> ClauseStore<D> {
     {
         // What is true of each store is true of this one: a look at a field tells it.
         let _cache = &self.cache;
+        self.dispatch(command)
+    }
+
+    /// Hands a command to the method that obeys it.
+    fn dispatch(
+        &mut self,
+        command: &Command<D::NameId, D::SolvableId, D::Alloc>,
+    ) -> Result<Reply<D::Alloc>, StoreError>
+        ensures step { Step (⟦<D as AbstractStore>⟧.store self.old) (command_of command.now)
+            (answer_of result) (⟦<D as AbstractStore>⟧.store self.new) }
+        ensures answered { IfOk result (λ reply. IsRefused (reply_of reply) → ⊥) }
+        ensures provider { self.new.provider ≡ self.old.provider }
+    {
         match command {
             Command::Variable(solvable) => self.variable(*solvable),
             Command::Helper(origin) => self.helper(*origin),
@@ -188,19 +203,19 @@ impl<D: DependencyProvider + Drop> ClauseStore<D> {
             Command::Requires(parent, requirement, disjunction) => {
                 self.requires_clause(*parent, *requirement, *disjunction)
             }
-            Command::Root => self.root(),
+            Command::Root => self.add(Clause::InstallRoot),
             Command::Constrains(parent, forbidden, set) => {
-                self.constrains(*parent, *forbidden, *set)
+                self.add(Clause::Constrains(*parent, *forbidden, *set))
             }
             Command::ConstrainsExcluded(candidate, aux, set) => {
-                self.constrains_excluded(*candidate, *aux, *set)
+                self.add(Clause::ConstrainsExcluded(*candidate, *aux, *set))
             }
             Command::ConstrainsParent(parent, aux, set) => {
-                self.constrains_parent(*parent, *aux, *set)
+                self.add(Clause::ConstrainsParent(*parent, *aux, *set))
             }
-            Command::Lock(locked, other) => self.lock(*locked, *other),
-            Command::Exclude(variable, reason) => self.exclude(*variable, *reason),
-            Command::AnyOf(selected, other) => self.any_of(*selected, *other),
+            Command::Lock(locked, other) => self.add(Clause::Lock(*locked, *other)),
+            Command::Exclude(variable, reason) => self.add(Clause::Excluded(*variable, *reason)),
+            Command::AnyOf(selected, other) => self.add(Clause::AnyOf(*selected, *other)),
             Command::Learnt(literals) => self.learnt(literals),
             Command::Assign(variable, value, clause, level) => {
                 self.assign(*variable, *value, *clause, *level)

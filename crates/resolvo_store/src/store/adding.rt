@@ -1,160 +1,45 @@
 //! The commands that add clauses of any kind but `Requires`.
-ghost use Rattle.std.specs.Prelude.{◌≡◌, ◌<◌, ◌&&◌, false, length, Err, IsTrue, IfOk, OnOk, OnErr, IfErr};
-ghost use Rattle.std.specs.List.{list_all};
+ghost use Rattle.std.specs.Prelude.{◌≡◌, ◌<◌, true, false, length, Err, IsTrue, IfOk, OnOk, OnErr, IfErr};
 ghost use Rattle.typed_ids.specs.declared.error.StoreError.TheVariants.{IdSpace};
 ghost use Rattle.typed_ids.specs.Refusals.{IsGrowthRefusal};
+ghost use Rattle.decisions.specs.Trail.{val};
+ghost use Rattle.clauses.specs.Clauses.{Kept, first_watches, is_conflict};
 ghost use Rattle.watch_map.specs.Watching.{AreTwoOrNone};
 ghost use Rattle.clause_list.specs.ClauseList.{contents, literals_watched, two_or_none, is_full, is_learnt_full, with_clause, with_learnt};
+ghost use Rattle.resolvo_store.specs.Adding.{is_direct, names_known};
 ghost use Rattle.resolvo_store.specs.Command.{ClauseIs, reply_of};
 ghost use Rattle.resolvo_store.specs.Refusals.{is_bad_learnt};
 
 use crate::abstract_store::AbstractStore;
 use crate::reply::Reply;
 use crate::store::ClauseStore;
+use crate::store::known::{are_below, knows_literals};
 use clause_list::ClauseList;
 use clauses::Clause;
-use decisions::Literal;
+use decisions::{DecisionTracker, Literal};
 use providers::{DependencyProvider, Interner};
 use std::alloc::Allocator;
-use typed_ids::{DenseIndex, StoreError, StringId, VariableId, VersionSetId};
+use typed_ids::{DenseIndex, StoreError, VariableId};
 use watch_map::WatchedLiterals;
 
 impl<D: DependencyProvider + Drop> ClauseStore<D> {
-    ghost use Rattle.resolvo_store.specs.Command.{Root, Constrains, ConstrainsExcluded, ConstrainsParent, Lock, Exclude, AnyOf, Learnt};
-    ghost use Rattle.resolvo_store.specs.Command.{answer_of, IsRefused};
-    ghost use Rattle.resolvo_store.specs.Refusals.{knows_variable, knows_literal, knows_pair};
+    ghost use Rattle.resolvo_store.specs.Adding.{adding};
+    ghost use Rattle.resolvo_store.specs.Command.{Learnt, answer_of, IsRefused};
     ghost use Rattle.resolvo_store.specs.Step.{Step};
 
-    /// Adds the clause that the root is true.
-    pub(super) fn root(&mut self) -> Result<Reply<D::Alloc>, StoreError>
-        ensures step { Step (⟦<D as AbstractStore>⟧.store self.old) Root
+    /// Adds a clause that its command names whole: one that is neither registered for decisions, nor tracked, nor learnt.
+    pub(super) fn add(&mut self, clause: Clause<D::NameId>) -> Result<Reply<D::Alloc>, StoreError>
+        requires { is_direct clause ≡ true }
+        ensures step { Step (⟦<D as AbstractStore>⟧.store self.old) (adding clause)
             (answer_of result) (⟦<D as AbstractStore>⟧.store self.new) }
         ensures answered { IfOk result (λ reply. IsRefused (reply_of reply) → ⊥) }
         ensures provider { self.new.provider ≡ self.old.provider }
     {
-        let (watches, clause) = WatchedLiterals::root();
-        add_clause(&mut self.clauses, clause, watches, false)
-    }
-
-    /// Adds the clause that the parent forbids the other variable.
-    pub(super) fn constrains(
-        &mut self,
-        parent: VariableId,
-        forbidden: VariableId,
-        set: VersionSetId,
-    ) -> Result<Reply<D::Alloc>, StoreError>
-        ensures step { Step (⟦<D as AbstractStore>⟧.store self.old) (Constrains parent forbidden set)
-            (answer_of result) (⟦<D as AbstractStore>⟧.store self.new) }
-        ensures answered { IfOk result (λ reply. IsRefused (reply_of reply) → ⊥) }
-        ensures provider { self.new.provider ≡ self.old.provider }
-    {
-        if !self.knows_between(parent, forbidden, set) {
+        if !knows_named(self.variables.count(), self.cache.provider(), clause) {
             return Err(StoreError::UnknownId);
         }
-        let (watches, conflict, clause) = WatchedLiterals::constrains(
-            parent,
-            forbidden,
-            set,
-            &self.trail,
-        );
+        let (watches, conflict) = first_watches(clause, &self.trail);
         add_clause(&mut self.clauses, clause, watches, conflict)
-    }
-
-    /// Adds the clause that a candidate outside the version set makes true what stands for all of them.
-    pub(super) fn constrains_excluded(
-        &mut self,
-        candidate: VariableId,
-        aux: VariableId,
-        set: VersionSetId,
-    ) -> Result<Reply<D::Alloc>, StoreError>
-        ensures step { Step (⟦<D as AbstractStore>⟧.store self.old) (ConstrainsExcluded candidate aux set)
-            (answer_of result) (⟦<D as AbstractStore>⟧.store self.new) }
-        ensures answered { IfOk result (λ reply. IsRefused (reply_of reply) → ⊥) }
-        ensures provider { self.new.provider ≡ self.old.provider }
-    {
-        if !self.knows_between(candidate, aux, set) {
-            return Err(StoreError::UnknownId);
-        }
-        let (watches, clause) = WatchedLiterals::constrains_excluded(candidate, aux, set);
-        add_clause(&mut self.clauses, clause, watches, false)
-    }
-
-    /// Adds the clause that the parent forbids what stands for all candidates outside the version set.
-    pub(super) fn constrains_parent(
-        &mut self,
-        parent: VariableId,
-        aux: VariableId,
-        set: VersionSetId,
-    ) -> Result<Reply<D::Alloc>, StoreError>
-        ensures step { Step (⟦<D as AbstractStore>⟧.store self.old) (ConstrainsParent parent aux set)
-            (answer_of result) (⟦<D as AbstractStore>⟧.store self.new) }
-        ensures answered { IfOk result (λ reply. IsRefused (reply_of reply) → ⊥) }
-        ensures provider { self.new.provider ≡ self.old.provider }
-    {
-        if !self.knows_between(parent, aux, set) {
-            return Err(StoreError::UnknownId);
-        }
-        let (watches, conflict, clause) = WatchedLiterals::constrains_parent(
-            parent,
-            aux,
-            set,
-            &self.trail,
-        );
-        add_clause(&mut self.clauses, clause, watches, conflict)
-    }
-
-    /// Adds the clause that the other variable isn't true, since the first one is locked.
-    pub(super) fn lock(
-        &mut self,
-        locked: VariableId,
-        other: VariableId,
-    ) -> Result<Reply<D::Alloc>, StoreError>
-        ensures step { Step (⟦<D as AbstractStore>⟧.store self.old) (Lock locked other)
-            (answer_of result) (⟦<D as AbstractStore>⟧.store self.new) }
-        ensures answered { IfOk result (λ reply. IsRefused (reply_of reply) → ⊥) }
-        ensures provider { self.new.provider ≡ self.old.provider }
-    {
-        if !self.knows_pair(locked, other) {
-            return Err(StoreError::UnknownId);
-        }
-        let (watches, clause) = WatchedLiterals::lock(locked, other);
-        add_clause(&mut self.clauses, clause, watches, false)
-    }
-
-    /// Adds the clause that the variable isn't true.
-    pub(super) fn exclude(
-        &mut self,
-        variable: VariableId,
-        reason: StringId,
-    ) -> Result<Reply<D::Alloc>, StoreError>
-        ensures step { Step (⟦<D as AbstractStore>⟧.store self.old) (Exclude variable reason)
-            (answer_of result) (⟦<D as AbstractStore>⟧.store self.new) }
-        ensures answered { IfOk result (λ reply. IsRefused (reply_of reply) → ⊥) }
-        ensures provider { self.new.provider ≡ self.old.provider }
-    {
-        if !self.knows_excluded(variable, reason) {
-            return Err(StoreError::UnknownId);
-        }
-        let (watches, clause) = WatchedLiterals::exclude(variable, reason);
-        add_clause(&mut self.clauses, clause, watches, false)
-    }
-
-    /// Adds the clause that the first variable is true where the other one is.
-    pub(super) fn any_of(
-        &mut self,
-        selected: VariableId,
-        other: VariableId,
-    ) -> Result<Reply<D::Alloc>, StoreError>
-        ensures step { Step (⟦<D as AbstractStore>⟧.store self.old) (AnyOf selected other)
-            (answer_of result) (⟦<D as AbstractStore>⟧.store self.new) }
-        ensures answered { IfOk result (λ reply. IsRefused (reply_of reply) → ⊥) }
-        ensures provider { self.new.provider ≡ self.old.provider }
-    {
-        if !self.knows_pair(selected, other) {
-            return Err(StoreError::UnknownId);
-        }
-        let (watches, clause) = WatchedLiterals::any_of(selected, other);
-        add_clause(&mut self.clauses, clause, watches, false)
     }
 
     /// Adds a learnt clause with these literals.
@@ -164,7 +49,7 @@ impl<D: DependencyProvider + Drop> ClauseStore<D> {
         ensures answered { IfOk result (λ reply. IsRefused (reply_of reply) → ⊥) }
         ensures provider { self.new.provider ≡ self.old.provider }
     {
-        if !self.knows_literals(literals) {
+        if !knows_literals(literals, self.variables.count()) {
             return Err(StoreError::UnknownId);
         }
         if is_bad_learnt(literals) {
@@ -172,42 +57,69 @@ impl<D: DependencyProvider + Drop> ClauseStore<D> {
         }
         learn_clause(&mut self.clauses, literals)
     }
+}
 
-    /// Whether the store has the variable.
-    pub(super) fn knows_variable(&self, variable: VariableId) -> bool
-        ensures { result ≡ knows_variable (⟦<D as AbstractStore>⟧.store self.now) variable }
-    {
-        variable.to_index() < self.variables.count()
+/// Whether all is known that the clause names, where there are so many variables.
+fn knows_named<D: DependencyProvider>(
+    variables: usize,
+    provider: &D,
+    clause: Clause<D::NameId>,
+) -> bool
+    ensures { result ≡ names_known (D.universe provider.now) variables clause }
+{
+    match clause {
+        Clause::InstallRoot => true,
+        Clause::Constrains(first, second, set)
+        | Clause::ConstrainsExcluded(first, second, set)
+        | Clause::ConstrainsParent(first, second, set) => {
+            are_below(first, second, variables) && provider.knows_version_set(set)
+        }
+        Clause::Lock(first, second) | Clause::AnyOf(first, second) => {
+            are_below(first, second, variables)
+        }
+        Clause::Excluded(variable, reason) => {
+            variable.to_index() < variables && provider.knows_string(reason)
+        }
+        Clause::Requires(_, _, _) | Clause::ForbidMultipleInstances(_, _, _) | Clause::Learnt(_) =>
+            false,
     }
+}
 
-    fn knows_pair(&self, first: VariableId, second: VariableId) -> bool
-        ensures { result ≡ knows_pair (⟦<D as AbstractStore>⟧.store self.now) first second }
-    {
-        self.knows_variable(first) && self.knows_variable(second)
-    }
-
-    fn knows_between(&self, first: VariableId, second: VariableId, set: VersionSetId) -> bool
-        ensures { result ≡ (knows_pair (⟦<D as AbstractStore>⟧.store self.now) first second
-            && (D.universe self.now.provider).knows_set set) }
-    {
-        self.knows_pair(first, second) && self.cache.provider().knows_version_set(set)
-    }
-
-    fn knows_excluded(&self, variable: VariableId, reason: StringId) -> bool
-        ensures { result ≡ (knows_variable (⟦<D as AbstractStore>⟧.store self.now) variable
-            && (D.universe self.now.provider).knows_string reason) }
-    {
-        self.knows_variable(variable) && self.cache.provider().knows_string(reason)
-    }
-
-    /// Whether the store has the variables of all these literals.
-    pub(super) fn knows_literals(&self, literals: &[Literal]) -> bool
-        ensures { result ≡ list_all (knows_literal (⟦<D as AbstractStore>⟧.store self.now)) literals.now }
-    {
-        let count = self.variables.count();
-        literals
-            .iter()
-            .all(|literal| literal.variable().to_index() < count)
+/// What a new clause that is named whole watches, and whether it is a conflict.
+fn first_watches<N: Copy, A: Allocator + Copy>(
+    clause: Clause<N>,
+    trail: &DecisionTracker<A>,
+) -> (Option<WatchedLiterals>, bool)
+    requires { is_direct clause ≡ true }
+    ensures watches { (k : Kept) → literals_watched result.0 ≡ first_watches k (val trail.now.entries) clause }
+    ensures conflict { (k : Kept) → result.1 ≡ is_conflict k (val trail.now.entries) clause }
+{
+    match clause {
+        Clause::Constrains(parent, forbidden, set) => {
+            let (watches, conflict, _) = WatchedLiterals::constrains::<N, A>(
+                parent, forbidden, set, trail,
+            );
+            (watches, conflict)
+        }
+        Clause::ConstrainsParent(parent, aux, set) => {
+            let (watches, conflict, _) = WatchedLiterals::constrains_parent::<N, A>(
+                parent, aux, set, trail,
+            );
+            (watches, conflict)
+        }
+        Clause::ConstrainsExcluded(candidate, aux, set) => {
+            (
+                WatchedLiterals::constrains_excluded::<N>(candidate, aux, set).0,
+                false,
+            )
+        }
+        Clause::Lock(locked, other) => (WatchedLiterals::lock::<N>(locked, other).0, false),
+        Clause::AnyOf(selected, other) => (WatchedLiterals::any_of::<N>(selected, other).0, false),
+        Clause::InstallRoot
+        | Clause::Excluded(_, _)
+        | Clause::Requires(_, _, _)
+        | Clause::ForbidMultipleInstances(_, _, _)
+        | Clause::Learnt(_) => (None, false),
     }
 }
 

@@ -1,13 +1,18 @@
 //! The commands that bring variables: `Variable`, `Helper` and `Load`.
 ghost use Rattle.std.specs.Prelude.{◌≡◌, ◌∷◌, ◌++◌, [], None, true, false, map, option_map, length, take, IfOk, OnOk, OnErr, IfErr};
+ghost use Rattle.std.specs.Map.{lookup};
 ghost use Rattle.providers.specs.Provider.{knows_requirement};
+ghost use Rattle.providers.specs.Requirement.{same_requirement};
+ghost use Rattle.resolvo_store.specs.Lists.{lists_kept};
 
 use crate::abstract_store::AbstractStore;
 use crate::helper_origin::{HelperOrigin, alloc_helper};
 use crate::loaded_lists::load_lists;
 use crate::reply::Reply;
 use crate::store::ClauseStore;
-use providers::{DependencyProvider, Interner, Requirement};
+use crate::store::known::knows_requirement;
+use providers::{DependencyProvider, Interner, Requirement, RequirementMap};
+use std::alloc::Allocator;
 use typed_ids::StoreError;
 use variables::VariableLists;
 
@@ -59,7 +64,9 @@ impl<D: DependencyProvider + Drop> ClauseStore<D> {
         match origin {
             HelperOrigin::AtLeastOne(name) => self.cache.provider().knows_name(name),
             HelperOrigin::ConstrainsViolation(set) => self.cache.provider().knows_version_set(set),
-            HelperOrigin::RequiresGate(requirement) => self.knows_requirement(requirement),
+            HelperOrigin::RequiresGate(requirement) => {
+                knows_requirement(self.cache.provider(), requirement)
+            }
         }
     }
 
@@ -70,22 +77,14 @@ impl<D: DependencyProvider + Drop> ClauseStore<D> {
         ensures answered { IfOk result (λ reply. IsRefused (reply_of reply) → ⊥) }
         ensures provider { self.new.provider ≡ self.old.provider }
     {
-        if !self.knows_requirement(requirement) {
+        if !knows_requirement(self.cache.provider(), requirement) {
             return Err(StoreError::UnknownId);
         }
-        let lists = match self.lists(requirement) {
+        let lists = match lists(&self.loaded, requirement) {
             Some(lists) => lists.clone()?,
             None => self.load_new(requirement)?,
         };
         Ok(Reply::Loaded(lists))
-    }
-
-    /// The lists of a requirement, if it was loaded.
-    pub(super) fn lists(&self, requirement: Requirement) -> Option<&VariableLists<D::Alloc>>
-        ensures { option_map (λ lists. map (λ l. l.items) lists.now.items) result ≡
-            lists_of (⟦<D as AbstractStore>⟧.store self.now) requirement }
-    {
-        self.loaded.get(requirement)
     }
 
     /// Loads a requirement. Where it is refused, the variables that its candidates got are taken back.
@@ -129,4 +128,15 @@ impl<D: DependencyProvider + Drop> ClauseStore<D> {
         self.loaded.insert(requirement, lists)?;
         Ok(reply)
     }
+}
+
+/// The lists of a requirement, if it was loaded.
+pub(super) fn lists<A: Allocator + Copy>(
+    loaded: &RequirementMap<VariableLists<A>, A>,
+    requirement: Requirement,
+) -> Option<&VariableLists<A>>
+    ensures { option_map (λ lists. map (λ l. l.items) lists.now.items) result ≡
+        lookup (same_requirement requirement) (lists_kept loaded.now) }
+{
+    loaded.get(requirement)
 }

@@ -8,6 +8,7 @@ ghost use Rattle.clauses.specs.ClauseTexts.{clause_text};
 
 use crate::abstract_store::AbstractStore;
 use crate::store::ClauseStore;
+use crate::store::known::knows_variable;
 use decisions::Literal;
 use providers::{DependencyProvider, Interner};
 use typed_ids::{ClauseId, StoreError, VariableId};
@@ -21,7 +22,7 @@ impl<D: DependencyProvider + Drop> ClauseStore<D> {
     pub fn origin(&self, variable: VariableId) -> Option<VariableOrigin<D::NameId, D::SolvableId>>
         ensures { result ≡ slice_get (⟦<D as AbstractStore>⟧.store self.now).origins variable }
     {
-        if !self.knows_variable(variable) {
+        if !knows_variable(&self.variables, variable) {
             return None;
         }
         Some(self.variables.origin(variable))
@@ -34,7 +35,7 @@ impl<D: DependencyProvider + Drop> ClauseStore<D> {
         ensures exact { (let st = ⟦<D as AbstractStore>⟧.store self.now in IsExact (watched_by st) st.watchers) }
         ensures memory { IfErr result (λ e. e ≡ OutOfMemory) }
     {
-        if !self.knows_variable(literal.variable()) {
+        if !knows_variable(&self.variables, literal.variable()) {
             return Ok(Vec::new(self.alloc));
         }
         self.clauses.watchers(literal)

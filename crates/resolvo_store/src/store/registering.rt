@@ -1,12 +1,14 @@
 //! The commands that keep conditions' literals and add requires clauses.
-ghost use Rattle.std.specs.Prelude.{◌≡◌, ◌-◌, ◌^◌, ◌∷◌, ◌++◌, [], length, true, false, nat_le, ◌&&◌, is_some, unwrap_or, map, ◌<◌, IsSome, IfSome, All, Err, IsTrue, IfOk, OnOk, OnErr, IfErr};
-ghost use Rattle.std.specs.List.{list_all};
+ghost use Rattle.std.specs.Prelude.{◌≡◌, ◌-◌, ◌^◌, ◌∷◌, ◌++◌, [], length, true, false, nat_le, nat_lt, ◌&&◌, is_some, unwrap_or, map, ◌<◌, IsSome, IfSome, All, Err, IsTrue, IfOk, OnOk, OnErr, IfErr};
+ghost use Rattle.decisions.specs.Literals.{Neg};
+ghost use Rattle.decisions.specs.Trail.{val};
 ghost use Rattle.typed_ids.specs.Refusals.{IsGrowthRefusal, are_ids_out};
 ghost use Rattle.std.specs.Map.{lookup};
+ghost use Rattle.std.specs.Option.{option_map_or};
 ghost use Rattle.typed_ids.specs.declared.error.StoreError.TheVariants.{IdSpace, OutOfMemory};
 ghost use Rattle.providers.specs.Requirement.{same_requirement};
 ghost use Rattle.providers.specs.Provider.{knows_requirement, sets_of};
-ghost use Rattle.clauses.specs.Clauses.{first_watches, is_conflict, condition_literals};
+ghost use Rattle.clauses.specs.Clauses.{Kept, first_watches, is_conflict, condition_literals};
 ghost use Rattle.clauses.specs.Stored.{kept_in};
 ghost use Rattle.clauses.specs.declared.clause.Clause.TheVariants as Kind;
 ghost use Rattle.watch_map.specs.Watching.{AreTwoOrNone, is_literal_in};
@@ -14,27 +16,28 @@ ghost use Rattle.resolvo_queue.specs.Queue.{IsRegistered, IsUnchanged, StandsOn}
 ghost use Rattle.resolvo_queue.specs.References.{Lists, references};
 ghost use Rattle.clause_list.specs.ClauseList.{contents, literals_watched, two_or_none, is_full, with_clause};
 ghost use Rattle.resolvo_store.specs.Command.{DisjunctionIs, ClauseIs, reply_of};
-ghost use Rattle.resolvo_store.specs.Lists.{disjunctions_kept, IsOneMore};
+ghost use Rattle.resolvo_store.specs.Lists.{lists_kept, disjunctions_kept, IsOneMore};
 
 use crate::abstract_store::AbstractStore;
 use crate::reply::Reply;
 use crate::store::ClauseStore;
+use crate::store::known::{knows_parts, knows_requirement, knows_variable};
+use crate::store::loading::lists;
 use clause_list::ClauseList;
 use clauses::{Clause, Disjunction};
-use decisions::Literal;
+use decisions::{DecisionTracker, Literal};
 use id_storage::Arena;
-use providers::{DependencyProvider, Interner, Requirement};
+use providers::{DependencyProvider, Interner, Requirement, RequirementMap};
 use resolvo_queue::DecideQueue;
 use std::alloc::Allocator;
 use typed_ids::{
     ClauseId, ConditionId, DenseIndex, DisjunctionId, StoreError, VariableId, VersionSetId,
 };
+use variables::{VariableLists, VariableMap};
 use watch_map::WatchedLiterals;
 
 impl<D: DependencyProvider + Drop> ClauseStore<D> {
     ghost use Rattle.resolvo_store.specs.Command.{Disjunction as KeepDisjunction, Requires, answer_of, IsRefused};
-    ghost use Rattle.resolvo_store.specs.Refusals.{knows_variable, knows_literal, knows_disjunction, negates_parent};
-    ghost use Rattle.resolvo_store.specs.Store.{lists_of, values, kept_literals, condition_of};
     ghost use Rattle.resolvo_store.specs.Step.{Step};
 
     /// Keeps the literals of a condition.
@@ -48,18 +51,15 @@ impl<D: DependencyProvider + Drop> ClauseStore<D> {
         ensures answered { IfOk result (λ reply. IsRefused (reply_of reply) → ⊥) }
         ensures provider { self.new.provider ≡ self.old.provider }
     {
-        if !self.knows_parts(literals, condition) {
+        if !knows_parts(
+            self.cache.provider(),
+            self.variables.count(),
+            literals,
+            condition,
+        ) {
             return Err(StoreError::UnknownId);
         }
         keep_disjunction(self.alloc, &mut self.disjunctions, literals, condition)
-    }
-
-    /// Whether the variables of the literals are the store's, and the provider knows the condition.
-    fn knows_parts(&self, literals: &[Literal], condition: ConditionId) -> bool
-        ensures { result ≡ (list_all (knows_literal (⟦<D as AbstractStore>⟧.store self.now)) literals.now
-            && (D.universe self.now.provider).knows_condition condition) }
-    {
-        self.knows_literals(literals) && self.cache.provider().knows_condition(condition)
     }
 
     /// Adds a requires clause, and registers it.
@@ -74,19 +74,34 @@ impl<D: DependencyProvider + Drop> ClauseStore<D> {
         ensures answered { IfOk result (λ reply. IsRefused (reply_of reply) → ⊥) }
         ensures provider { self.new.provider ≡ self.old.provider }
     {
-        if !self.knows_required(parent, requirement, &disjunction) {
+        let provider = self.cache.provider();
+        if !knows_required(
+            provider,
+            &self.variables,
+            &self.disjunctions,
+            parent,
+            requirement,
+            &disjunction,
+        ) {
             return Err(StoreError::UnknownId);
         }
-        if !self.is_loaded(requirement) {
+        if !is_loaded(&self.loaded, requirement) {
             return Err(StoreError::NotLoaded);
         }
-        if self.negates_parent(parent, &disjunction) {
+        if negates_parent(&self.disjunctions, parent, &disjunction) {
             return Err(StoreError::NegatesParent);
         }
-        if self.is_queue_full() {
+        if self.queue.is_full() {
             return Err(StoreError::TooManyClauses);
         }
-        let (watches, conflict, clause) = self.clause_of(parent, requirement, &disjunction);
+        let (watches, conflict, clause) = clause_of(
+            &self.loaded,
+            &self.disjunctions,
+            &self.trail,
+            parent,
+            requirement,
+            &disjunction,
+        );
         let required = Required {
             parent,
             requirement,
@@ -98,110 +113,97 @@ impl<D: DependencyProvider + Drop> ClauseStore<D> {
             &mut self.clauses,
             &mut self.queue,
             &self.disjunctions,
-            self.cache.provider(),
+            provider,
             &required,
             clause,
             watches,
             conflict,
         )
     }
+}
 
-    /// Whether all that a requires clause names is known.
-    fn knows_required(
-        &self,
-        parent: VariableId,
-        requirement: Requirement,
-        disjunction: &Option<DisjunctionId>,
-    ) -> bool
-        ensures { result ≡ (knows_variable (⟦<D as AbstractStore>⟧.store self.now) parent
-            && (knows_requirement (D.universe self.now.provider) requirement && knows_disjunction (⟦<D as AbstractStore>⟧.store self.now) disjunction.now)) }
-    {
-        self.knows_variable(parent)
-            && (self.knows_requirement(requirement) && self.knows_disjunction(disjunction))
-    }
+/// Whether all that a requires clause names is known.
+fn knows_required<D: DependencyProvider>(
+    provider: &D,
+    variables: &VariableMap<D::NameId, D::SolvableId, D::Alloc>,
+    disjunctions: &Arena<DisjunctionId, Disjunction<D::Alloc>, D::Alloc>,
+    parent: VariableId,
+    requirement: Requirement,
+    disjunction: &Option<DisjunctionId>,
+) -> bool
+    ensures { result ≡ (nat_lt parent (length variables.now) && (knows_requirement (D.universe provider.now) requirement
+        && option_map_or (λ d. nat_lt d (length disjunctions.now)) disjunction.now true)) }
+{
+    knows_variable(variables, parent)
+        && (knows_requirement(provider, requirement)
+            && knows_disjunction(disjunctions.len(), disjunction))
+}
 
-    /// Whether the disjunction, if there is one, is kept.
-    #[tactic(auto, using(crate::proofs::ListLemmas::length_disjunctions))]
-    fn knows_disjunction(&self, disjunction: &Option<DisjunctionId>) -> bool
-        ensures { result ≡ knows_disjunction (⟦<D as AbstractStore>⟧.store self.now) disjunction.now }
-    {
-        match *disjunction {
-            Some(id) => id.to_index() < self.disjunctions.len(),
-            None => true,
-        }
+/// Whether the disjunction, if there is one, is among the first so many.
+fn knows_disjunction(disjunctions: usize, disjunction: &Option<DisjunctionId>) -> bool
+    ensures { result ≡ option_map_or (λ d. nat_lt d disjunctions) disjunction.now true }
+{
+    match *disjunction {
+        Some(id) => id.to_index() < disjunctions,
+        None => true,
     }
+}
 
-    /// The literals of a condition, none without one.
-    fn condition(&self, disjunction: &Option<DisjunctionId>) -> &[Literal]
-        ensures { result.now ≡ condition_of (⟦<D as AbstractStore>⟧.store self.now) disjunction.now }
-    {
-        literals_of(&self.disjunctions, disjunction)
-    }
+/// Whether the parent's negative literal is among those of the condition.
+fn negates_parent<A: Allocator + Copy>(
+    disjunctions: &Arena<DisjunctionId, Disjunction<A>, A>,
+    parent: VariableId,
+    disjunction: &Option<DisjunctionId>,
+) -> bool
+    ensures { result ≡ is_literal_in (Neg parent) (condition_literals (kept_in [] [] disjunctions.now) disjunction.now) }
+{
+    has_literal(
+        literals_of(disjunctions, disjunction),
+        Literal::new(parent, true),
+    )
+}
 
-    /// Whether the parent's negative literal is among those of the condition.
-    fn negates_parent(&self, parent: VariableId, disjunction: &Option<DisjunctionId>) -> bool
-        ensures { result ≡ negates_parent (⟦<D as AbstractStore>⟧.store self.now) parent disjunction.now }
-    {
-        has_literal(self.condition(disjunction), Literal::new(parent, true))
-    }
+/// Whether the requirement is loaded.
+fn is_loaded<A: Allocator + Copy>(
+    loaded: &RequirementMap<VariableLists<A>, A>,
+    requirement: Requirement,
+) -> bool
+    ensures { result ≡ is_some (lookup (same_requirement requirement) (lists_kept loaded.now)) }
+{
+    lists(loaded, requirement).is_some()
+}
 
-    /// Whether as many clauses are registered as there may be.
-    fn is_queue_full(&self) -> bool
-        ensures { result ≡ nat_le (2 ^ 32 - 1) (length self.now.requires) }
-    {
-        self.queue.is_full()
+/// The candidates' variables of a requirement, no list if it isn't loaded.
+fn candidates<A: Allocator + Copy>(
+    loaded: &RequirementMap<VariableLists<A>, A>,
+    requirement: Requirement,
+) -> &[Vec<VariableId, A>]
+    ensures { map (λ l. l.items) result.now ≡ unwrap_or (lookup (same_requirement requirement) (lists_kept loaded.now)) [] }
+{
+    match lists(loaded, requirement) {
+        Some(lists) => lists.as_slice(),
+        None => &[],
     }
+}
 
-    /// Whether the provider knows the requirement's version set, or its union.
-    pub(super) fn knows_requirement(&self, requirement: Requirement) -> bool
-        ensures { result ≡ knows_requirement (D.universe self.now.provider) requirement }
-    {
-        match requirement {
-            Requirement::Single(set) => self.cache.provider().knows_version_set(set),
-            Requirement::Union(union) => self.cache.provider().knows_union(union),
-        }
-    }
-
-    fn is_loaded(&self, requirement: Requirement) -> bool
-        ensures { result ≡ is_some (lists_of (⟦<D as AbstractStore>⟧.store self.now) requirement) }
-    {
-        self.lists(requirement).is_some()
-    }
-
-    /// The candidates' variables of a requirement, no list if it isn't loaded.
-    fn candidates(&self, requirement: Requirement) -> &[Vec<VariableId, D::Alloc>]
-        ensures { map (λ l. l.items) result.now ≡ unwrap_or (lists_of (⟦<D as AbstractStore>⟧.store self.now) requirement) [] }
-    {
-        match self.lists(requirement) {
-            Some(lists) => lists.as_slice(),
-            None => &[],
-        }
-    }
-
-    /// A requires clause, with what it watches at first and whether it is a conflict.
-    fn clause_of(
-        &self,
-        parent: VariableId,
-        requirement: Requirement,
-        disjunction: &Option<DisjunctionId>,
-    ) -> (Option<WatchedLiterals>, bool, Clause<D::NameId>)
-        ensures clause { result.2 ≡ Kind.Requires parent disjunction.now requirement }
-        ensures watches { let st = ⟦<D as AbstractStore>⟧.store self.now in
-            literals_watched result.0 ≡ first_watches (kept_literals st) (values st) result.2 }
-        ensures conflict { let st = ⟦<D as AbstractStore>⟧.store self.now in
-            result.1 ≡ is_conflict (kept_literals st) (values st) result.2 }
-    {
-        let lists = self.candidates(requirement);
-        let literals = self.condition(disjunction);
-        WatchedLiterals::requires_of_lists(
-            parent,
-            requirement,
-            lists,
-            *disjunction,
-            literals,
-            &self.trail,
-        )
-    }
+/// A requires clause, with what it watches at first and whether it is a conflict, for whoever keeps these lists and
+/// disjunctions.
+fn clause_of<N, A: Allocator + Copy>(
+    loaded: &RequirementMap<VariableLists<A>, A>,
+    disjunctions: &Arena<DisjunctionId, Disjunction<A>, A>,
+    trail: &DecisionTracker<A>,
+    parent: VariableId,
+    requirement: Requirement,
+    disjunction: &Option<DisjunctionId>,
+) -> (Option<WatchedLiterals>, bool, Clause<N>)
+    ensures clause { result.2 ≡ Kind.Requires parent disjunction.now requirement }
+    ensures kept { (k : Kept) → condition_literals k disjunction.now ≡ condition_literals (kept_in [] [] disjunctions.now) disjunction.now →
+        k.lists requirement ≡ unwrap_or (lookup (same_requirement requirement) (lists_kept loaded.now)) [] →
+        (literals_watched result.0 ≡ first_watches k (val trail.now.entries) result.2) × (result.1 ≡ is_conflict k (val trail.now.entries) result.2) }
+{
+    let lists = candidates(loaded, requirement);
+    let literals = literals_of(disjunctions, disjunction);
+    WatchedLiterals::requires_of_lists(parent, requirement, lists, *disjunction, literals, trail)
 }
 
 /// Keeps one disjunction more, and answers its id. Takes memory for a copy of the literals, and where there is no room left.

@@ -12,6 +12,7 @@ ghost use Rattle.resolvo_store.specs.Tracking.{next_helper, origins_with, lacks_
 use crate::abstract_store::AbstractStore;
 use crate::reply::Reply;
 use crate::store::ClauseStore;
+use crate::store::known::knows_variable;
 use clause_list::ClauseList;
 use id_maps::{IdMap, SolverId};
 use name_trackers::NameTrackers;
@@ -22,7 +23,6 @@ use variables::{VariableMap, VariableOrigin};
 
 impl<D: DependencyProvider + Drop> ClauseStore<D> {
     ghost use Rattle.resolvo_store.specs.Command.{AtMostOnce, answer_of, IsRefused};
-    ghost use Rattle.resolvo_store.specs.Refusals.{knows_variable};
     ghost use Rattle.resolvo_store.specs.Step.{Step};
 
     /// Tracks a variable under a name. The clauses are made first, then room for them and for the variable, so that nothing
@@ -37,7 +37,7 @@ impl<D: DependencyProvider + Drop> ClauseStore<D> {
         ensures answered { IfOk result (λ reply. IsRefused (reply_of reply) → ⊥) }
         ensures provider { self.new.provider ≡ self.old.provider }
     {
-        if !self.may_track(name, variable) {
+        if !may_track(self.cache.provider(), &self.variables, name, variable) {
             return Err(StoreError::UnknownId);
         }
         if self.trackers.is_tracked(name, variable) {
@@ -52,15 +52,20 @@ impl<D: DependencyProvider + Drop> ClauseStore<D> {
             variable,
         )
     }
+}
 
-    /// Whether the provider knows the name, and the variable is one of the store's that isn't a helper itself.
-    fn may_track(&self, name: D::NameId, variable: VariableId) -> bool
-        ensures { let st = ⟦<D as AbstractStore>⟧.store self.now in
-            result ≡ ((D.universe self.now.provider).knows_name name && (knows_variable st variable && not (is_helper_among st.origins variable))) }
-    {
-        self.cache.provider().knows_name(name)
-            && (self.knows_variable(variable) && !is_helper(&self.variables, variable))
-    }
+/// Whether the provider knows the name, and the variable is one of these that isn't a helper itself.
+fn may_track<D: DependencyProvider>(
+    provider: &D,
+    variables: &VariableMap<D::NameId, D::SolvableId, D::Alloc>,
+    name: D::NameId,
+    variable: VariableId,
+) -> bool
+    ensures { result ≡ ((D.universe provider.now).knows_name name
+        && (nat_lt variable (length variables.now) && not (is_helper_among variables.now variable))) }
+{
+    provider.knows_name(name)
+        && (knows_variable(variables, variable) && !is_helper(variables, variable))
 }
 
 /// Whether the variable is one that was made as a helper of tracked ones.

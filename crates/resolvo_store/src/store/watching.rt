@@ -1,19 +1,27 @@
 //! The commands about watches: `Rewatch` and `Watchers`.
-ghost use Rattle.std.specs.Prelude.{◌≡◌, ◌&&◌, IfOk};
-ghost use Rattle.clauses.specs.Clauses.{same_literal};
+ghost use Rattle.std.specs.Prelude.{◌≡◌, ◌&&◌, [], length, nat_lt, option_map, slice_get, unwrap_or, IfOk};
+ghost use Rattle.decisions.specs.Literals.{variable_of};
+ghost use Rattle.clauses.specs.Clauses.{literals_of, same_literal};
+ghost use Rattle.clauses.specs.Stored.{kept_in};
+ghost use Rattle.clause_list.specs.ClauseList.{contents};
 ghost use Rattle.watch_map.specs.Watching.{is_literal_in};
 
 use crate::abstract_store::AbstractStore;
 use crate::reply::Reply;
 use crate::store::ClauseStore;
+use crate::store::known::{are_below, knows_variable};
+use clause_list::ClauseList;
+use clauses::Disjunction;
 use decisions::Literal;
-use providers::DependencyProvider;
-use typed_ids::{ClauseId, DenseIndex, StoreError};
+use id_maps::SolverId;
+use id_storage::Arena;
+use providers::{DependencyProvider, RequirementMap};
+use std::alloc::Allocator;
+use typed_ids::{ClauseId, DenseIndex, DisjunctionId, StoreError};
+use variables::{VariableLists, VariableMap};
 
 impl<D: DependencyProvider + Drop> ClauseStore<D> {
     ghost use Rattle.resolvo_store.specs.Command.{Rewatch, Watchers, answer_of, reply_of, IsRefused};
-    ghost use Rattle.resolvo_store.specs.Refusals.{knows_clause, knows_literal};
-    ghost use Rattle.resolvo_store.specs.Store.{clause_literals};
     ghost use Rattle.resolvo_store.specs.Step.{Step};
 
     /// Lets a clause watch another of its literals in the place of one that it watches.
@@ -28,10 +36,10 @@ impl<D: DependencyProvider + Drop> ClauseStore<D> {
         ensures answered { IfOk result (λ reply. IsRefused (reply_of reply) → ⊥) }
         ensures provider { self.new.provider ≡ self.old.provider }
     {
-        if !self.knows_watches(clause, from, to) {
+        if !knows_watches(&self.clauses, &self.variables, clause, from, to) {
             return Err(StoreError::UnknownId);
         }
-        if !self.has_literal(clause, to) {
+        if !has_literal(&self.clauses, &self.loaded, &self.disjunctions, clause, to) {
             return Err(StoreError::BadWatch);
         }
         self.clauses.rewatch(clause, from, to)?;
@@ -44,38 +52,51 @@ impl<D: DependencyProvider + Drop> ClauseStore<D> {
             (answer_of result) (⟦<D as AbstractStore>⟧.store self.now) }
         ensures answered { IfOk result (λ reply. IsRefused (reply_of reply) → ⊥) }
     {
-        if !self.knows_variable(literal.variable()) {
+        if !knows_variable(&self.variables, literal.variable()) {
             return Err(StoreError::UnknownId);
         }
         let found = self.clauses.watchers(literal)?;
         Ok(Reply::Watchers(found))
     }
+}
 
-    /// Whether the store has the clause, and the variables of both literals.
-    fn knows_watches(&self, clause: ClauseId, from: Literal, to: Literal) -> bool
-        ensures { let st = ⟦<D as AbstractStore>⟧.store self.now in
-            result ≡ (knows_clause st clause && (knows_literal st from && knows_literal st to)) }
-    {
-        clause.to_index() < self.clauses.len()
-            && (self.knows_variable(from.variable()) && self.knows_variable(to.variable()))
-    }
+/// Whether there is the clause, and the variables of both literals.
+fn knows_watches<N: Copy, S: SolverId<A>, A: Allocator + Copy>(
+    clauses: &ClauseList<N, A>,
+    variables: &VariableMap<N, S, A>,
+    clause: ClauseId,
+    from: Literal,
+    to: Literal,
+) -> bool
+    ensures { result ≡ (nat_lt clause (length (contents clauses.now).clauses)
+        && (nat_lt (variable_of from) (length variables.now) && nat_lt (variable_of to) (length variables.now))) }
+{
+    clause.to_index() < clauses.len()
+        && are_below(from.variable(), to.variable(), variables.count())
+}
 
-    /// Whether the literal is one of the clause's.
-    fn has_literal(&self, clause: ClauseId, literal: Literal) -> bool
-        ensures { result ≡ is_literal_in literal (clause_literals (⟦<D as AbstractStore>⟧.store self.now) clause) }
-    {
-        let Some(clause) = self.clauses.get(clause) else {
-            return false;
-        };
-        let learnt = self.clauses.learnt();
-        let found = clause.find_literal(
-            learnt,
-            &self.loaded,
-            &self.disjunctions,
-            |other: Literal| -> bool
-                ensures { result ≡ same_literal literal other }
-            { literal == other },
-        );
-        found.is_some()
-    }
+/// Whether the literal is one of the clause's, which refers to these lists and disjunctions.
+fn has_literal<N: Copy, A: Allocator + Copy>(
+    clauses: &ClauseList<N, A>,
+    loaded: &RequirementMap<VariableLists<A>, A>,
+    disjunctions: &Arena<DisjunctionId, Disjunction<A>, A>,
+    clause: ClauseId,
+    literal: Literal,
+) -> bool
+    ensures { let kept = record (kept_in [] loaded.now disjunctions.now) { learnt = (contents clauses.now).learnt } in
+        result ≡ is_literal_in literal (unwrap_or (option_map (literals_of kept) (slice_get (contents clauses.now).clauses clause)) []) }
+{
+    let Some(clause) = clauses.get(clause) else {
+        return false;
+    };
+    let learnt = clauses.learnt();
+    let found = clause.find_literal(
+        learnt,
+        loaded,
+        disjunctions,
+        |other: Literal| -> bool
+            ensures { result ≡ same_literal literal other }
+        { literal == other },
+    );
+    found.is_some()
 }

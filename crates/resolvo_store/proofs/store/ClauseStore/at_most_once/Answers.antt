@@ -1,16 +1,15 @@
 use Rattle.std.proofs.Common.{◌≡◌, ◌<◌, ◌∙◌, sym, subst, length, true, false, arith}
-use Rattle.std.specs.Prelude.{◌&&◌, not}
+use Rattle.std.specs.Prelude.{◌&&◌, not, nat_lt}
 use Rattle.std.proofs.lemmas.Bool.Decides.{nat_tests}
 use Rattle.clause_list.specs.ClauseList.{contents}
 use Rattle.name_trackers.specs.NameTrackers.{tracker_of}
 use Rattle.resolvo_store.specs.Command.{AtMostOnce, answer_of}
-use Rattle.resolvo_store.specs.Refusals.{knows_variable}
 use Rattle.resolvo_store.specs.Step.{Step}
 use Rattle.resolvo_store.specs.Store.{Store, Kept, Provider, store_of, gathered}
 use Rattle.resolvo_store.specs.Tracking.{is_helper_among}
 use Rattle.resolvo_store.proofs.AddingLemmas.{both, failed}
 use Rattle.resolvo_store.proofs.InvariantLemmas.{after_tracked, tracked_or_same, with_list}
-use Rattle.resolvo_store.proofs.CallerLaws.{store_in, left_of}
+use Rattle.resolvo_store.proofs.CallerLaws.{store_in}
 use Rattle.resolvo_store.proofs.KnownLemmas.{IsLawful}
 use Rattle.resolvo_store.proofs.TrackingSteps.{step_tracked}
 use Rattle.resolvo_store.proofs.store.ClauseStore.at_most_once.Given.{Over}
@@ -35,16 +34,13 @@ pub invariant_of-self : goal.invariant_of-self
 invariant_of-self g c =
     let name = c.args.name in
     let v = c.args.variable in
-    let now = c.args.self.now in
-    let st = store_of (given g) g.D.NameId.Scores.IdMap.value_at now in
-    let one = both (st.provider.universe.knows_name name) (knows_variable st v && not (is_helper_among st.origins v)) (sym c.may_track.ensures ∙ c.if-not-may_track.false) in
-    let two = both (knows_variable st v) (not (is_helper_among st.origins v)) one.1 in
-    let variable : v < length now.origins = (let test = two.0 in grind (arith, nat_tests, test)) in
-    let Known : Kept g.row.D.Denot g.row.D-NameId.Denot g.row.D-SolvableId.Denot g.row.D-NameId-Scores.Denot → Type 0 = λ kept.
-    ((g.D.Interner.universe kept.provider).knows_name name ≡ true) × (v < length kept.origins) × (is_helper_among kept.origins v ≡ false) in
-    let all : Known now = (one.0, variable, failed (is_helper_among now.origins v) two.1) in
-    let here = subst Known (sym c.self.view_is) all in
-    after_tracked c.self.invariant name v c.track.result (lawful g c.self.inside.cache.provider) here.0 here.1 here.2 (sym c.is_tracked.ensures ∙ c.if-is_tracked.false)
+    let os = c.self.inside.variables in
+    let named = (g.D.Interner.universe c.self.inside.cache.provider).knows_name name in
+    let known = subst (λ p. ((g.D.Interner.universe p).knows_name name && (nat_lt v (length os) && not (is_helper_among os v))) ≡ true) c.provider.ensures.provider (sym c.may_track.ensures ∙ c.if-not-may_track.false) in
+    let one = both named (nat_lt v (length os) && not (is_helper_among os v)) known in
+    let two = both (nat_lt v (length os)) (not (is_helper_among os v)) one.1 in
+    let within : v < length os = (let test = two.0 in grind (arith, nat_tests, test)) in
+    after_tracked c.self.invariant name v c.track.result (lawful g c.self.inside.cache.provider) one.0 within (failed (is_helper_among os v) two.1) (sym c.is_tracked.ensures ∙ c.if-is_tracked.false)
     c.track.ensures.variables c.track.ensures.clauses c.track.ensures.trackers c.track.ensures.same_variables c.track.ensures.same_clauses c.track.ensures.same_trackers
 
 pub returns-clause-step : goal.returns-clause-step
@@ -52,9 +48,8 @@ returns-clause-step g c =
     let name = c.args.name in
     let v = c.args.variable in
     let old = store_in c.self.invariant.sound in
-    let May : Kept g.row.D.Denot g.row.D-NameId.Denot g.row.D-SolvableId.Denot g.row.D-NameId-Scores.Denot → Type 0 = λ kept. let st = store_of (given g) g.D.NameId.Scores.IdMap.value_at kept in
-    (st.provider.universe.knows_name name && (knows_variable st v && not (is_helper_among st.origins v))) ≡ true in
-    let may : May (left_of c.self.view_is) = subst May (sym c.self.view_is) (sym c.may_track.ensures ∙ c.if-not-may_track.false) in
+    let os = c.self.inside.variables in
+    let may = subst (λ p. ((g.D.Interner.universe p).knows_name name && (nat_lt v (length os) && not (is_helper_among os v))) ≡ true) c.provider.ensures.provider (sym c.may_track.ensures ∙ c.if-not-may_track.false) in
     let origins = c.track.new.variables in
     let clauses = contents c.track.new.clauses in
     let trackers = tracker_of g.D.NameId.PartialEq.eq c.track.new.trackers in

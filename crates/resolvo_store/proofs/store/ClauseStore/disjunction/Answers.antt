@@ -1,10 +1,11 @@
-use Rattle.std.proofs.Common.{◌≡◌, ◌∙◌, refl, ap, sym, subst, Some, None}
+use Rattle.std.proofs.Common.{◌≡◌, ◌∙◌, refl, ap, sym, subst, true}
+use Rattle.std.specs.List.{list_all}
+use Rattle.std.specs.Prelude.{◌&&◌, nat_lt}
+use Rattle.decisions.specs.Literals.{variable_of}
 use Rattle.resolvo_store.specs.Command.{Disjunction, answer_of}
 use Rattle.resolvo_store.specs.Lists.{disjunctions_kept}
-use Rattle.resolvo_store.specs.Refusals.{first_refusal, are_disjunctions_out}
+use Rattle.resolvo_store.specs.Refusals.{are_disjunctions_out}
 use Rattle.resolvo_store.specs.Step.{Step}
-use Rattle.typed_ids.specs.declared.error.StoreError.TheVariants.{IdSpace}
-use Rattle.std.specs.Prelude.{if◌then◌else◌}
 use Rattle.resolvo_store.specs.Store.{Kept, Provider, store_of, gathered}
 use Rattle.resolvo_store.proofs.CallerLaws.{store_in}
 use Rattle.resolvo_store.proofs.AddingLemmas.{step_grown, first_of_disjunction}
@@ -23,10 +24,12 @@ invariant_of-self g c = after_disjunction c.self.invariant c.keep_disjunction.re
 pub returns-clause-step : goal.returns-clause-step
 returns-clause-step g c =
     let st = store_in c.self.invariant.sound in
+    let known = subst (λ n. (list_all (λ l. nat_lt (variable_of l) n) c.args.literals.now && st.provider.universe.knows_condition c.args.condition) ≡ true) c.count.ensures.value
+    (subst (λ p. (list_all (λ l. nat_lt (variable_of l) c.count.result) c.args.literals.now && (g.D.Interner.universe p).knows_condition c.args.condition) ≡ true) c.provider.ensures.provider
+    (sym c.knows_parts.ensures ∙ c.if-not-knows_parts.false)) in
     let made = record st { disjunctions = disjunctions_kept c.keep_disjunction.new.disjunctions } in
     subst (λ (k : Kept g.row.D.Denot g.row.D-NameId.Denot g.row.D-SolvableId.Denot g.row.D-NameId-Scores.Denot). Step (store_of (given g) g.D.NameId.Scores.IdMap.value_at k) (Disjunction c.args.literals.now c.args.condition) (answer_of c.keep_disjunction.result) made) c.self.view_is
     (step_grown st (Disjunction c.args.literals.now c.args.condition) (are_disjunctions_out st) c.keep_disjunction.result made
-    (subst (λ (k : Kept g.row.D.Denot g.row.D-NameId.Denot g.row.D-SolvableId.Denot g.row.D-NameId-Scores.Denot). let s = store_of (given g) g.D.NameId.Scores.IdMap.value_at k in first_refusal s (Disjunction c.args.literals.now c.args.condition) ≡ (if are_disjunctions_out s then Some IdSpace else None)) (sym c.self.view_is)
-    (first_of_disjunction (store_of (given g) g.D.NameId.Scores.IdMap.value_at c.args.self.now) c.args.literals.now c.args.condition (sym c.knows_parts.ensures ∙ c.if-not-knows_parts.false)))
+    (first_of_disjunction st c.args.literals.now c.args.condition known)
     refl refl (λ h. h) c.keep_disjunction.ensures.reply (on_ok c.keep_disjunction.result (ap (λ ds. record st { disjunctions = ds })) c.keep_disjunction.ensures.ok)
     (on_err c.keep_disjunction.result (ap (λ ds. record st { disjunctions = disjunctions_kept ds })) c.keep_disjunction.ensures.err) c.keep_disjunction.ensures.refused c.keep_disjunction.ensures.ids_out)

@@ -1,6 +1,10 @@
-use Rattle.std.proofs.Common.{◌∙◌, sym}
+use Rattle.std.proofs.Common.{◌≡◌, ◌∙◌, sym, subst, true, length}
+use Rattle.std.specs.List.{list_all}
+use Rattle.std.specs.Prelude.{nat_lt}
+use Rattle.decisions.specs.Literals.{variable_of}
 use Rattle.clause_list.specs.ClauseList.{contents}
-use Rattle.resolvo_store.specs.Store.{Provider, store_of, gathered}
+use Rattle.resolvo_store.specs.Store.{Provider, gathered}
+use Rattle.resolvo_store.proofs.CallerLaws.{store_in}
 use Rattle.resolvo_store.proofs.AddingLemmas.{step_learnt, first_of_learnt, not_empty}
 use Rattle.resolvo_store.proofs.InvariantLemmas.{after_learnt}
 use Rattle.resolvo_store.proofs.store.ClauseStore.learnt.Given.{Over}
@@ -19,6 +23,7 @@ invariant_of-self g c = after_learnt c.self.invariant c.args.literals.now c.lear
 
 pub returns-clause-step : goal.returns-clause-step
 returns-clause-step g c =
+    let known = subst (λ n. list_all (λ l. nat_lt (variable_of l) n) c.args.literals.now ≡ true) c.count.ensures.value (sym c.knows_literals.ensures ∙ c.if-not-knows_literals.false) in
     step_learnt (given g) g.D.NameId.Scores.IdMap.value_at c.args.literals.now c.learn_clause.result (contents c.learn_clause.new.clauses) c.self.view_is
-    (first_of_learnt (store_of (given g) g.D.NameId.Scores.IdMap.value_at c.args.self.now) c.args.literals.now (sym c.knows_literals.ensures ∙ c.if-not-knows_literals.false) (sym c.is_bad_learnt.ensures ∙ c.if-is_bad_learnt.false))
+    (first_of_learnt (store_in c.self.invariant.sound) c.args.literals.now known (sym c.is_bad_learnt.ensures ∙ c.if-is_bad_learnt.false))
     c.learn_clause.ensures.reply c.learn_clause.ensures.ok c.learn_clause.ensures.err c.learn_clause.ensures.refused c.learn_clause.ensures.ids_out

@@ -1,16 +1,22 @@
-use Rattle.std.proofs.Common.{◌≡◌, ◌<◌, ◌∙◌, refl, sym, subst, length, true, arith, ap, Some}
-use Rattle.std.specs.Prelude.{IsSome, IfSome, OnOk, map, ◌&&◌}
+use Rattle.std.proofs.Common.{◌≡◌, ◌<◌, ◌∙◌, ◌-◌, ◌^◌, refl, sym, subst, ap, length, true, false, arith}
+use Rattle.std.specs.Prelude.{OnOk, map, ◌&&◌, nat_le, nat_lt}
+use Rattle.std.specs.Option.{option_map_or}
+use Rattle.typed_ids.specs.declared.error.StoreError.TheVariants.{UnknownId, NotLoaded, NegatesParent, TooManyClauses}
 use Rattle.std.proofs.lemmas.Bool.Decides.{nat_tests}
-use Rattle.clauses.specs.Clauses.{first_watches}
 use Rattle.clause_list.specs.ClauseList.{contents, literals_watched}
-use Rattle.providers.specs.Provider.{knows_requirement, sets_of}
-use Rattle.resolvo_store.specs.Refusals.{knows_variable, knows_disjunction}
-use Rattle.resolvo_store.specs.Store.{Kept, Provider, store_of, gathered, values, lists_of, kept_literals}
-use Rattle.resolvo_store.proofs.AddingLemmas.{step_registered, first_of_requires, disjunction_known, both}
+use Rattle.decisions.specs.Literals.{Neg}
 use Rattle.decisions.specs.Trail.{val}
+use Rattle.providers.specs.Provider.{knows_requirement, sets_of}
+use Rattle.watch_map.specs.Watching.{is_literal_in}
 use Rattle.resolvo_queue.specs.Queue.{IsRegistered, StandsOn}
 use Rattle.resolvo_queue.specs.declared.requires_clause.RequiresClause.{RequiresClause}
 use Rattle.resolvo_queue.specs.References.{references}
+use Rattle.resolvo_store.specs.Command.{Requires, Refused}
+use Rattle.resolvo_store.specs.Step.{Step}
+use Rattle.resolvo_store.specs.Store.{Kept, Provider, store_of, gathered, kept_literals, values}
+use Rattle.resolvo_store.proofs.AddingLemmas.{step_foreseen, step_registered, first_of_requires, first_of_unknown, first_of_unloaded, first_of_negating, first_of_full, all_known_is, each_known}
+use Rattle.resolvo_store.proofs.AskingLemmas.{condition_seen}
+use Rattle.resolvo_store.proofs.CallerLaws.{store_in}
 use Rattle.resolvo_store.proofs.InvariantLemmas.{after_registered, on_ok, on_err}
 use Rattle.resolvo_store.proofs.ListLemmas.{length_disjunctions, lookup-some}
 use Rattle.resolvo_store.proofs.WatchLaws.{two_if_first}
@@ -22,41 +28,119 @@ abbrev given : (g : Over) → g.row.D.Denot → Provider g.row.D-NameId.Denot g.
 given g = gathered g.D.NameId.PartialEq.eq g.D.SolvableId.PartialEq.eq g.D.NameId.Slots.IdMap.is_too_large g.D.SolvableId.Slots.IdMap.is_too_large
     g.D.SolvableId.Set.IdSet.is_too_large g.D.NameId.SolverId.are_many g.D.Interner.universe g.D.DependencyProvider.answers
 
+pub returns-then-not-knows_required-clause-step : goal.returns-then-not-knows_required-clause-step
+returns-then-not-knows_required-clause-step g c =
+    let r = c.args.requirement in
+    let d = c.args.disjunction in
+    let parent = c.args.parent in
+    let inside = c.self.inside in
+    let st = store_in c.self.invariant.sound in
+    let known_is = subst (λ p. c.knows_required.result ≡ (nat_lt parent (length inside.variables) && (knows_requirement (g.D.Interner.universe p) r && option_map_or (λ x. nat_lt x (length inside.disjunctions)) d true))) c.provider-provider.ensures.provider c.knows_required.ensures
+    ∙ all_known_is st parent r d (length inside.disjunctions) (sym (length_disjunctions inside.disjunctions)) in
+    subst (λ (kept : Kept g.row.D.Denot g.row.D-NameId.Denot g.row.D-SolvableId.Denot g.row.D-NameId-Scores.Denot). let now = store_of (given g) g.D.NameId.Scores.IdMap.value_at kept in Step now (Requires parent r d) (Refused UnknownId) now) c.self.view_is
+    (step_foreseen st (Requires parent r d) UnknownId (first_of_unknown st parent r d (sym known_is ∙ c.if-not-knows_required.true)))
+
+pub returns-then-not-is_loaded-clause-step : goal.returns-then-not-is_loaded-clause-step
+returns-then-not-is_loaded-clause-step g c =
+    let r = c.args.requirement in
+    let d = c.args.disjunction in
+    let parent = c.args.parent in
+    let inside = c.self.inside in
+    let st = store_in c.self.invariant.sound in
+    let known_is = subst (λ p. c.knows_required.result ≡ (nat_lt parent (length inside.variables) && (knows_requirement (g.D.Interner.universe p) r && option_map_or (λ x. nat_lt x (length inside.disjunctions)) d true))) c.provider-provider.ensures.provider c.knows_required.ensures
+    ∙ all_known_is st parent r d (length inside.disjunctions) (sym (length_disjunctions inside.disjunctions)) in
+    let known = sym known_is ∙ c.if-not-knows_required.false in
+    subst (λ (kept : Kept g.row.D.Denot g.row.D-NameId.Denot g.row.D-SolvableId.Denot g.row.D-NameId-Scores.Denot). let now = store_of (given g) g.D.NameId.Scores.IdMap.value_at kept in Step now (Requires parent r d) (Refused NotLoaded) now) c.self.view_is
+    (step_foreseen st (Requires parent r d) NotLoaded (first_of_unloaded st parent r d known (sym c.is_loaded.ensures ∙ c.if-not-is_loaded.true)))
+
+pub returns-then-negates_parent-clause-step : goal.returns-then-negates_parent-clause-step
+returns-then-negates_parent-clause-step g c =
+    let r = c.args.requirement in
+    let d = c.args.disjunction in
+    let parent = c.args.parent in
+    let inside = c.self.inside in
+    let st = store_in c.self.invariant.sound in
+    let known_is = subst (λ p. c.knows_required.result ≡ (nat_lt parent (length inside.variables) && (knows_requirement (g.D.Interner.universe p) r && option_map_or (λ x. nat_lt x (length inside.disjunctions)) d true))) c.provider-provider.ensures.provider c.knows_required.ensures
+    ∙ all_known_is st parent r d (length inside.disjunctions) (sym (length_disjunctions inside.disjunctions)) in
+    let known = sym known_is ∙ c.if-not-knows_required.false in
+    let loaded = sym c.is_loaded.ensures ∙ c.if-not-is_loaded.false in
+    let k = kept_literals st in
+    let seen = condition_seen st.provider.universe inside.disjunctions k.learnt k.lists d in
+    let apart = ap (is_literal_in (Neg parent)) (sym seen) ∙ sym c.negates_parent.ensures ∙ c.if-negates_parent.true in
+    subst (λ (kept : Kept g.row.D.Denot g.row.D-NameId.Denot g.row.D-SolvableId.Denot g.row.D-NameId-Scores.Denot). let now = store_of (given g) g.D.NameId.Scores.IdMap.value_at kept in Step now (Requires parent r d) (Refused NegatesParent) now) c.self.view_is
+    (step_foreseen st (Requires parent r d) NegatesParent (first_of_negating st parent r d known loaded apart))
+
+pub returns-then-is_full-clause-step : goal.returns-then-is_full-clause-step
+returns-then-is_full-clause-step g c =
+    let r = c.args.requirement in
+    let d = c.args.disjunction in
+    let parent = c.args.parent in
+    let inside = c.self.inside in
+    let st = store_in c.self.invariant.sound in
+    let known_is = subst (λ p. c.knows_required.result ≡ (nat_lt parent (length inside.variables) && (knows_requirement (g.D.Interner.universe p) r && option_map_or (λ x. nat_lt x (length inside.disjunctions)) d true))) c.provider-provider.ensures.provider c.knows_required.ensures
+    ∙ all_known_is st parent r d (length inside.disjunctions) (sym (length_disjunctions inside.disjunctions)) in
+    let known = sym known_is ∙ c.if-not-knows_required.false in
+    let loaded = sym c.is_loaded.ensures ∙ c.if-not-is_loaded.false in
+    let k = kept_literals st in
+    let seen = condition_seen st.provider.universe inside.disjunctions k.learnt k.lists d in
+    let apart = ap (is_literal_in (Neg parent)) (sym seen) ∙ sym c.negates_parent.ensures ∙ c.if-negates_parent.false in
+    let full : nat_le (2 ^ 32 - 1) (length inside.queue.clauses) ≡ true = (let iff = c.is_full.ensures in let test = c.if-is_full.true in grind (arith, nat_tests, iff, test)) in
+    subst (λ (kept : Kept g.row.D.Denot g.row.D-NameId.Denot g.row.D-SolvableId.Denot g.row.D-NameId-Scores.Denot). let now = store_of (given g) g.D.NameId.Scores.IdMap.value_at kept in Step now (Requires parent r d) (Refused TooManyClauses) now) c.self.view_is
+    (step_foreseen st (Requires parent r d) TooManyClauses (first_of_full st parent r d known loaded apart full))
+
+pub register-requires-clause-two : goal.register-requires-clause-two
+register-requires-clause-two g c =
+    let d = c.args.disjunction in
+    let st = store_in c.self.invariant.sound in
+    let k = kept_literals st in
+    let made = c.clause_of-watches in
+    let seen = condition_seen st.provider.universe c.self.inside.disjunctions k.learnt k.lists d in
+    two_if_first k (values st) made.result.2 (made.ensures.kept k (sym seen) refl).0
+
 pub invariant_of-self : goal.invariant_of-self
 invariant_of-self g c =
     let r = c.args.requirement in
-    let made = c.clause_of-watches.result in
+    let d = c.args.disjunction in
+    let parent = c.args.parent in
     let inside = c.self.inside in
-    let now = c.args.self.now in
-    let universe = g.D.Interner.universe now.provider in
-    let known = both (knows_variable (store_of (given g) g.D.NameId.Scores.IdMap.value_at now) c.args.parent) (knows_requirement universe r && knows_disjunction (store_of (given g) g.D.NameId.Scores.IdMap.value_at now) c.args.disjunction) (sym c.knows_required.ensures ∙ c.if-not-knows_required.false) in
-    let parts = both (knows_requirement universe r) (knows_disjunction (store_of (given g) g.D.NameId.Scores.IdMap.value_at now) c.args.disjunction) known.1 in
-    let Known : Kept g.row.D.Denot g.row.D-NameId.Denot g.row.D-SolvableId.Denot g.row.D-NameId-Scores.Denot → Type 0 = λ kept.
-    (knows_requirement (g.D.Interner.universe kept.provider) r ≡ true) × (c.args.parent < length kept.origins) × IsSome (lists_of (store_of (given g) g.D.NameId.Scores.IdMap.value_at kept) r)
-    × IfSome c.args.disjunction (λ d. d < length kept.disjunctions) in
-    let variable : c.args.parent < length now.origins = (let test = known.0 in grind (arith, nat_tests, test)) in
-    let all : Known now = (parts.0, variable, sym c.is_loaded.ensures ∙ c.if-not-is_loaded.false, disjunction_known (store_of (given g) g.D.NameId.Scores.IdMap.value_at now) c.args.disjunction parts.1) in
-    let here = subst Known (sym c.self.view_is) all in
-    let watches = subst (λ (k : Kept g.row.D.Denot g.row.D-NameId.Denot g.row.D-SolvableId.Denot g.row.D-NameId-Scores.Denot). let s = store_of (given g) g.D.NameId.Scores.IdMap.value_at k in literals_watched made.0 ≡ first_watches (kept_literals s) (values s) made.2)
-    (sym c.self.view_is) c.clause_of-watches.ensures.watches in
-    let stands = subst (λ p. StandsOn (references (g.D.Interner.universe p) inside.loaded inside.disjunctions) c.register.new.queue) c.provider.ensures.provider
-    (c.register.ensures.stands inside.loaded (lookup-some inside.loaded r here.2)
-    (subst (λ p. StandsOn (references (g.D.Interner.universe p) inside.loaded inside.disjunctions) inside.queue) (sym c.provider.ensures.provider) c.self.invariant.may_ask.stands)) in
-    let one : RequiresClause = record { parent = c.args.parent; requirement = r; condition = c.args.disjunction; clause_id = length inside.clauses.clauses } in
-    let registered = subst (λ p. let u = g.D.Interner.universe p in OnOk c.register.result (IsRegistered g.D.NameId.Set.IdSet.has one (map u.set_name (sets_of u r)) (val inside.trail.entries c.args.parent) inside.queue c.register.new.queue)) c.provider.ensures.provider
-    (subst (λ b. let u = g.D.Interner.universe c.provider.result.now in OnOk c.register.result (IsRegistered g.D.NameId.Set.IdSet.has one (map u.set_name (sets_of u r)) b inside.queue c.register.new.queue)) c.assigned_value.ensures c.register.ensures.registered) in
-    after_registered c.self.invariant c.args.parent c.args.disjunction r made.2 (literals_watched made.0) c.register.result here.0 here.1 here.2 here.3 watches c.clause_of-watches.ensures.clause
+    let st = store_in c.self.invariant.sound in
+    let known_is = subst (λ p. c.knows_required.result ≡ (nat_lt parent (length inside.variables) && (knows_requirement (g.D.Interner.universe p) r && option_map_or (λ x. nat_lt x (length inside.disjunctions)) d true))) c.provider-provider.ensures.provider c.knows_required.ensures
+    ∙ all_known_is st parent r d (length inside.disjunctions) (sym (length_disjunctions inside.disjunctions)) in
+    let known = sym known_is ∙ c.if-not-knows_required.false in
+    let loaded = sym c.is_loaded.ensures ∙ c.if-not-is_loaded.false in
+    let k = kept_literals st in
+    let seen = condition_seen st.provider.universe inside.disjunctions k.learnt k.lists d in
+    let made = c.clause_of-watches in
+    let first = made.ensures.kept k (sym seen) refl in
+    let each = each_known st parent r d known in
+    let stands = subst (λ p. StandsOn (references (g.D.Interner.universe p) inside.loaded inside.disjunctions) c.register.new.queue) c.provider-provider.ensures.provider
+    (c.register.ensures.stands inside.loaded (lookup-some inside.loaded r loaded)
+    (subst (λ p. StandsOn (references (g.D.Interner.universe p) inside.loaded inside.disjunctions) inside.queue) (sym c.provider-provider.ensures.provider) c.self.invariant.may_ask.stands)) in
+    let one : RequiresClause = record { parent = parent; requirement = r; condition = d; clause_id = length inside.clauses.clauses } in
+    let registered = subst (λ p. let u = g.D.Interner.universe p in OnOk c.register.result (IsRegistered g.D.NameId.Set.IdSet.has one (map u.set_name (sets_of u r)) (val inside.trail.entries parent) inside.queue c.register.new.queue)) c.provider-provider.ensures.provider
+    (subst (λ b. let u = g.D.Interner.universe c.provider-provider.result.now in OnOk c.register.result (IsRegistered g.D.NameId.Set.IdSet.has one (map u.set_name (sets_of u r)) b inside.queue c.register.new.queue)) c.assigned_value.ensures c.register.ensures.registered) in
+    after_registered c.self.invariant parent d r made.result.2 (literals_watched made.result.0) c.register.result each.0 each.1 loaded each.2 first.0 made.ensures.clause
     refl refl stands c.register.ensures.added registered c.register.ensures.unadded c.register.ensures.unregistered
 
 pub returns-clause-step : goal.returns-clause-step
 returns-clause-step g c =
-    let st = store_of (given g) g.D.NameId.Scores.IdMap.value_at c.args.self.now in
+    let r = c.args.requirement in
+    let d = c.args.disjunction in
+    let parent = c.args.parent in
+    let inside = c.self.inside in
+    let st = store_in c.self.invariant.sound in
+    let known_is = subst (λ p. c.knows_required.result ≡ (nat_lt parent (length inside.variables) && (knows_requirement (g.D.Interner.universe p) r && option_map_or (λ x. nat_lt x (length inside.disjunctions)) d true))) c.provider-provider.ensures.provider c.knows_required.ensures
+    ∙ all_known_is st parent r d (length inside.disjunctions) (sym (length_disjunctions inside.disjunctions)) in
+    let known = sym known_is ∙ c.if-not-knows_required.false in
+    let loaded = sym c.is_loaded.ensures ∙ c.if-not-is_loaded.false in
+    let k = kept_literals st in
+    let seen = condition_seen st.provider.universe inside.disjunctions k.learnt k.lists d in
     let made = c.clause_of-watches in
-    step_registered (given g) g.D.NameId.Scores.IdMap.value_at c.args.parent c.args.requirement c.args.disjunction (literals_watched made.result.0) made.result.1 c.register.result (contents c.register.new.clauses) c.register.new.queue.clauses
-    c.self.view_is made.ensures.clause
-    (first_of_requires st c.args.parent c.args.requirement c.args.disjunction (sym c.knows_required.ensures ∙ c.if-not-knows_required.false)
-    (sym c.is_loaded.ensures ∙ c.if-not-is_loaded.false) (sym c.negates_parent.ensures ∙ c.if-negates_parent.false) (sym c.is_queue_full.ensures ∙ c.if-is_queue_full.false))
-    made.ensures.watches made.ensures.conflict
+    let first = made.ensures.kept k (sym seen) refl in
+    let apart = ap (is_literal_in (Neg parent)) (sym seen) ∙ sym c.negates_parent.ensures ∙ c.if-negates_parent.false in
+    let room : nat_le (2 ^ 32 - 1) (length inside.queue.clauses) ≡ false = (let iff = c.is_full.ensures in let not_full = c.if-is_full.false in grind (arith, nat_tests, iff, not_full)) in
+    step_registered (given g) g.D.NameId.Scores.IdMap.value_at parent r d (literals_watched made.result.0) made.result.1 c.register.result (contents c.register.new.clauses) c.register.new.queue.clauses
+    c.self.view_is made.ensures.clause (first_of_requires st parent r d known loaded apart room) first.0 first.1
     c.register.ensures.reply c.register.ensures.added (on_ok c.register.result (λ more. more.clauses) c.register.ensures.registered) c.register.ensures.unadded
     (on_err c.register.result (λ same. same.clauses.clauses) c.register.ensures.unregistered)
     c.register.ensures.refused c.register.ensures.ids_out

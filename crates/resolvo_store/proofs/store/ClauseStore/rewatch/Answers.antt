@@ -1,15 +1,16 @@
-use Rattle.std.proofs.Common.{◌≡◌, ◌∙◌, sym, subst, ap, true}
-use Rattle.std.specs.Prelude.{◌&&◌, not, IsTrue, if◌then◌else◌}
-use Rattle.typed_ids.specs.declared.error.StoreError.TheVariants.{OutOfMemory, BadWatch}
+use Rattle.std.proofs.Common.{◌≡◌, ◌∙◌, refl, sym, subst, ap, []}
+use Rattle.std.specs.Prelude.{option_map, slice_get, unwrap_or}
+use Rattle.clauses.specs.Clauses.{Kept as KeptLiterals, literals_of}
 use Rattle.watch_map.specs.Watching.{is_literal_in}
 use Rattle.clause_list.specs.ClauseList.{Clauses, contents}
-use Rattle.resolvo_store.specs.Command.{Rewatch}
-use Rattle.resolvo_store.specs.Outcome.{with_rewatched}
+use Rattle.typed_ids.specs.declared.error.StoreError.TheVariants.{BadWatch}
+use Rattle.resolvo_store.specs.Command.{Rewatch, Done, Refused}
 use Rattle.resolvo_store.specs.Step.{Step}
-use Rattle.resolvo_store.specs.Store.{Kept, Provider, store_of, gathered, clause_literals, watched_by}
-use Rattle.resolvo_store.proofs.AddingLemmas.{first_of_rewatch, step_rewatched, step_unmoved, err_answer}
+use Rattle.resolvo_store.specs.Store.{Kept, Provider, store_of, gathered}
+use Rattle.resolvo_store.proofs.AddingLemmas.{first_of_rewatch, step_foreseen, without_literal, step_rewatched, step_unmoved, err_answer}
 use Rattle.resolvo_store.proofs.CallerLaws.{store_in}
 use Rattle.resolvo_store.proofs.InvariantLemmas.{after_rewatch, with_list}
+use Rattle.resolvo_store.proofs.ListLemmas.{literals-kept}
 use Rattle.resolvo_store.proofs.store.ClauseStore.rewatch.Given.{Over}
 use Rattle.resolvo_store.proofs.store.ClauseStore.rewatch.Goals as goal
 
@@ -20,32 +21,54 @@ given g = gathered g.D.NameId.PartialEq.eq g.D.SolvableId.PartialEq.eq g.D.NameI
 
 pub invariant_of-self : goal.invariant_of-self
 invariant_of-self g c =
-    let has = subst (λ k. let s = store_of (given g) g.D.NameId.Scores.IdMap.value_at k in is_literal_in c.args.to (clause_literals s c.args.clause) ≡ true) (sym c.self.view_is) (sym c.has_literal.ensures ∙ c.if-not-has_literal.false) in
+    let inside = c.self.inside in
+    let own = inside.clauses.learnt in
+    let same = ap (λ (k : KeptLiterals). record k { learnt = own }) (literals-kept [] [] inside.loaded inside.disjunctions refl) in
+    let has = ap (λ (k : KeptLiterals). is_literal_in c.args.to (unwrap_or (option_map (literals_of k) (slice_get inside.clauses.clauses c.args.clause)) [])) (sym same) ∙ sym c.has_literal.ensures ∙ c.if-not-has_literal.false in
     after_rewatch c.self.invariant c.args.clause c.args.from c.args.to c.rewatch.result has c.rewatch.ensures.can c.rewatch.ensures.ok c.rewatch.ensures.err
 
 pub invariant_of-self-2 : goal.invariant_of-self-2
 invariant_of-self-2 g c =
-    let has = subst (λ k. let s = store_of (given g) g.D.NameId.Scores.IdMap.value_at k in is_literal_in c.args.to (clause_literals s c.args.clause) ≡ true) (sym c.self.view_is) (sym c.has_literal.ensures ∙ c.if-not-has_literal.false) in
+    let inside = c.self.inside in
+    let own = inside.clauses.learnt in
+    let same = ap (λ (k : KeptLiterals). record k { learnt = own }) (literals-kept [] [] inside.loaded inside.disjunctions refl) in
+    let has = ap (λ (k : KeptLiterals). is_literal_in c.args.to (unwrap_or (option_map (literals_of k) (slice_get inside.clauses.clauses c.args.clause)) [])) (sym same) ∙ sym c.has_literal.ensures ∙ c.if-not-has_literal.false in
     after_rewatch c.self.invariant c.args.clause c.args.from c.args.to c.rewatch.result has c.rewatch.ensures.can c.rewatch.ensures.ok c.rewatch.ensures.err
+
+pub returns-then-not-has_literal-clause-step : goal.returns-then-not-has_literal-clause-step
+returns-then-not-has_literal-clause-step g c =
+    let inside = c.self.inside in
+    let own = inside.clauses.learnt in
+    let st = store_in c.self.invariant.sound in
+    let same = ap (λ (k : KeptLiterals). record k { learnt = own }) (literals-kept [] [] inside.loaded inside.disjunctions refl) in
+    let none = ap (λ (k : KeptLiterals). is_literal_in c.args.to (unwrap_or (option_map (literals_of k) (slice_get inside.clauses.clauses c.args.clause)) [])) (sym same) ∙ sym c.has_literal.ensures ∙ c.if-not-has_literal.true in
+    subst (λ (k : Kept g.row.D.Denot g.row.D-NameId.Denot g.row.D-SolvableId.Denot g.row.D-NameId-Scores.Denot). let now = store_of (given g) g.D.NameId.Scores.IdMap.value_at k in Step now (Rewatch c.args.clause c.args.from c.args.to) (Refused BadWatch) now) c.self.view_is
+    (step_foreseen st (Rewatch c.args.clause c.args.from c.args.to) BadWatch (without_literal st c.args.clause c.args.from c.args.to (sym c.knows_watches.ensures ∙ c.if-not-knows_watches.false) none))
 
 pub returns-in_err-rewatch-clause-step : goal.returns-in_err-rewatch-clause-step
 returns-in_err-rewatch-clause-step g c =
-    let st = store_of (given g) g.D.NameId.Scores.IdMap.value_at c.args.self.now in
-    let now = store_in c.self.invariant.sound in
-    let made = with_list now (contents c.rewatch.new.self) in
-    let watches = is_literal_in c.args.from (watched_by now c.args.clause) && not (is_literal_in c.args.to (watched_by now c.args.clause)) in
-    let first = first_of_rewatch st c.args.clause c.args.from c.args.to (sym c.knows_watches.ensures ∙ c.if-not-knows_watches.false) (sym c.has_literal.ensures ∙ c.if-not-has_literal.false) in
-    let same = ap (λ (cs : Clauses g.row.D-NameId.Denot). with_list now cs) c.in_err-rewatch.ensures.err in
-    err_answer (λ reply. Step st (Rewatch c.args.clause c.args.from c.args.to) reply made) c.from_residual.result c.in_err-rewatch.field-0.0 c.from_residual.ensures.1
-    (step_unmoved st c.args.clause c.args.from c.args.to _ c.in_err-rewatch.field-0.0 first
-    (subst (λ (k : Kept g.row.D.Denot g.row.D-NameId.Denot g.row.D-SolvableId.Denot g.row.D-NameId-Scores.Denot). let s = store_of (given g) g.D.NameId.Scores.IdMap.value_at k in c.in_err-rewatch.field-0.0 ≡ (if is_literal_in c.args.from (watched_by s c.args.clause) && not (is_literal_in c.args.to (watched_by s c.args.clause)) then OutOfMemory else BadWatch)) c.self.view_is c.in_err-rewatch.ensures.refused)
-    (same ∙ ap (store_of (given g) g.D.NameId.Scores.IdMap.value_at) c.self.view_is))
+    let inside = c.self.inside in
+    let own = inside.clauses.learnt in
+    let same = ap (λ (k : KeptLiterals). record k { learnt = own }) (literals-kept [] [] inside.loaded inside.disjunctions refl) in
+    let has = ap (λ (k : KeptLiterals). is_literal_in c.args.to (unwrap_or (option_map (literals_of k) (slice_get inside.clauses.clauses c.args.clause)) [])) (sym same) ∙ sym c.has_literal.ensures ∙ c.if-not-has_literal.false in
+    let st = store_in c.self.invariant.sound in
+    let first = first_of_rewatch st c.args.clause c.args.from c.args.to (sym c.knows_watches.ensures ∙ c.if-not-knows_watches.false) has in
+    let made = with_list st (contents c.rewatch.new.self) in
+    let e = c.in_err-rewatch.field-0.0 in
+    let left = ap (λ (cs : Clauses g.row.D-NameId.Denot). with_list st cs) c.in_err-rewatch.ensures.err in
+    err_answer (λ reply. Step (store_of (given g) g.D.NameId.Scores.IdMap.value_at c.args.self.now) (Rewatch c.args.clause c.args.from c.args.to) reply made) c.from_residual.result e c.from_residual.ensures.1
+    (subst (λ (k : Kept g.row.D.Denot g.row.D-NameId.Denot g.row.D-SolvableId.Denot g.row.D-NameId-Scores.Denot). Step (store_of (given g) g.D.NameId.Scores.IdMap.value_at k) (Rewatch c.args.clause c.args.from c.args.to) (Refused e) made) c.self.view_is
+    (step_unmoved st c.args.clause c.args.from c.args.to _ e first c.in_err-rewatch.ensures.refused left))
 
 pub returns-clause-step : goal.returns-clause-step
 returns-clause-step g c =
-    let st = store_of (given g) g.D.NameId.Scores.IdMap.value_at c.args.self.now in
-    let first = first_of_rewatch st c.args.clause c.args.from c.args.to (sym c.knows_watches.ensures ∙ c.if-not-knows_watches.false) (sym c.has_literal.ensures ∙ c.if-not-has_literal.false) in
-    let made = ap (λ (cs : Clauses g.row.D-NameId.Denot). with_list (store_in c.self.invariant.sound) cs) c.in_ok-rewatch.ensures.ok in
-    step_rewatched st c.args.clause c.args.from c.args.to _ first
-    (subst (λ (k : Kept g.row.D.Denot g.row.D-NameId.Denot g.row.D-SolvableId.Denot g.row.D-NameId-Scores.Denot). let s = store_of (given g) g.D.NameId.Scores.IdMap.value_at k in IsTrue (is_literal_in c.args.from (watched_by s c.args.clause) && not (is_literal_in c.args.to (watched_by s c.args.clause)))) c.self.view_is c.in_ok-rewatch.ensures.can)
-    (made ∙ ap (λ (k : Kept g.row.D.Denot g.row.D-NameId.Denot g.row.D-SolvableId.Denot g.row.D-NameId-Scores.Denot). with_rewatched (store_of (given g) g.D.NameId.Scores.IdMap.value_at k) c.args.clause c.args.from c.args.to) c.self.view_is)
+    let inside = c.self.inside in
+    let own = inside.clauses.learnt in
+    let same = ap (λ (k : KeptLiterals). record k { learnt = own }) (literals-kept [] [] inside.loaded inside.disjunctions refl) in
+    let has = ap (λ (k : KeptLiterals). is_literal_in c.args.to (unwrap_or (option_map (literals_of k) (slice_get inside.clauses.clauses c.args.clause)) [])) (sym same) ∙ sym c.has_literal.ensures ∙ c.if-not-has_literal.false in
+    let st = store_in c.self.invariant.sound in
+    let first = first_of_rewatch st c.args.clause c.args.from c.args.to (sym c.knows_watches.ensures ∙ c.if-not-knows_watches.false) has in
+    let made = with_list st (contents c.rewatch.new.self) in
+    let moved = ap (λ (cs : Clauses g.row.D-NameId.Denot). with_list st cs) c.in_ok-rewatch.ensures.ok in
+    subst (λ (k : Kept g.row.D.Denot g.row.D-NameId.Denot g.row.D-SolvableId.Denot g.row.D-NameId-Scores.Denot). Step (store_of (given g) g.D.NameId.Scores.IdMap.value_at k) (Rewatch c.args.clause c.args.from c.args.to) Done made) c.self.view_is
+    (step_rewatched st c.args.clause c.args.from c.args.to _ first c.in_ok-rewatch.ensures.can moved)
