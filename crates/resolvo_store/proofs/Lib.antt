@@ -2,6 +2,7 @@ pub mod AddingLemmas
 pub mod AskingLemmas
 pub mod CallerLaws
 pub mod ForbiddingLaws
+pub mod HelperLemmas
 pub mod InvariantLemmas
 pub mod KnownLemmas
 pub mod ListLemmas

@@ -2,6 +2,7 @@ pub mod Adding
 pub mod Command
 pub mod CommandLaws
 pub mod ForbidsTwo
+pub mod Helpers
 pub mod Lists
 pub mod LoadRefusals
 pub mod Outcome

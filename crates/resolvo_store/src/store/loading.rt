@@ -1,9 +1,15 @@
 //! The commands that bring variables: `Variable`, `Helper` and `Load`.
-ghost use Rattle.std.specs.Prelude.{◌≡◌, ◌∷◌, ◌++◌, [], None, true, false, map, option_map, length, take, IfOk, OnOk, OnErr, IfErr};
+ghost use Rattle.std.specs.Prelude.{◌≡◌, ◌∷◌, ◌++◌, [], None, true, false, map, option_map, length, take, Err, IsTrue, IfOk, OnOk, OnErr, IfErr};
 ghost use Rattle.std.specs.Map.{lookup};
 ghost use Rattle.providers.specs.Provider.{knows_requirement};
 ghost use Rattle.providers.specs.Requirement.{same_requirement};
+ghost use Rattle.typed_ids.specs.Refusals.{IsGrowthRefusal};
+ghost use Rattle.typed_ids.specs.declared.error.StoreError.TheVariants.{IdSpace};
+ghost use Rattle.variables.specs.Variables.{are_variables_out};
+ghost use Rattle.resolvo_store.specs.Helpers.{is_helper_known};
+ghost use Rattle.resolvo_store.specs.Command.{VariableIs, reply_of};
 ghost use Rattle.resolvo_store.specs.Lists.{lists_kept};
+ghost use Rattle.resolvo_store.specs.Outcome.{helper_origin};
 
 use crate::abstract_store::AbstractStore;
 use crate::helper_origin::{HelperOrigin, alloc_helper};
@@ -11,14 +17,14 @@ use crate::loaded_lists::load_lists;
 use crate::reply::Reply;
 use crate::store::ClauseStore;
 use crate::store::known::knows_requirement;
+use id_maps::SolverId;
 use providers::{DependencyProvider, Interner, Requirement, RequirementMap};
 use std::alloc::Allocator;
 use typed_ids::StoreError;
-use variables::VariableLists;
+use variables::{VariableLists, VariableMap};
 
 impl<D: DependencyProvider + Drop> ClauseStore<D> {
-    ghost use Rattle.resolvo_store.specs.Command.{Variable, Helper, Load, answer_of, LoadedAs, Refused, reply_of, IsRefused};
-    ghost use Rattle.resolvo_store.specs.Refusals.{knows_helper};
+    ghost use Rattle.resolvo_store.specs.Command.{Variable, Helper, Load, answer_of, LoadedAs, Refused, IsRefused};
     ghost use Rattle.resolvo_store.specs.Store.{lists_of};
     ghost use Rattle.resolvo_store.specs.Step.{Step, IsAnswered, lacks_ids, may_be_refused};
     ghost use Rattle.resolvo_store.specs.Outcome.{origins_loaded, variables_loaded};
@@ -50,24 +56,10 @@ impl<D: DependencyProvider + Drop> ClauseStore<D> {
         ensures answered { IfOk result (λ reply. IsRefused (reply_of reply) → ⊥) }
         ensures provider { self.new.provider ≡ self.old.provider }
     {
-        if !self.knows_helper(origin) {
+        if !knows_helper(self.cache.provider(), origin) {
             return Err(StoreError::UnknownId);
         }
-        let variable = alloc_helper(&mut self.variables, origin)?;
-        Ok(Reply::Variable(variable))
-    }
-
-    /// Whether the provider knows what a helper variable is to stand for.
-    fn knows_helper(&self, origin: HelperOrigin<D::NameId>) -> bool
-        ensures { result ≡ knows_helper (⟦<D as AbstractStore>⟧.store self.now) origin }
-    {
-        match origin {
-            HelperOrigin::AtLeastOne(name) => self.cache.provider().knows_name(name),
-            HelperOrigin::ConstrainsViolation(set) => self.cache.provider().knows_version_set(set),
-            HelperOrigin::RequiresGate(requirement) => {
-                knows_requirement(self.cache.provider(), requirement)
-            }
-        }
+        add_helper(&mut self.variables, origin)
     }
 
     /// The candidates' variables of a requirement, loaded where they aren't yet.
@@ -128,6 +120,32 @@ impl<D: DependencyProvider + Drop> ClauseStore<D> {
         self.loaded.insert(requirement, lists)?;
         Ok(reply)
     }
+}
+
+/// Whether the provider knows what a helper variable is to stand for.
+fn knows_helper<D: DependencyProvider>(provider: &D, origin: HelperOrigin<D::NameId>) -> bool
+    ensures { result ≡ is_helper_known (D.universe provider.now) origin }
+{
+    match origin {
+        HelperOrigin::AtLeastOne(name) => provider.knows_name(name),
+        HelperOrigin::ConstrainsViolation(set) => provider.knows_version_set(set),
+        HelperOrigin::RequiresGate(requirement) => knows_requirement(provider, requirement),
+    }
+}
+
+/// Makes a new variable that stands for this, and answers it.
+fn add_helper<N: Copy, S: SolverId<A>, A: Allocator + Copy>(
+    variables: &mut VariableMap<N, S, A>,
+    origin: HelperOrigin<N>,
+) -> Result<Reply<A>, StoreError>
+    ensures reply { IfOk result (λ reply. reply_of reply ≡ VariableIs (length variables.old)) }
+    ensures ok { OnOk result (variables.new ≡ variables.old ++ helper_origin origin ∷ []) }
+    ensures err { OnErr result (variables.new ≡ variables.old) }
+    ensures refused { IfErr result (IsGrowthRefusal (are_variables_out (length variables.old))) }
+    ensures ids_out { IsTrue (are_variables_out (length variables.old)) → result ≡ Err IdSpace }
+{
+    let variable = alloc_helper(variables, origin)?;
+    Ok(Reply::Variable(variable))
 }
 
 /// The lists of a requirement, if it was loaded.

@@ -1,8 +1,17 @@
-use Rattle.std.proofs.Common.{◌≡◌, ◌∙◌, ◌++◌, ◌∷◌, [], subst, sym, true}
+use Rattle.std.proofs.Common.{◌≡◌, ◌∙◌, ◌++◌, ◌∷◌, [], length, refl, sym, subst, ap}
+use Rattle.typed_ids.specs.declared.error.StoreError.TheVariants.{UnknownId}
+use Rattle.variables.specs.declared.variable_origin.VariableOrigin.{VariableOrigin}
+use Rattle.variables.specs.Variables.{are_variables_out}
+use Rattle.resolvo_store.specs.Helpers.{is_helper_known}
+use Rattle.resolvo_store.specs.Command.{Helper, Refused, answer_of}
 use Rattle.resolvo_store.specs.Outcome.{helper_origin}
-use Rattle.resolvo_store.specs.Refusals.{knows_helper}
-use Rattle.resolvo_store.specs.Store.{Provider, store_of, gathered}
-use Rattle.resolvo_store.proofs.InvariantLemmas.{after_origins}
+use Rattle.resolvo_store.specs.Step.{Step}
+use Rattle.resolvo_store.specs.Store.{Kept, Provider, store_of, gathered}
+use Rattle.std.specs.Prelude.{List}
+use Rattle.resolvo_store.proofs.AddingLemmas.{step_foreseen, step_grown}
+use Rattle.resolvo_store.proofs.HelperLemmas.{helper_known_is, first_of_helper, first_of_unknown_helper}
+use Rattle.resolvo_store.proofs.CallerLaws.{store_in}
+use Rattle.resolvo_store.proofs.InvariantLemmas.{after_origins, on_ok, on_err}
 use Rattle.resolvo_store.proofs.SoundLaws.{IsSound-helper}
 use Rattle.resolvo_store.proofs.store.ClauseStore.helper.Given.{Over}
 use Rattle.resolvo_store.proofs.store.ClauseStore.helper.Goals as goal
@@ -12,14 +21,29 @@ abbrev given : (g : Over) → g.row.D.Denot → Provider g.row.D-NameId.Denot g.
 given g = gathered g.D.NameId.PartialEq.eq g.D.SolvableId.PartialEq.eq g.D.NameId.Slots.IdMap.is_too_large g.D.SolvableId.Slots.IdMap.is_too_large
     g.D.SolvableId.Set.IdSet.is_too_large g.D.NameId.SolverId.are_many g.D.Interner.universe g.D.DependencyProvider.answers
 
+pub returns-then-not-knows_helper-clause-step : goal.returns-then-not-knows_helper-clause-step
+returns-then-not-knows_helper-clause-step g c =
+    let st = store_in c.self.invariant.sound in
+    let origin = c.args.origin in
+    let known_is = subst (λ p. c.knows_helper.result ≡ is_helper_known (g.D.Interner.universe p) origin) c.provider.ensures.provider c.knows_helper.ensures ∙ helper_known_is st origin in
+    subst (λ (k : Kept g.row.D.Denot g.row.D-NameId.Denot g.row.D-SolvableId.Denot g.row.D-NameId-Scores.Denot). let now = store_of (given g) g.D.NameId.Scores.IdMap.value_at k in Step now (Helper origin) (Refused UnknownId) now) c.self.view_is
+    (step_foreseen st (Helper origin) UnknownId (first_of_unknown_helper st origin (sym known_is ∙ c.if-not-knows_helper.true)))
+
 pub invariant_of-self : goal.invariant_of-self
 invariant_of-self g c =
-    let known = subst (λ k. knows_helper (store_of (given g) g.D.NameId.Scores.IdMap.value_at k) c.args.origin ≡ true) (sym c.self.view_is) (sym c.knows_helper.ensures ∙ c.if-not-knows_helper.false) in
-    after_origins c.self.invariant (c.self.inside.variables ++ helper_origin c.args.origin ∷ []) c.alloc_helper.result
-    (IsSound-helper _ c.self.invariant.sound c.args.origin known) c.alloc_helper.ensures.ok c.alloc_helper.ensures.err
+    let st = store_in c.self.invariant.sound in
+    let origin = c.args.origin in
+    let known_is = subst (λ p. c.knows_helper.result ≡ is_helper_known (g.D.Interner.universe p) origin) c.provider.ensures.provider c.knows_helper.ensures ∙ helper_known_is st origin in
+    after_origins c.self.invariant (c.self.inside.variables ++ helper_origin origin ∷ []) c.add_helper.result
+    (IsSound-helper _ c.self.invariant.sound origin (sym known_is ∙ c.if-not-knows_helper.false)) c.add_helper.ensures.ok c.add_helper.ensures.err
 
-pub invariant_of-self-2 : goal.invariant_of-self-2
-invariant_of-self-2 g c =
-    let known = subst (λ k. knows_helper (store_of (given g) g.D.NameId.Scores.IdMap.value_at k) c.args.origin ≡ true) (sym c.self.view_is) (sym c.knows_helper.ensures ∙ c.if-not-knows_helper.false) in
-    after_origins c.self.invariant (c.self.inside.variables ++ helper_origin c.args.origin ∷ []) c.alloc_helper.result
-    (IsSound-helper _ c.self.invariant.sound c.args.origin known) c.alloc_helper.ensures.ok c.alloc_helper.ensures.err
+pub returns-clause-step : goal.returns-clause-step
+returns-clause-step g c =
+    let st = store_in c.self.invariant.sound in
+    let origin = c.args.origin in
+    let known_is = subst (λ p. c.knows_helper.result ≡ is_helper_known (g.D.Interner.universe p) origin) c.provider.ensures.provider c.knows_helper.ensures ∙ helper_known_is st origin in
+    let with_origins = λ (os : List (VariableOrigin g.row.D-NameId.Denot g.row.D-SolvableId.Denot)). record st { origins = os } in
+    let made = with_origins c.add_helper.new.variables in
+    subst (λ (k : Kept g.row.D.Denot g.row.D-NameId.Denot g.row.D-SolvableId.Denot g.row.D-NameId-Scores.Denot). Step (store_of (given g) g.D.NameId.Scores.IdMap.value_at k) (Helper origin) (answer_of c.add_helper.result) made) c.self.view_is
+    (step_grown st (Helper origin) (are_variables_out (length st.origins)) c.add_helper.result made (first_of_helper st origin (sym known_is ∙ c.if-not-knows_helper.false)) refl refl (λ h. h) c.add_helper.ensures.reply
+    (on_ok c.add_helper.result (ap with_origins) c.add_helper.ensures.ok) (on_err c.add_helper.result (ap with_origins) c.add_helper.ensures.err) c.add_helper.ensures.refused c.add_helper.ensures.ids_out)
