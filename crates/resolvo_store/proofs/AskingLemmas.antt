@@ -1,6 +1,6 @@
 -- What a store's queue is asked is what the abstract store says. N are the names, S the solvables.
-use Rattle.std.proofs.Common.{◌≡◌, ℕ, ◌<◌, Bool, true, false, cond, List, [], ◌∷◌, length, map, get_or, Option, Some, None, refl, sym, subst, ap, ◌∙◌}
-use Rattle.std.specs.Prelude.{All, is_some, slice_get, slice_index_or, unwrap_or}
+use Rattle.std.proofs.Common.{◌≡◌, ℕ, Bool, true, false, cond, List, [], ◌∷◌, length, map, Option, Some, None, refl, sym, subst, ap, ◌∙◌}
+use Rattle.std.specs.Prelude.{All, is_some, slice_get, unwrap_or}
 use Rattle.std.specs.Map.{lookup}
 use Rattle.std.specs.declared.vec.Vec.{Vec}
 use Rattle.std.proofs.Math.Path.{fun_ext}
@@ -22,7 +22,6 @@ use Rattle.resolvo_queue.specs.declared.requires_clause.RequiresClause.{Requires
 use Rattle.typed_ids.specs.declared.version_set_id.VersionSetId.{VersionSetId}
 use Rattle.resolvo_queue.specs.Rows.{Row, rows, lists_loaded, lists_or_none}
 use Rattle.resolvo_store.specs.Lists.{lists_kept, disjunctions_kept, IsConsistent}
-use Rattle.resolvo_store.specs.Sound.{IsLoaded}
 use Rattle.resolvo_store.specs.Store.{Store}
 use Rattle.resolvo_store.proofs.ListLemmas.{items_of, disjunctions-kept, rows-kept}
 

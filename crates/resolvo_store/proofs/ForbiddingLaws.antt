@@ -1,21 +1,20 @@
 -- What is tracked in a sound store forbids two of a name. N are the names, S the solvables.
-use Rattle.std.proofs.Common.{◌≡◌, ℕ, Bool, true, false, cond, not, List, [], ◌∷◌, ◌++◌, refl, sym, subst, ap, ◌∙◌, arith}
-use Rattle.std.specs.Prelude.{◌↔◌, ◌||◌, nat_eq, filter, flat_map, if◌then◌else◌}
+use Rattle.std.proofs.Common.{◌≡◌, ℕ, Bool, true, false, cond, not, List, [], ◌∷◌, ◌++◌, refl, sym, ap, ◌∙◌, arith}
+use Rattle.std.specs.Prelude.{◌||◌, nat_eq, filter, flat_map, if◌then◌else◌}
 use Rattle.std.specs.Bool.{beq}
 use Rattle.std.specs.Cmp.{IsEquivalence}
-use Rattle.std.specs.List.{list_any, AllByRecursion}
+use Rattle.std.specs.List.{AllByRecursion}
 use Rattle.std.proofs.lemmas.Bool.{eqb-true}
 use Rattle.std.proofs.lemmas.Bool.Decides.{nat_tests}
-use Rattle.decisions.specs.Literals.{Lit, Pos, Neg}
+use Rattle.decisions.specs.Literals.{Pos, Neg}
 use Rattle.clauses.specs.declared.clause.Clause.{Clause}
 use Rattle.clauses.specs.declared.clause.Clause.TheVariants as Kind
-use Rattle.clauses.specs.Clauses.{literals_of}
 use Rattle.at_most_once.specs.AtMostOne as one
 use Rattle.at_most_once.specs.AtMostOne.{BitClause}
 use Rattle.at_most_once.proofs.CallerLaws.{helpers_encode}
-use Rattle.resolvo_store.specs.Store.{Store, kept_literals, bits}
+use Rattle.resolvo_store.specs.Store.{Store, bits}
 use Rattle.resolvo_store.specs.Tracking.{bits_of}
-use Rattle.resolvo_store.specs.ForbidsTwo.{is_true_literal, is_forbidding, is_met, clauses_of_name, ForbidsTwo}
+use Rattle.resolvo_store.specs.ForbidsTwo.{is_forbidding, is_met, ForbidsTwo}
 use Rattle.resolvo_store.specs.Sound.{IsSound}
 
 -- equality of numbers is an equivalence

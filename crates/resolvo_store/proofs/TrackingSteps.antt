@@ -1,6 +1,6 @@
 -- Tracking a variable: what its parts answer makes a step. N are the names, S the solvables.
-use Rattle.std.proofs.Common.{◌≡◌, ℕ, ◌-◌, ◌^◌, Bool, true, false, cond, not, length, Option, Some, None, Result, Ok, Err, refl, sym, subst, ap, ◌∙◌}
-use Rattle.std.specs.Prelude.{[], ◌+◌, ◌&&◌, ◌||◌, ◌==◌, nat_eq, nat_lt, is_some, IsTrue, MatchOption, IfOk, OnOk, OnErr, IfErr}
+use Rattle.std.proofs.Common.{◌≡◌, ℕ, Bool, true, false, cond, not, length, None, Result, Ok, Err, refl, sym, subst, ap, ◌∙◌}
+use Rattle.std.specs.Prelude.{[], ◌&&◌, ◌||◌, ◌==◌, nat_eq, MatchOption, IfOk, OnOk, OnErr, IfErr}
 use Rattle.typed_ids.specs.Refusals.{IsGrowthRefusal}
 use Rattle.typed_ids.specs.declared.error.StoreError.{StoreError}
 use Rattle.typed_ids.specs.declared.error.StoreError.TheVariants.{OutOfMemory, IdSpace, UnknownId}
@@ -12,7 +12,7 @@ use Rattle.resolvo_store.specs.Store.{Store}
 use Rattle.resolvo_store.specs.Tracking.{is_helper_among, lacks_more}
 use Rattle.resolvo_store.specs.Refusals.{first_refusal, knows_variable}
 use Rattle.resolvo_store.specs.Outcome.{Outcome, outcome, helper_for, tracking, with_tracked}
-use Rattle.resolvo_store.specs.Step.{Step, IsAnswered, lacks_ids, may_be_refused}
+use Rattle.resolvo_store.specs.Step.{Step, IsAnswered, may_be_refused}
 use Rattle.resolvo_store.proofs.AddingLemmas.{none_yet}
 
 -- of three tests one holds, in whatever order they are asked

@@ -1,6 +1,5 @@
 use Rattle.std.proofs.Common.{◌≡◌, ◌∙◌, sym, ap, subst, Some, slice_get, option_map}
 use Rattle.clauses.specs.Clauses.{literals_of}
-use Rattle.clause_list.specs.ClauseList.{contents}
 use Rattle.resolvo_store.specs.Store.{Kept, Provider, store_of, gathered, kept_literals}
 use Rattle.resolvo_store.proofs.CallerLaws.{store_in}
 use Rattle.resolvo_store.proofs.ListLemmas.{literals-kept}

@@ -1,17 +1,12 @@
-use Rattle.std.proofs.Common.{◌≡◌, ◌∙◌, ℕ, List, [], map, Option, None, refl, sym, subst, ap}
+use Rattle.std.proofs.Common.{◌≡◌, ◌∙◌, None, refl, sym, subst, ap}
 use Rattle.std.proofs.lemmas.List.Elements.{All-nil}
-use Rattle.providers.specs.declared.requirement.Requirement.{Requirement}
-use Rattle.resolvo_queue.specs.Rows.{Row}
 use Rattle.std.specs.Prelude.{All, IfOk, OnOk, ◌↔◌, false, option_map}
-use Rattle.std.proofs.Math.Path.{fun_ext}
 use Rattle.decisions.specs.Decisions.{values_in}
-use Rattle.decisions.specs.Literals.{Lit, Values}
-use Rattle.decisions.specs.Trail.{Entry, Trail, val}
+use Rattle.decisions.specs.Trail.{Trail, val}
 use Rattle.resolvo_queue.specs.Pick.{decided, pick, eligible, DecidesUnbeaten}
-use Rattle.resolvo_queue.specs.Queue.{HasTrail, Queue, StandsOn, values_of}
-use Rattle.resolvo_queue.specs.References.{References, CanWalk, literals_in, references, rows_in, score_in}
+use Rattle.resolvo_queue.specs.Queue.{HasTrail, StandsOn, values_of}
+use Rattle.resolvo_queue.specs.References.{CanWalk, references}
 use Rattle.resolvo_queue.specs.Scan.{scan, is_eligible, first_falsified}
-use Rattle.resolvo_queue.specs.declared.requires_clause.RequiresClause.{RequiresClause}
 use Rattle.resolvo_queue.proofs.CallerLaws.{values_of_entries}
 use Rattle.resolvo_store.specs.Lists.{IsConsistent}
 use Rattle.resolvo_store.specs.Outcome.{falsified_clause, is_eligible_clause, offers, picked}

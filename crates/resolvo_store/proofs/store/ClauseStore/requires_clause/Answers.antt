@@ -1,4 +1,4 @@
-use Rattle.std.proofs.Common.{◌≡◌, ◌<◌, ◌∙◌, ◌-◌, ◌^◌, refl, sym, subst, ap, length, true, false, arith}
+use Rattle.std.proofs.Common.{◌≡◌, ◌∙◌, ◌-◌, ◌^◌, refl, sym, subst, ap, length, true, false, arith}
 use Rattle.std.specs.Prelude.{OnOk, map, ◌&&◌, nat_le, nat_lt}
 use Rattle.std.specs.Option.{option_map_or}
 use Rattle.typed_ids.specs.declared.error.StoreError.TheVariants.{UnknownId, NotLoaded, NegatesParent, TooManyClauses}

@@ -1,4 +1,4 @@
-use Rattle.std.proofs.Common.{◌≡◌, ◌∙◌, refl, sym, subst, ap, []}
+use Rattle.std.proofs.Common.{◌∙◌, refl, sym, subst, ap, []}
 use Rattle.std.specs.Prelude.{option_map, slice_get, unwrap_or}
 use Rattle.clauses.specs.Clauses.{Kept as KeptLiterals, literals_of}
 use Rattle.watch_map.specs.Watching.{is_literal_in}
