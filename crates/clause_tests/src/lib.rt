@@ -1,5 +1,5 @@
 //! Tests of clauses, of what they are made of, and of what is kept for them: literals and the trail; variables and their
-//! texts (`variable_calls`); the literals of clauses (`clause_literals`); watch lists (`watch_lists`), and the list of clauses
+//! texts (`variable_calls`); the literals of clauses (`clause_literals`), and what new ones watch (`first_watches`); watch lists (`watch_lists`), and the list of clauses
 //! that has them (`clause_lists`); trackers of at most one variable (`trackers`), and what is kept for each name (`rooms`);
 //! and of the queue what no store does (`queue_calls`).
 //!
@@ -11,6 +11,10 @@
 mod clause_lists;
 #[cfg(test)]
 mod clause_literals;
+#[cfg(test)]
+mod first_watches;
+#[cfg(test)]
+mod listed;
 #[cfg(test)]
 mod literals;
 #[cfg(test)]

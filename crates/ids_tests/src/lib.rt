@@ -6,6 +6,8 @@ mod arena;
 #[cfg(test)]
 mod chosen;
 #[cfg(test)]
+mod far;
+#[cfg(test)]
 mod ids;
 #[cfg(test)]
 mod mapping;

@@ -6,7 +6,7 @@ use std::test::Fail;
 use test_checks::sees;
 use typed_ids::{DenseIndex, SolvableId, StoreError};
 
-/// Chunks have 128 slots, and a map starts with one, or with as many as it is to have room for. It grows chunk by chunk.
+/// A map starts with one chunk, and grows chunk by chunk.
 #[test]
 fn maps_have_chunks_that_are_filled_walked_and_changed(rt: HostRuntime) -> Result<(), Fail> {
     let ids = [
@@ -15,28 +15,20 @@ fn maps_have_chunks_that_are_filled_walked_and_changed(rt: HostRuntime) -> Resul
         SolvableId::from_raw(300),
         SolvableId::from_raw(500),
     ];
-    sees(seen(rt.alloc(), ids), (256, TWO_CHUNKS, ROOM, LENT))
+    sees(seen(rt.alloc(), ids), (TWO_CHUNKS, ROOM, LENT))
 }
 
-/// How many slots a map for 129 values has; what is seen of a map of two of the ids, and then of room for the third and a
-/// default at the fourth.
+/// What is seen of a map of two of the ids, and then of room for the third and a default at the fourth.
 fn seen<TId: DenseIndex>(
     alloc: Global,
     [first, second, third, fourth]: [TId; 4],
-) -> Result<(usize, TwoChunks, Room, Lent), StoreError> {
-    let slots = slots_for::<TId>(alloc, 129)?;
+) -> Result<(TwoChunks, Room, Lent), StoreError> {
     let mut mapping: Mapping<TId, u32> = Mapping::new(alloc)?;
     let two = of_two_chunks(&mut mapping, first, second);
     let room = room(&mut mapping, third);
     let lent = default_lent(&mut mapping, fourth);
     drop(mapping);
-    Ok((slots, two?, room?, lent?))
-}
-
-/// How many slots a map with this capacity has.
-fn slots_for<TId: DenseIndex>(alloc: Global, capacity: usize) -> Result<usize, StoreError> {
-    let mapping: Mapping<TId, u32> = Mapping::with_capacity(alloc, capacity)?;
-    Ok(mapping.slots())
+    Ok((two?, room?, lent?))
 }
 
 /// What is seen of a map, where each part is seen of what the one before it left.

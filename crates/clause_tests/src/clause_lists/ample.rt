@@ -1,5 +1,6 @@
 //! Clauses that are added, learnt and let watch other literals, in ample memory.
 use crate::clause_lists::seen::{Seen, lock, look_at, negations, negative, positive};
+use crate::listed::listed;
 use clause_list::ClauseList;
 use clauses::Clause;
 use std::alloc::Allocator;
@@ -13,8 +14,14 @@ type Told = ([usize; 4], Seen);
 // A learnt clause watches its first and its last literal.
 #[test]
 fn clauses_are_kept_in_order(rt: HostRuntime) -> Result<(), Fail> {
-    let wanted = ([0, 1, 2, 3], (4, 2, [2, 0, 2, 34, 43]));
-    sees(told_by_new(rt.alloc()), wanted)
+    let watchers = [
+        listed(&[1]),
+        listed(&[]),
+        listed(&[1]),
+        listed(&[2, 3]),
+        listed(&[3, 2]),
+    ];
+    sees(told_by_new(rt.alloc()), ([0, 1, 2, 3], (4, 2, watchers)))
 }
 
 fn told_by_new<A: Allocator + Copy>(heap: A) -> Result<Told, StoreError> {

@@ -1,7 +1,8 @@
-//! What is seen of a list of clauses, as numbers that can be compared, and what is put into it.
+//! What is seen of a list of clauses, and what is put into it.
 ghost use Rattle.std.specs.Prelude.{◌≡◌, [], ◌∷◌};
 ghost use Rattle.decisions.specs.Literals.{Pos, Neg};
 
+use crate::listed::Listed;
 use clause_list::ClauseList;
 use clauses::Clause;
 use decisions::Literal;
@@ -11,13 +12,13 @@ use watch_map::WatchedLiterals;
 
 /// The number of clauses, and of learnt ones; and the clauses that watch the negative literals of variables 0, 1 and 2, the
 /// positive one of 2, and the negative one of 3.
-pub(crate) type Seen = (usize, usize, [usize; 5]);
+pub(crate) type Seen = (usize, usize, [Listed; 5]);
 
 /// What is seen of the list. Takes memory.
 pub(crate) fn look_at<A: Allocator + Copy>(
     list: &ClauseList<NameId, A>,
 ) -> Result<Seen, StoreError> {
-    let mut watchers = [0; 5];
+    let mut watchers = [[None; 4]; 5];
     for (place, literal) in [
         negative(0),
         negative(1),
@@ -33,19 +34,18 @@ pub(crate) fn look_at<A: Allocator + Copy>(
     Ok((list.len(), list.learnt().len(), watchers))
 }
 
-/// The clauses that watch a literal, front first, as the digits of a number: 31 are the third clause and the first.
+/// The clauses that watch a literal.
 fn watchers_of<A: Allocator + Copy>(
     list: &ClauseList<NameId, A>,
     literal: Literal,
-) -> Result<usize, StoreError> {
+) -> Result<Listed, StoreError> {
     let found = list.watchers(literal)?;
-    let mut digits: usize = 0;
-    for clause in &found {
-        let digit = clause.to_index().saturating_add(1);
-        digits = digits.saturating_mul(10).saturating_add(digit);
+    let mut watchers = [None; 4];
+    for (place, clause) in watchers.iter_mut().zip(&found) {
+        *place = Some(clause.to_index());
     }
     drop(found);
-    Ok(digits)
+    Ok(watchers)
 }
 
 pub(crate) fn variable(index: u16) -> VariableId

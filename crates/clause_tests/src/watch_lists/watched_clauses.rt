@@ -4,6 +4,7 @@ ghost use Rattle.decisions.specs.Literals.{Pos};
 ghost use Rattle.watch_map.specs.WatchLists.{AreWatched};
 ghost use Rattle.watch_map.specs.WatchCalls.{StandsIn};
 
+use crate::listed::Listed;
 use decisions::Literal;
 use std::alloc::Allocator;
 use std::marker::Model;
@@ -29,7 +30,11 @@ impl<A: Allocator + Copy> Model for WatchedClauses<A> {
 }
 
 /// How many variables are watched, and the lists of four of them.
-pub(crate) type Seen = (usize, [usize; 4]);
+pub(crate) type Seen = (usize, [Listed; 4]);
+
+/// What is seen of two lists once a watch is moved from the one to the other: both lists, the clause at which the cursor
+/// then stands, and how many variables are watched.
+pub(crate) type Moved = ([Listed; 2], Option<usize>, usize);
 
 impl<A: Allocator + Copy> WatchedClauses<A> {
     /// No clauses.
@@ -78,20 +83,75 @@ impl<A: Allocator + Copy> WatchedClauses<A> {
         (self.map.len(), lists)
     }
 
-    /// The first clauses of a variable's list as the digits of a number: 31 are the third clause and the first.
-    fn list(&self, variable: u16) -> usize {
-        let mut digits: usize = 0;
-        let mut cursor = self.map.cursor(self.watches.as_slice(), positive(variable));
-        'clauses: for _ in 0..9 {
-            let Some(at) = cursor else {
-                return digits;
-            };
-            let digit = at.clause_id().to_index().saturating_add(1);
-            digits = digits.saturating_mul(10).saturating_add(digit);
-            cursor = at.next(&self.map, self.watches.as_slice());
-        }
-        digits
+    /// Of a variable's list of three clauses the second and then the third are to watch another variable, and in a new
+    /// walk the first. What is seen after each.
+    pub(crate) fn move_each(&mut self, from: u16, to: u16) -> Result<[Moved; 3], StoreError> {
+        let (from, to) = (positive(from), positive(to));
+        move_each(&mut self.map, self.watches.as_mut_slice(), from, to)
     }
+
+    fn list(&self, variable: u16) -> Listed {
+        list(&self.map, self.watches.as_slice(), positive(variable))
+    }
+}
+
+/// The first clauses of a literal's list.
+fn list<A: Allocator + Copy>(
+    map: &WatchMap<A>,
+    watches: &[Option<WatchedLiterals>],
+    literal: Literal,
+) -> Listed
+    requires { AreWatched map.now watches.now }
+{
+    let mut clauses = [None; 4];
+    let mut cursor = map.cursor(watches, literal);
+    for index in 0..4usize {
+        let Some(at) = cursor else {
+            return clauses;
+        };
+        clauses[index] = Some(at.clause_id().to_index());
+        cursor = at.next(map, watches);
+    }
+    clauses
+}
+
+/// Moves the second and the third clause of a literal's list to another literal's, and in a new walk the first.
+fn move_each<A: Allocator + Copy>(
+    map: &mut WatchMap<A>,
+    watches: &mut [Option<WatchedLiterals>],
+    from: Literal,
+    to: Literal,
+) -> Result<[Moved; 3], StoreError>
+    requires { AreWatched map.old watches.old }
+    ensures { AreWatched map.new watches.new }
+{
+    let first = map.cursor(watches, from);
+    let second = passed(map, watches, first);
+    let third = moved(map, watches, second, to)?;
+    let one = seen_moved(map, watches, [from, to], &third);
+    let end = moved(map, watches, third, to)?;
+    let two = seen_moved(map, watches, [from, to], &end);
+    let first = map.cursor(watches, from);
+    moved(map, watches, first, to)?;
+    let none = map.cursor(watches, from);
+    Ok([one, two, seen_moved(map, watches, [from, to], &none)])
+}
+
+fn seen_moved<A: Allocator + Copy>(
+    map: &WatchMap<A>,
+    watches: &[Option<WatchedLiterals>],
+    literals: [Literal; 2],
+    cursor: &Option<WatchMapCursor>,
+) -> Moved
+    requires { AreWatched map.now watches.now }
+{
+    let [from, to] = literals;
+    let lists = [list(map, watches, from), list(map, watches, to)];
+    let at = match cursor {
+        Some(cursor) => Some(cursor.clause_id().to_index()),
+        None => None,
+    };
+    (lists, at, map.len())
 }
 
 /// Walks a literal's list: its first and its third clause are to watch another literal in its place.

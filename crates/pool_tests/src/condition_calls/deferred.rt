@@ -35,13 +35,19 @@ fn is_due<A: Allocator>(
 #[test]
 fn each_conjunct_needs_a_candidate(rt: HostRuntime) -> Result<(), Fail> {
     let none: [DeferredConjunct<SolvableId, Global>; 0] = [];
+    let empty = [DeferredConjunct::Solvables {
+        version_set: VersionSetId(0),
+        matching: Vec::new(rt.alloc()),
+    }];
     let two = two_conjuncts(rt.alloc())?;
     let are_due = [
         is_due(&none, &[]),
+        is_due(&empty, &[solvable(0), solvable(1), solvable(2)]),
         is_due(&two, &[solvable(1)]),
         is_due(&two, &[solvable(2)]),
         is_due(&two, &[solvable(1), solvable(2)]),
     ];
     drop(two);
-    is_same(are_due, [true, false, false, true])
+    drop(empty);
+    is_same(are_due, [true, false, false, false, true])
 }
