@@ -21,6 +21,8 @@ mod obeys;
 #[cfg(test)]
 mod refused;
 #[cfg(test)]
+mod refused_clause;
+#[cfg(test)]
 mod replies;
 #[cfg(test)]
 mod second;
