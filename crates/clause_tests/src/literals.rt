@@ -6,32 +6,25 @@ use test_checks::{is_same, sees};
 use typed_ids::{DenseIndex, StoreError, VariableId};
 
 #[test]
-fn variables_have_indexes_below_the_last() -> Result<(), Fail> {
-    let is_root = [0, 1].map(|index| VariableId::from_index(index) == VariableId::root());
-    let seventh = VariableId::from_index(7).to_index();
-    let in_range = [2147483646, 2147483647].map(|index| VariableId::in_range(index));
-    is_same(
-        (is_root, seventh, in_range),
-        ([true, false], 7, [true, false]),
-    )
-}
-
-#[test]
-fn literals_end_with_those_of_the_last_variable() -> Result<(), Fail> {
+fn variables_and_literals_have_indexes_and_signs() -> Result<(), Fail> {
+    let (root, seventh) = (VariableId::from_index(0), VariableId::from_index(7));
+    let first = VariableId::from_index(1);
+    let are_root = [root == VariableId::root(), first == VariableId::root()];
+    is_same((are_root, seventh.to_index()), ([true, false], 7))?;
     let last = VariableId::from_index(2147483646);
     let indexes = [
         Literal::new(last, false).to_index(),
         Literal::new(last, true).to_index(),
     ];
-    let in_range = [Literal::in_range(4294967293), Literal::in_range(4294967294)];
-    is_same(
-        (indexes, in_range),
-        ([4294967292, 4294967293], [true, false]),
-    )
-}
-
-#[test]
-fn literals_are_satisfied_by_their_sign() -> Result<(), Fail> {
+    is_same(indexes, [4294967292, 4294967293])?;
+    let in_range = (
+        [
+            VariableId::in_range(2147483646),
+            VariableId::in_range(2147483647),
+        ],
+        [Literal::in_range(4294967293), Literal::in_range(4294967294)],
+    );
+    is_same(in_range, ([true, false], [true, false]))?;
     let [positive, negative] = of_root();
     let values = [positive.satisfying_value(), negative.satisfying_value()];
     is_same(values, [true, false])
