@@ -16,12 +16,16 @@ pub(crate) struct Seen {
     falsified: Option<ClauseId>,
 }
 
-/// A store over a provider with names `N` and solvables `S`.
-pub(crate) trait Obeys<N, S, A: Allocator> {
+/// A store that is given commands, over a provider with names `N` and solvables `S`. Who needs no more asks for this alone: what
+/// names a store's provider proves anew all that a trait has.
+pub(crate) trait Replies<N, S, A: Allocator> {
     fn obey(&mut self, command: &Command<N, S, A>) -> Reply<A>;
 
     fn obey_all(&mut self, commands: &[Command<N, S, A>]) -> Result<Vec<Reply<A>, A>, StoreError>;
+}
 
+/// A store that is read, too.
+pub(crate) trait Obeys<N, S, A: Allocator>: Replies<N, S, A> {
     fn seen(&self) -> Seen;
 
     /// The next decision, where no clause is falsified.
@@ -34,7 +38,7 @@ pub(crate) trait Obeys<N, S, A: Allocator> {
     fn literals(&self, clause: ClauseId) -> Result<Option<Vec<Literal, A>>, StoreError>;
 }
 
-impl<D: DependencyProvider + Drop> Obeys<D::NameId, D::SolvableId, D::Alloc> for ClauseStore<D> {
+impl<D: DependencyProvider + Drop> Replies<D::NameId, D::SolvableId, D::Alloc> for ClauseStore<D> {
     fn obey(&mut self, command: &Command<D::NameId, D::SolvableId, D::Alloc>) -> Reply<D::Alloc> {
         self.step(command)
     }
@@ -45,7 +49,9 @@ impl<D: DependencyProvider + Drop> Obeys<D::NameId, D::SolvableId, D::Alloc> for
     ) -> Result<Vec<Reply<D::Alloc>, D::Alloc>, StoreError> {
         self.run(commands)
     }
+}
 
+impl<D: DependencyProvider + Drop> Obeys<D::NameId, D::SolvableId, D::Alloc> for ClauseStore<D> {
     fn seen(&self) -> Seen {
         Seen {
             values: [

@@ -1,11 +1,11 @@
 //! The replies to commands, as lines of text.
-use crate::obeys::Obeys;
+use crate::obeys::Replies;
 use resolvo_store::{Command, Reply};
 use std::alloc::{AllocError, Allocator};
 use typed_ids::StoreError;
 
 /// The lines of the replies to the commands in turn.
-pub(crate) fn lines_of_steps<N, S, A: Allocator + Copy, T: Obeys<N, S, A>>(
+pub(crate) fn lines_of_steps<N, S, A: Allocator + Copy, T: Replies<N, S, A>>(
     store: &mut T,
     alloc: A,
     commands: &[Command<N, S, A>],
@@ -19,7 +19,7 @@ pub(crate) fn lines_of_steps<N, S, A: Allocator + Copy, T: Obeys<N, S, A>>(
 }
 
 /// The lines of the replies to a run.
-pub(crate) fn lines_of_run<N, S, A: Allocator + Copy, T: Obeys<N, S, A>>(
+pub(crate) fn lines_of_run<N, S, A: Allocator + Copy, T: Replies<N, S, A>>(
     store: &mut T,
     alloc: A,
     commands: &[Command<N, S, A>],

@@ -1,7 +1,7 @@
 //! New stores that are given commands, over a provider that counts and stops. One function owns the stores of all tests,
 //! since its proof is long.
 use crate::cancelled::examples::dense_provider;
-use crate::obeys::Obeys;
+use crate::obeys::Replies;
 use asking_providers::{Counting, Counts, Stops};
 use providers::{DependencyProvider, Interner};
 use resolvo_store::ClauseStore;
@@ -9,7 +9,7 @@ use std::alloc::Allocator;
 use typed_ids::{NameId, SolvableId, StoreError};
 
 /// A store whose provider counts what it is asked.
-pub(crate) trait Counted<N, S, A: Allocator>: Obeys<N, S, A> {
+pub(crate) trait Counted<N, S, A: Allocator>: Replies<N, S, A> {
     fn counts(&self) -> Counts;
 }
 
