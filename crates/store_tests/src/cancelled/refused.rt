@@ -16,58 +16,57 @@ use std::test::Fail;
 use test_checks::is_same;
 use typed_ids::{StoreError, VersionSetUnionId};
 
-/// Commands before the load of union 0 and after it, and the replies that are wanted.
-struct Row {
-    before: (&'static [Plain], &'static str),
-    after: (&'static [Plain], &'static str),
+/// What comes before the load of union 0.
+#[derive(Clone, Copy)]
+enum Before {
+    Nothing,
+    /// Set 1 is loaded, which has solvables 2 and 1, of variables 1 and 2.
+    SecondSet,
 }
 
-const ROWS: [Row; 2] = [
-    // A new store. Solvable 4 gets the first variable: the load left none.
-    Row {
-        before: (&[], ""),
-        after: (
-            &[
-                REQUIRES_UNION,
-                REQUIRES_FIRST,
-                Plain::Variable(4),
-                LOADS_UNION,
-                REQUIRES_UNION,
-                LOADS_FIRST,
-            ],
-            "refused 5\nrefused 5\nvariable 1\nloaded 2,3 4\nclause 0\nloaded 2,3\n",
-        ),
-    },
-    // Set 1 was loaded before, and is still: it has solvables 2 and 1, of variables 1 and 2. Solvable 4 gets the next one.
-    Row {
-        before: (&[LOADS_SECOND], "loaded 1,2\n"),
-        after: (
-            &[
-                REQUIRES_UNION,
-                LOADS_SECOND,
-                Plain::Variable(4),
-                REQUIRES_SECOND,
-                LOADS_UNION,
-                REQUIRES_UNION,
-            ],
-            "refused 5\nloaded 1,2\nvariable 3\nclause 0\nloaded 2,4 5\nclause 1\n",
-        ),
-    },
+const SECOND_SET: [Plain; 1] = [LOADS_SECOND];
+
+/// After the load that a new store is refused. Solvable 4 gets the first variable: the load left none.
+const AFTER_NOTHING: [Plain; 6] = [
+    REQUIRES_UNION,
+    REQUIRES_FIRST,
+    Plain::Variable(4),
+    LOADS_UNION,
+    REQUIRES_UNION,
+    LOADS_FIRST,
 ];
 
-/// Commands, and the replies that are wanted.
-#[derive(Clone, Copy)]
-struct Part<'p, N, S, A: Allocator> {
-    commands: &'p [Command<N, S, A>],
-    replies: &'static str,
+/// Set 1 is loaded still, and solvable 4 gets the next variable.
+const AFTER_SECOND_SET: [Plain; 6] = [
+    REQUIRES_UNION,
+    LOADS_SECOND,
+    Plain::Variable(4),
+    REQUIRES_SECOND,
+    LOADS_UNION,
+    REQUIRES_UNION,
+];
+
+/// The replies that are wanted before the load and after it.
+fn replies(before: Before) -> (&'static str, &'static str) {
+    match before {
+        Before::Nothing => (
+            "",
+            "refused 5\nrefused 5\nvariable 1\nloaded 2,3 4\nclause 0\nloaded 2,3\n",
+        ),
+        Before::SecondSet => (
+            "loaded 1,2\n",
+            "refused 5\nloaded 1,2\nvariable 3\nclause 0\nloaded 2,4 5\nclause 1\n",
+        ),
+    }
 }
 
 /// What a store is given, and which request is refused to the load.
 #[derive(Drop)]
 struct Trial<'t, N, S, A: Allocator> {
     alloc: A,
-    before: Part<'t, N, S, A>,
-    after: Part<'t, N, S, A>,
+    before: &'t [Command<N, S, A>],
+    after: &'t [Command<N, S, A>],
+    replies: (&'static str, &'static str),
     /// Whether the load is given.
     is_loading: bool,
     heap: &'t Refusing<Global>,
@@ -90,10 +89,11 @@ struct Refusal {
 fn are_answered<N, S, A: Allocator + Copy, T: Counted<N, S, A>>(
     store: &mut T,
     alloc: A,
-    part: &Part<'_, N, S, A>,
+    commands: &[Command<N, S, A>],
+    replies: &str,
 ) -> Result<bool, StoreError> {
-    let lines = lines_of_steps(store, alloc, part.commands)?;
-    let are_wanted = lines.as_str() == part.replies;
+    let lines = lines_of_steps(store, alloc, commands)?;
+    let are_wanted = lines.as_str() == replies;
     drop(lines);
     Ok(are_wanted)
 }
@@ -113,7 +113,8 @@ impl<N, S, A: Allocator + Copy> Play<N, S, A> for Trial<'_, N, S, A> {
     type Told = Result<Refusal, StoreError>;
 
     fn play<T: Counted<N, S, A>>(&self, store: &mut T) -> Result<Refusal, StoreError> {
-        let before = are_answered(store, self.alloc, &self.before)?;
+        let (replies_before, replies_after) = self.replies;
+        let before = are_answered(store, self.alloc, self.before, replies_before)?;
         self.heap.arm(self.number);
         let error = if self.is_loading {
             load_error(store)
@@ -122,7 +123,7 @@ impl<N, S, A: Allocator + Copy> Play<N, S, A> for Trial<'_, N, S, A> {
         };
         self.heap.arm(0);
         let asked = store.counts();
-        let after = are_answered(store, self.alloc, &self.after)?;
+        let after = are_answered(store, self.alloc, self.after, replies_after)?;
         Ok(Refusal {
             error,
             are_wanted: [before, after],
@@ -131,33 +132,32 @@ impl<N, S, A: Allocator + Copy> Play<N, S, A> for Trial<'_, N, S, A> {
     }
 }
 
-fn seen_of(alloc: Global, row: &Row, load: Load) -> Result<Refusal, StoreError> {
+/// When the provider stops, whether the load is given, and which request is refused to it.
+type Load = (Stops, bool, u64);
+
+fn seen_of(alloc: Global, before: Before, load: Load) -> Result<Refusal, StoreError> {
     let heap = Refusing::new(alloc);
-    let seen = seen_in(&heap, row, load);
+    let seen = match before {
+        Before::Nothing => seen_in(&heap, before, (&[], &AFTER_NOTHING), load),
+        Before::SecondSet => seen_in(&heap, before, (&SECOND_SET, &AFTER_SECOND_SET), load),
+    };
     drop(heap);
     seen
 }
 
-/// When the provider stops, whether the load is given, and which request is refused to it.
-type Load = (Stops, bool, u64);
-
 fn seen_in(
     heap: &Refusing<Global>,
-    row: &Row,
+    case: Before,
+    (before, after): (&[Plain], &[Plain]),
     (stops, is_loading, number): Load,
 ) -> Result<Refusal, StoreError> {
-    let before = commands_of(heap, row.before.0)?;
-    let after = commands_of(heap, row.after.0)?;
+    let before = commands_of(heap, before)?;
+    let after = commands_of(heap, after)?;
     let trial = Trial {
         alloc: heap,
-        before: Part {
-            commands: &before,
-            replies: row.before.1,
-        },
-        after: Part {
-            commands: &after,
-            replies: row.after.1,
-        },
+        before: &before,
+        after: &after,
+        replies: replies(case),
         is_loading,
         heap,
         number,
@@ -177,12 +177,14 @@ fn wanted(error: Option<StoreError>, asked: [Counts; 2]) -> Refusal {
     }
 }
 
-/// The provider stops the load at its second question, before package 1. A failure shows the row's place.
+const CASES: [Before; 2] = [Before::Nothing, Before::SecondSet];
+
+/// The provider stops the load at its second question, before package 1. A failure shows the case's place.
 #[test]
 fn a_union_is_stopped_at_its_second_package(rt: HostRuntime) -> Result<(), Fail> {
     let stopped = wanted(Some(StoreError::Cancelled), [counts(1, 2), counts(2, 3)]);
-    for (place, row) in ROWS.iter().enumerate() {
-        let seen = seen_of(rt.alloc(), row, (Stops::AtSecond, true, 0))?;
+    for (place, before) in CASES.iter().enumerate() {
+        let seen = seen_of(rt.alloc(), *before, (Stops::AtSecond, true, 0))?;
         is_same((place, seen), (place, stopped))?;
     }
     Ok(())
@@ -190,11 +192,11 @@ fn a_union_is_stopped_at_its_second_package(rt: HostRuntime) -> Result<(), Fail>
 
 /// Each request of the load is refused in turn, of which there are fewer than a thousand; at one of them the provider was
 /// asked for package 1, and is so again.
-fn is_refused_at_the_second(alloc: Global, row: &Row) -> Result<(), Fail> {
+fn is_refused_at_the_second(alloc: Global, before: Before) -> Result<(), Fail> {
     let asked_again = [counts(2, 2), counts(3, 3)];
     let mut is_second_refused = false;
     for number in 1..1000u64 {
-        let seen = seen_of(alloc, row, (Stops::Never, true, number))?;
+        let seen = seen_of(alloc, before, (Stops::Never, true, number))?;
         if seen.error.is_none() {
             return is_same(is_second_refused, true);
         }
@@ -206,17 +208,15 @@ fn is_refused_at_the_second(alloc: Global, row: &Row) -> Result<(), Fail> {
 
 #[test]
 fn a_union_is_refused_at_its_second_package(rt: HostRuntime) -> Result<(), Fail> {
-    for row in &ROWS {
-        is_refused_at_the_second(rt.alloc(), row)?;
-    }
-    Ok(())
+    is_refused_at_the_second(rt.alloc(), Before::Nothing)?;
+    is_refused_at_the_second(rt.alloc(), Before::SecondSet)
 }
 
 /// The twin, which isn't given the load.
 #[test]
 fn a_union_that_was_not_refused_is_answered_the_same(rt: HostRuntime) -> Result<(), Fail> {
-    for (place, row) in ROWS.iter().enumerate() {
-        let seen = seen_of(rt.alloc(), row, (Stops::Never, false, 0))?;
+    for (place, before) in CASES.iter().enumerate() {
+        let seen = seen_of(rt.alloc(), *before, (Stops::Never, false, 0))?;
         is_same(
             (place, seen),
             (place, wanted(None, [seen.asked[0], counts(2, 2)])),
