@@ -31,11 +31,15 @@ fn answer_all<R: Read, W: Write>(
 
 fn push_answers(alloc: Global, text: &[u8], answers: &mut Vec<u8>) -> Result<(), AllocError> {
     let mut rest = text;
-    while let Some((heading, below)) = next_line(rest) {
-        let (text, others) = until_heading(below);
+    // A heading has one byte at least.
+    for _ in 0..text.len() {
+        let Some((heading, below)) = next_line(rest) else {
+            return Ok(());
+        };
+        let (script, others) = until_heading(below);
         rest = others;
         answers.extend_from_slice(heading)?;
-        push_answer(alloc, text, answers)?;
+        push_answer(alloc, script, answers)?;
     }
     Ok(())
 }
@@ -54,14 +58,24 @@ fn next_line(text: &[u8]) -> Option<(&[u8], &[u8])> {
 
 /// The lines before the next heading, and what comes from it on.
 fn until_heading(text: &[u8]) -> (&[u8], &[u8]) {
-    let mut rest = text;
-    while !rest.starts_with(b"== ") {
-        match next_line(rest) {
-            Some((_, others)) => rest = others,
-            None => break,
+    for place in 0..text.len() {
+        if is_heading(text, place) {
+            return text.split_at(place);
         }
     }
-    text.split_at(text.len() - rest.len())
+    (text, &[])
+}
+
+/// Whether a heading begins at this place.
+fn is_heading(text: &[u8], place: usize) -> bool {
+    let is_first = match place.checked_sub(1) {
+        Some(before) => text.get(before) == Some(&b'\n'),
+        None => true,
+    };
+    match text.get(place..) {
+        Some(rest) => is_first && rest.starts_with(b"== "),
+        None => false,
+    }
 }
 
 /// Puts the answer of a script after those before it.
