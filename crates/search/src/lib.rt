@@ -1,0 +1,255 @@
+//! An example: a resolver's search over the clause store.
+//!
+//! [`Search`] looks for solvables that meet a list of requirements: with each what it needs, nothing that it forbids, and
+//! at most one version of a package. It encodes all that may be picked; then it decides, propagates, and goes back one
+//! level where a clause is false. To stay short it learns nothing, refuses a condition that joins others (`UnknownId`), and
+//! doesn't ask which candidates are locked or excluded.
+#![tactic(auto)]
+
+use resolvo_clauses::{Decision, Literal, VariableOrigin};
+use resolvo_ids::{ClauseId, ConditionId, DenseIndex, StoreError, VariableId, VersionSetId};
+use resolvo_pool::{Condition, ConditionalRequirement as Wanted, Dependencies, DependencyProvider};
+use resolvo_store::{ClauseStore, Command, Reply};
+use std::alloc::Allocator;
+
+type Result<T> = std::result::Result<T, StoreError>;
+
+/// How a search ends.
+#[derive(Drop)]
+pub enum SearchEnd<S, A: Allocator> {
+    /// These solvables meet the requirements.
+    Picked(Vec<S, A>),
+    /// Nothing meets them.
+    Unsolvable,
+    /// So many steps were too few. [`Search::run`] goes on from there.
+    StepsUsed,
+}
+
+/// A search, which owns its store.
+#[derive(Drop)]
+pub struct Search<D: DependencyProvider> {
+    pub store: ClauseStore<D>,
+    /// What may be picked.
+    candidates: Vec<(VariableId, D::SolvableId), D::Alloc>,
+    /// What was chosen to be true, one variable a level: at level 1 the root, and then candidates.
+    choices: Vec<VariableId, D::Alloc>,
+    alloc: D::Alloc,
+}
+
+impl<D: DependencyProvider + Drop> Search<D> {
+    /// A search over a new store, for which nothing is asked yet.
+    pub fn new(alloc: D::Alloc, store: ClauseStore<D>) -> Self {
+        Search {
+            store,
+            candidates: Vec::new(alloc),
+            choices: Vec::new(alloc),
+            alloc,
+        }
+    }
+
+    /// Asks for what meets the requirements, once, before the search runs. They are the root's, which is the first choice.
+    /// All that may be picked is encoded; what that loads comes last, so that each variable of the store is met here.
+    pub fn begin(&mut self, wanted: &[Wanted]) -> Result<()> {
+        self.tell(Command::Root)?;
+        self.choose(VariableId::root(), ClauseId::install_root())?;
+        self.require_all(VariableId::root(), wanted)?;
+        for index in 0..(1 << 31) - 1 {
+            let variable = VariableId::from_index(index);
+            match self.store.origin(variable) {
+                Some(VariableOrigin::Solvable(solvable)) => self.encode(variable, solvable)?,
+                Some(_) => {}
+                None => break,
+            }
+        }
+        Ok(())
+    }
+
+    /// Searches on. A step propagates an assignment, decides, or goes back, which rules a choice out while those before it
+    /// stand. So it ends, but perhaps after very many steps. After a refusal the search is of no use.
+    pub fn run(&mut self, steps: u64) -> Result<SearchEnd<D::SolvableId, D::Alloc>> {
+        for _ in 0..steps {
+            if self.choices.is_empty() {
+                return Ok(SearchEnd::Unsolvable);
+            }
+            if !self.goes_on()? {
+                return Ok(SearchEnd::Picked(self.picked()?));
+            }
+        }
+        Ok(SearchEnd::StepsUsed)
+    }
+
+    /// Makes a step, and answers whether one was left.
+    fn goes_on(&mut self) -> Result<bool> {
+        if let Reply::Next(Some(assigned)) = self.store.obey(&Command::Unpropagated)? {
+            self.propagate(assigned)?;
+            return Ok(true);
+        }
+        match self.store.obey(&Command::Decide)? {
+            Reply::Decided(next) => self.choose(next.candidate, next.clause_id)?,
+            Reply::Falsified(clause) => self.backtrack(clause)?,
+            _ => return Ok(false),
+        }
+        Ok(true)
+    }
+
+    /// Lets no other version stand beside a solvable, and says what it needs. If that can't be told, it is false at level 1.
+    fn encode(&mut self, variable: VariableId, solvable: D::SolvableId) -> Result<()> {
+        self.candidates.push((variable, solvable))?;
+        let (name, needs) = self.needs_of(solvable)?;
+        self.tell(Command::AtMostOnce(name, variable))?;
+        match needs {
+            Dependencies::Known(needs) => {
+                self.require_all(variable, &needs.requirements)?;
+                self.constrain_all(variable, &needs.constrains)
+            }
+            Dependencies::Unknown(reason) => {
+                match self.store.obey(&Command::Exclude(variable, reason))? {
+                    Reply::Clause(clause, _) => self.assign(Literal::new(variable, true), clause),
+                    _ => Ok(()),
+                }
+            }
+        }
+    }
+
+    /// The package of a solvable, and what it needs.
+    fn needs_of(&self, solvable: D::SolvableId) -> Result<(D::NameId, Dependencies<D::Alloc>)> {
+        let provider = self.store.provider();
+        if !provider.knows_solvable(solvable) {
+            return Err(StoreError::UnknownId);
+        }
+        let needs = provider.get_dependencies(self.alloc, solvable)?;
+        Ok((provider.solvable_name(solvable), needs))
+    }
+
+    fn require_all(&mut self, parent: VariableId, wanted: &[Wanted]) -> Result<()> {
+        for wanted in wanted {
+            self.require(parent, *wanted)?;
+        }
+        Ok(())
+    }
+
+    /// Says that the parent, if true, requires a candidate; under a condition once for each candidate that meets it.
+    fn require(&mut self, parent: VariableId, wanted: Wanted) -> Result<()> {
+        self.tell(Command::Load(wanted.requirement))?;
+        let Some(condition) = wanted.condition else {
+            return self.tell(Command::Requires(parent, wanted.requirement, None));
+        };
+        for candidate in &self.candidates_of(condition)? {
+            let mut unless = Vec::new(self.alloc);
+            if *candidate != parent {
+                unless.push(Literal::new(*candidate, true))?;
+            }
+            let unless = Command::Disjunction(unless, condition);
+            if let Reply::Disjunction(id) = self.store.obey(&unless)? {
+                self.tell(Command::Requires(parent, wanted.requirement, Some(id)))?;
+            }
+        }
+        Ok(())
+    }
+
+    /// The variables of the candidates that meet a condition.
+    fn candidates_of(&mut self, condition: ConditionId) -> Result<Vec<VariableId, D::Alloc>> {
+        let provider = self.store.provider();
+        if provider.knows_condition(condition) {
+            if let Condition::Requirement(set) = provider.resolve_condition(condition) {
+                let load = Command::Load(Wanted::from(set).requirement);
+                if let Reply::Loaded(mut lists) = self.store.obey(&load)? {
+                    return Ok(lists.pop().unwrap_or(Vec::new(self.alloc)));
+                }
+            }
+        }
+        Err(StoreError::UnknownId)
+    }
+
+    fn constrain_all(&mut self, parent: VariableId, sets: &[VersionSetId]) -> Result<()> {
+        for set in sets {
+            self.constrain(parent, *set)?;
+        }
+        Ok(())
+    }
+
+    /// Says that the parent, if true, forbids the candidates that the version set doesn't hold.
+    fn constrain(&mut self, parent: VariableId, set: VersionSetId) -> Result<()> {
+        for outside in &self.outside(set)? {
+            if let Reply::Variable(outside) = self.store.obey(&Command::Variable(*outside))? {
+                self.tell(Command::Constrains(parent, outside, set))?;
+            }
+        }
+        Ok(())
+    }
+
+    /// The candidates that a version set doesn't hold.
+    fn outside(&self, set: VersionSetId) -> Result<Vec<D::SolvableId, D::Alloc>> {
+        let provider = self.store.provider();
+        if !provider.knows_version_set(set) {
+            return Err(StoreError::UnknownId);
+        }
+        match provider.get_candidates(self.alloc, provider.version_set_name(set))? {
+            Some(all) => provider.filter_candidates(self.alloc, &all.candidates, set, true),
+            None => Ok(Vec::new(self.alloc)),
+        }
+    }
+
+    /// Makes a candidate true at a new level.
+    fn choose(&mut self, candidate: VariableId, clause: ClauseId) -> Result<()> {
+        self.choices.push(candidate)?;
+        self.assign(Literal::new(candidate, false), clause)
+    }
+
+    /// Assigns at the level of the last choice. What is above is taken back. The store refuses a level that is too high.
+    fn assign(&mut self, literal: Literal, clause: ClauseId) -> Result<()> {
+        let (variable, value) = (literal.variable(), literal.satisfying_value());
+        let level = u32::try_from(self.choices.len()).unwrap_or(u32::MAX);
+        self.tell(Command::UndoUntil(level))?;
+        self.tell(Command::Assign(variable, value, clause, level))
+    }
+
+    /// Looks at the clauses that watch the literal which is false now. Those of more than two literals are left to `Decide`.
+    fn propagate(&mut self, assigned: Decision) -> Result<()> {
+        let falsified = Literal::new(assigned.variable, assigned.value);
+        for clause in &self.store.watchers(falsified)? {
+            match self.left(*clause)? {
+                [None, _] => return self.backtrack(*clause),
+                [Some(last), None] => self.assign(last, *clause)?,
+                _ => {}
+            }
+        }
+        Ok(())
+    }
+
+    /// The last two literals of a clause that aren't false, the last one first.
+    fn left(&self, clause: ClauseId) -> Result<[Option<Literal>; 2]> {
+        let mut left = [None, None];
+        for literal in self.store.literals(clause)?.iter().flatten() {
+            if self.store.value(literal.variable()) != Some(!literal.satisfying_value()) {
+                left = [Some(*literal), left[0]];
+            }
+        }
+        Ok(left)
+    }
+
+    /// Takes the last choice back, and rules it out at the level below. Where it was the root, no choice is left.
+    fn backtrack(&mut self, clause: ClauseId) -> Result<()> {
+        match (self.choices.pop(), self.choices.is_empty()) {
+            (Some(failed), false) => self.assign(Literal::new(failed, true), clause),
+            _ => Ok(()),
+        }
+    }
+
+    /// The candidates that are true.
+    fn picked(&self) -> Result<Vec<D::SolvableId, D::Alloc>> {
+        let mut picked = Vec::new(self.alloc);
+        for (variable, solvable) in &self.candidates {
+            if self.store.value(*variable) == Some(true) {
+                picked.push(*solvable)?;
+            }
+        }
+        Ok(picked)
+    }
+
+    /// Obeys a command whose reply isn't wanted.
+    fn tell(&mut self, command: Command<D::NameId, D::SolvableId, D::Alloc>) -> Result<()> {
+        self.store.obey(&command)?;
+        Ok(())
+    }
+}
