@@ -1,5 +1,5 @@
-//! Reads an index from standard input, in the format of `small_index`, and prints what its first line asks for: a line for
-//! each version that is picked, or `none`. The first line's own version isn't picked.
+//! Reads indexes from standard input, in the format of `small_index` and with an empty line between one and the next. For each it
+//! prints what its first line asks for: a line for each version that is picked, or `none`. The first line's own version isn't picked.
 #![tactic(auto)]
 
 use anyhow::Result;
@@ -11,14 +11,23 @@ use small_index::SmallIndex;
 use std::alloc::Global;
 use std::io;
 
-/// How many steps a search may take.
-const STEPS: u64 = 1 << 20;
+/// How many steps a search makes before it is asked whether it has ended.
+const STEPS: u64 = 16;
+
+/// How often it goes on.
+const TIMES: u64 = 1 << 16;
 
 fn main(rt: HostRuntime) -> Result<()> {
     let text = io::read_to_string(rt.alloc(), rt.reader())?;
-    let index = small_index::read(rt.alloc(), &text)?;
-    let wanted = wanted(rt.alloc(), &index)?;
-    print_picked(&rt, rt.alloc(), index, &wanted)
+    for (place, lines) in text.split("\n\n").enumerate() {
+        if place > 0 {
+            println!(rt)?;
+        }
+        let index = small_index::read(rt.alloc(), lines)?;
+        let wanted = wanted(rt.alloc(), &index)?;
+        print_picked(&rt, rt.alloc(), index, &wanted)?;
+    }
+    Ok(())
 }
 
 /// What the first line asks for.
@@ -53,11 +62,16 @@ fn print_end<D: DependencyProvider + Drop>(
     wanted: &[ConditionalRequirement],
 ) -> Result<()> {
     search.begin(wanted)?;
-    match search.run(STEPS)? {
-        SearchEnd::Picked(solvables) => print(rt, alloc, search.store.provider(), &solvables),
-        SearchEnd::Unsolvable => Ok(println!(rt; "none")?),
-        SearchEnd::StepsUsed => Ok(println!(rt; "more than {STEPS} steps")?),
+    for _ in 0..TIMES {
+        match search.run(STEPS)? {
+            SearchEnd::Picked(solvables) => {
+                return print(rt, alloc, search.store.provider(), &solvables);
+            }
+            SearchEnd::Unsolvable => return Ok(println!(rt; "none")?),
+            SearchEnd::StepsUsed => {}
+        }
     }
+    Ok(println!(rt; "too many steps")?)
 }
 
 /// A line for each version.
