@@ -1,4 +1,5 @@
-use Rattle.std.proofs.Common.{Some, ap, is_some, ◌∙◌}
+use Rattle.std.proofs.lemmas.Grind.{common_steps}
+use Rattle.std.proofs.Common.{Some, ap, is_some, ◌∙◌, arith}
 use Rattle.decisions.specs.Decisions.{values_in}
 use Rattle.resolvo_queue.specs.References.{references, score_in}
 use Rattle.resolvo_queue.proofs.AskingLaws.{askable_here, dropped_asked, looked_asked, nothing_here, offer_here, right_here}
@@ -45,3 +46,15 @@ returns-in-Some-clause-asked g c =
     looked_asked (references (g.I.Interner.universe c.args.interner.now) c.args.reader.now.lists c.args.disjunctions.now) (values_in c.args.map.now)
     c.args.tracked.now c.requires.asked c.args.position c.requires.of c.index-clause.result.now c.index-clause.ensures
     c.inspect.new.requirements c.inspect.new.occurrences c.inspect.ensures.listed c.args.reader.now.walked c.inspect.new.reader.walked c.inspect.ensures.learns
+
+pub returns-in_err-found-clause-walks : goal.returns-in_err-found-clause-walks
+returns-in_err-found-clause-walks g c = grind (arith, common_steps)
+
+pub returns-in-None-clause-walks : goal.returns-in-None-clause-walks
+returns-in-None-clause-walks g c = grind (arith, common_steps)
+
+pub returns-in-Some-clause-fewer : goal.returns-in-Some-clause-fewer
+returns-in-Some-clause-fewer g c = grind (arith, common_steps)
+
+pub returns-in-Some-clause-walks : goal.returns-in-Some-clause-walks
+returns-in-Some-clause-walks g c = grind (arith, common_steps)

@@ -1,4 +1,5 @@
-use Rattle.std.proofs.Common.{◌≡◌, Some, slice_get, subst, sym, ap, ◌∙◌}
+use Rattle.std.proofs.lemmas.Grind.{common_steps}
+use Rattle.std.proofs.Common.{◌≡◌, Some, slice_get, subst, sym, ap, ◌∙◌, arith}
 use Rattle.decisions.specs.Decisions.{values_in}
 use Rattle.resolvo_queue.specs.Rows.{loaded_rows}
 use Rattle.resolvo_queue.specs.Inspection.{offer_of}
@@ -62,3 +63,12 @@ returns-in_err-best-clause-asked g c =
 pub returns-in_err-best-clause-walks : goal.returns-in_err-best-clause-walks
 returns-in_err-best-clause-walks g c =
     only_walks_along c.args.tracked.now c.loop-position.tracked c.better_of.new.tracked c.args.reader.now c.loop-position.reader c.better_of.new.reader c.loop-position.invariant.walks c.better_of.ensures.walks
+
+pub returns-in_err-first-clause-walks : goal.returns-in_err-first-clause-walks
+returns-in_err-first-clause-walks g c = grind (arith, common_steps)
+
+pub returns-in-None-clause-walks : goal.returns-in-None-clause-walks
+returns-in-None-clause-walks g c = grind (arith, common_steps)
+
+pub returns-clause-asked : goal.returns-clause-asked
+returns-clause-asked g c = grind (arith, common_steps)

@@ -3,7 +3,7 @@ use Rattle.std.specs.Prelude.{flat_map}
 use Rattle.std.specs.List.{list_any}
 use Rattle.std.proofs.Math.Bool.{or-true}
 use Rattle.std.proofs.lemmas.Bool.Decides.{nat_tests}
-use Rattle.std.proofs.lemmas.Grind.{flat_map-append}
+use Rattle.std.proofs.lemmas.Grind.{flat_map-append, common_steps}
 use Rattle.std.proofs.lemmas.List.{take_more, take_all, drop_more, append-nil, map-append}
 use Rattle.std.proofs.lemmas.List.Sums.{fold-append}
 use Rattle.typed_ids.specs.Refusals.{IsGrowthRefusal}
@@ -190,3 +190,15 @@ pub returns-clause-front : goal.returns-clause-front
 returns-clause-front g c =
     front_of_part g.D.SolvableId.PartialEq.eq c.args.variables.now (flat_map (listed c.args.cache.now) c.args.ids.items) c.loop-id.variables
     (wholly g.D.SolvableId.PartialEq.eq c.args.variables.now _ c.loop-id.variables (whole g c))
+
+pub returns-in_err-made-clause-front : goal.returns-in_err-made-clause-front
+returns-in_err-made-clause-front g c = grind (arith, common_steps)
+
+pub loop-id-init : goal.loop-id-init
+loop-id-init g c = grind (arith, common_steps)
+
+pub returns-clause-ok : goal.returns-clause-ok
+returns-clause-ok g c = grind (arith, common_steps)
+
+pub returns-clause-few : goal.returns-clause-few
+returns-clause-few g c = grind (arith, common_steps)

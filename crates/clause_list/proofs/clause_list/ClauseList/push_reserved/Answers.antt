@@ -1,4 +1,5 @@
-use Rattle.std.proofs.Common.{◌≡◌, ◌+◌, ◌∙◌, sym, ap, subst, map, List, ◌++◌, ◌∷◌, [], length, length-append}
+use Rattle.std.proofs.lemmas.Grind.{common_steps}
+use Rattle.std.proofs.Common.{◌≡◌, ◌+◌, ◌∙◌, sym, ap, subst, map, List, ◌++◌, ◌∷◌, [], length, length-append, arith}
 use Rattle.decisions.specs.Literals.{Lit}
 use Rattle.watch_map.specs.WatchLists.{AreWatched, literals_in}
 use Rattle.clause_list.specs.ClauseList.{IsClauseList, Kept, contents, with_clause, literals_watched, HasRoomFor}
@@ -38,3 +39,9 @@ pub returns-clause-rooms : goal.returns-clause-rooms
 returns-clause-rooms g c count bits room =
     room_after count bits _ _ (literals_in c.args.watches) (ap length c.push_reserved.ensures.items ∙ length-append c.self.inside.clauses.items (c.args.clause ∷ []))
     c.push_reserved.ensures.capacity c.push_reserved-2.ensures.capacity c.started-watches.ensures.rooms (subst (HasRoomFor (count + 1) bits) (sym c.self.view_is) room)
+
+pub started-watches-requires-clause-room : goal.started-watches-requires-clause-room
+started-watches-requires-clause-room g c = grind (arith, common_steps)
+
+pub push_reserved-requires-2 : goal.push_reserved-requires-2
+push_reserved-requires-2 g c = grind (arith, common_steps)

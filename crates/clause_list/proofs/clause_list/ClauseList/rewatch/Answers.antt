@@ -1,4 +1,5 @@
-use Rattle.std.proofs.Common.{◌≡◌, sym, subst, map, List, length}
+use Rattle.std.proofs.lemmas.Grind.{common_steps}
+use Rattle.std.proofs.Common.{◌≡◌, sym, subst, map, List, length, arith}
 use Rattle.std.specs.Prelude.{OnOk, OnErr, IsTrue}
 use Rattle.decisions.specs.Literals.{Lit}
 use Rattle.watch_map.specs.WatchLists.{AreWatched}
@@ -47,3 +48,9 @@ returns-clause-err g c =
     subst (λ rs. OnErr c.rewatch.result (contents_of inside.clauses.items rs learnt new ≡ contents c.args.self.now)) (sym all)
     (subst (λ (k : Kept g.row.N.Denot). OnErr c.rewatch.result (contents_of inside.clauses.items ws' learnt new ≡ contents k)) c.self.view_is
     (err_rewatch c.rewatch.result inside.clauses.items learnt ws ws' inside.map new c.self.invariant.1 err))
+
+pub returns-clause-refused : goal.returns-clause-refused
+returns-clause-refused g c = grind (arith, common_steps)
+
+pub returns-clause-can : goal.returns-clause-can
+returns-clause-can g c = grind (arith, common_steps)

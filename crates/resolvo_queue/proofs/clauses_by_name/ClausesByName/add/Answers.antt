@@ -1,4 +1,5 @@
-use Rattle.std.proofs.Common.{◌≡◌, ◌∷◌, ◌++◌, [], None, ap, ◌∙◌}
+use Rattle.std.proofs.lemmas.Grind.{common_steps}
+use Rattle.std.proofs.Common.{◌≡◌, ◌∷◌, ◌++◌, [], None, ap, ◌∙◌, arith}
 use Rattle.resolvo_queue.specs.ByName.{numbers_under}
 use Rattle.resolvo_queue.proofs.ByNameLaws.{have_more, same_more}
 use Rattle.resolvo_queue.proofs.clauses_by_name.ClausesByName.add.Goals as goal
@@ -21,3 +22,6 @@ returns-clause-same g c =
     (c.push_reserved.ensures.items ∙ ap (λ l. l ++ c.new-2.result ∷ []) c.reserve.ensures.items) (c.len-place.ensures ∙ inside.lists.ok.0)
     (λ list. list.items) c.new-2.ensures.items none name
     ∙ ap (λ b. numbers_under value_at b name) c.self.view_is
+
+pub returns-clause-place : goal.returns-clause-place
+returns-clause-place g c = grind (arith, common_steps)

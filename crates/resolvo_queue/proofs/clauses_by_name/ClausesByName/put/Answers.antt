@@ -1,4 +1,5 @@
-use Rattle.std.proofs.Common.{◌≡◌, ◌-◌, Some, length, inr, subst, sym, ap, ◌∙◌}
+use Rattle.std.proofs.lemmas.Grind.{common_steps}
+use Rattle.std.proofs.Common.{◌≡◌, ◌-◌, Some, length, inr, subst, sym, ap, ◌∙◌, arith}
 use Rattle.resolvo_queue.specs.ByName.{numbers_under}
 use Rattle.resolvo_queue.specs.Order.{Stands}
 use Rattle.resolvo_queue.proofs.ByNameLaws.{list_read, place_within, push_keeps, push_stands, refused_keeps}
@@ -44,3 +45,6 @@ returns-clause-entered g c =
     let within = place_within (value_at inside.places) inside.lists.items c.args.name c.in-Some.place c.self.invariant is in
     inr (push_stands (value_at inside.places) (λ list. list.items) inside.lists.items c.args.number c.in-Some.place c.index_mut.result.now c.push.new.self within c.index_mut.ensures.value
     c.in_ok-push.ensures.items c.args.name is)
+
+pub invariant_of-self : goal.invariant_of-self
+invariant_of-self g c = grind (arith, common_steps)

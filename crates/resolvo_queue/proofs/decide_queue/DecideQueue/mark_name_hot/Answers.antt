@@ -1,4 +1,5 @@
-use Rattle.std.proofs.Common.{sym, subst}
+use Rattle.std.proofs.lemmas.Grind.{common_steps}
+use Rattle.std.proofs.Common.{sym, subst, arith}
 use Rattle.resolvo_queue.specs.Names.{ColdLack}
 use Rattle.resolvo_queue.specs.Queue.{Queue, StandsOn, queue_of}
 use Rattle.resolvo_queue.proofs.AfterLaws.{cold_still, fits_if_ok, kept_hot, stands_hot}
@@ -27,3 +28,9 @@ returns-clause-stands g c =
     let inside = c.self.inside in
     let before : Queue g.row.D-NameId.Denot g.row.D-NameId-Set.Denot = queue_of inside.tracked inside.names.items inside.hot_names inside.since.items inside.witnesses in
     λ refs s. stands_hot refs before c.insert.new.self (subst (StandsOn refs) (sym c.self.view_is) (c.heat.ensures.stands refs s))
+
+pub returns-in_err-insert-clause-err : goal.returns-in_err-insert-clause-err
+returns-in_err-insert-clause-err g c = grind (arith, common_steps)
+
+pub returns-clause-ok : goal.returns-clause-ok
+returns-clause-ok g c = grind (arith, common_steps)

@@ -1,4 +1,5 @@
-use Rattle.std.proofs.Common.{map, inl, sym, ap, refl, subst, ◌∙◌}
+use Rattle.std.proofs.lemmas.Grind.{common_steps}
+use Rattle.std.proofs.Common.{map, inl, sym, ap, refl, subst, ◌∙◌, arith}
 use Rattle.std.specs.Prelude.{All, option_map}
 use Rattle.decisions.specs.Decisions.{values_in}
 use Rattle.resolvo_queue.specs.Inspection.{clause_of}
@@ -139,3 +140,6 @@ returns-clause-walks g c =
 
 pub returns-clause-owed : goal.returns-clause-owed
 returns-clause-owed g c = λ r. c.next_offer.ensures.walks.once.owed r ∙ ap (λ (q : Queue g.row.D-NameId.Denot g.row.D-NameId-Set.Denot). owed q r) c.self.view_is
+
+pub next_offer-requires-clause-largest : goal.next_offer-requires-clause-largest
+next_offer-requires-clause-largest g c = grind (arith, common_steps)

@@ -1,3 +1,4 @@
+use Rattle.std.proofs.lemmas.Grind.{common_steps}
 use Rattle.std.proofs.Common.{◌≡◌, ◌⊎◌, inl, arith, ◌<◌, ◌^◌, ◌-◌, [], ◌∷◌, ◌++◌, map, length, sym, ap, refl, subst, ◌∙◌}
 use Rattle.std.specs.List.{list_any}
 use Rattle.std.proofs.lemmas.List.{length-map, map-append}
@@ -128,3 +129,27 @@ pub returns-clause-owed : goal.returns-clause-owed
 returns-clause-owed g c = λ r.
     subst (λ (q : Queue g.row.D-NameId.Denot g.row.D-NameId-Set.Denot). (owed_in c.register.new.self.requirements r ≡ owed q r) ⊎ ((r ≡ c.args.requirement) × (owed q r ≡ 0) × (owed_in c.register.new.self.requirements r ≡ 1)))
     c.self.view_is (c.register.ensures.owes.owed r)
+
+pub invariant_of-self : goal.invariant_of-self
+invariant_of-self g c = grind (arith, common_steps)
+
+pub invariant_of-self-in_err-reserve-2 : goal.invariant_of-self-in_err-reserve-2
+invariant_of-self-in_err-reserve-2 g c = grind (arith, common_steps)
+
+pub returns-in_err-reserve-2-clause-walks : goal.returns-in_err-reserve-2-clause-walks
+returns-in_err-reserve-2-clause-walks g c = grind (arith, common_steps)
+
+pub returns-in_err-reserve-2-clause-owed : goal.returns-in_err-reserve-2-clause-owed
+returns-in_err-reserve-2-clause-owed g c = grind (arith, common_steps)
+
+pub returns-in_err-reserve-2-clause-stands : goal.returns-in_err-reserve-2-clause-stands
+returns-in_err-reserve-2-clause-stands g c = grind (arith, common_steps)
+
+pub returns-in_err-enter-clause-walks : goal.returns-in_err-enter-clause-walks
+returns-in_err-enter-clause-walks g c = grind (arith, common_steps)
+
+pub register-requires-clause-order : goal.register-requires-clause-order
+register-requires-clause-order g c = grind (arith, common_steps)
+
+pub register-requires-clause-few : goal.register-requires-clause-few
+register-requires-clause-few g c = grind (arith, common_steps)

@@ -1,3 +1,4 @@
+use Rattle.std.proofs.lemmas.Grind.{common_steps}
 use Rattle.std.proofs.Common.{◌≡◌, ◌+◌, ◌≤◌, min, length, true, false, map, take, inl, inr, sym, ap, refl, subst, arith, ◌∙◌}
 use Rattle.std.proofs.lemmas.List.{take-take}
 use Rattle.resolvo_queue.specs.Inspection.{clause_of}
@@ -117,3 +118,9 @@ returns-clause-owed_still g c =
     (subst (StandsOn refs) (sym c.self.view_is) s) c.sync.ensures.only (c.sync.ensures.others was) r walkable
     (subst (λ (q : Queue g.row.D-NameId.Denot g.row.D-NameId-Set.Denot). HasNoneOf (changed_from c.args.floor c.args.trail.now q) (rows_in refs r)) (sym c.self.view_is) none)
     ∙ ap (λ (q : Queue g.row.D-NameId.Denot g.row.D-NameId-Set.Denot). owed q r) c.self.view_is)
+
+pub returns-in-Err-clause-walks : goal.returns-in-Err-clause-walks
+returns-in-Err-clause-walks g c = grind (arith, common_steps)
+
+pub returns-in-Err-clause-owed : goal.returns-in-Err-clause-owed
+returns-in-Err-clause-owed g c = grind (arith, common_steps)

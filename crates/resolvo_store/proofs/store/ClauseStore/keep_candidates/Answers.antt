@@ -1,4 +1,5 @@
-use Rattle.std.proofs.Common.{◌≡◌, ◌∷◌, ◌++◌, [], ◌∙◌, sym, ap, subst, None, map, take, true, false}
+use Rattle.std.proofs.lemmas.Grind.{common_steps}
+use Rattle.std.proofs.Common.{◌≡◌, ◌∷◌, ◌++◌, [], ◌∙◌, sym, ap, subst, None, map, take, true, false, arith}
 use Rattle.std.specs.Map.{lookup}
 use Rattle.std.specs.Prelude.{All}
 use Rattle.std.proofs.lemmas.List.Elements.{All-take}
@@ -130,3 +131,12 @@ returns-in_err-lists-clause-refused g c =
     (subst (λ kept. may_be_refused (store g kept) (Load r) e ≡ true) c.self.view_is
     (load_refused (store_in c.self.invariant.sound) r inside.cache c.load_lists.new.cache
     g.met.D.NameId.SameValue.same c.self.invariant.asked fresh e c.in_err-lists.ensures.refused))
+
+pub returns-in_err-reply-clause-front : goal.returns-in_err-reply-clause-front
+returns-in_err-reply-clause-front g c = grind (arith, common_steps)
+
+pub returns-in_err-insert-clause-front : goal.returns-in_err-insert-clause-front
+returns-in_err-insert-clause-front g c = grind (arith, common_steps)
+
+pub returns-clause-front : goal.returns-clause-front
+returns-clause-front g c = grind (arith, common_steps)

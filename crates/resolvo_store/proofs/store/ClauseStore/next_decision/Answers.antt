@@ -1,4 +1,5 @@
-use Rattle.std.proofs.Common.{◌≡◌, ◌∙◌, None, refl, sym, subst, ap}
+use Rattle.std.proofs.lemmas.Grind.{common_steps}
+use Rattle.std.proofs.Common.{◌≡◌, ◌∙◌, None, refl, sym, subst, ap, arith}
 use Rattle.std.proofs.lemmas.List.Elements.{All-nil}
 use Rattle.std.specs.Prelude.{All, IfOk, OnOk, ◌↔◌, false, option_map}
 use Rattle.decisions.specs.Decisions.{values_in}
@@ -105,3 +106,18 @@ returns-clause-unbeaten g c =
     (ap g.D.Interner.universe c.provider.ensures.provider) c.new-reader.ensures.lists (c.map-2.ensures.values ∙ ap (λ t. val t.entries) c.take_sync_floor-floor.ensures.trail)
     (ap g.D.NameId.Scores.IdMap.value_at c.map-3.ensures) c.sync.ensures.clauses.clauses
     c.next_decision.ensures.unbeaten)
+
+pub returns-in_err-sync-clause-same : goal.returns-in_err-sync-clause-same
+returns-in_err-sync-clause-same g c = grind (arith, common_steps)
+
+pub returns-in_err-sync-clause-provider : goal.returns-in_err-sync-clause-provider
+returns-in_err-sync-clause-provider g c = grind (arith, common_steps)
+
+pub invariant_of-self-2 : goal.invariant_of-self-2
+invariant_of-self-2 g c = grind (arith, common_steps)
+
+pub returns-clause-same : goal.returns-clause-same
+returns-clause-same g c = grind (arith, common_steps)
+
+pub returns-clause-provider : goal.returns-clause-provider
+returns-clause-provider g c = grind (arith, common_steps)

@@ -1,3 +1,4 @@
+use Rattle.std.proofs.lemmas.Grind.{common_steps}
 use Rattle.std.proofs.Common.{◌≡◌, ◌∙◌, ◌-◌, ◌^◌, refl, sym, subst, ap, length, true, false, arith}
 use Rattle.std.specs.Prelude.{OnOk, map, ◌&&◌, nat_le, nat_lt}
 use Rattle.std.specs.Option.{option_map_or}
@@ -144,3 +145,6 @@ returns-clause-step g c =
     c.register.ensures.reply c.register.ensures.added (on_ok c.register.result (λ more. more.clauses) c.register.ensures.registered) c.register.ensures.unadded
     (on_err c.register.result (λ same. same.clauses.clauses) c.register.ensures.unregistered)
     c.register.ensures.refused c.register.ensures.ids_out
+
+pub returns-clause-provider : goal.returns-clause-provider
+returns-clause-provider g c = grind (arith, common_steps)

@@ -1,3 +1,5 @@
+use Rattle.std.proofs.Common.{arith}
+use Rattle.std.proofs.lemmas.Grind.{common_steps}
 use Rattle.resolvo_store.proofs.store.registering.register.Goals as goal
 
 pub returns-in_err-register_clause-clause-stands : goal.returns-in_err-register_clause-clause-stands
@@ -5,3 +7,9 @@ returns-in_err-register_clause-clause-stands g c = λ lists has stands. c.regist
 
 pub returns-clause-stands : goal.returns-clause-stands
 returns-clause-stands g c = λ lists has stands. c.register_clause.ensures.stands (g.D.Interner.universe c.args.provider.now) lists has stands
+
+pub push_reserved-id-requires-clause-room : goal.push_reserved-id-requires-clause-room
+push_reserved-id-requires-clause-room g c = grind (arith, common_steps)
+
+pub returns-clause-added : goal.returns-clause-added
+returns-clause-added g c = grind (arith, common_steps)
