@@ -1,4 +1,5 @@
-use Rattle.std.proofs.Common.{◌≡◌, ◌<◌, ◌^◌, ◌||◌, map, length, refl, subst, leb, false}
+use Rattle.std.proofs.lemmas.Grind.{common_steps}
+use Rattle.std.proofs.Common.{◌≡◌, ◌<◌, ◌^◌, ◌||◌, map, length, refl, subst, leb, false, arith}
 use Rattle.std.specs.Prelude.{not, ◌&&◌, OnOk, IfOk, OnErr, IfErr}
 use Rattle.std.specs.List.{list_all, list_any}
 use Rattle.typed_ids.specs.Refusals.{IsGrowthRefusal}
@@ -63,3 +64,6 @@ returns-clause-refused g c =
     (subst (λ l. IfErr c.intern_lists.result (IsGrowthRefusal (leb (2 ^ 40) (length l)
     || lacks_variables g.D.SolvableId.PartialEq.eq g.D.SolvableId.Slots.IdMap.is_too_large c.args.variables.now l)))
     (listed_joined p new c.in_ok-ids.ids.items sets c.in_ok-ids.ensures.lists) c.intern_lists.ensures.refused)
+
+pub returns-in_err-ids-clause-front : goal.returns-in_err-ids-clause-front
+returns-in_err-ids-clause-front g c = grind (arith, common_steps)

@@ -1,3 +1,4 @@
+use Rattle.std.proofs.lemmas.Grind.{common_steps}
 use Rattle.std.proofs.Common.{◌≡◌, ◌<◌, ◌∙◌, sym, subst, length, true, arith}
 use Rattle.std.specs.Prelude.{◌&&◌, not, nat_lt}
 use Rattle.std.proofs.lemmas.Bool.Decides.{nat_tests}
@@ -58,3 +59,6 @@ returns-clause-step g c =
     c.track.ensures.same_variables c.track.ensures.same_clauses c.track.ensures.same_trackers in
     subst (λ (k : Kept g.row.D.Denot g.row.D-NameId.Denot g.row.D-SolvableId.Denot g.row.D-NameId-Scores.Denot). Step (store_of (given g) g.D.NameId.Scores.IdMap.value_at k) (AtMostOnce name v) (answer_of c.track.result) after) c.self.view_is
     (step_tracked old name v c.track.result after may (sym c.is_tracked.ensures ∙ c.if-is_tracked.false) c.track.ensures.reply parts.0 parts.1 c.track.ensures.fits c.track.ensures.refused)
+
+pub returns-clause-provider : goal.returns-clause-provider
+returns-clause-provider g c = grind (arith, common_steps)
