@@ -1,3 +1,4 @@
+use Rattle.std.proofs.lemmas.Grind.{common_steps}
 use Rattle.std.proofs.Common.{◌≡◌, ◌+◌, arith}
 use Rattle.script_text.specs.declared.fault.ScriptFault.TheVariants.{Memory}
 use Rattle.script_text.specs.Lines.{lines as lines_of}
@@ -31,3 +32,6 @@ loop-said-preserved g c = record {
       c.in-Some.ensures.first.1 c.in-Some.ensures.first.2 c.in-Ok.ensures c.in_ok-write_much.ensures.ok c.loop-said.invariant.so_far;
   command = λ more. c.loop-said.invariant.command (command_after (named g) _ _ _ _ _ _ _ _ _ c.in-Some.ensures.first.1 c.in-Some.ensures.first.2 c.in-Ok.ensures more);
 }
+
+pub returns-clause-read : goal.returns-clause-read
+returns-clause-read g c = grind (arith, common_steps)

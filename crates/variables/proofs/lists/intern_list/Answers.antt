@@ -1,4 +1,5 @@
-use Rattle.std.proofs.Common.{◌≡◌, ◌∷◌, [], ◌++◌, ◌+◌, ◌||◌, ◌∙◌, sym, ap, subst, take, drop, map, true, false}
+use Rattle.std.proofs.lemmas.Grind.{common_steps}
+use Rattle.std.proofs.Common.{◌≡◌, ◌∷◌, [], ◌++◌, ◌+◌, ◌||◌, ◌∙◌, sym, ap, subst, take, drop, map, true, false, arith}
 use Rattle.std.proofs.lemmas.List.{take_more, take_all, drop_more, take-append-drop}
 use Rattle.std.specs.List.{list_any}
 use Rattle.variables.specs.Variables.{interned_variable, with_variables, lacks_variable, lacks_variables, IsPartlyInterned}
@@ -107,3 +108,15 @@ returns-clause-front g c = front_of_part g.S.PartialEq.eq c.args.variables.now c
 
 pub returns-clause-longer : goal.returns-clause-longer
 returns-clause-longer g c = longer_part g.S.PartialEq.eq c.args.variables.now c.args.solvables.now c.loop-solvable.variables (part-whole g c)
+
+pub returns-in_err-list-clause-err : goal.returns-in_err-list-clause-err
+returns-in_err-list-clause-err g c = grind (arith, common_steps)
+
+pub returns-in_err-list-clause-front : goal.returns-in_err-list-clause-front
+returns-in_err-list-clause-front g c = grind (arith, common_steps)
+
+pub returns-clause-ok : goal.returns-clause-ok
+returns-clause-ok g c = grind (arith, common_steps)
+
+pub returns-clause-fit : goal.returns-clause-fit
+returns-clause-fit g c = grind (arith, common_steps)

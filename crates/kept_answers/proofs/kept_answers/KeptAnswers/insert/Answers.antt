@@ -1,4 +1,5 @@
-use Rattle.std.proofs.Common.{rules, ◌≡◌, ◌<◌, ◌^◌, None, length, min, sym, ◌∙◌}
+use Rattle.std.proofs.lemmas.Grind.{common_steps}
+use Rattle.std.proofs.Common.{rules, ◌≡◌, ◌<◌, ◌^◌, None, length, min, sym, ◌∙◌, arith}
 use Rattle.std.specs.Map.{lookup}
 use Rattle.kept_answers.proofs.AnswerLemmas.{AreKept-push, fewer_kept}
 use Rattle.kept_answers.proofs.kept_answers.KeptAnswers.insert.Goals as goal
@@ -22,3 +23,6 @@ returns-then-index-clause-few g c =
     λ few. rw (sym c.self.view_is)
     (fewer_kept same g.met.K.Eq.laws g.K.SolverId.is_id g.K.SolverId.are_many g.met.K.SolverId.few g.I.DenseIndex.limit _ kept c.args.key
     c.self.invariant c.attest.ensures none few)
+
+pub put-requires : goal.put-requires
+put-requires g c = grind (arith, common_steps)

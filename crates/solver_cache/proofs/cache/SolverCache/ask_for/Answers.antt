@@ -1,4 +1,5 @@
-use Rattle.std.proofs.Common.{◌∙◌, sym, refl, ap, length}
+use Rattle.std.proofs.lemmas.Grind.{common_steps}
+use Rattle.std.proofs.Common.{◌∙◌, sym, refl, ap, length, arith}
 use Rattle.solver_cache.specs.Cache.{is_kept}
 use Rattle.solver_cache.specs.Hints.{hints_of}
 use Rattle.solver_cache.proofs.CacheLemmas.{right_asked, later_asked, later_marked, once_new, value_last, found_last, kept_last, handed_on, refused_unasked, refusal_wider}
@@ -59,3 +60,18 @@ returns-in_err-insert-clause-later g c =
     rw (sym c.self.view_is, c.in_err-insert.ensures.err)
     (later_marked has _ c.mark_hints.new.hinted
     (λ s h. c.in_ok-mark_hints.ensures.ok s ∙ still_marked g.D.SolvableId.PartialEq.eq g.D.SolvableId.Set.IdSet.is_too_large (has c.self.inside.hinted) (hints_of c.in_ok-answer.answer) s h))
+
+pub returns-in-Some-clause-later : goal.returns-in-Some-clause-later
+returns-in-Some-clause-later g c = grind (arith, common_steps)
+
+pub returns-in_err-answer-clause-later : goal.returns-in_err-answer-clause-later
+returns-in_err-answer-clause-later g c = grind (arith, common_steps)
+
+pub returns-in_err-mark_hints-clause-later : goal.returns-in_err-mark_hints-clause-later
+returns-in_err-mark_hints-clause-later g c = grind (arith, common_steps)
+
+pub insert-requires : goal.insert-requires
+insert-requires g c = grind (arith, common_steps)
+
+pub invariant_of-self-in_err-insert : goal.invariant_of-self-in_err-insert
+invariant_of-self-in_err-insert g c = grind (arith, common_steps)

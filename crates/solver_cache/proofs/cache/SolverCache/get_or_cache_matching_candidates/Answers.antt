@@ -1,4 +1,5 @@
-use Rattle.std.proofs.Common.{◌≡◌, ◌∙◌, true, false, ap, subst, sym, true≢false}
+use Rattle.std.proofs.lemmas.Grind.{common_steps}
+use Rattle.std.proofs.Common.{◌≡◌, ◌∙◌, true, false, ap, subst, sym, true≢false, arith}
 use Rattle.providers.specs.Provider.{matching}
 use Rattle.solver_cache.specs.Cache.{is_kept, is_set_asked, same_set}
 use Rattle.solver_cache.specs.Functions.{Provider, gathered}
@@ -89,3 +90,9 @@ returns-in_ok-place-in-None-clause-later g c =
 pub returns-in_ok-place-in-None-clause-asked : goal.returns-in_ok-place-in-None-clause-asked
 returns-in_ok-place-in-None-clause-asked g c =
     ap (λ v. is_set_asked (provided g c.args.self.now.provider) v c.args.set) c.self-in-None.view_is ∙ c.in_ok-found-in-None.ensures.asked
+
+pub invariant_of-self : goal.invariant_of-self
+invariant_of-self g c = grind (arith, common_steps)
+
+pub returns-in-Some-clause-later : goal.returns-in-Some-clause-later
+returns-in-Some-clause-later g c = grind (arith, common_steps)

@@ -1,4 +1,5 @@
-use Rattle.std.proofs.Common.{rules, ◌≡◌, ◌∙◌, true, false, sym, ap, subst}
+use Rattle.std.proofs.lemmas.Grind.{common_steps}
+use Rattle.std.proofs.Common.{rules, ◌≡◌, ◌∙◌, true, false, sym, ap, subst, arith}
 use Rattle.std.specs.List.{list_any}
 use Rattle.std.specs.Prelude.{All}
 use Rattle.providers.specs.Provider.{sets_of}
@@ -22,3 +23,12 @@ returns-clause-fit g c =
     (all_asked_fit _ _ c.self-2.invariant g.met.D.NameId.SameValue.same (sets_of (D.Interner.universe inside) r)
     (subst (λ st. All (λ v. is_set_asked (provided inside) st v ≡ true) (sets_of (D.Interner.universe inside) r)) (sym c.self-2.view_is)
     (subst (λ q. All (λ v. is_set_asked (provided q) new v ≡ true) (sets_of (D.Interner.universe q) r)) (sym same) asked)))
+
+pub returns-in_err-sets-clause-later : goal.returns-in_err-sets-clause-later
+returns-in_err-sets-clause-later g c = grind (arith, common_steps)
+
+pub returns-in_err-sort_all-clause-sorted : goal.returns-in_err-sort_all-clause-sorted
+returns-in_err-sort_all-clause-sorted g c = grind (arith, common_steps)
+
+pub returns-clause-lists : goal.returns-clause-lists
+returns-clause-lists g c = grind (arith, common_steps)

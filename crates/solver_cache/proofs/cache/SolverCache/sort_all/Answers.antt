@@ -1,4 +1,5 @@
-use Rattle.std.proofs.Common.{◌≡◌, ◌++◌, ◌∷◌, [], ◌+◌, true, get_or, subst, take, Some}
+use Rattle.std.proofs.lemmas.Grind.{common_steps}
+use Rattle.std.proofs.Common.{◌≡◌, ◌++◌, ◌∷◌, [], ◌+◌, true, get_or, subst, take, Some, arith}
 use Rattle.std.proofs.lemmas.List.{take_more}
 use Rattle.typed_ids.specs.declared.version_set_id.VersionSetId.{VersionSetId}
 use Rattle.std.proofs.lemmas.List.Elements.{All-push}
@@ -62,3 +63,15 @@ loop-set-preserved g c =
       asked = All-push (λ w. is_set_asked p new w ≡ true) (take i sets) v
           (λ k d lt. asked_later has p _ mid new ok.later (c.loop-set.invariant.asked k d lt)) (subst (λ q. is_set_asked (provided q) new v ≡ true) same ok.asked);
     })
+
+pub loop-set-init : goal.loop-set-init
+loop-set-init g c = grind (arith, common_steps)
+
+pub returns-clause-sorted : goal.returns-clause-sorted
+returns-clause-sorted g c = grind (arith, common_steps)
+
+pub returns-clause-lists : goal.returns-clause-lists
+returns-clause-lists g c = grind (arith, common_steps)
+
+pub returns-clause-asked : goal.returns-clause-asked
+returns-clause-asked g c = grind (arith, common_steps)

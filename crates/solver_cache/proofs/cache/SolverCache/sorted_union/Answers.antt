@@ -1,4 +1,5 @@
-use Rattle.std.proofs.Common.{◌≡◌, ◌∙◌, Some, true, false, ap, subst, sym, true≢false}
+use Rattle.std.proofs.lemmas.Grind.{common_steps}
+use Rattle.std.proofs.Common.{◌≡◌, ◌∙◌, Some, true, false, ap, subst, sym, true≢false, arith}
 use Rattle.std.specs.Map.{lookup}
 use Rattle.std.specs.Prelude.{All}
 use Rattle.providers.specs.Requirement.{same_requirement}
@@ -91,3 +92,18 @@ returns-in_ok-place-in-None-clause-later g c =
     let old = c.args.self.now in
     rw c.in_ok-place-in-None.ensures.ok (later_sorted has old _ (Union c.args.union) c.in_ok-list-in-None.list.items
     (subst (λ v. IsLater has old v) (sym c.self-in-None.view_is) c.in_ok-list-in-None.ensures.later))
+
+pub returns-in_err-list-in-None-clause-list : goal.returns-in_err-list-in-None-clause-list
+returns-in_err-list-in-None-clause-list g c = grind (arith, common_steps)
+
+pub returns-in_err-list-in-None-clause-asked : goal.returns-in_err-list-in-None-clause-asked
+returns-in_err-list-in-None-clause-asked g c = grind (arith, common_steps)
+
+pub invariant_of-self : goal.invariant_of-self
+invariant_of-self g c = grind (arith, common_steps)
+
+pub returns-in-Some-clause-sorted : goal.returns-in-Some-clause-sorted
+returns-in-Some-clause-sorted g c = grind (arith, common_steps)
+
+pub returns-in-Some-clause-later : goal.returns-in-Some-clause-later
+returns-in-Some-clause-later g c = grind (arith, common_steps)

@@ -1,3 +1,4 @@
+use Rattle.std.proofs.lemmas.Grind.{common_steps}
 use Rattle.std.proofs.Common.{arith, rules, ◌<◌, ◌≡◌, sym, ◌∙◌, None, length, length-append}
 use Rattle.variables.specs.Variables.{solvable_of}
 use Rattle.variables.proofs.VariableLemmas.{distinct-other, no_solvable, root-append, variable-other}
@@ -17,3 +18,9 @@ invariant_of-self-then-in_range g c =
       root_first = root-append os o c.self.invariant.root_first;
       distinct = distinct-other same g.met.S.Eq.laws.refl g.met.S.SameValue.same o os other c.self.invariant.distinct;
     }
+
+pub from_index-requires : goal.from_index-requires
+from_index-requires g c = grind (arith, common_steps)
+
+pub returns-in_ok-push-clause-variable : goal.returns-in_ok-push-clause-variable
+returns-in_ok-push-clause-variable g c = grind (arith, common_steps)

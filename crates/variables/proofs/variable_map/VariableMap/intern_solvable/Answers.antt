@@ -1,3 +1,4 @@
+use Rattle.std.proofs.lemmas.Grind.{common_steps}
 use Rattle.std.proofs.Common.{arith, rules, ◌<◌, ◌≡◌, ◌++◌, ◌∷◌, [], sym, ◌∙◌, ap, None, length, length-append}
 use Rattle.variables.specs.declared.variable_origin.VariableOrigin.TheVariants.{Solvable}
 use Rattle.variables.specs.Variables.{variable_of_solvable}
@@ -55,3 +56,9 @@ pub returns-clause-ok : goal.returns-clause-ok
 returns-clause-ok g c =
     c.in_ok-push.ensures.items ∙ (ap (λ os. os ++ Solvable c.args.solvable ∷ []) c.self.view_is
     ∙ sym (with_variable-new g.S.PartialEq.eq c.args.solvable c.args.self.now (sym c.lookup_solvable.ensures.variable ∙ c.in_default.is)))
+
+pub put-requires : goal.put-requires
+put-requires g c = grind (arith, common_steps)
+
+pub from_index-requires : goal.from_index-requires
+from_index-requires g c = grind (arith, common_steps)
