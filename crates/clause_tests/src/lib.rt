@@ -1,14 +1,12 @@
-//! Tests of clauses, of what they are made of, and of what is kept for them: literals and the trail; variables and their
-//! texts (`variable_calls`); the literals of clauses (`clause_literals`), and what new ones watch (`first_watches`); watch lists (`watch_lists`), and the list of clauses
-//! that has them (`clause_lists`); trackers of at most one variable (`trackers`), and what is kept for each name (`rooms`);
-//! and of the queue what no store does (`queue_calls`).
+//! Tests of clauses, and of what they are made of: literals and the trail; variables and their texts (`variable_calls`); the literals
+//! of clauses (`clause_literals`), and what new ones watch (`first_watches`); watch lists (`watch_lists`); and trackers of at most one
+//! variable (`trackers`).
 //!
-//! What a call answers is proved, and so is what a refusal leaves. So each call that takes memory is made once where there is
-//! enough, and again where each request for memory is refused in turn; what takes none is read to see what those did.
+//! What a call answers is proved, and so is what a refusal leaves. So each call that takes memory is made once where there is enough, and
+//! what takes none is read to see what those did. The program `trials` refuses each request of all of them, as a store makes them, and
+//! it makes the calls of a queue.
 #![tactic(auto)]
 
-#[cfg(test)]
-mod clause_lists;
 #[cfg(test)]
 mod clause_literals;
 #[cfg(test)]
@@ -17,10 +15,6 @@ mod first_watches;
 mod listed;
 #[cfg(test)]
 mod literals;
-#[cfg(test)]
-mod queue_calls;
-#[cfg(test)]
-mod rooms;
 #[cfg(test)]
 mod trackers;
 #[cfg(test)]

@@ -1,6 +1,4 @@
-//! Tests of the tracker of variables of which at most one may be true: its calls in ample memory, and those that take memory
-//! where it is refused.
+//! Tests of the tracker of variables of which at most one may be true: its calls in ample memory.
 
 mod ample;
-mod refused;
 mod tracked_numbers;

@@ -1,5 +1,4 @@
-//! The watch lists: a walk that moves watches, in ample memory, and the calls that take memory where it is refused.
+//! The watch lists: walks that move watches, in ample memory.
 
 mod ample;
-mod refused;
 mod watched_clauses;

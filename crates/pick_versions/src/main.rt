@@ -23,11 +23,16 @@ fn main(rt: HostRuntime) -> Result<()> {
         if place > 0 {
             println!(rt)?;
         }
-        let index = small_index::read(rt.alloc(), lines)?;
-        let wanted = wanted(rt.alloc(), &index)?;
-        print_picked(&rt, rt.alloc(), index, &wanted)?;
+        answer(&rt, rt.alloc(), lines)?;
     }
     Ok(())
+}
+
+/// Prints what the first line of an index asks for. It owns the index, so that what is read and cut isn't dropped with it.
+fn answer(rt: &impl Print, alloc: Global, lines: &str) -> Result<()> {
+    let index = small_index::read(alloc, lines)?;
+    let wanted = wanted(alloc, &index)?;
+    print_picked(rt, alloc, index, &wanted)
 }
 
 /// What the first line asks for.

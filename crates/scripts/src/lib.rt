@@ -11,5 +11,6 @@ mod literal_words;
 mod reply_line;
 mod transcript;
 
+pub use command_line::command;
 pub use script_text::{ScriptFault, status};
 pub use transcript::script;

@@ -1,16 +1,12 @@
 //! Callers that know nothing of the provider but its trait, and nothing of the store but its contracts.
-ghost use Rattle.std.specs.Prelude.{◌≡◌, ◌≢◌, ℕ, true, List, [], length, Some, None, IfOk, IfSome};
+ghost use Rattle.std.specs.Prelude.{◌≡◌, ◌≢◌, ℕ, true, List, [], length, None};
 ghost use Rattle.typed_ids.specs.declared.error.StoreError.TheVariants.{UnknownId, EmptyTrail};
 ghost use Rattle.providers.specs.Provider.{sets_of};
-ghost use Rattle.resolvo_queue.specs.Pick.{DecidesUnbeaten};
 ghost use Rattle.resolvo_store.specs.Command.{reply_of, LoadedAs, Refused, IsRefused};
-ghost use Rattle.resolvo_store.specs.Outcome.{offers};
 ghost use Rattle.resolvo_store.specs.Store.{lists_of};
 
 use providers::{DependencyProvider, Interner, Requirement};
-use resolvo_queue::QueueDecision;
 use resolvo_store::{AbstractStore, ClauseStore, Command, Reply};
-use typed_ids::StoreError;
 
 /// A command that is refused, whatever it is and why, changes nothing.
 pub fn obey<D: DependencyProvider + Drop>(
@@ -59,18 +55,4 @@ pub fn undo_nothing<D: DependencyProvider + Drop>(store: &mut ClauseStore<D>) ->
     ensures same { ⟦<D as AbstractStore>⟧.store store.new ≡ ⟦<D as AbstractStore>⟧.store store.old }
 {
     store.step(&Command::UndoLast)
-}
-
-/// Where nothing is falsified, the next decision is one that no eligible clause beats. Asking for it changes nothing, also
-/// where memory is refused.
-pub fn decides_unbeaten<D: DependencyProvider + Drop>(
-    store: &mut ClauseStore<D>,
-) -> Result<Option<QueueDecision>, StoreError>
-    ensures unbeaten { IfOk result (λ decision. IfSome decision (λ d. DecidesUnbeaten (offers (⟦<D as AbstractStore>⟧.store store.old)) (Some d))) }
-    ensures same { ⟦<D as AbstractStore>⟧.store store.new ≡ ⟦<D as AbstractStore>⟧.store store.old }
-{
-    match store.falsified() {
-        Some(_) => Ok(None),
-        None => store.next_decision(),
-    }
 }

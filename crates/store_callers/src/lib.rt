@@ -1,5 +1,5 @@
 //! Callers of the clause store that are generic in the provider, and worked examples that the checker computes from the
-//! definitions. They are proved from the contracts alone; `store_tests` has the same examples run by the code.
+//! definitions. They are proved from the contracts alone; the program `worked_examples` runs the same examples.
 #![tactic(auto)]
 
 mod callers;
@@ -7,7 +7,7 @@ mod clause_callers;
 mod computed;
 mod law_callers;
 
-pub use callers::{ask, decides_unbeaten, load_first, obey, undo_nothing, unknown};
+pub use callers::{ask, load_first, obey, undo_nothing, unknown};
 pub use clause_callers::{add, exclude, stands_for};
 pub use computed::{examples, play_is_run};
 pub use law_callers::{

@@ -61,11 +61,6 @@ impl<A: Allocator + Copy> WatchedClauses<A> {
         Ok(())
     }
 
-    /// Makes room in a variable's list.
-    pub(crate) fn make_room(&mut self, variable: u16) -> Result<(), StoreError> {
-        self.map.make_room(positive(variable))
-    }
-
     /// Walks a variable's list: its first and its third clause are to watch another variable in its place.
     pub(crate) fn move_first_and_third(&mut self, from: u16, to: u16) -> Result<(), StoreError> {
         let (from, to) = (positive(from), positive(to));

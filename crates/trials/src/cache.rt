@@ -1,0 +1,335 @@
+//! What caches answer to the questions of a trial. A question is a line:
+//!
+//! | line | what is asked for | answer |
+//! |---|---|---|
+//! | `candidates NAME` | the candidates of a package | `solvables 0 1 2`, of more than four the first four |
+//! | `extras NAME` | what else is kept of it: the locked solvable, and how many are excluded, with the first | `locked Some(1) excluded 1: Some(1)` |
+//! | `matching SET`, `others SET`, `sorted SET` | those that a version set holds, those that it doesn't, and those that it holds, best first | `solvables 1 0` |
+//! | `required R` | those that meet a requirement, best first | `solvables 1 0 3` |
+//! | `needs SOLVABLE` | whether it is known what a solvable needs | `known true` |
+//! | `available SOLVABLE` | whether that is at hand | `available true` |
+//!
+//! A question about what isn't there is answered `unknown`, one that is refused `refused 1`, and one that is stopped `cancelled 7`.
+use crate::answers::{Heap, push_unlike};
+use crate::given::Numbered;
+use crate::listed::{asking, lists_of, number_of};
+use crate::trial::Trial;
+use asking_providers::{Counting, Counts};
+use providers::{Candidates, Dependencies, DependencyProvider, Interner, Requirement};
+use script_packages::requirement;
+use script_text::{Statement, is_word, next_word};
+use solver_cache::{CacheError, SolverCache};
+use std::alloc::{AllocError, Allocator, Global};
+use typed_ids::{StoreError, VersionSetId, VersionSetUnionId};
+
+/// A question. Packages and solvables are told by their numbers.
+#[derive(Clone, Copy)]
+enum Question {
+    Candidates(u32),
+    Extras(u32),
+    OfSet(VersionSetId, Part),
+    OfUnion(VersionSetUnionId),
+    Needs(u32),
+    IsAvailable(u32),
+}
+
+/// Which candidates of a version set's package are asked for.
+#[derive(Clone, Copy)]
+enum Part {
+    Matching,
+    Others,
+    Sorted,
+    /// Those of the requirement of the version set alone.
+    Required,
+}
+
+/// An answer, copied out. What asks a cache does no more, since a proof over the cache's own type is long.
+#[derive(Clone, Copy, PartialEq, Eq)]
+enum Seen {
+    /// So many solvables, and the first four of them.
+    Solvables(usize, [u32; 4]),
+    /// The locked solvable, how many are excluded, and the first of them.
+    Extras(Option<u32>, usize, Option<u32>),
+    IsKnown(bool),
+    IsAvailable(bool),
+    Refused(StoreError),
+    Cancelled(u32),
+    Unknown,
+}
+
+/// The question that a line asks.
+fn question_of(said: Statement<'_>) -> Question {
+    let number = number_of(said.rest);
+    if is_word(said.keyword, b"candidates") {
+        Question::Candidates(number)
+    } else if is_word(said.keyword, b"extras") {
+        Question::Extras(number)
+    } else if is_word(said.keyword, b"needs") {
+        Question::Needs(number)
+    } else if is_word(said.keyword, b"available") {
+        Question::IsAvailable(number)
+    } else if is_word(said.keyword, b"matching") {
+        Question::OfSet(VersionSetId(number), Part::Matching)
+    } else if is_word(said.keyword, b"others") {
+        Question::OfSet(VersionSetId(number), Part::Others)
+    } else if is_word(said.keyword, b"sorted") {
+        Question::OfSet(VersionSetId(number), Part::Sorted)
+    } else {
+        required(said.rest)
+    }
+}
+
+/// The question for the candidates that meet a requirement; for those of no union where there is none.
+fn required(line: &[u8]) -> Question {
+    let word = match next_word(line) {
+        Some((word, _)) => word,
+        None => line,
+    };
+    match requirement(word) {
+        Some(Requirement::Single(set)) => Question::OfSet(set, Part::Required),
+        Some(Requirement::Union(union)) => Question::OfUnion(union),
+        None => Question::OfUnion(VersionSetUnionId(u32::MAX)),
+    }
+}
+
+/// A cache whose provider counts what it is asked.
+trait Asks {
+    fn ask(&mut self, question: Question) -> Seen;
+
+    /// How often the provider was asked.
+    fn counts(&self) -> Counts;
+}
+
+impl<
+    D: DependencyProvider<Cancel = u32, NameId: Numbered, SolvableId: Numbered> + Counting + Drop,
+> Asks for SolverCache<D> {
+    fn ask(&mut self, question: Question) -> Seen {
+        match question {
+            Question::Candidates(name) => candidates(self, D::NameId::numbered(name), false),
+            Question::Extras(name) => candidates(self, D::NameId::numbered(name), true),
+            Question::OfSet(set, part) => of_set(self, set, part),
+            Question::OfUnion(union) => of_union(self, union),
+            Question::Needs(solvable) => needs(self, D::SolvableId::numbered(solvable)),
+            Question::IsAvailable(solvable) => {
+                let solvable = D::SolvableId::numbered(solvable);
+                Seen::IsAvailable(self.are_dependencies_available_for(solvable))
+            }
+        }
+    }
+
+    fn counts(&self) -> Counts {
+        self.provider().counts()
+    }
+}
+
+/// What is kept of a package: its candidates, or what else there is.
+fn candidates<D: DependencyProvider<Cancel = u32, SolvableId: Numbered> + Drop>(
+    cache: &mut SolverCache<D>,
+    name: D::NameId,
+    is_extras: bool,
+) -> Seen {
+    match cache.get_or_cache_candidates(name) {
+        Ok(id) => shown_of(cache.candidates(id), is_extras),
+        Err(error) => unanswered(error),
+    }
+}
+
+fn of_set<D: DependencyProvider<Cancel = u32, SolvableId: Numbered> + Drop>(
+    cache: &mut SolverCache<D>,
+    set: VersionSetId,
+    part: Part,
+) -> Seen {
+    if !cache.provider().knows_version_set(set) {
+        return Seen::Unknown;
+    }
+    let answer = match part {
+        Part::Matching => cache.get_or_cache_matching_candidates(set),
+        Part::Others => cache.get_or_cache_non_matching_candidates(set),
+        Part::Sorted => cache.get_or_cache_sorted_candidates_for_version_set(set),
+        Part::Required => cache.get_or_cache_sorted_candidates(Requirement::Single(set)),
+    };
+    match answer {
+        Ok(id) => shown(cache.list(id)),
+        Err(error) => unanswered(error),
+    }
+}
+
+fn of_union<D: DependencyProvider<Cancel = u32, SolvableId: Numbered> + Drop>(
+    cache: &mut SolverCache<D>,
+    union: VersionSetUnionId,
+) -> Seen {
+    if !cache.provider().knows_union(union) {
+        return Seen::Unknown;
+    }
+    match cache.get_or_cache_sorted_candidates(Requirement::Union(union)) {
+        Ok(id) => shown(cache.list(id)),
+        Err(error) => unanswered(error),
+    }
+}
+
+fn needs<D: DependencyProvider<Cancel = u32> + Drop>(
+    cache: &mut SolverCache<D>,
+    solvable: D::SolvableId,
+) -> Seen {
+    if !cache.provider().knows_solvable(solvable) {
+        return Seen::Unknown;
+    }
+    match cache.get_or_cache_dependencies(solvable) {
+        Ok(id) => Seen::IsKnown(matches!(cache.dependencies(id), Dependencies::Known(_))),
+        Err(error) => unanswered(error),
+    }
+}
+
+fn unanswered(error: CacheError<u32>) -> Seen {
+    match error {
+        CacheError::Store(refused) => Seen::Refused(refused),
+        CacheError::Cancelled(value) => Seen::Cancelled(value),
+    }
+}
+
+fn shown_of<S: Numbered, A: Allocator>(kept: &Candidates<S, A>, is_extras: bool) -> Seen {
+    if !is_extras {
+        return shown(&kept.candidates);
+    }
+    let locked = match kept.locked {
+        Some(locked) => Some(locked.number()),
+        None => None,
+    };
+    let excluded = match kept.excluded.first() {
+        Some(first) => Some(first.0.number()),
+        None => None,
+    };
+    Seen::Extras(locked, kept.excluded.len(), excluded)
+}
+
+fn shown<S: Numbered>(list: &[S]) -> Seen {
+    let mut first = [0; 4];
+    for (place, solvable) in first.iter_mut().zip(list) {
+        *place = solvable.number();
+    }
+    Seen::Solvables(list.len(), first)
+}
+
+/// Appends the line of an answer.
+fn push_seen(alloc: Global, seen: Seen, told: &mut String) -> Result<(), AllocError> {
+    let line = match seen {
+        Seen::Solvables(count, first) => return push_solvables(alloc, count, &first, told),
+        Seen::Extras(locked, count, excluded) => {
+            format!(in alloc; "locked {locked:?} excluded {count}: {excluded:?}\n")?
+        }
+        Seen::IsKnown(is_known) => format!(in alloc; "known {is_known}\n")?,
+        Seen::IsAvailable(is_available) => format!(in alloc; "available {is_available}\n")?,
+        Seen::Refused(refused) => format!(in alloc; "refused {}\n", refused.code())?,
+        Seen::Cancelled(value) => format!(in alloc; "cancelled {value}\n")?,
+        Seen::Unknown => format!(in alloc; "unknown\n")?,
+    };
+    told.push_str(line.as_str())
+}
+
+/// Appends how many solvables there are, and the first of them.
+fn push_solvables(
+    alloc: Global,
+    count: usize,
+    first: &[u32],
+    told: &mut String,
+) -> Result<(), AllocError> {
+    told.push_str("solvables")?;
+    for solvable in first.iter().take(count) {
+        let word = format!(in alloc; " {solvable}")?;
+        told.push_str(word.as_str())?;
+    }
+    told.push_str("\n")
+}
+
+/// What caches tell: their answers; whether the request came that was to be refused; and how often the provider was asked.
+type Told = (String, bool, Counts);
+
+/// The answers to all questions in turn, of which the request of this number is refused. A refused question is asked again, and its
+/// second answer stands.
+fn answers_of<T: Asks>(
+    alloc: Global,
+    cache: &mut T,
+    (heap, number): (Heap<'_>, u64),
+    questions: &[Statement<'_>],
+) -> Result<Told, AllocError> {
+    let mut told = String::new(alloc);
+    let mut is_met = false;
+    heap.arm(number);
+    for said in questions {
+        let question = question_of(*said);
+        let mut seen = cache.ask(question);
+        if seen == Seen::Refused(StoreError::OutOfMemory) {
+            is_met = true;
+            seen = cache.ask(question);
+        }
+        push_seen(alloc, seen, &mut told)?;
+    }
+    heap.arm(0);
+    Ok((told, is_met, cache.counts()))
+}
+
+/// What a new cache tells over the trial's lists.
+fn told_over<D: DependencyProvider<NameId: Numbered, SolvableId: Numbered> + Drop>(
+    alloc: Global,
+    counted: D::Alloc,
+    refused: (Heap<'_>, u64),
+    lists: D,
+    trial: &Trial<'_>,
+) -> Result<Told, StoreError> {
+    let mut cache = SolverCache::new(counted, asking(counted, lists, trial)?);
+    let told = answers_of(alloc, &mut cache, refused, &trial.commands);
+    drop(cache);
+    Ok(told?)
+}
+
+fn told(alloc: Global, heap: Heap<'_>, trial: &Trial<'_>, number: u64) -> Result<Told, StoreError> {
+    let lists = lists_of(heap, &trial.catalogue)?;
+    told_over(alloc, heap, (heap, number), lists, trial)
+}
+
+/// Puts what a cache tells of a trial after what waits; and where each request is refused in turn, what is answered otherwise then.
+pub(crate) fn push_asked(
+    alloc: Global,
+    heap: Heap<'_>,
+    trial: &Trial<'_>,
+    waiting: &mut Vec<u8>,
+) -> Result<(), StoreError> {
+    let (answers, _, counts) = told(alloc, heap, trial, 0)?;
+    waiting.extend_from_slice(answers.as_bytes())?;
+    let ended = push_counts(alloc, counts, waiting);
+    let refused = push_refused(alloc, heap, trial, answers.as_str(), waiting);
+    drop(answers);
+    ended?;
+    refused
+}
+
+fn push_counts(alloc: Global, counts: Counts, waiting: &mut Vec<u8>) -> Result<(), AllocError> {
+    let asked = (counts.candidates, counts.dependencies, counts.cancels);
+    let line = format!(in alloc; "asked {} {} {}\n", asked.0, asked.1, asked.2)?;
+    waiting.extend_from_slice(line.as_bytes())
+}
+
+fn push_refused(
+    alloc: Global,
+    heap: Heap<'_>,
+    trial: &Trial<'_>,
+    answers: &str,
+    waiting: &mut Vec<u8>,
+) -> Result<(), StoreError> {
+    if !trial.is(b"each") {
+        return Ok(());
+    }
+    for number in 1..1000 {
+        let (seen, is_met, _) = told(alloc, heap, trial, number)?;
+        if !is_met {
+            let line = if number > 4 {
+                "each request was refused\n"
+            } else {
+                "too few requests\n"
+            };
+            return Ok(waiting.extend_from_slice(line.as_bytes())?);
+        }
+        push_unlike("refused a request:\n", seen.as_str(), answers, waiting)?;
+    }
+    Ok(waiting.extend_from_slice(b"too many requests\n")?)
+}

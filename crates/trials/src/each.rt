@@ -1,0 +1,206 @@
+//! Trials of which each request is refused in turn. Beside the store to which a request is refused there is a twin in ample memory, to
+//! which the refused command isn't given: both must then tell the same.
+use crate::answers::{Heap, push_replies, push_reply, push_steps, push_unlike};
+use crate::few::{Counts, refused_reply};
+use crate::given::commands_of;
+use crate::obeys::Obeys;
+use crate::played::{IdKind, Play};
+use crate::trial::Trial;
+use refusing::Refusing;
+use resolvo_store::Command;
+use std::alloc::{AllocError, Allocator, Global};
+use typed_ids::StoreError;
+
+/// What happens to a store.
+#[derive(Clone, Copy)]
+enum Fate {
+    /// By steps, the request of this number is refused to the command of this place, which is given once more then.
+    Step(usize, u64),
+    /// The twin, which is given the command of this place once.
+    StepTwin(usize),
+    /// In one run, the request of this number is refused.
+    Run(u64),
+    /// The twin, to which the command of this place isn't given; none at all where the whole run was refused.
+    RunTwin(Option<usize>),
+}
+
+/// A trial's commands, and those that tell what a store is like.
+#[derive(Drop)]
+struct Refused<'r, N, S, A: Allocator> {
+    alloc: A,
+    heap: &'r Refusing<Global>,
+    commands: &'r [Command<N, S, A>],
+    probes: &'r [Command<N, S, A>],
+    fate: Fate,
+}
+
+impl<N, S, A: Allocator + Copy> Play<N, S, A> for Refused<'_, N, S, A> {
+    /// What is told, and whether the request came.
+    type Told = Result<(String<A>, bool), StoreError>;
+
+    fn play<T: Obeys<N, S, A>>(&self, store: &mut T) -> Result<(String<A>, bool), StoreError> {
+        let mut told = String::new(self.alloc);
+        let is_met = match self.fate {
+            Fate::Step(place, number) => self.push_step(store, place, Some(number), &mut told)?,
+            Fate::StepTwin(place) => self.push_step(store, place, None, &mut told)?,
+            Fate::Run(number) => self.push_run(store, number, &mut told)?,
+            Fate::RunTwin(place) => self.push_passed_over(store, place, &mut told)?,
+        };
+        push_steps(store, self.alloc, self.probes, &mut told)?;
+        Ok((told, is_met))
+    }
+}
+
+/// The line of a command that was refused memory.
+const REFUSED: &str = "refused 1\n";
+
+impl<N, S, A: Allocator + Copy> Refused<'_, N, S, A> {
+    /// The commands before a place, and those from it on.
+    fn parts(&self, place: usize) -> (&[Command<N, S, A>], &[Command<N, S, A>]) {
+        self.commands.split_at(place.min(self.commands.len()))
+    }
+
+    /// By steps: the command of a place is first refused the request of a number, if there is one, or not given. Answers whether the
+    /// request came.
+    fn push_step<T: Obeys<N, S, A>>(
+        &self,
+        store: &mut T,
+        place: usize,
+        number: Option<u64>,
+        told: &mut String<A>,
+    ) -> Result<bool, AllocError> {
+        let (before, after) = self.parts(place);
+        push_steps(store, self.alloc, before, told)?;
+        let is_met = match (number, after) {
+            (Some(number), [command, ..]) => {
+                let (reply, is_met) = refused_reply(store, command, self.heap, number);
+                push_reply(self.alloc, &reply, told)?;
+                is_met
+            }
+            _ => {
+                told.push_str(REFUSED)?;
+                true
+            }
+        };
+        push_steps(store, self.alloc, self.probes, told)?;
+        push_steps(store, self.alloc, after, told)?;
+        Ok(is_met)
+    }
+
+    /// In one run, of which the request of a number is refused. Answers whether it came.
+    fn push_run<T: Obeys<N, S, A>>(
+        &self,
+        store: &mut T,
+        number: u64,
+        told: &mut String<A>,
+    ) -> Result<bool, AllocError> {
+        self.heap.arm(number);
+        let answered = store.obey_all(self.commands);
+        let is_met = !self.heap.is_armed();
+        self.heap.arm(0);
+        if let Ok(replies) = &answered {
+            push_replies(self.alloc, replies, told)?;
+        }
+        Ok(is_met)
+    }
+
+    /// By steps without the command of a place, if there is one, else without any command.
+    fn push_passed_over<T: Obeys<N, S, A>>(
+        &self,
+        store: &mut T,
+        place: Option<usize>,
+        told: &mut String<A>,
+    ) -> Result<bool, AllocError> {
+        let Some(place) = place else {
+            return Ok(true);
+        };
+        let (before, after) = self.parts(place);
+        push_steps(store, self.alloc, before, told)?;
+        told.push_str(REFUSED)?;
+        push_steps(store, self.alloc, after.get(1..).unwrap_or(&[]), told)?;
+        Ok(true)
+    }
+}
+
+/// What a store with ids of this kind tells of its fate, and whether the request came.
+fn told<'h, K: IdKind>(
+    heap: Heap<'h>,
+    trial: &Trial<'_>,
+    fate: Fate,
+) -> Result<(String<Heap<'h>>, bool), StoreError> {
+    let commands = commands_of(heap, &trial.commands)?;
+    let probes = commands_of(heap, &trial.probes)?;
+    let refused = Refused {
+        alloc: heap,
+        heap,
+        commands: &commands,
+        probes: &probes,
+        fate,
+    };
+    K::played(heap, trial, &refused)?
+}
+
+/// Refuses each request of a trial in turn, and puts what isn't told alike after what waits.
+pub(crate) fn tell_each<K: IdKind>(
+    heap: Heap<'_>,
+    trial: &Trial<'_>,
+    waiting: &mut Vec<u8>,
+    counts: &mut Counts,
+) -> Result<(), StoreError> {
+    for (place, said) in trial.commands.iter().enumerate() {
+        if tell_steps::<K>(heap, trial, place, waiting)? {
+            counts.note(Some(said));
+        }
+    }
+    tell_runs::<K>(heap, trial, waiting)
+}
+
+/// What is told where there is no end of requests.
+const ENDLESS: &[u8] = b"too many requests\n";
+
+/// Refuses each request of the command of a place in turn, by steps. Answers whether it has one.
+fn tell_steps<K: IdKind>(
+    heap: Heap<'_>,
+    trial: &Trial<'_>,
+    place: usize,
+    waiting: &mut Vec<u8>,
+) -> Result<bool, StoreError> {
+    let (twin, _) = told::<K>(heap, trial, Fate::StepTwin(place))?;
+    for number in 1..1000 {
+        let (seen, is_met) = told::<K>(heap, trial, Fate::Step(place, number))?;
+        if !is_met {
+            return Ok(number > 1);
+        }
+        push_unlike(
+            "refused a request:\n",
+            seen.as_str(),
+            twin.as_str(),
+            waiting,
+        )?;
+    }
+    waiting.extend_from_slice(ENDLESS)?;
+    Ok(true)
+}
+
+/// Refuses each request of a run in turn.
+fn tell_runs<K: IdKind>(
+    heap: Heap<'_>,
+    trial: &Trial<'_>,
+    waiting: &mut Vec<u8>,
+) -> Result<(), StoreError> {
+    for number in 1..10000 {
+        let (seen, is_met) = told::<K>(heap, trial, Fate::Run(number))?;
+        if !is_met {
+            return Ok(());
+        }
+        let place = seen.as_str().lines().position(|line| line == "refused 1");
+        let (twin, _) = told::<K>(heap, trial, Fate::RunTwin(place))?;
+        push_unlike(
+            "refused a request in a run:\n",
+            seen.as_str(),
+            twin.as_str(),
+            waiting,
+        )?;
+    }
+    Ok(waiting.extend_from_slice(ENDLESS)?)
+}

@@ -1,0 +1,200 @@
+//! Trials in memory that refuses a request at every few commands, so that a `decide` is refused while its queue is brought up to date.
+//! Other commands come before the next one then, undos among them.
+use crate::answers::push_unlike;
+use crate::given::commands_of;
+use crate::obeys::Obeys;
+use crate::played::{IdKind, Play};
+use crate::trial::Trial;
+use refusing::Refusing;
+use resolvo_store::{Command, Reply};
+use script_text::{Statement, is_word};
+use std::alloc::{AllocError, Allocator, Global};
+use typed_ids::StoreError;
+
+/// The commands to which a request is to be refused somewhere: that to others comes too seldom.
+const NAMES: [&str; 10] = [
+    "load",
+    "disjunction",
+    "requires",
+    "root",
+    "learnt",
+    "at-most-once",
+    "assign",
+    "bump",
+    "watchers",
+    "decide",
+];
+
+/// Which of `NAMES` were refused for want of memory, over all trials.
+#[derive(Clone, Copy)]
+pub(crate) struct Counts {
+    are_refused: [bool; 10],
+}
+
+impl Counts {
+    pub(crate) fn none() -> Counts {
+        Counts {
+            are_refused: [false; 10],
+        }
+    }
+
+    /// What was refused here or there.
+    pub(crate) fn join(&mut self, other: Counts) {
+        for (is_refused, is_other) in self.are_refused.iter_mut().zip(&other.are_refused) {
+            *is_refused = *is_refused || *is_other;
+        }
+    }
+
+    /// A command that says this was refused.
+    pub(crate) fn note(&mut self, said: Option<&Statement<'_>>) {
+        let Some(said) = said else {
+            return;
+        };
+        for (is_refused, name) in self.are_refused.iter_mut().zip(&NAMES) {
+            if is_word(said.keyword, name.as_bytes()) {
+                *is_refused = true;
+            }
+        }
+    }
+
+    /// Puts the names of those that were refused after what waits.
+    pub(crate) fn push(self, waiting: &mut Vec<u8>) -> Result<(), AllocError> {
+        waiting.extend_from_slice(b"refused somewhere:")?;
+        for (is_refused, name) in self.are_refused.iter().zip(&NAMES) {
+            if *is_refused {
+                waiting.push(b' ')?;
+                waiting.extend_from_slice(name.as_bytes())?;
+            }
+        }
+        waiting.push(b'\n')?;
+        Ok(())
+    }
+}
+
+/// Whether the reply is want of memory.
+fn is_refused<A: Allocator>(reply: &Reply<A>) -> bool {
+    matches!(reply, Reply::Refused(StoreError::OutOfMemory))
+}
+
+/// The reply to a command of which the request of this number is refused, and whether that came.
+pub(crate) fn refused_reply<N, S, A: Allocator, T: Obeys<N, S, A>>(
+    store: &mut T,
+    command: &Command<N, S, A>,
+    heap: &Refusing<Global>,
+    number: u64,
+) -> (Reply<A>, bool) {
+    heap.arm(number);
+    let reply = store.obey(command);
+    let is_met = number > 0 && !heap.is_armed();
+    heap.arm(0);
+    (reply, is_met)
+}
+
+/// The commands of a trial, with what they say and the lines that are wanted of them.
+#[derive(Drop)]
+struct Few<'f, N, S, A: Allocator> {
+    alloc: A,
+    heap: &'f Refusing<Global>,
+    commands: &'f [Command<N, S, A>],
+    said: &'f [Statement<'f>],
+    wanted: &'f str,
+}
+
+impl<N, S, A: Allocator + Copy> Play<N, S, A> for Few<'_, N, S, A> {
+    /// The lines that aren't wanted, and which commands were refused.
+    type Told = Result<(String<A>, Counts), StoreError>;
+
+    fn play<T: Obeys<N, S, A>>(&self, store: &mut T) -> Result<(String<A>, Counts), StoreError> {
+        let mut unlike = String::new(self.alloc);
+        let mut counts = Counts::none();
+        for ((place, command), wanted) in self
+            .commands
+            .iter()
+            .enumerate()
+            .zip(self.wanted.lines())
+        {
+            let number = request(self.wanted.len().wrapping_add(place), wanted);
+            if push_step(
+                store,
+                self.alloc,
+                command,
+                (self.heap, number),
+                wanted,
+                &mut unlike,
+            )? {
+                counts.note(self.said.get(place));
+            }
+        }
+        Ok((unlike, counts))
+    }
+}
+
+/// The number of the request that is refused to a command of which this line is wanted; 0 where none is. Where a falsified clause is to
+/// be found the first one is, so that it shows whether one comes: none may.
+fn request(place: usize, wanted: &str) -> u64 {
+    if wanted.starts_with("falsified") {
+        1
+    } else {
+        (place as u64).wrapping_mul(3) % 8
+    }
+}
+
+/// Gives a store a command of which the request of this number is refused, and answers whether the command was. A `decide` that is
+/// refused is left so; each other command is given once more then, since those behind it count on it. Appends what isn't wanted.
+fn push_step<N, S, A: Allocator + Copy, T: Obeys<N, S, A>>(
+    store: &mut T,
+    alloc: A,
+    command: &Command<N, S, A>,
+    (heap, number): (&Refusing<Global>, u64),
+    wanted: &str,
+    unlike: &mut String<A>,
+) -> Result<bool, StoreError> {
+    let (first, is_met) = refused_reply(store, command, heap, number);
+    let is_refused = is_refused(&first);
+    let is_left = is_refused && matches!(command, Command::Decide);
+    let reply = if is_refused && !is_left {
+        drop(first);
+        store.obey(command)
+    } else {
+        first
+    };
+    let line = format!(in alloc; "{reply}")?;
+    drop(reply);
+    let is_wanted = if is_left {
+        !wanted.starts_with("falsified")
+    } else {
+        line.as_str() == wanted
+    };
+    if !is_wanted || (is_met && !is_refused) {
+        unlike.push_str(line.as_str())?;
+        unlike.push_str("\n")?;
+    }
+    Ok(is_refused)
+}
+
+/// Puts what isn't wanted of a trial in such memory after what waits.
+pub(crate) fn tell_few<K: IdKind>(
+    heap: &Refusing<Global>,
+    trial: &Trial<'_>,
+    answers: &str,
+    waiting: &mut Vec<u8>,
+    counts: &mut Counts,
+) -> Result<(), StoreError> {
+    let commands = commands_of(heap, &trial.commands)?;
+    let few = Few {
+        alloc: heap,
+        heap,
+        commands: &commands,
+        said: &trial.commands,
+        wanted: answers,
+    };
+    let (unlike, refused) = K::played(heap, trial, &few)??;
+    counts.join(refused);
+    push_unlike(
+        "where requests are refused:\n",
+        unlike.as_str(),
+        "",
+        waiting,
+    )?;
+    Ok(())
+}

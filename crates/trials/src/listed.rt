@@ -1,0 +1,196 @@
+//! Providers of what a catalogue lists, whose names are numbers. Beside the lines of scripts a catalogue may have these:
+//!
+//! | line | meaning |
+//! |---|---|
+//! | `hint all`, `hint S ..` | the provider says that the dependencies of all candidates, or of these solvables, are at hand |
+//! | `locked S` | this solvable is locked, and excluded too |
+//! | `twice` | each candidate is listed twice |
+ghost use Rattle.std.specs.Prelude.{◌≤◌, ◌^◌, length, IfOk};
+
+use crate::given::Numbered;
+use crate::trial::Trial;
+use asking_providers::{Asking, Listing};
+use plain_providers::{Lists, Package, VersionRange};
+use providers::{DependencyProvider, HintDependenciesAvailable, Interner};
+use script_packages::id;
+use script_text::{Statement, is_word, next_word, number};
+use std::alloc::Allocator;
+use typed_ids::{NameId, SolvableId, StoreError, VersionSetId};
+
+/// A provider of the packages, version sets and unions.
+pub(crate) fn lists_of<A: Allocator + Copy>(
+    alloc: A,
+    catalogue: &[Statement<'_>],
+) -> Result<Lists<A>, StoreError> {
+    let (packages, favored) = packages_of(alloc, catalogue)?;
+    let ranges = ranges_of(alloc, catalogue)?;
+    let unions = unions_of(alloc, catalogue)?;
+    Ok(Lists {
+        packages,
+        ranges,
+        unions,
+        favored,
+    })
+}
+
+/// The provider of a trial over its lists.
+pub(crate) fn asking<D: DependencyProvider<SolvableId: Numbered> + Drop>(
+    alloc: D::Alloc,
+    lists: D,
+    trial: &Trial<'_>,
+) -> Result<Asking<D>, StoreError> {
+    let mut listing = Listing::Once;
+    let mut locked = None;
+    let mut hint = HintDependenciesAvailable::None;
+    for said in &trial.catalogue {
+        if is_word(said.keyword, b"twice") {
+            listing = Listing::Twice;
+        } else if is_word(said.keyword, b"locked") {
+            locked = Some(D::SolvableId::numbered(number_of(said.rest)));
+        } else if is_word(said.keyword, b"hint") {
+            hint = hint_of(alloc, said.rest)?;
+        }
+    }
+    Ok(Asking::new(lists, listing, hint, locked, trial.stops()))
+}
+
+fn hint_of<S: Numbered, A: Allocator>(
+    alloc: A,
+    line: &[u8],
+) -> Result<HintDependenciesAvailable<S, A>, StoreError> {
+    let mut solvables = Vec::new(alloc);
+    let mut rest = line;
+    for _ in 0..line.len() {
+        let Some((word, others)) = next_word(rest) else {
+            break;
+        };
+        if is_word(word, b"all") {
+            return Ok(HintDependenciesAvailable::All);
+        }
+        rest = others;
+        solvables.push(S::numbered(number_of(word)))?;
+    }
+    Ok(HintDependenciesAvailable::Some(solvables))
+}
+
+/// The number that a line begins with; 0 where there is none.
+pub(crate) fn number_of(line: &[u8]) -> u32 {
+    match next_word(line) {
+        Some((word, _)) => version_of(word).unwrap_or(0),
+        None => 0,
+    }
+}
+
+/// The solvables, and the favored one.
+fn packages_of<A: Allocator + Copy>(
+    alloc: A,
+    catalogue: &[Statement<'_>],
+) -> Result<(Vec<Package, A>, Option<SolvableId>), StoreError>
+    ensures few { IfOk result (λ r. length r.0.items ≤ 2 ^ 32) }
+{
+    let mut packages = Vec::new(alloc);
+    let mut favored = None;
+    for said in catalogue {
+        if is_word(said.keyword, b"package") {
+            favored = add_package(&mut packages, said.rest)?.or(favored);
+        }
+    }
+    packages.truncate(4294967296);
+    Ok((packages, favored))
+}
+
+/// Adds the versions of a package's line, and answers which of them is the favored one.
+fn add_package<A: Allocator>(
+    packages: &mut Vec<Package, A>,
+    line: &[u8],
+) -> Result<Option<SolvableId>, StoreError> {
+    let Some((name, versions)) = next_word(line) else {
+        return Err(StoreError::UnknownId);
+    };
+    let name = name_of(name)?;
+    let mut favored = None;
+    let mut rest = versions;
+    for _ in 0..line.len() {
+        let Some((word, others)) = next_word(rest) else {
+            break;
+        };
+        rest = others;
+        let (digits, is_favored) = match word {
+            [digits @ .., b'*'] => (digits, true),
+            digits => (digits, false),
+        };
+        if is_favored {
+            favored = Some(SolvableId::from_raw(u32::try_from(packages.len()).unwrap_or(0)));
+        }
+        let version = version_of(digits)?;
+        packages.push(Package { name, version })?;
+    }
+    Ok(favored)
+}
+
+fn name_of(word: &[u8]) -> Result<NameId, StoreError> {
+    id(word).ok_or(StoreError::UnknownId)
+}
+
+fn version_of(word: &[u8]) -> Result<u32, StoreError> {
+    match number(word) {
+        Some(version) => Ok(u32::try_from(version).unwrap_or(u32::MAX)),
+        None => Err(StoreError::UnknownId),
+    }
+}
+
+fn ranges_of<A: Allocator + Copy>(
+    alloc: A,
+    catalogue: &[Statement<'_>],
+) -> Result<Vec<VersionRange, A>, StoreError> {
+    let mut ranges = Vec::new(alloc);
+    for said in catalogue {
+        if is_word(said.keyword, b"set") {
+            ranges.push(range_of(said.rest)?)?;
+        }
+    }
+    Ok(ranges)
+}
+
+fn range_of(line: &[u8]) -> Result<VersionRange, StoreError> {
+    let Some((name, rest)) = next_word(line) else {
+        return Err(StoreError::UnknownId);
+    };
+    let Some((low, rest)) = next_word(rest) else {
+        return Err(StoreError::UnknownId);
+    };
+    let Some((high, _)) = next_word(rest) else {
+        return Err(StoreError::UnknownId);
+    };
+    Ok(VersionRange {
+        name: name_of(name)?,
+        low: version_of(low)?,
+        high: version_of(high)?,
+    })
+}
+
+fn unions_of<A: Allocator + Copy>(
+    alloc: A,
+    catalogue: &[Statement<'_>],
+) -> Result<Vec<Vec<VersionSetId, A>, A>, StoreError> {
+    let mut unions = Vec::new(alloc);
+    for said in catalogue {
+        if is_word(said.keyword, b"union") {
+            unions.push(sets_of(alloc, said.rest)?)?;
+        }
+    }
+    Ok(unions)
+}
+
+fn sets_of<A: Allocator>(alloc: A, line: &[u8]) -> Result<Vec<VersionSetId, A>, StoreError> {
+    let mut sets = Vec::new(alloc);
+    let mut rest = line;
+    for _ in 0..line.len() {
+        let Some((word, others)) = next_word(rest) else {
+            break;
+        };
+        rest = others;
+        sets.push(VersionSetId(version_of(word)?))?;
+    }
+    Ok(sets)
+}
