@@ -1,12 +1,13 @@
-//! The packages of a catalogue: the normal forms of its conditions, and the texts of its requirements.
+//! The packages of a catalogue: the normal forms of its conditions, and the texts of its requirements and of its solvables together.
 use crate::condition_calls::normal_forms::{FORMS, forms, met_by_each};
 use crate::condition_calls::refused::each_is_refused;
-use crate::texts::shows_requirements;
+use crate::texts::{shows_requirements, shows_solvables};
 use providers::Interner;
-use script_packages::read_catalogue;
+use script_packages::{Packages, read_catalogue};
 use std::alloc::Global;
 use std::test::Fail;
 use test_checks::sees;
+use typed_ids::SolvableId;
 
 /// The version sets `a`, `b` and `c`, a union of the first and the last, and conditions over them: 0 to 2 are the sets; 3 is
 /// `a and b`, 4 is `c and a`, 5 is `3 or 4`; 6 is `a or b`, 7 is `c or a`, 8 is `6 and 7`, 9 is `6 and c`.
@@ -17,12 +18,23 @@ const CATALOGUE: &str =
 fn conditions_have_normal_forms_and_requirements_texts(rt: HostRuntime) -> Result<(), Fail> {
     match read_catalogue(rt.alloc(), CATALOGUE.as_bytes()) {
         Ok(Some(catalogue)) => {
-            let are_wanted = are_wanted(rt.alloc(), rt.alloc(), &catalogue.packages);
+            let ended = have_texts(rt.alloc(), &catalogue.packages);
             drop(catalogue);
-            are_wanted
+            ended
         }
         _ => Err(Fail::new("the catalogue has a begin")),
     }
+}
+
+/// The packages' conditions and requirements are as wanted, and so is the text of the second solvable, the first and the second again
+/// together.
+fn have_texts(alloc: Global, packages: &Packages) -> Result<(), Fail> {
+    are_wanted(alloc, alloc, packages)?;
+    let (first, second) = (SolvableId::from_raw(0), SolvableId::from_raw(1));
+    if !packages.knows_solvable(first) || !packages.knows_solvable(second) {
+        return Err(Fail::new("a solvable isn't known"));
+    }
+    shows_solvables(alloc, packages, &[second, first, second], "p p 1 | p 2")
 }
 
 fn are_wanted<I: Interner>(alloc: Global, heap: I::Alloc, interner: &I) -> Result<(), Fail> {

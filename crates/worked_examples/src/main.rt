@@ -1,10 +1,17 @@
 //! The worked examples: scripts with their answers, as files. Standard input has the examples, each of which is a heading, a
 //! line that begins with `== `, and below it a script. What is printed is each heading with the script's answer below
 //! it, and a line that tells the exit status where it isn't 0.
+//!
+//! Each script is also read and written by devices that are slow, or fail (`devices`): what is answered otherwise by them than it is to
+//! be is printed too. Last come answers to scripts that are long (`long`).
 #![tactic(auto)]
 
+mod devices;
+mod long;
+
+use crate::devices::{answered, push_unlike};
+use crate::long::push_long;
 use script_text::{ScriptFault, read_whole, write_rest};
-use scripts::{script, status};
 use std::alloc::{AllocError, Global};
 use std::io;
 use std::io::{Read, Write};
@@ -26,6 +33,7 @@ fn answer_all<R: Read, W: Write>(
     let text = read_whole(alloc, reader)?;
     let mut answers = Vec::new(alloc);
     push_answers(alloc, &text, &mut answers)?;
+    push_long(alloc, &mut answers)?;
     write_rest(&mut answers, writer)
 }
 
@@ -78,17 +86,15 @@ fn is_heading(text: &[u8], place: usize) -> bool {
     }
 }
 
-/// Puts the answer of a script after those before it.
-fn push_answer(alloc: Global, text: &[u8], answers: &mut Vec<u8>) -> Result<(), AllocError> {
-    let mut reader = text;
-    let ended = script(alloc, &mut reader, answers);
-    match status(&ended) {
-        0 => Ok(()),
-        number => {
-            answers.extend_from_slice(b"exit ")?;
-            answers.push(b'0'.saturating_add(number))?;
-            answers.push(b'\n')?;
-            Ok(())
-        }
+/// Puts the answer of a script after those before it, and what devices were answered otherwise.
+fn push_answer(alloc: Global, script: &[u8], answers: &mut Vec<u8>) -> Result<(), AllocError> {
+    let mut reader = script;
+    let (answer, number) = answered(alloc, &mut reader);
+    answers.extend_from_slice(&answer)?;
+    if number > 0 {
+        answers.extend_from_slice(b"exit ")?;
+        answers.push(b'0'.saturating_add(number))?;
+        answers.push(b'\n')?;
     }
+    push_unlike(alloc, script, (&answer, number), answers)
 }
