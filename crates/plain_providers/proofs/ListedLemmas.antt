@@ -1,26 +1,25 @@
 -- One item more of those that are gone over.
-use Rattle.std.proofs.Common.{◌≡◌, ℕ, ◌+◌, ◌<◌, ◌==◌, true, false, cond, List, [], ◌∷◌, ◌++◌, length, drop, get_or, sym, ap, ◌∙◌}
+use Rattle.std.proofs.Common.{◌≡◌, ℕ, ◌+◌, ◌<◌, ◌==◌, true, false, cond, List, [], ◌∷◌, ◌++◌, length, drop, map, sym, ap, ◌∙◌}
 use Rattle.std.proofs.lemmas.List.{drop_more, append_assoc}
-use Rattle.plain_providers.specs.declared.lists.Package.{Package}
-use Rattle.plain_providers.specs.Listed.{places_of}
+use Rattle.plain_providers.specs.declared.listed.Package.{Package}
+use Rattle.plain_providers.specs.Listed.{places_of, package_at}
 
 -- the item at hand and those after it
-rest-is : {A : Type 0} (ps : List A) (i : ℕ) (p : A) → i < length ps → p ≡ get_or ps i p → drop i ps ≡ p ∷ drop (i + 1) ps
-rest-is ps i p lt is = drop_more ps i p lt ∙ ap (λ q. q ∷ drop (i + 1) ps) (sym is)
+rest-is : (ps : List Package) (i : ℕ) → i < length ps → drop i ps ≡ package_at ps i ∷ drop (i + 1) ps
+rest-is ps i lt = drop_more ps i _ lt
 
-pub named_one : (found : List ℕ) (name i : ℕ) (ps : List Package) (p : Package) → i < length ps → p ≡ get_or ps i p → (p.name == name) ≡ true
-    → found ++ places_of name i (drop i ps) ≡ places_of name 0 ps → (found ++ i ∷ []) ++ places_of name (i + 1) (drop (i + 1) ps) ≡ places_of name 0 ps
-named_one found name i ps p lt is e h =
-    append_assoc found (i ∷ []) (places_of name (i + 1) (drop (i + 1) ps))
-    ∙ sym (ap (λ b. found ++ cond b (i ∷ places_of name (i + 1) (drop (i + 1) ps)) (places_of name (i + 1) (drop (i + 1) ps))) e)
-    ∙ sym (ap (λ l. found ++ places_of name i l) (rest-is ps i p lt is)) ∙ h
+module _ {S : Type 0} (id_of : ℕ → S) where
+  pub named_one : (found : List S) (name i : ℕ) (ps : List Package) → i < length ps → ((package_at ps i).name == name) ≡ true
+      → found ++ map id_of (places_of name i (drop i ps)) ≡ map id_of (places_of name 0 ps)
+      → (found ++ id_of i ∷ []) ++ map id_of (places_of name (i + 1) (drop (i + 1) ps)) ≡ map id_of (places_of name 0 ps)
+  named_one found name i ps lt e h =
+      append_assoc found (id_of i ∷ []) (map id_of (places_of name (i + 1) (drop (i + 1) ps)))
+      ∙ sym (ap (λ b. found ++ map id_of (cond b (i ∷ places_of name (i + 1) (drop (i + 1) ps)) (places_of name (i + 1) (drop (i + 1) ps)))) e)
+      ∙ sym (ap (λ l. found ++ map id_of (places_of name i l)) (rest-is ps i lt)) ∙ h
 
-pub named_other : (found : List ℕ) (name i : ℕ) (ps : List Package) (p : Package) → i < length ps → p ≡ get_or ps i p → (p.name == name) ≡ false
-    → found ++ places_of name i (drop i ps) ≡ places_of name 0 ps → found ++ places_of name (i + 1) (drop (i + 1) ps) ≡ places_of name 0 ps
-named_other found name i ps p lt is e h =
-    sym (ap (λ b. found ++ cond b (i ∷ places_of name (i + 1) (drop (i + 1) ps)) (places_of name (i + 1) (drop (i + 1) ps))) e)
-    ∙ sym (ap (λ l. found ++ places_of name i l) (rest-is ps i p lt is)) ∙ h
-
--- one item more is copied
-pub copied_one : {A : Type 0} (list ps : List A) (i : ℕ) (p : A) → i < length ps → p ≡ get_or ps i p → list ++ drop i ps ≡ ps → (list ++ p ∷ []) ++ drop (i + 1) ps ≡ ps
-copied_one list ps i p lt is h = append_assoc list (p ∷ []) (drop (i + 1) ps) ∙ sym (ap (λ l. list ++ l) (rest-is ps i p lt is)) ∙ h
+  pub named_other : (found : List S) (name i : ℕ) (ps : List Package) → i < length ps → ((package_at ps i).name == name) ≡ false
+      → found ++ map id_of (places_of name i (drop i ps)) ≡ map id_of (places_of name 0 ps)
+      → found ++ map id_of (places_of name (i + 1) (drop (i + 1) ps)) ≡ map id_of (places_of name 0 ps)
+  named_other found name i ps lt e h =
+      sym (ap (λ b. found ++ map id_of (cond b (i ∷ places_of name (i + 1) (drop (i + 1) ps)) (places_of name (i + 1) (drop (i + 1) ps)))) e)
+      ∙ sym (ap (λ l. found ++ map id_of (places_of name i l)) (rest-is ps i lt)) ∙ h

@@ -1,10 +1,14 @@
-//! Providers for tests, whose packages, version sets and unions are in plain lists: one with dense ids ([`Lists`], in
-//! `lists`) and one with sparse ones ([`SparseLists`], in `sparse_lists`), which answers what the first one answers. What
-//! they answer is said in `specs/Listed`.
+//! A provider for tests, whose packages, version sets and unions are in plain lists: [`Lists`], in `lists`, by ids of any
+//! kind that are told by numbers (`numbered`). It counts what it is asked, and can hint, lock, stop, and list candidates
+//! twice (`manner`). What it answers is said in `specs/Listed`.
 #![tactic(auto)]
 
+mod listed;
 mod lists;
-mod sparse_lists;
+mod manner;
+mod numbered;
 
-pub use lists::{Lists, Package, VersionRange};
-pub use sparse_lists::{SparseLists, SparseName, SparseSolvable};
+pub use listed::{Listed, Package, VersionRange};
+pub use lists::Lists;
+pub use manner::{Counting, Counts, Hint, Listing, Manner, Stops};
+pub use numbered::Numbered;

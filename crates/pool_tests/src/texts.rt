@@ -2,12 +2,14 @@
 ghost use Rattle.std.specs.Prelude.{◌≡◌, true, All};
 ghost use Rattle.providers.specs.Provider.{knows_requirement, knows_key};
 
-use plain_providers::{Lists, VersionRange};
+use plain_providers::{Listed, Lists, Manner, VersionRange};
 use providers::{Interner, Requirement, RootText};
-use std::alloc::Allocator;
+use std::alloc::{Allocator, Global};
 use std::test::Fail;
 use test_checks::is_same;
-use typed_ids::{NameId, SolvableIdOrRoot, StoreError, VersionSetId, VersionSetUnionId};
+use typed_ids::{
+    NameId, SolvableId, SolvableIdOrRoot, StoreError, VersionSetId, VersionSetUnionId,
+};
 
 /// Nothing was refused, and what was written is this text.
 fn is_written<A: Allocator>(
@@ -83,17 +85,18 @@ pub(crate) fn shows_requirements<I: Interner>(heap: I::Alloc, interner: &I) -> R
 #[test]
 fn a_set_without_a_text_is_named_by_its_package(rt: HostRuntime) -> Result<(), Fail> {
     let any_version = VersionRange {
-        name: NameId::from_raw(0),
+        name: 1,
         low: 0,
         high: u32::MAX,
     };
-    let lists = Lists {
+    let listed = Listed {
         packages: Vec::new(rt.alloc()),
         ranges: vec![in rt.alloc(); any_version]?,
         unions: Vec::new(rt.alloc()),
         favored: None,
     };
-    let ended = shows_first(rt.alloc(), &lists, "needs package");
+    let lists: Lists<NameId, SolvableId, Global> = Lists::new(listed, Manner::plain());
+    let ended = shows_first(rt.alloc(), &lists, "needs b");
     drop(lists);
     ended
 }

@@ -11,10 +11,10 @@
 //!
 //! A question about what isn't there is answered `unknown`, one that is refused `refused 1`, and one that is stopped `cancelled 7`.
 use crate::answers::{Heap, push_unlike};
-use crate::given::Numbered;
-use crate::listed::{asking, lists_of, number_of};
+use crate::listed::number_of;
+use crate::played::{DenseIds, provider_of};
 use crate::trial::Trial;
-use asking_providers::{Counting, Counts};
+use plain_providers::{Counting, Counts, Numbered};
 use providers::{Candidates, Dependencies, DependencyProvider, Interner, Requirement};
 use script_packages::requirement;
 use script_text::{Statement, is_word, next_word};
@@ -268,23 +268,12 @@ fn answers_of<T: Asks>(
     Ok((told, is_met, cache.counts()))
 }
 
-/// What a new cache tells over the trial's lists.
-fn told_over<D: DependencyProvider<NameId: Numbered, SolvableId: Numbered> + Drop>(
-    alloc: Global,
-    counted: D::Alloc,
-    refused: (Heap<'_>, u64),
-    lists: D,
-    trial: &Trial<'_>,
-) -> Result<Told, StoreError> {
-    let mut cache = SolverCache::new(counted, asking(counted, lists, trial)?);
-    let told = answers_of(alloc, &mut cache, refused, &trial.commands);
+/// What a new cache tells over the trial's packages, where the request of this number is refused.
+fn told(alloc: Global, heap: Heap<'_>, trial: &Trial<'_>, number: u64) -> Result<Told, StoreError> {
+    let mut cache = SolverCache::new(heap, provider_of::<DenseIds, _>(heap, trial)?);
+    let told = answers_of(alloc, &mut cache, (heap, number), &trial.commands);
     drop(cache);
     Ok(told?)
-}
-
-fn told(alloc: Global, heap: Heap<'_>, trial: &Trial<'_>, number: u64) -> Result<Told, StoreError> {
-    let lists = lists_of(heap, &trial.catalogue)?;
-    told_over(alloc, heap, (heap, number), lists, trial)
 }
 
 /// Puts what a cache tells of a trial after what waits; and where each request is refused in turn, what is answered otherwise then.

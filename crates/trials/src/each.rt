@@ -4,7 +4,7 @@ use crate::answers::{Heap, push_replies, push_reply, push_steps, push_unlike};
 use crate::few::{Counts, refused_reply};
 use crate::given::commands_of;
 use crate::obeys::Obeys;
-use crate::played::{IdKind, Play};
+use crate::played::{IdKind, Play, played};
 use crate::trial::Trial;
 use refusing::Refusing;
 use resolvo_store::Command;
@@ -123,7 +123,7 @@ impl<N, S, A: Allocator + Copy> Refused<'_, N, S, A> {
 }
 
 /// What a store with ids of this kind tells of its fate, and whether the request came.
-fn told<'h, K: IdKind>(
+fn told<'h, K: IdKind<Heap<'h>>>(
     heap: Heap<'h>,
     trial: &Trial<'_>,
     fate: Fate,
@@ -137,12 +137,12 @@ fn told<'h, K: IdKind>(
         probes: &probes,
         fate,
     };
-    K::played(heap, trial, &refused)?
+    played::<K, Heap<'h>, _>(heap, trial, &refused)?
 }
 
 /// Refuses each request of a trial in turn, and puts what isn't told alike after what waits.
-pub(crate) fn tell_each<K: IdKind>(
-    heap: Heap<'_>,
+pub(crate) fn tell_each<'h, K: IdKind<Heap<'h>>>(
+    heap: Heap<'h>,
     trial: &Trial<'_>,
     waiting: &mut Vec<u8>,
     counts: &mut Counts,
@@ -159,8 +159,8 @@ pub(crate) fn tell_each<K: IdKind>(
 const ENDLESS: &[u8] = b"too many requests\n";
 
 /// Refuses each request of the command of a place in turn, by steps. Answers whether it has one.
-fn tell_steps<K: IdKind>(
-    heap: Heap<'_>,
+fn tell_steps<'h, K: IdKind<Heap<'h>>>(
+    heap: Heap<'h>,
     trial: &Trial<'_>,
     place: usize,
     waiting: &mut Vec<u8>,
@@ -183,8 +183,8 @@ fn tell_steps<K: IdKind>(
 }
 
 /// Refuses each request of a run in turn.
-fn tell_runs<K: IdKind>(
-    heap: Heap<'_>,
+fn tell_runs<'h, K: IdKind<Heap<'h>>>(
+    heap: Heap<'h>,
     trial: &Trial<'_>,
     waiting: &mut Vec<u8>,
 ) -> Result<(), StoreError> {

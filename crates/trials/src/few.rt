@@ -1,9 +1,9 @@
 //! Trials in memory that refuses a request at every few commands, so that a `decide` is refused while its queue is brought up to date.
 //! Other commands come before the next one then, undos among them.
-use crate::answers::push_unlike;
+use crate::answers::{Heap, push_unlike};
 use crate::given::commands_of;
 use crate::obeys::Obeys;
-use crate::played::{IdKind, Play};
+use crate::played::{IdKind, Play, played};
 use crate::trial::Trial;
 use refusing::Refusing;
 use resolvo_store::{Command, Reply};
@@ -173,8 +173,8 @@ fn push_step<N, S, A: Allocator + Copy, T: Obeys<N, S, A>>(
 }
 
 /// Puts what isn't wanted of a trial in such memory after what waits.
-pub(crate) fn tell_few<K: IdKind>(
-    heap: &Refusing<Global>,
+pub(crate) fn tell_few<'h, K: IdKind<Heap<'h>>>(
+    heap: Heap<'h>,
     trial: &Trial<'_>,
     answers: &str,
     waiting: &mut Vec<u8>,
@@ -188,7 +188,7 @@ pub(crate) fn tell_few<K: IdKind>(
         said: &trial.commands,
         wanted: answers,
     };
-    let (unlike, refused) = K::played(heap, trial, &few)??;
+    let (unlike, refused) = played::<K, Heap<'h>, _>(heap, trial, &few)??;
     counts.join(refused);
     push_unlike(
         "where requests are refused:\n",

@@ -1,36 +1,10 @@
 //! Commands by the ids that a store has.
+use plain_providers::Numbered;
 use resolvo_store::{Command, HelperOrigin};
 use script_text::{LineFault, Statement};
 use scripts::command;
 use std::alloc::Allocator;
-use typed_ids::{DenseId, NameId, SolvableId, SparseId, StoreError};
-
-/// An id of a name or of a solvable, and its number.
-pub(crate) trait Numbered: Copy {
-    fn numbered(number: u32) -> Self;
-
-    fn number(self) -> u32;
-}
-
-impl<Tag> Numbered for DenseId<Tag> {
-    fn numbered(number: u32) -> DenseId<Tag> {
-        DenseId::from_raw(number)
-    }
-
-    fn number(self) -> u32 {
-        self.into_raw()
-    }
-}
-
-impl<Tag> Numbered for SparseId<Tag> {
-    fn numbered(number: u32) -> SparseId<Tag> {
-        SparseId::from_raw(number)
-    }
-
-    fn number(self) -> u32 {
-        self.into_raw()
-    }
-}
+use typed_ids::{NameId, SolvableId, StoreError};
 
 /// The commands that the statements give, in order.
 pub(crate) fn commands_of<N: Numbered, S: Numbered, A: Allocator + Copy>(

@@ -7,25 +7,21 @@
 //! | `twice` | each candidate is listed twice |
 ghost use Rattle.std.specs.Prelude.{◌≤◌, ◌^◌, length, IfOk};
 
-use crate::given::Numbered;
 use crate::trial::Trial;
-use asking_providers::{Asking, Listing};
-use plain_providers::{Lists, Package, VersionRange};
-use providers::{DependencyProvider, HintDependenciesAvailable, Interner};
-use script_packages::id;
+use plain_providers::{Hint, Listed, Listing, Manner, Package, VersionRange};
 use script_text::{Statement, is_word, next_word, number};
 use std::alloc::Allocator;
-use typed_ids::{NameId, SolvableId, StoreError, VersionSetId};
+use typed_ids::{StoreError, VersionSetId};
 
-/// A provider of the packages, version sets and unions.
-pub(crate) fn lists_of<A: Allocator + Copy>(
+/// The packages, version sets and unions.
+pub(crate) fn listed<A: Allocator + Copy>(
     alloc: A,
     catalogue: &[Statement<'_>],
-) -> Result<Lists<A>, StoreError> {
+) -> Result<Listed<A>, StoreError> {
     let (packages, favored) = packages_of(alloc, catalogue)?;
     let ranges = ranges_of(alloc, catalogue)?;
     let unions = unions_of(alloc, catalogue)?;
-    Ok(Lists {
+    Ok(Listed {
         packages,
         ranges,
         unions,
@@ -33,31 +29,26 @@ pub(crate) fn lists_of<A: Allocator + Copy>(
     })
 }
 
-/// The provider of a trial over its lists.
-pub(crate) fn asking<D: DependencyProvider<SolvableId: Numbered> + Drop>(
-    alloc: D::Alloc,
-    lists: D,
+/// How the provider of a trial answers.
+pub(crate) fn manner<A: Allocator + Copy>(
+    alloc: A,
     trial: &Trial<'_>,
-) -> Result<Asking<D>, StoreError> {
-    let mut listing = Listing::Once;
-    let mut locked = None;
-    let mut hint = HintDependenciesAvailable::None;
+) -> Result<Manner<A>, StoreError> {
+    let mut manner = Manner::plain();
+    manner.stops = trial.stops();
     for said in &trial.catalogue {
         if is_word(said.keyword, b"twice") {
-            listing = Listing::Twice;
+            manner.listing = Listing::Twice;
         } else if is_word(said.keyword, b"locked") {
-            locked = Some(D::SolvableId::numbered(number_of(said.rest)));
+            manner.locked = Some(number_of(said.rest));
         } else if is_word(said.keyword, b"hint") {
-            hint = hint_of(alloc, said.rest)?;
+            manner.hint = hint_of(alloc, said.rest)?;
         }
     }
-    Ok(Asking::new(lists, listing, hint, locked, trial.stops()))
+    Ok(manner)
 }
 
-fn hint_of<S: Numbered, A: Allocator>(
-    alloc: A,
-    line: &[u8],
-) -> Result<HintDependenciesAvailable<S, A>, StoreError> {
+fn hint_of<A: Allocator>(alloc: A, line: &[u8]) -> Result<Hint<A>, StoreError> {
     let mut solvables = Vec::new(alloc);
     let mut rest = line;
     for _ in 0..line.len() {
@@ -65,12 +56,12 @@ fn hint_of<S: Numbered, A: Allocator>(
             break;
         };
         if is_word(word, b"all") {
-            return Ok(HintDependenciesAvailable::All);
+            return Ok(Hint::All);
         }
         rest = others;
-        solvables.push(S::numbered(number_of(word)))?;
+        solvables.push(number_of(word))?;
     }
-    Ok(HintDependenciesAvailable::Some(solvables))
+    Ok(Hint::Some(solvables))
 }
 
 /// The number that a line begins with; 0 where there is none.
@@ -85,7 +76,7 @@ pub(crate) fn number_of(line: &[u8]) -> u32 {
 fn packages_of<A: Allocator + Copy>(
     alloc: A,
     catalogue: &[Statement<'_>],
-) -> Result<(Vec<Package, A>, Option<SolvableId>), StoreError>
+) -> Result<(Vec<Package, A>, Option<u32>), StoreError>
     ensures few { IfOk result (λ r. length r.0.items ≤ 2 ^ 32) }
 {
     let mut packages = Vec::new(alloc);
@@ -103,11 +94,11 @@ fn packages_of<A: Allocator + Copy>(
 fn add_package<A: Allocator>(
     packages: &mut Vec<Package, A>,
     line: &[u8],
-) -> Result<Option<SolvableId>, StoreError> {
+) -> Result<Option<u32>, StoreError> {
     let Some((name, versions)) = next_word(line) else {
         return Err(StoreError::UnknownId);
     };
-    let name = name_of(name)?;
+    let name = version_of(name)?;
     let mut favored = None;
     let mut rest = versions;
     for _ in 0..line.len() {
@@ -120,16 +111,12 @@ fn add_package<A: Allocator>(
             digits => (digits, false),
         };
         if is_favored {
-            favored = Some(SolvableId::from_raw(u32::try_from(packages.len()).unwrap_or(0)));
+            favored = Some(u32::try_from(packages.len()).unwrap_or(0));
         }
         let version = version_of(digits)?;
         packages.push(Package { name, version })?;
     }
     Ok(favored)
-}
-
-fn name_of(word: &[u8]) -> Result<NameId, StoreError> {
-    id(word).ok_or(StoreError::UnknownId)
 }
 
 fn version_of(word: &[u8]) -> Result<u32, StoreError> {
@@ -163,7 +150,7 @@ fn range_of(line: &[u8]) -> Result<VersionRange, StoreError> {
         return Err(StoreError::UnknownId);
     };
     Ok(VersionRange {
-        name: name_of(name)?,
+        name: version_of(name)?,
         low: version_of(low)?,
         high: version_of(high)?,
     })

@@ -1,7 +1,7 @@
 //! What trials ask of a store. What they share is generic in it, since a proof over a type parameter is much shorter than one over the
 //! store's own type.
-use asking_providers::{Counting, Counts};
 use decisions::Literal;
+use plain_providers::{Counting, Counts};
 use providers::{DependencyProvider, Interner};
 use resolvo_queue::QueueDecision;
 use resolvo_store::{ClauseStore, Command, Reply};

@@ -1,15 +1,13 @@
-//! New stores, and what is done with them. One function owns these stores, and one for each kind of ids names a provider: the proofs of
-//! such functions are long.
-use crate::given::Numbered;
-use crate::listed::{asking, lists_of};
+//! New stores, and what is done with them. One function names their provider, and owns these stores: the proofs of such functions are
+//! long.
+use crate::listed::{listed, manner};
 use crate::obeys::Obeys;
 use crate::trial::Trial;
-use plain_providers::{SparseLists, SparseName, SparseSolvable};
-use providers::{DependencyProvider, Interner};
+use id_maps::SolverId;
+use plain_providers::{Lists, Numbered};
 use resolvo_store::ClauseStore;
 use std::alloc::Allocator;
-use std::fmt::Debug;
-use typed_ids::{NameId, SolvableId, StoreError};
+use typed_ids::{NameId, NameTag, SolvableId, SolvableTag, SparseId, StoreError};
 
 /// What is done with a new store.
 pub(crate) trait Play<N, S, A: Allocator> {
@@ -19,61 +17,46 @@ pub(crate) trait Play<N, S, A: Allocator> {
     fn play<T: Obeys<N, S, A>>(&self, store: &mut T) -> Self::Told;
 }
 
-/// What a new store tells over the trial's lists.
-fn played<
-    D: DependencyProvider<SolvableId: Numbered> + Drop,
-    P: Play<D::NameId, D::SolvableId, D::Alloc>,
->(alloc: D::Alloc, lists: D, trial: &Trial<'_>, play: &P) -> Result<P::Told, StoreError> {
-    let mut store = ClauseStore::new(alloc, asking(alloc, lists, trial)?)?;
-    let told = play.play(&mut store);
-    drop(store);
-    Ok(told)
-}
-
 /// A kind of ids that stores may have.
-pub(crate) trait IdKind {
-    type Name: Numbered + Debug;
+pub(crate) trait IdKind<A: Allocator + Copy> {
+    type Name: SolverId<A> + Numbered;
 
-    type Solvable: Numbered + Debug;
-
-    /// What a new store tells over the trial's packages.
-    fn played<A: Allocator + Copy, P: Play<Self::Name, Self::Solvable, A>>(
-        alloc: A,
-        trial: &Trial<'_>,
-        play: &P,
-    ) -> Result<P::Told, StoreError>;
+    type Solvable: SolverId<A> + Numbered;
 }
 
 pub(crate) struct DenseIds;
 
 pub(crate) struct SparseIds;
 
-impl IdKind for DenseIds {
+impl<A: Allocator + Copy> IdKind<A> for DenseIds {
     type Name = NameId;
 
     type Solvable = SolvableId;
-
-    fn played<A: Allocator + Copy, P: Play<NameId, SolvableId, A>>(
-        alloc: A,
-        trial: &Trial<'_>,
-        play: &P,
-    ) -> Result<P::Told, StoreError> {
-        let lists = lists_of(alloc, &trial.catalogue)?;
-        played(alloc, lists, trial, play)
-    }
 }
 
-impl IdKind for SparseIds {
-    type Name = SparseName;
+impl<A: Allocator + Copy> IdKind<A> for SparseIds {
+    type Name = SparseId<NameTag>;
 
-    type Solvable = SparseSolvable;
+    type Solvable = SparseId<SolvableTag>;
+}
 
-    fn played<A: Allocator + Copy, P: Play<SparseName, SparseSolvable, A>>(
-        alloc: A,
-        trial: &Trial<'_>,
-        play: &P,
-    ) -> Result<P::Told, StoreError> {
-        let lists = lists_of(alloc, &trial.catalogue)?;
-        played(alloc, SparseLists(lists), trial, play)
-    }
+/// The provider of a trial, by ids of this kind.
+pub(crate) fn provider_of<K: IdKind<A>, A: Allocator + Copy>(
+    alloc: A,
+    trial: &Trial<'_>,
+) -> Result<Lists<K::Name, K::Solvable, A>, StoreError> {
+    let listed = listed(alloc, &trial.catalogue)?;
+    Ok(Lists::new(listed, manner(alloc, trial)?))
+}
+
+/// What a new store tells over the trial's packages.
+pub(crate) fn played<K: IdKind<A>, A: Allocator + Copy, P: Play<K::Name, K::Solvable, A>>(
+    alloc: A,
+    trial: &Trial<'_>,
+    play: &P,
+) -> Result<P::Told, StoreError> {
+    let mut store = ClauseStore::new(alloc, provider_of::<K, A>(alloc, trial)?)?;
+    let told = play.play(&mut store);
+    drop(store);
+    Ok(told)
 }

@@ -4,7 +4,7 @@ use crate::cache::push_asked;
 use crate::each::tell_each;
 use crate::few::{Counts, tell_few};
 use crate::played::{DenseIds, IdKind, SparseIds};
-use asking_providers::Stops;
+use plain_providers::Stops;
 use refusing::Refusing;
 use script_text::{Line, Statement, is_word, next_statement, next_word};
 use std::alloc::Global;
@@ -117,15 +117,15 @@ pub(crate) fn push_answers(
             break;
         };
         rest = others;
-        let ended = push_answer::<DenseIds, SparseIds>(alloc, &trial, waiting, &mut counts);
+        let ended = push_answer(alloc, &trial, waiting, &mut counts);
         drop(trial);
         ended?;
     }
     Ok(counts.push(waiting)?)
 }
 
-/// Puts a trial's answers after what waits. The second kind of ids is to tell what the first one tells.
-fn push_answer<K: IdKind, L: IdKind>(
+/// Puts a trial's answers after what waits. Sparse ids are to tell what dense ones tell.
+fn push_answer(
     alloc: Global,
     trial: &Trial<'_>,
     waiting: &mut Vec<u8>,
@@ -138,16 +138,16 @@ fn push_answer<K: IdKind, L: IdKind>(
     let ended = if trial.is(b"cache") {
         push_asked(alloc, &heap, trial, waiting)
     } else if trial.is(b"texts") {
-        push_texts::<K>(&heap, trial, waiting)
+        push_texts::<DenseIds>(&heap, trial, waiting)
     } else {
-        push_told::<K, L>(&heap, trial, waiting, counts)
+        push_told::<DenseIds, SparseIds>(&heap, trial, waiting, counts)
     };
     drop(heap);
     ended
 }
 
-fn push_texts<K: IdKind>(
-    heap: Heap<'_>,
+fn push_texts<'h, K: IdKind<Heap<'h>>>(
+    heap: Heap<'h>,
     trial: &Trial<'_>,
     waiting: &mut Vec<u8>,
 ) -> Result<(), StoreError> {
@@ -157,8 +157,8 @@ fn push_texts<K: IdKind>(
 }
 
 /// Plays the trial in all its ways, and puts what they tell after what waits: of the others what the first one didn't tell.
-fn push_told<K: IdKind, L: IdKind>(
-    heap: Heap<'_>,
+fn push_told<'h, K: IdKind<Heap<'h>>, L: IdKind<Heap<'h>>>(
+    heap: Heap<'h>,
     trial: &Trial<'_>,
     waiting: &mut Vec<u8>,
     counts: &mut Counts,
@@ -170,8 +170,8 @@ fn push_told<K: IdKind, L: IdKind>(
     ended
 }
 
-fn push_others<K: IdKind, L: IdKind>(
-    heap: Heap<'_>,
+fn push_others<'h, K: IdKind<Heap<'h>>, L: IdKind<Heap<'h>>>(
+    heap: Heap<'h>,
     trial: &Trial<'_>,
     answers: &str,
     waiting: &mut Vec<u8>,
