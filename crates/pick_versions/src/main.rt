@@ -1,5 +1,6 @@
 //! Reads indexes from standard input, in the format of `small_index` and with an empty line between one and the next. For each it
-//! prints what its first line asks for: a line for each version that is picked, or `none`. The first line's own version isn't picked.
+//! prints what its first line asks for: a line for each version that is picked, or `none`; or which of its lines is unreadable. The
+//! first line's own version isn't picked.
 #![tactic(auto)]
 
 use anyhow::Result;
@@ -7,7 +8,7 @@ use resolvo_ids::{DenseIndex, SolvableId, StoreError};
 use resolvo_pool::{ConditionalRequirement, Dependencies, DependencyProvider, Interner};
 use resolvo_store::ClauseStore;
 use search::{Search, SearchEnd};
-use small_index::SmallIndex;
+use small_index::{IndexFault, SmallIndex};
 use std::alloc::Global;
 use std::io;
 
@@ -30,9 +31,14 @@ fn main(rt: HostRuntime) -> Result<()> {
 
 /// Prints what the first line of an index asks for. It owns the index, so that what is read and cut isn't dropped with it.
 fn answer(rt: &impl Print, alloc: Global, lines: &str) -> Result<()> {
-    let index = small_index::read(alloc, lines)?;
-    let wanted = wanted(alloc, &index)?;
-    print_picked(rt, alloc, index, &wanted)
+    match small_index::read(alloc, lines) {
+        Ok(index) => {
+            let wanted = wanted(alloc, &index)?;
+            print_picked(rt, alloc, index, &wanted)
+        }
+        Err(IndexFault::Refused(refused)) => Err(refused.into()),
+        Err(unreadable) => Ok(println!(rt; "{unreadable}")?),
+    }
 }
 
 /// What the first line asks for.

@@ -21,8 +21,10 @@ use typed_ids::{ConditionId, StoreError, StringId, VersionSetId, VersionSetUnion
 /// number 0; a version set whose versions have no end has no text.
 #[derive(Drop)]
 pub struct Lists<N, S, A: Allocator> {
-    listed: Listed<A>,
-    manner: Manner<A>,
+    /// What is listed.
+    pub listed: Listed<A>,
+    /// How it is told.
+    pub manner: Manner<A>,
     candidates: Cell<u32>,
     dependencies: Cell<u32>,
     cancels: Cell<u32>,
@@ -31,7 +33,10 @@ pub struct Lists<N, S, A: Allocator> {
 
 impl<N, S, A: Allocator> Lists<N, S, A> {
     /// The provider that was asked nothing yet.
-    pub fn new(listed: Listed<A>, manner: Manner<A>) -> Self {
+    pub fn new(listed: Listed<A>, manner: Manner<A>) -> Self
+        ensures listed { result.listed ≡ listed }
+        ensures manner { result.manner ≡ manner }
+    {
         Lists {
             listed,
             manner,

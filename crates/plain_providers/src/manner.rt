@@ -1,8 +1,10 @@
 //! What a provider tells beside its candidates, when it stops, and how often it was asked.
-ghost use Rattle.std.specs.Prelude.{◌≡◌, option_map, IfOk, IfErr};
+ghost use Rattle.std.specs.Prelude.{◌≡◌, None, option_map, IfOk, IfErr};
 ghost use Rattle.typed_ids.specs.declared.error.StoreError.TheVariants.{OutOfMemory};
 ghost use Rattle.providers.specs.Provider.{candidates_of, favored_of};
 ghost use Rattle.plain_providers.specs.Listed.{listed};
+ghost use Rattle.plain_providers.specs.declared.manner.Listing.TheVariants.{Once};
+ghost use Rattle.plain_providers.specs.declared.manner.Stops.TheVariants.{Never};
 
 use crate::numbered::Numbered;
 use providers::{Candidates, HintDependenciesAvailable};
@@ -76,7 +78,11 @@ pub struct Manner<A: Allocator> {
 
 impl<A: Allocator> Manner<A> {
     /// Candidates are listed once, nothing is told beside them, and nobody is stopped.
-    pub fn plain() -> Self {
+    pub fn plain() -> Self
+        ensures listing { result.listing ≡ Once }
+        ensures locked { result.locked ≡ None }
+        ensures stops { result.stops ≡ Never }
+    {
         Manner {
             listing: Listing::Once,
             hint: Hint::None,

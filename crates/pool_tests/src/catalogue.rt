@@ -1,13 +1,13 @@
 //! The packages of a catalogue: the normal forms of its conditions, and the texts of its requirements and of its solvables together.
 use crate::condition_calls::normal_forms::{FORMS, forms, met_by_each};
 use crate::condition_calls::refused::each_is_refused;
-use crate::texts::{shows_requirements, shows_solvables};
+use crate::texts::{shows_key, shows_requirements, shows_solvables};
 use providers::Interner;
 use script_packages::{Packages, read_catalogue};
 use std::alloc::Global;
 use std::test::Fail;
 use test_checks::sees;
-use typed_ids::SolvableId;
+use typed_ids::{SolvableId, SolvableIdOrRoot};
 
 /// The version sets `a`, `b` and `c`, a union of the first and the last, and conditions over them: 0 to 2 are the sets; 3 is
 /// `a and b`, 4 is `c and a`, 5 is `3 or 4`; 6 is `a or b`, 7 is `c or a`, 8 is `6 and 7`, 9 is `6 and c`.
@@ -26,14 +26,15 @@ fn conditions_have_normal_forms_and_requirements_texts(rt: HostRuntime) -> Resul
     }
 }
 
-/// The packages' conditions and requirements are as wanted, and so is the text of the second solvable, the first and the second again
-/// together.
+/// The packages' conditions and requirements are as wanted, and so is the text of the second solvable, by itself and together with the
+/// first and itself.
 fn have_texts(alloc: Global, packages: &Packages) -> Result<(), Fail> {
     are_wanted(alloc, alloc, packages)?;
     let (first, second) = (SolvableId::from_raw(0), SolvableId::from_raw(1));
     if !packages.knows_solvable(first) || !packages.knows_solvable(second) {
         return Err(Fail::new("a solvable isn't known"));
     }
+    shows_key(alloc, packages, SolvableIdOrRoot::Solvable(second), "p 2")?;
     shows_solvables(alloc, packages, &[second, first, second], "p p 1 | p 2")
 }
 

@@ -1,5 +1,5 @@
-//! Tests of the pool, of requirements and of their maps, of conditions (`condition_calls`) and of texts (`catalogue`), and of
-//! what the example of a provider reads a text as (`read_index`). The callers that they run are in `pool_callers`.
+//! Tests of the pool, of requirements and of their maps, of conditions (`condition_calls`) and of texts (`catalogue`).
+//! The callers that they run are in `pool_callers`.
 #![tactic(auto)]
 
 #[cfg(test)]
@@ -12,8 +12,6 @@ mod maps;
 mod noted;
 #[cfg(test)]
 mod pool;
-#[cfg(test)]
-mod read_index;
 #[cfg(test)]
 mod shown;
 #[cfg(test)]

@@ -2,9 +2,8 @@
 ghost use Rattle.std.specs.Prelude.{◌≡◌, true, All};
 ghost use Rattle.providers.specs.Provider.{knows_requirement, knows_key};
 
-use plain_providers::{Listed, Lists, Manner, VersionRange};
 use providers::{Interner, Requirement, RootText};
-use std::alloc::{Allocator, Global};
+use std::alloc::Allocator;
 use std::test::Fail;
 use test_checks::is_same;
 use typed_ids::{
@@ -79,32 +78,4 @@ pub(crate) fn shows_requirements<I: Interner>(heap: I::Alloc, interner: &I) -> R
         "needs p >=1, <2 | p >=3, <4",
     )?;
     shows_key(heap, interner, SolvableIdOrRoot::Root, "root")
-}
-
-/// The text of a version set whose own text is empty is that of its package.
-#[test]
-fn a_set_without_a_text_is_named_by_its_package(rt: HostRuntime) -> Result<(), Fail> {
-    let any_version = VersionRange {
-        name: 1,
-        low: 0,
-        high: u32::MAX,
-    };
-    let listed = Listed {
-        packages: Vec::new(rt.alloc()),
-        ranges: vec![in rt.alloc(); any_version]?,
-        unions: Vec::new(rt.alloc()),
-        favored: None,
-    };
-    let lists: Lists<NameId, SolvableId, Global> = Lists::new(listed, Manner::plain());
-    let ended = shows_first(rt.alloc(), &lists, "needs b");
-    drop(lists);
-    ended
-}
-
-fn shows_first<I: Interner>(heap: I::Alloc, interner: &I, text: &str) -> Result<(), Fail> {
-    let set = VersionSetId(0);
-    if !interner.knows_version_set(set) {
-        return Err(Fail::new("the version set isn't known"));
-    }
-    shows_requirement(heap, interner, Requirement::Single(set), text)
 }

@@ -9,7 +9,7 @@
 //! A range is from its first number to below its last one. Empty lines are skipped.
 //!
 //! [`read`] makes a [`SmallIndex`] of the text. `index` is the part to read: it has the two traits of a provider, and is
-//! proved to answer what `specs/Index` says of its value. What `read` makes of a text is tested, in `pool_tests`.
+//! proved to answer what `specs/Index` says of its value. What `read` makes of a text is tested by `pick_versions`.
 #![tactic(auto)]
 
 mod index;
