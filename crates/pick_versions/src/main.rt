@@ -1,14 +1,14 @@
 //! Reads indexes from standard input, in the format of `small_index` and with an empty line between one and the next. For each it
-//! prints what its first line asks for: a line for each version that is picked, or `none`; or which of its lines is unreadable. The
-//! first line's own version isn't picked.
+//! prints who asks, the name of its first line, and what that line asks for: a line for each version that is picked, or `none`; or
+//! which of its lines is unreadable. The first line's own version isn't picked.
 #![tactic(auto)]
 
 use anyhow::Result;
-use resolvo_ids::{DenseIndex, SolvableId, StoreError};
+use resolvo_ids::{DenseIndex, SolvableId};
 use resolvo_pool::{ConditionalRequirement, Dependencies, DependencyProvider, Interner};
 use resolvo_store::ClauseStore;
 use search::{Search, SearchEnd};
-use small_index::{IndexFault, SmallIndex};
+use small_index::IndexFault;
 use std::alloc::Global;
 use std::io;
 
@@ -32,38 +32,43 @@ fn main(rt: HostRuntime) -> Result<()> {
 /// Prints what the first line of an index asks for. It owns the index, so that what is read and cut isn't dropped with it.
 fn answer(rt: &impl Print, alloc: Global, lines: &str) -> Result<()> {
     match small_index::read(alloc, lines) {
-        Ok(index) => {
-            let wanted = wanted(alloc, &index)?;
-            print_picked(rt, alloc, index, &wanted)
-        }
+        Ok(index) => print_picked(rt, alloc, index, SolvableId::from_index(0)),
         Err(IndexFault::Refused(refused)) => Err(refused.into()),
         Err(unreadable) => Ok(println!(rt; "{unreadable}")?),
     }
 }
 
-/// What the first line asks for.
-fn wanted(alloc: Global, index: &SmallIndex) -> Result<Vec<ConditionalRequirement>, StoreError> {
-    let first = SolvableId::from_index(0);
-    if !index.knows_solvable(first) {
-        return Ok(Vec::new(alloc));
-    }
-    match index.get_dependencies(alloc, first)? {
-        Dependencies::Known(needs) => Ok(needs.requirements),
-        Dependencies::Unknown(_) => Ok(Vec::new(alloc)),
-    }
-}
-
-/// Searches, and prints what comes of it.
+/// Searches for what a solvable needs, and prints what comes of it.
 fn print_picked<D: DependencyProvider + Drop>(
     rt: &impl Print,
     alloc: D::Alloc,
     provider: D,
-    wanted: &[ConditionalRequirement],
+    asking: D::SolvableId,
 ) -> Result<()> {
+    let wanted = wanted(rt, alloc, &provider, asking)?;
     let mut search = Search::new(alloc, ClauseStore::new(alloc, provider)?);
-    let printed = print_end(rt, alloc, &mut search, wanted);
+    let printed = print_end(rt, alloc, &mut search, &wanted);
     drop(search);
     printed
+}
+
+/// What a solvable needs, below a line with the name of its package.
+fn wanted<D: DependencyProvider>(
+    rt: &impl Print,
+    alloc: D::Alloc,
+    provider: &D,
+    asking: D::SolvableId,
+) -> Result<Vec<ConditionalRequirement, D::Alloc>> {
+    if !provider.knows_solvable(asking) {
+        return Ok(Vec::new(alloc));
+    }
+    let mut name = String::new(alloc);
+    provider.display_solvable_name(asking, &mut name)?;
+    println!(rt; "{name}:")?;
+    match provider.get_dependencies(alloc, asking)? {
+        Dependencies::Known(needs) => Ok(needs.requirements),
+        Dependencies::Unknown(_) => Ok(Vec::new(alloc)),
+    }
 }
 
 fn print_end<D: DependencyProvider + Drop>(
