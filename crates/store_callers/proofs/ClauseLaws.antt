@@ -3,14 +3,14 @@ use Rattle.std.proofs.Common.{◌≡◌, ℕ, ◌<◌, ◌+◌, Bool, true, fals
 use Rattle.std.specs.Bool.{beq}
 use Rattle.std.specs.Prelude.{◌++◌, nat_eq, slice_get, option_map, IsSome, IfSome, IfOk, Result, MatchOption, refl}
 use Rattle.std.proofs.lemmas.Result.{IfOk-weaker}
-use Rattle.typed_ids.specs.declared.string_id.StringId.{StringId}
-use Rattle.typed_ids.specs.declared.error.StoreError.{StoreError}
-use Rattle.decisions.specs.Literals.{Lit, Neg}
-use Rattle.decisions.specs.Trail.{Entry}
-use Rattle.at_most_once.specs.AtMostOne.{is_tracked}
-use Rattle.clauses.specs.Clauses.{literals_of}
-use Rattle.clauses.specs.declared.clause.Clause.{Clause}
-use Rattle.clauses.specs.declared.clause.Clause.TheVariants as Kind
+use Rattle.resolvo_ids.specs.Types.StringId.{StringId}
+use Rattle.resolvo_ids.specs.Types.StoreError.{StoreError}
+use Rattle.resolvo_clauses.specs.Literals.{Lit, Neg}
+use Rattle.resolvo_clauses.specs.Trail.{Entry}
+use Rattle.resolvo_clauses.specs.AtMostOne.{is_tracked}
+use Rattle.resolvo_clauses.specs.Clauses.{literals_of}
+use Rattle.resolvo_clauses.specs.Types.Clause.{Clause}
+use Rattle.resolvo_clauses.specs.Types.Clause.TheVariants as Kind
 use Rattle.resolvo_queue.specs.declared.requires_clause.RequiresClause.{RequiresClause}
 use Rattle.resolvo_queue.specs.declared.offer.Offer.{Offer}
 use Rattle.resolvo_store.specs.declared.helper_origin.HelperOrigin.{HelperOrigin}

@@ -1,3 +1,4 @@
+pub mod AnswerLaws
 pub mod ClauseLaws
 pub mod DecisionLaws
 pub mod ExampleProofs

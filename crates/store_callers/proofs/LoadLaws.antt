@@ -2,10 +2,10 @@
 use Rattle.std.proofs.Common.{◌≡◌, ℕ, List, length, map, Option, None, Some, ◌∙◌, ap, subst}
 use Rattle.std.specs.Prelude.{MatchOption}
 use Rattle.std.proofs.lemmas.List.{length-map}
-use Rattle.typed_ids.specs.declared.error.StoreError.{StoreError}
-use Rattle.providers.specs.Provider.{sets_of}
-use Rattle.providers.specs.declared.requirement.Requirement.{Requirement}
-use Rattle.variables.specs.Variables.{interned_variable}
+use Rattle.resolvo_ids.specs.Types.StoreError.{StoreError}
+use Rattle.resolvo_pool.specs.Provider.{sets_of}
+use Rattle.resolvo_pool.specs.Types.Requirement.{Requirement}
+use Rattle.resolvo_clauses.specs.Variables.{interned_variable}
 use Rattle.resolvo_store.specs.Command.{Load, Reply, LoadedAs, Refused}
 use Rattle.resolvo_store.specs.Store.{Store, lists_of, candidates_of}
 use Rattle.resolvo_store.specs.Refusals.{first_refusal}

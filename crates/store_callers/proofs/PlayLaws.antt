@@ -2,10 +2,10 @@
 use Rattle.std.proofs.Common.{◌≡◌, ℕ, Bool, true, false, cond, ◌||◌, List, [], ◌∷◌, length, Option, Some, None, refl, ap}
 use Rattle.std.specs.Bool.{beq}
 use Rattle.std.specs.Prelude.{nat_eq, slice_get, MatchOption}
-use Rattle.typed_ids.specs.declared.error.StoreError.{StoreError}
-use Rattle.typed_ids.specs.declared.error.StoreError.TheVariants.{IdSpace}
-use Rattle.decisions.specs.Trail.{Entry}
-use Rattle.at_most_once.specs.AtMostOne.{is_tracked}
+use Rattle.resolvo_ids.specs.Types.StoreError.{StoreError}
+use Rattle.resolvo_ids.specs.Types.StoreError.TheVariants.{IdSpace}
+use Rattle.resolvo_clauses.specs.Trail.{Entry}
+use Rattle.resolvo_clauses.specs.AtMostOne.{is_tracked}
 use Rattle.resolvo_queue.specs.declared.requires_clause.RequiresClause.{RequiresClause}
 use Rattle.resolvo_queue.specs.declared.offer.Offer.{Offer}
 use Rattle.resolvo_store.specs.Command.{Command, Load, AtMostOnce, Assign, Unpropagated, Decide, Reply, TrackedAs, Already, Clash, Refused, IsRefused}

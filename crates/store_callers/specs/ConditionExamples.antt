@@ -1,7 +1,7 @@
 -- Worked examples of clauses under conditions, of tracked variables and of a favored version, computed.
 use Rattle.std.specs.Prelude.{ℕ, true, false, List, [], ◌∷◌, ◌++◌, Some, None}
-use Rattle.typed_ids.specs.declared.error.StoreError.TheVariants.{UnknownId, NotLoaded, NegatesParent, BadLearnt}
-use Rattle.decisions.specs.Literals.{Pos, Neg}
+use Rattle.resolvo_ids.specs.Types.StoreError.TheVariants.{UnknownId, NotLoaded, NegatesParent, BadLearnt}
+use Rattle.resolvo_clauses.specs.Literals.{Pos, Neg}
 use Rattle.resolvo_store.specs.declared.helper_origin.HelperOrigin.TheVariants as Helps
 use Rattle.resolvo_store.specs.Command.{Command, Variable, Helper, Load, Disjunction, Requires, Root, Learnt, AtMostOnce, Assign, UndoUntil, Bump, Watchers, Decide, VariableIs, LoadedAs, DisjunctionIs, ClauseIs, TrackedAs, Assigned, Undone, Done, WatchersAre, NoDecision, Falsified, Refused}
 use Rattle.store_callers.specs.Script.{Packages}

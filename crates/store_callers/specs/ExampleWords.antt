@@ -1,12 +1,12 @@
 -- The words of the worked examples.
 use Rattle.std.specs.Prelude.{◌≡◌, ℕ, Bool, List, [], ◌∷◌, map, Some}
-use Rattle.typed_ids.specs.declared.string_id.StringId.{StringId}
-use Rattle.typed_ids.specs.declared.version_set_id.VersionSetId.{VersionSetId}
-use Rattle.providers.specs.declared.requirement.Requirement.{Requirement}
-use Rattle.providers.specs.declared.requirement.Requirement.TheVariants.{Single, Union}
-use Rattle.decisions.specs.Literals.{Lit}
-use Rattle.decisions.specs.declared.decision.Decision.{Decision}
-use Rattle.clauses.specs.Clauses.{literals_of}
+use Rattle.resolvo_ids.specs.Types.StringId.{StringId}
+use Rattle.resolvo_ids.specs.Types.VersionSetId.{VersionSetId}
+use Rattle.resolvo_pool.specs.Types.Requirement.{Requirement}
+use Rattle.resolvo_pool.specs.Types.Requirement.TheVariants.{Single, Union}
+use Rattle.resolvo_clauses.specs.Literals.{Lit}
+use Rattle.resolvo_clauses.specs.Types.Decision.{Decision}
+use Rattle.resolvo_clauses.specs.Clauses.{literals_of}
 use Rattle.resolvo_store.specs.Command.{Command, Reply, Undone, Next, Decided}
 use Rattle.resolvo_store.specs.Store.{new_store, kept_literals}
 use Rattle.store_callers.specs.Play.{play, store_after}

@@ -1,7 +1,7 @@
 -- Worked examples: what the abstract store replies to some lists of commands, computed.
 use Rattle.std.specs.Prelude.{true, false, [], ◌∷◌, Some, None}
-use Rattle.typed_ids.specs.declared.error.StoreError.TheVariants.{UnknownId, LevelOutOfRange, NotLoaded, BadWatch, BadLearnt, EmptyTrail}
-use Rattle.decisions.specs.Literals.{Pos, Neg}
+use Rattle.resolvo_ids.specs.Types.StoreError.TheVariants.{UnknownId, LevelOutOfRange, NotLoaded, BadWatch, BadLearnt, EmptyTrail}
+use Rattle.resolvo_clauses.specs.Literals.{Pos, Neg}
 use Rattle.resolvo_store.specs.declared.helper_origin.HelperOrigin.TheVariants as Helps
 use Rattle.resolvo_store.specs.Command.{Variable, Helper, Load, Requires, Root, Constrains, ConstrainsExcluded, ConstrainsParent, Lock, Exclude, AnyOf, Learnt, Assign, UndoLast, UndoUntil, Unpropagated, Rewatch, Watchers, Decide, VariableIs, LoadedAs, ClauseIs, Assigned, Already, Clash, Undone, Next, Done, WatchersAre, NoDecision, Falsified, Refused}
 use Rattle.store_callers.specs.Script.{Packages}

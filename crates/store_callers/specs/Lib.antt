@@ -4,3 +4,4 @@ pub mod Examples
 pub mod Play
 pub mod ScoreExamples
 pub mod Script
+pub mod Search

@@ -1,7 +1,7 @@
 -- The replies of the abstract store, computed: with ample memory.
 use Rattle.std.specs.Prelude.{if◌then◌else◌, List, [], ◌∷◌, Option, Some, None}
-use Rattle.typed_ids.specs.declared.error.StoreError.{StoreError}
-use Rattle.typed_ids.specs.declared.error.StoreError.TheVariants.{IdSpace}
+use Rattle.resolvo_ids.specs.Types.StoreError.{StoreError}
+use Rattle.resolvo_ids.specs.Types.StoreError.TheVariants.{IdSpace}
 use Rattle.resolvo_store.specs.Command.{Command, Reply, Refused}
 use Rattle.resolvo_store.specs.Store.{Store}
 use Rattle.resolvo_store.specs.Refusals.{first_refusal}

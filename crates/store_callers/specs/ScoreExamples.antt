@@ -1,7 +1,7 @@
 -- Worked examples of decisions by scores and counts, computed.
 use Rattle.std.specs.Prelude.{◌≡◌, ℕ, ◌-◌, ◌^◌, Bool, true, false, ◌==◌, if◌then◌else◌, List, [], ◌∷◌, ◌++◌, Some, None}
-use Rattle.typed_ids.specs.declared.error.StoreError.TheVariants.{BadFraction}
-use Rattle.decisions.specs.Literals.{Values}
+use Rattle.resolvo_ids.specs.Types.StoreError.TheVariants.{BadFraction}
+use Rattle.resolvo_clauses.specs.Literals.{Values}
 use Rattle.resolvo_queue.specs.Rows.{Row, frontier}
 use Rattle.resolvo_queue.specs.declared.offer.Offer.{Offer}
 use Rattle.resolvo_queue.specs.Pick.{pick}

@@ -2,10 +2,11 @@
 -- version set there is a condition.
 use Rattle.std.specs.Prelude.{ℕ, Bool, true, false, ◌==◌, ◌&&◌, ◌||◌, if◌then◌else◌, nat_lt, nat_le, List, [], ◌∷◌, map, length, filter, fold, Option, Some, None, unwrap_or, option_map, slice_get}
 use Rattle.std.specs.List.{enumerate_from}
-use Rattle.typed_ids.specs.declared.version_set_id.VersionSetId.{VersionSetId}
-use Rattle.providers.specs.Dependencies.{Known}
+use Rattle.resolvo_ids.specs.Types.VersionSetId.{VersionSetId}
+use Rattle.resolvo_pool.specs.Types.Condition.{Condition}
+use Rattle.resolvo_pool.specs.Types.Condition.TheVariants.{Requirement}
+use Rattle.resolvo_pool.specs.Dependencies.{Known}
 use Rattle.resolvo_store.specs.Store.{Provider}
-use Rattle.plain_providers.specs.Listed.{set_condition}
 
 pub record Solvable : Type 0 where
   pub name : ℕ
@@ -24,6 +25,10 @@ pub record Packages : Type 0 where
   pub unions : List (List ℕ)
   -- how many strings there are
   pub strings : ℕ
+
+-- the condition of this number: the version set of this number is met
+abbrev pub set_condition : ℕ → Condition
+set_condition n = Requirement (record { 0 = n })
 
 module _ (c : Packages) where
   -- the solvables of a name, by number

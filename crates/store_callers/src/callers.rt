@@ -1,11 +1,11 @@
 //! Callers that know nothing of the provider but its trait, and nothing of the store but its contracts.
 ghost use Rattle.std.specs.Prelude.{◌≡◌, ◌≢◌, ℕ, true, List, [], length, None};
-ghost use Rattle.typed_ids.specs.declared.error.StoreError.TheVariants.{UnknownId, EmptyTrail};
-ghost use Rattle.providers.specs.Provider.{sets_of};
+ghost use Rattle.resolvo_ids.specs.Types.StoreError.TheVariants.{UnknownId, EmptyTrail};
+ghost use Rattle.resolvo_pool.specs.Provider.{sets_of};
 ghost use Rattle.resolvo_store.specs.Command.{reply_of, LoadedAs, Refused, IsRefused};
 ghost use Rattle.resolvo_store.specs.Store.{lists_of};
 
-use providers::{DependencyProvider, Interner, Requirement};
+use resolvo_pool::{DependencyProvider, Interner, Requirement};
 use resolvo_store::{AbstractStore, ClauseStore, Command, Reply};
 
 /// A command that is refused, whatever it is and why, changes nothing.
@@ -42,7 +42,7 @@ pub fn load_first<D: DependencyProvider + Drop>(
 }
 
 /// Asking for a decision changes nothing.
-pub fn ask<D: DependencyProvider + Drop>(store: &mut ClauseStore<D>) -> Reply<D::Alloc>
+pub fn decide<D: DependencyProvider + Drop>(store: &mut ClauseStore<D>) -> Reply<D::Alloc>
     ensures { ⟦<D as AbstractStore>⟧.store store.new ≡ ⟦<D as AbstractStore>⟧.store store.old }
 {
     store.step(&Command::Decide)

@@ -1,14 +1,13 @@
 //! Callers that read what they have added: clauses by their literals, and helper variables by what they stand for.
 ghost use Rattle.std.specs.Prelude.{◌≡◌, ◌<◌, ℕ, Bool, [], ◌∷◌, length, Some, IsSome, IfOk, IfSome};
-ghost use Rattle.decisions.specs.Literals.{Neg};
+ghost use Rattle.resolvo_clauses.specs.Literals.{Neg};
 ghost use Rattle.resolvo_store.specs.Command.{reply_of, ClauseIs};
 ghost use Rattle.resolvo_store.specs.Outcome.{helper_origin};
 
-use decisions::Literal;
-use providers::{DependencyProvider, Interner};
+use resolvo_clauses::{Literal, VariableOrigin};
+use resolvo_ids::{StoreError, StringId, VariableId};
+use resolvo_pool::{DependencyProvider, Interner};
 use resolvo_store::{AbstractStore, ClauseStore, Command, HelperOrigin, Reply};
-use typed_ids::{StoreError, StringId, VariableId};
-use variables::VariableOrigin;
 
 /// A clause that is added gets the next id, and is known from then on: its id is a place in the list of clauses.
 pub fn add<D: DependencyProvider + Drop>(

@@ -7,11 +7,11 @@ ghost use Rattle.resolvo_store.specs.Solved.{IsSolved};
 ghost use Rattle.resolvo_store.specs.ForbidsTwo.{ForbidsTwo};
 ghost use Rattle.resolvo_store.specs.Sound.{WatchOwn};
 ghost use Rattle.resolvo_store.specs.Store.{values, watched_by};
-ghost use Rattle.watch_map.specs.Watching.{IsExact};
+ghost use Rattle.resolvo_clauses.specs.Watching.{IsExact};
 
-use providers::DependencyProvider;
+use resolvo_ids::{StoreError, VariableId};
+use resolvo_pool::DependencyProvider;
 use resolvo_store::{AbstractStore, ClauseStore, Command, Reply};
-use typed_ids::{StoreError, VariableId};
 
 /// A variable that the store doesn't have has no value.
 pub fn value_of_unknown<D: DependencyProvider + Drop>(

@@ -1,5 +1,5 @@
 use Rattle.std.proofs.Common.{ap}
-use Rattle.decisions.specs.Trail.{val}
+use Rattle.resolvo_clauses.specs.Trail.{val}
 use Rattle.resolvo_store.specs.Command.{reply_of}
 use Rattle.resolvo_store.proofs.CallerLaws.{store_in, undone_to_zero}
 use Rattle.store_callers.proofs.law_callers.start_again.Goals as goal

@@ -3,9 +3,9 @@ ghost use Rattle.std.specs.Prelude.{◌≡◌, not, None, Some, IfOk, OnOk, IfEr
 ghost use Rattle.resolvo_clauses.specs.Trail.{val};
 ghost use Rattle.resolvo_queue.specs.Pick.{DecidesUnbeaten};
 ghost use Rattle.resolvo_store.specs.Outcome.{falsified_clause, offers};
-ghost use Rattle.doors_tests.specs.Search.{IsEnd, IsFault};
+ghost use Rattle.store_callers.specs.Search.{IsEnd, IsFault};
 
-use crate::callers::give;
+use crate::requirement_callers::give;
 use resolvo_ids::{ClauseId, StoreError, VariableId};
 use resolvo_pool::DependencyProvider;
 use resolvo_queue::QueueDecision;

@@ -2,8 +2,8 @@ use Rattle.std.proofs.Common.{subst}
 use Rattle.resolvo_store.specs.Command.{Assign, reply_of}
 use Rattle.resolvo_store.specs.Step.{Step}
 use Rattle.resolvo_store.proofs.CallerLaws.{store_in, assigned_value, clashing_value}
-use Rattle.doors_tests.proofs.AnswerLaws.{one_of_three}
-use Rattle.doors_tests.proofs.callers.give.Goals as goal
+use Rattle.store_callers.proofs.AnswerLaws.{one_of_three}
+use Rattle.store_callers.proofs.requirement_callers.give.Goals as goal
 
 pub returns-in-Assigned-clause-given : goal.returns-in-Assigned-clause-given
 returns-in-Assigned-clause-given g c =

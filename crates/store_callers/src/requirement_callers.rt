@@ -1,4 +1,4 @@
-//! Callers that know nothing of the provider but its traits, and nothing of the store but its contracts.
+//! Callers that load and require, and give variables values.
 ghost use Rattle.std.specs.Prelude.{◌≡◌, ◌==◌, [], ◌∷◌, ◌++◌, false, not, if◌then◌else◌, Some, None, Err, IfOk, OnErr};
 ghost use Rattle.resolvo_ids.specs.Refusals.{code_of};
 ghost use Rattle.resolvo_ids.specs.Types.StoreError.TheVariants.{UnknownId};

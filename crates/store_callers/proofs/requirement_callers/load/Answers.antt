@@ -1,6 +1,6 @@
 use Rattle.resolvo_store.specs.Command.{answer_of}
 use Rattle.resolvo_store.proofs.CallerLaws.{store_in, load_adds_no_clause}
-use Rattle.doors_tests.proofs.callers.load.Goals as goal
+use Rattle.store_callers.proofs.requirement_callers.load.Goals as goal
 
 pub returns-clause-clauses : goal.returns-clause-clauses
 returns-clause-clauses g c =

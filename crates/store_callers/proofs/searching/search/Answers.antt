@@ -2,7 +2,7 @@ use Rattle.std.proofs.Common.{subst}
 use Rattle.resolvo_store.specs.Command.{Decide, reply_of}
 use Rattle.resolvo_store.specs.Step.{Step}
 use Rattle.resolvo_store.proofs.CallerLaws.{store_in, solved}
-use Rattle.doors_tests.proofs.searching.search.Goals as goal
+use Rattle.store_callers.proofs.searching.search.Goals as goal
 
 pub returns-in-NoDecision : goal.returns-in-NoDecision
 returns-in-NoDecision g c =

@@ -4,10 +4,10 @@ use Rattle.resolvo_ids.specs.Types.StoreError.TheVariants.{OutOfMemory}
 use Rattle.resolvo_store.specs.Store.{Store}
 use Rattle.resolvo_store.specs.Solved.{IsSolved}
 use Rattle.resolvo_store.specs.Outcome.{falsified_clause}
-use Rattle.doors_tests.specs.declared.searching.AskFault.{AskFault}
-use Rattle.doors_tests.specs.declared.searching.AskFault.TheVariants as Fault
-use Rattle.doors_tests.specs.declared.searching.SearchEnd.{SearchEnd}
-use Rattle.doors_tests.specs.declared.searching.SearchEnd.TheVariants.{Solved, Falsified, LevelsUsed}
+use Rattle.store_callers.specs.declared.searching.AskFault.{AskFault}
+use Rattle.store_callers.specs.declared.searching.AskFault.TheVariants as Fault
+use Rattle.store_callers.specs.declared.searching.SearchEnd.{SearchEnd}
+use Rattle.store_callers.specs.declared.searching.SearchEnd.TheVariants.{Solved, Falsified, LevelsUsed}
 
 -- what is true of the store at each end
 abbrev pub IsEnd : {N S : Type 0} → Store N S → SearchEnd → Type 0
