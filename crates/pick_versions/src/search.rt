@@ -1,11 +1,9 @@
-//! An example: a resolver's search over the clause store.
+//! A resolver's search over the clause store, for any provider.
 //!
 //! [`Search`] looks for solvables that meet a list of requirements: with each what it needs, nothing that it forbids, and
 //! at most one version of a package. It encodes all that may be picked; then it decides, propagates, and goes back one
 //! level where a clause is false. To stay short it learns nothing, refuses a condition that joins others (`UnknownId`), and
 //! doesn't ask which candidates are locked or excluded.
-#![tactic(auto)]
-
 use resolvo_clauses::{Decision, Literal, VariableOrigin};
 use resolvo_ids::{ClauseId, ConditionId, DenseIndex, StoreError, VariableId, VersionSetId};
 use resolvo_pool::{Condition, ConditionalRequirement as Wanted, Dependencies, DependencyProvider};
@@ -16,7 +14,7 @@ type Result<T> = std::result::Result<T, StoreError>;
 
 /// How a search ends.
 #[derive(Drop)]
-pub enum SearchEnd<S, A: Allocator> {
+pub(crate) enum SearchEnd<S, A: Allocator> {
     /// These solvables meet the requirements.
     Picked(Vec<S, A>),
     /// Nothing meets them.
@@ -27,8 +25,8 @@ pub enum SearchEnd<S, A: Allocator> {
 
 /// A search, which owns its store.
 #[derive(Drop)]
-pub struct Search<D: DependencyProvider> {
-    pub store: ClauseStore<D>,
+pub(crate) struct Search<D: DependencyProvider> {
+    pub(crate) store: ClauseStore<D>,
     /// What may be picked.
     candidates: Vec<(VariableId, D::SolvableId), D::Alloc>,
     /// What was chosen to be true, one variable a level: at level 1 the root, and then candidates.
@@ -38,7 +36,7 @@ pub struct Search<D: DependencyProvider> {
 
 impl<D: DependencyProvider + Drop> Search<D> {
     /// A search over a new store, for which nothing is asked yet.
-    pub fn new(alloc: D::Alloc, store: ClauseStore<D>) -> Self {
+    pub(crate) fn new(alloc: D::Alloc, store: ClauseStore<D>) -> Self {
         Search {
             store,
             candidates: Vec::new(alloc),
@@ -49,7 +47,7 @@ impl<D: DependencyProvider + Drop> Search<D> {
 
     /// Asks for what meets the requirements, once, before the search runs. They are the root's, which is the first choice.
     /// All that may be picked is encoded; what that loads comes last, so that each variable of the store is met here.
-    pub fn begin(&mut self, wanted: &[Wanted]) -> Result<()> {
+    pub(crate) fn begin(&mut self, wanted: &[Wanted]) -> Result<()> {
         self.tell(Command::Root)?;
         self.choose(VariableId::root(), ClauseId::install_root())?;
         self.require_all(VariableId::root(), wanted)?;
@@ -66,7 +64,7 @@ impl<D: DependencyProvider + Drop> Search<D> {
 
     /// Searches on. A step propagates an assignment, decides, or goes back, which rules a choice out while those before it
     /// stand. So it ends, but perhaps after very many steps. After a refusal the search is of no use.
-    pub fn run(&mut self, steps: u64) -> Result<SearchEnd<D::SolvableId, D::Alloc>> {
+    pub(crate) fn run(&mut self, steps: u64) -> Result<SearchEnd<D::SolvableId, D::Alloc>> {
         for _ in 0..steps {
             if self.choices.is_empty() {
                 return Ok(SearchEnd::Unsolvable);
