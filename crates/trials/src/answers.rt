@@ -1,7 +1,7 @@
 //! What stores answer to all commands of a trial, and what they then tell.
 use crate::given::commands_of;
 use crate::obeys::Obeys;
-use crate::played::{IdKind, Play, played};
+use crate::played::{IdKind, Play};
 use crate::trial::Trial;
 use refusing::Refusing;
 use resolvo_store::{Command, Reply};
@@ -149,7 +149,7 @@ impl<N: Debug, S: Debug, A: Allocator + Copy> Play<N, S, A> for Texts<'_, N, S, 
 pub(crate) type Heap<'h> = &'h Refusing<Global>;
 
 /// The texts of a trial's commands, and of the clauses that a store then has.
-pub(crate) fn texts_of<'h, K: IdKind<Heap<'h>>>(
+pub(crate) fn texts_of<'h, K: IdKind>(
     heap: Heap<'h>,
     trial: &Trial<'_>,
 ) -> Result<String<Heap<'h>>, StoreError> {
@@ -158,11 +158,11 @@ pub(crate) fn texts_of<'h, K: IdKind<Heap<'h>>>(
         alloc: heap,
         commands: &commands,
     };
-    played::<K, Heap<'h>, _>(heap, trial, &texts)?
+    K::played(heap, trial, &texts)?
 }
 
 /// What a store with ids of this kind tells.
-pub(crate) fn answers_of<'h, K: IdKind<Heap<'h>>>(
+pub(crate) fn answers_of<'h, K: IdKind>(
     heap: Heap<'h>,
     trial: &Trial<'_>,
     way: Way,
@@ -173,11 +173,11 @@ pub(crate) fn answers_of<'h, K: IdKind<Heap<'h>>>(
         way,
         commands: &commands,
     };
-    played::<K, Heap<'h>, _>(heap, trial, &answers)?
+    K::played(heap, trial, &answers)?
 }
 
 /// Puts what a store with ids of this kind tells after what waits, where it isn't this.
-pub(crate) fn push_unlike_answers<'h, K: IdKind<Heap<'h>>>(
+pub(crate) fn push_unlike_answers<'h, K: IdKind>(
     heading: &str,
     heap: Heap<'h>,
     trial: &Trial<'_>,

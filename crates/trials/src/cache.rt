@@ -12,15 +12,15 @@
 //! A question about what isn't there is answered `unknown`, one that is refused `refused 1`, and one that is stopped `cancelled 7`.
 use crate::answers::{Heap, push_unlike};
 use crate::listed::number_of;
-use crate::played::{DenseIds, provider_of};
+use crate::played::provider_of;
 use crate::trial::Trial;
-use plain_providers::{Counting, Counts, Numbered};
+use plain_providers::{Counting, Counts, Lists, Numbered};
 use providers::{Candidates, Dependencies, DependencyProvider, Interner, Requirement};
 use script_packages::requirement;
 use script_text::{Statement, is_word, next_word};
 use solver_cache::{CacheError, SolverCache};
 use std::alloc::{AllocError, Allocator, Global};
-use typed_ids::{StoreError, VersionSetId, VersionSetUnionId};
+use typed_ids::{NameId, SolvableId, StoreError, VersionSetId, VersionSetUnionId};
 
 /// A question. Packages and solvables are told by their numbers.
 #[derive(Clone, Copy)]
@@ -268,12 +268,31 @@ fn answers_of<T: Asks>(
     Ok((told, is_met, cache.counts()))
 }
 
-/// What a new cache tells over the trial's packages, where the request of this number is refused.
-fn told(alloc: Global, heap: Heap<'_>, trial: &Trial<'_>, number: u64) -> Result<Told, StoreError> {
-    let mut cache = SolverCache::new(heap, provider_of::<DenseIds, _>(heap, trial)?);
-    let told = answers_of(alloc, &mut cache, (heap, number), &trial.commands);
+/// What a new cache tells over a provider.
+fn told_over<
+    D: DependencyProvider<Cancel = u32, NameId: Numbered, SolvableId: Numbered> + Counting + Drop,
+>(
+    alloc: Global,
+    counted: D::Alloc,
+    refused: (Heap<'_>, u64),
+    provider: D,
+    trial: &Trial<'_>,
+) -> Result<Told, StoreError> {
+    let mut cache = SolverCache::new(counted, provider);
+    let told = answers_of(alloc, &mut cache, refused, &trial.commands);
     drop(cache);
     Ok(told?)
+}
+
+/// What a new cache tells over the trial's packages, where the request of this number is refused.
+fn told<'h>(
+    alloc: Global,
+    heap: Heap<'h>,
+    trial: &Trial<'_>,
+    number: u64,
+) -> Result<Told, StoreError> {
+    let provider: Lists<NameId, SolvableId, Heap<'h>> = provider_of(heap, trial)?;
+    told_over(alloc, heap, (heap, number), provider, trial)
 }
 
 /// Puts what a cache tells of a trial after what waits; and where each request is refused in turn, what is answered otherwise then.

@@ -4,7 +4,7 @@ use crate::answers::{Heap, push_replies, push_reply, push_steps, push_unlike};
 use crate::few::{Counts, refused_reply};
 use crate::given::commands_of;
 use crate::obeys::Obeys;
-use crate::played::{IdKind, Play, played};
+use crate::played::{IdKind, Play};
 use crate::trial::Trial;
 use refusing::Refusing;
 use resolvo_store::Command;
@@ -123,7 +123,7 @@ impl<N, S, A: Allocator + Copy> Refused<'_, N, S, A> {
 }
 
 /// What a store with ids of this kind tells of its fate, and whether the request came.
-fn told<'h, K: IdKind<Heap<'h>>>(
+fn told<'h, K: IdKind>(
     heap: Heap<'h>,
     trial: &Trial<'_>,
     fate: Fate,
@@ -137,11 +137,11 @@ fn told<'h, K: IdKind<Heap<'h>>>(
         probes: &probes,
         fate,
     };
-    played::<K, Heap<'h>, _>(heap, trial, &refused)?
+    K::played(heap, trial, &refused)?
 }
 
 /// Refuses each request of a trial in turn, and puts what isn't told alike after what waits.
-pub(crate) fn tell_each<'h, K: IdKind<Heap<'h>>>(
+pub(crate) fn tell_each<'h, K: IdKind>(
     heap: Heap<'h>,
     trial: &Trial<'_>,
     waiting: &mut Vec<u8>,
@@ -159,7 +159,7 @@ pub(crate) fn tell_each<'h, K: IdKind<Heap<'h>>>(
 const ENDLESS: &[u8] = b"too many requests\n";
 
 /// Refuses each request of the command of a place in turn, by steps. Answers whether it has one.
-fn tell_steps<'h, K: IdKind<Heap<'h>>>(
+fn tell_steps<'h, K: IdKind>(
     heap: Heap<'h>,
     trial: &Trial<'_>,
     place: usize,
@@ -183,7 +183,7 @@ fn tell_steps<'h, K: IdKind<Heap<'h>>>(
 }
 
 /// Refuses each request of a run in turn.
-fn tell_runs<'h, K: IdKind<Heap<'h>>>(
+fn tell_runs<'h, K: IdKind>(
     heap: Heap<'h>,
     trial: &Trial<'_>,
     waiting: &mut Vec<u8>,

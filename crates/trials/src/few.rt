@@ -3,7 +3,7 @@
 use crate::answers::{Heap, push_unlike};
 use crate::given::commands_of;
 use crate::obeys::Obeys;
-use crate::played::{IdKind, Play, played};
+use crate::played::{IdKind, Play};
 use crate::trial::Trial;
 use refusing::Refusing;
 use resolvo_store::{Command, Reply};
@@ -173,7 +173,7 @@ fn push_step<N, S, A: Allocator + Copy, T: Obeys<N, S, A>>(
 }
 
 /// Puts what isn't wanted of a trial in such memory after what waits.
-pub(crate) fn tell_few<'h, K: IdKind<Heap<'h>>>(
+pub(crate) fn tell_few<'h, K: IdKind>(
     heap: Heap<'h>,
     trial: &Trial<'_>,
     answers: &str,
@@ -188,7 +188,7 @@ pub(crate) fn tell_few<'h, K: IdKind<Heap<'h>>>(
         said: &trial.commands,
         wanted: answers,
     };
-    let (unlike, refused) = played::<K, Heap<'h>, _>(heap, trial, &few)??;
+    let (unlike, refused) = K::played(heap, trial, &few)??;
     counts.join(refused);
     push_unlike(
         "where requests are refused:\n",

@@ -1,5 +1,5 @@
-//! New stores, and what is done with them. One function names their provider, and owns these stores: the proofs of such functions are
-//! long.
+//! New stores, and what is done with them. One function owns these stores, for ids of any kind: the proofs of such functions are long,
+//! and what is generic in a kind of ids asks no more of it than a number and a text.
 use crate::listed::{listed, manner};
 use crate::obeys::Obeys;
 use crate::trial::Trial;
@@ -7,6 +7,7 @@ use id_maps::SolverId;
 use plain_providers::{Lists, Numbered};
 use resolvo_store::ClauseStore;
 use std::alloc::Allocator;
+use std::fmt::Debug;
 use typed_ids::{NameId, NameTag, SolvableId, SolvableTag, SparseId, StoreError};
 
 /// What is done with a new store.
@@ -17,46 +18,71 @@ pub(crate) trait Play<N, S, A: Allocator> {
     fn play<T: Obeys<N, S, A>>(&self, store: &mut T) -> Self::Told;
 }
 
-/// A kind of ids that stores may have.
-pub(crate) trait IdKind<A: Allocator + Copy> {
-    type Name: SolverId<A> + Numbered;
+/// The provider of a trial.
+pub(crate) fn provider_of<N, S, A: Allocator + Copy>(
+    alloc: A,
+    trial: &Trial<'_>,
+) -> Result<Lists<N, S, A>, StoreError> {
+    let listed = listed(alloc, &trial.catalogue)?;
+    Ok(Lists::new(listed, manner(alloc, trial)?))
+}
 
-    type Solvable: SolverId<A> + Numbered;
+/// What a new store tells over the trial's packages.
+fn played<
+    N: SolverId<A> + Numbered,
+    S: SolverId<A> + Numbered,
+    A: Allocator + Copy,
+    P: Play<N, S, A>,
+>(alloc: A, trial: &Trial<'_>, play: &P) -> Result<P::Told, StoreError> {
+    let provider: Lists<N, S, A> = provider_of(alloc, trial)?;
+    let mut store = ClauseStore::new(alloc, provider)?;
+    let told = play.play(&mut store);
+    drop(store);
+    Ok(told)
+}
+
+/// A kind of ids that stores may have.
+pub(crate) trait IdKind {
+    type Name: Numbered + Debug;
+
+    type Solvable: Numbered + Debug;
+
+    /// What a new store tells over the trial's packages.
+    fn played<A: Allocator + Copy, P: Play<Self::Name, Self::Solvable, A>>(
+        alloc: A,
+        trial: &Trial<'_>,
+        play: &P,
+    ) -> Result<P::Told, StoreError>;
 }
 
 pub(crate) struct DenseIds;
 
 pub(crate) struct SparseIds;
 
-impl<A: Allocator + Copy> IdKind<A> for DenseIds {
+impl IdKind for DenseIds {
     type Name = NameId;
 
     type Solvable = SolvableId;
+
+    fn played<A: Allocator + Copy, P: Play<NameId, SolvableId, A>>(
+        alloc: A,
+        trial: &Trial<'_>,
+        play: &P,
+    ) -> Result<P::Told, StoreError> {
+        played(alloc, trial, play)
+    }
 }
 
-impl<A: Allocator + Copy> IdKind<A> for SparseIds {
+impl IdKind for SparseIds {
     type Name = SparseId<NameTag>;
 
     type Solvable = SparseId<SolvableTag>;
-}
 
-/// The provider of a trial, by ids of this kind.
-pub(crate) fn provider_of<K: IdKind<A>, A: Allocator + Copy>(
-    alloc: A,
-    trial: &Trial<'_>,
-) -> Result<Lists<K::Name, K::Solvable, A>, StoreError> {
-    let listed = listed(alloc, &trial.catalogue)?;
-    Ok(Lists::new(listed, manner(alloc, trial)?))
-}
-
-/// What a new store tells over the trial's packages.
-pub(crate) fn played<K: IdKind<A>, A: Allocator + Copy, P: Play<K::Name, K::Solvable, A>>(
-    alloc: A,
-    trial: &Trial<'_>,
-    play: &P,
-) -> Result<P::Told, StoreError> {
-    let mut store = ClauseStore::new(alloc, provider_of::<K, A>(alloc, trial)?)?;
-    let told = play.play(&mut store);
-    drop(store);
-    Ok(told)
+    fn played<A: Allocator + Copy, P: Play<SparseId<NameTag>, SparseId<SolvableTag>, A>>(
+        alloc: A,
+        trial: &Trial<'_>,
+        play: &P,
+    ) -> Result<P::Told, StoreError> {
+        played(alloc, trial, play)
+    }
 }

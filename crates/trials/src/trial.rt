@@ -146,7 +146,7 @@ fn push_answer(
     ended
 }
 
-fn push_texts<'h, K: IdKind<Heap<'h>>>(
+fn push_texts<'h, K: IdKind>(
     heap: Heap<'h>,
     trial: &Trial<'_>,
     waiting: &mut Vec<u8>,
@@ -157,7 +157,7 @@ fn push_texts<'h, K: IdKind<Heap<'h>>>(
 }
 
 /// Plays the trial in all its ways, and puts what they tell after what waits: of the others what the first one didn't tell.
-fn push_told<'h, K: IdKind<Heap<'h>>, L: IdKind<Heap<'h>>>(
+fn push_told<'h, K: IdKind, L: IdKind>(
     heap: Heap<'h>,
     trial: &Trial<'_>,
     waiting: &mut Vec<u8>,
@@ -170,7 +170,7 @@ fn push_told<'h, K: IdKind<Heap<'h>>, L: IdKind<Heap<'h>>>(
     ended
 }
 
-fn push_others<'h, K: IdKind<Heap<'h>>, L: IdKind<Heap<'h>>>(
+fn push_others<'h, K: IdKind, L: IdKind>(
     heap: Heap<'h>,
     trial: &Trial<'_>,
     answers: &str,
