@@ -8,12 +8,15 @@
 //!
 //! `specs/Cache` is what a cache is, as plain lists; `specs/Questions` is what each question leaves, answered or refused.
 //! `cache` has the type, and in `cache/` are the questions, a file for each kind: `asking` those to the provider, `filtering`
-//! `sorting` those about version sets and requirements; `reading` shows what is kept. `kept_lists` keeps lists by keys, and
-//! `hints` marks the solvables whose dependencies are at hand.
+//! `sorting` those about version sets and requirements; `reading` shows what is kept. `candidates` asks the provider for a package's
+//! candidates, and `favored` puts the favored one first among others; `kept_lists` keeps lists by keys, and `hints` marks the
+//! solvables whose dependencies are at hand.
 #![tactic(auto)]
 
 mod cache;
+mod candidates;
 mod error;
+mod favored;
 mod hints;
 mod kept_lists;
 mod list_id;

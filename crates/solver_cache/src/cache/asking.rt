@@ -3,10 +3,10 @@ ghost use Rattle.std.specs.Map.{lookup};
 ghost use Rattle.std.specs.Prelude.{◌≡◌, true, false, map, slice_get, Some, IsOk, IfOk, OnOk, OnErr, IfErr};
 
 use super::SolverCache;
+use crate::candidates::candidates_of;
 use crate::error::CacheError;
 use crate::hints::mark_hints;
 use crate::provider_functions::ProviderFunctions;
-use candidates::candidates_of;
 use id_maps::{IdMap, IdSet, SolverId};
 use providers::{Candidates, DependencyProvider, Interner};
 use typed_ids::{CandidatesId, DependenciesId};

@@ -6,9 +6,9 @@ ghost use Rattle.providers.specs.Provider.{favored_first};
 
 use super::SolverCache;
 use crate::error::CacheError;
+use crate::favored::put_favored_first;
 use crate::list_id::{ListId, ListKind};
 use crate::provider_functions::ProviderFunctions;
-use candidates::put_favored_first;
 use id_maps::{IdMap, IdSet, SolverId};
 use providers::{DependencyProvider, Interner, Requirement};
 use typed_ids::{StoreError, VersionSetId, VersionSetUnionId};

@@ -1,7 +1,7 @@
 use Rattle.std.proofs.Common.{◌∙◌, ap, sym}
 use Rattle.providers.specs.Provider.{favored_first}
-use Rattle.candidates.proofs.FavoredLemmas.{brought_forward}
-use Rattle.candidates.proofs.favored.put_favored_first.Goals as goal
+use Rattle.solver_cache.proofs.FavoredLemmas.{brought_forward}
+use Rattle.solver_cache.proofs.favored.put_favored_first.Goals as goal
 
 pub returns-in-Some-place_of : goal.returns-in-Some-place_of
 returns-in-Some-place_of g c =

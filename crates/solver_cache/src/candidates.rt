@@ -20,7 +20,7 @@ fn answered<S, A: Allocator + Copy>(alloc: A, found: Option<Candidates<S, A>>) -
 }
 
 /// The provider's answer for a package; one that there isn't has no candidates.
-pub fn candidates_of<D: DependencyProvider>(
+pub(crate) fn candidates_of<D: DependencyProvider>(
     provider: &D,
     alloc: D::Alloc,
     name: D::NameId,

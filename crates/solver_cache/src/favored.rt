@@ -7,7 +7,7 @@ use typed_ids::SameId;
 
 /// Moves the favored one, where it is among the solvables, from its first place to the front. The others keep their
 /// order.
-pub fn put_favored_first<S: SameId>(solvables: &mut [S], favored: Option<S>)
+pub(crate) fn put_favored_first<S: SameId>(solvables: &mut [S], favored: Option<S>)
     ensures { solvables.new ≡ favored_first S.eq favored solvables.old }
 {
     let Some(favored) = favored else {
