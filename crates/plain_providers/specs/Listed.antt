@@ -87,7 +87,7 @@ module _ {N S : Type 0} where
     solvable = λ s. let p = package_at packages (number s) in encode_utf8 (letter p.name) ++ (codes " " ++ decimal p.version);
     name = λ n. encode_utf8 (letter (name_number n));
     version_set = λ v. range_text (range_at ranges v);
-    string = λ s. codes "text";
+    string = λ s. codes "old";
   }
 
   -- what the lists answer

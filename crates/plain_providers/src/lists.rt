@@ -17,7 +17,7 @@ use std::marker::PhantomData;
 use typed_ids::{ConditionId, StoreError, StringId, VersionSetId, VersionSetUnionId};
 
 /// Packages, version sets and unions in lists, with names `N` and solvables `S`. The later a package comes, the better. There
-/// is one string, and a condition for each version set, that it is met. The name of a package is written as a letter, `a` that of
+/// is one string, `old`, and a condition for each version set, that it is met. The name of a package is written as a letter, `a` that of
 /// number 0; a version set whose versions have no end has no text.
 #[derive(Drop)]
 pub struct Lists<N, S, A: Allocator> {
@@ -153,7 +153,7 @@ impl<N: SolverId<A> + Numbered, S: SolverId<A> + Numbered, A: Allocator + Copy> 
     }
 
     fn display_string(&self, _string: StringId, out: &mut String<A>) -> Result<(), StoreError> {
-        append(out, "text")
+        append(out, "old")
     }
 
     fn display_solvable_name(&self, solvable: S, out: &mut String<A>) -> Result<(), StoreError> {

@@ -1,4 +1,5 @@
-//! Tests of the pool, of requirements and of their maps, of conditions (`condition_calls`) and of texts (`catalogue`).
+//! Tests of the pool, of requirements and of their maps, of conditions (`condition_calls`) and of texts (`catalogue`),
+//! those of helper variables among them (`variables_shown`).
 //! The callers that they run are in `pool_callers`.
 #![tactic(auto)]
 
@@ -16,3 +17,5 @@ mod pool;
 mod shown;
 #[cfg(test)]
 mod texts;
+#[cfg(test)]
+mod variables_shown;

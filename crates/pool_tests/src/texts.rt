@@ -2,8 +2,9 @@
 ghost use Rattle.std.specs.Prelude.{◌≡◌, true, All};
 ghost use Rattle.providers.specs.Provider.{knows_requirement, knows_key};
 
+use plain_providers::{Listed, Lists, Manner, VersionRange};
 use providers::{Interner, Requirement, RootText};
-use std::alloc::Allocator;
+use std::alloc::{Allocator, Global};
 use std::test::Fail;
 use test_checks::is_same;
 use typed_ids::{
@@ -11,7 +12,7 @@ use typed_ids::{
 };
 
 /// Nothing was refused, and what was written is this text.
-fn is_written<A: Allocator>(
+pub(crate) fn is_written<A: Allocator>(
     out: String<A>,
     ended: Result<(), StoreError>,
     text: &str,
@@ -70,12 +71,40 @@ pub(crate) fn shows_requirements<I: Interner>(heap: I::Alloc, interner: &I) -> R
     if !interner.knows_version_set(set) || !interner.knows_union(union) {
         return Err(Fail::new("a requirement isn't known"));
     }
-    shows_requirement(heap, interner, Requirement::Single(set), "needs p >=1, <2")?;
+    shows_requirement(heap, interner, Requirement::Single(set), "needs a >=1, <2")?;
     shows_requirement(
         heap,
         interner,
         Requirement::Union(union),
-        "needs p >=1, <2 | p >=3, <4",
+        "needs a >=1, <2 | a >=3, <4",
     )?;
     shows_key(heap, interner, SolvableIdOrRoot::Root, "root")
+}
+
+/// The text of a version set whose own text is empty is that of its package.
+#[test]
+fn a_set_without_a_text_is_named_by_its_package(rt: HostRuntime) -> Result<(), Fail> {
+    let any_version = VersionRange {
+        name: 0,
+        low: 0,
+        high: u32::MAX,
+    };
+    let listed = Listed {
+        packages: Vec::new(rt.alloc()),
+        ranges: vec![in rt.alloc(); any_version]?,
+        unions: Vec::new(rt.alloc()),
+        favored: None,
+    };
+    let lists: Lists<NameId, SolvableId, Global> = Lists::new(listed, Manner::plain());
+    let ended = shows_first(rt.alloc(), &lists, "needs a");
+    drop(lists);
+    ended
+}
+
+fn shows_first<I: Interner>(heap: I::Alloc, interner: &I, text: &str) -> Result<(), Fail> {
+    let set = VersionSetId(0);
+    if !interner.knows_version_set(set) {
+        return Err(Fail::new("the version set isn't known"));
+    }
+    shows_requirement(heap, interner, Requirement::Single(set), text)
 }
