@@ -4,3 +4,4 @@ pub mod CallerLaws
 mod EncodeLaws
 mod GridLaws
 mod Places
+pub mod TrackerLaws

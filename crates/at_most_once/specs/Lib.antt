@@ -1,2 +1,3 @@
 pub mod AtMostOne
+pub mod NameTrackers
 pub mod TrackerView

@@ -21,8 +21,13 @@
 //!
 //! The definitions are in `specs/AtMostOne`: what an addition appends, and, by `HelpersEncode` and `ClausesAreCounted`, what
 //! all clauses say together and how many they are.
+//!
+//! `tracker` is one tracker, and `name_trackers` has one for each name of a package. The words of the latter's contracts are in
+//! `specs/NameTrackers`: what is tracked is a function from names to trackers.
 #![tactic(auto)]
 
+mod name_trackers;
 mod tracker;
 
+pub use name_trackers::NameTrackers;
 pub use tracker::AtMostOnceTracker;

@@ -6,7 +6,7 @@ use Rattle.decisions.specs.LiteralIndex.{literal_index}
 use Rattle.providers.specs.Provider.{Universe, knows_requirement}
 use Rattle.providers.specs.Texts.{Texts, requirement_text}
 use Rattle.variables.specs.declared.variable_origin.VariableOrigin.{VariableOrigin}
-use Rattle.variable_info.specs.VariableTexts.{knows_variable, variable_text}
+use Rattle.variables.specs.VariableTexts.{knows_variable, variable_text}
 use Rattle.clauses.specs.declared.clause.Clause.{Clause}
 use Rattle.clauses.specs.declared.clause.Clause.TheVariants.{InstallRoot, Requires, ForbidMultipleInstances, Constrains, ConstrainsExcluded, ConstrainsParent, Lock, Learnt, Excluded, AnyOf}
 

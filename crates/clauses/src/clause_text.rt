@@ -5,7 +5,7 @@ ghost use Rattle.decisions.specs.Literals.{variable_of};
 ghost use Rattle.decisions.specs.LiteralIndex.{literal_index};
 ghost use Rattle.providers.specs.Provider.{knows_requirement};
 ghost use Rattle.providers.specs.Texts.{IsAppended, IsSameText};
-ghost use Rattle.variable_info.specs.VariableTexts.{knows_variable};
+ghost use Rattle.variables.specs.VariableTexts.{knows_variable};
 ghost use Rattle.clauses.specs.declared.clause.Clause.TheVariants.{Requires, ForbidMultipleInstances, Excluded};
 ghost use Rattle.clauses.specs.ClauseTexts.{IsKnownClause, clause_text, numbered_variable, numbered_literal, condition_text, of_two, of_three};
 
@@ -15,8 +15,7 @@ use id_maps::SolverId;
 use providers::{Interner, Requirement};
 use std::alloc::Allocator;
 use typed_ids::{DenseIndex, DisjunctionId, StoreError, StringId, VariableId, VersionSetId};
-use variable_info::VariableInfo;
-use variables::VariableMap;
+use variables::{VariableInfo, VariableMap};
 
 impl<N> Clause<N> {
     /// Appends the clause's text: its kind, and in brackets what it is made of. An id's number in it is that of its
@@ -102,7 +101,7 @@ impl<I: Interner> Shown<'_, I> {
         let mut text = String::new(self.alloc);
         requirement.display(self.interner, &mut text)?;
         let condition = text_of_condition(disjunction, self.alloc)?;
-        of_three(self.alloc, "Requires", &parent, &text, &condition)
+        of_three(self.alloc, "Requires", parent, text, condition)
     }
 
     fn forbid_multiple(
@@ -122,7 +121,7 @@ impl<I: Interner> Shown<'_, I> {
         let mut text = String::new(self.alloc);
         self.interner.display_name(name, &mut text)?;
         let kind = "ForbidMultipleInstances";
-        of_three(self.alloc, kind, &candidate, &literal, &text)
+        of_three(self.alloc, kind, candidate, literal, text)
     }
 
     fn excluded(
@@ -138,7 +137,7 @@ impl<I: Interner> Shown<'_, I> {
         let candidate = self.variable(candidate)?;
         let mut text = String::new(self.alloc);
         self.interner.display_string(reason, &mut text)?;
-        of_two(self.alloc, "Excluded", &candidate, &text)
+        of_two(self.alloc, "Excluded", candidate, text)
     }
 
     /// The kind, and in brackets two variables.
@@ -156,7 +155,7 @@ impl<I: Interner> Shown<'_, I> {
     {
         let first = self.variable(first)?;
         let second = self.variable(second)?;
-        of_two(self.alloc, kind, &first, &second)
+        of_two(self.alloc, kind, first, second)
     }
 
     /// The kind, and in brackets two variables and a version set.
@@ -178,7 +177,7 @@ impl<I: Interner> Shown<'_, I> {
         let second = self.variable(second)?;
         let mut text = String::new(self.alloc);
         self.interner.display_version_set(set, &mut text)?;
-        of_three(self.alloc, kind, &first, &second, &text)
+        of_three(self.alloc, kind, first, second, text)
     }
 
     /// The variable's text, and its id's.
@@ -207,28 +206,28 @@ impl<I: Interner> Shown<'_, I> {
     }
 }
 
-/// The kind, and in brackets two parts.
+/// The kind, and in brackets two parts, which it takes.
 fn of_two<A: Allocator + Copy>(
     alloc: A,
     kind: &str,
-    first: &str,
-    second: &str,
+    first: String<A>,
+    second: String<A>,
 ) -> Result<String<A>, StoreError>
-    ensures ok { IfOk result (λ text. string_bytes text ≡ of_two kind.now first.now second.now) }
+    ensures ok { IfOk result (λ text. string_bytes text ≡ of_two kind.now (string_bytes first) (string_bytes second)) }
     ensures err { IfErr result (λ e. e ≡ OutOfMemory) }
 {
     Ok(format!(in alloc; "{kind}({first}, {second})")?)
 }
 
-/// The kind, and in brackets three parts.
+/// The kind, and in brackets three parts, which it takes.
 fn of_three<A: Allocator + Copy>(
     alloc: A,
     kind: &str,
-    first: &str,
-    second: &str,
-    third: &str,
+    first: String<A>,
+    second: String<A>,
+    third: String<A>,
 ) -> Result<String<A>, StoreError>
-    ensures ok { IfOk result (λ text. string_bytes text ≡ of_three kind.now first.now second.now third.now) }
+    ensures ok { IfOk result (λ text. string_bytes text ≡ of_three kind.now (string_bytes first) (string_bytes second) (string_bytes third)) }
     ensures err { IfErr result (λ e. e ≡ OutOfMemory) }
 {
     Ok(format!(in alloc; "{kind}({first}, {second}, {third})")?)

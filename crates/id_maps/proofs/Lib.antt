@@ -1,3 +1,4 @@
 pub mod Changed
 pub mod IndexedSetLemmas
 pub mod Largest
+mod ScoreLaws

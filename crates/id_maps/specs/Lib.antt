@@ -1,2 +1,3 @@
 pub mod FewIds
 pub mod IndexedSet
+pub mod Scores

@@ -1,3 +1,4 @@
 pub mod Arena
+pub mod KeptAnswers
 pub mod Mapping
 pub mod MappingLends

@@ -1,20 +1,25 @@
 //! Storage that is kept by ids: lists of values ([`Arena`]), finite maps ([`Mapping`]), and maps of whose values only
-//! copies are handed out ([`FrozenCopyMap`]).
+//! copies are handed out ([`FrozenCopyMap`]); and the answers to questions about ids ([`KeptAnswers`]).
 //!
 //! `arena` and `mapping` are for dense ids, and lie in vectors; the walks through them, [`ArenaIter`] and
 //! [`MappingIter`], are in files of their own. `frozen_copy_map` is for keys of any type, and is a hashed table. The words
 //! of their contracts are in `specs/Arena` and `specs/Mapping`; `specs/MappingLends` says what a map ends as where a
 //! `&mut` to a value of it was handed out.
+//!
+//! `kept_answers` is for ids of any kind: what a cache keeps of one kind of question, each of which is asked once. The words of its
+//! contracts are `lookup` and `keys_of` of std, and `lacks_answer` in `specs/KeptAnswers`, which says when no further answer can be kept.
 #![tactic(auto)]
 
 mod arena;
 mod arena_iter;
 mod frozen_copy_map;
+mod kept_answers;
 mod mapping;
 mod mapping_iter;
 
 pub use arena::Arena;
 pub use arena_iter::ArenaIter;
 pub use frozen_copy_map::FrozenCopyMap;
+pub use kept_answers::KeptAnswers;
 pub use mapping::Mapping;
 pub use mapping_iter::MappingIter;

@@ -1,6 +1,7 @@
 //! An example: a program that picks versions, by a search over the clause store (`search`). It reads indexes from standard input, in
-//! the format of `small_index` and with an empty line between one and the next. For each it prints who asks, the name of its first line, and what that line asks for: a line for each version that is picked, or `none`; or
-//! which of its lines is unreadable. The first line's own version isn't picked.
+//! the format of `small_index` and with an empty line between one and the next. For each it prints who asks, the name of its first
+//! line, and what that line asks for: a line for each version that is picked, or `none`; or which of its lines is unreadable. The
+//! first line's own version isn't picked.
 #![tactic(auto)]
 
 mod search;

@@ -1,4 +1,7 @@
+pub mod ConditionLaws
+mod DeferredLaws
 pub mod EntryLemmas
+mod ExpansionLaws
 pub mod GatherLemmas
 pub mod JoinLemmas
 pub mod MergedLemmas

@@ -1,4 +1,7 @@
+pub mod Conditions
+pub mod Deferred
 pub mod Dependencies
+pub mod Expansion
 pub mod Parts
 pub mod Provider
 pub mod Requirement

@@ -8,7 +8,7 @@ pub use Rattle.decisions.specs.Tracker
 pub use Rattle.decisions.specs.Trail
 pub use Rattle.variables.specs.Forgetting
 pub use Rattle.variables.specs.Variables
-pub use Rattle.variable_info.specs.VariableTexts
+pub use Rattle.variables.specs.VariableTexts
 pub use Rattle.clauses.specs.Clauses
 pub use Rattle.clauses.specs.ClauseTexts
 pub use Rattle.clauses.specs.Stored

@@ -1,10 +1,9 @@
-//! Variables, literals, clauses, their watch lists and the trail of decisions: the door to six rooms.
+//! Variables, literals, clauses, their watch lists and the trail of decisions: the door to five rooms.
 //!
 //! | room | what it holds |
 //! |---|---|
 //! | `decisions` | literals, decisions, and the trail of decisions |
-//! | `variables` | what each variable stands for, and the variables of solvables |
-//! | `variable_info` | the literals of a variable, what it stands for, and its text |
+//! | `variables` | what each variable stands for, the variables of solvables; the literals of a variable, and its text |
 //! | `clauses` | the kinds of clauses, and their literals |
 //! | `at_most_once` | clauses by which at most one of several variables is true |
 //! | `watch_map` | the two literals that a clause watches, for each literal the clauses that watch it, and a walk over them |
@@ -16,6 +15,5 @@
 pub use at_most_once::AtMostOnceTracker;
 pub use clauses::{Clause, Disjunction};
 pub use decisions::{AddFault, Decision, DecisionMap, DecisionTracker, Literal};
-pub use variable_info::VariableInfo;
-pub use variables::{VariableMap, VariableOrigin};
+pub use variables::{VariableInfo, VariableMap, VariableOrigin};
 pub use watch_map::{WatchMap, WatchMapCursor, WatchedLiterals};

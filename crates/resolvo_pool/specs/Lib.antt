@@ -7,8 +7,8 @@ pub use Rattle.providers.specs.Requirement
 pub use Rattle.providers.specs.RequirementMap
 pub use Rattle.providers.specs.RequirementMapLends
 pub use Rattle.providers.specs.Texts
-pub use Rattle.conditions.specs.Conditions
-pub use Rattle.conditions.specs.Deferred
+pub use Rattle.providers.specs.Conditions
+pub use Rattle.providers.specs.Deferred
 pub use Rattle.package_pool.specs.Interned
 pub use Rattle.package_pool.specs.Pool
 pub use Rattle.package_pool.specs.PoolIds

@@ -9,8 +9,8 @@ pub use Rattle.providers.specs.declared.dependencies.KnownDependencies
 pub use Rattle.providers.specs.declared.requirement.Requirement
 pub use Rattle.providers.specs.declared.requirement_map.RequirementMap
 pub use Rattle.providers.specs.declared.version_sets.VersionSets
-pub use Rattle.conditions.specs.declared.deferred.DeferredConjunct
-pub use Rattle.conditions.specs.declared.deferred.DeferredRequirement
+pub use Rattle.providers.specs.declared.deferred.DeferredConjunct
+pub use Rattle.providers.specs.declared.deferred.DeferredRequirement
 pub use Rattle.package_pool.specs.declared.pool.Pool
 pub use Rattle.package_pool.specs.declared.solvable.Solvable
 pub use Rattle.solver_cache.specs.declared.error.CacheError

@@ -1,9 +1,8 @@
-//! Packages, as a resolver asks for them: the door to four rooms.
+//! Packages, as a resolver asks for them: the door to three rooms.
 //!
 //! | room | what it holds |
 //! |---|---|
-//! | `providers` | requirements and conditions, the traits of interner and provider, and the texts of ids |
-//! | `conditions` | conditions in their normal form, and requirements that wait for theirs |
+//! | `providers` | requirements and conditions, with their normal form; the traits of interner and provider; the texts of ids |
 //! | `package_pool` | the pool, where an ecosystem keeps what its ids stand for |
 //! | `solver_cache` | the cache, by which a resolver asks each question once |
 //!
@@ -11,13 +10,11 @@
 //! with its ghost members, as `Rattle.resolvo_pool.specs.Types.NAME`.
 #![tactic(auto)]
 
-pub use conditions::{
-    DeferredConjunct, DeferredRequirement, condition_disjunct_holds, convert_conditions_to_dnf,
-};
 pub use package_pool::{NameText, Pool, Solvable, VersionSet};
 pub use providers::{
-    Candidates, Condition, ConditionalRequirement, Dependencies, DependencyProvider,
-    HintDependenciesAvailable, Interner, KnownDependencies, LogicalOperator, Requirement,
-    RequirementMap, RootText, VersionSets,
+    Candidates, Condition, ConditionalRequirement, DeferredConjunct, DeferredRequirement,
+    Dependencies, DependencyProvider, HintDependenciesAvailable, Interner, KnownDependencies,
+    LogicalOperator, Requirement, RequirementMap, RootText, VersionSets, condition_disjunct_holds,
+    convert_conditions_to_dnf,
 };
 pub use solver_cache::{CacheError, ListId, ProviderFunctions, SolverCache};

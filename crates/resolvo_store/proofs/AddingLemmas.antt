@@ -15,7 +15,7 @@ use Rattle.clauses.specs.Clauses.{first_watches, is_conflict, watch_ends}
 use Rattle.clauses.specs.declared.clause.Clause.{Clause}
 use Rattle.clauses.specs.declared.clause.Clause.TheVariants as Kind
 use Rattle.watch_map.specs.Watching.{is_literal_in}
-use Rattle.clause_list.specs.ClauseList.{Clauses, two_or_none, with_clause as pushed, with_learnt as learnt_one}
+use Rattle.watch_map.specs.ClauseList.{Clauses, two_or_none, with_clause as pushed, with_learnt as learnt_one}
 use Rattle.resolvo_store.specs.declared.reply.Reply.{Reply as ProgramReply}
 use Rattle.resolvo_store.specs.Command.{Command, Disjunction, Learnt, Requires, Bump, Rewatch, Watchers, Reply, ClauseIs, Done, WatchersAre, Refused, IsRefused, reply_of, answer_of}
 use Rattle.resolvo_store.specs.Store.{Store, Provider, Kept, store_of, values, kept_literals, clause_literals, watched_by, lists_of}

@@ -22,7 +22,7 @@ use Rattle.clauses.specs.declared.clause.Clause.{Clause}
 use Rattle.clauses.specs.declared.clause.Clause.TheVariants as Kind
 use Rattle.clauses.specs.Clauses.{first_watches}
 use Rattle.watch_map.specs.Watching.{is_literal_in}
-use Rattle.clause_list.specs.ClauseList.{Clauses, two_or_none, can_rewatch, with_clause as list_added, with_learnt as learnt_one, with_rewatched as list_rewatched, with_forbidden}
+use Rattle.watch_map.specs.ClauseList.{Clauses, two_or_none, can_rewatch, with_clause as list_added, with_learnt as learnt_one, with_rewatched as list_rewatched, with_forbidden}
 use Rattle.clauses.specs.declared.disjunction.Disjunction.{Disjunction}
 use Rattle.resolvo_queue.specs.declared.requires_clause.RequiresClause.{RequiresClause}
 use Rattle.resolvo_queue.specs.Queue.{Queue, IsNew, SameClauses, SameSync, IsUnchanged, IsRegistered, HasTrail, OnlyHotScore, StandsOn}
@@ -34,8 +34,8 @@ use Rattle.resolvo_store.proofs.SyncedLemmas.{in_step-new, in_step-pushed, in_st
 use Rattle.resolvo_store.specs.Sound.{IsSound, IsPlain}
 use Rattle.resolvo_store.specs.Store.{Store, Provider, Kept, store_of, values, lists_of, kept_literals, clause_literals, watched_by}
 use Rattle.at_most_once.specs.AtMostOne.{Tracker, BitClause, is_tracked}
-use Rattle.name_trackers.specs.NameTrackers.{with_tracked as trackers_with}
-use Rattle.scores.specs.Scores.{bumped, decayed}
+use Rattle.at_most_once.specs.NameTrackers.{with_tracked as trackers_with}
+use Rattle.id_maps.specs.Scores.{bumped, decayed}
 use Rattle.resolvo_store.specs.Tracking.{forbidding, origins_with, is_helper_among}
 use Rattle.resolvo_store.specs.Outcome.{adds_clause, with_clause, with_learnt, helper_for, tracking, with_bits, with_tracked, with_bumped}
 use Rattle.resolvo_store.proofs.TrackedLaws.{IsSound-tracked}

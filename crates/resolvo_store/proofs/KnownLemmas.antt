@@ -11,7 +11,7 @@ use Rattle.providers.specs.Provider.{Universe, matching, sorted, favored_first, 
 use Rattle.variables.specs.declared.variable_origin.VariableOrigin.{VariableOrigin}
 use Rattle.variables.specs.declared.variable_origin.VariableOrigin.TheVariants.{Solvable}
 use Rattle.variables.specs.Variables.{variable_of_solvable, with_variable, with_variables}
-use Rattle.variable_info.specs.VariableTexts.{knows_origin}
+use Rattle.variables.specs.VariableTexts.{knows_origin}
 use Rattle.clauses.specs.ClauseTexts.{IsKnown, IsKnownClause}
 use Rattle.clauses.specs.declared.clause.Clause.{Clause}
 use Rattle.clauses.specs.declared.clause.Clause.TheVariants as Kind

@@ -19,7 +19,7 @@ use Rattle.resolvo_store.specs.Outcome.{Outcome, outcome, load, hands_next, adds
 use Rattle.resolvo_store.specs.Step.{IsAnswered, Step, Run}
 use Rattle.at_most_once.specs.AtMostOne as tracking_of
 use Rattle.at_most_once.specs.AtMostOne.{BitClause, is_tracked}
-use Rattle.scores.specs.Scores.{bumped, decayed}
+use Rattle.id_maps.specs.Scores.{bumped, decayed}
 use Rattle.resolvo_store.specs.Tracking.{is_helper_among, forbidding}
 use Rattle.resolvo_store.specs.Sound.{IsSound, IsLoaded, IsRegistered, IsAssigned, HasOneVariableEach}
 use Rattle.resolvo_store.proofs.AddingLemmas.{both, failed, disjunction_known}

@@ -28,8 +28,8 @@ use Rattle.resolvo_store.specs.declared.helper_origin.HelperOrigin.TheVariants a
 use Rattle.decisions.specs.Literals.{Lit}
 use Rattle.clauses.specs.Clauses.{literals_of, learnt_literals, first_watches}
 use Rattle.watch_map.specs.Watching.{is_literal_in, IsExact, started}
-use Rattle.clause_list.specs.ClauseList.{two_or_none, rewatched}
-use Rattle.clause_list.proofs.CallerLaws.{watched_at, watching_within, exact_pushed, exact_rewatched}
+use Rattle.watch_map.specs.ClauseList.{two_or_none, rewatched}
+use Rattle.watch_map.proofs.ListCallerLaws.{watched_at, watching_within, exact_pushed, exact_rewatched}
 use Rattle.clauses.specs.ClauseTexts.{IsKnownClause}
 use Rattle.clauses.specs.declared.clause.Clause.{Clause}
 use Rattle.clauses.specs.declared.clause.Clause.TheVariants as Kind

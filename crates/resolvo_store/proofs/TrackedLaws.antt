@@ -10,7 +10,7 @@ use Rattle.variables.specs.declared.variable_origin.VariableOrigin.{VariableOrig
 use Rattle.variables.specs.declared.variable_origin.VariableOrigin.TheVariants.{ForbidMultiple}
 use Rattle.clauses.specs.ClauseTexts.{IsKnownClause}
 use Rattle.at_most_once.specs.AtMostOne.{Tracker, BitClause, more, IsAllowed, IsFresh, is_tracked, is_full, has_bit, helper_clauses, variable_clauses, new_clauses, with_new, with_variable}
-use Rattle.name_trackers.specs.NameTrackers.{with_tracked as trackers_with}
+use Rattle.at_most_once.specs.NameTrackers.{with_tracked as trackers_with}
 use Rattle.resolvo_store.specs.Store.{Store, bits}
 use Rattle.resolvo_store.specs.Tracking.{is_helper_among, forbidding, origins_with, bits_of, IsTracking}
 use Rattle.resolvo_store.specs.Outcome.{adds_clause, helper_for, with_bits, with_tracked}

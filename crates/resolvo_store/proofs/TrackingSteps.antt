@@ -5,7 +5,7 @@ use Rattle.typed_ids.specs.Refusals.{IsGrowthRefusal}
 use Rattle.typed_ids.specs.declared.error.StoreError.{StoreError}
 use Rattle.typed_ids.specs.declared.error.StoreError.TheVariants.{OutOfMemory, IdSpace, UnknownId}
 use Rattle.at_most_once.specs.AtMostOne.{is_tracked}
-use Rattle.name_trackers.specs.NameTrackers.{lacks_tracker}
+use Rattle.at_most_once.specs.NameTrackers.{lacks_tracker}
 use Rattle.resolvo_store.specs.declared.reply.Reply.{Reply as ProgramReply}
 use Rattle.resolvo_store.specs.Command.{Command, AtMostOnce, Reply, TrackedAs, Refused, reply_of, answer_of}
 use Rattle.resolvo_store.specs.Store.{Store}

@@ -17,8 +17,8 @@ use Rattle.clauses.specs.Laws.{AreTwoOf}
 use Rattle.clauses.proofs.CallerLaws.{first_watches_are_two}
 use Rattle.watch_map.specs.Watching.{is_literal_in, AreTwoOrNone}
 use Rattle.watch_map.proofs.WatchingLaws.{same_is, same_self, same_swap, differ}
-use Rattle.clause_list.specs.ClauseList.{two_or_none, rewatched}
-use Rattle.clause_list.proofs.CallerLaws.{set_watches}
+use Rattle.watch_map.specs.ClauseList.{two_or_none, rewatched}
+use Rattle.watch_map.proofs.ListCallerLaws.{set_watches}
 
 -- ---- first watches
 

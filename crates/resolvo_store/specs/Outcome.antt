@@ -13,10 +13,10 @@ use Rattle.clauses.specs.declared.clause.Clause.{Clause}
 use Rattle.clauses.specs.declared.clause.Clause.TheVariants as Kind
 use Rattle.clauses.specs.Clauses.{first_watches, is_conflict}
 use Rattle.at_most_once.specs.AtMostOne.{BitClause, is_tracked, new_clauses}
-use Rattle.name_trackers.specs.NameTrackers.{with_tracked as trackers_with}
-use Rattle.scores.specs.Scores.{bumped, decayed}
+use Rattle.at_most_once.specs.NameTrackers.{with_tracked as trackers_with}
+use Rattle.id_maps.specs.Scores.{bumped, decayed}
 use Rattle.watch_map.specs.Watching.{started, moved}
-use Rattle.clause_list.specs.ClauseList.{two_or_none, rewatched}
+use Rattle.watch_map.specs.ClauseList.{two_or_none, rewatched}
 use Rattle.resolvo_store.specs.declared.helper_origin.HelperOrigin.{HelperOrigin}
 use Rattle.resolvo_store.specs.declared.helper_origin.HelperOrigin.TheVariants as Helps
 use Rattle.resolvo_queue.specs.declared.requires_clause.RequiresClause.{RequiresClause}

@@ -6,7 +6,7 @@ use Rattle.providers.specs.Requirement.{same_requirement}
 use Rattle.providers.specs.Provider.{sets_of}
 use Rattle.variables.specs.declared.variable_origin.VariableOrigin.TheVariants.{Solvable}
 use Rattle.variables.specs.Variables.{IsRootFirst, variable_of_solvable}
-use Rattle.variable_info.specs.VariableTexts.{knows_origin}
+use Rattle.variables.specs.VariableTexts.{knows_origin}
 use Rattle.decisions.specs.Literals.{Lit}
 use Rattle.decisions.specs.Trail.{Entry, IsTrail}
 use Rattle.clauses.specs.declared.clause.Clause.{Clause}

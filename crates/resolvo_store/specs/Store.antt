@@ -12,7 +12,7 @@ use Rattle.decisions.specs.Trail.{Entry, val}
 use Rattle.clauses.specs.Clauses.{Kept as KeptLiterals, literals_of, condition_literals}
 use Rattle.clauses.specs.declared.clause.Clause.{Clause}
 use Rattle.at_most_once.specs.AtMostOne.{Tracker, BitClause, Kept as KeptTracker, empty}
-use Rattle.name_trackers.specs.NameTrackers.{tracker_of}
+use Rattle.at_most_once.specs.NameTrackers.{tracker_of}
 use Rattle.resolvo_store.specs.Tracking.{bits_of}
 use Rattle.watch_map.specs.WatchLists.{WatchLists, Watches, literals_in, watchers}
 use Rattle.resolvo_queue.specs.declared.requires_clause.RequiresClause.{RequiresClause}

@@ -8,7 +8,7 @@ use Rattle.decisions.specs.Literals.{Pos, Neg}
 use Rattle.clauses.specs.declared.clause.Clause.{Clause}
 use Rattle.clauses.specs.declared.clause.Clause.TheVariants.{ForbidMultipleInstances}
 use Rattle.at_most_once.specs.AtMostOne.{Tracker, BitClause, Adds, needs_helper}
-use Rattle.clause_list.specs.ClauseList.{helper_literal}
+use Rattle.watch_map.specs.ClauseList.{helper_literal}
 
 -- it stands for a helper of tracked variables
 abbrev pub is_helper_origin : {N S : Type 0} → VariableOrigin N S → Bool

@@ -35,19 +35,18 @@ mod watching;
 use crate::abstract_store::AbstractStore;
 use crate::command::Command;
 use crate::reply::Reply;
-use clause_list::ClauseList;
+use at_most_once::NameTrackers;
 use clauses::{Clause, Disjunction};
 use decisions::DecisionTracker;
-use id_maps::{IdMap, IdSet, SolverId};
+use id_maps::{IdMap, IdSet, Scores, SolverId};
 use id_storage::Arena;
-use name_trackers::NameTrackers;
 use providers::{DependencyProvider, RequirementMap};
 use resolvo_queue::DecideQueue;
-use scores::Scores;
 use solver_cache::SolverCache;
 use std::marker::Model;
 use typed_ids::{DisjunctionId, StoreError, VariableId};
 use variables::VariableMap;
+use watch_map::ClauseList;
 
 /// A clause store over the packages of a provider.
 ///

@@ -6,7 +6,7 @@ use Rattle.typed_ids.specs.Refusals.{IsGrowthRefusal}
 use Rattle.typed_ids.specs.declared.error.StoreError.{StoreError}
 use Rattle.typed_ids.specs.declared.error.StoreError.TheVariants as Refusal
 use Rattle.typed_ids.specs.declared.version_set_id.VersionSetId.{VersionSetId}
-use Rattle.kept_answers.specs.KeptAnswers.{lacks_answer}
+use Rattle.id_storage.specs.KeptAnswers.{lacks_answer}
 use Rattle.providers.specs.Dependencies.{needs_of}
 use Rattle.providers.specs.Provider.{matching, non_matching, sorted}
 use Rattle.providers.specs.Requirement.{same_requirement}

@@ -9,7 +9,7 @@ mod sorting;
 use crate::kept_lists::KeptLists;
 use crate::provider_functions::ProviderFunctions;
 use id_maps::{IdMap, IdSet, SolverId};
-use kept_answers::KeptAnswers;
+use id_storage::KeptAnswers;
 use providers::{Candidates, Dependencies, DependencyProvider, Interner, Requirement};
 use std::marker::Model;
 use typed_ids::{CandidatesId, DependenciesId, VersionSetId};

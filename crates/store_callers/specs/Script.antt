@@ -3,7 +3,6 @@
 use Rattle.std.specs.Prelude.{ℕ, Bool, true, false, ◌==◌, ◌&&◌, ◌||◌, if◌then◌else◌, nat_lt, nat_le, List, [], ◌∷◌, map, length, filter, fold, Option, Some, None, unwrap_or, option_map, slice_get}
 use Rattle.std.specs.List.{enumerate_from}
 use Rattle.resolvo_ids.specs.Types.VersionSetId.{VersionSetId}
-use Rattle.resolvo_pool.specs.Types.Condition.{Condition}
 use Rattle.resolvo_pool.specs.Types.Condition.TheVariants.{Requirement}
 use Rattle.resolvo_pool.specs.Dependencies.{Known}
 use Rattle.resolvo_store.specs.Store.{Provider}
@@ -25,10 +24,6 @@ pub record Packages : Type 0 where
   pub unions : List (List ℕ)
   -- how many strings there are
   pub strings : ℕ
-
--- the condition of this number: the version set of this number is met
-abbrev pub set_condition : ℕ → Condition
-set_condition n = Requirement (record { 0 = n })
 
 module _ (c : Packages) where
   -- the solvables of a name, by number
@@ -73,7 +68,7 @@ module _ (c : Packages) where
       solvable_name = λ s. unwrap_or (option_map (λ x. x.name) (slice_get c.solvables s)) 0;
       set_name = λ v. unwrap_or (option_map (λ r. r.name) (slice_get c.sets v.0)) 0;
       union_sets = λ u. map set_of (unwrap_or (slice_get c.unions u.0) []);
-      condition = λ x. set_condition x;
+      condition = λ x. Requirement (record { 0 = x });
     };
     answers = record {
       candidates = named;

@@ -3,10 +3,10 @@ use crate::given::commands_of;
 use crate::obeys::Obeys;
 use crate::played::{IdKind, Play};
 use crate::trial::Trial;
-use refusing::Refusing;
 use resolvo_store::{Command, Reply};
 use std::alloc::{AllocError, Allocator, Global};
 use std::fmt::Debug;
+use test_support::Refusing;
 use typed_ids::{ClauseId, DenseIndex, StoreError};
 
 /// How a store is given commands.

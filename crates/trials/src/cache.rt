@@ -14,12 +14,12 @@ use crate::answers::{Heap, push_unlike};
 use crate::listed::number_of;
 use crate::played::provider_of;
 use crate::trial::Trial;
-use plain_providers::{Counting, Counts, Lists, Numbered};
 use providers::{Candidates, Dependencies, DependencyProvider, Interner, Requirement};
 use script_packages::requirement;
 use script_text::{Statement, is_word, next_word};
 use solver_cache::{CacheError, SolverCache};
 use std::alloc::{AllocError, Allocator, Global};
+use test_support::{Counting, Counts, Lists, Numbered};
 use typed_ids::{NameId, SolvableId, StoreError, VersionSetId, VersionSetUnionId};
 
 /// A question. Packages and solvables are told by their numbers.

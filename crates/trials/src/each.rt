@@ -6,9 +6,9 @@ use crate::given::commands_of;
 use crate::obeys::Obeys;
 use crate::played::{IdKind, Play};
 use crate::trial::Trial;
-use refusing::Refusing;
 use resolvo_store::Command;
 use std::alloc::{AllocError, Allocator, Global};
+use test_support::Refusing;
 use typed_ids::StoreError;
 
 /// What happens to a store.

@@ -5,10 +5,10 @@ use crate::given::commands_of;
 use crate::obeys::Obeys;
 use crate::played::{IdKind, Play};
 use crate::trial::Trial;
-use refusing::Refusing;
 use resolvo_store::{Command, Reply};
 use script_text::{Statement, is_word};
 use std::alloc::{AllocError, Allocator, Global};
+use test_support::Refusing;
 use typed_ids::StoreError;
 
 /// The commands to which a request is to be refused somewhere: that to others comes too seldom.

@@ -1,9 +1,9 @@
 //! Commands by the ids that a store has.
-use plain_providers::Numbered;
 use resolvo_store::{Command, HelperOrigin};
 use script_text::{LineFault, Statement};
 use scripts::command;
 use std::alloc::Allocator;
+use test_support::Numbered;
 use typed_ids::{NameId, SolvableId, StoreError};
 
 /// The commands that the statements give, in order.

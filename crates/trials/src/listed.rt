@@ -8,9 +8,9 @@
 ghost use Rattle.std.specs.Prelude.{◌≤◌, ◌^◌, length, IfOk};
 
 use crate::trial::Trial;
-use plain_providers::{Hint, Listed, Listing, Manner, Package, VersionRange};
 use script_text::{Statement, is_word, next_word, number};
 use std::alloc::Allocator;
+use test_support::{Hint, Listed, Listing, Manner, Package, VersionRange};
 use typed_ids::{StoreError, VersionSetId};
 
 /// The packages, version sets and unions.

@@ -2,7 +2,7 @@
 //! played, and below it a script whose names are numbers. What is printed is, under the same line, what a store answered; and where a way
 //! of playing it told something else, that too.
 //!
-//! A store counts what its provider is asked, and its provider may stop it (`plain_providers`). Each trial is played by steps and in
+//! A store counts what its provider is asked, and its provider may stop it (`test_support`). Each trial is played by steps and in
 //! one run, by dense ids and by sparse ones. The ways are
 //!
 //! | word | what is done besides |

@@ -1,11 +1,11 @@
 //! What trials ask of a store. What they share is generic in it, since a proof over a type parameter is much shorter than one over the
 //! store's own type.
 use decisions::Literal;
-use plain_providers::{Counting, Counts};
 use providers::{DependencyProvider, Interner};
 use resolvo_queue::QueueDecision;
 use resolvo_store::{ClauseStore, Command, Reply};
 use std::alloc::Allocator;
+use test_support::{Counting, Counts};
 use typed_ids::{ClauseId, StoreError};
 
 /// A store over a provider with names `N` and solvables `S`, which counts what it is asked.

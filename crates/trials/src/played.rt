@@ -4,10 +4,10 @@ use crate::listed::{listed, manner};
 use crate::obeys::Obeys;
 use crate::trial::Trial;
 use id_maps::SolverId;
-use plain_providers::{Lists, Numbered};
 use resolvo_store::ClauseStore;
 use std::alloc::Allocator;
 use std::fmt::Debug;
+use test_support::{Lists, Numbered};
 use typed_ids::{NameId, NameTag, SolvableId, SolvableTag, SparseId, StoreError};
 
 /// What is done with a new store.

@@ -4,10 +4,9 @@ use crate::cache::push_asked;
 use crate::each::tell_each;
 use crate::few::{Counts, tell_few};
 use crate::played::{DenseIds, IdKind, SparseIds};
-use plain_providers::Stops;
-use refusing::Refusing;
 use script_text::{Line, Statement, is_word, next_statement, next_word};
 use std::alloc::Global;
+use test_support::{Refusing, Stops};
 use typed_ids::StoreError;
 
 /// A trial: what stands behind the first word of its first line, what its catalogue lists, and its commands.

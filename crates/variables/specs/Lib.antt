@@ -1,2 +1,3 @@
 pub mod Forgetting
+pub mod VariableTexts
 pub mod Variables

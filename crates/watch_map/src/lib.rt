@@ -1,4 +1,4 @@
-//! Watch lists: for each literal the clauses that watch it.
+//! Watch lists: for each literal the clauses that watch it; and the list of all clauses of a store, which keeps them.
 //!
 //! While neither of its two watches is false, nothing follows from a clause. So when a literal becomes false, a search
 //! visits the clauses that watch it, and no others: it walks the literal's watch list, and lets each clause that finds
@@ -42,13 +42,20 @@
 //! map, records and cursor show in `specs/WatchLists`; and what the calls promise in `specs/WatchCalls`. A caller looks at
 //! no more of `watchers`, `HasRoom` and `AreWatched` than their field `exact` and the laws in `specs/Laws`: then it doesn't
 //! depend on how the lists are kept.
+//!
+//! [`ClauseList`], in `clause_list`, is such a caller, with its walks in `walks`: the list of all clauses of a store, each with what
+//! it watches, the clauses that watch each literal, and the literals of the learnt ones. A clause's id is its place in the list. What
+//! the calls make of the list is said in `specs/ClauseList`.
 #![tactic(auto)]
 
+mod clause_list;
 mod cursor;
 mod lists;
 mod nodes;
+mod walks;
 mod watched_literals;
 
+pub use clause_list::ClauseList;
 pub use cursor::WatchMapCursor;
 pub use lists::WatchMap;
 pub use watched_literals::WatchedLiterals;

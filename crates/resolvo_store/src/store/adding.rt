@@ -5,7 +5,7 @@ ghost use Rattle.typed_ids.specs.Refusals.{IsGrowthRefusal};
 ghost use Rattle.decisions.specs.Trail.{val};
 ghost use Rattle.clauses.specs.Clauses.{Kept, first_watches, is_conflict};
 ghost use Rattle.watch_map.specs.Watching.{AreTwoOrNone};
-ghost use Rattle.clause_list.specs.ClauseList.{contents, literals_watched, two_or_none, is_full, is_learnt_full, with_clause, with_learnt};
+ghost use Rattle.watch_map.specs.ClauseList.{contents, literals_watched, two_or_none, is_full, is_learnt_full, with_clause, with_learnt};
 ghost use Rattle.resolvo_store.specs.Adding.{is_direct, names_known};
 ghost use Rattle.resolvo_store.specs.Command.{ClauseIs, reply_of};
 ghost use Rattle.resolvo_store.specs.Refusals.{is_bad_learnt};
@@ -14,13 +14,12 @@ use crate::abstract_store::AbstractStore;
 use crate::reply::Reply;
 use crate::store::ClauseStore;
 use crate::store::known::{are_below, knows_literals};
-use clause_list::ClauseList;
 use clauses::Clause;
 use decisions::{DecisionTracker, Literal};
 use providers::{DependencyProvider, Interner};
 use std::alloc::Allocator;
 use typed_ids::{DenseIndex, StoreError, VariableId};
-use watch_map::WatchedLiterals;
+use watch_map::{ClauseList, WatchedLiterals};
 
 impl<D: DependencyProvider + Drop> ClauseStore<D> {
     ghost use Rattle.resolvo_store.specs.Adding.{adding};

@@ -14,7 +14,7 @@ ghost use Rattle.clauses.specs.declared.clause.Clause.TheVariants as Kind;
 ghost use Rattle.watch_map.specs.Watching.{AreTwoOrNone, is_literal_in};
 ghost use Rattle.resolvo_queue.specs.Queue.{IsRegistered, IsUnchanged, StandsOn};
 ghost use Rattle.resolvo_queue.specs.References.{Lists, references};
-ghost use Rattle.clause_list.specs.ClauseList.{contents, literals_watched, two_or_none, is_full, with_clause};
+ghost use Rattle.watch_map.specs.ClauseList.{contents, literals_watched, two_or_none, is_full, with_clause};
 ghost use Rattle.resolvo_store.specs.Command.{DisjunctionIs, ClauseIs, reply_of};
 ghost use Rattle.resolvo_store.specs.Lists.{lists_kept, disjunctions_kept, IsOneMore};
 
@@ -23,7 +23,6 @@ use crate::reply::Reply;
 use crate::store::ClauseStore;
 use crate::store::known::{knows_parts, knows_requirement, knows_variable};
 use crate::store::loading::lists;
-use clause_list::ClauseList;
 use clauses::{Clause, Disjunction};
 use decisions::{DecisionTracker, Literal};
 use id_storage::Arena;
@@ -34,7 +33,7 @@ use typed_ids::{
     ClauseId, ConditionId, DenseIndex, DisjunctionId, StoreError, VariableId, VersionSetId,
 };
 use variables::{VariableLists, VariableMap};
-use watch_map::WatchedLiterals;
+use watch_map::{ClauseList, WatchedLiterals};
 
 impl<D: DependencyProvider + Drop> ClauseStore<D> {
     ghost use Rattle.resolvo_store.specs.Command.{Disjunction as KeepDisjunction, Requires, answer_of, IsRefused};

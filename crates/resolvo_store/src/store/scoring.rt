@@ -3,7 +3,7 @@ ghost use Rattle.std.specs.Prelude.{◌≡◌, true, Err, IsTrue, IfOk, OnOk, On
 ghost use Rattle.typed_ids.specs.Refusals.{IsGrowthRefusal};
 ghost use Rattle.typed_ids.specs.TotalMaps.{IsUpdate, SameValues};
 ghost use Rattle.typed_ids.specs.declared.error.StoreError.TheVariants.{IdSpace};
-ghost use Rattle.scores.specs.Scores.{bumped};
+ghost use Rattle.id_maps.specs.Scores.{bumped};
 ghost use Rattle.resolvo_queue.specs.Queue.{SameClauses, SameSync, StandsOn};
 ghost use Rattle.resolvo_queue.specs.References.{References};
 ghost use Rattle.resolvo_store.specs.Command.{Done, reply_of};
@@ -11,10 +11,9 @@ ghost use Rattle.resolvo_store.specs.Command.{Done, reply_of};
 use crate::abstract_store::AbstractStore;
 use crate::reply::Reply;
 use crate::store::ClauseStore;
-use id_maps::{IdMap, IdSet, SolverId};
+use id_maps::{IdMap, IdSet, Scores, SolverId};
 use providers::{DependencyProvider, Interner};
 use resolvo_queue::DecideQueue;
-use scores::Scores;
 use typed_ids::StoreError;
 
 impl<D: DependencyProvider + Drop> ClauseStore<D> {

@@ -4,8 +4,8 @@ ghost use Rattle.typed_ids.specs.Refusals.{IsGrowthRefusal};
 ghost use Rattle.typed_ids.specs.declared.error.StoreError.TheVariants.{IdSpace, OutOfMemory};
 ghost use Rattle.variables.specs.Variables.{are_variables_out};
 ghost use Rattle.at_most_once.specs.AtMostOne.{is_tracked, new_clauses};
-ghost use Rattle.name_trackers.specs.NameTrackers.{tracker_of, with_tracked, lacks_tracker};
-ghost use Rattle.clause_list.specs.ClauseList.{contents, with_forbidden, are_ids_out_for};
+ghost use Rattle.at_most_once.specs.NameTrackers.{tracker_of, with_tracked, lacks_tracker};
+ghost use Rattle.watch_map.specs.ClauseList.{contents, with_forbidden, are_ids_out_for};
 ghost use Rattle.resolvo_store.specs.Command.{TrackedAs, reply_of};
 ghost use Rattle.resolvo_store.specs.Tracking.{next_helper, origins_with, lacks_more, is_helper_among};
 
@@ -13,13 +13,13 @@ use crate::abstract_store::AbstractStore;
 use crate::reply::Reply;
 use crate::store::ClauseStore;
 use crate::store::known::knows_variable;
-use clause_list::ClauseList;
+use at_most_once::NameTrackers;
 use id_maps::{IdMap, SolverId};
-use name_trackers::NameTrackers;
 use providers::{DependencyProvider, Interner};
 use std::alloc::Allocator;
 use typed_ids::{DenseIndex, StoreError, VariableId};
 use variables::{VariableMap, VariableOrigin};
+use watch_map::ClauseList;
 
 impl<D: DependencyProvider + Drop> ClauseStore<D> {
     ghost use Rattle.resolvo_store.specs.Command.{AtMostOnce, answer_of, IsRefused};

@@ -3,14 +3,13 @@ ghost use Rattle.std.specs.Prelude.{◌≡◌, ◌&&◌, [], length, nat_lt, opt
 ghost use Rattle.decisions.specs.Literals.{variable_of};
 ghost use Rattle.clauses.specs.Clauses.{literals_of, same_literal};
 ghost use Rattle.clauses.specs.Stored.{kept_in};
-ghost use Rattle.clause_list.specs.ClauseList.{contents};
+ghost use Rattle.watch_map.specs.ClauseList.{contents};
 ghost use Rattle.watch_map.specs.Watching.{is_literal_in};
 
 use crate::abstract_store::AbstractStore;
 use crate::reply::Reply;
 use crate::store::ClauseStore;
 use crate::store::known::{are_below, knows_variable};
-use clause_list::ClauseList;
 use clauses::Disjunction;
 use decisions::Literal;
 use id_maps::SolverId;
@@ -19,6 +18,7 @@ use providers::{DependencyProvider, RequirementMap};
 use std::alloc::Allocator;
 use typed_ids::{ClauseId, DenseIndex, DisjunctionId, StoreError};
 use variables::{VariableLists, VariableMap};
+use watch_map::ClauseList;
 
 impl<D: DependencyProvider + Drop> ClauseStore<D> {
     ghost use Rattle.resolvo_store.specs.Command.{Rewatch, Watchers, answer_of, reply_of, IsRefused};

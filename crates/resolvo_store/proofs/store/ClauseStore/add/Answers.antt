@@ -1,5 +1,5 @@
 use Rattle.std.proofs.Common.{◌≡◌, ◌∙◌, true, sym, subst}
-use Rattle.clause_list.specs.ClauseList.{contents, literals_watched}
+use Rattle.watch_map.specs.ClauseList.{contents, literals_watched}
 use Rattle.resolvo_store.specs.Adding.{names_known}
 use Rattle.resolvo_store.specs.Store.{Provider, gathered, kept_literals, values}
 use Rattle.resolvo_store.proofs.CallerLaws.{store_in}

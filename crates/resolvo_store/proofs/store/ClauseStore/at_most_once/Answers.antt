@@ -2,8 +2,8 @@ use Rattle.std.proofs.lemmas.Grind.{common_steps}
 use Rattle.std.proofs.Common.{◌≡◌, ◌<◌, ◌∙◌, sym, subst, length, true, arith}
 use Rattle.std.specs.Prelude.{◌&&◌, not, nat_lt}
 use Rattle.std.proofs.lemmas.Bool.Decides.{nat_tests}
-use Rattle.clause_list.specs.ClauseList.{contents}
-use Rattle.name_trackers.specs.NameTrackers.{tracker_of}
+use Rattle.watch_map.specs.ClauseList.{contents}
+use Rattle.at_most_once.specs.NameTrackers.{tracker_of}
 use Rattle.resolvo_store.specs.Command.{AtMostOnce, answer_of}
 use Rattle.resolvo_store.specs.Step.{Step}
 use Rattle.resolvo_store.specs.Store.{Store, Kept, Provider, store_of, gathered}

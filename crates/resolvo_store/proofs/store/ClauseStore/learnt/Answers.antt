@@ -2,7 +2,7 @@ use Rattle.std.proofs.Common.{◌≡◌, ◌∙◌, sym, subst, true}
 use Rattle.std.specs.List.{list_all}
 use Rattle.std.specs.Prelude.{nat_lt}
 use Rattle.decisions.specs.Literals.{variable_of}
-use Rattle.clause_list.specs.ClauseList.{contents}
+use Rattle.watch_map.specs.ClauseList.{contents}
 use Rattle.resolvo_store.specs.Store.{Provider, gathered}
 use Rattle.resolvo_store.proofs.CallerLaws.{store_in}
 use Rattle.resolvo_store.proofs.AddingLemmas.{step_learnt, first_of_learnt, not_empty}

@@ -1,5 +1,5 @@
 use Rattle.std.proofs.Common.{rules, refl, subst, sym, []}
-use Rattle.clause_list.specs.ClauseList.{Clauses}
+use Rattle.watch_map.specs.ClauseList.{Clauses}
 use Rattle.resolvo_store.specs.Lists.{lists_kept, disjunctions_kept, IsConsistent}
 use Rattle.resolvo_store.specs.Sound.{IsSound}
 use Rattle.resolvo_store.specs.Store.{Kept, Provider, store_of, gathered}

@@ -4,7 +4,7 @@ use Rattle.std.specs.Prelude.{OnOk, map, ◌&&◌, nat_le, nat_lt}
 use Rattle.std.specs.Option.{option_map_or}
 use Rattle.typed_ids.specs.declared.error.StoreError.TheVariants.{UnknownId, NotLoaded, NegatesParent, TooManyClauses}
 use Rattle.std.proofs.lemmas.Bool.Decides.{nat_tests}
-use Rattle.clause_list.specs.ClauseList.{contents, literals_watched}
+use Rattle.watch_map.specs.ClauseList.{contents, literals_watched}
 use Rattle.decisions.specs.Literals.{Neg}
 use Rattle.decisions.specs.Trail.{val}
 use Rattle.providers.specs.Provider.{knows_requirement, sets_of}

@@ -2,7 +2,7 @@ use Rattle.std.proofs.Common.{◌∙◌, refl, sym, subst, ap, []}
 use Rattle.std.specs.Prelude.{option_map, slice_get, unwrap_or}
 use Rattle.clauses.specs.Clauses.{Kept as KeptLiterals, literals_of}
 use Rattle.watch_map.specs.Watching.{is_literal_in}
-use Rattle.clause_list.specs.ClauseList.{Clauses, contents}
+use Rattle.watch_map.specs.ClauseList.{Clauses, contents}
 use Rattle.typed_ids.specs.declared.error.StoreError.TheVariants.{BadWatch}
 use Rattle.resolvo_store.specs.Command.{Rewatch, Done, Refused}
 use Rattle.resolvo_store.specs.Step.{Step}

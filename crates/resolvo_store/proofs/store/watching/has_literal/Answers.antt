@@ -2,7 +2,7 @@ use Rattle.std.proofs.Common.{◌≡◌, ◌∙◌, sym, ap, rules, Some, slice_
 use Rattle.std.specs.Prelude.{find, is_some, unwrap_or}
 use Rattle.clauses.specs.Clauses.{literals_of, same_literal}
 use Rattle.clauses.specs.Stored.{kept_in}
-use Rattle.clause_list.specs.ClauseList.{contents}
+use Rattle.watch_map.specs.ClauseList.{contents}
 use Rattle.watch_map.specs.Watching.{is_literal_in}
 use Rattle.resolvo_store.proofs.WatchLaws.{found_any}
 use Rattle.resolvo_store.proofs.store.watching.has_literal.Goals as goal

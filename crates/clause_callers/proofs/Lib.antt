@@ -1,3 +1,0 @@
-mod TrackedLemmas
-pub mod TruthLaws
-mod WalkLaws

@@ -1,2 +1,0 @@
-pub mod CallerLaws
-mod ListLaws

@@ -1,9 +1,0 @@
-use Rattle.std.proofs.Common.{◌≡◌, ◌-◌, length, take}
-use Rattle.clause_list.specs.ClauseList.{contents, with_forbidden, HasRoomFor}
-use Rattle.clause_list.proofs.clause_list.ClauseList.push_forbidden_reserved.Given as goal
-
-abbrev pub invariant-loop-clause : goal.invariant-loop-clause
-invariant-loop-clause g l = record {
-  added : contents l.self ≡ with_forbidden l.name (contents l.fn.self) (take l.clause-index l.clauses);
-  room : HasRoomFor (length l.clauses - l.clause-index) l.clauses l.self;
-}

@@ -1,3 +1,0 @@
-pub mod ClauseList
-pub mod ClauseListView
-pub mod Walks

@@ -1,3 +1,0 @@
-pub mod ConditionLaws
-mod DeferredLaws
-mod ExpansionLaws

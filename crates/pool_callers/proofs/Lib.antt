@@ -1,2 +1,0 @@
-pub mod FirstStays
-pub mod NewEachTime

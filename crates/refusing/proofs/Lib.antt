@@ -1,4 +1,0 @@
-mod Asks
-mod Exits
-mod Fields
-mod Steps

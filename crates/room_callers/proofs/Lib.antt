@@ -1,0 +1,5 @@
+pub mod FirstStays
+pub mod NewEachTime
+mod TrackedLemmas
+pub mod TruthLaws
+mod WalkLaws

@@ -1,0 +1,25 @@
+use Rattle.std.proofs.Common.{refl}
+use Rattle.room_callers.proofs.computed.examples.Goals as goal
+
+pub returns : goal.returns
+returns c = record {
+  required_open = (refl, refl);
+  required_next = (refl, refl);
+  required_conflict = (refl, refl);
+  required_met = (refl, refl);
+  conditional_open = (refl, refl);
+  conditional_literals = refl;
+  constrains_open = (refl, refl);
+  constrains_conflict = (refl, refl);
+  constrains_met = (refl, refl);
+  parent_conflict = (refl, refl);
+  parent_met = (refl, refl);
+  excluded_watches = (refl, refl);
+  lock_literals = refl;
+  lock_watches = (refl, refl);
+  learnt_watches = (refl, refl);
+  first_replaced = refl;
+  second_replaced = refl;
+  none_left = refl;
+  binary_has_none = refl;
+}

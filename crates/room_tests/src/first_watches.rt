@@ -1,0 +1,128 @@
+//! What clauses watch at first, and whether they are conflicts, as variables get values.
+use clauses::Clause;
+use decisions::{Decision, DecisionTracker, Literal};
+use providers::Requirement;
+use std::alloc::Allocator;
+use std::test::Fail;
+use test_support::is_same;
+use typed_ids::{ClauseId, DenseIndex, VariableId, VersionSetId};
+use watch_map::WatchedLiterals;
+
+/// What a new clause watches, and whether it is a conflict.
+type New = (Option<[Literal; 2]>, bool);
+
+fn variable(index: u16) -> VariableId {
+    VariableId::from_index(usize::from(index))
+}
+
+fn plus(index: u16) -> Literal {
+    Literal::new(variable(index), false)
+}
+
+fn minus(index: u16) -> Literal {
+    Literal::new(variable(index), true)
+}
+
+fn watching(second: Literal, conflict: bool) -> New {
+    (Some([minus(1), second]), conflict)
+}
+
+fn seen((watches, conflict, _): (Option<WatchedLiterals>, bool, Clause<u32>)) -> New {
+    let literals = match watches {
+        Some(watches) => Some(watches.watched_literals),
+        None => None,
+    };
+    (literals, conflict)
+}
+
+/// Decisions that are made one after the other.
+const DECISIONS: [(u16, bool); 3] = [(2, false), (3, false), (1, false)];
+
+#[test]
+fn a_clause_that_requires_watches_what_is_not_false(rt: HostRuntime) -> Result<(), Fail> {
+    let wanted = [
+        watching(plus(2), false),
+        watching(plus(3), false),
+        watching(plus(2), true),
+        watching(plus(2), false),
+    ];
+    is_same(seen_between(rt.alloc(), &Kind::Requires, DECISIONS), wanted)
+}
+
+#[test]
+fn a_clause_that_constrains_watches_both(rt: HostRuntime) -> Result<(), Fail> {
+    let wanted = [
+        watching(minus(2), false),
+        watching(minus(2), true),
+        watching(minus(2), false),
+        watching(minus(2), false),
+    ];
+    let decisions = [(2, true), (1, false), (3, true)];
+    is_same(
+        seen_between(rt.alloc(), &Kind::Constrains, decisions),
+        wanted,
+    )
+}
+
+/// A clause of variable 1: that it requires 2 or 3, or that it forbids 2.
+enum Kind {
+    Requires,
+    Constrains,
+}
+
+/// What is seen of a new clause of the kind before and after each decision.
+fn seen_between<A: Allocator + Copy>(
+    alloc: A,
+    kind: &Kind,
+    decisions: [(u16, bool); 3],
+) -> [New; 4] {
+    let mut tracker = DecisionTracker::new(alloc);
+    let seen = seen_by(&mut tracker, kind, decisions);
+    drop(tracker);
+    seen
+}
+
+fn seen_by<A: Allocator + Copy>(
+    tracker: &mut DecisionTracker<A>,
+    kind: &Kind,
+    [first, second, third]: [(u16, bool); 3],
+) -> [New; 4] {
+    [
+        made(tracker, kind),
+        decided(tracker, kind, first),
+        decided(tracker, kind, second),
+        decided(tracker, kind, third),
+    ]
+}
+
+fn decided<A: Allocator + Copy>(
+    tracker: &mut DecisionTracker<A>,
+    kind: &Kind,
+    (index, value): (u16, bool),
+) -> New {
+    let decision = Decision::new(variable(index), value, ClauseId::from_index(0));
+    match tracker.try_add_decision(decision, 1) {
+        Ok(_) => made(tracker, kind),
+        Err(_) => (None, false),
+    }
+}
+
+fn made<A: Allocator + Copy>(tracker: &DecisionTracker<A>, kind: &Kind) -> New {
+    let (first, second) = (variable(1), variable(2));
+    match kind {
+        Kind::Requires => seen(WatchedLiterals::requires_clause::<u32, A>(
+            first,
+            Requirement::Single(VersionSetId(0)),
+            &[second, variable(3)],
+            None,
+            &[],
+            tracker,
+        )),
+        Kind::Constrains => seen(WatchedLiterals::constrains::<u32, A>(
+            first,
+            second,
+            VersionSetId(0),
+            tracker,
+        )),
+    }
+}

@@ -1,0 +1,5 @@
+mod Asks
+mod Exits
+mod Fields
+pub mod ListedLemmas
+mod Steps

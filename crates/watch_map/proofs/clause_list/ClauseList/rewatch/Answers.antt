@@ -1,0 +1,56 @@
+use Rattle.std.proofs.lemmas.Grind.{common_steps}
+use Rattle.std.proofs.Common.{◌≡◌, sym, subst, map, List, length, arith}
+use Rattle.std.specs.Prelude.{OnOk, OnErr, IsTrue}
+use Rattle.decisions.specs.Literals.{Lit}
+use Rattle.watch_map.specs.WatchLists.{AreWatched}
+use Rattle.watch_map.specs.WatchCalls.{SameLists}
+use Rattle.watch_map.specs.ClauseList.{IsClauseList, Kept, contents, with_rewatched}
+use Rattle.watch_map.specs.Walks.{IsRewatched, may_rewatch}
+use Rattle.watch_map.proofs.ListLaws.{contents_of, after_rewatch, ok_rewatch, err_rewatch, whole}
+use Rattle.watch_map.proofs.clause_list.ClauseList.rewatch.Goals as goal
+
+pub invariant_of-self : goal.invariant_of-self
+invariant_of-self g c =
+    let inside = c.self.inside in
+    let ws = inside.watches.items in
+    let ws' = c.rewatch.new.watches in
+    let new = c.rewatch.new.map in
+    let learnt : List (List Lit) = map (λ v. v.items) inside.learnt in
+    let all = whole inside.watches.len ws' ws inside.watches.ok.0 (subst (λ rs. length ws' ≡ length rs) c.as_mut_slice.ensures.value c.rewatch.auto.watches) in
+    let ok = subst (λ rs. OnOk c.rewatch.result (IsRewatched inside.map rs c.args.id c.args.from c.args.to new ws')) c.as_mut_slice.ensures.value c.rewatch.ensures.ok in
+    let err = subst (λ rs. OnErr c.rewatch.result (SameLists inside.map new × (ws' ≡ rs))) c.as_mut_slice.ensures.value c.rewatch.ensures.err in
+    subst (λ rs. IsClauseList (contents_of inside.clauses.items rs learnt new) × AreWatched new rs) (sym all)
+    (after_rewatch c.rewatch.result inside.clauses.items learnt ws ws' inside.map new c.args.id c.args.from c.args.to c.self.invariant.1 c.self.invariant.0 ok err)
+
+pub returns-clause-ok : goal.returns-clause-ok
+returns-clause-ok g c =
+    let inside = c.self.inside in
+    let ws = inside.watches.items in
+    let ws' = c.rewatch.new.watches in
+    let new = c.rewatch.new.map in
+    let learnt : List (List Lit) = map (λ v. v.items) inside.learnt in
+    let all = whole inside.watches.len ws' ws inside.watches.ok.0 (subst (λ rs. length ws' ≡ length rs) c.as_mut_slice.ensures.value c.rewatch.auto.watches) in
+    let ok = subst (λ rs. OnOk c.rewatch.result (IsRewatched inside.map rs c.args.id c.args.from c.args.to new ws')) c.as_mut_slice.ensures.value c.rewatch.ensures.ok in
+    let can = subst (λ rs. OnOk c.rewatch.result (IsTrue (may_rewatch rs c.args.id c.args.from c.args.to))) c.as_mut_slice.ensures.value c.rewatch.ensures.can in
+    subst (λ rs. OnOk c.rewatch.result (contents_of inside.clauses.items rs learnt new ≡ with_rewatched (contents c.args.self.now) c.args.id c.args.from c.args.to)) (sym all)
+    (subst (λ (k : Kept g.row.N.Denot). OnOk c.rewatch.result (contents_of inside.clauses.items ws' learnt new ≡ with_rewatched (contents k) c.args.id c.args.from c.args.to)) c.self.view_is
+    (ok_rewatch c.rewatch.result inside.clauses.items learnt ws ws' inside.map new c.args.id c.args.from c.args.to ok can))
+
+pub returns-clause-err : goal.returns-clause-err
+returns-clause-err g c =
+    let inside = c.self.inside in
+    let ws = inside.watches.items in
+    let ws' = c.rewatch.new.watches in
+    let new = c.rewatch.new.map in
+    let learnt : List (List Lit) = map (λ v. v.items) inside.learnt in
+    let all = whole inside.watches.len ws' ws inside.watches.ok.0 (subst (λ rs. length ws' ≡ length rs) c.as_mut_slice.ensures.value c.rewatch.auto.watches) in
+    let err = subst (λ rs. OnErr c.rewatch.result (SameLists inside.map new × (ws' ≡ rs))) c.as_mut_slice.ensures.value c.rewatch.ensures.err in
+    subst (λ rs. OnErr c.rewatch.result (contents_of inside.clauses.items rs learnt new ≡ contents c.args.self.now)) (sym all)
+    (subst (λ (k : Kept g.row.N.Denot). OnErr c.rewatch.result (contents_of inside.clauses.items ws' learnt new ≡ contents k)) c.self.view_is
+    (err_rewatch c.rewatch.result inside.clauses.items learnt ws ws' inside.map new c.self.invariant.1 err))
+
+pub returns-clause-refused : goal.returns-clause-refused
+returns-clause-refused g c = grind (arith, common_steps)
+
+pub returns-clause-can : goal.returns-clause-can
+returns-clause-can g c = grind (arith, common_steps)

@@ -1,0 +1,242 @@
+//! The clauses of a store.
+//!
+//! A store keeps each clause as a record of its kind, beside the two literals that it watches. Two lists of one length
+//! hold them, so that a walk over watches doesn't read the clauses. The literals of learnt clauses are in an arena, since
+//! their number isn't fixed; those of the other kinds follow from the record.
+//!
+//! Clauses are added at the end, where each gets the next id, and watches its literals from then on. For a caller that
+//! adds a clause in more than one place, the room for it can be made before: then adding it isn't refused.
+ghost use Rattle.std.specs.Prelude.{◌≡◌, ℕ, ◌+◌, ◌<◌, ◌↔◌, Bool, List, [], length, map, slice_get, slice_index_or, false, if◌then◌else◌, option_map};
+ghost use Rattle.std.specs.Prelude.{IsTrue, IfOk, OnOk, OnErr, IfErr, Err};
+ghost use Rattle.typed_ids.specs.declared.error.StoreError.TheVariants.{IdSpace, OutOfMemory, BadWatch};
+ghost use Rattle.typed_ids.specs.Refusals.{IsGrowthRefusal};
+ghost use Rattle.watch_map.specs.Watching.{AreTwoOrNone};
+ghost use Rattle.watch_map.specs.ClauseList.{literals_watched, two_or_none, no_clauses, IsClauseList, is_full, is_learnt_full};
+ghost use Rattle.watch_map.specs.ClauseList.{contents, with_clause, with_learnt, with_rewatched, can_rewatch, HasRoom};
+ghost use Rattle.watch_map.specs.ClauseList.{are_ids_out_for, with_forbidden, HasRoomFor};
+
+use crate::lists::WatchMap;
+use crate::walks;
+use crate::watched_literals::WatchedLiterals;
+use clauses::Clause;
+use decisions::Literal;
+use id_storage::Arena;
+use std::alloc::Allocator;
+use std::marker::Model;
+use typed_ids::{ClauseId, DenseIndex, LearntClauseId, StoreError, VariableId};
+
+/// How many clauses there may be.
+const LIMIT: usize = u32::MAX as usize;
+
+/// All clauses of a store, with what each of them watches, the clauses that watch each literal, and the literals of the
+/// learnt ones. `N` are the names of packages.
+///
+/// Where names are ids of 32 bits, a clause's record has 24 bytes, beside 12 for what it watches.
+#[derive(Drop)]
+pub struct ClauseList<N: Copy, A: Allocator + Copy> {
+    clauses: Vec<Clause<N>, A>,
+    /// What each clause watches.
+    watches: Vec<Option<WatchedLiterals>, A>,
+    /// The clauses that watch each literal.
+    map: WatchMap<A>,
+    learnt: Arena<LearntClauseId, Vec<Literal, A>, A>,
+}
+
+/// The clauses, what each of them watches, the clauses that watch each literal, and the literals of the learnt ones; and
+/// the room for more.
+impl<N: Copy, A: Allocator + Copy> Model for ClauseList<N, A> {
+    ghost use Rattle.watch_map.specs.ClauseList.{Kept, contents, IsClauseList};
+    ghost use Rattle.watch_map.specs.ClauseListView.{kept_in};
+    ghost use Rattle.watch_map.specs.WatchLists.{AreWatched};
+
+    ghost Value = { Kept N };
+
+    ghost view = { kept_in };
+
+    ghost invariant = { λ a. IsClauseList (contents (kept_in a)) × AreWatched a.map a.watches.items };
+}
+
+impl<N: Copy, A: Allocator + Copy> ClauseList<N, A> {
+    /// The list without clauses. Takes memory for the slots of the first literals.
+    pub fn new(alloc: A) -> Result<Self, StoreError>
+        ensures ok { IfOk result (λ list. contents list ≡ no_clauses) }
+        ensures err { IfErr result (λ e. e ≡ OutOfMemory) }
+    {
+        Ok(ClauseList {
+            clauses: Vec::new(alloc),
+            watches: Vec::new(alloc),
+            map: WatchMap::new(alloc)?,
+            learnt: Arena::new(alloc),
+        })
+    }
+
+    /// How many clauses there are.
+    pub fn len(&self) -> usize
+        ensures value { result ≡ length (contents self.now).clauses }
+        ensures list { IsClauseList (contents self.now) }
+    {
+        self.clauses.len()
+    }
+
+    /// Whether there are no clauses.
+    pub fn is_empty(&self) -> bool
+        ensures { IsTrue result ↔ ((contents self.now).clauses ≡ []) }
+    {
+        self.clauses.is_empty()
+    }
+
+    /// Whether there are as many clauses as there may be.
+    pub fn is_full(&self) -> bool
+        ensures { result ≡ is_full (contents self.now) }
+    {
+        !ClauseId::in_range(self.clauses.len())
+    }
+
+    /// The clause of this id, if there is one.
+    pub fn get(&self, id: ClauseId) -> Option<Clause<N>>
+        ensures { result ≡ slice_get (contents self.now).clauses id }
+    {
+        self.clauses.get(id.to_index()).copied()
+    }
+
+    /// What the clause watches, if there is one of this id and it watches something.
+    pub fn watches(&self, id: ClauseId) -> Option<&WatchedLiterals>
+        ensures { two_or_none (option_map (λ w. w.now.watched_literals) result) ≡ slice_index_or (contents self.now).watches id [] }
+    {
+        self.watches.get(id.to_index())?.as_ref()
+    }
+
+    /// The clauses that watch the literal, front first. Takes memory for them.
+    pub fn watchers(&self, literal: Literal) -> Result<Vec<ClauseId, A>, StoreError>
+        ensures ok { IfOk result (λ found. found.items ≡ (contents self.now).watchers literal) }
+        ensures memory { IfErr result (λ e. e ≡ OutOfMemory) }
+    {
+        let alloc = *self.clauses.allocator();
+        walks::watchers(alloc, &self.map, self.watches.as_slice(), literal)
+    }
+
+    /// The literals of the learnt clauses, by the ids that these have.
+    pub fn learnt(&self) -> &Arena<LearntClauseId, Vec<Literal, A>, A>
+        ensures { map (λ literals. literals.items) result.now ≡ (contents self.now).learnt }
+    {
+        &self.learnt
+    }
+
+    /// Makes room for one more clause that watches this: then [`ClauseList::push_reserved`] may add it.
+    pub fn make_room(&mut self, watches: &Option<WatchedLiterals>) -> Result<(), StoreError>
+        ensures same { contents self.new ≡ contents self.old }
+        ensures room { OnOk result (HasRoom self.new (two_or_none (literals_watched watches.now))) }
+        ensures refused { IfErr result (IsGrowthRefusal (is_full (contents self.old))) }
+        ensures ids_out { IsTrue (is_full (contents self.old)) → result ≡ Err IdSpace }
+    {
+        if self.is_full() {
+            return Err(StoreError::IdSpace);
+        }
+        self.clauses.reserve(1)?;
+        self.watches.reserve(1)?;
+        if let Some(watched) = watches {
+            let [first, second] = watched.watched_literals;
+            self.map.make_room(first)?;
+            self.map.make_room(second)?;
+        }
+        Ok(())
+    }
+
+    /// Adds a clause for which there is room, with what it watches, and answers its id. Takes no memory.
+    pub fn push_reserved(&mut self, clause: Clause<N>, watches: Option<WatchedLiterals>) -> ClauseId
+        requires room { HasRoom self.old (two_or_none (literals_watched watches)) }
+        requires two { AreTwoOrNone (two_or_none (literals_watched watches)) }
+        ensures id { result ≡ length (contents self.old).clauses }
+        ensures added { contents self.new ≡ with_clause (contents self.old) clause (literals_watched watches) }
+        ensures rooms { (count : ℕ) (bits : List (ℕ × ℕ × Bool)) → HasRoomFor (count + 1) bits self.old → HasRoomFor count bits self.new }
+    {
+        let id = ClauseId::from_index(self.clauses.len());
+        let watches = walks::started(&mut self.map, watches, id);
+        self.clauses.push_reserved(clause);
+        self.watches.push_reserved(watches);
+        id
+    }
+
+    /// Makes room for clauses of the kind that forbids multiple instances, each of a variable, a helper, and whether the
+    /// helper is positive: then [`ClauseList::push_forbidden_reserved`] may add them. There is none where they were more
+    /// clauses than there may be.
+    pub fn make_room_forbidden(
+        &mut self,
+        clauses: &[(VariableId, VariableId, bool)],
+    ) -> Result<(), StoreError>
+        ensures same { contents self.new ≡ contents self.old }
+        ensures room { OnOk result (HasRoomFor (length clauses.now) clauses.now self.new) }
+        ensures refused { IfErr result (IsGrowthRefusal (are_ids_out_for (length clauses.now) (contents self.old))) }
+        ensures ids_out { IsTrue (are_ids_out_for (length clauses.now) (contents self.old)) → result ≡ Err IdSpace }
+    {
+        if clauses.len() > LIMIT - self.clauses.len() {
+            return Err(StoreError::IdSpace);
+        }
+        self.clauses.reserve(clauses.len())?;
+        self.watches.reserve(clauses.len())?;
+        walks::make_rooms(&mut self.map, clauses)
+    }
+
+    /// Adds clauses for which there is room, in order: "not x or h" of a variable x, a helper h and `true`, "not x or not h"
+    /// of these and `false`. Takes no memory.
+    pub fn push_forbidden_reserved(&mut self, name: N, clauses: &[(VariableId, VariableId, bool)])
+        requires { HasRoomFor (length clauses.now) clauses.now self.old }
+        ensures { contents self.new ≡ with_forbidden name (contents self.old) clauses.now }
+    {
+        for clause in clauses {
+            let (watches, clause) = walks::forbidden(name, *clause);
+            self.push_reserved(clause, watches);
+        }
+    }
+
+    /// Adds a clause with what it watches, and answers its id. Takes memory where there is no room left.
+    pub fn add(
+        &mut self,
+        clause: Clause<N>,
+        watches: Option<WatchedLiterals>,
+    ) -> Result<ClauseId, StoreError>
+        requires { AreTwoOrNone (two_or_none (literals_watched watches)) }
+        ensures id { IfOk result (λ id. id ≡ length (contents self.old).clauses) }
+        ensures ok { OnOk result (contents self.new ≡ with_clause (contents self.old) clause (literals_watched watches)) }
+        ensures err { OnErr result (contents self.new ≡ contents self.old) }
+        ensures refused { IfErr result (IsGrowthRefusal (is_full (contents self.old))) }
+        ensures ids_out { IsTrue (is_full (contents self.old)) → result ≡ Err IdSpace }
+    {
+        self.make_room(&watches)?;
+        Ok(self.push_reserved(clause, watches))
+    }
+
+    /// Adds a learnt clause with these literals, of which there is one at least, and answers its id. Takes memory for a
+    /// copy of the literals, and where there is no room left; all of it before anything changes.
+    pub fn learn(&mut self, literals: &[Literal]) -> Result<ClauseId, StoreError>
+        requires { 0 < length literals.now }
+        ensures id { IfOk result (λ id. id ≡ length (contents self.old).clauses) }
+        ensures ok { OnOk result (contents self.new ≡ with_learnt (contents self.old) literals.now) }
+        ensures err { OnErr result (contents self.new ≡ contents self.old) }
+        ensures refused { IfErr result (IsGrowthRefusal (is_learnt_full (contents self.old))) }
+        ensures ids_out { IsTrue (is_learnt_full (contents self.old)) → result ≡ Err IdSpace }
+    {
+        if self.is_full() || !LearntClauseId::in_range(self.learnt.len()) {
+            return Err(StoreError::IdSpace);
+        }
+        let kept = Vec::from_slice(*self.clauses.allocator(), literals)?;
+        let learnt_id = LearntClauseId::from_index(self.learnt.len());
+        let (watches, clause) = WatchedLiterals::learnt(learnt_id, literals);
+        self.make_room(&watches)?;
+        self.learnt.alloc(kept)?;
+        Ok(self.push_reserved(clause, watches))
+    }
+
+    /// Lets a clause watch another literal in the place of one that it watches: it leaves the list of the one, whose
+    /// others keep their order, and goes to the front of the other's. Refused `BadWatch` where the clause doesn't watch the
+    /// one, or watches the other. Goes through the list of the one up to the clause; takes memory where there is no room in
+    /// that of the other.
+    pub fn rewatch(&mut self, id: ClauseId, from: Literal, to: Literal) -> Result<(), StoreError>
+        ensures ok { OnOk result (contents self.new ≡ with_rewatched (contents self.old) id from to) }
+        ensures err { OnErr result (contents self.new ≡ contents self.old) }
+        ensures refused { IfErr result (λ e. e ≡ (if can_rewatch (contents self.old) id from to then OutOfMemory else BadWatch)) }
+        ensures can { OnOk result (IsTrue (can_rewatch (contents self.old) id from to)) }
+    {
+        walks::rewatch(&mut self.map, self.watches.as_mut_slice(), id, from, to)
+    }
+}
