@@ -78,11 +78,11 @@ impl<D: DependencyProvider + Drop> Search<D> {
 
     /// Makes a step, and answers whether one was left.
     fn goes_on(&mut self) -> Result<bool> {
-        if let Reply::Next(Some(assigned)) = self.store.obey(&Command::Unpropagated)? {
+        if let Reply::Next(Some(assigned)) = self.obey(Command::Unpropagated)? {
             self.propagate(assigned)?;
             return Ok(true);
         }
-        match self.store.obey(&Command::Decide)? {
+        match self.obey(Command::Decide)? {
             Reply::Decided(next) => self.choose(next.candidate, next.clause_id)?,
             Reply::Falsified(clause) => self.backtrack(clause)?,
             _ => return Ok(false),
@@ -101,7 +101,7 @@ impl<D: DependencyProvider + Drop> Search<D> {
                 self.constrain_all(variable, &needs.constrains)
             }
             Dependencies::Unknown(reason) => {
-                match self.store.obey(&Command::Exclude(variable, reason))? {
+                match self.obey(Command::Exclude(variable, reason))? {
                     Reply::Clause(clause, _) => self.assign(Literal::new(variable, true), clause),
                     _ => Ok(()),
                 }
@@ -138,7 +138,7 @@ impl<D: DependencyProvider + Drop> Search<D> {
                 unless.push(Literal::new(*candidate, true))?;
             }
             let unless = Command::Disjunction(unless, condition);
-            if let Reply::Disjunction(id) = self.store.obey(&unless)? {
+            if let Reply::Disjunction(id) = self.obey(unless)? {
                 self.tell(Command::Requires(parent, wanted.requirement, Some(id)))?;
             }
         }
@@ -151,7 +151,7 @@ impl<D: DependencyProvider + Drop> Search<D> {
         if provider.knows_condition(condition) {
             if let Condition::Requirement(set) = provider.resolve_condition(condition) {
                 let load = Command::Load(Wanted::from(set).requirement);
-                if let Reply::Loaded(mut lists) = self.store.obey(&load)? {
+                if let Reply::Loaded(mut lists) = self.obey(load)? {
                     return Ok(lists.pop().unwrap_or(Vec::new(self.alloc)));
                 }
             }
@@ -169,7 +169,7 @@ impl<D: DependencyProvider + Drop> Search<D> {
     /// Says that the parent, if true, forbids the candidates that the version set doesn't hold.
     fn constrain(&mut self, parent: VariableId, set: VersionSetId) -> Result<()> {
         for outside in &self.outside(set)? {
-            if let Reply::Variable(outside) = self.store.obey(&Command::Variable(*outside))? {
+            if let Reply::Variable(outside) = self.obey(Command::Variable(*outside))? {
                 self.tell(Command::Constrains(parent, outside, set))?;
             }
         }
@@ -247,7 +247,17 @@ impl<D: DependencyProvider + Drop> Search<D> {
 
     /// Obeys a command whose reply isn't wanted.
     fn tell(&mut self, command: Command<D::NameId, D::SolvableId, D::Alloc>) -> Result<()> {
-        self.store.obey(&command)?;
+        drop(self.obey(command)?);
         Ok(())
+    }
+
+    /// Obeys a command, and lets it go.
+    fn obey(
+        &mut self,
+        command: Command<D::NameId, D::SolvableId, D::Alloc>,
+    ) -> Result<Reply<D::Alloc>> {
+        let reply = self.store.obey(&command);
+        drop(command);
+        reply
     }
 }

@@ -5,7 +5,7 @@ use crate::condition_calls::refused::each_is_refused;
 use crate::texts::{shows_key, shows_requirements, shows_solvables};
 use crate::variables_shown::shows_helpers;
 use providers::Interner;
-use script_packages::read_catalogue;
+use script_packages::{Packages, read_catalogue};
 use std::alloc::Global;
 use std::test::Fail;
 use test_support::sees;
@@ -20,8 +20,7 @@ const CATALOGUE: &str =
 fn conditions_have_normal_forms_and_requirements_texts(rt: HostRuntime) -> Result<(), Fail> {
     match read_catalogue(rt.alloc(), CATALOGUE.as_bytes()) {
         Ok(Some(catalogue)) => {
-            let solvables = (SolvableId::from_raw(0), SolvableId::from_raw(1));
-            let ended = have_texts(rt.alloc(), rt.alloc(), &catalogue.packages, solvables);
+            let ended = have_texts(rt.alloc(), &catalogue.packages);
             drop(catalogue);
             ended
         }
@@ -31,18 +30,14 @@ fn conditions_have_normal_forms_and_requirements_texts(rt: HostRuntime) -> Resul
 
 /// The packages' conditions and requirements are as wanted, and so is the text of the second solvable, by itself and together with the
 /// first and itself.
-fn have_texts<I: Interner>(
-    alloc: Global,
-    heap: I::Alloc,
-    interner: &I,
-    (first, second): (I::SolvableId, I::SolvableId),
-) -> Result<(), Fail> {
-    are_wanted(alloc, heap, interner)?;
-    if !interner.knows_solvable(first) || !interner.knows_solvable(second) {
+fn have_texts(alloc: Global, packages: &Packages) -> Result<(), Fail> {
+    are_wanted(alloc, alloc, packages)?;
+    let (first, second) = (SolvableId::from_raw(0), SolvableId::from_raw(1));
+    if !packages.knows_solvable(first) || !packages.knows_solvable(second) {
         return Err(Fail::new("a solvable isn't known"));
     }
-    shows_key(heap, interner, SolvableIdOrRoot::Solvable(second), "a 2")?;
-    shows_solvables(heap, interner, &[second, first, second], "a a 1 | a 2")
+    shows_key(alloc, packages, SolvableIdOrRoot::Solvable(second), "a 2")?;
+    shows_solvables(alloc, packages, &[second, first, second], "a a 1 | a 2")
 }
 
 fn are_wanted<I: Interner>(alloc: Global, heap: I::Alloc, interner: &I) -> Result<(), Fail> {

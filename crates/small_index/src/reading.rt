@@ -25,8 +25,13 @@ pub fn read(alloc: Global, text: &str) -> Result<SmallIndex, IndexFault> {
         versions: Vec::new(alloc),
         needs: Vec::new(alloc),
     };
-    index.add_lines(text)?;
-    Ok(index)
+    match index.add_lines(text) {
+        Ok(()) => Ok(index),
+        Err(fault) => {
+            drop(index);
+            Err(fault)
+        }
+    }
 }
 
 // Where an `add_` call answers a bool, it tells whether what it was given is in the format.
@@ -58,15 +63,15 @@ impl SmallIndex {
         version: u32,
         entries: &[&str],
     ) -> Result<bool, StoreError> {
+        let name = String::from_str(self.alloc, name)?;
+        let name = self.pool.intern_package_name(name)?;
+        let solvable = self.pool.intern_solvable(name, version)?;
         let mut needs = KnownDependencies::new(self.alloc);
         for entry in entries.chunks(3) {
             if !self.add_entry(entry, &mut needs)? {
                 return Ok(false);
             }
         }
-        let name = String::from_str(self.alloc, name)?;
-        let name = self.pool.intern_package_name(name)?;
-        let solvable = self.pool.intern_solvable(name, version)?;
         self.versions.push(solvable)?;
         self.needs.push(needs)?;
         Ok(true)
