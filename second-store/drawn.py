@@ -70,6 +70,8 @@ class List:
             self.packages.add(kind, words)
         self.store = Store(self.packages)
         self.commands, self.answers, self.picks = [], [], []
+        # how often in a hundred times a requires clause is the root's; in some lists none is meant to be
+        self.of_root = self.draw.one_of([0, 30, 60])
         if self.draw.happens(70):
             self.begin()
         for _ in range(COMMANDS):
@@ -90,7 +92,7 @@ class List:
         self.give(self.standard())
         for _ in range(self.draw.below(4) + 1):
             number = self.draw.below(len(self.packages.sets))
-            parent = 0 if self.draw.happens(65) else 2
+            parent = 0 if self.draw.happens(self.of_root) else 2
             self.give(f"load s{number}")
             self.give(f"requires {parent} s{number}{' 0' * self.draw.happens(30)}")
             self.give(f"bump {self.name()} {self.draw.below(4)}")
@@ -157,7 +159,7 @@ class List:
         )
 
     def requires(self):
-        parent = 0 if self.draw.happens(55) else self.variable()
+        parent = 0 if self.draw.happens(self.of_root) else self.variable()
         loaded = list(self.store.loaded)
         requirement = self.draw.one_of(loaded) if loaded and self.draw.happens(85) else self.requirement()
         count = len(self.store.disjunctions)
@@ -238,8 +240,12 @@ def pick_kinds(store):
     told = store.decide().split()
     if told[0] == "decided":
         best = next(offer for offer in offers if str(offer[2]) == told[5])
-        if best != offers[0]:
-            yield "decide: beats an earlier clause"
+        of_root = [offer for offer in offers if offer[1] == 0]
+        first = (of_root or offers)[0]
+        if best != first:
+            yield f"decide: beats an earlier clause of {'the root' if of_root else 'another'}"
+        if of_root and offers[0] != first:
+            yield "decide: one of the root passes an earlier clause"
         if any(offer[3] > best[3] and offer[4] < best[4] for offer in offers):
             yield "decide: one of the root is kept"
 

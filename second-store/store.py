@@ -333,18 +333,20 @@ class Store:
         falsified = [clause for state, clause in states if state == "falsified"]
         if falsified:
             return f"falsified {falsified[0]}"
-        best = None
-        for state, offer in states:
-            if state == "eligible" and (best is None or beats(offer, best)):
-                best = offer
-        if best is None:
+        offers = [offer for state, offer in states if state == "eligible"]
+        of_root = [offer for offer in offers if offer[1] == 0]
+        if not offers:
             return "no decision"
-        return "decided {} by {} clause {} score {} count {}".format(*best)
+        return "decided {} by {} clause {} score {} count {}".format(*best_of(of_root or offers))
 
 
-def beats(offer, best):
-    """A higher score and a smaller count, and no clause of another parent in place of one of the root's."""
-    return offer[3] > best[3] and offer[4] < best[4] and (best[1] != 0 or offer[1] == 0)
+def best_of(offers):
+    """The first, unless a later one has a higher score and a smaller count than the best so far."""
+    best = offers[0]
+    for offer in offers[1:]:
+        if offer[3] > best[3] and offer[4] < best[4]:
+            best = offer
+    return best
 
 
 def shown(entry):

@@ -97,6 +97,7 @@ module _ {N S A : Type 0} (refs : References N S A) (val : Values) (t : TrackedC
     pub looked_asked : CanBeAsked refs val (record { index = t.index; queued = t.queued; requirements = ts; occurrences = o; only_hot = t.only_hot; trail = t.trail; must_start_anew = t.must_start_anew })
     looked_asked = record {
       located = asked.located;
+      first = asked.first;
       askable = asked.askable;
       listed = listed;
       ready = looked_ready t.index.clauses.items (clause_literals refs) (rows_in refs) val (λ v. 0) t.requirements t.queued asked.ready p.number c here ts log log' learns;
@@ -106,6 +107,7 @@ module _ {N S A : Type 0} (refs : References N S A) (val : Values) (t : TrackedC
         CanBeAsked refs val (record { index = t.index; queued = q; requirements = ts; occurrences = o; only_hot = t.only_hot; trail = t.trail; must_start_anew = t.must_start_anew })
     dropped_asked q loses not_possible = record {
       located = asked.located;
+      first = asked.first;
       askable = asked.askable;
       listed = listed;
       ready = dropped_ready t.index.clauses.items (clause_literals refs) (rows_in refs) val (λ v. 0) t.requirements t.queued asked.ready p.number c here ts log log' learns

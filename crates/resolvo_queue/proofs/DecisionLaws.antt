@@ -1,56 +1,107 @@
--- The second part of a question, and what its answer is.
-use Rattle.std.proofs.Common.{◌≡◌, ℕ, ◌<◌, ◌≤◌, Bool, true, false, not, find, ◌&&◌, cond, inl, inr, List, [], ◌∷◌, map, filter, filter_map, length, Option, Some, None, IfSome, option_map, slice_get, sym, ap, refl, ◌∙◌, subst, arith, is_lt}
-use Rattle.std.specs.List.{cons_option}
+-- How a group is gone through: the first eligible clause, one rival more, the end; and that it ends.
+use Rattle.std.proofs.Common.{◌≡◌, ℕ, ◌<◌, ◌≤◌, Bool, true, false, ◌&&◌, cond, inl, inr, List, [], ◌∷◌, filter, length, Option, Some, None, IfSome, option_map, slice_get, sym, ap, refl, ◌∙◌, subst, arith, is_lt}
 use Rattle.std.specs.Ordering.{ordering_reverse}
 use Rattle.std.specs.declared.cmp.Ordering.{Ordering}
 use Rattle.std.specs.declared.cmp.Ordering.TheVariants.{Less, Equal, Greater}
 use Rattle.typed_ids.specs.declared.version_set_id.VersionSetId.{VersionSetId}
 use Rattle.decisions.specs.Literals.{Lit, Values, known_true}
 use Rattle.providers.specs.declared.requirement.Requirement.{Requirement}
+use Rattle.resolvo_queue.specs.declared.candidate.Candidate.{Candidate}
 use Rattle.resolvo_queue.specs.declared.frontier.Frontier.{Frontier}
-use Rattle.resolvo_queue.specs.Pick.{Offer, beats, pick}
-use Rattle.resolvo_queue.specs.Rows.{Row, frontier, has_true_row, frontier_at, is_undecided_row}
+use Rattle.resolvo_queue.specs.Group.{Group, has_of, is_in, offers_of}
+use Rattle.resolvo_queue.specs.Pick.{Offer, beats, best_offer}
+use Rattle.resolvo_queue.specs.Rows.{Row, frontier}
 use Rattle.resolvo_queue.specs.Inspection.{eligible_frontier, offer_with, offer_of}
 use Rattle.resolvo_queue.specs.Order.{Stands, here, there}
 use Rattle.resolvo_queue.specs.Positions.{has, position_cmp, IsBefore, is_after}
 use Rattle.resolvo_queue.specs.Scan.{are_literals_false}
 use Rattle.resolvo_queue.specs.Queued.{Queued, IsOfClause, set_of}
-use Rattle.resolvo_queue.specs.Ready.{AreLocated, scanned, improved, IsReady, IsDone, ColdHasNoScore, all_picked, rest_picked, clauses_behind, place_of}
-use Rattle.resolvo_queue.specs.ScanOrder.{scan_of}
+use Rattle.resolvo_queue.specs.Ready.{AreLocated, scanned, improved, IsReady, IsDone, ColdHasNoScore, clauses_behind, offered, place_of, rest_picked}
 use Rattle.resolvo_queue.specs.Tracked.{Tracked}
 use Rattle.resolvo_queue.specs.declared.position.Position.{Position}
 use Rattle.resolvo_queue.specs.declared.tracked_clause.TrackedClause.{TrackedClause}
 use Rattle.resolvo_queue.proofs.FrontierLaws.{counts_one}
-use Rattle.resolvo_queue.proofs.ReadyLaws.{position_order, unqueued_offers_nothing, cold_offers_no_better, next_queued, last_queued, unbeatable_picked}
-use Rattle.resolvo_queue.proofs.ScanLaws.{scan_is, at_scanned}
+use Rattle.resolvo_queue.proofs.GroupLaws.{of_both, own_offer}
+use Rattle.resolvo_queue.proofs.PickingLaws.{first_counts, last_counts, next_counts, none_counts, unbeatable_picked}
+use Rattle.resolvo_queue.proofs.QueuedLaws.{position_order}
+use Rattle.resolvo_queue.proofs.ReadyLaws.{unqueued_offers_nothing, cold_offers_no_better}
+use Rattle.resolvo_queue.proofs.ScanLaws.{at_scanned}
 use Rattle.resolvo_queue.proofs.SelectionLaws.{one_unbeaten, largest_unbeaten}
 
 module _ (clauses : List TrackedClause) (literals : TrackedClause → List Lit) (rows_of : Requirement → List Row) (val : Values) (score : VersionSetId → ℕ)
-    (located : AreLocated clauses) (cold : ColdHasNoScore clauses literals rows_of val score) (largest : ℕ) (up_to : (set : VersionSetId) → score set ≤ largest) where
-  module _ (ts : List Tracked) (q : Queued) (ready : IsReady clauses literals rows_of val ts q) (only_hot : Bool) (b : Offer) where
+    (located : AreLocated clauses) (group : Group) (ts : List Tracked) (q : Queued) (ready : IsReady clauses literals rows_of val ts q) where
+  abbrev offers : TrackedClause → Option Offer
+  offers = offer_of val literals rows_of score
+
+  abbrev of_group : TrackedClause → Option Offer
+  of_group = offers_of group offers
+
+  -- ---- the first eligible clause
+
+  -- what isn't of the group, or isn't queued, offers nothing
+  nothing : (n : ℕ) (c : TrackedClause) → slice_get clauses n ≡ Some c → has_of group q.all c.position ≡ false → of_group c ≡ None
+  nothing n c e out = go (is_in group c.position) out
+    where
+      go : (b : Bool) → (b && has q.all c.position) ≡ false → cond b (offers c) None ≡ None
+      go true h = unqueued_offers_nothing clauses literals rows_of val score ts q ready n c e h
+      go false h = refl
+
+  pub none_found : ((p : Position) → has_of group q.all p ≡ false) → best_offer (offered clauses of_group) ≡ None
+  none_found empty = none_counts clauses located of_group (has_of group q.all) nothing empty
+
+  -- the first queued position of the group offers
+  pub first_found : (p : Position) → has_of group q.all p ≡ true → ((r : Position) → has_of group q.all r ≡ true → is_after p r ≡ false) →
+      (found : Option Candidate) (b : Candidate) → found ≡ Some b →
+      ((d : TrackedClause) → slice_get clauses p.number ≡ Some d → option_map (λ (x : Candidate). x.offer) found ≡ offers d) →
+      IfSome found (λ x. x.position ≡ p) →
+      best_offer (offered clauses of_group) ≡ rest_picked clauses of_group b.offer b.position
+  first_found p here_it_is least found b is offered at =
+      let both = of_both group q.all p here_it_is in
+      let of = ready.all_of p both.1 in
+      let own : of_group of.0 ≡ Some b.offer = own_offer group offers of.0 p of.2 both.0 ∙ (sym (offered of.0 of.1) ∙ ap (option_map (λ (x : Candidate). x.offer)) is) in
+      let place : b.position ≡ p = subst (λ o. IfSome o (λ (x : Candidate). x.position ≡ p)) is at in
+      first_counts clauses located of_group (has_of group q.all) nothing p of.0 b.offer of.1 of.2 own least
+      ∙ ap (rest_picked clauses of_group b.offer) (sym place)
+
+  -- ---- one rival more, and the end
+
+  module _ (cold : ColdHasNoScore clauses literals rows_of val score) (largest : ℕ) (up_to : (set : VersionSetId) → score set ≤ largest)
+      (only_hot : Bool) (b : Offer) where
+    -- an offer that isn't better, and none of another group
+    within : (c : TrackedClause) → IfSome (offers c) (λ e. beats e b ≡ false) → IfSome (of_group c) (λ e. beats e b ≡ false)
+    within c h = go (is_in group c.position)
+      where
+        go : (t : Bool) → IfSome (cond t (offers c) None) (λ e. beats e b ≡ false)
+        go true = h
+        go false = tt
+
     -- what isn't gone through offers nothing better
-    left_out : (h : Bool) (n : ℕ) (c : TrackedClause) → slice_get clauses n ≡ Some c → has (set_of h q) c.position ≡ false →
-        IfSome (offer_of val literals rows_of score c) (λ e. beats e b ≡ false)
-    left_out true n c e out = cold_offers_no_better clauses literals rows_of val score ts q ready b n c e (cold n c e) out
-    left_out false n c e out =
+    unqueued : (hot : Bool) (n : ℕ) (c : TrackedClause) → slice_get clauses n ≡ Some c → has (set_of hot q) c.position ≡ false → IfSome (offers c) (λ e. beats e b ≡ false)
+    unqueued true n c e out = cold_offers_no_better clauses literals rows_of val score ts q ready b n c e (cold n c e) out
+    unqueued false n c e out =
         subst (λ o. IfSome o (λ x. beats x b ≡ false)) (sym (unqueued_offers_nothing clauses literals rows_of val score ts q ready n c e out)) tt
 
-    of_set : (h : Bool) (p : Position) → has (set_of h q) p ≡ true → IsOfClause clauses p
+    left_out : (n : ℕ) (c : TrackedClause) → slice_get clauses n ≡ Some c → has_of group (set_of only_hot q) c.position ≡ false →
+        IfSome (of_group c) (λ e. beats e b ≡ false)
+    left_out n c e out = go (is_in group c.position) out
+      where
+        go : (t : Bool) → (t && has (set_of only_hot q) c.position) ≡ false → IfSome (cond t (offers c) None) (λ e. beats e b ≡ false)
+        go true h = unqueued only_hot n c e h
+        go false h = tt
+
+    of_set : (hot : Bool) (p : Position) → has (set_of hot q) p ≡ true → IsOfClause clauses p
     of_set true p e = ready.hot_of p e
     of_set false p e = ready.all_of p e
 
-    pub rival_of : (p : Position) → has (set_of only_hot q) p ≡ true → IsOfClause clauses p
-    rival_of p e = of_set only_hot p e
-
-    -- one rival more
-    pub rival_step : (cursor p : Position) → has (set_of only_hot q) p ≡ true → IsBefore cursor p →
-        ((r : Position) → has (set_of only_hot q) r ≡ true → IsBefore cursor r → is_after p r ≡ false) →
-        (b' : Offer) → ((d : TrackedClause) → slice_get clauses p.number ≡ Some d → b' ≡ improved b (offer_of val literals rows_of score d)) →
-        rest_picked clauses literals rows_of val score b cursor ≡ rest_picked clauses literals rows_of val score b' p
+    pub rival_step : (cursor p : Position) → has_of group (set_of only_hot q) p ≡ true → IsBefore cursor p →
+        ((r : Position) → has_of group (set_of only_hot q) r ≡ true → IsBefore cursor r → is_after p r ≡ false) →
+        (b' : Offer) → ((d : TrackedClause) → slice_get clauses p.number ≡ Some d → b' ≡ improved b (offers d)) →
+        rest_picked clauses of_group b cursor ≡ rest_picked clauses of_group b' p
     rival_step cursor p e before least b' is =
-        let of = of_set only_hot p e in
-        next_queued clauses literals rows_of val score located ts q ready (set_of only_hot q) b (left_out only_hot) cursor p of.0 of.1 of.2 before least
-        ∙ ap (λ x. rest_picked clauses literals rows_of val score x p) (sym (is of.0 of.1))
+        let both = of_both group (set_of only_hot q) p e in
+        let of = of_set only_hot p both.1 in
+        next_counts clauses located of_group (has_of group (set_of only_hot q)) b left_out cursor p of.0 of.1 of.2 before least
+        ∙ ap (λ x. rest_picked clauses of_group x p) (ap (improved b) (own_offer group offers of.0 p of.2 both.0) ∙ sym (is of.0 of.1))
 
     -- an offer against one that can't be beaten
     by_count : b.frontier.count ≡ 1 → (c : TrackedClause) (o : Option Frontier) → eligible_frontier val literals rows_of c ≡ o →
@@ -66,14 +117,13 @@ module _ (clauses : List TrackedClause) (literals : TrackedClause → List Lit) 
     by_score top c None = tt
     by_score top c (Some f) = largest_unbeaten largest b (offer_with score c f) top (up_to f.set)
 
-    -- the best is the pick
-    pub done_picked : (cursor : Position) → IsDone b largest cursor (set_of only_hot q) → rest_picked clauses literals rows_of val score b cursor ≡ Some b
+    -- the best so far is the best
+    pub done_picked : (cursor : Position) → IsDone b largest cursor (has_of group (set_of only_hot q)) → rest_picked clauses of_group b cursor ≡ Some b
     done_picked cursor (inl one) =
-        unbeatable_picked clauses literals rows_of val score located ts q ready b cursor (λ n c e. by_count one c (eligible_frontier val literals rows_of c) refl)
+        unbeatable_picked clauses located of_group b cursor (λ n c e. within c (by_count one c (eligible_frontier val literals rows_of c) refl))
     done_picked cursor (inr (inl top)) =
-        unbeatable_picked clauses literals rows_of val score located ts q ready b cursor (λ n c e. by_score top c (eligible_frontier val literals rows_of c))
-    done_picked cursor (inr (inr none)) =
-        last_queued clauses literals rows_of val score located ts q ready (set_of only_hot q) b (left_out only_hot) cursor none
+        unbeatable_picked clauses located of_group b cursor (λ n c e. within c (by_score top c (eligible_frontier val literals rows_of c)))
+    done_picked cursor (inr (inr none)) = last_counts clauses located of_group (has_of group (set_of only_hot q)) b left_out cursor none
 
 -- ---- it ends
 
@@ -121,39 +171,10 @@ not_itself p = go (position_cmp p p) (position_order.antisymm p p)
 pub behind_falls : (clauses : List TrackedClause) → AreLocated clauses → (cursor p : Position) → IsOfClause clauses p → IsBefore cursor p →
     clauses_behind clauses p < clauses_behind clauses cursor
 behind_falls clauses located cursor p of before =
-    let place = place_of clauses (λ c. []) (λ r. []) (λ x. None) (λ s. 0) in
+    let place = place_of clauses in
     let here_it_is : place (p.number, of.0) ≡ p = sym (located p.number of.0 of.1) ∙ of.2 in
     filter_falls (λ x. is_lt (position_cmp p (place x))) (λ x. is_lt (position_cmp cursor (place x)))
     (λ x h. ap is_lt (position_order.trans cursor p (place x) before (is_less (position_cmp p (place x)) h)))
     (scanned clauses) (p.number, of.0) (at_scanned (λ (d : TrackedClause). d.parent) clauses p.number of.0 of.1)
     (ap (λ r. is_lt (position_cmp p r)) here_it_is ∙ not_itself p)
     (ap (λ r. is_lt (position_cmp cursor r)) here_it_is ∙ ap is_lt before)
-
--- ---- in the words of the plain scan
-
-without_number : {X Y Z : Type 0} (f : Y → Option Z) (xs : List (X × Y)) → filter_map (λ (x : X × Y). f x.1) xs ≡ filter_map f (map (λ (x : X × Y). x.1) xs)
-without_number f [] = refl
-without_number f (x ∷ xs) = ap (cons_option (f x.1)) (without_number f xs)
-
--- the pick along positions is the pick of the scan
-pub picked_is : (clauses : List TrackedClause) (literals : TrackedClause → List Lit) (rows_of : Requirement → List Row) (val : Values) (score : VersionSetId → ℕ) →
-    all_picked clauses literals rows_of val score ≡ pick (filter_map (offer_of val literals rows_of score) (scan_of (λ (c : TrackedClause). c.parent) clauses))
-picked_is clauses literals rows_of val score =
-    ap pick (without_number (offer_of val literals rows_of score) (scanned clauses)
-    ∙ ap (filter_map (offer_of val literals rows_of score)) (scan_is (λ (c : TrackedClause). c.parent) clauses))
-
--- open, so that the parent is true, the condition holds and no row is true; an open clause offers its frontier
-pub offers_if_open : (literals : TrackedClause → List Lit) (rows_of : Requirement → List Row) (val : Values) (score : VersionSetId → ℕ) (c : TrackedClause) →
-    offer_of val literals rows_of score c
-    ≡ cond (known_true (val c.parent) && (are_literals_false val (literals c) && not (has_true_row val (rows_of c.required))))
-    (option_map (offer_with score c) (frontier val (rows_of c.required))) None
-offers_if_open literals rows_of val score c =
-    go (known_true (val c.parent)) (are_literals_false val (literals c)) (has_true_row val (rows_of c.required)) refl
-  where
-    go : (a b t : Bool) → has_true_row val (rows_of c.required) ≡ t →
-        option_map (offer_with score c) (cond (a && b) (frontier val (rows_of c.required)) None)
-        ≡ cond (a && (b && not t)) (option_map (offer_with score c) (frontier val (rows_of c.required))) None
-    go true true true e = ap (λ x. option_map (offer_with score c) (cond x None (option_map (frontier_at val (rows_of c.required)) (find (is_undecided_row val) (rows_of c.required))))) e
-    go true true false e = refl
-    go true false t e = refl
-    go false b t e = refl

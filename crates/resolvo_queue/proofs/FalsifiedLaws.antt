@@ -20,7 +20,7 @@ use Rattle.resolvo_queue.specs.declared.position.Position.{Position}
 use Rattle.resolvo_queue.specs.declared.requires_clause.RequiresClause.{RequiresClause}
 use Rattle.resolvo_queue.specs.declared.tracked_clause.TrackedClause.{TrackedClause}
 use Rattle.resolvo_queue.proofs.QueuedLaws.{read_at, within_clauses}
-use Rattle.resolvo_queue.proofs.ReadyLaws.{position_order}
+use Rattle.resolvo_queue.proofs.QueuedLaws.{position_order}
 use Rattle.resolvo_queue.proofs.RowLaws.{falsified-rows}
 use Rattle.resolvo_queue.proofs.ScanLaws.{scan_ascends, scan_is, scanned_at, at_scanned}
 use Rattle.resolvo_queue.proofs.ScannedLaws.{scan_tracked}

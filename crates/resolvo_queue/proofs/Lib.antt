@@ -11,6 +11,7 @@ pub mod FalsifiedLaws
 pub mod FindingLaws
 pub mod FrontierLaws
 pub mod GainLaws
+pub mod GroupLaws
 pub mod HeatLaws
 pub mod HeatingLaws
 pub mod InOrderLaws
@@ -24,6 +25,7 @@ pub mod OccurrenceLaws
 pub mod OfferedLaws
 pub mod OwedLaws
 pub mod PickLaws
+pub mod PickingLaws
 pub mod QueuedLaws
 pub mod ReadyLaws
 pub mod RecordLaws

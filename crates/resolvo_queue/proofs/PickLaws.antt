@@ -1,7 +1,8 @@
--- The laws of the pick: no offer beats it, it is one of the offers, and there is none only of no offers.
+-- The laws of the pick: no offer beats it, it is one of the offers, and there is none only of no offers. First of the best
+-- offer, then of the pick, which is the best of the root's or of all.
 use Rattle.std.proofs.Common.{◌≡◌, ℕ, suc, Bool, true, false, not, ◌&&◌, ◌||◌, cond, ltb, List, [], ◌∷◌, Option, Some, None, sym, ap, refl, subst, ◌∙◌, arith}
-use Rattle.std.specs.Prelude.{filter_map, fold, All, Contains, IfSome, is_some, option_map, ◌↔◌}
-use Rattle.std.specs.List.{AllByRecursion, best_of, cons_option}
+use Rattle.std.specs.Prelude.{filter, filter_map, fold, All, Contains, IfSome, is_some, option_map, ◌↔◌}
+use Rattle.std.specs.List.{AllByRecursion, best_of, cons_option, list_any}
 use Rattle.std.proofs.lemmas.Bool.Decides.{nat_tests}
 use Rattle.std.proofs.lemmas.List.Elements.{All-from_recursion, recursion_from_All}
 use Rattle.providers.specs.declared.requirement.Requirement.{Requirement}
@@ -12,7 +13,7 @@ use Rattle.resolvo_queue.specs.declared.queue_decision.QueueDecision.{QueueDecis
 use Rattle.resolvo_queue.specs.declared.requires_clause.RequiresClause.{RequiresClause}
 use Rattle.resolvo_queue.specs.Rows.{Row, frontier}
 use Rattle.resolvo_queue.specs.Scan.{scan, is_open, is_eligible}
-use Rattle.resolvo_queue.specs.Pick.{Offer, offer, eligible, is_of_root, beats, better, pick, decided, IsUnbeaten, DecidesUnbeaten}
+use Rattle.resolvo_queue.specs.Pick.{Offer, offer, eligible, is_of_root, beats, better, best_offer, pick, decided, IsUnbeaten, DecidesUnbeaten}
 
 -- ---- `beats` is an order: one way, and in chains
 
@@ -57,23 +58,22 @@ none_beats b (x ∷ xs) =
     let best : Offer = cond (beats x b) x b in
     (keeps best xs x (new_is_not x b (beats x b) refl), none_beats best xs)
 
--- the pick of some offers is the best of them
-pick-cons : (b : Offer) (xs : List Offer) → fold better (Some b) xs ≡ Some (best_of beats b xs)
-pick-cons b [] = refl
-pick-cons b (x ∷ xs) = pick-cons (cond (beats x b) x b) xs
+best_offer-cons : (b : Offer) (xs : List Offer) → fold better (Some b) xs ≡ Some (best_of beats b xs)
+best_offer-cons b [] = refl
+best_offer-cons b (x ∷ xs) = best_offer-cons (cond (beats x b) x b) xs
 
 unbeaten_some : (b : Offer) (xs : List Offer) → IsUnbeaten (b ∷ xs) (best_of beats b xs)
 unbeaten_some b xs =
     All-from_recursion (λ e. beats e (best_of beats b xs) ≡ false) (b ∷ xs)
     (keeps b xs b (beats-self b), none_beats b xs)
 
-pick_unbeaten : (offers : List Offer) → IfSome (pick offers) (IsUnbeaten offers)
-pick_unbeaten [] = tt
-pick_unbeaten (b ∷ xs) = subst (λ o. IfSome o (IsUnbeaten (b ∷ xs))) (sym (pick-cons b xs)) (unbeaten_some b xs)
+best_unbeaten : (offers : List Offer) → IfSome (best_offer offers) (IsUnbeaten offers)
+best_unbeaten [] = tt
+best_unbeaten (b ∷ xs) = subst (λ o. IfSome o (IsUnbeaten (b ∷ xs))) (sym (best_offer-cons b xs)) (unbeaten_some b xs)
 
-pick_none : (offers : List Offer) → (pick offers ≡ None) ↔ (offers ≡ [])
-pick_none [] = (λ e. refl, λ e. refl)
-pick_none (b ∷ xs) = (λ e. let p : fold better (Some b) xs ≡ Some (best_of beats b xs) = pick-cons b xs in cc, λ e. cc)
+best_none : (offers : List Offer) → (best_offer offers ≡ None) ↔ (offers ≡ [])
+best_none [] = (λ e. refl, λ e. refl)
+best_none (b ∷ xs) = (λ e. let p : fold better (Some b) xs ≡ Some (best_of beats b xs) = best_offer-cons b xs in cc, λ e. cc)
 
 -- ---- it is one of them
 
@@ -97,10 +97,117 @@ best_is_member : (b : Offer) (xs : List Offer) → Member (best_of beats b xs) (
 best_is_member b [] = here
 best_is_member b (x ∷ xs) = best_step (beats x b) _ b x xs (best_is_member (cond (beats x b) x b) xs)
 
+best_member : (offers : List Offer) → IfSome (best_offer offers) (λ b. Member b offers)
+best_member [] = tt
+best_member (b ∷ xs) = subst (λ o. IfSome o (λ x. Member x (b ∷ xs))) (sym (best_offer-cons b xs)) (best_is_member b xs)
+
+-- ---- the root's alone, or all
+
+-- an offer of the root is beaten by none of another parent
+root_stays : (b e : Offer) → is_of_root b ≡ true → is_of_root e ≡ false → beats e b ≡ false
+root_stays b e p q = by_root (ltb b.score e.score) (ltb e.frontier.count b.frontier.count) (is_of_root b) (is_of_root e) p q
+  where
+    by_root : (p q x y : Bool) → x ≡ true → y ≡ false → (p && (q && (not x || y))) ≡ false
+    by_root true true true true e f = f
+    by_root true true true false e f = refl
+    by_root true true false y e f = let bad : false ≡ true = e in cc
+    by_root true false x y e f = refl
+    by_root false q x y e f = refl
+
+module _ {X : Type 0} (t : X → Bool) where
+  any_kept : (xs : List X) → list_any t xs ≡ true → filter t xs ≡ [] → ⊥
+  any_kept [] a e = let bad : false ≡ true = a in cc
+  any_kept (x ∷ xs) a e = go (t x) a e (any_kept xs)
+    where
+      go : (b : Bool) → (b || list_any t xs) ≡ true → cond b (x ∷ filter t xs) (filter t xs) ≡ [] →
+          (list_any t xs ≡ true → filter t xs ≡ [] → ⊥) → ⊥
+      go true p q rest = let bad : ◌≡◌ {A = List X} (x ∷ filter t xs) [] = q in cc
+      go false p q rest = rest p q
+
+  none_kept : (xs : List X) → list_any t xs ≡ false → filter t xs ≡ []
+  none_kept [] a = refl
+  none_kept (x ∷ xs) a = go (t x) a (none_kept xs)
+    where
+      go : (b : Bool) → (b || list_any t xs) ≡ false → (list_any t xs ≡ false → filter t xs ≡ []) → cond b (x ∷ filter t xs) (filter t xs) ≡ []
+      go true p rest = let bad : true ≡ false = p in cc
+      go false p rest = rest p
+
+  -- what holds of those that are kept, and of those that aren't, holds of all
+  of_all : (P : X → Type 0) (xs : List X) → AllByRecursion P (filter t xs) → ((x : X) → t x ≡ false → P x) → AllByRecursion P xs
+  of_all P [] a h = tt
+  of_all P (x ∷ xs) a h = go (t x) refl a (λ k. of_all P xs k h)
+    where
+      go : (b : Bool) → t x ≡ b → AllByRecursion P (cond b (x ∷ filter t xs) (filter t xs)) → (AllByRecursion P (filter t xs) → AllByRecursion P xs) →
+          P x × AllByRecursion P xs
+      go true e k rest = (k.0, rest k.1)
+      go false e k rest = (h x e, rest k)
+
+  kept_member : (y : X) (xs : List X) → Member y (filter t xs) → Member y xs × (t y ≡ true)
+  kept_member y [] m = elim m [ ]
+  kept_member y (x ∷ xs) m = go (t x) refl m (kept_member y xs)
+    where
+      first : (z w : X) (ys zs : List X) → t w ≡ true → Member z (w ∷ ys) → (Member z ys → Member z zs × (t z ≡ true)) → Member z (w ∷ zs) × (t z ≡ true)
+      first z w ys zs e here rest = (here, e)
+      first z w ys zs e (there k) rest = let r = rest k in (there r.0, r.1)
+
+      go : (b : Bool) → t x ≡ b → Member y (cond b (x ∷ filter t xs) (filter t xs)) → (Member y (filter t xs) → Member y xs × (t y ≡ true)) →
+          Member y (x ∷ xs) × (t y ≡ true)
+      go true e k rest = first y x (filter t xs) xs e k rest
+      go false e k rest = let r = rest k in (there r.0, r.1)
+
+-- the best of the root's, if there is one, is the pick; else it is the best of all
+pub picks_of_root : (offers : List Offer) (b : Offer) → best_offer (filter is_of_root offers) ≡ Some b → pick offers ≡ Some b
+picks_of_root offers b e = go (list_any is_of_root offers) refl
+  where
+    go : (t : Bool) → list_any is_of_root offers ≡ t → cond t (best_offer (filter is_of_root offers)) (best_offer offers) ≡ Some b
+    go true a = e
+    go false a = let bad : best_offer (filter is_of_root offers) ≡ None = ap best_offer (none_kept is_of_root offers a) in cc
+
+pub picks_of_all : (offers : List Offer) → best_offer (filter is_of_root offers) ≡ None → pick offers ≡ best_offer offers
+picks_of_all offers e = go (list_any is_of_root offers) refl
+  where
+    go : (t : Bool) → list_any is_of_root offers ≡ t → cond t (best_offer (filter is_of_root offers)) (best_offer offers) ≡ best_offer offers
+    go true a = absurd (any_kept is_of_root offers a ((best_none (filter is_of_root offers)).0 e))
+    go false a = refl
+
+pick_unbeaten : (offers : List Offer) → IfSome (pick offers) (IsUnbeaten offers)
+pick_unbeaten offers = go (list_any is_of_root offers)
+  where
+    of_root : (o : Option Offer) → IfSome o (IsUnbeaten (filter is_of_root offers)) → IfSome o (λ b. Member b (filter is_of_root offers)) → IfSome o (IsUnbeaten offers)
+    of_root None u m = tt
+    of_root (Some b) u m =
+        All-from_recursion (λ e. beats e b ≡ false) offers
+        (of_all is_of_root (λ e. beats e b ≡ false) offers (recursion_from_All (λ e. beats e b ≡ false) (filter is_of_root offers) u)
+        (λ e other. root_stays b e (kept_member is_of_root b offers m).1 other))
+
+    go : (t : Bool) → IfSome (cond t (best_offer (filter is_of_root offers)) (best_offer offers)) (IsUnbeaten offers)
+    go true = of_root (best_offer (filter is_of_root offers)) (best_unbeaten (filter is_of_root offers)) (best_member (filter is_of_root offers))
+    go false = best_unbeaten offers
+
+pick_none : (offers : List Offer) → (pick offers ≡ None) ↔ (offers ≡ [])
+pick_none offers = go (list_any is_of_root offers) refl
+  where
+    go : (t : Bool) → list_any is_of_root offers ≡ t → (cond t (best_offer (filter is_of_root offers)) (best_offer offers) ≡ None) ↔ (offers ≡ [])
+    go true a = (
+      λ e. absurd (any_kept is_of_root offers a ((best_none (filter is_of_root offers)).0 e)),
+      λ e. (let bad : false ≡ true = sym (ap (list_any is_of_root) e) ∙ a in cc),
+    )
+    go false a = best_none offers
+
 pick_member : (offers : List Offer) → IfSome (pick offers) (Contains offers)
-pick_member [] = tt
-pick_member (b ∷ xs) =
-    subst (λ o. IfSome o (Contains (b ∷ xs))) (sym (pick-cons b xs)) (to_contains (best_is_member b xs))
+pick_member offers = go (list_any is_of_root offers)
+  where
+    of_root : (o : Option Offer) → IfSome o (λ b. Member b (filter is_of_root offers)) → IfSome o (Contains offers)
+    of_root None m = tt
+    of_root (Some b) m = to_contains (kept_member is_of_root b offers m).0
+
+    of_any : (o : Option Offer) → IfSome o (λ b. Member b offers) → IfSome o (Contains offers)
+    of_any None m = tt
+    of_any (Some b) m = to_contains m
+
+    go : (t : Bool) → IfSome (cond t (best_offer (filter is_of_root offers)) (best_offer offers)) (Contains offers)
+    go true = of_root (best_offer (filter is_of_root offers)) (best_member (filter is_of_root offers))
+    go false = of_any (best_offer offers) (best_member offers)
 
 pub decides_unbeaten : (offers : List Offer) (d : Option QueueDecision) →
     d ≡ option_map decided (pick offers) → DecidesUnbeaten offers d

@@ -1,16 +1,21 @@
 -- What is queued only grows while clauses are woken, and stays a set of clauses' positions.
 use Rattle.std.proofs.Common.{◌≡◌, ℕ, zero, suc, ◌+◌, ◌<◌, Bool, true, false, ◌⊎◌, inl, inr, List, [], ◌∷◌, ◌++◌, take, length, get_or, None, Some, Result, Ok, Err, OnOk, slice_get, sym, ap, ap₂, refl, ◌∙◌, subst, arith, nat_cmp, is_eq, ltb, ltb-true, ltb-false, ◌≤◌}
+use Rattle.std.specs.Cmp.{IsTotalOrder, nat_cmp_total}
 use Rattle.std.specs.Ordering.{ordering_then}
 use Rattle.std.proofs.lemmas.Bool.Decides.{nat_tests}
+use Rattle.std.proofs.lemmas.Cmp.{on_total, then_total}
 use Rattle.std.proofs.lemmas.List.{take_more}
 use Rattle.decisions.specs.Literals.{Values, known_true}
 use Rattle.resolvo_queue.specs.Order.{Stands, here, there}
-use Rattle.resolvo_queue.specs.Positions.{has, same_position}
+use Rattle.resolvo_queue.specs.Positions.{has, position_cmp, same_position}
 use Rattle.resolvo_queue.specs.Queued.{Queued, IsQueued, GrowsBy, IsOfClause, AreWoken, HaveNumbers, IsWoken}
 use Rattle.resolvo_queue.specs.declared.position.Position.{Position}
 use Rattle.resolvo_queue.specs.declared.tracked_clause.TrackedClause.{TrackedClause}
 
 -- ---- positions
+
+pub position_order : IsTotalOrder position_cmp
+position_order = then_total (on_total (λ (p : Position). p.first_of_parent) nat_cmp_total) (on_total (λ (p : Position). p.number) nat_cmp_total)
 
 both_same : (a b c d : ℕ) → is_eq (ordering_then (nat_cmp a c) (nat_cmp b d)) ≡ true → (a ≡ c) × (b ≡ d)
 both_same a b c d e = (first a b c d e, second a b c d e)

@@ -1,39 +1,25 @@
 -- What a question does to a queue that is ready, and what is queued tells of the offers.
-use Rattle.std.proofs.Common.{◌≡◌, ◌≢◌, ℕ, zero, suc, ◌<◌, Bool, true, false, ◌&&◌, cond, eqb, eqb-true, eq-eqb, ◌⊎◌, inl, inr, List, [], ◌∷◌, filter_map, fold, length, get_or, Option, Some, None, IfSome, MatchOption, is_some, option_map, slice_get, sym, ap, refl, ◌∙◌, subst, arith, is_gt}
-use Rattle.std.specs.List.{cons_option}
-use Rattle.std.specs.Cmp.{IsTotalOrder, nat_cmp_total}
-use Rattle.std.specs.Ordering.{ordering_reverse}
-use Rattle.std.specs.declared.cmp.Ordering.TheVariants.{Less, Greater}
-use Rattle.std.proofs.lemmas.Cmp.{on_total, then_total}
+use Rattle.std.proofs.Common.{◌≡◌, ◌≢◌, ℕ, zero, suc, ◌<◌, Bool, true, false, ◌&&◌, cond, eqb, eqb-true, eq-eqb, ◌⊎◌, inl, inr, List, [], ◌∷◌, length, get_or, Option, Some, None, IfSome, MatchOption, is_some, option_map, slice_get, sym, ap, refl, ◌∙◌, subst, arith}
 use Rattle.typed_ids.specs.declared.version_set_id.VersionSetId.{VersionSetId}
 use Rattle.decisions.specs.Literals.{Lit, Values, known_true}
 use Rattle.providers.specs.declared.requirement.Requirement.{Requirement}
 use Rattle.resolvo_queue.specs.declared.frontier.Frontier.{Frontier}
-use Rattle.resolvo_queue.specs.Pick.{Offer, beats, better, pick}
+use Rattle.resolvo_queue.specs.Pick.{Offer, beats}
 use Rattle.resolvo_queue.specs.Rows.{Row, frontier}
 use Rattle.resolvo_queue.specs.Inspection.{Learns, eligible_frontier, may_be, offer_with, clause_of, offer_of}
-use Rattle.resolvo_queue.specs.Order.{Stands, Ascends}
-use Rattle.resolvo_queue.specs.Positions.{has, position_cmp, same_position, IsBefore, is_after}
+use Rattle.resolvo_queue.specs.Positions.{has, same_position}
 use Rattle.resolvo_queue.specs.Possible.{Known, may_have_frontier, may_be_eligible, HoldsPossible, KnowsRight}
 use Rattle.resolvo_queue.specs.Scan.{are_literals_false}
 use Rattle.resolvo_queue.specs.Queued.{Queued, LosesOnly, IsOfClause}
-use Rattle.resolvo_queue.specs.declared.candidate.Candidate.{Candidate}
-use Rattle.resolvo_queue.specs.Ready as spec
-use Rattle.resolvo_queue.specs.Ready.{at_position, AreLocated, scanned, improved, IsReady}
-use Rattle.resolvo_queue.specs.ScanOrder.{position_in}
-use Rattle.resolvo_queue.specs.Selection.{behind, picked_behind}
+use Rattle.resolvo_queue.specs.Ready.{AreLocated, IsReady}
 use Rattle.resolvo_queue.specs.Synced.{IsRegistered, IsHot}
 use Rattle.resolvo_queue.specs.Tracked.{Tracked, walk_of, rows_in, known_at, rows_at, updated_at, walked, IsPlaceOf}
 use Rattle.resolvo_queue.specs.declared.position.Position.{Position}
 use Rattle.resolvo_queue.specs.declared.tracked_clause.TrackedClause.{TrackedClause}
 use Rattle.resolvo_queue.proofs.QueuedLaws.{same_position_is, read_at}
 use Rattle.resolvo_queue.proofs.RecordLaws.{is_at_place, is_elsewhere}
-use Rattle.resolvo_queue.proofs.ScanLaws.{scan_ascends, scanned_at, at_scanned}
-use Rattle.resolvo_queue.proofs.SelectionLaws.{first_picked, next_better, none_better, none_offered, cold_beats_nothing}
+use Rattle.resolvo_queue.proofs.SelectionLaws.{cold_beats_nothing}
 use Rattle.resolvo_queue.proofs.SyncLaws.{walk_holds, walk_knows, removed_holds}
-
-pub position_order : IsTotalOrder position_cmp
-position_order = then_total (on_total (λ (p : Position). p.first_of_parent) nat_cmp_total) (on_total (λ (p : Position). p.number) nat_cmp_total)
 
 same_or_not : (a b : ℕ) → (a ≡ b) ⊎ (a ≢ b)
 same_or_not a b = go (eqb a b) refl
@@ -207,96 +193,6 @@ module _ (clauses : List TrackedClause) (literals : TrackedClause → List Lit) 
         go None h = tt
         go (Some f) h = by_heat f h c.is_hot refl
 
-  -- ---- the pick along the scan
-
-  module _ (score : VersionSetId → ℕ) (located : AreLocated clauses) where
-    abbrev pub place_of : ℕ × TrackedClause → Position
-    place_of = position_in (λ (c : TrackedClause). c.parent) at_position clauses
-
-    abbrev pub item_offer : ℕ × TrackedClause → Option Offer
-    item_offer x = offer_of val literals rows_of score x.1
-
-    -- the best so far, with the items behind a position
-    abbrev pub rest_picked : Offer → Position → Option Offer
-    rest_picked b p = picked_behind position_cmp place_of item_offer (scanned clauses) b p
-
-    -- the pick of all
-    abbrev pub all_picked : Option Offer
-    all_picked = pick (filter_map item_offer (scanned clauses))
-
-    ascends : Ascends position_cmp place_of (scanned clauses)
-    ascends = scan_ascends (λ (c : TrackedClause). c.parent) position_cmp at_position (λ a b c d. refl) clauses
-
-    item_at : (x : ℕ × TrackedClause) → Stands x (scanned clauses) → slice_get clauses x.0 ≡ Some x.1
-    item_at x s = scanned_at (λ (c : TrackedClause). c.parent) clauses x s
-
-    own_place : (x : ℕ × TrackedClause) → Stands x (scanned clauses) → x.1.position ≡ place_of x
-    own_place x s = located x.0 x.1 (item_at x s)
-
-    after_not_before : (p r : Position) → is_after p r ≡ false → position_cmp r p ≡ Less → ⊥
-    after_not_before p r h e =
-        let reversed : position_cmp p r ≡ Greater = position_order.antisymm p r ∙ ap ordering_reverse e in
-        let after : is_after p r ≡ true = ap is_gt reversed in
-        differ (sym after ∙ h)
-      where
-        differ : true ≡ false → ⊥
-        differ s = cc
-
-    no_or_yes : (b : Bool) → (b ≡ true → ⊥) → b ≡ false
-    no_or_yes true h = absurd (h refl)
-    no_or_yes false h = refl
-
-    module _ (ts : List Tracked) (q : Queued) (ready : Ready ts q) where
-      -- none is queued: there is no pick
-      pub none_queued : ((p : Position) → has q.all p ≡ false) → all_picked ≡ None
-      none_queued empty = none_offered position_cmp position_order place_of item_offer (scanned clauses)
-          (λ x s. unqueued_offers_nothing score ts q ready x.0 x.1 (item_at x s) (empty x.1.position))
-
-      -- the first queued position offers: the best so far, and what is behind
-      pub first_queued : (p : Position) (c : TrackedClause) (o : Offer) → slice_get clauses p.number ≡ Some c → c.position ≡ p → offer_of val literals rows_of score c ≡ Some o →
-          ((r : Position) → has q.all r ≡ true → is_after p r ≡ false) → all_picked ≡ rest_picked o p
-      first_queued p c o is at offered least =
-          let here_it_is : place_of (p.number, c) ≡ p = sym (located p.number c is) ∙ at in
-          first_picked position_cmp position_order place_of item_offer (scanned clauses) ascends (p.number, c) o
-          (at_scanned (λ (d : TrackedClause). d.parent) clauses p.number c is) offered
-          (λ y s below. unqueued_offers_nothing score ts q ready y.0 y.1 (item_at y s)
-          (no_or_yes (has q.all y.1.position) (λ queued. after_not_before p y.1.position (least y.1.position queued)
-          (subst (λ r. position_cmp r p ≡ Less) (sym (own_place y s)) (subst (λ r. position_cmp (place_of y) r ≡ Less) here_it_is below)))))
-          ∙ ap (rest_picked o) here_it_is
-
-      -- the set that the second part of a question goes through: what isn't in it offers nothing better
-      module _ (set : List Position) (b : Offer)
-          (out : (n : ℕ) (c : TrackedClause) → slice_get clauses n ≡ Some c → has set c.position ≡ false → IfSome (offer_of val literals rows_of score c) (λ e. beats e b ≡ false)) where
-        pub next_queued : (cursor p : Position) (c : TrackedClause) → slice_get clauses p.number ≡ Some c → c.position ≡ p → IsBefore cursor p →
-            ((r : Position) → has set r ≡ true → IsBefore cursor r → is_after p r ≡ false) →
-            rest_picked b cursor ≡ rest_picked (improved b (offer_of val literals rows_of score c)) p
-        next_queued cursor p c is at before least =
-            let here_it_is : place_of (p.number, c) ≡ p = sym (located p.number c is) ∙ at in
-            next_better position_cmp position_order place_of item_offer (scanned clauses) ascends b cursor (p.number, c)
-            (at_scanned (λ (d : TrackedClause). d.parent) clauses p.number c is) (subst (λ r. position_cmp cursor r ≡ Less) (sym here_it_is) before)
-            (λ y s above below. out y.0 y.1 (item_at y s)
-            (no_or_yes (has set y.1.position) (λ queued. after_not_before p y.1.position
-            (least y.1.position queued (subst (λ r. position_cmp cursor r ≡ Less) (sym (own_place y s)) above))
-            (subst (λ r. position_cmp r p ≡ Less) (sym (own_place y s)) (subst (λ r. position_cmp (place_of y) r ≡ Less) here_it_is below)))))
-            ∙ (one_more (offer_of val literals rows_of score c) (filter_map item_offer (behind position_cmp place_of item_offer (place_of (p.number, c)) (scanned clauses)))
-            ∙ ap (rest_picked (improved b (offer_of val literals rows_of score c))) here_it_is)
-          where
-            one_more : (o : Option Offer) (es : List Offer) → fold better (Some b) (cons_option o es) ≡ fold better (Some (improved b o)) es
-            one_more None es = refl
-            one_more (Some e) es = refl
-
-        -- nothing of the set is behind: the best so far is the pick
-        pub last_queued : (cursor : Position) → ((r : Position) → IsBefore cursor r → has set r ≡ false) → rest_picked b cursor ≡ Some b
-        last_queued cursor none =
-            none_better position_cmp position_order place_of item_offer (scanned clauses) b cursor
-            (λ y s above. out y.0 y.1 (item_at y s) (none y.1.position (subst (λ r. position_cmp cursor r ≡ Less) (sym (own_place y s)) above)))
-
-      -- nothing can be better: the best so far is the pick
-      pub unbeatable_picked : (b : Offer) (cursor : Position) → ((n : ℕ) (c : TrackedClause) → slice_get clauses n ≡ Some c → IfSome (offer_of val literals rows_of score c) (λ e. beats e b ≡ false)) →
-          rest_picked b cursor ≡ Some b
-      unbeatable_picked b cursor out =
-          none_better position_cmp position_order place_of item_offer (scanned clauses) b cursor (λ y s above. out y.0 y.1 (item_at y s))
-
 -- ---- looking at one clause
 
 same_some : {X : Type 0} (x y : X) → Some x ≡ Some y → x ≡ y
@@ -346,24 +242,3 @@ read_here clauses p of c e = read_at clauses p.number c (within clauses p.number
 pub match_none : {T : Type 0} (o : Option T) (P : Type 0) (Q : T → Type 0) → o ≡ None → MatchOption o P Q → P
 match_none None P Q e h = h
 match_none (Some x) P Q e h = cc
-
--- ---- the first part of a question
-
-module _ (clauses : List TrackedClause) (literals : TrackedClause → List Lit) (rows_of : Requirement → List Row) (val : Values) (score : VersionSetId → ℕ)
-    (located : AreLocated clauses) (ts : List Tracked) (q : Queued) (ready : IsReady clauses literals rows_of val ts q) where
-  -- the first queued position offers
-  pub first_found : (p : Position) → has q.all p ≡ true → ((r : Position) → has q.all r ≡ true → is_after p r ≡ false) →
-      (found : Option Candidate) (b : Candidate) → found ≡ Some b →
-      ((d : TrackedClause) → slice_get clauses p.number ≡ Some d → option_map (λ (x : Candidate). x.offer) found ≡ offer_of val literals rows_of score d) →
-      IfSome found (λ x. x.position ≡ p) →
-      spec.all_picked clauses literals rows_of val score ≡ spec.rest_picked clauses literals rows_of val score b.offer b.position
-  first_found p here_it_is least found b is offers at =
-      let of = ready.all_of p here_it_is in
-      let offered : offer_of val literals rows_of score of.0 ≡ Some b.offer = sym (offers of.0 of.1) ∙ ap (option_map (λ (x : Candidate). x.offer)) is in
-      let place : b.position ≡ p = subst (λ o. IfSome o (λ (x : Candidate). x.position ≡ p)) is at in
-      first_queued clauses literals rows_of val score located ts q ready p of.0 b.offer of.1 of.2 offered least
-      ∙ ap (spec.rest_picked clauses literals rows_of val score b.offer) (sym place)
-
-  -- nothing is queued
-  pub none_found : ((p : Position) → has q.all p ≡ false) → spec.all_picked clauses literals rows_of val score ≡ None
-  none_found empty = none_queued clauses literals rows_of val score located ts q ready empty

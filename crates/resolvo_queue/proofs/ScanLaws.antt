@@ -198,6 +198,36 @@ module _ {C : Type 0} (parent : C → ℕ) where
   own_first : (i : ℕ) (c : C) (cs : List C) → first_from parent i (c ∷ cs) (parent c) ≡ i
   own_first i c cs = ap (λ b. cond b i (first_from parent (suc i) cs (parent c))) (eq-eqb (parent c) (parent c) refl)
 
+  -- the clause with the first number of a parent is one of its own
+  pub first_is_own : (i : ℕ) (cs : List C) (n : ℕ) (c : C) → slice_get cs n ≡ Some c →
+      (k : ℕ) (d : C) → i + k ≡ first_from parent i cs (parent c) → slice_get cs k ≡ Some d → parent d ≡ parent c
+  first_is_own i [] n c e k d at s = cc
+  first_is_own i (x ∷ xs) n c e k d at s =
+      go (λ m j r t z. first_is_own (suc i) xs m c r j d z t) (eqb (parent x) (parent c)) refl at
+    where
+      Later : Type 0
+      Later = (m j : ℕ) → slice_get xs m ≡ Some c → slice_get xs j ≡ Some d → suc i + j ≡ first_from parent (suc i) xs (parent c) → parent d ≡ parent c
+
+      own : eqb (parent x) (parent c) ≡ true → (j : ℕ) → slice_get (x ∷ xs) j ≡ Some d → i + j ≡ i → parent d ≡ parent c
+      own h zero r z = ap parent (same d x r) ∙ eqb-true (parent x) (parent c) h
+        where
+          same : (a b : C) → Some b ≡ Some a → a ≡ b
+          same a b t = cc
+      own h (suc j) r z = absurd (omega (arith, z))
+
+      other : Later → eqb (parent x) (parent c) ≡ false → (m j : ℕ) → slice_get (x ∷ xs) m ≡ Some c → slice_get (x ∷ xs) j ≡ Some d →
+          i + j ≡ first_from parent (suc i) xs (parent c) → parent d ≡ parent c
+      other later h zero j r t z = let bad : eqb (parent x) (parent c) ≡ true = eq-eqb (parent x) (parent c) (ap parent (same x c r)) in cc
+        where
+          same : (a b : C) → Some a ≡ Some b → a ≡ b
+          same a b q = cc
+      other later h (suc m) zero r t z = let above : suc i ≤ first_from parent (suc i) xs (parent c) = first_above (suc i) xs (parent c) in absurd (omega (arith, above, z))
+      other later h (suc m) (suc j) r t z = later m j r t (let q : suc i + j ≡ i + suc j = omega arith in q ∙ z)
+
+      go : Later → (b : Bool) → eqb (parent x) (parent c) ≡ b → i + k ≡ cond b i (first_from parent (suc i) xs (parent c)) → parent d ≡ parent c
+      go later true h z = own h k s z
+      go later false h z = other later h n k e s z
+
   firsts_up : (i : ℕ) (cs : List C) → Up (λ p q. first_from parent i cs p < first_from parent i cs q) (own_parents cs)
   firsts_up i [] = tt
   firsts_up i (c ∷ cs) = (

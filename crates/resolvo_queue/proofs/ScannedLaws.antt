@@ -1,4 +1,4 @@
--- The pick along the numbered scan of tracked clauses is the pick of the clauses that were registered.
+-- What tracked clauses offer along the numbered scan is what the registered ones offer.
 use Rattle.std.proofs.Common.{◌≡◌, ℕ, Bool, true, false, not, ◌&&◌, cond, eqb, List, [], ◌∷◌, ◌++◌, map, Option, None, option_map, sym, ap, ap₂, refl, ◌∙◌}
 use Rattle.std.specs.Prelude.{filter, filter_map, find, flat_map, fold}
 use Rattle.std.specs.List.{cons_option}
@@ -10,8 +10,8 @@ use Rattle.resolvo_queue.specs.declared.frontier.Frontier.{Frontier}
 use Rattle.resolvo_queue.specs.declared.requires_clause.RequiresClause.{RequiresClause}
 use Rattle.resolvo_queue.specs.declared.tracked_clause.TrackedClause.{TrackedClause}
 use Rattle.resolvo_queue.specs.Inspection.{clause_of, offer_of, offer_with}
-use Rattle.resolvo_queue.specs.Pick.{Offer, eligible, offer, pick}
-use Rattle.resolvo_queue.specs.Ready.{all_picked, scanned}
+use Rattle.resolvo_queue.specs.Pick.{Offer, eligible, offer}
+use Rattle.resolvo_queue.specs.Ready.{offered, scanned}
 use Rattle.resolvo_queue.specs.Rows.{Row, frontier_at, has_true_row, is_undecided_row}
 use Rattle.resolvo_queue.specs.Scan.{add_parent, are_literals_false, clauses_of, scan}
 use Rattle.resolvo_queue.specs.ScanOrder.{scan_of}
@@ -57,10 +57,10 @@ module _ (val : Values) (literals_of : Option ℕ → List Lit) (rows_of : Requi
   abbrev literals : TrackedClause → List Lit
   literals c = literals_of c.condition
 
-  abbrev offered : RequiresClause → Option Offer
-  offered c = offer val literals_of rows_of score c
+  abbrev registered_offer : RequiresClause → Option Offer
+  registered_offer c = offer val literals_of rows_of score c
 
-  offers_same : (c : TrackedClause) → offered (clause_of c) ≡ offer_of val literals rows_of score c
+  offers_same : (c : TrackedClause) → registered_offer (clause_of c) ≡ offer_of val literals rows_of score c
   offers_same c =
       let rs : List Row = rows_of c.required in
       go (known_true (val c.parent)) (are_literals_false val (literals_of c.condition)) (has_true_row val rs)
@@ -74,14 +74,13 @@ module _ (val : Values) (literals_of : Option ℕ → List Lit) (rows_of : Requi
       go false b t x = refl
 
   offers_along : (xs : List (ℕ × TrackedClause)) →
-      filter_map offered (map clause_of (map (λ x. x.1) xs)) ≡ filter_map (λ x. offer_of val literals rows_of score x.1) xs
+      filter_map registered_offer (map clause_of (map (λ x. x.1) xs)) ≡ filter_map (λ x. offer_of val literals rows_of score x.1) xs
   offers_along [] = refl
   offers_along (x ∷ xs) = ap₂ cons_option (offers_same x.1) (offers_along xs)
 
-  -- the pick of the tracked clauses is that of the registered ones
-  pub picked_of_registered : (cs : List TrackedClause) →
-      all_picked cs literals rows_of val score ≡ pick (eligible val literals_of rows_of score (map clause_of cs))
-  picked_of_registered cs =
-      sym (ap pick (
-      ap (filter_map offered) (scan_tracked cs ∙ ap (map clause_of) (sym (scan_is parent_of cs)))
-      ∙ offers_along (scanned cs)))
+  -- what the tracked clauses offer is what the registered ones do
+  pub offered_registered : (cs : List TrackedClause) →
+      offered cs (offer_of val literals rows_of score) ≡ eligible val literals_of rows_of score (map clause_of cs)
+  offered_registered cs =
+      sym (ap (filter_map registered_offer) (scan_tracked cs ∙ ap (map clause_of) (sym (scan_is parent_of cs)))
+      ∙ offers_along (scanned cs))

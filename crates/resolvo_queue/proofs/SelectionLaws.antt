@@ -1,5 +1,5 @@
--- The pick needs no more than the first offer and, behind it, the items that can beat the best so far.
-use Rattle.std.proofs.Common.{◌≡◌, ℕ, ◌≤◌, Bool, true, false, not, ◌&&◌, ◌||◌, cond, ltb, List, [], ◌∷◌, filter_map, fold, map, Option, Some, None, IfSome, sym, ap, refl, ◌∙◌, arith}
+-- The best needs no more than the first offer and, behind it, the items that can beat the best so far.
+use Rattle.std.proofs.Common.{◌≡◌, ℕ, ◌≤◌, Bool, false, not, ◌&&◌, ◌||◌, cond, ltb, List, [], ◌∷◌, filter_map, fold, map, Option, Some, None, IfSome, sym, ap, refl, ◌∙◌, arith}
 use Rattle.std.specs.List.{cons_option, AllByRecursion}
 use Rattle.std.specs.List.Sorted.{IsStrictlySortedBy}
 use Rattle.std.specs.declared.cmp.Ordering.{Ordering}
@@ -7,7 +7,7 @@ use Rattle.std.specs.Ordering.{is_lt, ordering_reverse}
 use Rattle.std.specs.declared.cmp.Ordering.TheVariants.{Less, Equal, Greater}
 use Rattle.std.specs.Cmp.{IsTotalOrder}
 use Rattle.std.proofs.lemmas.Bool.Decides.{nat_tests}
-use Rattle.resolvo_queue.specs.Pick.{Offer, beats, better, pick, is_of_root}
+use Rattle.resolvo_queue.specs.Pick.{Offer, beats, better, best_offer, is_of_root}
 use Rattle.resolvo_queue.specs.Order.{Stands, here, there, Ascends}
 use Rattle.resolvo_queue.specs.Selection.{behind, picked_behind, OffersNoBetter}
 
@@ -23,13 +23,6 @@ by_largest s t c d m x y e h = grind (arith, nat_tests)
 by_cold : (s t c d : ℕ) (x y : Bool) → t ≡ 0 → (ltb s t && (ltb d c && (not x || y))) ≡ false
 by_cold s t c d x y e = grind (arith, nat_tests)
 
-by_root : (p q x y : Bool) → x ≡ true → y ≡ false → (p && (q && (not x || y))) ≡ false
-by_root true true true true e f = f
-by_root true true true false e f = refl
-by_root true true false y e f = let bad : false ≡ true = e in cc
-by_root true false x y e f = refl
-by_root false q x y e f = refl
-
 -- a count of one can't be beaten
 pub one_unbeaten : (b e : Offer) → b.frontier.count ≡ 1 → 1 ≤ e.frontier.count → beats e b ≡ false
 one_unbeaten b e p h = by_count b.score e.score b.frontier.count e.frontier.count (is_of_root b) (is_of_root e) p h
@@ -43,11 +36,7 @@ largest_unbeaten largest b e p h =
 pub cold_beats_nothing : (b e : Offer) → e.score ≡ 0 → beats e b ≡ false
 cold_beats_nothing b e p = by_cold b.score e.score b.frontier.count e.frontier.count (is_of_root b) (is_of_root e) p
 
--- an offer of the root is beaten by none of another parent
-pub root_stays : (b e : Offer) → is_of_root b ≡ true → is_of_root e ≡ false → beats e b ≡ false
-root_stays b e p q = by_root (ltb b.score e.score) (ltb e.frontier.count b.frontier.count) (is_of_root b) (is_of_root e) p q
-
--- ---- the pick along the order
+-- ---- the best along the order
 
 reversed_same : (o : Ordering) → o ≡ ordering_reverse o → is_lt o ≡ false
 reversed_same Less e = cc
@@ -135,20 +124,20 @@ module _ {X K : Type 0} (cmp : K → K → Ordering) (order : IsTotalOrder cmp) 
   -- the first: nothing before the item offers
   pub first_picked : (xs : List X) → Ascends cmp key xs → (x : X) (o : Offer) → Stands x xs → offer_of x ≡ Some o →
       ((y : X) → Stands y xs → cmp (key y) (key x) ≡ Less → offer_of y ≡ None) →
-      pick (filter_map offer_of xs) ≡ picked_behind cmp key offer_of xs o (key x)
+      best_offer (filter_map offer_of xs) ≡ picked_behind cmp key offer_of xs o (key x)
   unfolding IsStrictlySortedBy
   first_picked [] up z o s e h = elim s [ ]
   first_picked (x ∷ xs) up z o here e h =
-      ap (λ p. pick (cons_option p (offers xs))) e
+      ap (λ p. best_offer (cons_option p (offers xs))) e
       ∙ sym (ap (λ l. fold better (Some o) (offers l)) (skipped (key x) x xs (not_behind_itself x) ∙ all_behind (key x) xs (below_all x xs up.0)))
   first_picked (y ∷ ys) up z o (there s) e h =
       let below : cmp (key y) (key z) ≡ Less = below_all y ys up.0 z s in
-      ap (λ p. pick (cons_option p (offers ys))) (h y here below)
+      ap (λ p. best_offer (cons_option p (offers ys))) (h y here below)
       ∙ (first_picked ys up.1 z o s e (λ w t. h w (there t))
       ∙ sym (ap (λ l. fold better (Some o) (offers l)) (skipped (key z) y ys (not_behind_later z y below))))
 
-  -- no offers, no pick
-  pub none_offered : (xs : List X) → ((y : X) → Stands y xs → offer_of y ≡ None) → pick (filter_map offer_of xs) ≡ None
+  -- no offers, no best
+  pub none_offered : (xs : List X) → ((y : X) → Stands y xs → offer_of y ≡ None) → best_offer (filter_map offer_of xs) ≡ None
   none_offered [] h = refl
   none_offered (x ∷ xs) h =
-      ap (λ p. pick (cons_option p (offers xs))) (h x here) ∙ none_offered xs (λ y s. h y (there s))
+      ap (λ p. best_offer (cons_option p (offers xs))) (h x here) ∙ none_offered xs (λ y s. h y (there s))

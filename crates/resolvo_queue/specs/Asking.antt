@@ -7,12 +7,14 @@ use Rattle.resolvo_queue.specs.Question.{AreAskable, clause_literals}
 use Rattle.resolvo_queue.specs.Ready.{AreLocated, IsReady}
 use Rattle.resolvo_queue.specs.References.{References, rows_in}
 use Rattle.resolvo_queue.specs.Tracked.{OwesSame, SameFound}
+use Rattle.resolvo_queue.specs.Tracking.{BeginFirst}
 use Rattle.resolvo_queue.specs.WalkCounts.{WalksOnce}
 use Rattle.resolvo_queue.specs.declared.tracked_clauses.TrackedClauses.{TrackedClauses}
 
 -- all clauses can be looked at, and who may be eligible is queued
 pub record CanBeAsked {N S A : Type 0} (refs : References N S A) (val : Values) (tracked : TrackedClauses A) : Type 0 where
   pub located : AreLocated tracked.index.clauses.items
+  pub first : BeginFirst tracked.index.clauses.items tracked.index.by_parent
   pub askable : AreAskable refs tracked.index.clauses.items
   pub listed : IsListedWell refs.lists tracked.occurrences tracked.requirements
   pub ready : IsReady tracked.index.clauses.items (clause_literals refs) (rows_in refs) val tracked.requirements tracked.queued

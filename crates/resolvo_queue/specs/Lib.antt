@@ -1,6 +1,7 @@
 pub mod Asking
 pub mod ByName
 pub mod Falsified
+pub mod Group
 pub mod Index
 pub mod Inspection
 pub mod Laws

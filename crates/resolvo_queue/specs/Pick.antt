@@ -1,5 +1,6 @@
 -- What eligible clauses offer, and which offer is picked.
-use Rattle.std.specs.Prelude.{◌≡◌, ℕ, Bool, false, not, ◌==◌, ◌&&◌, ◌||◌, nat_lt, if◌then◌else◌, List, [], filter_map, fold, Option, None, Some, option_map, All, Contains, MatchOption}
+use Rattle.std.specs.Prelude.{◌≡◌, ℕ, Bool, false, not, ◌==◌, ◌&&◌, ◌||◌, nat_lt, if◌then◌else◌, List, [], filter, filter_map, fold, Option, None, Some, option_map, All, Contains, MatchOption}
+use Rattle.std.specs.List.{list_any}
 use Rattle.typed_ids.specs.declared.version_set_id.VersionSetId.{VersionSetId}
 use Rattle.providers.specs.declared.requirement.Requirement.{Requirement}
 use Rattle.decisions.specs.Literals.{Lit, Values}
@@ -35,8 +36,12 @@ better None e = Some e
 better (Some b) e = Some (if beats e b then e else b)
 
 -- the first, unless a later one beats the best so far
+abbrev pub best_offer : List Offer → Option Offer
+best_offer offers = fold better None offers
+
+-- the best of the root's alone, if there is one of the root; else the best of all
 abbrev pub pick : List Offer → Option Offer
-pick offers = fold better None offers
+pick offers = if list_any is_of_root offers then best_offer (filter is_of_root offers) else best_offer offers
 
 -- the offer as the decision that is reported
 abbrev pub decided : Offer → QueueDecision

@@ -1,13 +1,13 @@
 -- A queue that is ready for a question: synced at the values, and in order.
-use Rattle.std.specs.Prelude.{◌≡◌, ℕ, true, false, if◌then◌else◌, List, Option, Some, None, slice_get, filter, filter_map, length, ◌⊎◌}
+use Rattle.std.specs.Prelude.{◌≡◌, ℕ, Bool, true, false, if◌then◌else◌, List, Option, Some, None, slice_get, filter, filter_map, length, ◌⊎◌}
 use Rattle.std.specs.Ordering.{is_lt}
 use Rattle.typed_ids.specs.declared.version_set_id.VersionSetId.{VersionSetId}
 use Rattle.decisions.specs.Literals.{Lit, Values, known_true}
 use Rattle.providers.specs.declared.requirement.Requirement.{Requirement}
 use Rattle.resolvo_queue.specs.declared.frontier.Frontier.{Frontier}
-use Rattle.resolvo_queue.specs.Pick.{Offer, beats, pick}
+use Rattle.resolvo_queue.specs.Pick.{Offer, beats}
 use Rattle.resolvo_queue.specs.Rows.{Row}
-use Rattle.resolvo_queue.specs.Inspection.{offer_of, eligible_frontier}
+use Rattle.resolvo_queue.specs.Inspection.{eligible_frontier}
 use Rattle.resolvo_queue.specs.Positions.{has, position_cmp, IsBefore}
 use Rattle.resolvo_queue.specs.Queued.{Queued, IsOfClause}
 use Rattle.resolvo_queue.specs.ScanOrder.{numbered_scan, position_in}
@@ -43,21 +43,20 @@ module _ (clauses : List TrackedClause) (literals : TrackedClause → List Lit) 
 
 -- ---- the pick along the scan
 
-module _ (clauses : List TrackedClause) (literals : TrackedClause → List Lit) (rows_of : Requirement → List Row) (val : Values) (score : VersionSetId → ℕ) where
+module _ (clauses : List TrackedClause) where
   abbrev pub place_of : ℕ × TrackedClause → Position
   place_of = position_in (λ (c : TrackedClause). c.parent) at_position clauses
 
-  abbrev pub item_offer : ℕ × TrackedClause → Option Offer
-  item_offer x = offer_of val literals rows_of score x.1
+  module _ (offers : TrackedClause → Option Offer) where
+    -- what the clauses offer, in the order of the scan
+    abbrev pub offered : List Offer
+    offered = filter_map (λ x. offers x.1) (scanned clauses)
 
-  -- the pick of all clauses
-  abbrev pub all_picked : Option Offer
-  all_picked = pick (filter_map item_offer (scanned clauses))
+    -- what the clauses behind a position make of the best so far
+    abbrev pub rest_picked : Offer → Position → Option Offer
+    rest_picked b p = picked_behind position_cmp place_of (λ x. offers x.1) (scanned clauses) b p
 
-  -- what the clauses behind a position make of the best so far
-  abbrev pub rest_picked : Offer → Position → Option Offer
-  rest_picked b p = picked_behind position_cmp place_of item_offer (scanned clauses) b p
-
+module _ (clauses : List TrackedClause) (literals : TrackedClause → List Lit) (rows_of : Requirement → List Row) (val : Values) (score : VersionSetId → ℕ) where
   -- what isn't hot has no score
   abbrev pub ColdHasNoScore : Type 0
   ColdHasNoScore =
@@ -67,9 +66,9 @@ module _ (clauses : List TrackedClause) (literals : TrackedClause → List Lit) 
 -- how many clauses are behind a position
 abbrev pub clauses_behind : List TrackedClause → Position → ℕ
 clauses_behind clauses p =
-    length (filter (λ x. is_lt (position_cmp p (position_in (λ (c : TrackedClause). c.parent) at_position clauses x))) (scanned clauses))
+    length (filter (λ x. is_lt (position_cmp p (place_of clauses x))) (scanned clauses))
 
--- no clause behind the position can be better: the best has one candidate or the largest score, or none is left
-abbrev pub IsDone : Offer → ℕ → Position → List Position → Type 0
-IsDone b largest cursor set =
-    (b.frontier.count ≡ 1) ⊎ ((b.score ≡ largest) ⊎ ((p : Position) → IsBefore cursor p → has set p ≡ false))
+-- no clause of the group behind the position can be better: the best has one candidate or the largest score, or none is left
+abbrev pub IsDone : Offer → ℕ → Position → (Position → Bool) → Type 0
+IsDone b largest cursor counts =
+    (b.frontier.count ≡ 1) ⊎ ((b.score ≡ largest) ⊎ ((p : Position) → IsBefore cursor p → counts p ≡ false))

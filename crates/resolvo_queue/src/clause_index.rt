@@ -1,9 +1,11 @@
 //! The registered clauses, and who finds them.
-ghost use Rattle.std.specs.Prelude.{◌≡◌, ◌<◌, ◌^◌, length, slice_get, MatchOption, OnOk, IfErr};
+ghost use Rattle.std.specs.Prelude.{◌≡◌, ◌<◌, ◌^◌, length, slice_get, option_map, MatchOption, OnOk, IfErr};
 ghost use Rattle.typed_ids.specs.declared.error.StoreError.TheVariants.{OutOfMemory};
 ghost use Rattle.resolvo_queue.specs.Index.{list_at};
 ghost use Rattle.resolvo_queue.specs.Registered.{FoundByAll, GainsNumber};
+ghost use Rattle.resolvo_queue.specs.declared.group.Group.TheVariants.{OfParent};
 
+use crate::group::Group;
 use crate::lists_by_variable::ListsByVariable;
 use crate::position::Position;
 use crate::tracked_clause::TrackedClause;
@@ -35,6 +37,16 @@ impl<A: Allocator + Copy> ClauseIndex<A> {
         Position {
             first_of_parent,
             number,
+        }
+    }
+
+    /// The clauses of a parent, if it has any.
+    pub(crate) fn group_of(&self, parent: VariableId) -> Option<Group>
+        ensures { result ≡ option_map OfParent (slice_get (list_at self.now.by_parent parent) 0) }
+    {
+        match self.by_parent.at(parent).first() {
+            Some(first) => Some(Group::OfParent(*first)),
+            None => None,
         }
     }
 }

@@ -11,9 +11,10 @@
 //! rows, it is eligible: the first of them is its frontier, the candidate to try. Where it has none, all its rows are
 //! false, and it is falsified.
 //!
-//! Of the eligible clauses the first of the scan is picked, unless a later one beats it: one whose frontier's package
-//! has a higher score, and whose version set has fewer undecided candidates left. No clause of another parent beats one
-//! of the root.
+//! What the user asked for is decided before anything that follows from it: where clauses of the root are eligible, one of
+//! them is picked, and only where none is, one of another parent. Among those it is the first of the scan, unless a later one
+//! beats the best so far: one whose frontier's package has a higher score, and whose version set has fewer undecided
+//! candidates left.
 //!
 //! A search asks after every propagation, with many clauses registered and a handful of variables changed since. So the
 //! queue remembers which clauses may be eligible, and what the last walk of each requirement's rows told. A search tells
@@ -32,12 +33,13 @@
 //!
 //! By what is known a clause may be eligible if its parent is true, its condition is met, and its requirement isn't known to
 //! have no frontier. All of those are queued, by their position in the scan; some that can't be eligible any more may be
-//! queued too. A question ([`DecideQueue::next_decision`]) takes the queued clauses from the front. It walks a requirement's
-//! rows only if nothing is known of them, and after they were listed, so that a later sync finds them. What isn't eligible
-//! leaves the queue; the first clause that is, is the best so far. Behind it only a clause with a higher score is better, so
-//! while scores are raised by the standard parameters only those are looked at that have a package that ever got one: the hot ones,
-//! which are queued a second time. A name finds its clauses when it gets its first score. Nothing is better than a frontier
-//! with one candidate, or with the largest score.
+//! queued too. A question ([`DecideQueue::next_decision`]) takes the queued clauses of the root from the front, which lie side
+//! by side there; only where none of them is eligible, it takes all. It walks a requirement's rows only if nothing is known of
+//! them, and after they were listed, so that a later sync finds them. What isn't eligible leaves the queue; so nothing is
+//! looked at twice. The first clause that is eligible is the best so far. Behind it only a clause with a higher score is better,
+//! so while scores are raised by the standard parameters only those are looked at that have a package that ever got one: the
+//! hot ones, which are queued a second time. A name finds its clauses when it gets its first score. Nothing is better than a
+//! frontier with one candidate, or with the largest score.
 //!
 //! A clause isn't falsified as long as one row of its requirement isn't false. So a requirement keeps a witness, a variable of
 //! such a row, and a clause is looked at only if it came since, or if a variable changed that is its parent, stands in its

@@ -1,13 +1,18 @@
-//! The decision along what is queued: the first eligible clause, and behind it what may be better.
-ghost use Rattle.std.specs.Prelude.{◌≡◌, ◌<◌, Some, None, true, false, length, slice_get, option_map, IfSome, MatchOption, IfOk, IfErr};
+//! The decision along what is queued. First the root's clauses are gone through, which are decided before anything that
+//! follows from them; only where none of them is eligible, all that is queued, which the root's have left by then. Each
+//! time the first eligible clause is the best at first, and behind it what may be better is looked at.
+ghost use Rattle.std.specs.Prelude.{◌≡◌, ◌<◌, Some, None, true, false, length, filter, slice_get, option_map};
+ghost use Rattle.std.specs.Prelude.{IfSome, MatchOption, IfOk, IfErr};
 ghost use Rattle.typed_ids.specs.declared.error.StoreError.TheVariants.{OutOfMemory};
 ghost use Rattle.decisions.specs.Decisions.{values_in};
 ghost use Rattle.resolvo_queue.specs.Asking.{CanBeAsked, OnlyWalks};
-ghost use Rattle.resolvo_queue.specs.Inspection.{offer_of, offer_with};
+ghost use Rattle.resolvo_queue.specs.Group.{has_of, is_in, offers_of};
+ghost use Rattle.resolvo_queue.specs.Inspection.{offer_with};
+ghost use Rattle.resolvo_queue.specs.Pick.{best_offer, is_of_root, pick};
 ghost use Rattle.resolvo_queue.specs.Positions.{has, is_after, IsBefore};
 ghost use Rattle.resolvo_queue.specs.Queued.{IsOfClause, set_of};
-ghost use Rattle.resolvo_queue.specs.Question.{clause_literals, AreUpTo};
-ghost use Rattle.resolvo_queue.specs.Ready.{IsDone, ColdHasNoScore, all_picked, rest_picked, improved};
+ghost use Rattle.resolvo_queue.specs.Question.{clause_literals, offers_in, AreUpTo};
+ghost use Rattle.resolvo_queue.specs.Ready.{IsDone, ColdHasNoScore, offered, rest_picked, improved};
 ghost use Rattle.resolvo_queue.specs.References.{references, rows_in, score_in};
 ghost use Rattle.resolvo_queue.specs.declared.candidate.Candidate.{Candidate as ACandidate};
 ghost use Rattle.resolvo_queue.specs.declared.position.Position.{Position as APosition};
@@ -15,6 +20,7 @@ ghost use Rattle.resolvo_queue.specs.declared.tracked_clause.TrackedClause.{Trac
 
 use crate::candidate::Candidate;
 use crate::frontier::Frontier;
+use crate::group::Group;
 use crate::inspection::inspect;
 use crate::offer::Offer;
 use crate::position::Position;
@@ -28,7 +34,7 @@ use id_maps::{IdMap, SolverId};
 use id_storage::Arena;
 use providers::Interner;
 use std::alloc::Allocator;
-use typed_ids::{DisjunctionId, StoreError, VersionSetId};
+use typed_ids::{DisjunctionId, StoreError, VariableId, VersionSetId};
 
 /// What the clause at a position offers. One that isn't eligible leaves the queue.
 fn look<I: Interner>(
@@ -41,11 +47,17 @@ fn look<I: Interner>(
     interner: &I,
 ) -> Result<Option<Candidate>, StoreError>
     requires of { IsOfClause tracked.old.index.clauses.items position }
-    requires asked { CanBeAsked (references (I.universe interner.now) reader.old.lists disjunctions.now) (values_in map.now) tracked.old }
-    ensures offers { let refs = references (I.universe interner.now) reader.old.lists disjunctions.now in IfOk result (λ o. (c : ATrackedClause) → slice_get tracked.old.index.clauses.items position.number ≡ Some c → option_map (λ (b : ACandidate). b.offer) o ≡ offer_of (values_in map.now) (clause_literals refs) (rows_in refs) (score_in refs (I.NameId.Scores.value_at scores.now)) c) }
+    requires asked { let refs = references (I.universe interner.now) reader.old.lists disjunctions.now in
+        CanBeAsked refs (values_in map.now) tracked.old }
+    ensures offers { let refs = references (I.universe interner.now) reader.old.lists disjunctions.now in
+        let offers = offers_in refs (values_in map.now) (I.NameId.Scores.value_at scores.now) in
+        IfOk result (λ o. (c : ATrackedClause) → slice_get tracked.old.index.clauses.items position.number ≡ Some c →
+        option_map (λ (b : ACandidate). b.offer) o ≡ offers c) }
     ensures at { IfOk result (λ o. IfSome o (λ b. b.position ≡ position)) }
-    ensures fewer { IfOk result (λ o. o ≡ None → has tracked.old.queued.all position ≡ true → length tracked.new.queued.all < length tracked.old.queued.all) }
-    ensures asked { CanBeAsked (references (I.universe interner.now) reader.old.lists disjunctions.now) (values_in map.now) tracked.new }
+    ensures fewer { IfOk result (λ o. o ≡ None → has tracked.old.queued.all position ≡ true →
+        length tracked.new.queued.all < length tracked.old.queued.all) }
+    ensures asked { let refs = references (I.universe interner.now) reader.old.lists disjunctions.now in
+        CanBeAsked refs (values_in map.now) tracked.new }
     ensures walks { OnlyWalks tracked.old tracked.new reader.old reader.new }
     ensures memory { IfErr result (λ e. e ≡ OutOfMemory) }
 {
@@ -79,7 +91,8 @@ fn offer_at<I: Interner>(
     interner: &I,
 ) -> Offer
     requires { (I.universe interner.now).knows_set frontier.set ≡ true }
-    ensures { result ≡ offer_with (λ set. I.NameId.Scores.value_at scores.now ((I.universe interner.now).set_name set)) clause.now frontier }
+    ensures { result ≡ offer_with
+        (λ set. I.NameId.Scores.value_at scores.now ((I.universe interner.now).set_name set)) clause.now frontier }
 {
     Offer {
         clause: RequiresClause {
@@ -93,23 +106,29 @@ fn offer_at<I: Interner>(
     }
 }
 
-/// The first eligible clause. Those before it leave the queue.
+/// The first eligible clause of a group. Those before it leave the queue.
 fn first_eligible<I: Interner>(
     tracked: &mut TrackedClauses<I::Alloc>,
+    group: Group,
     map: &DecisionMap<I::Alloc>,
     reader: &mut RowReader<'_, I::Alloc>,
     disjunctions: &Arena<DisjunctionId, Disjunction<I::Alloc>, I::Alloc>,
     scores: &<I::NameId as SolverId<I::Alloc>>::Scores,
     interner: &I,
 ) -> Result<Option<Candidate>, StoreError>
-    requires asked { CanBeAsked (references (I.universe interner.now) reader.old.lists disjunctions.now) (values_in map.now) tracked.old }
-    ensures picked { let refs = references (I.universe interner.now) reader.old.lists disjunctions.now in IfOk result (λ o. let picked = all_picked tracked.old.index.clauses.items (clause_literals refs) (rows_in refs) (values_in map.now) (score_in refs (I.NameId.Scores.value_at scores.now)) in
-        MatchOption o (picked ≡ None) (λ b. picked ≡ rest_picked tracked.old.index.clauses.items (clause_literals refs) (rows_in refs) (values_in map.now) (score_in refs (I.NameId.Scores.value_at scores.now)) b.offer b.position)) }
-    ensures asked { CanBeAsked (references (I.universe interner.now) reader.old.lists disjunctions.now) (values_in map.now) tracked.new }
+    requires asked { let refs = references (I.universe interner.now) reader.old.lists disjunctions.now in
+        CanBeAsked refs (values_in map.now) tracked.old }
+    ensures picked { let refs = references (I.universe interner.now) reader.old.lists disjunctions.now in
+        let offers = offers_of group (offers_in refs (values_in map.now) (I.NameId.Scores.value_at scores.now)) in
+        let clauses = tracked.old.index.clauses.items in let best = best_offer (offered clauses offers) in
+        IfOk result (λ o. MatchOption o (best ≡ None) (λ b. best ≡ rest_picked clauses offers b.offer b.position)) }
+    ensures of { IfOk result (λ o. IfSome o (λ b. is_in group b.position ≡ true)) }
+    ensures asked { let refs = references (I.universe interner.now) reader.old.lists disjunctions.now in
+        CanBeAsked refs (values_in map.now) tracked.new }
     ensures walks { OnlyWalks tracked.old tracked.new reader.old reader.new }
     ensures memory { IfErr result (λ e. e ≡ OutOfMemory) }
 {
-    while let Some(position) = tracked.queued.first() {
+    while let Some(position) = tracked.queued.first_of(group) {
         match look(
             tracked,
             position,
@@ -126,17 +145,21 @@ fn first_eligible<I: Interner>(
     Ok(None)
 }
 
-/// The next clause behind a position that may be better than the best so far. None if nothing can be better, or
-/// nothing is left.
+/// The next clause of a group behind a position of it that may be better than the best so far. None if nothing can be
+/// better, or nothing is left.
 fn next_rival<A: Allocator + Copy>(
     tracked: &TrackedClauses<A>,
+    group: Group,
     best: &Candidate,
     cursor: Position,
     largest: u64,
 ) -> Option<Position>
-    ensures none { MatchOption result (IsDone best.now.offer largest cursor (set_of tracked.now.only_hot tracked.now.queued)) (λ f. has (set_of tracked.now.only_hot tracked.now.queued) f ≡ true) }
+    requires of { is_in group cursor ≡ true }
+    ensures none { let set = set_of tracked.now.only_hot tracked.now.queued in
+        MatchOption result (IsDone best.now.offer largest cursor (has_of group set)) (λ f. has_of group set f ≡ true) }
     ensures behind { IfSome result (λ f. IsBefore cursor f) }
-    ensures least { IfSome result (λ f. (p : APosition) → has (set_of tracked.now.only_hot tracked.now.queued) p ≡ true → IsBefore cursor p → is_after f p ≡ false) }
+    ensures least { let set = set_of tracked.now.only_hot tracked.now.queued in
+        IfSome result (λ f. (p : APosition) → has_of group set p ≡ true → IsBefore cursor p → is_after f p ≡ false) }
 {
     if best.offer.frontier.count == 1 {
         return None;
@@ -144,11 +167,10 @@ fn next_rival<A: Allocator + Copy>(
     if tracked.only_hot && best.offer.score == largest {
         return None;
     }
-    tracked.queued.first_behind(tracked.only_hot, cursor)
+    tracked.queued.first_behind(tracked.only_hot, group, cursor)
 }
 
-/// The better of the best so far and what the clause at a position behind it offers. A clause that isn't the root's
-/// isn't looked at where the best is the root's.
+/// The better of the best so far and what the clause at a position behind it offers.
 fn better_of<I: Interner>(
     tracked: &mut TrackedClauses<I::Alloc>,
     best: Candidate,
@@ -160,16 +182,16 @@ fn better_of<I: Interner>(
     interner: &I,
 ) -> Result<Candidate, StoreError>
     requires of { IsOfClause tracked.old.index.clauses.items position }
-    requires asked { CanBeAsked (references (I.universe interner.now) reader.old.lists disjunctions.now) (values_in map.now) tracked.old }
-    ensures better { let refs = references (I.universe interner.now) reader.old.lists disjunctions.now in IfOk result (λ b. (c : ATrackedClause) → slice_get tracked.old.index.clauses.items position.number ≡ Some c → b.offer ≡ improved best.offer (offer_of (values_in map.now) (clause_literals refs) (rows_in refs) (score_in refs (I.NameId.Scores.value_at scores.now)) c)) }
-    ensures asked { CanBeAsked (references (I.universe interner.now) reader.old.lists disjunctions.now) (values_in map.now) tracked.new }
+    requires asked { let refs = references (I.universe interner.now) reader.old.lists disjunctions.now in
+        CanBeAsked refs (values_in map.now) tracked.old }
+    ensures better { let refs = references (I.universe interner.now) reader.old.lists disjunctions.now in
+        IfOk result (λ b. (c : ATrackedClause) → slice_get tracked.old.index.clauses.items position.number ≡ Some c →
+        b.offer ≡ improved best.offer (offers_in refs (values_in map.now) (I.NameId.Scores.value_at scores.now) c)) }
+    ensures asked { let refs = references (I.universe interner.now) reader.old.lists disjunctions.now in
+        CanBeAsked refs (values_in map.now) tracked.new }
     ensures walks { OnlyWalks tracked.old tracked.new reader.old reader.new }
     ensures memory { IfErr result (λ e. e ≡ OutOfMemory) }
 {
-    let parent = tracked.index.clauses[position.number as usize].parent;
-    if best.offer.is_of_root() && !parent.is_root() {
-        return Ok(best);
-    }
     match look(
         tracked,
         position,
@@ -190,10 +212,11 @@ fn better_of<I: Interner>(
     }
 }
 
-/// The decision to take, if a clause is eligible: the pick of all eligible clauses, in the order of the scan. The
-/// first eligible one is the best at first; behind it only what may be better is looked at.
-pub(crate) fn next_offer<I: Interner>(
+/// The best offer of a group's eligible clauses, in the order of the scan: the first, unless a later one beats the best
+/// so far.
+fn best_of<I: Interner>(
     tracked: &mut TrackedClauses<I::Alloc>,
+    group: Group,
     map: &DecisionMap<I::Alloc>,
     reader: &mut RowReader<'_, I::Alloc>,
     disjunctions: &Arena<DisjunctionId, Disjunction<I::Alloc>, I::Alloc>,
@@ -201,20 +224,28 @@ pub(crate) fn next_offer<I: Interner>(
     largest: u64,
     interner: &I,
 ) -> Result<Option<Offer>, StoreError>
-    requires asked { CanBeAsked (references (I.universe interner.now) reader.old.lists disjunctions.now) (values_in map.now) tracked.old }
-    requires cold { let refs = references (I.universe interner.now) reader.old.lists disjunctions.now in ColdHasNoScore tracked.old.index.clauses.items (clause_literals refs) (rows_in refs) (values_in map.now) (score_in refs (I.NameId.Scores.value_at scores.now)) }
-    requires largest { let refs = references (I.universe interner.now) reader.old.lists disjunctions.now in AreUpTo largest (score_in refs (I.NameId.Scores.value_at scores.now)) }
-    ensures picked { let refs = references (I.universe interner.now) reader.old.lists disjunctions.now in IfOk result (λ o. o ≡ (all_picked tracked.old.index.clauses.items (clause_literals refs) (rows_in refs) (values_in map.now) (score_in refs (I.NameId.Scores.value_at scores.now)))) }
-    ensures asked { CanBeAsked (references (I.universe interner.now) reader.old.lists disjunctions.now) (values_in map.now) tracked.new }
+    requires asked { let refs = references (I.universe interner.now) reader.old.lists disjunctions.now in
+        CanBeAsked refs (values_in map.now) tracked.old }
+    requires cold { let refs = references (I.universe interner.now) reader.old.lists disjunctions.now in
+        ColdHasNoScore tracked.old.index.clauses.items (clause_literals refs) (rows_in refs) (values_in map.now)
+        (score_in refs (I.NameId.Scores.value_at scores.now)) }
+    requires largest { let refs = references (I.universe interner.now) reader.old.lists disjunctions.now in
+        AreUpTo largest (score_in refs (I.NameId.Scores.value_at scores.now)) }
+    ensures best { let refs = references (I.universe interner.now) reader.old.lists disjunctions.now in
+        let offers = offers_in refs (values_in map.now) (I.NameId.Scores.value_at scores.now) in
+        IfOk result (λ o. o ≡ best_offer (offered tracked.old.index.clauses.items (offers_of group offers))) }
+    ensures asked { let refs = references (I.universe interner.now) reader.old.lists disjunctions.now in
+        CanBeAsked refs (values_in map.now) tracked.new }
     ensures walks { OnlyWalks tracked.old tracked.new reader.old reader.new }
     ensures memory { IfErr result (λ e. e ≡ OutOfMemory) }
 {
-    let mut best = match first_eligible(tracked, map, reader, disjunctions, scores, interner)? {
+    let first = first_eligible(tracked, group, map, reader, disjunctions, scores, interner)?;
+    let mut best = match first {
         Some(first) => first,
         None => return Ok(None),
     };
     let mut cursor = best.position;
-    while let Some(position) = next_rival(tracked, &best, cursor, largest) {
+    while let Some(position) = next_rival(tracked, group, &best, cursor, largest) {
         best = better_of(
             tracked,
             best,
@@ -228,6 +259,95 @@ pub(crate) fn next_offer<I: Interner>(
         cursor = position;
     }
     Ok(Some(best.offer))
+}
+
+/// The best offer of the root's eligible clauses, wherever among the parents the root was registered.
+fn best_of_root<I: Interner>(
+    tracked: &mut TrackedClauses<I::Alloc>,
+    map: &DecisionMap<I::Alloc>,
+    reader: &mut RowReader<'_, I::Alloc>,
+    disjunctions: &Arena<DisjunctionId, Disjunction<I::Alloc>, I::Alloc>,
+    scores: &<I::NameId as SolverId<I::Alloc>>::Scores,
+    largest: u64,
+    interner: &I,
+) -> Result<Option<Offer>, StoreError>
+    requires asked { let refs = references (I.universe interner.now) reader.old.lists disjunctions.now in
+        CanBeAsked refs (values_in map.now) tracked.old }
+    requires cold { let refs = references (I.universe interner.now) reader.old.lists disjunctions.now in
+        ColdHasNoScore tracked.old.index.clauses.items (clause_literals refs) (rows_in refs) (values_in map.now)
+        (score_in refs (I.NameId.Scores.value_at scores.now)) }
+    requires largest { let refs = references (I.universe interner.now) reader.old.lists disjunctions.now in
+        AreUpTo largest (score_in refs (I.NameId.Scores.value_at scores.now)) }
+    ensures best { let refs = references (I.universe interner.now) reader.old.lists disjunctions.now in
+        let offers = offers_in refs (values_in map.now) (I.NameId.Scores.value_at scores.now) in
+        IfOk result (λ o. o ≡ best_offer (filter is_of_root (offered tracked.old.index.clauses.items offers))) }
+    ensures asked { let refs = references (I.universe interner.now) reader.old.lists disjunctions.now in
+        CanBeAsked refs (values_in map.now) tracked.new }
+    ensures walks { OnlyWalks tracked.old tracked.new reader.old reader.new }
+    ensures memory { IfErr result (λ e. e ≡ OutOfMemory) }
+{
+    match tracked.index.group_of(VariableId::root()) {
+        Some(of_root) => best_of(
+            tracked,
+            of_root,
+            map,
+            reader,
+            disjunctions,
+            scores,
+            largest,
+            interner,
+        ),
+        None => Ok(None),
+    }
+}
+
+/// The decision to take, if a clause is eligible: the pick of all eligible clauses, in the order of the scan.
+pub(crate) fn next_offer<I: Interner>(
+    tracked: &mut TrackedClauses<I::Alloc>,
+    map: &DecisionMap<I::Alloc>,
+    reader: &mut RowReader<'_, I::Alloc>,
+    disjunctions: &Arena<DisjunctionId, Disjunction<I::Alloc>, I::Alloc>,
+    scores: &<I::NameId as SolverId<I::Alloc>>::Scores,
+    largest: u64,
+    interner: &I,
+) -> Result<Option<Offer>, StoreError>
+    requires asked { let refs = references (I.universe interner.now) reader.old.lists disjunctions.now in
+        CanBeAsked refs (values_in map.now) tracked.old }
+    requires cold { let refs = references (I.universe interner.now) reader.old.lists disjunctions.now in
+        ColdHasNoScore tracked.old.index.clauses.items (clause_literals refs) (rows_in refs) (values_in map.now)
+        (score_in refs (I.NameId.Scores.value_at scores.now)) }
+    requires largest { let refs = references (I.universe interner.now) reader.old.lists disjunctions.now in
+        AreUpTo largest (score_in refs (I.NameId.Scores.value_at scores.now)) }
+    ensures picked { let refs = references (I.universe interner.now) reader.old.lists disjunctions.now in
+        let offers = offers_in refs (values_in map.now) (I.NameId.Scores.value_at scores.now) in
+        IfOk result (λ o. o ≡ pick (offered tracked.old.index.clauses.items offers)) }
+    ensures asked { let refs = references (I.universe interner.now) reader.old.lists disjunctions.now in
+        CanBeAsked refs (values_in map.now) tracked.new }
+    ensures walks { OnlyWalks tracked.old tracked.new reader.old reader.new }
+    ensures memory { IfErr result (λ e. e ≡ OutOfMemory) }
+{
+    let of_root = best_of_root(
+        tracked,
+        map,
+        reader,
+        disjunctions,
+        scores,
+        largest,
+        interner,
+    )?;
+    match of_root {
+        Some(offer) => Ok(Some(offer)),
+        None => best_of(
+            tracked,
+            Group::OfAllParents,
+            map,
+            reader,
+            disjunctions,
+            scores,
+            largest,
+            interner,
+        ),
+    }
 }
 
 /// The score of a version set: its package's.

@@ -21,6 +21,7 @@ mod decide_queue;
 mod deciding;
 mod falsification;
 mod frontier;
+mod group;
 mod heating;
 mod inspection;
 mod lists_by_variable;

@@ -3,6 +3,7 @@ ghost use Rattle.std.specs.Prelude.{◌≡◌, ◌<◌, true, false, if◌then�
 ghost use Rattle.typed_ids.specs.declared.error.StoreError.TheVariants.{OutOfMemory};
 ghost use Rattle.decisions.specs.Decisions.{values_in};
 
+use crate::group::Group;
 use crate::position::Position;
 use crate::position_set::PositionSet;
 use crate::tracked_clause::TrackedClause;
@@ -28,6 +29,7 @@ impl<A: Allocator + Copy> Model for QueuedClauses<A> {
 
 impl<A: Allocator + Copy> QueuedClauses<A> {
     ghost use Rattle.resolvo_queue.specs.Queued.{IsQueued, GrowsBy, LosesOnly, is_empty_queue, set_of, heated};
+    ghost use Rattle.resolvo_queue.specs.Group.{has_of, is_in};
     ghost use Rattle.resolvo_queue.specs.Positions.{has, is_after, same_position, IsBefore};
     ghost use Rattle.resolvo_queue.specs.declared.position.Position.{Position};
 
@@ -63,24 +65,33 @@ impl<A: Allocator + Copy> QueuedClauses<A> {
         self.hot.remove(position);
     }
 
-    /// The first position.
-    pub(crate) fn first(&self) -> Option<Position>
-        ensures none { MatchOption result ((p : Position) → has self.now.all p ≡ false) (λ f. has self.now.all f ≡ true) }
-        ensures least { IfSome result (λ f. (p : Position) → has self.now.all p ≡ true → is_after f p ≡ false) }
+    /// The first position of a group.
+    pub(crate) fn first_of(&self, group: Group) -> Option<Position>
+        ensures none { MatchOption result ((p : Position) → has_of group self.now.all p ≡ false)
+            (λ f. has_of group self.now.all f ≡ true) }
+        ensures least { IfSome result (λ f. (p : Position) → has_of group self.now.all p ≡ true → is_after f p ≡ false) }
     {
-        self.all.first()
+        group.only(self.all.first_from(group.start()))
     }
 
-    /// The first position behind another one, among the hot ones alone or among all.
-    pub(crate) fn first_behind(&self, only_hot: bool, position: Position) -> Option<Position>
-        ensures none { MatchOption result ((p : Position) → IsBefore position p → has (set_of only_hot self.now) p ≡ false) (λ f. has (set_of only_hot self.now) f ≡ true) }
+    /// The first position of a group behind another one of it, among the hot ones alone or among all.
+    pub(crate) fn first_behind(
+        &self,
+        only_hot: bool,
+        group: Group,
+        position: Position,
+    ) -> Option<Position>
+        requires of { is_in group position ≡ true }
+        ensures none { let set = set_of only_hot self.now in
+            MatchOption result ((p : Position) → IsBefore position p → has_of group set p ≡ false) (λ f. has_of group set f ≡ true) }
         ensures behind { IfSome result (λ f. IsBefore position f) }
-        ensures least { IfSome result (λ f. (p : Position) → has (set_of only_hot self.now) p ≡ true → IsBefore position p → is_after f p ≡ false) }
+        ensures least { let set = set_of only_hot self.now in
+            IfSome result (λ f. (p : Position) → has_of group set p ≡ true → IsBefore position p → is_after f p ≡ false) }
     {
         if only_hot {
-            self.hot.first_behind(position)
+            group.only(self.hot.first_behind(position))
         } else {
-            self.all.first_behind(position)
+            group.only(self.all.first_behind(position))
         }
     }
 

@@ -6,7 +6,7 @@ use Rattle.resolvo_store.specs.declared.helper_origin.HelperOrigin.TheVariants a
 use Rattle.resolvo_store.specs.Command.{Variable, Helper, Load, Requires, Root, Constrains, ConstrainsExcluded, ConstrainsParent, Lock, Exclude, AnyOf, Learnt, Assign, UndoLast, UndoUntil, Unpropagated, Rewatch, Watchers, Decide, VariableIs, LoadedAs, ClauseIs, Assigned, Already, Clash, Undone, Next, Done, WatchersAre, NoDecision, Falsified, Refused}
 use Rattle.store_callers.specs.Script.{Packages}
 use Rattle.store_callers.specs.ExampleWords.{Gives, Leaves, solvable, range, set, string, single, union, decides, hands, takes_back, two_versions}
-use Rattle.store_callers.specs.ScoreExamples.{ScoreAndCount, LateScore, ScoreAlone, CountAlone, RootProtected, OthersReplaced, RegisteredFirst, ScoresFall, RoundedDown, EitherSetting, CountOfOneSet, BetterOffer, EqualCount, EqualScore, RootStays, BestSoFar, RootReplaces, FirstWithoutScores}
+use Rattle.store_callers.specs.ScoreExamples.{ScoreAndCount, LateScore, ScoreAlone, CountAlone, RootProtected, OthersReplaced, RootFirst, OthersAfterRoot, FalsifiedBeforeRoot, ScoresFall, RoundedDown, EitherSetting, CountOfOneSet, BetterOffer, EqualCount, EqualScore, RootStays, BestSoFar, RootAlone, OthersByScore, RootReplaces, FirstWithoutScores}
 use Rattle.store_callers.specs.ConditionExamples.{WaitsForCondition, ConditionOpens, EmptyCondition, ConditionLiterals, ConditionsRefused, UnknownConditions, FourTracked, FourTrackedLiterals, TwoNames, FavoredFirst, FavoredOutside}
 
 -- ---- two packages: a decision is asked for, taken, undone, and asked for again; then their union is loaded
@@ -282,7 +282,9 @@ pub record Examples : Type 0 where
   pub count_alone : CountAlone
   pub root_protected : RootProtected
   pub others_replaced : OthersReplaced
-  pub registered_first : RegisteredFirst
+  pub root_first : RootFirst
+  pub others_after_root : OthersAfterRoot
+  pub falsified_before_root : FalsifiedBeforeRoot
   pub scores_fall : ScoresFall
   pub rounded_down : RoundedDown
   pub either_setting : EitherSetting
@@ -303,5 +305,7 @@ pub record Examples : Type 0 where
   pub equal_score : EqualScore
   pub root_stays : RootStays
   pub best_so_far : BestSoFar
+  pub root_alone : RootAlone
+  pub others_by_score : OthersByScore
   pub root_replaces : RootReplaces
   pub first_without_scores : FirstWithoutScores

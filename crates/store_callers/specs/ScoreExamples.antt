@@ -5,7 +5,7 @@ use Rattle.resolvo_clauses.specs.Literals.{Values}
 use Rattle.resolvo_queue.specs.Rows.{Row, frontier}
 use Rattle.resolvo_queue.specs.declared.offer.Offer.{Offer}
 use Rattle.resolvo_queue.specs.Pick.{pick}
-use Rattle.resolvo_store.specs.Command.{Command, Variable, Load, Requires, Root, Assign, Bump, Decay, Standard, Decide, Reply, VariableIs, LoadedAs, ClauseIs, Assigned, Done, Refused}
+use Rattle.resolvo_store.specs.Command.{Command, Variable, Load, Requires, Root, Assign, Bump, Decay, Standard, Decide, Reply, VariableIs, LoadedAs, ClauseIs, Assigned, Done, Falsified, Refused}
 use Rattle.store_callers.specs.Script.{Packages}
 use Rattle.store_callers.specs.ExampleWords.{Gives, solvable, range, set, single, decides_at, decides}
 
@@ -68,25 +68,51 @@ RootProtected =
     (ClauseIs 0 false ∷ VariableIs 1 ∷ LoadedAs ((2 ∷ 3 ∷ []) ∷ []) ∷ LoadedAs ((4 ∷ []) ∷ []) ∷ ClauseIs 1 false ∷ ClauseIs 2 false ∷
     Assigned ∷ Assigned ∷ Done ∷ decides 2 0 1 2 ∷ ClauseIs 3 false ∷ decides_at 4 0 3 5 1 ∷ [])
 
--- ---- one of another parent is beaten by one of the same parent, and by one of the root
+-- ---- while the root has no clause, one of another parent is beaten by one of the same parent; the root's is picked once it comes
 
 abbrev pub OthersReplaced : Type 0
 OthersReplaced =
     Gives parent_and_two
-    (Root ∷ Variable 0 ∷ Load (single 0) ∷ Load (single 1) ∷ Requires 1 (single 0) None ∷ Requires 0 (single 1) None ∷
-    Assign 0 true 0 1 ∷ Assign 1 true 0 1 ∷ Bump 1 5 ∷ Decide ∷ Requires 1 (single 1) None ∷ Decide ∷ [])
-    (ClauseIs 0 false ∷ VariableIs 1 ∷ LoadedAs ((2 ∷ 3 ∷ []) ∷ []) ∷ LoadedAs ((4 ∷ []) ∷ []) ∷ ClauseIs 1 false ∷ ClauseIs 2 false ∷
-    Assigned ∷ Assigned ∷ Done ∷ decides_at 4 0 2 5 1 ∷ ClauseIs 3 false ∷ decides_at 4 1 3 5 1 ∷ [])
+    (Root ∷ Variable 0 ∷ Load (single 0) ∷ Load (single 1) ∷ Requires 1 (single 0) None ∷ Assign 0 true 0 1 ∷ Assign 1 true 0 1 ∷
+    Bump 1 5 ∷ Decide ∷ Requires 1 (single 1) None ∷ Decide ∷ Requires 0 (single 1) None ∷ Decide ∷ [])
+    (ClauseIs 0 false ∷ VariableIs 1 ∷ LoadedAs ((2 ∷ 3 ∷ []) ∷ []) ∷ LoadedAs ((4 ∷ []) ∷ []) ∷ ClauseIs 1 false ∷ Assigned ∷ Assigned ∷
+    Done ∷ decides 2 1 1 2 ∷ ClauseIs 2 false ∷ decides_at 4 1 2 5 1 ∷ ClauseIs 3 false ∷ decides_at 4 0 3 5 1 ∷ [])
 
--- ---- a clause of the root that comes later has no precedence
+-- ---- a clause of the root comes first, wherever the root was registered; the others come once it is met
 
-abbrev pub RegisteredFirst : Type 0
-RegisteredFirst =
+abbrev pub RootFirst : Type 0
+RootFirst =
     Gives (record { solvables = solvable 0 1 ∷ solvable 1 1 ∷ solvable 2 1 ∷ []; sets = range 1 1 2 ∷ range 2 1 2 ∷ []; unions = []; strings = 0 })
     (Root ∷ Variable 0 ∷ Load (single 0) ∷ Load (single 1) ∷ Requires 1 (single 0) None ∷ Requires 0 (single 1) None ∷
     Assign 0 true 0 1 ∷ Assign 1 true 0 1 ∷ Bump 2 9 ∷ Decide ∷ [])
     (ClauseIs 0 false ∷ VariableIs 1 ∷ LoadedAs ((2 ∷ []) ∷ []) ∷ LoadedAs ((3 ∷ []) ∷ []) ∷ ClauseIs 1 false ∷ ClauseIs 2 false ∷
-    Assigned ∷ Assigned ∷ Done ∷ decides 2 1 1 1 ∷ [])
+    Assigned ∷ Assigned ∷ Done ∷ decides_at 3 0 2 9 1 ∷ [])
+
+abbrev pub parent_one_and_two : Packages
+parent_one_and_two = record {
+  solvables = solvable 0 1 ∷ solvable 1 1 ∷ solvable 2 1 ∷ solvable 2 2 ∷ [];
+  sets = range 1 1 2 ∷ range 2 1 3 ∷ [];
+  unions = [];
+  strings = 0;
+}
+
+abbrev pub OthersAfterRoot : Type 0
+OthersAfterRoot =
+    Gives parent_one_and_two
+    (Root ∷ Variable 0 ∷ Load (single 0) ∷ Load (single 1) ∷ Requires 1 (single 0) None ∷ Requires 0 (single 1) None ∷
+    Assign 0 true 0 1 ∷ Assign 1 true 0 1 ∷ Decide ∷ Bump 1 9 ∷ Decide ∷ Assign 3 true 0 2 ∷ Decide ∷ [])
+    (ClauseIs 0 false ∷ VariableIs 1 ∷ LoadedAs ((2 ∷ []) ∷ []) ∷ LoadedAs ((3 ∷ 4 ∷ []) ∷ []) ∷ ClauseIs 1 false ∷ ClauseIs 2 false ∷
+    Assigned ∷ Assigned ∷ decides 3 0 2 2 ∷ Done ∷ decides 3 0 2 2 ∷ Assigned ∷ decides_at 2 1 1 9 1 ∷ [])
+
+-- ---- of falsified clauses the first of the scan is named, also where it isn't the root's
+
+abbrev pub FalsifiedBeforeRoot : Type 0
+FalsifiedBeforeRoot =
+    Gives parent_one_and_two
+    (Root ∷ Variable 0 ∷ Load (single 0) ∷ Load (single 1) ∷ Requires 1 (single 0) None ∷ Requires 0 (single 1) None ∷
+    Assign 0 true 0 1 ∷ Assign 1 true 0 1 ∷ Assign 2 false 0 1 ∷ Decide ∷ Assign 3 false 0 1 ∷ Assign 4 false 0 1 ∷ Decide ∷ [])
+    (ClauseIs 0 false ∷ VariableIs 1 ∷ LoadedAs ((2 ∷ []) ∷ []) ∷ LoadedAs ((3 ∷ 4 ∷ []) ∷ []) ∷ ClauseIs 1 false ∷ ClauseIs 2 false ∷
+    Assigned ∷ Assigned ∷ Assigned ∷ Falsified 1 ∷ Assigned ∷ Assigned ∷ Falsified 1 ∷ [])
 
 -- ---- scores fall by a fraction, and are rounded down; they stay at the greatest one; a fraction is at most one, and of
 -- something
@@ -139,7 +165,7 @@ offer_of parent clause score count = record {
   score = score;
 }
 
--- a later offer replaces the best only with a higher score and a smaller count, and one of the root only if it is one too
+-- a later offer replaces the best only with a higher score and a smaller count, and those of the root come before all others
 abbrev pub Picks : List Offer → Offer → Type 0
 Picks offers best = pick offers ≡ Some best
 
@@ -159,10 +185,18 @@ RootStays = Picks (offer_of 0 0 0 2 ∷ offer_of 1 1 5 1 ∷ []) (offer_of 0 0 0
 abbrev pub BestSoFar : Type 0
 BestSoFar = Picks (offer_of 0 0 0 3 ∷ offer_of 0 1 5 2 ∷ offer_of 0 2 3 1 ∷ []) (offer_of 0 1 5 2)
 
--- the root's offer replaces one of another parent, and then no other one replaces it
+-- of the root's alone one is picked, by score and count, whatever the others have
+abbrev pub RootAlone : Type 0
+RootAlone = Picks (offer_of 1 0 9 1 ∷ offer_of 0 1 0 3 ∷ offer_of 0 2 5 2 ∷ []) (offer_of 0 2 5 2)
+
+-- without one of the root, one of the others, of whatever parent
+abbrev pub OthersByScore : Type 0
+OthersByScore = Picks (offer_of 1 0 0 3 ∷ offer_of 2 1 5 1 ∷ []) (offer_of 2 1 5 1)
+
+-- no offer of another parent replaces the root's, before it or behind
 abbrev pub RootReplaces : Type 0
 RootReplaces = Picks (offer_of 1 0 0 3 ∷ offer_of 0 1 5 2 ∷ offer_of 1 2 9 1 ∷ []) (offer_of 0 1 5 2)
 
 -- without scores the first stays, whatever the counts
 abbrev pub FirstWithoutScores : Type 0
-FirstWithoutScores = Picks (offer_of 1 0 0 3 ∷ offer_of 1 1 0 1 ∷ offer_of 0 2 0 2 ∷ []) (offer_of 1 0 0 3)
+FirstWithoutScores = Picks (offer_of 1 0 0 3 ∷ offer_of 1 1 0 1 ∷ offer_of 2 2 0 2 ∷ []) (offer_of 1 0 0 3)

@@ -2,16 +2,12 @@ use Rattle.std.proofs.Common.{◌≡◌, Bool, true, false, cond, Option, Some, 
 use Rattle.resolvo_queue.specs.Pick.{Offer, beats}
 use Rattle.resolvo_queue.specs.Ready.{improved}
 use Rattle.resolvo_queue.specs.declared.candidate.Candidate.{Candidate}
-use Rattle.resolvo_queue.proofs.AskingLaws.{only_walks_none}
 use Rattle.resolvo_queue.proofs.deciding.better_of.Goals as goal
 
 improved_by : (best : Offer) (found : Option Candidate) (b : Candidate) (offered : Option Offer) (t : Bool) → found ≡ Some b → beats b.offer best ≡ t →
     option_map (λ (x : Candidate). x.offer) found ≡ offered → cond t b.offer best ≡ improved best offered
 improved_by best found b offered t is wins o =
     ap (λ u. cond u b.offer best) (sym wins) ∙ ap (improved best) (ap (option_map (λ (x : Candidate). x.offer)) (sym is) ∙ o)
-
-pub returns-then-not-is_root-clause-walks : goal.returns-then-not-is_root-clause-walks
-returns-then-not-is_root-clause-walks g c = only_walks_none c.args.tracked.now c.args.reader.now
 
 pub returns-then-beats-clause-better : goal.returns-then-beats-clause-better
 returns-then-beats-clause-better g c =

@@ -1,16 +1,20 @@
-use Rattle.std.proofs.Common.{◌≡◌, Some, slice_get, subst, sym, ap, ◌∙◌}
+use Rattle.std.proofs.Common.{◌≡◌, Some, IfSome, slice_get, subst, sym, ap, ◌∙◌}
 use Rattle.decisions.specs.Decisions.{values_in}
 use Rattle.resolvo_queue.specs.Rows.{loaded_rows}
 use Rattle.resolvo_queue.specs.Inspection.{offer_of}
 use Rattle.resolvo_queue.specs.Question.{clause_literals}
-use Rattle.resolvo_queue.specs.References.{references, score_in}
+use Rattle.resolvo_queue.specs.Group.{is_in}
+use Rattle.resolvo_queue.specs.References.{references, rows_in, score_in}
+use Rattle.resolvo_queue.specs.declared.candidate.Candidate.{Candidate}
 use Rattle.resolvo_queue.proofs.AskingLaws.{asked_by, only_walks_along, only_walks_none, ready_by}
-use Rattle.resolvo_queue.proofs.ReadyLaws.{first_found, none_found, match_none}
+use Rattle.resolvo_queue.proofs.DecisionLaws.{first_found, none_found}
+use Rattle.resolvo_queue.proofs.GroupLaws.{of_both}
+use Rattle.resolvo_queue.proofs.ReadyLaws.{match_none}
 use Rattle.resolvo_queue.proofs.deciding.first_eligible.Goals as goal
 
 pub look-requires-clause-of : goal.look-requires-clause-of
 look-requires-clause-of g c =
-    c.loop-position.invariant.asked.ready.all_of c.in-Some.position c.in-Some.ensures.none
+    c.loop-position.invariant.asked.ready.all_of c.in-Some.position (of_both c.args.group c.loop-position.tracked.queued.all c.in-Some.position c.in-Some.ensures.none).1
 
 pub look-requires-clause-asked : goal.look-requires-clause-asked
 look-requires-clause-asked g c =
@@ -18,23 +22,33 @@ look-requires-clause-asked g c =
 
 pub returns-in-Some-2-clause-picked : goal.returns-in-Some-2-clause-picked
 returns-in-Some-2-clause-picked g c =
-    let lits = clause_literals (references (g.I.Interner.universe c.args.interner.now) c.args.reader.now.lists c.args.disjunctions.now) in
-    let cat = g.I.Interner.universe c.args.interner.now in
+    let refs = (references (g.I.Interner.universe c.args.interner.now) c.args.reader.now.lists c.args.disjunctions.now) in
     let val = values_in c.args.map.now in
-    let score = score_in (references (g.I.Interner.universe c.args.interner.now) c.args.reader.now.lists c.args.disjunctions.now) (g.I.NameId.Scores.IdMap.value_at c.args.scores.now) in
-    first_found c.args.tracked.now.index.clauses.items lits (loaded_rows cat c.args.reader.now.lists) val score c.requires.asked.located
-    c.loop-position.tracked.requirements c.loop-position.tracked.queued (ready_by (references (g.I.Interner.universe c.args.interner.now) c.args.reader.now.lists c.args.disjunctions.now) (values_in c.args.map.now) c.loop-position.tracked c.args.tracked.now c.loop-position.invariant.walks.index c.loop-position.invariant.asked) c.in-Some.position c.in-Some.ensures.none c.in-Some.ensures.least
+    let score = score_in refs (g.I.NameId.Scores.IdMap.value_at c.args.scores.now) in
+    first_found c.args.tracked.now.index.clauses.items (clause_literals refs) (rows_in refs) val score c.requires.asked.located c.args.group
+    c.loop-position.tracked.requirements c.loop-position.tracked.queued
+    (ready_by refs val c.loop-position.tracked c.args.tracked.now c.loop-position.invariant.walks.index c.loop-position.invariant.asked)
+    c.in-Some.position c.in-Some.ensures.none c.in-Some.ensures.least
     c.in_ok-candidate.field-0 c.in-Some-2.candidate c.in-Some-2.is
     (λ d s. c.in_ok-candidate.ensures.offers d (subst (λ ix. slice_get ix.clauses.items c.in-Some.position.number ≡ Some d) (sym c.loop-position.invariant.walks.index) s)
-    ∙ ap (λ ls. offer_of val lits (loaded_rows cat ls) score d) c.loop-position.invariant.walks.lists)
+    ∙ ap (λ ls. offer_of val (clause_literals refs) (loaded_rows (g.I.Interner.universe c.args.interner.now) ls) score d) c.loop-position.invariant.walks.lists)
     c.in_ok-candidate.ensures.at
+
+pub returns-in-Some-2-clause-of : goal.returns-in-Some-2-clause-of
+returns-in-Some-2-clause-of g c =
+    let place : c.in-Some-2.candidate.position ≡ c.in-Some.position =
+    subst (λ o. IfSome o (λ (x : Candidate). x.position ≡ c.in-Some.position)) c.in-Some-2.is c.in_ok-candidate.ensures.at in
+    ap (is_in c.args.group) place ∙ (of_both c.args.group c.loop-position.tracked.queued.all c.in-Some.position c.in-Some.ensures.none).0
 
 pub returns-clause-picked : goal.returns-clause-picked
 returns-clause-picked g c =
-    none_found c.args.tracked.now.index.clauses.items (clause_literals (references (g.I.Interner.universe c.args.interner.now) c.args.reader.now.lists c.args.disjunctions.now)) (loaded_rows (g.I.Interner.universe c.args.interner.now) c.args.reader.now.lists)
-    (values_in c.args.map.now) (score_in (references (g.I.Interner.universe c.args.interner.now) c.args.reader.now.lists c.args.disjunctions.now) (g.I.NameId.Scores.IdMap.value_at c.args.scores.now)) c.requires.asked.located
-    c.loop-position.tracked.requirements c.loop-position.tracked.queued (ready_by (references (g.I.Interner.universe c.args.interner.now) c.args.reader.now.lists c.args.disjunctions.now) (values_in c.args.map.now) c.loop-position.tracked c.args.tracked.now c.loop-position.invariant.walks.index c.loop-position.invariant.asked)
-    (match_none c.first.result _ _ c.in_default.is c.first.ensures.none)
+    let refs = (references (g.I.Interner.universe c.args.interner.now) c.args.reader.now.lists c.args.disjunctions.now) in
+    let val = values_in c.args.map.now in
+    none_found c.args.tracked.now.index.clauses.items (clause_literals refs) (rows_in refs) val
+    (score_in refs (g.I.NameId.Scores.IdMap.value_at c.args.scores.now)) c.requires.asked.located c.args.group
+    c.loop-position.tracked.requirements c.loop-position.tracked.queued
+    (ready_by refs val c.loop-position.tracked c.args.tracked.now c.loop-position.invariant.walks.index c.loop-position.invariant.asked)
+    (match_none c.first_of.result _ _ c.in_default.is c.first_of.ensures.none)
 
 pub loop-position-preserved : goal.loop-position-preserved
 loop-position-preserved g c =

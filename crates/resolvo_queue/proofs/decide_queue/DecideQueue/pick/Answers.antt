@@ -13,7 +13,7 @@ use Rattle.resolvo_queue.proofs.AskableLaws.{askable_tracked, cold_sets, cold_wi
 use Rattle.resolvo_queue.proofs.AskingLaws.{ready_by}
 use Rattle.resolvo_queue.proofs.FindingLaws.{finds_asked}
 use Rattle.resolvo_queue.proofs.PickLaws.{decides_unbeaten, none_decided}
-use Rattle.resolvo_queue.proofs.ScannedLaws.{picked_of_registered}
+use Rattle.resolvo_queue.proofs.ScannedLaws.{offered_registered}
 use Rattle.resolvo_queue.proofs.decide_queue.DecideQueue.pick.Goals as goal
 
 pub next_offer-requires-clause-asked : goal.next_offer-requires-clause-asked
@@ -24,6 +24,7 @@ next_offer-requires-clause-asked g c =
     let stands : StandsOn refs before = subst (StandsOn refs) (sym c.self.view_is) c.requires.stands in
     record {
       located = c.self.invariant.0.order.located;
+      first = c.self.invariant.0.order.first;
       askable = askable_tracked refs inside.tracked.index.clauses.items stands.parts
           (subst (λ (q : Queue g.row.D-NameId.Denot g.row.D-NameId-Set.Denot). All (CanWalk refs) q.clauses) (sym c.self.view_is) c.requires.walkable);
       listed = stands.listed;
@@ -102,7 +103,7 @@ returns-clause-picked g c =
     let refs = references (g.D.Interner.universe c.args.provider.now) c.args.reader.now.lists c.args.disjunctions.now in
     let score = score_in refs (g.D.NameId.Scores.IdMap.value_at c.args.scores.now) in
     c.decision_at.ensures ∙ ap (option_map decided) (c.in_ok-offer.ensures.picked
-    ∙ (picked_of_registered val (literals_in refs) (rows_in refs) score c.self.inside.tracked.index.clauses.items
+    ∙ (ap pick (offered_registered val (literals_in refs) (rows_in refs) score c.self.inside.tracked.index.clauses.items)
     ∙ ap (λ (q : Queue g.row.D-NameId.Denot g.row.D-NameId-Set.Denot). pick (eligible val (literals_in refs) (rows_in refs) score q.clauses)) c.self.view_is))
 
 pub returns-clause-none : goal.returns-clause-none
@@ -112,7 +113,7 @@ returns-clause-none g c =
     let score = score_in refs (g.D.NameId.Scores.IdMap.value_at c.args.scores.now) in
     none_decided val (literals_in refs) (rows_in refs) score c.args.self.now.clauses c.decision_at.result
     (c.decision_at.ensures ∙ ap (option_map decided) (c.in_ok-offer.ensures.picked
-    ∙ (picked_of_registered val (literals_in refs) (rows_in refs) score c.self.inside.tracked.index.clauses.items
+    ∙ (ap pick (offered_registered val (literals_in refs) (rows_in refs) score c.self.inside.tracked.index.clauses.items)
     ∙ ap (λ (q : Queue g.row.D-NameId.Denot g.row.D-NameId-Set.Denot). pick (eligible val (literals_in refs) (rows_in refs) score q.clauses)) c.self.view_is)))
 
 pub returns-clause-unbeaten : goal.returns-clause-unbeaten
@@ -122,7 +123,7 @@ returns-clause-unbeaten g c =
     let score = score_in refs (g.D.NameId.Scores.IdMap.value_at c.args.scores.now) in
     decides_unbeaten (eligible val (literals_in refs) (rows_in refs) score c.args.self.now.clauses) c.decision_at.result
     (c.decision_at.ensures ∙ ap (option_map decided) (c.in_ok-offer.ensures.picked
-    ∙ (picked_of_registered val (literals_in refs) (rows_in refs) score c.self.inside.tracked.index.clauses.items
+    ∙ (ap pick (offered_registered val (literals_in refs) (rows_in refs) score c.self.inside.tracked.index.clauses.items)
     ∙ ap (λ (q : Queue g.row.D-NameId.Denot g.row.D-NameId-Set.Denot). pick (eligible val (literals_in refs) (rows_in refs) score q.clauses)) c.self.view_is)))
 
 pub returns-in_err-offer-clause-walks : goal.returns-in_err-offer-clause-walks
