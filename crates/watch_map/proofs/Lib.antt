@@ -3,17 +3,19 @@ mod ChainLaws
 mod CountLaws
 mod CursorLaws
 pub mod ForcingLaws
+mod GivenLaws
 mod LinkLaws
 pub mod ListCallerLaws
-pub mod ListFacts
 mod ListLaws
 pub mod ListSaturationLaws
+pub mod LiteralLists
 pub mod MetLaws
 mod MoveLaws
-pub mod RoundLaws
+mod OpenClauses
+mod RoundLaws
 mod StartLaws
-pub mod StepLaws
-pub mod VisitLaws
-pub mod WalkLaws
+pub mod ValueLaws
+mod VisitLaws
+mod WalkLaws
 mod WatchLemmas
 pub mod WatchingLaws

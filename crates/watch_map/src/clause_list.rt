@@ -17,13 +17,12 @@ ghost use Rattle.watch_map.specs.ClauseList.{are_ids_out_for, with_forbidden, Ha
 ghost use Rattle.decisions.specs.Trail.{val};
 ghost use Rattle.clauses.specs.Stored.{kept_in};
 ghost use Rattle.watch_map.specs.Forcing.{AreSettled, IsConflict};
-ghost use Rattle.watch_map.specs.Saturation.{WatchOwn, HasForced, IsRearranged};
-ghost use Rattle.watch_map.specs.ListSaturation.{literals_in_list};
+ghost use Rattle.watch_map.specs.Saturation.{literals_in_list, WatchOwn, HasForced, IsRearranged};
 
 use crate::lists::WatchMap;
-use crate::sources::Sources;
+use crate::saturation::{self, Given};
+use crate::walks;
 use crate::watched_literals::WatchedLiterals;
-use crate::{rounds, walks};
 use clauses::{Clause, Disjunction};
 use decisions::{DecisionTracker, Literal};
 use id_storage::Arena;
@@ -247,9 +246,12 @@ impl<N: Copy, A: Allocator + Copy> ClauseList<N, A> {
         walks::rewatch(&mut self.map, self.watches.as_mut_slice(), id, from, to)
     }
 
-    /// Adds to the trail, at the level, what clauses force, until none forces anything or one is false, which it answers.
-    /// What clauses refer to by ids is in these lists and disjunctions. Watches move to literals that aren't false. A
-    /// refusal leaves what was forced so far.
+    /// Adds to the trail, at this level, what clauses force, until none forces anything or one is false, which it
+    /// answers. The candidates of requirements and the disjunctions to which clauses refer are kept by the caller. Watches
+    /// move to literals that aren't false.
+    ///
+    /// Reads the trail from its beginning, and goes once through the list of each literal that is false. Takes memory for
+    /// each entry, and where a watch moves to a literal that nothing ever watched; refused, what was forced so far stays.
     pub fn saturate(
         &mut self,
         lists: &RequirementMap<Vec<Vec<VariableId, A>, A>, A>,
@@ -257,30 +259,30 @@ impl<N: Copy, A: Allocator + Copy> ClauseList<N, A> {
         trail: &mut DecisionTracker<A>,
         level: u32,
     ) -> Result<Option<ClauseId>, StoreError>
-        requires own { WatchOwn (literals_in_list (kept_in [] lists.now disjunctions.now) (contents self.old)) (watched_by (contents self.old)) }
+        requires own { WatchOwn (literals_in_list (kept_in [] lists.now disjunctions.now) (contents self.old))
+            (watched_by (contents self.old)) }
         requires level { (1 ≤ level) × (level < 2 ^ 31) }
         ensures clauses { (contents self.new).clauses ≡ (contents self.old).clauses }
         ensures learnt { (contents self.new).learnt ≡ (contents self.old).learnt }
-        ensures rearranged { IsRearranged (literals_in_list (kept_in [] lists.now disjunctions.now) (contents self.old)) (watched_by (contents self.old)) (watched_by (contents self.new)) }
+        ensures rearranged { IsRearranged (literals_in_list (kept_in [] lists.now disjunctions.now) (contents self.old))
+            (watched_by (contents self.old)) (watched_by (contents self.new)) }
         ensures list { IsClauseList (contents self.new) }
-        ensures forced { HasForced (literals_in_list (kept_in [] lists.now disjunctions.now) (contents self.old)) level trail.old trail.new }
-        ensures ok { IfOk result (λ found. MatchOption found
-            (AreSettled (literals_in_list (kept_in [] lists.now disjunctions.now) (contents self.old)) (length (contents self.old).clauses) (val trail.new.entries))
-            (IsConflict (literals_in_list (kept_in [] lists.now disjunctions.now) (contents self.old)) (length (contents self.old).clauses) (val trail.new.entries))) }
+        ensures forced { HasForced (literals_in_list (kept_in [] lists.now disjunctions.now) (contents self.old)) level
+            trail.old trail.new }
+        ensures ok { IfOk result (λ conflict. MatchOption conflict
+            (AreSettled (literals_in_list (kept_in [] lists.now disjunctions.now) (contents self.old))
+            (length (contents self.old).clauses) (val trail.new.entries))
+            (IsConflict (literals_in_list (kept_in [] lists.now disjunctions.now) (contents self.old))
+            (length (contents self.old).clauses) (val trail.new.entries))) }
         ensures memory { IfErr result (λ e. e ≡ OutOfMemory) }
     {
-        let sources = Sources {
+        let given = Given {
             clauses: self.clauses.as_slice(),
             learnt: &self.learnt,
             lists,
             disjunctions,
-        };
-        rounds::saturate(
-            &sources,
-            &mut self.map,
-            self.watches.as_mut_slice(),
-            trail,
             level,
-        )
+        };
+        saturation::saturate(&given, &mut self.map, self.watches.as_mut_slice(), trail)
     }
 }
