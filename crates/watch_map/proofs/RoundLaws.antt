@@ -1,7 +1,7 @@
 -- The rounds of a saturation: the next place, the clauses that watch nothing, the end, and what gets smaller.
 use Rattle.std.specs.Prelude.{MatchOption, is_some, slice_get}
 use Rattle.std.proofs.Common.{◌≡◌, ◌≢◌, ℕ, ◌+◌, ◌-◌, ◌<◌, ◌≤◌, true, false, List, [], ◌∷◌, ◌++◌, length, map, get_or, Option, Some, None, refl, sym, ap, subst, ◌∙◌, arith, nat_eq, eqb-true, take_all, length-append}
-use Rattle.std.proofs.lemmas.Bool.{true≢false, eqb-false, or_left}
+use Rattle.std.proofs.lemmas.Bool.{eqb-false, or_left}
 use Rattle.std.proofs.lemmas.List.{length-map, get_or_append_left, get_or-map}
 use Rattle.std.proofs.lemmas.Option.{slice_get-get_or, slice_get_within, get_or_from_slice_get}
 use Rattle.decisions.specs.Literals.{Lit, Values}

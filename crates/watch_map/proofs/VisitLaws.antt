@@ -12,7 +12,7 @@ use Rattle.watch_map.specs.Forcing.{is_false, forces, IsSettled}
 use Rattle.watch_map.specs.WatchInvariant.{is_true_literal, has_true_beside}
 use Rattle.watch_map.specs.Visits.{IsWatching, MayWatch, ForcesOther}
 use Rattle.watch_map.proofs.WatchingLaws.{same_is, same_self, same_swap}
-use Rattle.watch_map.proofs.LiteralLists.{by_test, all_at, all_from, found_is, none_found, in_two, apart, two_long}
+use Rattle.watch_map.proofs.LiteralLists.{by_test, all_at, all_from, found_is, none_found, in_two, apart}
 use Rattle.watch_map.proofs.ValueLaws.{open_if, true_is_decided}
 use Rattle.watch_map.proofs.ForcingLaws.{forces_parts, forces_from}
 use Rattle.watch_map.proofs.MetLaws.{beside_from}

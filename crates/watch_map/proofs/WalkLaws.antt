@@ -4,7 +4,7 @@ use Rattle.std.proofs.Common.{◌≡◌, ℕ, true, List, ◌∷◌, slice_index
 use Rattle.decisions.specs.Literals.{Lit, Values, is_false_literal}
 use Rattle.decisions.specs.Trail.{Trail, val}
 use Rattle.watch_map.specs.WatchLists.{WatchLists, Watches, Position, watched_by, AreWatched, IsNode, clause_of, index_of, literal_of}
-use Rattle.watch_map.specs.WatchCalls.{StandsIn, StandsBehind, Moves, rest, remaining}
+use Rattle.watch_map.specs.WatchCalls.{StandsIn, StandsBehind, Moves, rest}
 use Rattle.watch_map.specs.Saturation.{HasForced, IsRearranged}
 use Rattle.watch_map.specs.WatchInvariant.{Extends, has_true_beside, AreMet, AreMetBut}
 use Rattle.watch_map.specs.Visits.{IsWatching, MayWatch}

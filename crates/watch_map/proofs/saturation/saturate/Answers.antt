@@ -6,7 +6,6 @@ use Rattle.watch_map.specs.WatchInvariant.{AreMet, val_before}
 use Rattle.watch_map.specs.Visits.{literals_at, AreUnwatchedSettled}
 use Rattle.watch_map.proofs.GivenLaws.{given_within}
 use Rattle.watch_map.proofs.ForcingLaws.{forced_then, forced_longer, forced_same}
-use Rattle.watch_map.proofs.MetLaws.{met_at_start}
 use Rattle.watch_map.proofs.RoundLaws.{none_case, rearranged_then, place_kept, all_settled, as_many_decisions, round_smaller}
 use Rattle.watch_map.proofs.saturation.saturate.Goals as goal
 

@@ -2,9 +2,8 @@ use Rattle.std.proofs.Common.{◌≡◌, true, sym, subst}
 use Rattle.decisions.specs.Literals.{Values}
 use Rattle.decisions.specs.Trail.{val}
 use Rattle.watch_map.specs.WatchLists.{watched_by, clause_of, literal_of}
-use Rattle.watch_map.specs.Forcing.{forces, is_false}
-use Rattle.watch_map.specs.WatchInvariant.{has_true_beside}
-use Rattle.watch_map.specs.Visits.{literals_at, MayWatch}
+use Rattle.watch_map.specs.Forcing.{forces}
+use Rattle.watch_map.specs.Visits.{literals_at}
 use Rattle.watch_map.proofs.MetLaws.{beside_from}
 use Rattle.watch_map.proofs.saturation.visit.visit.Goals as goal
 

@@ -10,7 +10,7 @@ use Rattle.watch_map.specs.Visits.{literals_at, IsVisit, MayWatch}
 use Rattle.watch_map.specs.declared.saturation.visit.Upshot.{Upshot}
 use Rattle.watch_map.proofs.LiteralLists.{read_in}
 use Rattle.watch_map.proofs.GivenLaws.{given_within}
-use Rattle.watch_map.proofs.WalkLaws.{IsAt, IsWalked, walked_more, walked_next, walked_moved, walked_false, walked_watching, stands_node, is_at}
+use Rattle.watch_map.proofs.WalkLaws.{IsAt, IsWalked, walked_more, walked_next, walked_moved, walked_false, walked_watching, is_at}
 use Rattle.watch_map.proofs.saturation.walk.walk.Goals as goal
 
 pub visit-requires-clause-own : goal.visit-requires-clause-own
