@@ -19,15 +19,21 @@
 //! └── visit_all_unwatched    each clause that watches nothing: all of its literals are looked at
 //! ```
 //!
-//! `place` divides the trail in each round: what the entries before it make false is met.
+//! A place divides the trail: what the entries before it make false is met. Here `a` was assigned, and both clauses watch
+//! `not a`; the newer one is visited first.
 //!
 //! ```text
-//! trail     e0   e1   e2   e3   e4                 clause 5 watches -e2 and -e7
-//!                     ^place
-//! walk of the literal that e2 makes false: clause 5 forces -e7
+//! clause 1: not a or b               watches not a, b
+//! clause 2: not a or not b or c      watches not a, not b
 //!
-//! trail     e0   e1   e2   e3   e4   e5            e5 makes -e7 true, by clause 5
-//!                          ^place
+//! a          walk of not a    clause 2: c isn't false, so it watches c in the place of not a
+//! ^place                      clause 1: not a is false and b undecided, so b is forced
+//!
+//! a  b       walk of not b    clause 2: not a and not b are false and c undecided, so c is forced
+//!    ^place
+//!
+//! a  b  c    walk of not c    nobody watches it
+//!       ^place
 //! ```
 //!
 //! An entry that is added makes true a clause that wasn't, and true clauses stay true. So there are no more entries than
