@@ -2,10 +2,20 @@ pub mod CallerLaws
 mod ChainLaws
 mod CountLaws
 mod CursorLaws
+pub mod ForcingLaws
+mod GivenLaws
 mod LinkLaws
 pub mod ListCallerLaws
 mod ListLaws
+pub mod ListSaturationLaws
+pub mod LiteralLists
+pub mod MetLaws
 mod MoveLaws
+mod OpenClauses
+mod RoundLaws
 mod StartLaws
+pub mod ValueLaws
+mod VisitLaws
+mod WalkLaws
 mod WatchLemmas
 pub mod WatchingLaws

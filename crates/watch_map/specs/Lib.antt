@@ -1,7 +1,11 @@
 pub mod ClauseList
 pub mod ClauseListView
+pub mod Forcing
 pub mod Laws
+pub mod Saturation
+pub mod Visits
 pub mod Walks
 pub mod WatchCalls
+pub mod WatchInvariant
 pub mod WatchLists
 pub mod Watching

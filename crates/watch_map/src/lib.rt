@@ -46,12 +46,17 @@
 //! [`ClauseList`], in `clause_list`, is such a caller, with its walks in `walks`: the list of all clauses of a store, each with what
 //! it watches, the clauses that watch each literal, and the literals of the learnt ones. A clause's id is its place in the list. What
 //! the calls make of the list is said in `specs/ClauseList`.
+//!
+//! [`ClauseList::saturate`] adds to the trail what clauses force, until none forces anything: `saturation` tells how. What clauses force
+//! is said in `specs/Forcing`, what a saturation changes in `specs/Saturation`, and what is true while it goes on in
+//! `specs/WatchInvariant` and `specs/Visits`.
 #![tactic(auto)]
 
 mod clause_list;
 mod cursor;
 mod lists;
 mod nodes;
+mod saturation;
 mod walks;
 mod watched_literals;
 

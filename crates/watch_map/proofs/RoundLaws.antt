@@ -1,0 +1,168 @@
+-- The rounds of a saturation: the next place, the clauses that watch nothing, the end, and what gets smaller.
+use Rattle.std.specs.Prelude.{MatchOption, is_some, slice_get}
+use Rattle.std.proofs.Common.{◌≡◌, ◌≢◌, ℕ, ◌+◌, ◌-◌, ◌<◌, ◌≤◌, true, false, List, [], ◌∷◌, ◌++◌, length, map, get_or, Option, Some, None, refl, sym, ap, subst, ◌∙◌, arith, nat_eq, eqb-true, take_all, length-append}
+use Rattle.std.proofs.lemmas.Bool.{eqb-false, or_left}
+use Rattle.std.proofs.lemmas.List.{length-map, get_or_append_left, get_or-map}
+use Rattle.std.proofs.lemmas.Option.{slice_get-get_or, slice_get_within, get_or_from_slice_get}
+use Rattle.decisions.specs.Literals.{Lit, Values}
+use Rattle.decisions.specs.declared.decision.Decision.{Decision}
+use Rattle.decisions.specs.Trail.{Entry, Trail, val}
+use Rattle.clauses.specs.Clauses.{same_literal}
+use Rattle.watch_map.specs.Watching.{is_literal_in, AreTwoOrNone}
+use Rattle.watch_map.specs.Forcing.{IsSettled, AreSettled}
+use Rattle.watch_map.specs.WatchLists.{WatchLists, Watches, watched_by, AreWatched}
+use Rattle.watch_map.specs.Saturation.{WatchOwn, HasForced, IsRearranged}
+use Rattle.watch_map.specs.WatchInvariant.{refuted_literal, AreMet, AreMetBut, val_before}
+use Rattle.watch_map.specs.Visits.{AreUnwatchedSettled}
+use Rattle.watch_map.proofs.WatchingLaws.{same_self}
+use Rattle.watch_map.proofs.LiteralLists.{by_test}
+use Rattle.watch_map.proofs.OpenClauses.{count_open}
+use Rattle.watch_map.proofs.ForcingLaws.{forced_extends, forced_longer, forced_same, forced_before, forced_fewer}
+use Rattle.watch_map.proofs.MetLaws.{met_kept, met_one_more, met_not_false, met_not_forcing}
+
+-- where no conflict was found
+pub none_case : {X : Type 0} (A : Type 0) (B : X → Type 0) (o : Option X) → MatchOption o A B → is_some o ≡ false → A
+none_case A B None h n = h
+none_case A B (Some x) h n = absurd (let z : true ≡ false = n in cc)
+
+-- ---- the entry at a place
+
+-- the decision that is read at a place is that of the entry that stands there
+pub decision_at : (es : List Entry) (ds : List Decision) (place : ℕ) (e : Entry) (d : Decision)
+    → ds ≡ map (λ (x : Entry). x.decision) es → slice_get es place ≡ Some e → d ≡ get_or ds place d → d ≡ e.decision
+decision_at es ds place e d read at is =
+    is ∙ ap (λ xs. get_or xs place d) read
+    ∙ get_or-map (λ (x : Entry). x.decision) es place e d (slice_get_within es place e at)
+    ∙ ap (λ (x : Entry). x.decision) (get_or_from_slice_get es place e e at)
+
+-- there is one before the end
+pub has_entry : (es : List Entry) (place : ℕ) → place < length es → (e : Entry) × (slice_get es place ≡ Some e)
+has_entry [] place h = absurd (omega (arith, h))
+has_entry (x ∷ es) place h = (get_or (x ∷ es) place x, slice_get-get_or (x ∷ es) place x h)
+
+-- and with entries behind it stands there still
+entry_kept : (es fs : List Entry) (place : ℕ) (e : Entry) → slice_get es place ≡ Some e
+    → slice_get (es ++ fs) place ≡ Some e
+entry_kept es fs place e at =
+    let within = slice_get_within es place e at in
+    let longer = length-append es fs in
+    slice_get-get_or (es ++ fs) place e (omega (arith, within, longer))
+    ∙ ap Some (get_or_append_left es fs e place within ∙ get_or_from_slice_get es place e e at)
+
+-- the decisions that were read are as many as the entries
+pub as_many_decisions : (ds : List Decision) (es : List Entry)
+    → ds ≡ map (λ (e : Entry). e.decision) es → length ds ≡ length es
+as_many_decisions ds es e = ap length e ∙ length-map es (λ (x : Entry). x.decision)
+
+-- ---- the next place
+
+-- what is true since the trail was `t` and the watches were `w`: the entries before the place are propagated
+pub record IsPropagated (literals : ℕ → List Lit) (level : ℕ) (t : Trail) (w : ℕ → List Lit) (map : WatchLists)
+    (watches : Watches) (t' : Trail) (place : ℕ) : Type 0 where
+  pub within : place ≤ length t'.entries
+  pub watched : AreWatched map watches
+  pub rearranged : IsRearranged literals w (watched_by watches)
+  pub forced : HasForced literals level t t'
+  pub met : AreMet (val_before place t'.entries) (val t'.entries) (watched_by watches)
+
+pub rearranged_then : (literals a b c : ℕ → List Lit) → IsRearranged literals a b → IsRearranged literals b c
+    → IsRearranged literals a c
+rearranged_then literals a b c ab bc = record { own = bc.own; as_many = λ d. bc.as_many d ∙ ab.as_many d }
+
+module _ (literals : ℕ → List Lit) (level : ℕ) where
+  -- once the literal that the entry at a place makes false was walked, the place after it is reached
+  pub place_reached : (a b : Trail) (place : ℕ) (l : Lit) (watched : ℕ → List Lit) → place < length a.entries
+      → ((e : Entry) → slice_get a.entries place ≡ Some e → l ≡ refuted_literal e.decision)
+      → HasForced literals level a b
+      → AreMet (val_before place a.entries) (val b.entries) watched → AreMetBut [] l (val b.entries) watched
+      → AreMet (val_before (place + 1) b.entries) (val b.entries) watched
+  place_reached a b place l watched within is_l f met one =
+      let has = has_entry a.entries place within in
+      let e = has.0 in
+      let there : slice_get b.entries place ≡ Some e = subst (λ es. slice_get es place ≡ Some e) (sym f.entries)
+      (entry_kept a.entries f.added place e has.1) in
+      let as_before = forced_before literals level a b f place (omega (arith, within)) in
+      met_one_more b.entries place e (val b.entries) watched there
+      (subst (λ (v : Values). AreMet v (val b.entries) watched) (sym as_before) met)
+      (subst (λ x. AreMetBut [] x (val b.entries) watched) (is_l e has.1) one)
+
+  -- what is met at all entries is met at the place behind them
+  pub place_kept : (a b : Trail) (watched : ℕ → List Lit) → HasForced literals level a b
+      → AreMet (val a.entries) (val a.entries) watched
+      → AreMet (val_before (length a.entries) b.entries) (val b.entries) watched
+  place_kept a b watched f met =
+      let same : val_before (length a.entries) b.entries ≡ val a.entries =
+      forced_before literals level a b f (length a.entries) (omega arith)
+      ∙ ap val (take_all (length a.entries) a.entries (omega arith)) in
+      subst (λ (v : Values). AreMet v (val b.entries) watched) (sym same)
+      (met_kept (val a.entries) (val a.entries) (val b.entries) watched (forced_extends literals level a b f) met)
+
+-- ---- the clauses that watch nothing
+
+module _ (literals watched : ℕ → List Lit) (level : ℕ) where
+  -- one more was visited
+  pub unwatched_more : (t a b : Trail) (index : ℕ) → HasForced literals level t a
+      → (length a.entries ≡ length t.entries → AreUnwatchedSettled literals watched index (val a.entries))
+      → HasForced literals level a b
+      → (length b.entries ≡ length a.entries → watched index ≡ [] → IsSettled (val b.entries) (literals index))
+      → length b.entries ≡ length t.entries → AreUnwatchedSettled literals watched (index + 1) (val b.entries)
+  unwatched_more t a b index ta before ab here same d within none =
+      let long = forced_longer literals level t a ta in
+      let long_b = forced_longer literals level a b ab in
+      let as_b : length b.entries ≡ length a.entries = omega (arith, long, long_b, same) in
+      let as_a : length a.entries ≡ length t.entries = omega (arith, long, long_b, same) in
+      by_test (IsSettled (val b.entries) (literals d)) (nat_eq d index)
+      (λ e.
+      let is = eqb-true d index e in
+      subst (λ x. IsSettled (val b.entries) (literals x)) (sym is) (here as_b (subst (λ x. watched x ≡ []) is none)))
+      (λ e.
+      let ne = eqb-false d index e in
+      let below : d < index = omega (arith, ne, within) in
+      subst (λ es. IsSettled (val es) (literals d)) (sym (forced_same literals level a b ab as_b))
+      (before as_a d below none))
+
+-- a clause that watches something isn't one of them
+pub watches_none : (ls : List Lit) → ls ≡ [] → 0 < length ls → ⊥
+watches_none ls e h = absurd (omega (arith, ap length e, h))
+
+-- ---- the end
+
+-- all clauses are settled
+pub all_settled : (literals watched : ℕ → List Lit) (clauses : ℕ) (now : Values) → ((c : ℕ) → AreTwoOrNone (watched c))
+    → WatchOwn literals watched → AreMet now now watched → AreUnwatchedSettled literals watched clauses now
+    → AreSettled literals clauses now
+all_settled literals watched clauses now two own met unwatched c within = go (watched c) refl
+  where
+    go : (ws : List Lit) → watched c ≡ ws → IsSettled now (literals c)
+    go [] e = unwatched c within e
+    go (w ∷ ws) e =
+        let there : is_literal_in w (watched c) ≡ true = subst (λ xs. is_literal_in w xs ≡ true) (sym e)
+        (or_left (same_literal w w) (is_literal_in w ws) (same_self w)) in (
+          met_not_false literals watched now two own met c w there,
+          met_not_forcing literals watched
+              now two own met c w there,
+        )
+
+-- ---- what gets smaller
+
+module _ (literals : ℕ → List Lit) (level clauses : ℕ)
+    (within : (c : ℕ) (l : Lit) → is_literal_in l (literals c) ≡ true → c < clauses) where
+  -- the next place, with what was added
+  pub place_smaller : (a b : Trail) (place : ℕ) → HasForced literals level a b → place < length a.entries
+      → count_open literals clauses (val b.entries) + (length b.entries - (place + 1))
+      < count_open literals clauses (val a.entries) + (length a.entries - place)
+  place_smaller a b place f h =
+      let fewer = forced_fewer literals level a b f clauses within in
+      let longer = forced_longer literals level a b f in
+      omega (arith, fewer, longer, h)
+
+  -- a round that added an entry
+  pub round_smaller : (a b d : Trail) → HasForced literals level a b → HasForced literals level b d
+      → length d.entries ≢ length b.entries
+      → count_open literals clauses (val d.entries) < count_open literals clauses (val a.entries)
+  round_smaller a b d ab bd ne =
+      let fewer_b = forced_fewer literals level a b ab clauses within in
+      let longer_b = forced_longer literals level a b ab in
+      let fewer_d = forced_fewer literals level b d bd clauses within in
+      let longer_d = forced_longer literals level b d bd in
+      omega (arith, fewer_b, longer_b, fewer_d, longer_d, ne)

@@ -1,0 +1,60 @@
+use Rattle.std.proofs.Common.{◌<◌, [], length, sym, ◌∙◌, arith}
+use Rattle.decisions.specs.Trail.{val}
+use Rattle.watch_map.specs.WatchLists.{watched_by}
+use Rattle.watch_map.specs.Forcing.{IsConflict}
+use Rattle.watch_map.specs.WatchInvariant.{AreMetBut, val_before}
+use Rattle.watch_map.specs.Visits.{literals_at}
+use Rattle.watch_map.proofs.GivenLaws.{given_within}
+use Rattle.watch_map.proofs.ValueLaws.{before_extends}
+use Rattle.watch_map.proofs.ForcingLaws.{forced_then, forced_longer}
+use Rattle.watch_map.proofs.RoundLaws.{none_case, rearranged_then, place_reached, as_many_decisions, place_smaller}
+use Rattle.watch_map.proofs.saturation.propagate.propagate.Goals as goal
+
+pub returns-in_err-conflict-clause-forced : goal.returns-in_err-conflict-clause-forced
+returns-in_err-conflict-clause-forced g c =
+    forced_then (literals_at c.args.given.now) c.args.given.now.level c.args.trail.now
+    c.loop-place.trail c.walk.new.trail
+    c.loop-place.invariant.forced c.walk.ensures.forced
+
+pub returns-then-is_some-clause-forced : goal.returns-then-is_some-clause-forced
+returns-then-is_some-clause-forced g c =
+    forced_then (literals_at c.args.given.now) c.args.given.now.level c.args.trail.now
+    c.loop-place.trail c.walk.new.trail
+    c.loop-place.invariant.forced c.walk.ensures.forced
+
+pub loop-place-smaller : goal.loop-place-smaller
+loop-place-smaller g c =
+    let given = c.args.given.now in
+    let many = as_many_decisions c.assignments.result.now c.loop-place.trail.entries c.assignments.ensures.decisions in
+    let test = c.loop-place-test.true in
+    let within : c.loop-place.place < length c.loop-place.trail.entries = omega (arith, many, test) in
+    place_smaller (literals_at given) given.level (length given.clauses.now) (given_within given)
+    c.loop-place.trail c.walk.new.trail c.loop-place.place c.walk.ensures.forced within
+
+pub loop-place-preserved : goal.loop-place-preserved
+loop-place-preserved g c =
+    let literals = literals_at c.args.given.now in
+    let level = c.args.given.now.level in
+    let old = c.loop-place.trail in
+    let new = c.walk.new.trail in
+    let place = c.loop-place.place in
+    let inv = c.loop-place.invariant in
+    let watched = watched_by c.walk.new.watches in
+    let many = as_many_decisions c.assignments.result.now old.entries c.assignments.ensures.decisions in
+    let test = c.loop-place-test.true in
+    let within : place < length old.entries = omega (arith, many, test) in
+    let longer = forced_longer literals level old new c.walk.ensures.forced in
+    let one = none_case (AreMetBut [] c.refuted_at-literal.result (val new.entries) watched)
+    (IsConflict literals (length c.args.given.now.clauses.now) (val new.entries)) c.in_ok-conflict.conflict
+    c.in_ok-conflict.ensures.ok (sym c.is_some.ensures ∙ c.if-is_some.false) in
+    record {
+      within = omega (arith, within, longer);
+      watched = c.walk.ensures.watched;
+      rearranged = rearranged_then literals (watched_by c.args.watches.now) (watched_by c.loop-place.watches) watched
+          inv.rearranged c.walk.ensures.rearranged;
+      forced = forced_then literals level c.args.trail.now old new inv.forced c.walk.ensures.forced;
+      met = place_reached literals level old new place c.refuted_at-literal.result watched within
+          c.refuted_at-literal.ensures.entry
+          c.walk.ensures.forced (c.walk.ensures.kept (val_before place old.entries)
+          (before_extends old.entries place) inv.met) one;
+    }

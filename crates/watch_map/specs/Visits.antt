@@ -1,0 +1,63 @@
+-- What a look at a clause tells, and what a visit leaves.
+use Rattle.std.specs.Prelude.{◌≡◌, ℕ, ◌<◌, true, false, List, []}
+use Rattle.decisions.specs.Literals.{Lit, Values, is_false_literal}
+use Rattle.clauses.specs.Clauses.{same_literal}
+use Rattle.clauses.specs.Stored.{kept_in}
+use Rattle.watch_map.specs.Watching.{is_literal_in, AreTwoOrNone}
+use Rattle.watch_map.specs.Forcing.{is_false, forces, IsSettled}
+use Rattle.watch_map.specs.Saturation.{literals_from, AreOwn}
+use Rattle.watch_map.specs.WatchInvariant.{has_true_beside}
+use Rattle.watch_map.specs.declared.saturation.given.Given.{Given}
+use Rattle.watch_map.specs.declared.saturation.unwatched.Finding.{Finding}
+use Rattle.watch_map.specs.declared.saturation.unwatched.Finding.TheVariants as Found
+use Rattle.watch_map.specs.declared.saturation.visit.Sight.{Sight}
+use Rattle.watch_map.specs.declared.saturation.visit.Sight.TheVariants as Seen
+use Rattle.watch_map.specs.declared.saturation.visit.Upshot.{Upshot}
+use Rattle.watch_map.specs.declared.saturation.visit.Upshot.TheVariants as Left
+
+-- the literals of a clause, by what a saturation is given
+abbrev pub literals_at : {N A : Type 0} → Given N A → ℕ → List Lit
+literals_at g = literals_from (kept_in g.learnt.now g.lists.now g.disjunctions.now) g.clauses.now
+
+-- ---- a clause that watches two literals
+
+-- it watches two different ones of its own literals, or none
+pub record IsWatching (literals watched : List Lit) : Type 0 where
+  pub two : AreTwoOrNone watched
+  pub own : AreOwn literals watched
+
+-- the clause may watch this literal: it is one of its own, unwatched, and not false
+pub record MayWatch (now : Values) (literals watched : List Lit) (l : Lit) : Type 0 where
+  pub own : is_literal_in l literals ≡ true
+  pub unwatched : is_literal_in l watched ≡ false
+  pub not_false : is_false_literal now l ≡ false
+
+-- the clause forces this literal, which it watches beside the false one
+pub record ForcesOther (now : Values) (literals watched : List Lit) (falsified l : Lit) : Type 0 where
+  pub forced : forces now literals l ≡ true
+  pub watch : is_literal_in l watched ≡ true
+  pub other : same_literal l falsified ≡ false
+
+-- over the values, the clause's literals, those that it watches, and the watch that is false
+abbrev pub IsLook : Values → List Lit → List Lit → Lit → Sight → Type 0
+IsLook now literals watched falsified Seen.Met = has_true_beside now watched falsified ≡ true
+IsLook now literals watched falsified (Seen.Moves l) = MayWatch now literals watched l
+IsLook now literals watched falsified (Seen.Forces l) = ForcesOther now literals watched falsified l
+IsLook now literals watched falsified Seen.Conflict = is_false now literals ≡ true
+
+abbrev pub IsVisit : Values → List Lit → List Lit → Lit → Upshot → Type 0
+IsVisit now literals watched falsified Left.Met = has_true_beside now watched falsified ≡ true
+IsVisit now literals watched falsified (Left.Moves l) = MayWatch now literals watched l
+IsVisit now literals watched falsified Left.Conflict = is_false now literals ≡ true
+
+-- ---- a clause that watches nothing
+
+-- over the values and the clause's literals
+abbrev pub IsFinding : Values → List Lit → Finding → Type 0
+IsFinding now literals Found.Settled = IsSettled now literals
+IsFinding now literals (Found.Forces l) = forces now literals l ≡ true
+IsFinding now literals Found.Conflict = is_false now literals ≡ true
+
+-- those below the bound that watch nothing are settled
+abbrev pub AreUnwatchedSettled : (ℕ → List Lit) → (ℕ → List Lit) → ℕ → Values → Type 0
+AreUnwatchedSettled literals watched clauses now = (c : ℕ) → c < clauses → watched c ≡ [] → IsSettled now (literals c)

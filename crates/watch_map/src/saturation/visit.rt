@@ -1,0 +1,139 @@
+//! One clause of which a watch is false.
+ghost use Rattle.std.specs.Prelude.{◌≡◌, ◌<◌, ◌≤◌, ◌^◌, true, length, OnOk, OnErr, IfOk, IfErr};
+ghost use Rattle.typed_ids.specs.declared.error.StoreError.TheVariants.{OutOfMemory};
+ghost use Rattle.decisions.specs.Decisions.{values_in};
+ghost use Rattle.decisions.specs.Literals.{is_false_literal};
+ghost use Rattle.decisions.specs.Trail.{val};
+ghost use Rattle.watch_map.specs.WatchLists.{watched_by, clause_of, literal_of, IsNode};
+ghost use Rattle.watch_map.specs.Forcing.{forces};
+ghost use Rattle.watch_map.specs.Saturation.{HasForced};
+ghost use Rattle.watch_map.specs.WatchInvariant.{is_true_literal};
+ghost use Rattle.watch_map.specs.Visits.{literals_at, IsWatching, IsLook, IsVisit};
+
+use crate::cursor::WatchMapCursor;
+use crate::saturation::given::{Given, clause_at};
+use crate::watched_literals::WatchedLiterals;
+use decisions::{AddFault, Decision, DecisionMap, DecisionTracker, Literal};
+use std::alloc::Allocator;
+use typed_ids::{ClauseId, StoreError};
+
+/// What a look at a clause of which a watch is false tells.
+pub(crate) enum Sight {
+    /// The other watch is true.
+    Met,
+    /// It may watch this literal in the place of the false one.
+    Moves(Literal),
+    /// It forces this literal, its other watch.
+    Forces(Literal),
+    /// It is false.
+    Conflict,
+}
+
+/// What a visit leaves to do.
+pub(crate) enum Upshot {
+    /// Nothing: the other watch is true.
+    Met,
+    /// The clause may watch this literal in the place of the false one.
+    Moves(Literal),
+    /// The clause is false.
+    Conflict,
+}
+
+/// Visits the clause at this position in the list of a false literal: adds an entry for what it forces.
+pub(crate) fn visit<N: Copy, A: Allocator + Copy>(
+    given: &Given<N, A>,
+    watches: &[Option<WatchedLiterals>],
+    at: &WatchMapCursor,
+    trail: &mut DecisionTracker<A>,
+) -> Result<Upshot, StoreError>
+    requires own { IsWatching (literals_at given.now (clause_of at.now)) (watched_by watches.now (clause_of at.now)) }
+    requires node { IsNode watches.now (literal_of at.now) at.now.current }
+    requires is_false { is_false_literal (val trail.old.entries) (literal_of at.now) ≡ true }
+    ensures forced { HasForced (literals_at given.now) given.now.level trail.old trail.new }
+    ensures ok { IfOk result (IsVisit (val trail.new.entries) (literals_at given.now (clause_of at.now))
+        (watched_by watches.now (clause_of at.now)) (literal_of at.now)) }
+    ensures memory { IfErr result (λ e. e ≡ OutOfMemory) }
+{
+    match look(given, watches, at, trail.map()) {
+        Sight::Met => Ok(Upshot::Met),
+        Sight::Moves(literal) => Ok(Upshot::Moves(literal)),
+        Sight::Conflict => Ok(Upshot::Conflict),
+        Sight::Forces(other) => {
+            force(given, at.clause_id(), other, trail)?;
+            Ok(Upshot::Met)
+        }
+    }
+}
+
+/// Looks at the clause at this position in the list of a false literal. Reads it only where its other watch isn't true.
+fn look<N: Copy, A: Allocator + Copy>(
+    given: &Given<N, A>,
+    watches: &[Option<WatchedLiterals>],
+    at: &WatchMapCursor,
+    map: &DecisionMap<A>,
+) -> Sight
+    requires own { IsWatching (literals_at given.now (clause_of at.now)) (watched_by watches.now (clause_of at.now)) }
+    requires node { IsNode watches.now (literal_of at.now) at.now.current }
+    requires is_false { is_false_literal (values_in map.now) (literal_of at.now) ≡ true }
+    ensures { IsLook (values_in map.now) (literals_at given.now (clause_of at.now))
+        (watched_by watches.now (clause_of at.now)) (literal_of at.now) result }
+{
+    let index = at.watch_index();
+    let watched = at.watched_literals(watches);
+    let other = watched.watched_literals[1 - index];
+    if is_true(map, other) {
+        return Sight::Met;
+    }
+    let Some(clause) = clause_at(given, at.clause_id()) else {
+        unreachable!();
+    };
+    let next = watched.next_unwatched_literal(
+        &clause,
+        given.learnt,
+        given.lists,
+        given.disjunctions,
+        map,
+        index,
+    );
+    match next {
+        Some(next) => Sight::Moves(next),
+        None if is_false(map, other) => Sight::Conflict,
+        None => Sight::Forces(other),
+    }
+}
+
+/// Adds the entry that makes true what the clause forces.
+pub(crate) fn force<N: Copy, A: Allocator + Copy>(
+    given: &Given<N, A>,
+    id: ClauseId,
+    literal: Literal,
+    trail: &mut DecisionTracker<A>,
+) -> Result<(), StoreError>
+    requires forces { forces (val trail.old.entries) (literals_at given.now id) literal ≡ true }
+    ensures forced { HasForced (literals_at given.now) given.now.level trail.old trail.new }
+    ensures ok { OnOk result (is_true_literal (val trail.new.entries) literal ≡ true) }
+    ensures grown { OnOk result (length trail.old.entries < length trail.new.entries) }
+    ensures err { OnErr result (trail.new ≡ trail.old) }
+    ensures memory { IfErr result (λ e. e ≡ OutOfMemory) }
+{
+    let decision = Decision::new(literal.variable(), literal.satisfying_value(), id);
+    match trail.try_add_decision(decision, given.level) {
+        Ok(true) => Ok(()),
+        Err(AddFault::Store(error)) => Err(error),
+        Ok(false) | Err(AddFault::Clash) => unreachable!(),
+    }
+}
+
+/// Whether the literal is true.
+pub(crate) fn is_true<A: Allocator + Copy>(map: &DecisionMap<A>, literal: Literal) -> bool
+    ensures { result ≡ is_true_literal (values_in map.now) literal }
+{
+    literal.eval(map) == Some(true)
+}
+
+/// Whether the literal is false.
+pub(crate) fn is_false<A: Allocator + Copy>(map: &DecisionMap<A>, literal: Literal) -> bool
+    ensures { result ≡ is_false_literal (values_in map.now) literal }
+{
+    literal.eval(map) == Some(false)
+}

@@ -1,0 +1,55 @@
+//! The clauses that watch one literal.
+ghost use Rattle.std.specs.Prelude.{◌≡◌, true, [], length, MatchOption, IfOk, IfErr};
+ghost use Rattle.typed_ids.specs.declared.error.StoreError.TheVariants.{OutOfMemory};
+ghost use Rattle.decisions.specs.Literals.{Values, is_false_literal};
+ghost use Rattle.decisions.specs.Trail.{val};
+ghost use Rattle.watch_map.specs.WatchLists.{watched_by, AreWatched};
+ghost use Rattle.watch_map.specs.Forcing.{IsConflict};
+ghost use Rattle.watch_map.specs.Saturation.{WatchOwn, HasForced, IsRearranged};
+ghost use Rattle.watch_map.specs.WatchInvariant.{Extends, AreMet, AreMetBut};
+ghost use Rattle.watch_map.specs.Visits.{literals_at};
+
+use crate::lists::WatchMap;
+use crate::saturation::given::Given;
+use crate::saturation::visit::{Upshot, visit};
+use crate::watched_literals::WatchedLiterals;
+use decisions::{DecisionTracker, Literal};
+use std::alloc::Allocator;
+use typed_ids::{ClauseId, StoreError};
+
+/// Visits each clause that watches the literal, which is false, and lets those that find another literal watch that one.
+/// Answers a clause that is false, if it meets one. What was met before by earlier entries, whichever these are, stays so.
+pub(crate) fn walk<N: Copy, A: Allocator + Copy>(
+    given: &Given<N, A>,
+    map: &mut WatchMap<A>,
+    watches: &mut [Option<WatchedLiterals>],
+    literal: Literal,
+    trail: &mut DecisionTracker<A>,
+) -> Result<Option<ClauseId>, StoreError>
+    requires watched { AreWatched map.old watches.old }
+    requires own { WatchOwn (literals_at given.now) (watched_by watches.old) }
+    requires is_false { is_false_literal (val trail.old.entries) literal ≡ true }
+    ensures watched { AreWatched map.new watches.new }
+    ensures rearranged { IsRearranged (literals_at given.now) (watched_by watches.old) (watched_by watches.new) }
+    ensures forced { HasForced (literals_at given.now) given.now.level trail.old trail.new }
+    ensures kept { (before : Values) → Extends before (val trail.old.entries)
+        → AreMet before (val trail.old.entries) (watched_by watches.old)
+        → AreMet before (val trail.new.entries) (watched_by watches.new) }
+    ensures ok { IfOk result (λ conflict. MatchOption conflict
+        (AreMetBut [] literal (val trail.new.entries) (watched_by watches.new))
+        (IsConflict (literals_at given.now) (length given.now.clauses.now) (val trail.new.entries))) }
+    ensures memory { IfErr result (λ e. e ≡ OutOfMemory) }
+{
+    let mut cursor = map.cursor(watches, literal);
+    while let Some(at) = cursor {
+        match visit(given, watches, &at, trail)? {
+            Upshot::Met => cursor = at.next(map, watches),
+            Upshot::Moves(other) => match at.update(map, watches, other) {
+                Ok(behind) => cursor = behind,
+                Err(refused) => return Err(refused.error),
+            },
+            Upshot::Conflict => return Ok(Some(at.clause_id())),
+        }
+    }
+    Ok(None)
+}
