@@ -129,6 +129,9 @@ impl<N, S, A: Allocator + Copy> Play<N, S, A> for Few<'_, N, S, A> {
             if push_step(store, self.heap, command, expected, &mut unlike)? {
                 counts.note(said);
             }
+            if store.is_asked_where_read(self.heap) {
+                unlike.push_str("a reading asked for memory\n")?;
+            }
         }
         Ok((unlike, counts))
     }
