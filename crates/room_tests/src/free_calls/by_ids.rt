@@ -31,7 +31,7 @@ fn in_map_and_set<'h, K: SolverId<&'h Refusing<B>>, B: Allocator>(
     Ok(in_map? || in_set?)
 }
 
-/// Once there is room for a key, and the key is read and written.
+/// Once there is room for a key.
 fn in_map<'h, K: Copy, B: Allocator, M: IdMap<K, u64, &'h Refusing<B>>>(
     heap: &'h Refusing<B>,
     map: &mut M,
@@ -49,7 +49,7 @@ fn in_map<'h, K: Copy, B: Allocator, M: IdMap<K, u64, &'h Refusing<B>>>(
     Ok(is_asked(heap))
 }
 
-/// Once a key is in the set: putting it in again takes none, and neither does looking for it.
+/// Once a key is in the set.
 fn in_set<'h, K: Copy, B: Allocator, T: IdSet<K, &'h Refusing<B>>>(
     heap: &'h Refusing<B>,
     set: &mut T,
