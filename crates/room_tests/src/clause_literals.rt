@@ -1,14 +1,15 @@
 //! The literals of clauses, of which a list is made.
 use clauses::{Clause, Disjunction};
-use decisions::Literal;
+use decisions::{DecisionMap, Literal};
 use id_storage::Arena;
 use providers::{Requirement, RequirementMap};
 use std::alloc::Allocator;
 use std::test::Fail;
-use test_support::sees;
+use test_support::{Refusing, sees};
 use typed_ids::{
     ConditionId, DenseIndex, DisjunctionId, LearntClauseId, StoreError, VariableId, VersionSetId,
 };
+use watch_map::WatchedLiterals;
 
 #[test]
 fn clauses_have_their_literals(rt: HostRuntime) -> Result<(), Fail> {
@@ -123,6 +124,32 @@ impl<A: Allocator + Copy> Shelf<A> {
         drop(literals);
         Ok(same)
     }
+}
+
+/// Whether a request comes where another literal is looked for, of a clause of each kind of list.
+pub(crate) fn is_other_found<B: Allocator>(heap: &Refusing<B>) -> Result<bool, StoreError> {
+    let mut shelf = Shelf::new(heap);
+    let is_filled = shelf.fill(heap);
+    let map = DecisionMap::new(heap);
+    heap.arm(1);
+    look(&shelf, &map, &learnt(0));
+    look(&shelf, &map, &conditional(0));
+    let is_asked = !heap.is_armed();
+    heap.arm(0);
+    drop(map);
+    drop(shelf);
+    is_filled?;
+    Ok(is_asked)
+}
+
+/// Looks for another literal in the place of a clause's first one, and for a positive one.
+fn look<A: Allocator + Copy>(shelf: &Shelf<A>, map: &DecisionMap<A>, clause: &Clause<u32>) {
+    let watches = WatchedLiterals::new(plus(1), minus(2));
+    let (learnt, lists, disjunctions) = (&shelf.learnt, &shelf.lists, &shelf.disjunctions);
+    let _next = watches.next_unwatched_literal(clause, learnt, lists, disjunctions, map, 0);
+    let _found = clause.find_literal(learnt, lists, disjunctions, |literal| {
+        literal.satisfying_value()
+    });
 }
 
 /// Lists of which the one has these variables.

@@ -107,6 +107,14 @@ fn decided<A: Allocator + Copy>(
     }
 }
 
+/// Makes a clause of each kind where no variable has a value.
+pub(crate) fn seen_where_nothing_is_decided<A: Allocator + Copy>(tracker: &DecisionTracker<A>) {
+    let _seen = [
+        made(tracker, &Kind::Requires),
+        made(tracker, &Kind::Constrains),
+    ];
+}
+
 fn made<A: Allocator + Copy>(tracker: &DecisionTracker<A>, kind: &Kind) -> New {
     let (first, second) = (variable(1), variable(2));
     match kind {

@@ -1,12 +1,14 @@
 //! Tests of what the store stands on, by calls of the rooms.
 //!
 //! Of the ids and their storage: `arena`, `chosen`, `far`, `ids`, `id_texts`, `mapping`, `sets`, and where memory is refused
-//! `one_refusal` and `refused_defaults`. Of the pool, of requirements and of their maps: `pool`, `maps`, `noted`; of conditions:
+//! `one_refusal`, `refused_defaults` and `refused_parts`. Of the pool, of requirements and of their maps: `pool`, `maps`, `noted`; of conditions:
 //! `condition_calls`; of texts: `catalogue`, `shown`, `texts`, those of helper variables among them (`variables_shown`).
 //!
 //! Of clauses, and of what they are made of: `literals` and the `trail`; variables (`variable_keys`); the literals of clauses
 //! (`clause_literals`), and what new ones watch (`first_watches`); watch lists (`watch_lists`); and trackers of at most one variable
 //! (`trackers`).
+//!
+//! Calls that take no memory are made once more where each request would be refused (`free_calls`).
 //!
 //! What a call answers is proved, and so is what a refusal leaves. So each call that takes memory is made once where there is enough, and
 //! what takes none is read to see what those did. The program `trials` refuses each request of all that a store makes, and
@@ -30,6 +32,8 @@ mod far;
 #[cfg(test)]
 mod first_watches;
 #[cfg(test)]
+mod free_calls;
+#[cfg(test)]
 mod id_texts;
 #[cfg(test)]
 mod ids;
@@ -49,6 +53,8 @@ mod one_refusal;
 mod pool;
 #[cfg(test)]
 mod refused_defaults;
+#[cfg(test)]
+mod refused_parts;
 #[cfg(test)]
 mod sets;
 #[cfg(test)]

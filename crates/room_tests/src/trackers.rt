@@ -1,4 +1,4 @@
 //! Tests of the tracker of variables of which at most one may be true: its calls in ample memory.
 
 mod ample;
-mod tracked_numbers;
+pub(crate) mod tracked_numbers;

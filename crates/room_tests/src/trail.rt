@@ -42,7 +42,7 @@ fn decision(index: u16, value: bool) -> Decision {
     Decision::new(variable(index), value, clause)
 }
 
-fn variable(index: u16) -> VariableId {
+pub(crate) fn variable(index: u16) -> VariableId {
     VariableId::from_index(usize::from(index))
 }
 
@@ -53,7 +53,7 @@ fn clause_of<A: Allocator + Copy>(trail: &DecisionTracker<A>, index: u16) -> Opt
 }
 
 /// Makes these variables true, one after the other, at a level.
-fn add<A: Allocator + Copy>(
+pub(crate) fn add<A: Allocator + Copy>(
     trail: &mut DecisionTracker<A>,
     variables: &[u16],
     level: u32,
@@ -67,7 +67,7 @@ fn add<A: Allocator + Copy>(
 }
 
 /// Takes the newest decision back, if there is one.
-fn undo<A: Allocator + Copy>(trail: &mut DecisionTracker<A>) {
+pub(crate) fn undo<A: Allocator + Copy>(trail: &mut DecisionTracker<A>) {
     if !trail.assignments().is_empty() {
         trail.undo_last();
     }

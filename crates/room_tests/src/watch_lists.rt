@@ -1,4 +1,4 @@
 //! The watch lists: walks that move watches, in ample memory.
 
 mod ample;
-mod watched_clauses;
+pub(crate) mod watched_clauses;

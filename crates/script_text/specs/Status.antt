@@ -18,7 +18,7 @@ abbrev pub fault_at : ℕ → LineFault → ScriptFault
 fault_at number In.Unreadable = Unreadable number
 fault_at number In.Memory = Memory
 
--- the fault of a script whose reader failed so, or found no memory for what it read
+-- the fault of a script whose input couldn't be read for this: want of memory is that of the list alone, since a reader's own is told otherwise
 abbrev pub fault_of : ErrorKind → ScriptFault
 fault_of OutOfMemory = Memory
 fault_of _ = Device

@@ -17,5 +17,5 @@ pub use checks::{is_same, sees};
 pub use listed::{Listed, Package, VersionRange};
 pub use lists::Lists;
 pub use manner::{Counting, Counts, Hint, Listing, Manner, Stops};
-pub use numbered::Numbered;
+pub use numbered::{Distinct, Numbered};
 pub use refusing::Refusing;

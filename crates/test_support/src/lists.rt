@@ -6,7 +6,7 @@ ghost use Rattle.test_support.specs.Listed.{letter, several};
 
 use crate::listed::{Listed, all_below, named, sets_at, within};
 use crate::manner::{Counting, Counts, Manner, counted, told};
-use crate::numbered::Numbered;
+use crate::numbered::{Distinct, Numbered};
 use id_maps::SolverId;
 use providers::{
     Candidates, Condition, Dependencies, DependencyProvider, Interner, KnownDependencies,
@@ -58,7 +58,7 @@ impl<N, S, A: Allocator> Counting for Lists<N, S, A> {
     }
 }
 
-impl<N: SolverId<A> + Numbered, S: SolverId<A> + Numbered, A: Allocator + Copy> Interner
+impl<N: SolverId<A> + Numbered, S: SolverId<A> + Distinct, A: Allocator + Copy> Interner
     for Lists<N, S, A> {
     type Alloc = A;
 
@@ -169,7 +169,7 @@ impl<N: SolverId<A> + Numbered, S: SolverId<A> + Numbered, A: Allocator + Copy> 
     }
 }
 
-impl<N: SolverId<A> + Numbered, S: SolverId<A> + Numbered, A: Allocator + Copy> DependencyProvider
+impl<N: SolverId<A> + Numbered, S: SolverId<A> + Distinct, A: Allocator + Copy> DependencyProvider
     for Lists<N, S, A> {
     ghost use Rattle.std.proofs.lemmas.List.Sorted.{IsPermutation-reverse};
     ghost use Rattle.test_support.specs.Listed.{answers_of, candidates_known};

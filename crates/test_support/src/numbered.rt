@@ -1,5 +1,5 @@
-//! Ids that are told by their numbers.
-ghost use Rattle.std.specs.Prelude.{◌≡◌, ℕ, refl};
+//! Ids that are told by their numbers. Dense ids are their numbers; sparse ones of 16 and of 64 bits lie far apart.
+ghost use Rattle.std.specs.Prelude.{◌≡◌, ◌*◌, ◌/◌, ◌%◌, ◌^◌, ℕ, refl};
 
 use typed_ids::{DenseId, SparseId};
 
@@ -18,17 +18,18 @@ pub trait Numbered: Copy {
     /// The id's number.
     fn number(self) -> u32
         ensures { result ≡ number_of self };
+}
 
-    /// No two numbers have one id.
-    ghost number_of_id: { (n : ℕ) → number_of (id_of n) ≡ n };
+/// Ids of which no two numbers have one.
+pub trait Distinct: Numbered {
+    /// The number comes back.
+    ghost number_of_id: { (n : ℕ) → Self.Numbered.number_of (Self.Numbered.id_of n) ≡ n };
 }
 
 impl<Tag> Numbered for DenseId<Tag> {
     ghost number_of = { λ id. id };
 
     ghost id_of = { λ n. n };
-
-    ghost number_of_id = { λ n. refl };
 
     fn numbered(number: u32) -> DenseId<Tag> {
         DenseId::from_raw(number)
@@ -39,18 +40,49 @@ impl<Tag> Numbered for DenseId<Tag> {
     }
 }
 
-impl<Tag> Numbered for SparseId<Tag> {
-    ghost number_of = { λ id. id };
-
-    ghost id_of = { λ n. n };
-
+impl<Tag> Distinct for DenseId<Tag> {
     ghost number_of_id = { λ n. refl };
+}
 
-    fn numbered(number: u32) -> SparseId<Tag> {
-        SparseId::from_raw(number)
+/// How far ids of 16 bits lie apart. Each number below 2^16 has one.
+const APART: u16 = 20011;
+
+/// What takes a number times [`APART`] back, where numbers have 16 bits.
+const BACK: u16 = 131;
+
+impl<Tag> Numbered for SparseId<Tag, u16> {
+    ghost number_of = { λ id. (id * 131) % 2 ^ 16 };
+
+    ghost id_of = { λ n. ((n % 2 ^ 16) * 20011) % 2 ^ 16 };
+
+    fn numbered(number: u32) -> SparseId<Tag, u16> {
+        SparseId::from_raw(((number % 65536) as u16).wrapping_mul(APART))
     }
 
     fn number(self) -> u32 {
-        self.into_raw()
+        u32::from(self.into_raw().wrapping_mul(BACK))
     }
+}
+
+/// How far ids of 64 bits lie apart.
+const FAR_APART: u64 = (1 << 32) + 1;
+
+impl<Tag> Numbered for SparseId<Tag, u64> {
+    ghost number_of = { λ id. id / 4294967297 };
+
+    ghost id_of = { λ n. n * 4294967297 };
+
+    fn numbered(number: u32) -> SparseId<Tag, u64> {
+        SparseId::from_raw(u64::from(number) * FAR_APART)
+    }
+
+    fn number(self) -> u32 {
+        (self.into_raw() / FAR_APART) as u32
+    }
+}
+
+impl<Tag> Distinct for SparseId<Tag, u64> {
+    ghost use Rattle.std.proofs.Math.Nat.{mul-div_cancel, zero-lt-suc};
+
+    ghost number_of_id = { λ n. mul-div_cancel n (zero-lt-suc 4294967296) };
 }

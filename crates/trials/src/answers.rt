@@ -122,6 +122,7 @@ fn push_literals<N, S, A: Allocator + Copy, T: Obeys<N, S, A>>(
 #[derive(Drop)]
 struct Texts<'a, N, S, A: Allocator> {
     alloc: A,
+    heap: &'a Refusing<Global>,
     commands: &'a [Command<N, S, A>],
 }
 
@@ -136,13 +137,32 @@ impl<N: Debug, S: Debug, A: Allocator + Copy> Play<N, S, A> for Texts<'_, N, S, 
             drop(store.obey(command));
         }
         for place in 0..1000 {
-            match store.display_clause(ClauseId::from_index(place), &mut told) {
+            match push_text(store, self.heap, ClauseId::from_index(place), &mut told) {
                 Ok(()) => told.push_str("\n")?,
                 Err(_) => break,
             }
         }
         Ok(told)
     }
+}
+
+/// Appends a clause's text, of which each request is refused in turn before: what that leaves is told with it.
+fn push_text<N, S, A: Allocator, T: Obeys<N, S, A>>(
+    store: &T,
+    heap: &Refusing<Global>,
+    clause: ClauseId,
+    told: &mut String<A>,
+) -> Result<(), StoreError> {
+    for number in 1..1000 {
+        heap.arm(number);
+        let shown = store.display_clause(clause, told);
+        let is_met = !heap.is_armed();
+        heap.arm(0);
+        if !is_met || shown.is_ok() {
+            return shown;
+        }
+    }
+    Err(StoreError::OutOfMemory)
 }
 
 /// The memory of stores: it refuses no request here.
@@ -156,6 +176,7 @@ pub(crate) fn texts_of<'h, K: IdKind>(
     let commands = commands_of(heap, &trial.commands)?;
     let texts = Texts {
         alloc: heap,
+        heap,
         commands: &commands,
     };
     K::played(heap, trial, &texts)?

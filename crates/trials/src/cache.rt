@@ -244,6 +244,38 @@ fn push_solvables(
 /// What caches tell: their answers; whether the request came that was to be refused; and how often the provider was asked.
 type Told = (String, bool, Counts);
 
+/// So many solvables are looked at, whether what they need is at hand.
+const LOOKED_AT: u32 = 8;
+
+/// Which of the first solvables are said to be at hand, as the digits of a number.
+fn at_hand<T: Asks>(cache: &mut T) -> u32 {
+    let mut are_at_hand: u32 = 0;
+    for solvable in 0..LOOKED_AT {
+        if cache.ask(Question::IsAvailable(solvable)) == Seen::IsAvailable(true) {
+            are_at_hand |= 1 << solvable;
+        }
+    }
+    are_at_hand
+}
+
+/// Asks a question again that was refused where these solvables were at hand before it. Tells which are at hand after the refusal, unless
+/// all that were before are still, and none is that isn't after the second answer.
+fn asked_again<T: Asks>(
+    alloc: Global,
+    cache: &mut T,
+    question: Question,
+    before: u32,
+    told: &mut String,
+) -> Result<Seen, AllocError> {
+    let refused = at_hand(cache);
+    let seen = cache.ask(question);
+    if before & !refused != 0 || refused & !at_hand(cache) != 0 {
+        let line = format!(in alloc; "at hand after a refusal: {refused:b}\n")?;
+        told.push_str(line.as_str())?;
+    }
+    Ok(seen)
+}
+
 /// The answers to all questions in turn, of which the request of this number is refused. A refused question is asked again, and its
 /// second answer stands.
 fn answers_of<T: Asks>(
@@ -257,10 +289,11 @@ fn answers_of<T: Asks>(
     heap.arm(number);
     for said in questions {
         let question = question_of(*said);
+        let before = at_hand(cache);
         let mut seen = cache.ask(question);
         if seen == Seen::Refused(StoreError::OutOfMemory) {
             is_met = true;
-            seen = cache.ask(question);
+            seen = asked_again(alloc, cache, question, before, &mut told)?;
         }
         push_seen(alloc, seen, &mut told)?;
     }

@@ -1,7 +1,8 @@
 //! Trials of which each request is refused in turn. Beside the store to which a request is refused there is a twin in ample memory, to
-//! which the refused command isn't given: both must then tell the same.
+//! which the refused command isn't given: both must then tell the same. A command that takes no memory must not meet a refusal.
 use crate::answers::{Heap, push_replies, push_reply, push_steps, push_unlike};
 use crate::few::{Counts, refused_reply};
+use crate::free::is_free;
 use crate::given::commands_of;
 use crate::obeys::Obeys;
 use crate::played::{IdKind, Play};
@@ -18,10 +19,12 @@ enum Fate {
     Step(usize, u64),
     /// The twin, which is given the command of this place once.
     StepTwin(usize),
+    /// By steps, the request of this number is refused to the command of this place, which isn't given again.
+    Over(usize, u64),
     /// In one run, the request of this number is refused.
     Run(u64),
-    /// The twin, to which the command of this place isn't given; none at all where the whole run was refused.
-    RunTwin(Option<usize>),
+    /// The twin of the last two, to which the command of this place isn't given; none at all where the whole run was refused.
+    Without(Option<usize>),
 }
 
 /// A trial's commands, and those that tell what a store is like.
@@ -43,8 +46,9 @@ impl<N, S, A: Allocator + Copy> Play<N, S, A> for Refused<'_, N, S, A> {
         let is_met = match self.fate {
             Fate::Step(place, number) => self.push_step(store, place, Some(number), &mut told)?,
             Fate::StepTwin(place) => self.push_step(store, place, None, &mut told)?,
+            Fate::Over(place, number) => self.push_over(store, place, number, &mut told)?,
             Fate::Run(number) => self.push_run(store, number, &mut told)?,
-            Fate::RunTwin(place) => self.push_passed_over(store, place, &mut told)?,
+            Fate::Without(place) => self.push_without(store, place, &mut told)?,
         };
         push_steps(store, self.alloc, self.probes, &mut told)?;
         Ok((told, is_met))
@@ -71,19 +75,42 @@ impl<N, S, A: Allocator + Copy> Refused<'_, N, S, A> {
     ) -> Result<bool, AllocError> {
         let (before, after) = self.parts(place);
         push_steps(store, self.alloc, before, told)?;
-        let is_met = match (number, after) {
-            (Some(number), [command, ..]) => {
-                let (reply, is_met) = refused_reply(store, command, self.heap, number);
-                push_reply(self.alloc, &reply, told)?;
-                is_met
-            }
-            _ => {
-                told.push_str(REFUSED)?;
-                true
-            }
-        };
+        let is_met = self.push_refused(store, after, number, told)?;
         push_steps(store, self.alloc, self.probes, told)?;
         push_steps(store, self.alloc, after, told)?;
+        Ok(is_met)
+    }
+
+    /// By steps: the command of a place is refused the request of a number, and not given again. Answers whether the request came.
+    fn push_over<T: Obeys<N, S, A>>(
+        &self,
+        store: &mut T,
+        place: usize,
+        number: u64,
+        told: &mut String<A>,
+    ) -> Result<bool, AllocError> {
+        let (before, after) = self.parts(place);
+        push_steps(store, self.alloc, before, told)?;
+        let is_met = self.push_refused(store, after, Some(number), told)?;
+        push_steps(store, self.alloc, after.get(1..).unwrap_or(&[]), told)?;
+        Ok(is_met)
+    }
+
+    /// Gives the first of these commands, to which the request of a number is refused; where there is none, tells that it was. Answers
+    /// whether the request came.
+    fn push_refused<T: Obeys<N, S, A>>(
+        &self,
+        store: &mut T,
+        commands: &[Command<N, S, A>],
+        number: Option<u64>,
+        told: &mut String<A>,
+    ) -> Result<bool, AllocError> {
+        let (Some(number), [command, ..]) = (number, commands) else {
+            told.push_str(REFUSED)?;
+            return Ok(true);
+        };
+        let (reply, is_met) = refused_reply(store, command, self.heap, number);
+        push_reply(self.alloc, &reply, told)?;
         Ok(is_met)
     }
 
@@ -105,7 +132,7 @@ impl<N, S, A: Allocator + Copy> Refused<'_, N, S, A> {
     }
 
     /// By steps without the command of a place, if there is one, else without any command.
-    fn push_passed_over<T: Obeys<N, S, A>>(
+    fn push_without<T: Obeys<N, S, A>>(
         &self,
         store: &mut T,
         place: Option<usize>,
@@ -140,36 +167,46 @@ fn told<'h, K: IdKind>(
     K::played(heap, trial, &refused)?
 }
 
-/// Refuses each request of a trial in turn, and puts what isn't told alike after what waits.
+/// Refuses each request of a trial in turn, and puts what isn't told alike after what waits. `answers` is what it is answered where none is.
 pub(crate) fn tell_each<'h, K: IdKind>(
     heap: Heap<'h>,
     trial: &Trial<'_>,
+    answers: &str,
     waiting: &mut Vec<u8>,
     counts: &mut Counts,
 ) -> Result<(), StoreError> {
     for (place, said) in trial.commands.iter().enumerate() {
-        if tell_steps::<K>(heap, trial, place, waiting)? {
+        let count = tell_steps::<K>(heap, trial, place, waiting)?;
+        if count > 0 {
             counts.note(Some(said));
         }
+        if count > 0 && is_free(trial, answers, place) {
+            waiting.extend_from_slice(b"took memory: ")?;
+            waiting.extend_from_slice(said.keyword)?;
+            waiting.push(b'\n')?;
+        }
+        if trial.is(b"over") {
+            tell_over::<K>(heap, trial, (place, count), waiting)?;
+        }
     }
-    tell_runs::<K>(heap, trial, waiting)
+    tell_runs::<K>(heap, trial, answers, waiting)
 }
 
 /// What is told where there is no end of requests.
 const ENDLESS: &[u8] = b"too many requests\n";
 
-/// Refuses each request of the command of a place in turn, by steps. Answers whether it has one.
+/// Refuses each request of the command of a place in turn, by steps. Answers how many it has.
 fn tell_steps<'h, K: IdKind>(
     heap: Heap<'h>,
     trial: &Trial<'_>,
     place: usize,
     waiting: &mut Vec<u8>,
-) -> Result<bool, StoreError> {
+) -> Result<u64, StoreError> {
     let (twin, _) = told::<K>(heap, trial, Fate::StepTwin(place))?;
     for number in 1..1000 {
         let (seen, is_met) = told::<K>(heap, trial, Fate::Step(place, number))?;
         if !is_met {
-            return Ok(number > 1);
+            return Ok(number - 1);
         }
         push_unlike(
             "refused a request:\n",
@@ -179,13 +216,35 @@ fn tell_steps<'h, K: IdKind>(
         )?;
     }
     waiting.extend_from_slice(ENDLESS)?;
-    Ok(true)
+    Ok(1000)
+}
+
+/// Refuses each of so many requests of the command of a place in turn, by steps; the command isn't given again.
+fn tell_over<'h, K: IdKind>(
+    heap: Heap<'h>,
+    trial: &Trial<'_>,
+    (place, count): (usize, u64),
+    waiting: &mut Vec<u8>,
+) -> Result<(), StoreError> {
+    let (twin, _) = told::<K>(heap, trial, Fate::Without(Some(place)))?;
+    for before in 0..count {
+        let fate = Fate::Over(place, before.saturating_add(1));
+        let (seen, _) = told::<K>(heap, trial, fate)?;
+        push_unlike(
+            "refused a request, and not given again:\n",
+            seen.as_str(),
+            twin.as_str(),
+            waiting,
+        )?;
+    }
+    Ok(())
 }
 
 /// Refuses each request of a run in turn.
 fn tell_runs<'h, K: IdKind>(
     heap: Heap<'h>,
     trial: &Trial<'_>,
+    answers: &str,
     waiting: &mut Vec<u8>,
 ) -> Result<(), StoreError> {
     for number in 1..10000 {
@@ -194,13 +253,16 @@ fn tell_runs<'h, K: IdKind>(
             return Ok(());
         }
         let place = seen.as_str().lines().position(|line| line == "refused 1");
-        let (twin, _) = told::<K>(heap, trial, Fate::RunTwin(place))?;
+        let (twin, _) = told::<K>(heap, trial, Fate::Without(place))?;
         push_unlike(
             "refused a request in a run:\n",
             seen.as_str(),
             twin.as_str(),
             waiting,
         )?;
+        if place.is_some_and(|place| is_free(trial, answers, place)) {
+            waiting.extend_from_slice(b"took memory in a run\n")?;
+        }
     }
     Ok(waiting.extend_from_slice(ENDLESS)?)
 }

@@ -1,6 +1,7 @@
 //! Trials in memory that refuses a request at every few commands, so that a `decide` is refused while its queue is brought up to date.
 //! Other commands come before the next one then, undos among them.
 use crate::answers::{Heap, push_unlike};
+use crate::free::takes_no_memory;
 use crate::given::commands_of;
 use crate::obeys::Obeys;
 use crate::played::{IdKind, Play};
@@ -113,43 +114,50 @@ impl<N, S, A: Allocator + Copy> Play<N, S, A> for Few<'_, N, S, A> {
             .enumerate()
             .zip(self.wanted.lines())
         {
-            let number = request(self.wanted.len().wrapping_add(place), wanted);
-            if push_step(
-                store,
-                self.alloc,
-                command,
-                (self.heap, number),
-                wanted,
-                &mut unlike,
-            )? {
-                counts.note(self.said.get(place));
+            let said = self.said.get(place);
+            let is_free = said.is_some_and(|said| takes_no_memory(said, wanted));
+            let number = if is_free {
+                1
+            } else {
+                (self.wanted.len().wrapping_add(place) as u64).wrapping_mul(3) % 8
+            };
+            let expected = Expected {
+                line: wanted,
+                number,
+                is_free,
+            };
+            if push_step(store, self.heap, command, expected, &mut unlike)? {
+                counts.note(said);
+            }
+            if store.is_asked_where_read(self.heap) {
+                unlike.push_str("a reading asked for memory\n")?;
             }
         }
         Ok((unlike, counts))
     }
 }
 
-/// The number of the request that is refused to a command of which this line is wanted; 0 where none is. Where a falsified clause is to
-/// be found the first one is, so that it shows whether one comes: none may.
-fn request(place: usize, wanted: &str) -> u64 {
-    if wanted.starts_with("falsified") {
-        1
-    } else {
-        (place as u64).wrapping_mul(3) % 8
-    }
+/// What is known of a command before it is given.
+#[derive(Clone, Copy)]
+struct Expected<'e> {
+    /// The line that is wanted of it where no request is refused.
+    line: &'e str,
+    /// The number of the request that is refused to it; 0 where none is.
+    number: u64,
+    /// Whether it takes no memory. Then the first request is refused, so that it shows whether one comes: none may.
+    is_free: bool,
 }
 
-/// Gives a store a command of which the request of this number is refused, and answers whether the command was. A `decide` that is
-/// refused is left so; each other command is given once more then, since those behind it count on it. Appends what isn't wanted.
+/// Gives a store a command of which a request is refused, and answers whether the command was. A `decide` that is refused is left so; each
+/// other command is given once more then, since those behind it count on it. Appends what isn't wanted.
 fn push_step<N, S, A: Allocator + Copy, T: Obeys<N, S, A>>(
     store: &mut T,
-    alloc: A,
+    heap: &Refusing<Global>,
     command: &Command<N, S, A>,
-    (heap, number): (&Refusing<Global>, u64),
-    wanted: &str,
+    expected: Expected<'_>,
     unlike: &mut String<A>,
 ) -> Result<bool, StoreError> {
-    let (first, is_met) = refused_reply(store, command, heap, number);
+    let (first, is_met) = refused_reply(store, command, heap, expected.number);
     let is_refused = is_refused(&first);
     let is_left = is_refused && matches!(command, Command::Decide);
     let reply = if is_refused && !is_left {
@@ -158,14 +166,11 @@ fn push_step<N, S, A: Allocator + Copy, T: Obeys<N, S, A>>(
     } else {
         first
     };
-    let line = format!(in alloc; "{reply}")?;
+    let line = format!(in *unlike.allocator(); "{reply}")?;
     drop(reply);
-    let is_wanted = if is_left {
-        !wanted.starts_with("falsified")
-    } else {
-        line.as_str() == wanted
-    };
-    if !is_wanted || (is_met && !is_refused) {
+    let is_wanted = is_left || line.as_str() == expected.line;
+    let is_passed_over = is_met && !is_refused;
+    if !is_wanted || is_passed_over || (is_met && expected.is_free) {
         unlike.push_str(line.as_str())?;
         unlike.push_str("\n")?;
     }

@@ -10,6 +10,7 @@
 //! | `first`, `second`, `after`, `other`, `always` | the provider stops: at its first question alone, at its second, at each but the first, at every other one, at each |
 //! | `few` | it is played once more in memory that refuses a request at every few commands, undos and decisions among them |
 //! | `each` | and once more for each request of each command, which is refused: beside a twin to which that command isn't given |
+//! | `over` | where `each` stands too: a command that was refused by steps isn't given again but passed over, once more for each request |
 //!
 //! A trial with the word `texts` prints the texts of its commands and of its clauses; one with the word `cache` has questions to a cache
 //! in place of commands (`cache`).
@@ -19,6 +20,7 @@ mod answers;
 mod cache;
 mod each;
 mod few;
+mod free;
 mod given;
 mod listed;
 mod obeys;

@@ -4,9 +4,12 @@ use decisions::Literal;
 use providers::{DependencyProvider, Interner};
 use resolvo_queue::QueueDecision;
 use resolvo_store::{ClauseStore, Command, Reply};
-use std::alloc::Allocator;
-use test_support::{Counting, Counts};
-use typed_ids::{ClauseId, StoreError};
+use std::alloc::{Allocator, Global};
+use test_support::{Counting, Counts, Refusing};
+use typed_ids::{ClauseId, DenseIndex, StoreError, VariableId};
+
+/// So many variables are read.
+const READ: usize = 16;
 
 /// A store over a provider with names `N` and solvables `S`, which counts what it is asked.
 pub(crate) trait Obeys<N, S, A: Allocator> {
@@ -16,6 +19,9 @@ pub(crate) trait Obeys<N, S, A: Allocator> {
 
     /// The next decision, where no clause is falsified.
     fn decision(&mut self) -> Result<Option<QueueDecision>, StoreError>;
+
+    /// Whether a request comes where it is read which clause is falsified, and which values the first variables have.
+    fn is_asked_where_read(&self, heap: &Refusing<Global>) -> bool;
 
     /// The literals of a clause, if it is known.
     fn literals(&self, clause: ClauseId) -> Result<Option<Vec<Literal, A>>, StoreError>;
@@ -45,6 +51,17 @@ impl<D: DependencyProvider + Counting + Drop> Obeys<D::NameId, D::SolvableId, D:
             Some(_) => Ok(None),
             None => self.next_decision(),
         }
+    }
+
+    fn is_asked_where_read(&self, heap: &Refusing<Global>) -> bool {
+        heap.arm(1);
+        let _falsified = self.falsified();
+        for index in 0..READ {
+            let _value = self.value(VariableId::from_index(index));
+        }
+        let is_asked = !heap.is_armed();
+        heap.arm(0);
+        is_asked
     }
 
     fn literals(&self, clause: ClauseId) -> Result<Option<Vec<Literal, D::Alloc>>, StoreError> {

@@ -7,7 +7,7 @@ use id_maps::SolverId;
 use resolvo_store::ClauseStore;
 use std::alloc::Allocator;
 use std::fmt::Debug;
-use test_support::{Lists, Numbered};
+use test_support::{Distinct, Lists, Numbered};
 use typed_ids::{NameId, NameTag, SolvableId, SolvableTag, SparseId, StoreError};
 
 /// What is done with a new store.
@@ -30,7 +30,7 @@ pub(crate) fn provider_of<N, S, A: Allocator + Copy>(
 /// What a new store tells over the trial's packages.
 fn played<
     N: SolverId<A> + Numbered,
-    S: SolverId<A> + Numbered,
+    S: SolverId<A> + Distinct,
     A: Allocator + Copy,
     P: Play<N, S, A>,
 >(alloc: A, trial: &Trial<'_>, play: &P) -> Result<P::Told, StoreError> {
@@ -57,6 +57,7 @@ pub(crate) trait IdKind {
 
 pub(crate) struct DenseIds;
 
+/// Sparse ids far apart: of 16 bits for names, and of 64 bits for solvables.
 pub(crate) struct SparseIds;
 
 impl IdKind for DenseIds {
@@ -74,11 +75,11 @@ impl IdKind for DenseIds {
 }
 
 impl IdKind for SparseIds {
-    type Name = SparseId<NameTag>;
+    type Name = SparseId<NameTag, u16>;
 
-    type Solvable = SparseId<SolvableTag>;
+    type Solvable = SparseId<SolvableTag, u64>;
 
-    fn played<A: Allocator + Copy, P: Play<SparseId<NameTag>, SparseId<SolvableTag>, A>>(
+    fn played<A: Allocator + Copy, P: Play<SparseId<NameTag, u16>, SparseId<SolvableTag, u64>, A>>(
         alloc: A,
         trial: &Trial<'_>,
         play: &P,

@@ -197,8 +197,8 @@ fn push_others<'h, K: IdKind, L: IdKind>(
         tell_few::<K>(heap, trial, answers, waiting, counts)?;
     }
     if trial.is(b"each") {
-        tell_each::<K>(heap, trial, waiting, counts)?;
-        tell_each::<L>(heap, trial, waiting, counts)?;
+        tell_each::<K>(heap, trial, answers, waiting, counts)?;
+        tell_each::<L>(heap, trial, answers, waiting, counts)?;
     }
     Ok(())
 }

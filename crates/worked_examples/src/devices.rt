@@ -4,6 +4,15 @@ use std::alloc::{AllocError, Global};
 use std::io;
 use std::io::{Error, ErrorKind, Read, Write};
 
+/// What devices fail for.
+pub(crate) const FAULTS: [ErrorKind; 5] = [
+    ErrorKind::BrokenPipe,
+    ErrorKind::OutOfMemory,
+    ErrorKind::TimedOut,
+    ErrorKind::StorageFull,
+    ErrorKind::Other,
+];
+
 /// What a script is answered, and the exit status.
 pub(crate) fn answered<R: Read>(alloc: Global, reader: &mut R) -> (Vec<u8>, u8) {
     let mut answer = Vec::new(alloc);
@@ -80,22 +89,10 @@ pub(crate) fn push_unlike(
     let unended = script.strip_suffix(b"\n").unwrap_or(script);
     push_unlike_read(alloc, script, None, answer, waiting)?;
     push_unlike_read(alloc, unended, None, answer, waiting)?;
-    // Where a read fails nothing is written, though whole commands were read. A reader that has no memory ends the script as one for
-    // which memory was refused.
-    push_unlike_read(
-        alloc,
-        script,
-        Some(ErrorKind::BrokenPipe),
-        (&[], 2),
-        waiting,
-    )?;
-    push_unlike_read(
-        alloc,
-        script,
-        Some(ErrorKind::OutOfMemory),
-        (&[], 3),
-        waiting,
-    )?;
+    // Where a read fails nothing is written, though whole commands were read. Want of memory is a reader's failure as any other.
+    for kind in FAULTS {
+        push_unlike_read(alloc, script, Some(kind), (&[], 2), waiting)?;
+    }
     let length = answer.0.len();
     let middle = length / 2;
     for room in [0, 1, middle, length, length.saturating_add(1)] {

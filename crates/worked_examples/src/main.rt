@@ -2,14 +2,16 @@
 //! line that begins with `== `, and below it a script. What is printed is each heading with the script's answer below
 //! it, and a line that tells the exit status where it isn't 0.
 //!
-//! Each script is also read and written by devices that are slow, or fail (`devices`): what is answered otherwise by them than it is to
-//! be is printed too. Last come answers to scripts that are long (`long`).
+//! Each script is also read and written by devices that are slow, or full (`devices`), and by such as fail at a call, at each in turn
+//! (`failing`): what is answered otherwise by them than it is to be is printed too. Last come answers to scripts that are long (`long`).
 #![tactic(auto)]
 
 mod devices;
+mod failing;
 mod long;
 
 use crate::devices::{answered, push_unlike};
+use crate::failing::push_unlike as push_unlike_failing;
 use crate::long::push_long;
 use script_text::{ScriptFault, read_whole, write_rest};
 use std::alloc::{AllocError, Global};
@@ -96,5 +98,6 @@ fn push_answer(alloc: Global, script: &[u8], answers: &mut Vec<u8>) -> Result<()
         answers.push(b'0'.saturating_add(number))?;
         answers.push(b'\n')?;
     }
-    push_unlike(alloc, script, (&answer, number), answers)
+    push_unlike(alloc, script, (&answer, number), answers)?;
+    push_unlike_failing(alloc, script, (&answer, number), answers)
 }

@@ -85,6 +85,15 @@ impl<A: Allocator + Copy> WatchedClauses<A> {
         move_each(&mut self.map, self.watches.as_mut_slice(), from, to)
     }
 
+    /// The second clause of a variable's list is to watch another variable in its place. Where that is refused, the clause at which the
+    /// cursor stands that is handed back, and why.
+    pub(crate) fn move_second(&mut self, from: u16, to: u16) -> Option<(usize, StoreError)> {
+        let (from, to) = (positive(from), positive(to));
+        let first = self.map.cursor(self.watches.as_slice(), from);
+        let second = passed(&self.map, self.watches.as_slice(), first);
+        updated(&mut self.map, self.watches.as_mut_slice(), second, to)
+    }
+
     fn list(&self, variable: u16) -> Listed {
         list(&self.map, self.watches.as_slice(), positive(variable))
     }
@@ -189,6 +198,29 @@ fn moved<A: Allocator + Copy>(
     match at.update(map, watches, to) {
         Ok(next) => Ok(next),
         Err(refused) => Err(refused.error),
+    }
+}
+
+/// Lets the clause at the cursor, if there is one, watch another literal, unless it watches that already. Where that is refused, the clause
+/// at which the cursor stands that is handed back, and why.
+fn updated<A: Allocator + Copy>(
+    map: &mut WatchMap<A>,
+    watches: &mut [Option<WatchedLiterals>],
+    cursor: Option<WatchMapCursor>,
+    to: Literal,
+) -> Option<(usize, StoreError)>
+    requires watched { AreWatched map.old watches.old }
+    requires stands { IfSome cursor (λ at. StandsIn at map.old watches.old) }
+    ensures watched { AreWatched map.new watches.new }
+{
+    let at = cursor?;
+    let [first, second] = at.watched_literals(watches).watched_literals;
+    if first == to || second == to {
+        return None;
+    }
+    match at.update(map, watches, to) {
+        Ok(_) => None,
+        Err(refused) => Some((refused.value.clause_id().to_index(), refused.error)),
     }
 }
 
