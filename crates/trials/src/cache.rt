@@ -244,13 +244,10 @@ fn push_solvables(
 /// What caches tell: their answers; whether the request came that was to be refused; and how often the provider was asked.
 type Told = (String, bool, Counts);
 
-/// So many solvables are looked at, whether what they need is at hand.
-const LOOKED_AT: u32 = 8;
-
-/// Which of the first solvables are said to be at hand, as the digits of a number.
+/// Which of the first eight solvables are said to be at hand, as the digits of a number.
 fn at_hand<T: Asks>(cache: &mut T) -> u32 {
     let mut are_at_hand: u32 = 0;
-    for solvable in 0..LOOKED_AT {
+    for solvable in 0..8 {
         if cache.ask(Question::IsAvailable(solvable)) == Seen::IsAvailable(true) {
             are_at_hand |= 1 << solvable;
         }

@@ -206,7 +206,7 @@ fn tell_steps<'h, K: IdKind>(
     for number in 1..1000 {
         let (seen, is_met) = told::<K>(heap, trial, Fate::Step(place, number))?;
         if !is_met {
-            return Ok(number - 1);
+            return Ok(number.saturating_sub(1));
         }
         push_unlike(
             "refused a request:\n",

@@ -8,9 +8,6 @@ use std::alloc::{Allocator, Global};
 use test_support::{Counting, Counts, Refusing};
 use typed_ids::{ClauseId, DenseIndex, StoreError, VariableId};
 
-/// So many variables are read.
-const READ: usize = 16;
-
 /// A store over a provider with names `N` and solvables `S`, which counts what it is asked.
 pub(crate) trait Obeys<N, S, A: Allocator> {
     fn obey(&mut self, command: &Command<N, S, A>) -> Reply<A>;
@@ -56,7 +53,7 @@ impl<D: DependencyProvider + Counting + Drop> Obeys<D::NameId, D::SolvableId, D:
     fn is_asked_where_read(&self, heap: &Refusing<Global>) -> bool {
         heap.arm(1);
         let _falsified = self.falsified();
-        for index in 0..READ {
+        for index in 0..16 {
             let _value = self.value(VariableId::from_index(index));
         }
         let is_asked = !heap.is_armed();

@@ -103,7 +103,9 @@ pub(super) fn in_requirements<B: Allocator>(heap: &Refusing<B>) -> Result<bool, 
     let hint: HintDependenciesAvailable<SolvableId, &Refusing<B>> =
         HintDependenciesAvailable::new();
     let is_asked = is_asked(heap);
-    drop((candidates, dependencies, hint));
+    drop(candidates);
+    drop(dependencies);
+    drop(hint);
     drop(map);
     Ok(is_asked || !is_put)
 }

@@ -83,10 +83,10 @@ fn refused_in<A: Allocator + Copy>(numbers: &mut TrackedNumbers<A>) -> (u32, boo
     let mut is_changed = false;
     for variable in 1..6u32 {
         let count = numbers.clauses.len();
-        if numbers.add(variable, variable + 10).is_err() {
+        if numbers.add(variable, variable.saturating_add(10)).is_err() {
             refused = refused.saturating_add(1);
             is_changed = is_changed || !numbers.is_left(variable, count);
-            let is_new = numbers.add(variable, variable + 10) == Ok(true);
+            let is_new = numbers.add(variable, variable.saturating_add(10)) == Ok(true);
             is_changed = is_changed || !is_new;
         }
     }
