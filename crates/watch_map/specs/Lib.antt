@@ -1,6 +1,10 @@
 pub mod ClauseList
 pub mod ClauseListView
+pub mod Forcing
 pub mod Laws
+pub mod ListSaturation
+pub mod Saturation
+pub mod Visits
 pub mod Walks
 pub mod WatchCalls
 pub mod WatchLists

@@ -7,23 +7,30 @@
 //! Clauses are added at the end, where each gets the next id, and watches its literals from then on. For a caller that
 //! adds a clause in more than one place, the room for it can be made before: then adding it isn't refused.
 ghost use Rattle.std.specs.Prelude.{◌≡◌, ℕ, ◌+◌, ◌<◌, ◌↔◌, Bool, List, [], length, map, slice_get, slice_index_or, false, if◌then◌else◌, option_map};
-ghost use Rattle.std.specs.Prelude.{IsTrue, IfOk, OnOk, OnErr, IfErr, Err};
+ghost use Rattle.std.specs.Prelude.{◌≤◌, ◌^◌, MatchOption, IsTrue, IfOk, OnOk, OnErr, IfErr, Err};
 ghost use Rattle.typed_ids.specs.declared.error.StoreError.TheVariants.{IdSpace, OutOfMemory, BadWatch};
 ghost use Rattle.typed_ids.specs.Refusals.{IsGrowthRefusal};
 ghost use Rattle.watch_map.specs.Watching.{AreTwoOrNone};
 ghost use Rattle.watch_map.specs.ClauseList.{literals_watched, two_or_none, no_clauses, IsClauseList, is_full, is_learnt_full};
 ghost use Rattle.watch_map.specs.ClauseList.{contents, with_clause, with_learnt, with_rewatched, can_rewatch, HasRoom};
-ghost use Rattle.watch_map.specs.ClauseList.{are_ids_out_for, with_forbidden, HasRoomFor};
+ghost use Rattle.watch_map.specs.ClauseList.{are_ids_out_for, with_forbidden, HasRoomFor, watched_by};
+ghost use Rattle.decisions.specs.Trail.{val};
+ghost use Rattle.clauses.specs.Stored.{kept_in};
+ghost use Rattle.watch_map.specs.Forcing.{AreSettled, IsConflict};
+ghost use Rattle.watch_map.specs.Saturation.{WatchOwn, HasForced, IsRearranged};
+ghost use Rattle.watch_map.specs.ListSaturation.{literals_in_list};
 
 use crate::lists::WatchMap;
-use crate::walks;
+use crate::sources::Sources;
 use crate::watched_literals::WatchedLiterals;
-use clauses::Clause;
-use decisions::Literal;
+use crate::{rounds, walks};
+use clauses::{Clause, Disjunction};
+use decisions::{DecisionTracker, Literal};
 use id_storage::Arena;
+use providers::RequirementMap;
 use std::alloc::Allocator;
 use std::marker::Model;
-use typed_ids::{ClauseId, DenseIndex, LearntClauseId, StoreError, VariableId};
+use typed_ids::{ClauseId, DenseIndex, DisjunctionId, LearntClauseId, StoreError, VariableId};
 
 /// How many clauses there may be.
 const LIMIT: usize = u32::MAX as usize;
@@ -238,5 +245,42 @@ impl<N: Copy, A: Allocator + Copy> ClauseList<N, A> {
         ensures can { OnOk result (IsTrue (can_rewatch (contents self.old) id from to)) }
     {
         walks::rewatch(&mut self.map, self.watches.as_mut_slice(), id, from, to)
+    }
+
+    /// Adds to the trail, at the level, what clauses force, until none forces anything or one is false, which it answers.
+    /// What clauses refer to by ids is in these lists and disjunctions. Watches move to literals that aren't false. A
+    /// refusal leaves what was forced so far.
+    pub fn saturate(
+        &mut self,
+        lists: &RequirementMap<Vec<Vec<VariableId, A>, A>, A>,
+        disjunctions: &Arena<DisjunctionId, Disjunction<A>, A>,
+        trail: &mut DecisionTracker<A>,
+        level: u32,
+    ) -> Result<Option<ClauseId>, StoreError>
+        requires own { WatchOwn (literals_in_list (kept_in [] lists.now disjunctions.now) (contents self.old)) (watched_by (contents self.old)) }
+        requires level { (1 ≤ level) × (level < 2 ^ 31) }
+        ensures clauses { (contents self.new).clauses ≡ (contents self.old).clauses }
+        ensures learnt { (contents self.new).learnt ≡ (contents self.old).learnt }
+        ensures rearranged { IsRearranged (literals_in_list (kept_in [] lists.now disjunctions.now) (contents self.old)) (watched_by (contents self.old)) (watched_by (contents self.new)) }
+        ensures list { IsClauseList (contents self.new) }
+        ensures forced { HasForced (literals_in_list (kept_in [] lists.now disjunctions.now) (contents self.old)) level trail.old trail.new }
+        ensures ok { IfOk result (λ found. MatchOption found
+            (AreSettled (literals_in_list (kept_in [] lists.now disjunctions.now) (contents self.old)) (length (contents self.old).clauses) (val trail.new.entries))
+            (IsConflict (literals_in_list (kept_in [] lists.now disjunctions.now) (contents self.old)) (length (contents self.old).clauses) (val trail.new.entries))) }
+        ensures memory { IfErr result (λ e. e ≡ OutOfMemory) }
+    {
+        let sources = Sources {
+            clauses: self.clauses.as_slice(),
+            learnt: &self.learnt,
+            lists,
+            disjunctions,
+        };
+        rounds::saturate(
+            &sources,
+            &mut self.map,
+            self.watches.as_mut_slice(),
+            trail,
+            level,
+        )
     }
 }

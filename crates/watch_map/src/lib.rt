@@ -48,10 +48,16 @@
 //! the calls make of the list is said in `specs/ClauseList`.
 #![tactic(auto)]
 
+mod alone;
 mod clause_list;
 mod cursor;
 mod lists;
 mod nodes;
+mod propagate;
+mod rounds;
+mod sources;
+mod visit;
+mod walk;
 mod walks;
 mod watched_literals;
 

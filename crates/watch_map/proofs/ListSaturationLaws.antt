@@ -1,0 +1,26 @@
+-- What a saturation leaves of a list of clauses, from what it leaves of its records.
+use Rattle.std.proofs.Common.{◌≡◌, ℕ, true, List, map, length, sym, ap, subst, ◌∙◌}
+use Rattle.decisions.specs.Literals.{Lit}
+use Rattle.watch_map.specs.Watching.{is_literal_in}
+use Rattle.watch_map.specs.WatchLists.{Watches, literals_in, watched_by}
+use Rattle.clauses.specs.declared.clause.Clause.{Clause}
+use Rattle.watch_map.specs.ClauseList.{Clauses}
+use Rattle.watch_map.specs.Saturation.{WatchOwn, IsRearranged}
+use Rattle.watch_map.proofs.ListCallerLaws.{watched_at}
+use Rattle.watch_map.proofs.ListLaws.{literals_at}
+
+pub own_here : (literals : ℕ → List Lit) (ws : Watches) → WatchOwn literals (watched_at (map literals_in ws)) → WatchOwn literals (watched_by ws)
+own_here literals ws own c l h = own c l (subst (λ ls. is_literal_in l ls ≡ true) (sym (literals_at ws c)) h)
+
+pub rearranged_here : (literals : ℕ → List Lit) (ws ws' : Watches) → IsRearranged literals (watched_by ws) (watched_by ws')
+    → IsRearranged literals (watched_at (map literals_in ws)) (watched_at (map literals_in ws'))
+rearranged_here literals ws ws' is = record {
+  own = λ c l h. is.own c l (subst (λ ls. is_literal_in l ls ≡ true) (literals_at ws' c) h);
+  as_many = λ c. ap length (literals_at ws' c) ∙ is.as_many c ∙ sym (ap length (literals_at ws c));
+}
+
+-- a list with the same clauses and the same learnt literals differs in its watches and their lists alone
+pub rest_is : {N : Type 0} (old new : Clauses N) → new.clauses ≡ old.clauses → new.learnt ≡ old.learnt → new ≡ record old { watches = new.watches; watchers = new.watchers }
+rest_is {N} old new clauses learnt =
+    ap (λ (cs : List (Clause N)). record { clauses = cs; watches = new.watches; learnt = new.learnt; watchers = new.watchers }) clauses
+    ∙ ap (λ (ls : List (List Lit)). record { clauses = old.clauses; watches = new.watches; learnt = ls; watchers = new.watchers }) learnt

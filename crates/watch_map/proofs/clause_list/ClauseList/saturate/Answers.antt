@@ -1,0 +1,82 @@
+use Rattle.std.proofs.Common.{◌≡◌, ◌≤◌, ◌^◌, ◌-◌, [], sym, subst, map, List, length}
+use Rattle.std.specs.Prelude.{IfOk, MatchOption}
+use Rattle.decisions.specs.Literals.{Lit}
+use Rattle.decisions.specs.Trail.{val}
+use Rattle.clauses.specs.declared.clause.Clause.{Clause}
+use Rattle.clauses.specs.Stored.{kept_in}
+use Rattle.watch_map.specs.WatchLists.{Watches, AreWatched, literals_in, watched_by}
+use Rattle.watch_map.specs.ClauseList.{IsClauseList, Kept, contents, watched_by as watches_of}
+use Rattle.watch_map.specs.Forcing.{AreSettled, IsConflict}
+use Rattle.watch_map.specs.Saturation.{WatchOwn, IsRearranged, HasForced, literals_from}
+use Rattle.watch_map.specs.ListSaturation.{literals_in_list}
+use Rattle.watch_map.proofs.ListCallerLaws.{watched_at}
+use Rattle.watch_map.proofs.ListLaws.{contents_of, still_list, whole}
+use Rattle.watch_map.proofs.ListSaturationLaws.{own_here, rearranged_here}
+use Rattle.watch_map.proofs.clause_list.ClauseList.saturate.Goals as goal
+
+pub invariant_of-self : goal.invariant_of-self
+invariant_of-self g c =
+    let inside = c.self.inside in
+    let ws = inside.watches.items in
+    let ws' = c.saturate.new.watches in
+    let new = c.saturate.new.map in
+    let learnt : List (List Lit) = map (λ v. v.items) inside.learnt in
+    let long = subst (λ rs. length ws' ≡ length rs) c.as_mut_slice.ensures.value c.saturate.auto.watches in
+    let all = whole inside.watches.len ws' ws inside.watches.ok.0 long in
+    subst (λ rs. IsClauseList (contents_of inside.clauses.items rs learnt new) × AreWatched new rs) (sym all)
+    (still_list inside.clauses.items learnt ws ws' inside.map new c.self.invariant.0 long c.saturate.ensures.watched, c.saturate.ensures.watched)
+
+pub saturate-requires : goal.saturate-requires
+saturate-requires g c =
+    let inside = c.self.inside in
+    let k = kept_in inside.learnt c.args.lists.now c.args.disjunctions.now in
+    let own = subst (λ (s : Kept g.row.N.Denot). WatchOwn (literals_in_list (kept_in [] c.args.lists.now c.args.disjunctions.now) (contents s)) (watches_of (contents s))) (sym c.self.view_is) c.requires.own in
+    let here = own_here (literals_from k inside.clauses.items) inside.watches.items own in
+    record {
+      watched = subst (λ (rs : Watches). AreWatched inside.map rs) (sym c.as_mut_slice.ensures.value) c.self.invariant.1;
+      own = subst (λ (cs : List (Clause g.row.N.Denot)). WatchOwn (literals_from k cs) (watched_by c.as_mut_slice.result.now)) (sym c.as_slice.ensures.value)
+          (subst (λ (rs : Watches). WatchOwn (literals_from k inside.clauses.items) (watched_by rs)) (sym c.as_mut_slice.ensures.value) here);
+      few = subst (λ (cs : List (Clause g.row.N.Denot)). length cs ≤ 2 ^ 32 - 1) (sym c.as_slice.ensures.value) c.self.invariant.0.few;
+      level = c.requires.level;
+    }
+
+pub returns-clause-rearranged : goal.returns-clause-rearranged
+returns-clause-rearranged g c =
+    let inside = c.self.inside in
+    let ws = inside.watches.items in
+    let ws' = c.saturate.new.watches in
+    let k = kept_in inside.learnt c.args.lists.now c.args.disjunctions.now in
+    let all = whole inside.watches.len ws' ws inside.watches.ok.0 (subst (λ rs. length ws' ≡ length rs) c.as_mut_slice.ensures.value c.saturate.auto.watches) in
+    let by_ws = subst (λ (rs : Watches). IsRearranged (literals_from k c.as_slice.result.now) (watched_by rs) (watched_by ws')) c.as_mut_slice.ensures.value c.saturate.ensures.rearranged in
+    let by_cs = subst (λ (cs : List (Clause g.row.N.Denot)). IsRearranged (literals_from k cs) (watched_by ws) (watched_by ws')) c.as_slice.ensures.value by_ws in
+    let here = rearranged_here (literals_from k inside.clauses.items) ws ws' by_cs in
+    subst (λ (rs : Watches). IsRearranged (literals_in_list (kept_in [] c.args.lists.now c.args.disjunctions.now) (contents c.args.self.now)) (watches_of (contents c.args.self.now)) (watched_at (map literals_in rs))) (sym all)
+    (subst (λ (s : Kept g.row.N.Denot). IsRearranged (literals_in_list (kept_in [] c.args.lists.now c.args.disjunctions.now) (contents s)) (watches_of (contents s)) (watched_at (map literals_in ws'))) c.self.view_is here)
+
+pub returns-clause-list : goal.returns-clause-list
+returns-clause-list g c =
+    let inside = c.self.inside in
+    let ws = inside.watches.items in
+    let ws' = c.saturate.new.watches in
+    let new = c.saturate.new.map in
+    let learnt : List (List Lit) = map (λ v. v.items) inside.learnt in
+    let long = subst (λ rs. length ws' ≡ length rs) c.as_mut_slice.ensures.value c.saturate.auto.watches in
+    let all = whole inside.watches.len ws' ws inside.watches.ok.0 long in
+    subst (λ rs. IsClauseList (contents_of inside.clauses.items rs learnt new)) (sym all)
+    (still_list inside.clauses.items learnt ws ws' inside.map new c.self.invariant.0 long c.saturate.ensures.watched)
+
+pub returns-clause-forced : goal.returns-clause-forced
+returns-clause-forced g c =
+    let inside = c.self.inside in
+    let k = kept_in inside.learnt c.args.lists.now c.args.disjunctions.now in
+    subst (λ (s : Kept g.row.N.Denot). HasForced (literals_in_list (kept_in [] c.args.lists.now c.args.disjunctions.now) (contents s)) c.args.level c.args.trail.now c.saturate.new.trail) c.self.view_is
+    (subst (λ (cs : List (Clause g.row.N.Denot)). HasForced (literals_from k cs) c.args.level c.args.trail.now c.saturate.new.trail) c.as_slice.ensures.value c.saturate.ensures.forced)
+
+pub returns-clause-ok : goal.returns-clause-ok
+returns-clause-ok g c =
+    let inside = c.self.inside in
+    let k = kept_in inside.learnt c.args.lists.now c.args.disjunctions.now in
+    let k0 = kept_in [] c.args.lists.now c.args.disjunctions.now in
+    let now = val c.saturate.new.trail.entries in
+    subst (λ (s : Kept g.row.N.Denot). IfOk c.saturate.result (λ found. MatchOption found (AreSettled (literals_in_list k0 (contents s)) (length (contents s).clauses) now) (IsConflict (literals_in_list k0 (contents s)) (length (contents s).clauses) now))) c.self.view_is
+    (subst (λ (cs : List (Clause g.row.N.Denot)). IfOk c.saturate.result (λ found. MatchOption found (AreSettled (literals_from k cs) (length cs) now) (IsConflict (literals_from k cs) (length cs) now))) c.as_slice.ensures.value c.saturate.ensures.ok)
