@@ -9,6 +9,7 @@ pub mod Outcome
 pub mod Refusals
 pub mod ReplyLaws
 pub mod ReplyTexts
+pub mod Saturating
 pub mod Solved
 pub mod Sound
 pub mod Step

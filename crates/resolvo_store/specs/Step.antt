@@ -8,10 +8,11 @@ use Rattle.providers.specs.Provider.{sets_of}
 use Rattle.decisions.specs.Literals.{undecided}
 use Rattle.variables.specs.Variables.{variable_of_solvable, lacks_variables}
 use Rattle.at_most_once.specs.AtMostOne.{is_tracked}
-use Rattle.resolvo_store.specs.Command.{Command, Variable, Load, AtMostOnce, Decay, Standard, Assign, UndoLast, UndoUntil, Unpropagated, Decide, Reply, Refused}
+use Rattle.resolvo_store.specs.Command.{Command, Variable, Load, AtMostOnce, Decay, Standard, Assign, UndoLast, UndoUntil, Unpropagated, Saturate, Decide, Reply, Refused}
 use Rattle.resolvo_store.specs.Store.{Store, values, lists_of, all_candidates}
 use Rattle.resolvo_store.specs.Refusals.{first_refusal}
 use Rattle.resolvo_store.specs.Tracking.{lacks_more}
+use Rattle.resolvo_store.specs.Saturating.{Saturates}
 use Rattle.resolvo_store.specs.Outcome.{outcome, falsified_clause, helper_for, tracking}
 
 module _ {N S : Type 0} where
@@ -71,10 +72,15 @@ module _ {N S : Type 0} where
   IsAnswered old c reply new =
       (lacks_ids old c ≡ false) × (reply ≡ (outcome old c).reply) × (new ≡ (outcome old c).store)
 
+  -- a command that nothing foreseeable refuses: a Saturate may have more than one answer, each other command its outcome
+  abbrev pub Answers : Store N S → Command N S → Reply → Store N S → Type 0
+  Answers old (Saturate level) reply new = Saturates level old reply new
+  Answers old c reply new = IsAnswered old c reply new
+
   -- from the old store this command may be given this reply and lead to the new store
   abbrev pub Step : Store N S → Command N S → Reply → Store N S → Type 0
   Step old c reply new =
-      MatchOption (first_refusal old c) (IsAnswered old c reply new) (λ e. (reply ≡ Refused e) × (new ≡ old))
+      MatchOption (first_refusal old c) (Answers old c reply new) (λ e. (reply ≡ Refused e) × (new ≡ old))
 
   -- the commands may be given these replies in turn, one each
   abbrev pub Run : Store N S → List (Command N S) → List Reply → Store N S → Type 0
