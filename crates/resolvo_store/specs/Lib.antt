@@ -5,6 +5,7 @@ pub mod ForbidsTwo
 pub mod Helpers
 pub mod Lists
 pub mod LoadRefusals
+pub mod Models
 pub mod Outcome
 pub mod Refusals
 pub mod ReplyLaws

@@ -6,7 +6,7 @@ use Rattle.decisions.specs.Trail.{Entry}
 use Rattle.watch_map.specs.Watching.{IsExact}
 use Rattle.watch_map.specs.Forcing.{AreForced, AreSettled, IsConflict}
 use Rattle.watch_map.specs.Saturation.{IsRearranged}
-use Rattle.resolvo_store.specs.Command.{Reply, Done, Conflict, Refused}
+use Rattle.resolvo_store.specs.Command.{Command, Saturate, Reply, Done, Conflict, Refused}
 use Rattle.resolvo_store.specs.Store.{Store, values, clause_literals, watched_by}
 
 module _ {N S : Type 0} where
@@ -23,6 +23,12 @@ module _ {N S : Type 0} where
     pub rearranged : IsRearranged (clause_literals old) (watched_by old) (watched_by new)
     pub exact : IsExact (watched_by new) new.watchers
 
+  -- the trail has these entries, and then more, each at the level and forced by its clause under those before it
+  pub record HasForcedMore (level : ℕ) (old new : Store N S) : Type 0 where
+    pub added : List Entry
+    pub longer : new.trail ≡ old.trail ++ added
+    pub forced : AreForced (clause_literals old) level old.trail added
+
   -- no clause is false, and none forces a literal
   abbrev pub HasSettled : Store N S → Type 0
   HasSettled st = AreSettled (clause_literals st) (length st.clauses) (values st)
@@ -30,6 +36,11 @@ module _ {N S : Type 0} where
   -- the clause is there, and false
   abbrev pub HasConflict : Store N S → ℕ → Type 0
   HasConflict st c = IsConflict (clause_literals st) (length st.clauses) (values st) c
+
+  -- what a refused command leaves: the store as it was; of a Saturate, what it forced before
+  abbrev pub RefusalLeaves : Command N S → Store N S → Store N S → Type 0
+  RefusalLeaves (Saturate level) old new = IsSaturated level old new
+  RefusalLeaves c old new = new ≡ old
 
   -- by the reply: all clauses are settled, or one is false, or memory was refused
   abbrev pub Saturates : ℕ → Store N S → Reply → Store N S → Type 0

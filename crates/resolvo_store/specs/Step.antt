@@ -67,20 +67,20 @@ module _ {N S : Type 0} where
   may_be_refused st c _ = false
 
   -- the command is given its reply and takes effect, or is refused and has none
-  abbrev pub IsAnswered : Store N S → Command N S → Reply → Store N S → Type 0
-  IsAnswered old c (Refused e) new = IsTrue (may_be_refused old c e) × (new ≡ old)
-  IsAnswered old c reply new =
+  abbrev pub HasOutcome : Store N S → Command N S → Reply → Store N S → Type 0
+  HasOutcome old c (Refused e) new = IsTrue (may_be_refused old c e) × (new ≡ old)
+  HasOutcome old c reply new =
       (lacks_ids old c ≡ false) × (reply ≡ (outcome old c).reply) × (new ≡ (outcome old c).store)
 
-  -- a command that nothing foreseeable refuses: a Saturate may have more than one answer, each other command its outcome
-  abbrev pub Answers : Store N S → Command N S → Reply → Store N S → Type 0
-  Answers old (Saturate level) reply new = Saturates level old reply new
-  Answers old c reply new = IsAnswered old c reply new
+  -- a Saturate may have more than one outcome, and each other command has its own
+  abbrev pub IsAnswered : Store N S → Command N S → Reply → Store N S → Type 0
+  IsAnswered old (Saturate level) reply new = Saturates level old reply new
+  IsAnswered old c reply new = HasOutcome old c reply new
 
   -- from the old store this command may be given this reply and lead to the new store
   abbrev pub Step : Store N S → Command N S → Reply → Store N S → Type 0
   Step old c reply new =
-      MatchOption (first_refusal old c) (Answers old c reply new) (λ e. (reply ≡ Refused e) × (new ≡ old))
+      MatchOption (first_refusal old c) (IsAnswered old c reply new) (λ e. (reply ≡ Refused e) × (new ≡ old))
 
   -- the commands may be given these replies in turn, one each
   abbrev pub Run : Store N S → List (Command N S) → List Reply → Store N S → Type 0

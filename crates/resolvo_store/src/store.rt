@@ -19,7 +19,7 @@
 //! Each method's contract is the step of its command. So a method takes back what it changed before it was refused, as a
 //! `Load` gives up the variables that it made; or it makes room first, as a `Requires` does before it registers its clause.
 //! `Saturate` alone does neither: what it forced follows from the clauses, and stays.
-ghost use Rattle.std.specs.Prelude.{◌≡◌, false, map, length, vec_len, IfOk, IfErr, OnErr};
+ghost use Rattle.std.specs.Prelude.{◌≡◌, map, length, vec_len, IfOk, IfErr, OnErr};
 ghost use Rattle.typed_ids.specs.declared.error.StoreError.TheVariants.{OutOfMemory};
 ghost use Rattle.decisions.specs.Trail.{val};
 
@@ -117,8 +117,9 @@ impl<D: DependencyProvider> Model for ClauseStore<D> {
 }
 
 impl<D: DependencyProvider + Drop> ClauseStore<D> {
-    ghost use Rattle.resolvo_store.specs.Command.{command_of, reply_of, answer_of, is_saturate, IsRefused};
+    ghost use Rattle.resolvo_store.specs.Command.{command_of, reply_of, answer_of, IsRefused};
     ghost use Rattle.resolvo_store.specs.Store.{new_store};
+    ghost use Rattle.resolvo_store.specs.Saturating.{RefusalLeaves};
     ghost use Rattle.resolvo_store.specs.Step.{Step, Run};
     ghost use Rattle.resolvo_store.specs.Sound.{IsSound};
 
@@ -157,8 +158,8 @@ impl<D: DependencyProvider + Drop> ClauseStore<D> {
     pub fn step(&mut self, command: &Command<D::NameId, D::SolvableId, D::Alloc>) -> Reply<D::Alloc>
         ensures step { Step (⟦<D as AbstractStore>⟧.store self.old) (command_of command.now)
             (reply_of result) (⟦<D as AbstractStore>⟧.store self.new) }
-        ensures refused { is_saturate (command_of command.now) ≡ false → IsRefused (reply_of result) →
-            ⟦<D as AbstractStore>⟧.store self.new ≡ ⟦<D as AbstractStore>⟧.store self.old }
+        ensures refused { IsRefused (reply_of result) → RefusalLeaves (command_of command.now)
+            (⟦<D as AbstractStore>⟧.store self.old) (⟦<D as AbstractStore>⟧.store self.new) }
         ensures provider { self.new.provider ≡ self.old.provider }
         ensures was_sound { IsSound (⟦<D as AbstractStore>⟧.store self.old) }
         ensures sound { IsSound (⟦<D as AbstractStore>⟧.store self.new) }
@@ -178,8 +179,8 @@ impl<D: DependencyProvider + Drop> ClauseStore<D> {
         ensures step { Step (⟦<D as AbstractStore>⟧.store self.old) (command_of command.now)
             (answer_of result) (⟦<D as AbstractStore>⟧.store self.new) }
         ensures ok { IfOk result (λ reply. IsRefused (reply_of reply) → ⊥) }
-        ensures err { is_saturate (command_of command.now) ≡ false →
-            OnErr result (⟦<D as AbstractStore>⟧.store self.new ≡ ⟦<D as AbstractStore>⟧.store self.old) }
+        ensures err { OnErr result (RefusalLeaves (command_of command.now)
+            (⟦<D as AbstractStore>⟧.store self.old) (⟦<D as AbstractStore>⟧.store self.new)) }
         ensures provider { self.new.provider ≡ self.old.provider }
         ensures was_sound { IsSound (⟦<D as AbstractStore>⟧.store self.old) }
         ensures sound { IsSound (⟦<D as AbstractStore>⟧.store self.new) }

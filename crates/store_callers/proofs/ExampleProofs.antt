@@ -1,6 +1,7 @@
 -- Each example is computed.
 use Rattle.std.proofs.Common.{refl}
 use Rattle.store_callers.specs.Examples.{Examples}
+use Rattle.store_callers.proofs.SaturationProofs.{saturation_examples}
 
 pub examples : Examples
 examples = record {
@@ -56,4 +57,5 @@ examples = record {
   best_so_far = refl;
   root_replaces = refl;
   first_without_scores = refl;
+  saturations = saturation_examples;
 }
