@@ -36,11 +36,11 @@ module _ (n : ℕ) where
   -- a literal is of a variable below the number, if it is one of such
   member_below : (l : Lit) (ls : List Lit) → All IsOfBelow ls → is_literal_in l ls ≡ true → IsOfBelow l
   member_below l [] all h = absurd (let no : false ≡ true = h in cc)
-  member_below l (m ∷ ls) all h = by_same (same_literal l m) refl h
+  member_below l (m ∷ ls) all h = by_same (same_literal l m) refl (member_below l ls (All-tail IsOfBelow m ls all)) h
     where
-      by_same : (b : Bool) → same_literal l m ≡ b → (b || is_literal_in l ls) ≡ true → IsOfBelow l
-      by_same true e k = subst IsOfBelow (sym (same_is l m e)) (All-head IsOfBelow m ls all)
-      by_same false e k = member_below l ls (All-tail IsOfBelow m ls all) k
+      by_same : (b : Bool) → same_literal l m ≡ b → (is_literal_in l ls ≡ true → IsOfBelow l) → (b || is_literal_in l ls) ≡ true → IsOfBelow l
+      by_same true e later k = subst IsOfBelow (sym (same_is l m e)) (All-head IsOfBelow m ls all)
+      by_same false e later k = later k
 
   -- so are the literals of candidates
   candidates_below : (lists : List (List ℕ)) → All (All IsBelow) lists → All IsOfBelow (flat_map (map Pos) lists)

@@ -1,5 +1,5 @@
 -- What clauses force is so in each of their models, and where one is false there is none. N are the names, S the solvables.
-use Rattle.std.proofs.Common.{◌≡◌, ℕ, zero, suc, ◌<◌, Bool, true, false, cond, not, List, [], ◌∷◌, ◌++◌, length, Option, Some, None, refl, sym, ap, subst, ◌∙◌, arith}
+use Rattle.std.proofs.Common.{◌≡◌, ℕ, zero, suc, ◌<◌, Bool, true, false, cond, not, List, [], ◌∷◌, ◌++◌, length, Option, Some, None, refl, sym, ap, subst, ◌∙◌, inl, inr, arith}
 use Rattle.std.specs.Prelude.{All, ◌&&◌, ◌||◌, slice_get, option_map, unwrap_or}
 use Rattle.std.specs.List.{list_all, list_any}
 use Rattle.std.proofs.lemmas.List.{append-nil, append_assoc}
@@ -50,18 +50,16 @@ module _ (now : Values) (a : ℕ → Bool) (agrees : Agrees now a) where
   left_is_true l [] others met = (let no : false ≡ true = met in cc)
   left_is_true l (m ∷ ls) others met =
       let parts = both (same_literal m l || is_false_literal now m) (are_others_false now ls l) others in
-      by_literal (same_literal m l) refl parts.0 parts.1
+      by_literal (same_literal m l) refl parts.0 (λ f. left_is_true l ls parts.1 (subst (λ b. (b || list_any (is_true_literal a) ls) ≡ true) f met))
     where
-      later : is_true_literal a m ≡ false → are_others_false now ls l ≡ true → is_true_literal a l ≡ true
-      later f rest = left_is_true l ls rest (subst (λ b. (b || list_any (is_true_literal a) ls) ≡ true) f met)
+      -- this one is true, or one of those behind it is
+      own : (b : Bool) → is_true_literal a m ≡ b → same_literal m l ≡ true → (is_true_literal a m ≡ false → is_true_literal a l ≡ true) → is_true_literal a l ≡ true
+      own true t same later = subst (λ x. is_true_literal a x ≡ true) (same_is m l same) t
+      own false t same later = later t
 
-      own : (b : Bool) → is_true_literal a m ≡ b → same_literal m l ≡ true → are_others_false now ls l ≡ true → is_true_literal a l ≡ true
-      own true t same rest = subst (λ x. is_true_literal a x ≡ true) (same_is m l same) t
-      own false t same rest = later t rest
-
-      by_literal : (b : Bool) → same_literal m l ≡ b → (b || is_false_literal now m) ≡ true → are_others_false now ls l ≡ true → is_true_literal a l ≡ true
-      by_literal true same f rest = own (is_true_literal a m) refl same rest
-      by_literal false same f rest = later (false_is_untrue m f) rest
+      by_literal : (b : Bool) → same_literal m l ≡ b → (b || is_false_literal now m) ≡ true → (is_true_literal a m ≡ false → is_true_literal a l ≡ true) → is_true_literal a l ≡ true
+      by_literal true same f later = own (is_true_literal a m) refl same later
+      by_literal false same f later = later (false_is_untrue m f)
 
 -- the value that makes a decision's literal true is the decision's
 decided_value : (a : ℕ → Bool) (d : Decision) → is_true_literal a (decided_literal d) ≡ true → a d.variable ≡ d.value

@@ -1,9 +1,10 @@
 -- What the list of clauses leaves where it is asked to saturate makes a step, and keeps the store in order. N are the names,
 -- S the solvables.
-use Rattle.std.proofs.Common.{◌≡◌, ℕ, ◌<◌, ◌≤◌, ◌^◌, true, false, not, List, [], ◌∷◌, ◌++◌, length, Option, None, Some, refl, sym, subst, ap, ◌∙◌}
-use Rattle.std.specs.Prelude.{MatchOption, Bool}
+use Rattle.std.proofs.Common.{◌≡◌, ℕ, ◌<◌, ◌≤◌, ◌^◌, true, false, not, List, [], ◌∷◌, ◌++◌, length, Option, None, Some, Result, Ok, Err, refl, sym, subst, ap, ◌∙◌}
+use Rattle.std.specs.Prelude.{MatchOption, Bool, IfOk, IfErr}
 use Rattle.std.specs.declared.vec.Vec.{Vec}
-use Rattle.typed_ids.specs.declared.error.StoreError.TheVariants.{LevelOutOfRange}
+use Rattle.typed_ids.specs.declared.error.StoreError.{StoreError}
+use Rattle.typed_ids.specs.declared.error.StoreError.TheVariants.{OutOfMemory, LevelOutOfRange}
 use Rattle.providers.specs.declared.requirement.Requirement.{Requirement}
 use Rattle.decisions.specs.Literals.{Lit}
 use Rattle.decisions.specs.Trail.{Entry, Trail, val}
@@ -14,22 +15,17 @@ use Rattle.watch_map.specs.Forcing.{AreForced, AreSettled, IsConflict}
 use Rattle.watch_map.specs.Saturation.{HasForced, IsRearranged}
 use Rattle.solver_cache.specs.Cache.{Cache}
 use Rattle.resolvo_queue.specs.Queue.{Queue}
-use Rattle.resolvo_store.specs.Command.{Saturate, Reply, Done, Conflict, Refused}
+use Rattle.resolvo_store.specs.Command.{Saturate, Reply, Refused}
 use Rattle.resolvo_store.specs.Store.{Store, clause_literals, watched_by}
 use Rattle.resolvo_store.specs.Lists.{IsConsistent}
 use Rattle.resolvo_store.specs.Refusals.{is_level}
-use Rattle.resolvo_store.specs.Saturating.{IsSaturated, Saturates}
+use Rattle.resolvo_store.specs.Saturating.{IsSaturated, Saturates, found_answer}
 use Rattle.resolvo_store.specs.Step.{Step}
 use Rattle.resolvo_store.specs.Sound.{IsSound}
 use Rattle.resolvo_store.proofs.AddingLemmas.{first_of}
 use Rattle.resolvo_store.proofs.InvariantLemmas.{with_list}
 use Rattle.resolvo_store.proofs.SaturatedLaws.{IsSound-saturated}
 use Rattle.resolvo_store.proofs.SyncedLemmas.{in_step-forced}
-
--- what a Saturate replies to what the list found: nothing, or a clause that is false
-abbrev pub reply_found : Option ℕ → Reply
-reply_found None = Done
-reply_found (Some c) = Conflict c
 
 module _ {N S : Type 0} (st : Store N S) where
   -- a step at a level that isn't in range
@@ -86,11 +82,20 @@ module _ {N S : Type 0} (st : Store N S) where
         subst (λ x. P (clause_literals (record st { clauses = x; learnt = cs.learnt })) (length x)) (sym left.clauses)
         (subst (λ x. P (clause_literals (record st { learnt = x })) (length st.clauses)) (sym left.learnt) (subst (λ f. P f (length st.clauses)) left.literals_are h))
 
-    -- and with what the list found it is what a Saturate replies
-    pub saturates : (found : Option ℕ) → MatchOption found (AreSettled literals (length st.clauses) (val after.entries)) (IsConflict literals (length st.clauses) (val after.entries))
-        → Saturates level st (reply_found found) (with_forced cs after)
+    -- what the list found
+    abbrev pub Finds : Option ℕ → Type 0
+    Finds found = MatchOption found (AreSettled literals (length st.clauses) (val after.entries)) (IsConflict literals (length st.clauses) (val after.entries))
+
+    saturates : (found : Option ℕ) → Finds found → Saturates level st (found_answer (Ok found)) (with_forced cs after)
     saturates None settled = (saturated, still (λ f n. AreSettled f n (val after.entries)) settled)
     saturates (Some c) conflict = (saturated, still (λ f n. IsConflict f n (val after.entries) c) conflict)
+
+    -- and with what it found, or its refusal, a step
+    pub step_found : (found : Result (Option ℕ) StoreError) → is_level level ≡ true → IfOk found Finds → IfErr found (λ e. e ≡ OutOfMemory)
+        → Step st (Saturate level) (found_answer found) (with_forced cs after)
+    step_found (Ok found) good ok err = step_saturates level (found_answer (Ok found)) (with_forced cs after) good (saturates found ok)
+    step_found (Err e) good ok err =
+        subst (λ x. Step st (Saturate level) (Refused x) (with_forced cs after)) (sym err) (step_saturates level (Refused OutOfMemory) (with_forced cs after) good saturated)
 
 module _ {D N S A H Q : Type 0} {has : Q → N → Bool} {st : Store N S} {loaded : List (Requirement × Vec (Vec ℕ A) A)} {disjunctions : List (Disjunction A)}
     {cache : Cache D N S A H} {queue : Queue N Q} {trail : Trail} (is : IsConsistent has st loaded disjunctions cache queue trail) where

@@ -81,13 +81,13 @@ module _ {N S : Type 0} (st : Store N S) (sound : IsSound st) where
 
       go : (es : List (Requirement × List (List ℕ))) → All (IsLoaded st) es → Few (lookup (same_requirement r) es)
       go [] all = omega arith
-      go (e ∷ es) all = by_same (same_requirement r e.0) refl
+      go (e ∷ es) all = by_same (same_requirement r e.0) refl (go es (All-tail (IsLoaded st) e es all))
         where
-          by_same : (b : Bool) → same_requirement r e.0 ≡ b → Few (cond b (Some e.1) (lookup (same_requirement r) es))
-          by_same true same =
+          by_same : (b : Bool) → same_requirement r e.0 ≡ b → Few (lookup (same_requirement r) es) → Few (cond b (Some e.1) (lookup (same_requirement r) es))
+          by_same true same later =
               let one = (All-head (IsLoaded st) e es all).one_a_set in
               subst (λ q. length e.1 ≤ length (sets_of st.provider.universe q)) (sym (same_is r e.0 same)) (omega (arith, one))
-          by_same false same = go es (All-tail (IsLoaded st) e es all)
+          by_same false same later = later
 
   -- the literals of a registered clause
   abbrev literals_in : RequiresClause → List Lit

@@ -62,16 +62,14 @@ module _ (now : Values) where
   -- all are false where the others are, and this one is
   all_false : (l : Lit) (ls : List Lit) → are_others_false now ls l ≡ true → is_false_literal now l ≡ true → is_false now ls ≡ true
   all_false l [] others f = refl
-  all_false l (m ∷ ls) others f = by_literal (same_literal m l) refl (is_false_literal now m) refl others
+  all_false l (m ∷ ls) others f = by_literal (same_literal m l) refl (is_false_literal now m) refl (λ h. all_false l ls h f) others
     where
-      by_literal : (s : Bool) → same_literal m l ≡ s → (t : Bool) → is_false_literal now m ≡ t → ((s || t) && are_others_false now ls l) ≡ true → (t && is_false now ls) ≡ true
-      by_literal s e true k h = all_false l ls (rest s h) f
-        where
-          rest : (b : Bool) → ((b || true) && are_others_false now ls l) ≡ true → are_others_false now ls l ≡ true
-          rest true j = j
-          rest false j = j
-      by_literal true e false k h = (let no : false ≡ true = sym k ∙ ap (is_false_literal now) (same_is m l e) ∙ f in cc)
-      by_literal false e false k h = (let no : false ≡ true = h in cc)
+      by_literal : (s : Bool) → same_literal m l ≡ s → (t : Bool) → is_false_literal now m ≡ t → (are_others_false now ls l ≡ true → is_false now ls ≡ true)
+          → ((s || t) && are_others_false now ls l) ≡ true → (t && is_false now ls) ≡ true
+      by_literal true e true k later h = later h
+      by_literal false e true k later h = later h
+      by_literal true e false k later h = (let no : false ≡ true = sym k ∙ ap (is_false_literal now) (same_is m l e) ∙ f in cc)
+      by_literal false e false k later h = (let no : false ≡ true = h in cc)
 
   -- of a settled clause, a literal beside which all are false is true
   left_true : (l : Lit) (ls : List Lit) → IsSettled now ls → is_literal_in l ls ≡ true → are_others_false now ls l ≡ true → true_now l ≡ true
@@ -132,11 +130,11 @@ module _ (now : Values) where
   negations_met : (ls : List Lit) → list_all is_negation ls ≡ true → is_false now ls ≡ false → IsMetNow ls
   negations_met [] negations h = (let no : true ≡ false = h in cc)
   negations_met (Pos v ∷ ls) negations h = (let no : false ≡ true = negations in cc)
-  negations_met (Neg v ∷ ls) negations h = by_test (is_false_literal now (Neg v)) refl h
+  negations_met (Neg v ∷ ls) negations h = by_test (is_false_literal now (Neg v)) refl (negations_met ls negations) h
     where
-      by_test : (b : Bool) → is_false_literal now (Neg v) ≡ b → (b && is_false now ls) ≡ false → IsMetNow (Neg v ∷ ls)
-      by_test true f k = holds_either (true_now (Neg v)) (list_any true_now ls) (negations_met ls negations k)
-      by_test false f k = ap (λ b. b || list_any true_now ls) (negation_true (now v) f)
+      by_test : (b : Bool) → is_false_literal now (Neg v) ≡ b → (is_false now ls ≡ false → IsMetNow ls) → (b && is_false now ls) ≡ false → IsMetNow (Neg v ∷ ls)
+      by_test true f later k = holds_either (true_now (Neg v)) (list_any true_now ls) (later k)
+      by_test false f later k = ap (λ b. b || list_any true_now ls) (negation_true (now v) f)
 
   list_true : (s : VersionSetId) (l : List ℕ) → list_any (λ row. known_true (now row.variable)) (list_rows s l) ≡ list_any true_now (map Pos l)
   list_true s [] = refl
@@ -149,12 +147,12 @@ module _ (now : Values) where
   row_true (s ∷ sets) [] h = h
   row_true (s ∷ sets) (l ∷ lists) h =
       list_any-append true_now (map Pos l) (flat_map (map Pos) lists)
-      ∙ by_list (list_any true_now (map Pos l)) refl (sym (list_any-append (λ row. known_true (now row.variable)) (list_rows s l) (rows sets lists)) ∙ h)
+      ∙ by_list (list_any true_now (map Pos l)) refl (row_true sets lists) (sym (list_any-append (λ row. known_true (now row.variable)) (list_rows s l) (rows sets lists)) ∙ h)
     where
-      by_list : (b : Bool) → list_any true_now (map Pos l) ≡ b → (list_any (λ row. known_true (now row.variable)) (list_rows s l) || has_true_row now (rows sets lists)) ≡ true
+      by_list : (b : Bool) → list_any true_now (map Pos l) ≡ b → (has_true_row now (rows sets lists) ≡ true → IsMetNow (flat_map (map Pos) lists)) → (list_any (λ row. known_true (now row.variable)) (list_rows s l) || has_true_row now (rows sets lists)) ≡ true
           → (b || list_any true_now (flat_map (map Pos) lists)) ≡ true
-      by_list true t k = refl
-      by_list false t k = row_true sets lists (subst (λ b. (b || has_true_row now (rows sets lists)) ≡ true) (list_true s l ∙ t) k)
+      by_list true t later k = refl
+      by_list false t later k = later (subst (λ b. (b || has_true_row now (rows sets lists)) ≡ true) (list_true s l ∙ t) k)
 
 module _ {N S : Type 0} (st : Store N S) (sound : IsSound st) (settled : HasSettled st) (solved : IsSolved st) where
   abbrev now : Values

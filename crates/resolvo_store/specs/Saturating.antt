@@ -1,5 +1,6 @@
 -- What Saturate replies, and the store that it leaves. N are the names, S the solvables.
-use Rattle.std.specs.Prelude.{◌≡◌, ℕ, List, ◌++◌, length}
+use Rattle.std.specs.Prelude.{◌≡◌, ℕ, List, ◌++◌, length, Option, Some, None, Result, Ok, Err}
+use Rattle.typed_ids.specs.declared.error.StoreError.{StoreError}
 use Rattle.typed_ids.specs.declared.error.StoreError.TheVariants.{OutOfMemory}
 use Rattle.decisions.specs.Literals.{Lit}
 use Rattle.decisions.specs.Trail.{Entry}
@@ -8,6 +9,12 @@ use Rattle.watch_map.specs.Forcing.{AreForced, AreSettled, IsConflict}
 use Rattle.watch_map.specs.Saturation.{IsRearranged}
 use Rattle.resolvo_store.specs.Command.{Command, Saturate, Reply, Done, Conflict, Refused}
 use Rattle.resolvo_store.specs.Store.{Store, values, clause_literals, watched_by}
+
+-- the answer where the list of clauses found one that is false, or none, or was refused
+abbrev pub found_answer : Result (Option ℕ) StoreError → Reply
+found_answer (Ok (Some c)) = Conflict c
+found_answer (Ok None) = Done
+found_answer (Err e) = Refused e
 
 module _ {N S : Type 0} where
   -- entries were added at the trail's end, each at the level, and forced by its clause under those before it; and watches

@@ -1,12 +1,15 @@
 //! The command that assigns what clauses force: `Saturate`.
 ghost use Rattle.std.specs.Prelude.{◌≡◌, IfOk};
+ghost use Rattle.resolvo_store.specs.Command.{answer_of, reply_of, IsRefused};
+ghost use Rattle.resolvo_store.specs.Saturating.{found_answer};
 
 use crate::abstract_store::AbstractStore;
 use crate::reply::Reply;
 use crate::store::ClauseStore;
 use decisions::DecisionTracker;
 use providers::DependencyProvider;
-use typed_ids::StoreError;
+use std::alloc::Allocator;
+use typed_ids::{ClauseId, StoreError};
 
 impl<D: DependencyProvider + Drop> ClauseStore<D> {
     ghost use Rattle.resolvo_store.specs.Command.{Saturate, answer_of, reply_of, IsRefused};
@@ -22,11 +25,21 @@ impl<D: DependencyProvider + Drop> ClauseStore<D> {
         if !DecisionTracker::<D::Alloc>::level_in_range(level) {
             return Err(StoreError::LevelOutOfRange);
         }
-        let trail = &mut self.trail;
-        let found = self.clauses.saturate(&self.loaded, &self.disjunctions, trail, level)?;
-        match found {
-            Some(clause) => Ok(Reply::Conflict(clause)),
-            None => Ok(Reply::Done),
-        }
+        let (lists, disjunctions) = (&self.loaded, &self.disjunctions);
+        let found = self.clauses.saturate(lists, disjunctions, &mut self.trail, level);
+        answered(found)
+    }
+}
+
+/// The reply to what a saturation of the list found: a clause that is false, or none.
+fn answered<A: Allocator>(
+    found: Result<Option<ClauseId>, StoreError>,
+) -> Result<Reply<A>, StoreError>
+    ensures value { answer_of result ≡ found_answer found }
+    ensures answered { IfOk result (λ reply. IsRefused (reply_of reply) → ⊥) }
+{
+    match found? {
+        Some(clause) => Ok(Reply::Conflict(clause)),
+        None => Ok(Reply::Done),
     }
 }
