@@ -110,7 +110,7 @@ class Store:
     def refusal(self, kind, words):
         if not self.knows_all(kind, words):
             return 3
-        if kind == "assign" and not 1 <= int(words[3]) < 2**31:
+        if kind in ("assign", "saturate") and not 1 <= int(words[-1]) < 2**31:
             return 4
         if kind == "requires":
             if words[1] not in self.loaded:
@@ -266,7 +266,7 @@ class Store:
         """The helper of a bit has the value that it has in the variable's number."""
         self.of_two((variable, False), (helpers[bit], number // 2**bit % 2 == 1))
 
-    # The trail, and scores.
+    # The trail.
 
     def assign(self, variable, value, clause, level):
         variable, value = int(variable), value == "true"
@@ -294,6 +294,27 @@ class Store:
             return "next none"
         self.place += 1
         return f"next {shown(self.trail[self.place - 1])}"
+
+    # What follows from clauses. Each clause is looked at anew for each entry, and no watch is moved.
+
+    def saturate(self, level):
+        while not self.false_clauses():
+            forced = [(literal, clause) for clause in range(len(self.clauses)) for literal in self.forced(clause)]
+            if not forced:
+                return "done"
+            (variable, value), clause = forced[0]
+            self.trail.append((variable, value, clause, int(level)))
+        return f"conflict {self.false_clauses()[0]}"
+
+    def false_clauses(self):
+        return [clause for clause, literals in enumerate(self.clauses) if all(map(self.is_false, literals))]
+
+    def forced(self, clause):
+        """The literal that a clause forces, if it does: it is undecided, and all others of the clause are false."""
+        left = {literal for literal in self.clauses[clause] if not self.is_false(literal)}
+        return [literal for literal in left if len(left) == 1 and self.value(literal[0]) is None]
+
+    # Scores.
 
     def bump(self, name, amount):
         self.scores[int(name)] = min(self.scores.get(int(name), 0) + int(amount), MOST)

@@ -13,6 +13,7 @@ pub use Rattle.clauses.specs.Clauses
 pub use Rattle.clauses.specs.ClauseTexts
 pub use Rattle.clauses.specs.Stored
 pub use Rattle.at_most_once.specs.AtMostOne
+pub use Rattle.watch_map.specs.Forcing
 pub use Rattle.watch_map.specs.WatchCalls
 pub use Rattle.watch_map.specs.WatchLists
 pub use Rattle.watch_map.specs.Watching

@@ -17,12 +17,13 @@ use Rattle.clauses.specs.declared.clause.Clause.TheVariants as Kind
 use Rattle.watch_map.specs.Watching.{is_literal_in}
 use Rattle.watch_map.specs.ClauseList.{Clauses, two_or_none, with_clause as pushed, with_learnt as learnt_one}
 use Rattle.resolvo_store.specs.declared.reply.Reply.{Reply as ProgramReply}
-use Rattle.resolvo_store.specs.Command.{Command, Disjunction, Learnt, Requires, Bump, Rewatch, Watchers, Reply, ClauseIs, Done, WatchersAre, Refused, IsRefused, reply_of, answer_of}
+use Rattle.resolvo_store.specs.Command.{Command, Disjunction, Learnt, Requires, Bump, Rewatch, Watchers, Reply, ClauseIs, Done, WatchersAre, Refused, IsRefused, reply_of, answer_of, is_saturate}
 use Rattle.resolvo_store.specs.Store.{Store, Provider, Kept, store_of, values, kept_literals, clause_literals, watched_by, lists_of}
 use Rattle.resolvo_store.specs.Refusals.{first_refusal, are_disjunctions_out, are_clauses_out, is_learnt_out, clause_refusals, is_bad_learnt, may_rewatch, knows_clause, knows_literal, knows_variable, knows_pair, knows_disjunction, negates_parent}
 use Rattle.resolvo_store.specs.Adding.{is_direct, adding, names_known}
 use Rattle.resolvo_store.specs.Outcome.{outcome, adds_clause, with_clause, with_learnt, with_registered, with_rewatched}
-use Rattle.resolvo_store.specs.Step.{Step, IsAnswered, lacks_ids, takes_no_memory}
+use Rattle.resolvo_store.specs.Step.{Step, HasOutcome, IsAnswered, lacks_ids, takes_no_memory}
+use Rattle.resolvo_store.proofs.RunLemmas.{is_answered}
 
 -- ---- growths
 
@@ -114,15 +115,16 @@ module _ {N S : Type 0} (st : Store N S) where
   first_of_direct (Kind.ForbidMultipleInstances a l n) direct known = (let no : false ≡ true = direct in cc)
   first_of_direct (Kind.Learnt id) direct known = (let no : false ≡ true = direct in cc)
 
-  -- it lacks no other ids, takes memory, and adds the clause
-  pub direct_adds : (c : Clause N) → is_direct c ≡ true → (lacks_ids st (adding c) ≡ false) × (takes_no_memory st (adding c) ≡ false) × (adds_clause st c ≡ outcome st (adding c))
-  direct_adds Kind.InstallRoot direct = (refl, refl, refl)
-  direct_adds (Kind.Constrains a b v) direct = (refl, refl, refl)
-  direct_adds (Kind.ConstrainsExcluded a b v) direct = (refl, refl, refl)
-  direct_adds (Kind.ConstrainsParent a b v) direct = (refl, refl, refl)
-  direct_adds (Kind.Lock a b) direct = (refl, refl, refl)
-  direct_adds (Kind.Excluded a reason) direct = (refl, refl, refl)
-  direct_adds (Kind.AnyOf a b) direct = (refl, refl, refl)
+  -- it lacks no other ids, takes memory, and adds the clause; and it is no Saturate
+  pub direct_adds : (c : Clause N) → is_direct c ≡ true
+      → (lacks_ids st (adding c) ≡ false) × (takes_no_memory st (adding c) ≡ false) × (adds_clause st c ≡ outcome st (adding c)) × (is_saturate (adding {N = N} {S = S} c) ≡ false)
+  direct_adds Kind.InstallRoot direct = (refl, refl, refl, refl)
+  direct_adds (Kind.Constrains a b v) direct = (refl, refl, refl, refl)
+  direct_adds (Kind.ConstrainsExcluded a b v) direct = (refl, refl, refl, refl)
+  direct_adds (Kind.ConstrainsParent a b v) direct = (refl, refl, refl, refl)
+  direct_adds (Kind.Lock a b) direct = (refl, refl, refl, refl)
+  direct_adds (Kind.Excluded a reason) direct = (refl, refl, refl, refl)
+  direct_adds (Kind.AnyOf a b) direct = (refl, refl, refl, refl)
   direct_adds (Kind.Requires parent d r) direct = absurd (let no : false ≡ true = direct in cc)
   direct_adds (Kind.ForbidMultipleInstances a l n) direct = absurd (let no : false ≡ true = direct in cc)
   direct_adds (Kind.Learnt id) direct = absurd (let no : false ≡ true = direct in cc)
@@ -280,39 +282,40 @@ module _ {N S : Type 0} (st : Store N S) where
       (sym (none_yet (not (knows_literal st l)) UnknownId [] (ap not known))) (refl, refl))
 
   -- a clause was added
-  pub step_clause : (c : Command N S) (id : ℕ) (conflict : Bool) {after : Store N S} → first_refusal st c ≡ None → lacks_ids st c ≡ false
+  pub step_clause : (c : Command N S) (id : ℕ) (conflict : Bool) {after : Store N S} → is_saturate c ≡ false → first_refusal st c ≡ None → lacks_ids st c ≡ false
       → ClauseIs id conflict ≡ (outcome st c).reply → after ≡ (outcome st c).store → Step st c (ClauseIs id conflict) after
-  step_clause c id conflict {after} none lacks said made =
-      subst (λ o. MatchOption o (IsAnswered st c (ClauseIs id conflict) after) (λ e. (ClauseIs id conflict ≡ Refused e) × (after ≡ st))) (sym none) (lacks, said, made)
+  step_clause c id conflict {after} plain none lacks said made =
+      subst (λ o. MatchOption o (IsAnswered st c (ClauseIs id conflict) after) (λ e. (ClauseIs id conflict ≡ Refused e) × (after ≡ st))) (sym none)
+      (is_answered st after c (ClauseIs id conflict) plain (lacks, said, made))
 
   -- it was refused
-  pub step_refused : (c : Command N S) (out : Bool) (e : StoreError) {after : Store N S} → first_refusal st c ≡ cond out (Some IdSpace) None → takes_no_memory st c ≡ false
+  pub step_refused : (c : Command N S) (out : Bool) (e : StoreError) {after : Store N S} → is_saturate c ≡ false → first_refusal st c ≡ cond out (Some IdSpace) None → takes_no_memory st c ≡ false
       → e ≡ cond out IdSpace OutOfMemory → after ≡ st → Step st c (Refused e) after
-  step_refused c out e {after} first memory is same =
+  step_refused c out e {after} plain first memory is same =
       subst (λ x. Step st c (Refused x) after) (sym is)
       (subst (λ o. MatchOption o (IsAnswered st c (Refused (cond out IdSpace OutOfMemory)) after) (λ x. (Refused (cond out IdSpace OutOfMemory) ≡ Refused x) × (after ≡ st))) (sym first) (by_out out))
     where
       by_out : (b : Bool) → MatchOption (cond b (Some IdSpace) None) (IsAnswered st c (Refused (cond b IdSpace OutOfMemory)) after) (λ x. (Refused (cond b IdSpace OutOfMemory) ≡ Refused x) × (after ≡ st))
       by_out true = (refl, same)
-      by_out false = (ap not memory, same)
+      by_out false = is_answered st after c (Refused OutOfMemory) plain (ap not memory, same)
 
   -- a reply that is no refusal answers a command that nothing refuses
   by_reply : (c : Command N S) (reply : Reply) {after : Store N S} → (IsRefused reply → ⊥) → lacks_ids st c ≡ false → reply ≡ (outcome st c).reply
-      → after ≡ (outcome st c).store → IsAnswered st c reply after
+      → after ≡ (outcome st c).store → HasOutcome st c reply after
   by_reply c (Refused e) answered lacks said made = absurd (answered tt)
   by_reply c _ answered lacks said made = (lacks, said, made)
 
   -- where all that can be foreseen is whether an id is left
   pub step_grown : {A : Type 0} (c : Command N S) (out : Bool) (result : Result (ProgramReply A) StoreError) (after : Store N S)
-      → first_refusal st c ≡ cond out (Some IdSpace) None → lacks_ids st c ≡ false → takes_no_memory st c ≡ false → (IsRefused (outcome st c).reply → ⊥)
+      → is_saturate c ≡ false → first_refusal st c ≡ cond out (Some IdSpace) None → lacks_ids st c ≡ false → takes_no_memory st c ≡ false → (IsRefused (outcome st c).reply → ⊥)
       → IfOk result (λ reply. reply_of reply ≡ (outcome st c).reply) → OnOk result (after ≡ (outcome st c).store) → OnErr result (after ≡ st)
       → IfErr result (IsGrowthRefusal out) → (IsTrue out → result ≡ Err IdSpace) → Step st c (answer_of result) after
-  step_grown c out (Ok reply) after first lacks memory answered said ok err refused ids_out =
+  step_grown c out (Ok reply) after plain first lacks memory answered said ok err refused ids_out =
       let none : first_refusal st c ≡ None = first ∙ ap (λ b. cond b (Some IdSpace) None) (growth_fits out (Ok reply) ids_out) in
       subst (λ o. MatchOption o (IsAnswered st c (reply_of reply) after) (λ e. (reply_of reply ≡ Refused e) × (after ≡ st))) (sym none)
-      (by_reply c (reply_of reply) (λ h. answered (subst (λ r. IsRefused r) said h)) lacks said ok)
-  step_grown c out (Err e) after first lacks memory answered said ok err refused ids_out =
-      step_refused c out e first memory (growth_refusal out e refused (λ h. cc (ids_out h))) err
+      (is_answered st after c (reply_of reply) plain (by_reply c (reply_of reply) (λ h. answered (subst (λ r. IsRefused r) said h)) lacks said ok))
+  step_grown c out (Err e) after plain first lacks memory answered said ok err refused ids_out =
+      step_refused c out e plain first memory (growth_refusal out e refused (λ h. cc (ids_out h))) err
 
 -- a clause with its watches
 pub with_made : {N S : Type 0} (st : Store N S) (clause : Clause N) {watch : Option (List Lit)} → watch ≡ first_watches (kept_literals st) (values st) clause
@@ -360,19 +363,19 @@ module _ {D N S C : Type 0} (provided : D → Provider N S) (scored : C → N �
 
   answered : {A : Type 0} (c : Command N S) (conflict out : Bool) (result : Result (ProgramReply A) StoreError) (kept : Kept D N S C)
       (cs more : Clauses N) (requires registered : List RequiresClause)
-      → first_refusal (store kept) c ≡ cond out (Some IdSpace) None → lacks_ids (store kept) c ≡ false → takes_no_memory (store kept) c ≡ false
+      → is_saturate c ≡ false → first_refusal (store kept) c ≡ cond out (Some IdSpace) None → lacks_ids (store kept) c ≡ false → takes_no_memory (store kept) c ≡ false
       → ClauseIs (length kept.clauses) conflict ≡ (outcome (store kept) c).reply → with_both kept more registered ≡ (outcome (store kept) c).store
       → IfOk result (λ reply. reply_of reply ≡ ClauseIs (length kept.clauses) conflict) → OnOk result (cs ≡ more) → OnOk result (requires ≡ registered)
       → OnErr result (cs ≡ clauses_kept kept) → OnErr result (requires ≡ kept.requires)
       → IfErr result (IsGrowthRefusal out) → (IsTrue out → result ≡ Err IdSpace)
       → Step (store kept) c (answer_of result) (with_both kept cs requires)
-  answered c conflict out (Ok reply) kept cs more requires registered first lacks memory says makes said ok queued err left refused ids_out =
+  answered c conflict out (Ok reply) kept cs more requires registered plain first lacks memory says makes said ok queued err left refused ids_out =
       let none : first_refusal (store kept) c ≡ None = first ∙ ap (λ b. cond b (Some IdSpace) None) (growth_fits out (Ok reply) ids_out) in
       subst (λ r. Step (store kept) c r (with_both kept cs requires)) (sym said)
-      (step_clause (store kept) c (length kept.clauses) conflict none lacks says
+      (step_clause (store kept) c (length kept.clauses) conflict plain none lacks says
       (ap (λ l. with_both kept l requires) ok ∙ ap (with_both kept more) queued ∙ makes))
-  answered c conflict out (Err e) kept cs more requires registered first lacks memory says makes said ok queued err left refused ids_out =
-      step_refused (store kept) c out e first memory (growth_refusal out e refused (λ h. cc (ids_out h)))
+  answered c conflict out (Err e) kept cs more requires registered plain first lacks memory says makes said ok queued err left refused ids_out =
+      step_refused (store kept) c out e plain first memory (growth_refusal out e refused (λ h. cc (ids_out h)))
       (ap (λ l. with_both kept l requires) err ∙ ap (with_both kept (clauses_kept kept)) left)
 
   -- where the list is asked to add a clause that the command names whole
@@ -390,7 +393,7 @@ module _ {D N S C : Type 0} (provided : D → Provider N S) (scored : C → N �
       let more : Clauses N = pushed (clauses_kept kept) clause watch in
       let adds = direct_adds (store kept) clause direct in
       subst (λ o. Step (store o) c (answer_of result) (with_both kept cs kept.requires)) is
-      (answered c conflict (are_clauses_out (store kept)) result kept cs more kept.requires kept.requires
+      (answered c conflict (are_clauses_out (store kept)) result kept cs more kept.requires kept.requires adds.3
       (first_of_direct (store kept) clause direct known) adds.0 adds.1
       (ap (ClauseIs (length kept.clauses)) k ∙ ap (λ o. o.reply) adds.2)
       (with_made (store kept) clause w ∙ ap (λ o. o.store) adds.2) said ok (always result refl) err (always_err result refl) refused ids_out)
@@ -407,7 +410,7 @@ module _ {D N S C : Type 0} (provided : D → Provider N S) (scored : C → N �
       let more : Clauses N = learnt_one (clauses_kept kept) ls in
       subst (λ o. Step (store o) (Learnt ls) (answer_of result) (with_both kept cs kept.requires)) is
       (answered (Learnt ls) false (is_learnt_out (store kept)) result kept cs more kept.requires kept.requires
-      first refl refl
+      refl first refl refl
       refl (ap (λ x. with_clause (with_learnt (store kept) ls) (Kind.Learnt (length kept.learnt)) (two_or_none x)) (learnt_watches (store kept) ls))
       said ok (always result refl) err (always_err result refl) refused ids_out)
 
@@ -430,6 +433,6 @@ module _ {D N S C : Type 0} (provided : D → Provider N S) (scored : C → N �
       subst (λ o. Step (store o) c (answer_of result) (with_both kept cs requires)) is
       (answered c conflict (are_clauses_out (store kept)) result kept cs more requires
       (kept.requires ++ record { parent = parent; requirement = r; condition = disjunction; clause_id = length kept.clauses } ∷ [])
-      first refl refl
+      refl first refl refl
       (ap (ClauseIs (length kept.clauses)) k ∙ ap (λ x. (adds_clause st x).reply) kind)
       (with_made st clause w ∙ ap (λ x. (adds_clause st x).store) kind) said ok queued err left refused ids_out)

@@ -1,15 +1,16 @@
 -- Laws for those who write a search over a store: what follows from the contracts of its calls.
 pub use Rattle.resolvo_store.proofs.ForbiddingLaws.{forbids_two}
-use Rattle.std.proofs.Common.{◌≡◌, ℕ, ◌<◌, ◌≤◌, Bool, true, false, cond, not, List, [], ◌∷◌, ◌++◌, length, map, get_or, Option, None, Some, refl, arith, sym, ◌∙◌, ap, subst, zero, suc}
+use Rattle.std.proofs.Common.{◌≡◌, ℕ, ◌<◌, ◌≤◌, Bool, true, false, cond, not, List, [], ◌∷◌, ◌++◌, length, map, get_or, Option, None, Some, refl, arith, sym, ◌∙◌, ap, subst, zero, suc, inl, inr}
 use Rattle.std.specs.Prelude.{◌==◌, nat_lt, ◌&&◌, All, Contains, filter, flat_map, fold, find, is_some, is_none, option_map, MatchOption}
 use Rattle.std.specs.Bool.{beq}
 use Rattle.std.specs.List.{list_any, list_all}
 use Rattle.std.proofs.lemmas.Bool.{eqb-true}
 use Rattle.std.proofs.lemmas.Bool.Decides.{nat_tests}
+use Rattle.std.proofs.lemmas.List.{append-nil}
 use Rattle.std.proofs.lemmas.List.Elements.{All-nil, All-cons, All-head, All-tail, All-contains, Contains-get_or, Contains-push, Contains-append_left, Contains-append_right}
 use Rattle.std.proofs.lemmas.Map.Views.{Contains-from_any}
 use Rattle.typed_ids.specs.declared.error.StoreError.{StoreError}
-use Rattle.typed_ids.specs.declared.error.StoreError.TheVariants.{OutOfMemory, IdSpace}
+use Rattle.typed_ids.specs.declared.error.StoreError.TheVariants.{OutOfMemory, IdSpace, LevelOutOfRange}
 use Rattle.providers.specs.declared.requirement.Requirement.{Requirement}
 use Rattle.decisions.specs.Literals.{known_true}
 use Rattle.decisions.specs.Trail.{Entry, val, kept_until, HasLevel}
@@ -21,13 +22,20 @@ use Rattle.resolvo_queue.specs.Scan.{add_parent, parents, clauses_of, scan, are_
 use Rattle.resolvo_queue.specs.declared.offer.Offer.{Offer}
 use Rattle.resolvo_queue.specs.Pick.{decided}
 use Rattle.resolvo_queue.proofs.PickLaws.{none_decided}
-use Rattle.resolvo_store.specs.Command.{Command, Load, Assign, UndoUntil, Decide, Reply, Assigned, Already, Clash, NoDecision, Refused, IsRefused}
+use Rattle.resolvo_store.specs.Command.{Command, Load, Assign, UndoUntil, Saturate, Decide, Reply, Assigned, Already, Clash, Done, NoDecision, Falsified, Conflict, Refused, IsRefused, is_saturate}
 use Rattle.resolvo_store.specs.Store.{Store, values, lists_of, condition_of, rows_of, score_of}
 use Rattle.resolvo_store.specs.Refusals.{first_refusal}
 use Rattle.resolvo_store.specs.Outcome.{outcome, load, assign_reply, assigned, decision, falsified_clause, picked}
-use Rattle.resolvo_store.specs.Step.{IsAnswered, Step, may_be_refused}
+use Rattle.resolvo_store.specs.Step.{HasOutcome, IsAnswered, Step, may_be_refused}
 use Rattle.resolvo_store.specs.Solved.{IsSolved}
 use Rattle.resolvo_store.specs.Sound.{IsSound, IsAssigned}
+use Rattle.resolvo_store.specs.Models.{IsModel, IsModelNow, true_alone, MayLeaveFalse}
+use Rattle.resolvo_store.specs.Saturating.{HasForcedMore, HasSettled}
+use Rattle.resolvo_store.proofs.ModelLaws.{models_kept, conflict_rules_out}
+use Rattle.resolvo_store.proofs.RunLemmas.{has_outcome}
+use Rattle.resolvo_store.proofs.SaturatedLaws.{saturated_so_far, saturate_answered}
+use Rattle.resolvo_store.proofs.SettledLaws.{settled_unfalsified}
+use Rattle.resolvo_store.proofs.TrailModelLaws.{trail_is_model}
 
 -- the abstract store of which a clause says that it is sound: so a proof file names the store that the clause speaks of
 abbrev pub store_in : {N S : Type 0} {st : Store N S} → IsSound st → Store N S
@@ -144,25 +152,25 @@ closed true (Some x) e g = e
 closed false f e g = refl
 
 module _ {N S : Type 0} where
-  -- a command that isn't refused is answered by its outcome
-  pub answered_by_outcome : (old new : Store N S) (c : Command N S) (reply : Reply) → Step old c reply new → (IsRefused reply → ⊥)
+  -- a command but Saturate that isn't refused is answered by its outcome
+  pub answered_by_outcome : (old new : Store N S) (c : Command N S) (reply : Reply) → is_saturate c ≡ false → Step old c reply new → (IsRefused reply → ⊥)
       → (reply ≡ (outcome old c).reply) × (new ≡ (outcome old c).store)
-  answered_by_outcome old new c reply step answered = by_refusal (first_refusal old c) step
+  answered_by_outcome old new c reply plain step answered = by_refusal (first_refusal old c) step
     where
-      by_reply : (r : Reply) → (IsRefused r → ⊥) → IsAnswered old c r new → (r ≡ (outcome old c).reply) × (new ≡ (outcome old c).store)
+      by_reply : (r : Reply) → (IsRefused r → ⊥) → HasOutcome old c r new → (r ≡ (outcome old c).reply) × (new ≡ (outcome old c).store)
       by_reply (Refused e) n h = absurd (n tt)
       by_reply _ n h = (h.1, h.2)
 
       by_refusal : (x : Option StoreError) → MatchOption x (IsAnswered old c reply new) (λ e. (reply ≡ Refused e) × (new ≡ old))
           → (reply ≡ (outcome old c).reply) × (new ≡ (outcome old c).store)
-      by_refusal None h = by_reply reply answered h
+      by_refusal None h = by_reply reply answered (has_outcome old new c reply plain h)
       by_refusal (Some e) h = absurd (answered (subst IsRefused (sym h.0) tt))
 
   -- after `Assigned` the variable has the value
   pub assigned_value : (old new : Store N S) (v : ℕ) (value : Bool) (clause level : ℕ) → Step old (Assign v value clause level) Assigned new
       → values new v ≡ Some value
   assigned_value old new v value clause level step =
-      let answer = answered_by_outcome old new (Assign v value clause level) Assigned step (λ h. h) in
+      let answer = answered_by_outcome old new (Assign v value clause level) Assigned refl step (λ h. h) in
       subst (λ st. values st v ≡ Some value) (sym answer.1) (by_value (values old v) refl answer.0)
     where
       entry : Entry
@@ -180,7 +188,7 @@ module _ {N S : Type 0} where
   pub clashing_value : (old new : Store N S) (v : ℕ) (value : Bool) (clause level : ℕ) → Step old (Assign v value clause level) Clash new
       → values new v ≡ Some (not value)
   clashing_value old new v value clause level step =
-      let answer = answered_by_outcome old new (Assign v value clause level) Clash step (λ h. h) in
+      let answer = answered_by_outcome old new (Assign v value clause level) Clash refl step (λ h. h) in
       subst (λ st. values st v ≡ Some (not value)) (sym answer.1) (by_value (values old v) refl answer.0)
     where
       entry : Entry
@@ -241,7 +249,7 @@ module _ {N S : Type 0} where
   -- after `NoDecision` no clause of the scan is open
   pub none_open : (old new : Store N S) → Step old Decide NoDecision new → All (λ c. is_open (values new) (condition_of new) (rows_of new) c ≡ false) (scan new.requires)
   none_open old new step =
-      let answer = answered_by_outcome old new Decide NoDecision step (λ h. h) in
+      let answer = answered_by_outcome old new Decide NoDecision refl step (λ h. h) in
       let none = no_decision (falsified_clause old) (picked old) answer.0 in
       let falsified = none_passes (is_falsified (values old) (condition_of old) (rows_of old)) (scan old.requires) none.0 in
       let eligible = (none_decided (values old) (condition_of old) (rows_of old) (score_of old) old.requires (option_map decided (picked old)) refl).0 (ap (option_map decided) none.1) in
@@ -262,3 +270,56 @@ module _ {N S : Type 0} where
       met true true false h e f = (let no : true ≡ false = h in cc)
       met true false false h e f = f
       met false b false h e f = e
+
+  -- ---- a Saturate
+
+  -- whatever it replies, the trail has more forced entries, or as many
+  pub forces_more : (old new : Store N S) (level : ℕ) (reply : Reply) → Step old (Saturate level) reply new → HasForcedMore level old new
+  forces_more old new level reply step = elim (saturate_answered old new level reply step) [
+    | inl refused ↦ record { added = []; longer = ap (λ st. st.trail) refused.1 ∙ sym (append-nil old.trail); forced = tt }
+    | inr is ↦ (let so_far = saturated_so_far level old new reply is.1 in
+        record { added = so_far.added; longer = ap (λ st. st.trail) so_far.rest; forced = so_far.forced })
+  ]
+
+  -- and each model is one still
+  pub rules_out_none : (old new : Store N S) (level : ℕ) (reply : Reply) → Step old (Saturate level) reply new → (a : ℕ → Bool) → IsModelNow old a → IsModelNow new a
+  rules_out_none old new level reply step a model = elim (saturate_answered old new level reply step) [
+    | inl refused ↦ subst (λ st. IsModelNow st a) (sym refused.1) model
+    | inr is ↦ models_kept level old new (saturated_so_far level old new reply is.1) a model
+  ]
+
+  -- after `Conflict` there was none
+  pub conflict_means_none : (old new : Store N S) (level : ℕ) (reply : Reply) → Step old (Saturate level) reply new → (c : ℕ) → reply ≡ Conflict c
+      → (a : ℕ → Bool) → IsModelNow old a → ⊥
+  conflict_means_none old new level reply step c is a model = elim (saturate_answered old new level (Conflict c) (subst (λ r. Step old (Saturate level) r new) is step)) [
+    | inl refused ↦ (let no : Conflict c ≡ Refused LevelOutOfRange = refused.0 in cc)
+    | inr found ↦ conflict_rules_out new c found.1.1 a (models_kept level old new found.1.0 a model)
+  ]
+
+  -- after `Done` all are settled
+  pub done_settles : (old new : Store N S) (level : ℕ) → Step old (Saturate level) Done new → HasSettled new
+  done_settles old new level step = elim (saturate_answered old new level Done step) [
+    | inl refused ↦ (let no : Done ≡ Refused LevelOutOfRange = refused.0 in cc)
+    | inr is ↦ is.1.1
+  ]
+
+  -- so no registered clause is falsified
+  pub done_unfalsified : (old new : Store N S) (level : ℕ) → IsSound new → Step old (Saturate level) Done new → falsified_clause new ≡ None
+  done_unfalsified old new level sound step = settled_unfalsified new sound (done_settles old new level step)
+
+  -- and a Decide isn't answered `Falsified`
+  pub decides_unfalsified : (old new : Store N S) (reply : Reply) → falsified_clause old ≡ None → Step old Decide reply new → (c : ℕ) → reply ≡ Falsified c → ⊥
+  decides_unfalsified old new reply none step c is =
+      let answer = answered_by_outcome old new Decide (Falsified c) refl (subst (λ r. Step old Decide r new) is step) (λ h. h) in
+      by_answer (picked old) (answer.0 ∙ ap (λ f. decision f (picked old)) none)
+    where
+      by_answer : (o : Option Offer) → Falsified c ≡ decision None o → ⊥
+      by_answer None h = cc
+      by_answer (Some o) h = cc
+
+  -- where all clauses are settled and no decision is left, what the trail says to be true, all else false, is a model
+  pub no_decision_is_model : (old new : Store N S) → IsSound new → HasSettled old → Step old Decide NoDecision new → All (MayLeaveFalse new) new.clauses
+      → IsModel new (true_alone (values new))
+  no_decision_is_model old new sound settled step may =
+      let same : new ≡ old = (answered_by_outcome old new Decide NoDecision refl step (λ h. h)).1 in
+      trail_is_model new sound (subst (λ st. HasSettled st) (sym same) settled) (solved old new step) may

@@ -1,7 +1,8 @@
 -- What a store keeps stays in order: what each call on a part of it leaves.
 use Rattle.std.proofs.Common.{◌≡◌, ◌≢◌, ℕ, ◌<◌, ◌≤◌, ◌+◌, ◌-◌, ◌*◌, ◌/◌, ◌^◌, min, cond, true, not, List, [], ◌∷◌, ◌++◌, length, map, Option, None, Some, IsSome, Result, Ok, Err, refl, sym, subst, ap, ◌∙◌, ◌⊎◌, inl, inr}
-use Rattle.std.specs.Prelude.{Bool, false, nat_eq, flat_map, All, IfSome, IsTrue, OnOk, OnErr}
+use Rattle.std.specs.Prelude.{Bool, false, nat_eq, nat_lt, flat_map, All, IfSome, IsTrue, OnOk, OnErr}
 use Rattle.typed_ids.specs.TotalMaps.{IsUpdate, SameValues}
+use Rattle.std.specs.List.{list_all}
 use Rattle.std.specs.Map.{lookup}
 use Rattle.std.proofs.Math.Nat.{zero-mul, zero-div}
 use Rattle.std.proofs.lemmas.List.{map-append}
@@ -17,7 +18,7 @@ use Rattle.variables.specs.declared.variable_origin.VariableOrigin.{VariableOrig
 use Rattle.variables.specs.Variables.{with_variables, interned_variable}
 use Rattle.decisions.specs.Trail.{Entry, Trail, val, pushed, floor_taken, AddsEntry}
 use Rattle.decisions.specs.declared.decision_tracker.AddFault.{AddFault}
-use Rattle.decisions.specs.Literals.{Lit}
+use Rattle.decisions.specs.Literals.{Lit, variable_of}
 use Rattle.clauses.specs.declared.clause.Clause.{Clause}
 use Rattle.clauses.specs.declared.clause.Clause.TheVariants as Kind
 use Rattle.clauses.specs.Clauses.{first_watches}
@@ -45,7 +46,7 @@ use Rattle.solver_cache.specs.Cache.{Cache, is_set_asked}
 use Rattle.solver_cache.specs.Questions.{IsLater}
 use Rattle.solver_cache.proofs.CacheLemmas.{asked_later}
 use Rattle.resolvo_store.specs.Adding.{is_direct, names_known}
-use Rattle.resolvo_store.proofs.KnownLemmas.{IsKnownSolvable, IsLawful, known_direct}
+use Rattle.resolvo_store.proofs.KnownLemmas.{IsKnownSolvable, IsLawful, known_direct, literals_below}
 use Rattle.resolvo_store.proofs.SoundLaws.{IsSound-scored, IsSound-pushed, IsSound-added, IsSound-disjunction, IsSound-learnt, IsSound-requires, IsSound-rewatched, IsSound-with_variables, IsSound-interned}
 
 -- what comes of success, or of failure
@@ -218,11 +219,11 @@ module _ {D N S A H Q : Type 0} {has : Q → N → Bool} {st : Store N S} {loade
       (IsSound-added st is.sound c (known_direct st.provider.universe st.origins is.sound.origins_known c known) (plain_direct c direct))) ok err
 
   -- after one was to be learnt
-  pub after_learnt : {T E : Type 0} (ls : List Lit) {cs : Clauses N} (result : Result T E)
+  pub after_learnt : {T E : Type 0} (ls : List Lit) {cs : Clauses N} (result : Result T E) → list_all (λ l. nat_lt (variable_of l) (length st.origins)) ls ≡ true
       → OnOk result (cs ≡ learnt_one clauses_now ls) → OnErr result (cs ≡ clauses_now) → IsConsistent has (with_clauses cs) loaded disjunctions cache queue trail
-  after_learnt ls result ok err =
+  after_learnt ls result known ok err =
       after_change (learnt_one clauses_now ls) result
-      (subst (λ w. IsSound (with_clause (with_learnt st ls) (Kind.Learnt (length st.learnt)) (two_or_none w))) (sym (learnt_watches st ls)) (IsSound-learnt st is.sound ls)) ok err
+      (subst (λ w. IsSound (with_clause (with_learnt st ls) (Kind.Learnt (length st.learnt)) (two_or_none w))) (sym (learnt_watches st ls)) (IsSound-learnt st is.sound ls (literals_below (length st.origins) ls known))) ok err
 
   -- after a variable was to be tracked
   pub after_tracked : {T E : Type 0} (name : N) (v : ℕ) {os : List (VariableOrigin N S)} {cs : Clauses N} {ts : N → Tracker ℕ} (result : Result T E) → IsLawful st.provider
@@ -244,32 +245,25 @@ module _ {D N S A H Q : Type 0} {has : Q → N → Bool} {st : Store N S} {loade
       (subst (λ t. IsConsistent has (record st { trackers = t }) loaded disjunctions cache queue trail) (sym same_trackers) is))
 
   -- after a disjunction was to be kept
-  pub after_disjunction : {T E : Type 0} {ds : List (Disjunction A)} (result : Result T E)
-      → st.disjunctions ≡ disjunctions_kept disjunctions → OnOk result (IsOneMore disjunctions ds) → OnErr result (ds ≡ disjunctions)
+  pub after_disjunction : {T E : Type 0} (ls : List Lit) (condition : ℕ) {ds : List (Disjunction A)} (result : Result T E)
+      → st.disjunctions ≡ disjunctions_kept disjunctions → list_all (λ l. nat_lt (variable_of l) (length st.origins)) ls ≡ true → OnOk result (IsOneMore disjunctions ds)
+      → OnOk result (disjunctions_kept ds ≡ disjunctions_kept disjunctions ++ record { literals = ls; condition = condition } ∷ []) → OnErr result (ds ≡ disjunctions)
       → IsConsistent has (record st { disjunctions = disjunctions_kept ds }) loaded ds cache queue trail
-  after_disjunction {T = T} {E = E} {ds} result kept ok err = elim (either result ok err) [
-    | inl more ↦ subst After (sym more.grown) (longer more.disjunction)
-    | inr same ↦ subst After (sym same) (rw (← kept) is)
-  ]
-    where
-      After : List (Disjunction A) → Type 0
-      After es = IsConsistent has (record st { disjunctions = disjunctions_kept es }) loaded es cache queue trail
-
-      longer : (d : Disjunction A) → After (disjunctions ++ d ∷ [])
-      longer d = record {
-        few = is.few;
-        known = is.known;
-        asked = is.asked;
-        sound = subst (λ es. IsSound (record st { disjunctions = es }))
-            (ap (λ es. es ++ record { literals = d.literals.items; condition = d.condition } ∷ []) kept ∙ sym (map-append (λ x. record { literals = x.literals.items; condition = x.condition }) disjunctions (d ∷ [])))
-            (IsSound-disjunction st is.sound d.literals.items d.condition);
-        may_ask = record {
-          in_step = is.may_ask.in_step;
-          stands = stands_with_disjunction (references st.provider.universe loaded disjunctions) queue d is.may_ask.stands;
-          named = is.may_ask.named;
-          hot = is.may_ask.hot;
-        };
-      }
+  after_disjunction ls condition {ds} (Err e) kept known more ok same =
+      subst (λ es. IsConsistent has (record st { disjunctions = disjunctions_kept es }) loaded es cache queue trail) (sym same) (rw (← kept) is)
+  after_disjunction ls condition {ds} (Ok x) kept known more ok same = record {
+    few = is.few;
+    known = is.known;
+    asked = is.asked;
+    sound = subst (λ es. IsSound (record st { disjunctions = es })) (ap (λ es. es ++ record { literals = ls; condition = condition } ∷ []) kept ∙ sym ok)
+        (IsSound-disjunction st is.sound ls condition (literals_below (length st.origins) ls known));
+    may_ask = subst (λ es. MayAsk has st.scores (references st.provider.universe loaded es) queue trail) (sym more.grown) (record {
+      in_step = is.may_ask.in_step;
+      stands = stands_with_disjunction (references st.provider.universe loaded disjunctions) queue more.disjunction is.may_ask.stands;
+      named = is.may_ask.named;
+      hot = is.may_ask.hot;
+    });
+  }
 
   -- after a watch was to be moved
   pub after_rewatch : {T E : Type 0} (c : ℕ) (from to : Lit) {cs : Clauses N} (result : Result T E) → is_literal_in to (clause_literals st c) ≡ true

@@ -1,7 +1,7 @@
 -- What stores name is known: what variables stand for, and what clauses name. N are the names, S the solvables.
 use Rattle.std.proofs.Common.{◌≡◌, ℕ, ◌+◌, ◌<◌, ◌≤◌, arith, Bool, true, false, List, [], ◌∷◌, ◌++◌, length, Option, None, Some, refl, subst, zero, suc}
 use Rattle.std.specs.Prelude.{All, ◌&&◌, is_some, if◌then◌else◌, flat_map, nat_lt}
-use Rattle.std.specs.List.{position_from, remove}
+use Rattle.std.specs.List.{list_all, position_from, remove}
 use Rattle.std.specs.List.Sorted.{IsPermutation}
 use Rattle.std.proofs.lemmas.Bool.Decides.{nat_tests}
 use Rattle.std.proofs.lemmas.List.Elements.{All-nil, All-cons, All-head, All-tail, All-push, All-append, All-take, All-drop, All-filter}
@@ -12,6 +12,7 @@ use Rattle.variables.specs.declared.variable_origin.VariableOrigin.{VariableOrig
 use Rattle.variables.specs.declared.variable_origin.VariableOrigin.TheVariants.{Solvable}
 use Rattle.variables.specs.Variables.{variable_of_solvable, with_variable, with_variables}
 use Rattle.variables.specs.VariableTexts.{knows_origin}
+use Rattle.decisions.specs.Literals.{Lit, variable_of}
 use Rattle.clauses.specs.ClauseTexts.{IsKnown, IsKnownClause}
 use Rattle.clauses.specs.declared.clause.Clause.{Clause}
 use Rattle.clauses.specs.declared.clause.Clause.TheVariants as Kind
@@ -36,7 +37,7 @@ module _ {N S : Type 0} (universe : Universe N S) where
   variable_known (o ∷ os) all (suc v) within = variable_known os (All-tail IsKnownOrigin o os all) v (omega (arith, within))
 
   -- a known one is among them
-  known_within : (os : List (VariableOrigin N S)) (v : ℕ) → IsKnown universe os v → v < length os
+  pub known_within : (os : List (VariableOrigin N S)) (v : ℕ) → IsKnown universe os v → v < length os
   known_within [] zero known = (let no : false ≡ true = known in cc)
   known_within [] (suc v) known = (let no : false ≡ true = known in cc)
   known_within (o ∷ os) zero known = omega arith
@@ -103,6 +104,14 @@ module _ {N S : Type 0} (universe : Universe N S) where
     known_direct (Kind.Requires parent d r) test = absurd (let no : false ≡ true = test in cc)
     known_direct (Kind.ForbidMultipleInstances a l n) test = absurd (let no : false ≡ true = test in cc)
     known_direct (Kind.Learnt id) test = tt
+
+-- literals that pass the test are of variables below the number
+pub literals_below : (n : ℕ) (ls : List Lit) → list_all (λ l. nat_lt (variable_of l) n) ls ≡ true → All (λ l. variable_of l < n) ls
+literals_below n [] test = All-nil (λ l. variable_of l < n)
+literals_below n (l ∷ ls) test =
+    let tests = both (nat_lt (variable_of l) n) (list_all (λ m. nat_lt (variable_of m) n) ls) test in
+    let below : variable_of l < n = (let own = tests.0 in grind (arith, nat_tests, own)) in
+    All-cons (λ m. variable_of m < n) l ls below (literals_below n ls tests.1)
 
 -- ---- candidates
 

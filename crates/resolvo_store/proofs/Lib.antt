@@ -6,8 +6,13 @@ pub mod HelperLemmas
 pub mod InvariantLemmas
 pub mod KnownLemmas
 pub mod ListLemmas
+pub mod LiteralLaws
 pub mod LoadingLemmas
+pub mod ModelLaws
 pub mod RunLemmas
+pub mod SaturatedLaws
+pub mod SaturatingLemmas
+pub mod SettledLaws
 pub mod SoundLaws
 pub mod SoundSteps
 pub mod StoredLaws
@@ -15,4 +20,5 @@ pub mod SyncedLemmas
 pub mod TrackedLaws
 pub mod TrackingLaws
 pub mod TrackingSteps
+pub mod TrailModelLaws
 pub mod WatchLaws

@@ -1,12 +1,9 @@
 -- Runs of the abstract store.
-use Rattle.std.proofs.Common.{◌≡◌, List, [], ◌∷◌, ◌++◌, Option, None, Some, Result, Ok, Err, refl, subst}
-use Rattle.std.specs.Prelude.{MatchOption, OnErr}
-use Rattle.typed_ids.specs.declared.error.StoreError.{StoreError}
-use Rattle.resolvo_store.specs.declared.reply.Reply.{Reply as ProgramReply}
-use Rattle.resolvo_store.specs.Refusals.{first_refusal}
-use Rattle.resolvo_store.specs.Command.{Command, Reply, Refused, answer_of}
+use Rattle.std.proofs.Common.{◌≡◌, List, [], ◌∷◌, ◌++◌, refl, subst}
+use Rattle.std.specs.Prelude.{true, false}
+use Rattle.resolvo_store.specs.Command.{Command, Saturate, Reply, is_saturate}
 use Rattle.resolvo_store.specs.Store.{Store}
-use Rattle.resolvo_store.specs.Step.{IsAnswered, Step, Run}
+use Rattle.resolvo_store.specs.Step.{HasOutcome, IsAnswered, Step, Run}
 
 module _ {N S : Type 0} where
   -- a run goes on by a step
@@ -17,12 +14,14 @@ module _ {N S : Type 0} where
   run_more old mid new [] (r ∷ rs) c reply ran step = absurd ran
   run_more old mid new (d ∷ cs) [] c reply ran step = absurd ran
 
-  -- a refused command changes nothing
-  pub refused_same : {A : Type 0} (old new : Store N S) (c : Command N S) (result : Result (ProgramReply A) StoreError) → Step old c (answer_of result) new
-      → OnErr result (new ≡ old)
-  refused_same old new c (Ok reply) step = tt
-  refused_same old new c (Err e) step = by_refusal (first_refusal old c) step
-    where
-      by_refusal : (x : Option StoreError) → MatchOption x (IsAnswered old c (Refused e) new) (λ y. (Refused e ≡ Refused y) × (new ≡ old)) → new ≡ old
-      by_refusal None h = h.1
-      by_refusal (Some y) h = h.1
+  -- ---- commands but Saturate
+
+  -- what answers one is its outcome, or a refusal
+  pub has_outcome : (old new : Store N S) (c : Command N S) (reply : Reply) → is_saturate c ≡ false → IsAnswered old c reply new → HasOutcome old c reply new
+  has_outcome old new (Saturate level) reply plain is = (let no : true ≡ false = plain in cc)
+  has_outcome old new c reply plain is = is
+
+  -- and its outcome, or a refusal, answers one
+  pub is_answered : (old new : Store N S) (c : Command N S) (reply : Reply) → is_saturate c ≡ false → HasOutcome old c reply new → IsAnswered old c reply new
+  is_answered old new (Saturate level) reply plain has = (let no : true ≡ false = plain in cc)
+  is_answered old new c reply plain has = has

@@ -14,7 +14,7 @@ use Rattle.resolvo_store.specs.declared.helper_origin.HelperOrigin.{HelperOrigin
 use Rattle.resolvo_store.specs.Store.{Store, values, lists_of, clause_literals, watched_by}
 use Rattle.resolvo_store.specs.Refusals.{knows_helper}
 use Rattle.resolvo_store.specs.Outcome.{assigned, without_newest, helper_origin, cut_back, hands_next, adds_clause, with_disjunction, with_learnt, with_registered, with_rewatched}
-use Rattle.resolvo_store.specs.Sound.{IsSound, IsPlain, IsVariable, IsAssigned}
+use Rattle.resolvo_store.specs.Sound.{IsSound, IsPlain, IsVariable, AreLiterals, IsAssigned}
 use Rattle.resolvo_store.proofs.KnownLemmas.{IsKnownSolvable, IsLawful}
 use Rattle.resolvo_store.proofs.StoredLaws as stored
 use Rattle.resolvo_store.proofs.StoredLaws.{IsStored-sound, IsSound-stored}
@@ -24,14 +24,14 @@ module _ {N S : Type 0} (st : Store N S) (sound : IsSound st) where
   pub IsSound-scored : (scores : N → ℕ) → IsSound (record st { scores = scores })
   IsSound-scored scores = IsSound-stored (stored.IsStored-scored st (IsStored-sound sound) scores) sound.tracked
 
-  pub IsSound-disjunction : (ls : List Lit) (condition : ℕ) → IsSound (with_disjunction st ls condition)
-  IsSound-disjunction ls condition = IsSound-stored (stored.IsStored-disjunction st (IsStored-sound sound) ls condition) sound.tracked
+  pub IsSound-disjunction : (ls : List Lit) (condition : ℕ) → AreLiterals st ls → IsSound (with_disjunction st ls condition)
+  IsSound-disjunction ls condition known = IsSound-stored (stored.IsStored-disjunction st (IsStored-sound sound) ls condition known) sound.tracked
 
   pub IsSound-added : (c : Clause N) → IsKnownClause st.provider.universe st.origins c → IsPlain c → IsSound (adds_clause st c).store
   IsSound-added c known plain = IsSound-stored (stored.IsStored-added st (IsStored-sound sound) c known plain.unregistered) (AreTracked-clause st c plain.untracked sound.tracked)
 
-  pub IsSound-learnt : (ls : List Lit) → IsSound (adds_clause (with_learnt st ls) (Kind.Learnt (length st.learnt))).store
-  IsSound-learnt ls = IsSound-stored (stored.IsStored-learnt st (IsStored-sound sound) ls) (AreTracked-clause st (Kind.Learnt (length st.learnt)) (λ named. refl) sound.tracked)
+  pub IsSound-learnt : (ls : List Lit) → AreLiterals st ls → IsSound (adds_clause (with_learnt st ls) (Kind.Learnt (length st.learnt))).store
+  IsSound-learnt ls known = IsSound-stored (stored.IsStored-learnt st (IsStored-sound sound) ls known) (AreTracked-clause st (Kind.Learnt (length st.learnt)) (λ named. refl) sound.tracked)
 
   pub IsSound-requires : (parent : ℕ) (disjunction : Option ℕ) (r : Requirement) → knows_requirement st.provider.universe r ≡ true
       → IsVariable st parent → IsSome (lists_of st r) → IfSome disjunction (λ d. d < length st.disjunctions)

@@ -1,7 +1,7 @@
 -- Steps and runs lead from sound stores to sound ones, and a new store is sound.
 use Rattle.std.proofs.Common.{◌≡◌, ℕ, ◌<◌, ◌≤◌, Bool, true, false, cond, List, [], ◌∷◌, length, Option, None, Some, IsSome, refl, arith, sym, ◌∙◌, ap, subst, zero, suc, ◌⊎◌, inl, inr}
 use Rattle.std.specs.Prelude.{◌^◌, ⊤, nat_eq, slice_get, is_none, find, option_map, MatchOption, ◌&&◌, not}
-use Rattle.std.specs.List.{IsDistinct}
+use Rattle.std.specs.List.{IsDistinct, list_all}
 use Rattle.std.proofs.lemmas.Bool.Decides.{nat_tests}
 use Rattle.std.proofs.lemmas.List.Elements.{All-nil, All-cons}
 use Rattle.typed_ids.specs.declared.error.StoreError.{StoreError}
@@ -12,20 +12,23 @@ use Rattle.decisions.specs.Trail.{Entry, HasLevel}
 use Rattle.watch_map.specs.Watching.{is_literal_in}
 use Rattle.clauses.specs.ClauseTexts.{IsKnownClause}
 use Rattle.clauses.specs.declared.clause.Clause.TheVariants as Kind
-use Rattle.resolvo_store.specs.Command.{Command, Variable, Helper, Load, Requires, Root, Constrains, ConstrainsExcluded, ConstrainsParent, Lock, Exclude, AnyOf, Learnt, Assign, UndoLast, UndoUntil, Unpropagated, Rewatch, Watchers, Decide, Disjunction, AtMostOnce, Bump, Decay, Standard, Reply, TrackedAs, Refused}
-use Rattle.resolvo_store.specs.Store.{Store, Provider, new_store, lists_of, clause_literals, watched_by, candidates_of}
-use Rattle.resolvo_store.specs.Refusals.{knows_variable, knows_disjunction, may_rewatch, refusals, first_refusal}
+use Rattle.resolvo_store.specs.Command.{Command, Variable, Helper, Load, Requires, Root, Constrains, ConstrainsExcluded, ConstrainsParent, Lock, Exclude, AnyOf, Learnt, Assign, UndoLast, UndoUntil, Unpropagated, Rewatch, Watchers, Saturate, Decide, Disjunction, AtMostOnce, Bump, Decay, Standard, Reply, TrackedAs, Refused, is_saturate}
+use Rattle.resolvo_store.specs.Store.{Store, Provider, KeptDisjunction, new_store, lists_of, clause_literals, watched_by, candidates_of}
+use Rattle.resolvo_store.specs.Refusals.{knows_variable, knows_literal, knows_disjunction, is_level, may_rewatch, refusals, first_refusal}
 use Rattle.resolvo_store.specs.Outcome.{Outcome, outcome, load, hands_next, adds_clause, tracking, with_bits, with_tracked}
-use Rattle.resolvo_store.specs.Step.{IsAnswered, Step, Run}
+use Rattle.resolvo_store.specs.Saturating.{IsSaturated}
+use Rattle.resolvo_store.specs.Step.{HasOutcome, IsAnswered, Step, Run}
 use Rattle.at_most_once.specs.AtMostOne as tracking_of
 use Rattle.at_most_once.specs.AtMostOne.{BitClause, is_tracked}
 use Rattle.id_maps.specs.Scores.{bumped, decayed}
 use Rattle.resolvo_store.specs.Tracking.{is_helper_among, forbidding}
-use Rattle.resolvo_store.specs.Sound.{IsSound, IsLoaded, IsRegistered, IsAssigned, HasOneVariableEach}
+use Rattle.resolvo_store.specs.Sound.{IsSound, AreLiterals, IsLoaded, IsRegistered, IsAssigned, HasOneVariableEach}
 use Rattle.resolvo_store.proofs.AddingLemmas.{both, failed, disjunction_known}
+use Rattle.resolvo_store.proofs.RunLemmas.{has_outcome}
+use Rattle.resolvo_store.proofs.SaturatedLaws.{saturated_so_far, saturate_answered, IsSound-saturated}
 use Rattle.resolvo_store.proofs.SoundLaws.{IsSound-with_variable, IsSound-interned, IsSound-added, IsSound-helper, IsSound-requires, IsSound-disjunction, IsSound-learnt, IsSound-scored, IsSound-rewatched, IsSound-assigned, IsSound-without_newest, IsSound-kept_until, IsSound-hands_next}
 use Rattle.resolvo_store.proofs.TrackedLaws.{IsSound-tracked}
-use Rattle.resolvo_store.proofs.KnownLemmas.{IsKnownOrigin, IsLawful, known_direct, all_known}
+use Rattle.resolvo_store.proofs.KnownLemmas.{IsKnownOrigin, IsLawful, known_direct, literals_below, all_known}
 
 -- ---- refusals
 
@@ -97,7 +100,8 @@ module _ {N S : Type 0} (st : Store N S) (sound : IsSound st) (lawful : IsLawful
   IsSound-outcome (AnyOf selected other) none =
       let known = known_direct universe st.origins sound.origins_known (Kind.AnyOf selected other) (passed _ (test_of (AnyOf selected other) none).0) in
       IsSound-added st sound (Kind.AnyOf selected other) known (record { unregistered = λ id. refl; untracked = λ named. refl })
-  IsSound-outcome (Learnt ls) none = IsSound-learnt st sound ls
+  IsSound-outcome (Learnt ls) none =
+      IsSound-learnt st sound ls (literals_below (length st.origins) ls (passed (list_all (knows_literal st) ls) (test_of (Learnt ls) none).0))
   IsSound-outcome (Assign v value clause level) none =
       let tests = test_of (Assign v value clause level) none in
       let known : v < length st.origins = grind (arith, nat_tests, tests.0) in
@@ -116,8 +120,11 @@ module _ {N S : Type 0} (st : Store N S) (sound : IsSound st) (lawful : IsLawful
       let other = both (not (is_literal_in to (watched_by st c))) (is_literal_in to (clause_literals st c)) watches.1 in
       IsSound-rewatched st sound c from to watches.0 (failed (is_literal_in to (watched_by st c)) other.0) other.1
   IsSound-outcome (Watchers l) none = sound
+  IsSound-outcome (Saturate level) none = sound
   IsSound-outcome Decide none = sound
-  IsSound-outcome (Disjunction ls condition) none = IsSound-disjunction st sound ls condition
+  IsSound-outcome (Disjunction ls condition) none =
+      let tests = both (list_all (knows_literal st) ls) (universe.knows_condition condition) (passed _ (test_of (Disjunction ls condition) none).0) in
+      IsSound-disjunction st sound ls condition (literals_below (length st.origins) ls tests.0)
   IsSound-outcome (AtMostOnce name v) none = by_tracked (is_tracked nat_eq (st.trackers name) v) refl
     where
       tests : (universe.knows_name name ≡ true) × ((knows_variable st v && not (is_helper_among st.origins v)) ≡ true)
@@ -154,6 +161,8 @@ module _ {N S : Type 0} where
     root_first = refl;
     origins_known = All-cons (IsKnownOrigin p.universe) RootOrigin [] refl (All-nil (IsKnownOrigin p.universe));
     clauses_known = All-nil (IsKnownClause p.universe (RootOrigin ∷ []));
+    learnt_known = All-nil (AreLiterals (new_store p));
+    disjunctions_known = All-nil (λ (d : KeptDisjunction). AreLiterals (new_store p) d.literals);
     one_variable_each = one_variable p;
     loaded_once = none_loaded;
     loaded = All-nil (IsLoaded (new_store p));
@@ -168,25 +177,50 @@ module _ {N S : Type 0} where
     assigned = All-nil (IsAssigned (new_store p));
   }
 
-  -- a step leaves the store, or leads to the outcome of a command that nothing refuses
-  pub step_store : (old new : Store N S) (c : Command N S) (reply : Reply) → Step old c reply new
+  -- a step of a command but Saturate leaves the store, or leads to the outcome of a command that nothing refuses
+  pub step_store : (old new : Store N S) (c : Command N S) (reply : Reply) → is_saturate c ≡ false → Step old c reply new
       → (new ≡ old) ⊎ ((first_refusal old c ≡ None) × (new ≡ (outcome old c).store))
-  step_store old new c reply step = by_refusal (first_refusal old c) step
+  step_store old new c reply plain step = by_refusal (first_refusal old c) step
     where
-      by_reply : (r : Reply) → IsAnswered old c r new → (new ≡ old) ⊎ (new ≡ (outcome old c).store)
+      by_reply : (r : Reply) → HasOutcome old c r new → (new ≡ old) ⊎ (new ≡ (outcome old c).store)
       by_reply (Refused e) h = inl h.1
       by_reply _ h = inr h.2
 
       by_refusal : (x : Option StoreError) → MatchOption x (IsAnswered old c reply new) (λ e. (reply ≡ Refused e) × (new ≡ old))
           → (new ≡ old) ⊎ ((x ≡ None) × (new ≡ (outcome old c).store))
-      by_refusal None h = elim (by_reply reply h) [ inl same ↦ inl same | inr done ↦ inr (refl, done) ]
+      by_refusal None h = elim (by_reply reply (has_outcome old new c reply plain h)) [ inl same ↦ inl same | inr done ↦ inr (refl, done) ]
       by_refusal (Some e) h = inl h.1
 
-  pub IsSound-step : {old new : Store N S} (c : Command N S) (reply : Reply) → IsLawful old.provider → IsSound old → Step old c reply new → IsSound new
-  IsSound-step {old} {new} c reply lawful sound step = elim (step_store old new c reply step) [
-    | inl same ↦ subst (λ st. IsSound st) (sym same) sound
-    | inr done ↦ subst (λ st. IsSound st) (sym done.1) (IsSound-outcome old sound lawful c done.0)
+  -- a Saturate leaves it, or its level is in range and the store is saturated
+  pub step_saturated : (old new : Store N S) (level : ℕ) (reply : Reply) → Step old (Saturate level) reply new
+      → (new ≡ old) ⊎ ((is_level level ≡ true) × IsSaturated level old new)
+  step_saturated old new level reply step = elim (saturate_answered old new level reply step) [
+    | inl refused ↦ inl refused.1
+    | inr is ↦ inr (is.0, saturated_so_far level old new reply is.1)
   ]
+
+  pub IsSound-step : {old new : Store N S} (c : Command N S) (reply : Reply) → IsLawful old.provider → IsSound old → Step old c reply new → IsSound new
+  IsSound-step {old} {new} c reply lawful sound step = by_command c step
+    where
+      same : new ≡ old → IsSound new
+      same e = subst (λ st. IsSound st) (sym e) sound
+
+      plainly : (d : Command N S) → is_saturate d ≡ false → Step old d reply new → IsSound new
+      plainly d plain s = elim (step_store old new d reply plain s) [
+        | inl left ↦ same left
+        | inr done ↦ subst (λ st. IsSound st) (sym done.1) (IsSound-outcome old sound lawful d done.0)
+      ]
+
+      saturating : (level : ℕ) → Step old (Saturate level) reply new → IsSound new
+      saturating level s = elim (step_saturated old new level reply s) [
+        | inl left ↦ same left
+        | inr done ↦ (let test = done.0 in let low : 1 ≤ level = grind (arith, nat_tests, test) in let high : level < 2 ^ 31 = grind (arith, nat_tests, test) in
+            IsSound-saturated level old new (low, high) sound done.1)
+      ]
+
+      by_command : (d : Command N S) → Step old d reply new → IsSound new
+      by_command (Saturate level) s = saturating level s
+      by_command d s = plainly d refl s
 
   outcome_provider : (st : Store N S) (c : Command N S) → (outcome st c).store.provider ≡ st.provider
   outcome_provider st (Load r) = by_lists (lists_of st r)
@@ -212,10 +246,20 @@ module _ {N S : Type 0} where
 
   -- a step leaves the provider
   pub step_provider : (old new : Store N S) (c : Command N S) (reply : Reply) → Step old c reply new → new.provider ≡ old.provider
-  step_provider old new c reply step = elim (step_store old new c reply step) [
-    | inl same ↦ ap (λ st. st.provider) same
-    | inr done ↦ ap (λ st. st.provider) done.1 ∙ outcome_provider old c
-  ]
+  step_provider old new c reply step = by_command c step
+    where
+      plainly : (d : Command N S) → is_saturate d ≡ false → Step old d reply new → new.provider ≡ old.provider
+      plainly d plain s = elim (step_store old new d reply plain s) [
+        | inl same ↦ ap (λ st. st.provider) same
+        | inr done ↦ ap (λ st. st.provider) done.1 ∙ outcome_provider old d
+      ]
+
+      by_command : (d : Command N S) → Step old d reply new → new.provider ≡ old.provider
+      by_command (Saturate level) s = elim (step_saturated old new level reply s) [
+        | inl same ↦ ap (λ st. st.provider) same
+        | inr done ↦ ap (λ st. st.provider) done.1.rest
+      ]
+      by_command d s = plainly d refl s
 
   run_sound : (old new : Store N S) (cs : List (Command N S)) (replies : List Reply) → IsLawful old.provider → IsSound old → Run old cs replies new → IsSound new
   run_sound old new [] [] lawful sound ran = subst (λ st. IsSound st) (sym ran) sound

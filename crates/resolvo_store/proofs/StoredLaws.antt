@@ -25,7 +25,7 @@ use Rattle.resolvo_queue.specs.declared.requires_clause.RequiresClause.{Requires
 use Rattle.at_most_once.specs.AtMostOne.{Tracker}
 use Rattle.resolvo_store.specs.declared.helper_origin.HelperOrigin.{HelperOrigin}
 use Rattle.resolvo_store.specs.declared.helper_origin.HelperOrigin.TheVariants as Helps
-use Rattle.decisions.specs.Literals.{Lit}
+use Rattle.decisions.specs.Literals.{Lit, variable_of}
 use Rattle.clauses.specs.Clauses.{literals_of, learnt_literals, first_watches}
 use Rattle.watch_map.specs.Watching.{is_literal_in, IsExact, started}
 use Rattle.watch_map.specs.ClauseList.{two_or_none, rewatched}
@@ -36,7 +36,7 @@ use Rattle.clauses.specs.declared.clause.Clause.TheVariants as Kind
 use Rattle.resolvo_store.specs.Store.{Store, values, lists_of, kept_literals, clause_literals, watched_by}
 use Rattle.resolvo_store.specs.Refusals.{knows_helper}
 use Rattle.resolvo_store.specs.Outcome.{assigned, without_newest, helper_origin, cut_back, hands_next, adds_clause, with_disjunction, with_learnt, with_registered, with_rewatched}
-use Rattle.resolvo_store.specs.Sound.{IsSound, requires_from, HasOneVariableEach, WatchOwn, IsVariable, IsLoaded, IsRegistered, IsAssigned}
+use Rattle.resolvo_store.specs.Sound.{IsSound, requires_from, HasOneVariableEach, WatchOwn, IsVariable, AreLiterals, IsLoaded, IsRegistered, IsAssigned}
 use Rattle.resolvo_store.proofs.TrackingLaws.{AreTracked}
 use Rattle.resolvo_store.proofs.KnownLemmas.{IsKnownOrigin, IsKnownSolvable, IsLawful, variable_known, clause_kept, known-with_variables}
 use Rattle.resolvo_store.proofs.WatchLaws.{first_watches_own, theirs_grown, theirs_pushed, theirs_rewatched, found_before, asked_before, lists_before, literals_learnt, literals_listed, literals_asked}
@@ -229,6 +229,8 @@ pub record IsStored {N S : Type 0} (st : Store N S) : Type 0 where
   pub registered : st.requires ≡ requires_from 0 st.clauses
   pub clauses : All (IsRegistered st) st.requires
   pub clauses_known : All (IsKnownClause st.provider.universe st.origins) st.clauses
+  pub learnt_known : All (AreLiterals st) st.learnt
+  pub disjunctions_known : All (λ d. AreLiterals st d.literals) st.disjunctions
   pub watched : length st.watches ≡ length st.clauses
   pub own : WatchOwn st
   pub exact : IsExact (watched_by st) st.watchers
@@ -246,6 +248,8 @@ IsStored-sound is = record {
   registered = is.registered;
   clauses = is.clauses;
   clauses_known = is.clauses_known;
+  learnt_known = is.learnt_known;
+  disjunctions_known = is.disjunctions_known;
   watched = is.watched;
   own = is.own;
   exact = is.exact;
@@ -265,6 +269,8 @@ IsSound-stored is tracked = record {
   registered = is.registered;
   clauses = is.clauses;
   clauses_known = is.clauses_known;
+  learnt_known = is.learnt_known;
+  disjunctions_known = is.disjunctions_known;
   watched = is.watched;
   own = is.own;
   exact = is.exact;
@@ -281,12 +287,15 @@ module _ {N S : Type 0} (st : Store N S) (sound : IsStored st) where
   IsStored-tracking ts os longer are known =
       let new : Store N S = record st { origins = os; trackers = ts } in
       let more : (v : ℕ) → IsVariable st v → IsVariable new v = λ v k. omega (arith, k, longer) in
+      let still : (ls : List Lit) → AreLiterals st ls → AreLiterals new ls = λ ls all. All-weaker (λ l. IsVariable st (variable_of l)) (λ l. IsVariable new (variable_of l)) (λ l. more (variable_of l)) ls all in
       record {
         root_first = are.root_first;
         origins_known = known;
         one_variable_each = are.one_each;
         clauses_known = All-weaker (IsKnownClause st.provider.universe st.origins) (IsKnownClause st.provider.universe os)
             (clause_kept st.provider.universe st.origins os longer known) st.clauses sound.clauses_known;
+        learnt_known = All-weaker (AreLiterals st) (AreLiterals new) still st.learnt sound.learnt_known;
+        disjunctions_known = All-weaker (λ d. AreLiterals st d.literals) (λ d. AreLiterals new d.literals) (λ d k. still d.literals k) st.disjunctions sound.disjunctions_known;
         loaded_once = sound.loaded_once;
         loaded = All-weaker (IsLoaded st) (IsLoaded new) (λ e k. record {
           one_a_set = k.one_a_set;
@@ -317,6 +326,8 @@ module _ {N S : Type 0} (st : Store N S) (sound : IsStored st) where
         root_first = sound.root_first;
         origins_known = sound.origins_known;
         clauses_known = sound.clauses_known;
+        learnt_known = sound.learnt_known;
+        disjunctions_known = sound.disjunctions_known;
         one_variable_each = sound.one_variable_each;
         loaded_once = rw map-append (IsDistinct-push same_requirement-equivalence (map (λ e. e.0) st.loaded) r sound.loaded_once (not_among r st.loaded fresh));
         loaded = All-push (IsLoaded new) st.loaded (r, lists) (All-weaker (IsLoaded st) (IsLoaded new) same st.loaded sound.loaded) (same (r, lists) is);
@@ -333,14 +344,16 @@ module _ {N S : Type 0} (st : Store N S) (sound : IsStored st) where
       }
 
   -- one disjunction more
-  pub IsStored-disjunction : (ls : List Lit) (condition : ℕ) → IsStored (with_disjunction st ls condition)
-  IsStored-disjunction ls condition =
+  pub IsStored-disjunction : (ls : List Lit) (condition : ℕ) → AreLiterals st ls → IsStored (with_disjunction st ls condition)
+  IsStored-disjunction ls condition known =
       let new : Store N S = with_disjunction st ls condition in
       let grown : List (List Lit) = map (λ d. d.literals) st.disjunctions ++ ls ∷ [] in
       record {
         root_first = sound.root_first;
         origins_known = sound.origins_known;
         clauses_known = sound.clauses_known;
+        learnt_known = sound.learnt_known;
+        disjunctions_known = All-push (λ d. AreLiterals st d.literals) st.disjunctions (record { literals = ls; condition = condition }) sound.disjunctions_known known;
         one_variable_each = sound.one_variable_each;
         loaded_once = sound.loaded_once;
         loaded = All-weaker (IsLoaded st) (IsLoaded new) (λ e k. record { one_a_set = k.one_a_set; variables = k.variables }) st.loaded sound.loaded;
@@ -368,6 +381,8 @@ module _ {N S : Type 0} (st : Store N S) (sound : IsStored st) where
         root_first = sound.root_first;
         origins_known = sound.origins_known;
         clauses_known = sound.clauses_known;
+        learnt_known = sound.learnt_known;
+        disjunctions_known = sound.disjunctions_known;
         one_variable_each = sound.one_variable_each;
         loaded_once = sound.loaded_once;
         loaded = All-weaker (IsLoaded st) (IsLoaded new) (λ e k. record { one_a_set = k.one_a_set; variables = k.variables }) st.loaded sound.loaded;
@@ -388,9 +403,9 @@ module _ {N S : Type 0} (st : Store N S) (sound : IsStored st) where
   -- one clause more, with what it watches: registered, if it is a requires clause; learnt clauses keep their literals
   pub IsStored-clause : (c : Clause N) (learnt : List (List Lit)) (more : List RequiresClause)
       → ((id : ℕ) (l : Lit) → is_literal_in l (learnt_literals (kept_literals st) id) ≡ true → is_literal_in l (learnt_literals (kept_literals (with_learnt_lists learnt)) id) ≡ true)
-      → IsKnownClause st.provider.universe st.origins c → more ≡ requires_from (length st.clauses) (c ∷ []) → All (IsRegistered st) more
+      → All (AreLiterals st) learnt → IsKnownClause st.provider.universe st.origins c → more ≡ requires_from (length st.clauses) (c ∷ []) → All (IsRegistered st) more
       → IsStored (adds_clause (record st { learnt = learnt; requires = st.requires ++ more }) c).store
-  IsStored-clause c learnt more keeps known are all =
+  IsStored-clause c learnt more keeps literals known are all =
       let kept = kept_literals (with_learnt_lists learnt) in
       let watch : List Lit = two_or_none (first_watches kept (values st) c) in
       let theirs = first_watches_own kept (values st) c in
@@ -400,6 +415,8 @@ module _ {N S : Type 0} (st : Store N S) (sound : IsStored st) where
         root_first = sound.root_first;
         origins_known = sound.origins_known;
         clauses_known = All-push (IsKnownClause st.provider.universe st.origins) st.clauses c sound.clauses_known known;
+        learnt_known = literals;
+        disjunctions_known = sound.disjunctions_known;
         one_variable_each = sound.one_variable_each;
         loaded_once = sound.loaded_once;
         loaded = All-weaker (IsLoaded st) (IsLoaded new) (λ e k. record { one_a_set = k.one_a_set; variables = k.variables }) st.loaded sound.loaded;
@@ -420,17 +437,18 @@ module _ {N S : Type 0} (st : Store N S) (sound : IsStored st) where
   -- one that isn't
   IsStored-plain : (c : Clause N) (learnt : List (List Lit))
       → ((id : ℕ) (l : Lit) → is_literal_in l (learnt_literals (kept_literals st) id) ≡ true → is_literal_in l (learnt_literals (kept_literals (with_learnt_lists learnt)) id) ≡ true)
-      → IsKnownClause st.provider.universe st.origins c → IsUnregistered c → IsStored (adds_clause (with_learnt_lists learnt) c).store
-  IsStored-plain c learnt keeps known unregistered =
+      → All (AreLiterals st) learnt → IsKnownClause st.provider.universe st.origins c → IsUnregistered c → IsStored (adds_clause (with_learnt_lists learnt) c).store
+  IsStored-plain c learnt keeps literals known unregistered =
       subst (λ rs. IsStored (adds_clause (record st { learnt = learnt; requires = rs }) c).store) (append-nil st.requires)
-      (IsStored-clause c learnt [] keeps known (sym (unregistered (length st.clauses))) (All-nil (IsRegistered st)))
+      (IsStored-clause c learnt [] keeps literals known (sym (unregistered (length st.clauses))) (All-nil (IsRegistered st)))
 
   pub IsStored-added : (c : Clause N) → IsKnownClause st.provider.universe st.origins c → IsUnregistered c → IsStored (adds_clause st c).store
-  IsStored-added c known unregistered = IsStored-plain c st.learnt (λ id l h. h) known unregistered
+  IsStored-added c known unregistered = IsStored-plain c st.learnt (λ id l h. h) sound.learnt_known known unregistered
 
-  pub IsStored-learnt : (ls : List Lit) → IsStored (adds_clause (with_learnt st ls) (Kind.Learnt (length st.learnt))).store
-  IsStored-learnt ls =
-      IsStored-plain (Kind.Learnt (length st.learnt)) (st.learnt ++ ls ∷ []) (λ id l h. found_before st.learnt (ls ∷ []) id l h) tt (λ id. refl)
+  pub IsStored-learnt : (ls : List Lit) → AreLiterals st ls → IsStored (adds_clause (with_learnt st ls) (Kind.Learnt (length st.learnt))).store
+  IsStored-learnt ls known =
+      IsStored-plain (Kind.Learnt (length st.learnt)) (st.learnt ++ ls ∷ []) (λ id l h. found_before st.learnt (ls ∷ []) id l h)
+      (All-push (AreLiterals st) st.learnt ls sound.learnt_known known) tt (λ id. refl)
 
   -- one that is
   pub IsStored-requires : (parent : ℕ) (disjunction : Option ℕ) (r : Requirement) → knows_requirement st.provider.universe r ≡ true
@@ -438,7 +456,7 @@ module _ {N S : Type 0} (st : Store N S) (sound : IsStored st) where
       → IsStored (adds_clause (with_registered st parent r disjunction) (Kind.Requires parent disjunction r)).store
   IsStored-requires parent disjunction r requirement known found kept =
       let one : RequiresClause = record { parent = parent; requirement = r; condition = disjunction; clause_id = length st.clauses } in
-      IsStored-clause (Kind.Requires parent disjunction r) st.learnt (one ∷ []) (λ id l h. h)
+      IsStored-clause (Kind.Requires parent disjunction r) st.learnt (one ∷ []) (λ id l h. h) sound.learnt_known
       (variable_known st.provider.universe st.origins sound.origins_known parent known, requirement) refl
       (All-cons (IsRegistered st) one [] (record { parent = known; loaded = found; condition = kept }) (All-nil (IsRegistered st)))
 
@@ -451,6 +469,8 @@ module _ {N S : Type 0} (st : Store N S) (sound : IsStored st) where
         root_first = sound.root_first;
         origins_known = sound.origins_known;
         clauses_known = sound.clauses_known;
+        learnt_known = sound.learnt_known;
+        disjunctions_known = sound.disjunctions_known;
         one_variable_each = sound.one_variable_each;
         loaded_once = sound.loaded_once;
         loaded = All-weaker (IsLoaded st) (IsLoaded new) (λ e k. record { one_a_set = k.one_a_set; variables = k.variables }) st.loaded sound.loaded;
@@ -473,6 +493,8 @@ module _ {N S : Type 0} (st : Store N S) (sound : IsStored st) where
         root_first = sound.root_first;
         origins_known = sound.origins_known;
         clauses_known = sound.clauses_known;
+        learnt_known = sound.learnt_known;
+        disjunctions_known = sound.disjunctions_known;
         one_variable_each = sound.one_variable_each;
         loaded_once = sound.loaded_once;
         loaded = All-weaker (IsLoaded st) (IsLoaded new) (λ e k. record { one_a_set = k.one_a_set; variables = k.variables }) st.loaded sound.loaded;

@@ -2,11 +2,12 @@
 use Rattle.std.proofs.Common.{◌≡◌, ℕ, zero, suc, ◌≤◌, Bool, true, false, cond, List, [], ◌∷◌, ◌++◌, length, Option, Some, None, refl, arith, sym, subst, ap, ◌∙◌}
 use Rattle.std.specs.Prelude.{◌-◌, ◌==◌, min, take, All, nat_lt}
 use Rattle.std.specs.List.{list_all}
-use Rattle.std.proofs.lemmas.List.{length-map, length-append, take-append-le, take-map, map-append}
+use Rattle.std.proofs.lemmas.List.{length-map, length-append, take-append-le, take-map, map-append, append-nil, append_assoc}
 use Rattle.std.proofs.lemmas.List.Elements.{All-nil, All-push, All-weaker}
-use Rattle.decisions.specs.Literals.{known_true}
+use Rattle.decisions.specs.Literals.{Lit, known_true}
 use Rattle.decisions.specs.Trail.{Entry, Trail, val, pushed, cut_to, undo_last, undo_until, kept_until, propagated, floor_taken}
 use Rattle.decisions.specs.declared.decision.Decision.{Decision}
+use Rattle.watch_map.specs.Saturation.{HasForced}
 use Rattle.resolvo_queue.specs.Queue.{Queue, IsNew, SameSync, IsUnchanged, IsRegistered, HasTrail, AgreesBelow, values_of}
 use Rattle.resolvo_queue.specs.declared.parent_value.ParentValue.{ParentValue}
 use Rattle.resolvo_queue.specs.declared.requires_clause.RequiresClause.{RequiresClause}
@@ -93,6 +94,19 @@ module _ {N H : Type 0} {q : Queue N H} where
           since = subst (λ ds. All (λ p. known_true p.value ≡ false → known_true (values_of ds p.parent) ≡ false) q.since) (sym same) (is.agrees accepted).since;
         };
       }
+
+  -- more entries, one after another
+  in_step-more : (t : Trail) (added : List Entry) → IsInStep q t → IsInStep q (record t { entries = t.entries ++ added })
+  in_step-more t [] is = subst (λ es. IsInStep q (record t { entries = es })) (sym (append-nil t.entries)) is
+  in_step-more t (e ∷ added) is =
+      subst (λ es. IsInStep q (record t { entries = es })) (append_assoc t.entries (e ∷ []) added) (in_step-more (pushed t e) added (in_step-pushed t e is))
+
+  -- those that clauses force
+  pub in_step-forced : {literals : ℕ → List Lit} {level : ℕ} (t new : Trail) → HasForced literals level t new → IsInStep q t → IsInStep q new
+  in_step-forced t new forced is =
+      let more = in_step-more t forced.added is in
+      subst (λ es. IsInStep q (record new { entries = es })) (sym forced.entries)
+      (subst (λ n. IsInStep q (record new { entries = t.entries ++ forced.added; floor = n })) (sym forced.floor) (record { within = more.within; agrees = more.agrees }))
 
   pub in_step-propagated : (t : Trail) → IsInStep q t → IsInStep q (propagated t)
   in_step-propagated t is = record { within = is.within; agrees = is.agrees }

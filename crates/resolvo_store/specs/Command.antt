@@ -1,5 +1,5 @@
 -- Commands and replies, with lists where the program has vectors. N are the names, S the solvables.
-use Rattle.std.specs.Prelude.{ℕ, Bool, List, map, Option, Result, Ok, Err, ⊤}
+use Rattle.std.specs.Prelude.{ℕ, Bool, true, false, List, map, Option, Result, Ok, Err, ⊤}
 use Rattle.typed_ids.specs.declared.error.StoreError.{StoreError}
 use Rattle.typed_ids.specs.declared.string_id.StringId.{StringId}
 use Rattle.typed_ids.specs.declared.version_set_id.VersionSetId.{VersionSetId}
@@ -37,6 +37,7 @@ pub data Command (N S : Type 0) : Type 0 where
   Standard : (standard : Bool) → Command N S
   Rewatch : (clause : ℕ) (from to : Lit) → Command N S
   Watchers : (literal : Lit) → Command N S
+  Saturate : (level : ℕ) → Command N S
   Decide : Command N S
 
 pub data Reply : Type 0 where
@@ -55,11 +56,17 @@ pub data Reply : Type 0 where
   Decided : (q : QueueDecision) → Reply
   NoDecision : Reply
   Falsified : (clause : ℕ) → Reply
+  Conflict : (clause : ℕ) → Reply
   Refused : (e : StoreError) → Reply
 
 abbrev pub IsRefused : Reply → Type 0
 IsRefused (Refused e) = ⊤
 IsRefused _ = ⊥
+
+-- the one command that keeps what it did where it is refused
+abbrev pub is_saturate : {N S : Type 0} → Command N S → Bool
+is_saturate (Saturate level) = true
+is_saturate _ = false
 
 -- the program's command
 abbrev pub command_of : {N S A : Type 0} → ProgramCommand N S A → Command N S
@@ -86,6 +93,7 @@ command_of (In.Decay numerator denominator) = Decay numerator denominator
 command_of (In.Standard standard) = Standard standard
 command_of (In.Rewatch clause from to) = Rewatch clause from to
 command_of (In.Watchers literal) = Watchers literal
+command_of (In.Saturate level) = Saturate level
 command_of In.Decide = Decide
 
 -- the program's reply
@@ -105,6 +113,7 @@ reply_of (Out.Watchers clauses) = WatchersAre clauses.items
 reply_of (Out.Decided q) = Decided q
 reply_of Out.NoDecision = NoDecision
 reply_of (Out.Falsified clause) = Falsified clause
+reply_of (Out.Conflict clause) = Conflict clause
 reply_of (Out.Refused e) = Refused e
 
 -- what a command is answered: its reply, or its refusal

@@ -5,10 +5,12 @@ pub mod ForbidsTwo
 pub mod Helpers
 pub mod Lists
 pub mod LoadRefusals
+pub mod Models
 pub mod Outcome
 pub mod Refusals
 pub mod ReplyLaws
 pub mod ReplyTexts
+pub mod Saturating
 pub mod Solved
 pub mod Sound
 pub mod Step

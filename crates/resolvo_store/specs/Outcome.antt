@@ -23,7 +23,7 @@ use Rattle.resolvo_queue.specs.declared.requires_clause.RequiresClause.{Requires
 use Rattle.resolvo_queue.specs.Scan.{first_falsified, is_eligible}
 use Rattle.resolvo_queue.specs.declared.offer.Offer.{Offer}
 use Rattle.resolvo_queue.specs.Pick.{eligible, pick, decided}
-use Rattle.resolvo_store.specs.Command.{Command, Variable, Helper, Load, Requires, Root, Constrains, ConstrainsExcluded, ConstrainsParent, Lock, Exclude, AnyOf, Learnt, Assign, UndoLast, UndoUntil, Unpropagated, Rewatch, Watchers, Decide, Disjunction, AtMostOnce, Bump, Decay, Standard, Reply, VariableIs, LoadedAs, DisjunctionIs, ClauseIs, TrackedAs, Assigned, Already, Clash, Undone, Next, Done, WatchersAre, Decided, NoDecision, Falsified}
+use Rattle.resolvo_store.specs.Command.{Command, Variable, Helper, Load, Requires, Root, Constrains, ConstrainsExcluded, ConstrainsParent, Lock, Exclude, AnyOf, Learnt, Assign, UndoLast, UndoUntil, Unpropagated, Rewatch, Watchers, Saturate, Decide, Disjunction, AtMostOnce, Bump, Decay, Standard, Reply, VariableIs, LoadedAs, DisjunctionIs, ClauseIs, TrackedAs, Assigned, Already, Clash, Undone, Next, Done, WatchersAre, Decided, NoDecision, Falsified}
 use Rattle.resolvo_store.specs.Tracking.{forbidding, next_helper, origins_with}
 use Rattle.resolvo_store.specs.Store.{Store, values, lists_of, kept_literals, condition_of, watched_by, rows_of, score_of, candidates_of, all_candidates}
 
@@ -205,6 +205,8 @@ module _ {N S : Type 0} where
   outcome st Unpropagated = hands_next st (slice_get st.trail st.place)
   outcome st (Rewatch c from to) = record { reply = Done; store = with_rewatched st c from to }
   outcome st (Watchers l) = record { reply = WatchersAre (st.watchers l); store = st }
+  -- a Saturate has no one outcome: Saturates tells which it may have, and nobody reads this
+  outcome st (Saturate level) = record { reply = Done; store = st }
   outcome st Decide = record { reply = decision (falsified_clause st) (picked st); store = st }
   outcome st (Disjunction ls condition) = record {
     reply = DisjunctionIs (length st.disjunctions);

@@ -10,7 +10,7 @@ use Rattle.decisions.specs.Literals.{Lit, Neg, variable_of}
 use Rattle.clauses.specs.Clauses.{watch_ends}
 use Rattle.resolvo_store.specs.declared.helper_origin.HelperOrigin.{HelperOrigin}
 use Rattle.resolvo_store.specs.declared.helper_origin.HelperOrigin.TheVariants as Helps
-use Rattle.resolvo_store.specs.Command.{Command, Variable, Helper, Load, Requires, Root, Constrains, ConstrainsExcluded, ConstrainsParent, Lock, Exclude, AnyOf, Learnt, Assign, UndoLast, UndoUntil, Unpropagated, Rewatch, Watchers, Decide, Disjunction, AtMostOnce, Bump, Decay, Standard}
+use Rattle.resolvo_store.specs.Command.{Command, Variable, Helper, Load, Requires, Root, Constrains, ConstrainsExcluded, ConstrainsParent, Lock, Exclude, AnyOf, Learnt, Assign, UndoLast, UndoUntil, Unpropagated, Rewatch, Watchers, Saturate, Decide, Disjunction, AtMostOnce, Bump, Decay, Standard}
 use Rattle.watch_map.specs.Watching.{is_literal_in}
 use Rattle.resolvo_store.specs.Store.{Store, lists_of, condition_of, clause_literals, watched_by}
 use Rattle.resolvo_store.specs.Tracking.{is_helper_among}
@@ -110,6 +110,7 @@ module _ {N S : Type 0} where
       (not (knows_clause st c && (knows_literal st from && knows_literal st to)), UnknownId) ∷
       (not (may_rewatch st c from to), BadWatch) ∷ []
   refusals st (Watchers l) = (not (knows_literal st l), UnknownId) ∷ []
+  refusals st (Saturate level) = (not (is_level level), LevelOutOfRange) ∷ []
   refusals st Decide = []
   refusals st (Disjunction ls condition) =
       (not (list_all (knows_literal st) ls && st.provider.universe.knows_condition condition), UnknownId) ∷

@@ -3,7 +3,7 @@ use Rattle.std.specs.Prelude.{ℕ, Bool, List, [], ◌∷◌, ◌++◌, flat_map
 use Rattle.typed_ids.specs.Refusals.{code_of}
 use Rattle.decisions.specs.declared.decision.Decision.{Decision}
 use Rattle.resolvo_queue.specs.declared.queue_decision.QueueDecision.{QueueDecision}
-use Rattle.resolvo_store.specs.Command.{Reply, VariableIs, LoadedAs, DisjunctionIs, ClauseIs, TrackedAs, Assigned, Already, Clash, Undone, Next, Done, WatchersAre, Decided, NoDecision, Falsified, Refused}
+use Rattle.resolvo_store.specs.Command.{Reply, VariableIs, LoadedAs, DisjunctionIs, ClauseIs, TrackedAs, Assigned, Already, Clash, Undone, Next, Done, WatchersAre, Decided, NoDecision, Falsified, Conflict, Refused}
 
 -- a name, and a number directly after it
 abbrev pub field : List ℕ → ℕ → List ℕ
@@ -71,4 +71,5 @@ reply_words (WatchersAre clauses) = codes "watchers" ++ words_text clauses
 reply_words (Decided d) = decision_text d
 reply_words NoDecision = codes "no decision"
 reply_words (Falsified c) = field (codes "falsified ") c
+reply_words (Conflict c) = field (codes "conflict ") c
 reply_words (Refused e) = field (codes "refused ") (code_of e)

@@ -7,7 +7,7 @@ use Rattle.providers.specs.Provider.{sets_of}
 use Rattle.variables.specs.declared.variable_origin.VariableOrigin.TheVariants.{Solvable}
 use Rattle.variables.specs.Variables.{IsRootFirst, variable_of_solvable}
 use Rattle.variables.specs.VariableTexts.{knows_origin}
-use Rattle.decisions.specs.Literals.{Lit}
+use Rattle.decisions.specs.Literals.{Lit, variable_of}
 use Rattle.decisions.specs.Trail.{Entry, IsTrail}
 use Rattle.clauses.specs.declared.clause.Clause.{Clause}
 use Rattle.clauses.specs.declared.clause.Clause.TheVariants as Kind
@@ -54,6 +54,10 @@ module _ {N S : Type 0} (st : Store N S) where
     pub loaded : IsSome (lists_of st clause.requirement)
     pub condition : IfSome clause.condition (λ d. d < length st.disjunctions)
 
+  -- literals of the store's variables
+  abbrev pub AreLiterals : List Lit → Type 0
+  AreLiterals literals = All (λ l. IsVariable (variable_of l)) literals
+
   -- an entry of the trail: of a variable, and by a registered clause
   pub record IsAssigned (entry : Entry) : Type 0 where
     pub variable : IsVariable entry.decision.variable
@@ -76,6 +80,9 @@ module _ {N S : Type 0} (st : Store N S) where
     pub clauses : All IsRegistered st.requires
     -- the variables of clauses are the store's, and what else clauses name is known to the provider
     pub clauses_known : All (IsKnownClause st.provider.universe st.origins) st.clauses
+    -- so are the variables of the literals that learnt clauses and disjunctions keep
+    pub learnt_known : All AreLiterals st.learnt
+    pub disjunctions_known : All (λ d. AreLiterals d.literals) st.disjunctions
     -- for each clause there is what it watches: literals of its own
     pub watched : length st.watches ≡ length st.clauses
     pub own : WatchOwn

@@ -8,10 +8,11 @@ use Rattle.providers.specs.Provider.{sets_of}
 use Rattle.decisions.specs.Literals.{undecided}
 use Rattle.variables.specs.Variables.{variable_of_solvable, lacks_variables}
 use Rattle.at_most_once.specs.AtMostOne.{is_tracked}
-use Rattle.resolvo_store.specs.Command.{Command, Variable, Load, AtMostOnce, Decay, Standard, Assign, UndoLast, UndoUntil, Unpropagated, Decide, Reply, Refused}
+use Rattle.resolvo_store.specs.Command.{Command, Variable, Load, AtMostOnce, Decay, Standard, Assign, UndoLast, UndoUntil, Unpropagated, Saturate, Decide, Reply, Refused}
 use Rattle.resolvo_store.specs.Store.{Store, values, lists_of, all_candidates}
 use Rattle.resolvo_store.specs.Refusals.{first_refusal}
 use Rattle.resolvo_store.specs.Tracking.{lacks_more}
+use Rattle.resolvo_store.specs.Saturating.{Saturates}
 use Rattle.resolvo_store.specs.Outcome.{outcome, falsified_clause, helper_for, tracking}
 
 module _ {N S : Type 0} where
@@ -66,10 +67,15 @@ module _ {N S : Type 0} where
   may_be_refused st c _ = false
 
   -- the command is given its reply and takes effect, or is refused and has none
-  abbrev pub IsAnswered : Store N S → Command N S → Reply → Store N S → Type 0
-  IsAnswered old c (Refused e) new = IsTrue (may_be_refused old c e) × (new ≡ old)
-  IsAnswered old c reply new =
+  abbrev pub HasOutcome : Store N S → Command N S → Reply → Store N S → Type 0
+  HasOutcome old c (Refused e) new = IsTrue (may_be_refused old c e) × (new ≡ old)
+  HasOutcome old c reply new =
       (lacks_ids old c ≡ false) × (reply ≡ (outcome old c).reply) × (new ≡ (outcome old c).store)
+
+  -- a Saturate may have more than one outcome, and each other command has its own
+  abbrev pub IsAnswered : Store N S → Command N S → Reply → Store N S → Type 0
+  IsAnswered old (Saturate level) reply new = Saturates level old reply new
+  IsAnswered old c reply new = HasOutcome old c reply new
 
   -- from the old store this command may be given this reply and lead to the new store
   abbrev pub Step : Store N S → Command N S → Reply → Store N S → Type 0

@@ -12,7 +12,8 @@ use typed_ids::{
 /// A command. `N` are the provider's names, `S` its solvables; lists of literals are of the allocator `A`.
 ///
 /// A command that names an id which the store or its provider doesn't know is refused, and so is each command where the
-/// list of refusals in docs/BEHAVIOUR.md says so. A refused command changes nothing.
+/// list of refusals in docs/BEHAVIOUR.md says so. A refused command changes nothing, but for a [`Command::Saturate`] that
+/// memory was refused: what it forced before stays.
 #[derive(Drop)]
 #[derive_where(Debug, PartialEq, Eq; N, S)]
 pub enum Command<N, S, A: Allocator> {
@@ -68,6 +69,10 @@ pub enum Command<N, S, A: Allocator> {
     Rewatch(ClauseId, Literal, Literal),
     /// Asks which clauses watch the literal.
     Watchers(Literal),
+    /// Gives values, at the level, to the variables whose values clauses force: by the values before, all literals of a
+    /// clause but one are false, so this one is true. It goes on until no clause forces a value, or until one is false.
+    /// Clauses may watch others of their literals then.
+    Saturate(u32),
     /// Asks which candidate to decide next.
     Decide,
 }
@@ -125,5 +130,6 @@ impl<N: SameValue, S: SameValue, A: Allocator> AbstractCommand for Command<N, S,
         (λ standard b h. Prim.search (rules, same_literals))
         (λ clause from to b h. Prim.search (rules, same_literals))
         (λ literal b h. Prim.search (rules, same_literals))
+        (λ level b h. Prim.search (rules, same_literals))
         (λ b h. Prim.search (rules, same_literals)) };
 }

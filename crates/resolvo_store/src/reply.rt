@@ -42,7 +42,10 @@ pub enum Reply<A: Allocator> {
     NoDecision,
     /// This clause, the first such one, can't be met any more.
     Falsified(ClauseId),
-    /// The command was refused, and changed nothing.
+    /// All literals of this clause are false.
+    Conflict(ClauseId),
+    /// The command was refused, and changed nothing; or memory was refused to a `Saturate`, and what it forced before
+    /// stays.
     Refused(StoreError),
 }
 

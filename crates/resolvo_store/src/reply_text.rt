@@ -36,6 +36,7 @@ impl<A: Allocator> fmt::Display for Reply<A> {
             Reply::Decided(decision) => write_decision(f, decision),
             Reply::NoDecision => f.write_str("no decision"),
             Reply::Falsified(clause) => write_field(f, "falsified ", clause.to_index()),
+            Reply::Conflict(clause) => write_field(f, "conflict ", clause.to_index()),
             Reply::Refused(e) => write_field(f, "refused ", e.code() as usize),
         }
     }

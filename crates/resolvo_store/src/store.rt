@@ -11,12 +11,14 @@
 //! - `store/scoring.rt`: `Bump`, `Decay` and `Standard`, which change scores and how the queue may look at them;
 //! - `store/assigning.rt`: `Assign`, `UndoLast`, `UndoUntil` and `Unpropagated`, which change the trail;
 //! - `store/watching.rt`: `Rewatch` and `Watchers`, which move a watch and tell who watches;
+//! - `store/saturating.rt`: `Saturate`, which assigns what clauses force;
 //! - `store/deciding.rt`: `Decide`, which changes nothing that is seen, and its two halves as calls of their own;
 //! - `store/reading.rt`: no commands, but what is read beside the replies;
 //! - `store/known.rt`: no commands, but tests of what they name.
 //!
 //! Each method's contract is the step of its command. So a method takes back what it changed before it was refused, as a
 //! `Load` gives up the variables that it made; or it makes room first, as a `Requires` does before it registers its clause.
+//! `Saturate` alone does neither: what it forced follows from the clauses, and stays.
 ghost use Rattle.std.specs.Prelude.{◌≡◌, map, length, vec_len, IfOk, IfErr, OnErr};
 ghost use Rattle.typed_ids.specs.declared.error.StoreError.TheVariants.{OutOfMemory};
 ghost use Rattle.decisions.specs.Trail.{val};
@@ -28,6 +30,7 @@ mod known;
 mod loading;
 mod reading;
 mod registering;
+mod saturating;
 mod scoring;
 mod tracking;
 mod watching;
@@ -51,7 +54,7 @@ use watch_map::ClauseList;
 /// A clause store over the packages of a provider.
 ///
 /// A contract speaks of the abstract store, `⟦<D as AbstractStore>⟧.store self.now`. Whatever a command is refused for,
-/// the store is as it was.
+/// the store is as it was; a `Saturate` alone keeps what it forced before memory was refused.
 #[derive(Drop)]
 pub struct ClauseStore<D: DependencyProvider> {
     /// The provider, and what it was asked and answered.
@@ -116,6 +119,7 @@ impl<D: DependencyProvider> Model for ClauseStore<D> {
 impl<D: DependencyProvider + Drop> ClauseStore<D> {
     ghost use Rattle.resolvo_store.specs.Command.{command_of, reply_of, answer_of, IsRefused};
     ghost use Rattle.resolvo_store.specs.Store.{new_store};
+    ghost use Rattle.resolvo_store.specs.Saturating.{RefusalLeaves};
     ghost use Rattle.resolvo_store.specs.Step.{Step, Run};
     ghost use Rattle.resolvo_store.specs.Sound.{IsSound};
 
@@ -150,12 +154,12 @@ impl<D: DependencyProvider + Drop> ClauseStore<D> {
         self.cache.provider()
     }
 
-    /// Obeys a command, and answers it.
+    /// Obeys a command, and answers it. A refusal changes nothing, but for a `Saturate`, which keeps what it forced.
     pub fn step(&mut self, command: &Command<D::NameId, D::SolvableId, D::Alloc>) -> Reply<D::Alloc>
         ensures step { Step (⟦<D as AbstractStore>⟧.store self.old) (command_of command.now)
             (reply_of result) (⟦<D as AbstractStore>⟧.store self.new) }
-        ensures refused { IsRefused (reply_of result) →
-            ⟦<D as AbstractStore>⟧.store self.new ≡ ⟦<D as AbstractStore>⟧.store self.old }
+        ensures refused { IsRefused (reply_of result) → RefusalLeaves (command_of command.now)
+            (⟦<D as AbstractStore>⟧.store self.old) (⟦<D as AbstractStore>⟧.store self.new) }
         ensures provider { self.new.provider ≡ self.old.provider }
         ensures was_sound { IsSound (⟦<D as AbstractStore>⟧.store self.old) }
         ensures sound { IsSound (⟦<D as AbstractStore>⟧.store self.new) }
@@ -166,8 +170,8 @@ impl<D: DependencyProvider + Drop> ClauseStore<D> {
         }
     }
 
-    /// Obeys a command: its reply, or the refusal, which changes nothing. [`ClauseStore::step`] is the same with the
-    /// refusal among the replies.
+    /// Obeys a command: its reply, or the refusal, which changes nothing, but for a `Saturate`, which keeps what it
+    /// forced. [`ClauseStore::step`] is the same with the refusal among the replies.
     pub fn obey(
         &mut self,
         command: &Command<D::NameId, D::SolvableId, D::Alloc>,
@@ -175,7 +179,8 @@ impl<D: DependencyProvider + Drop> ClauseStore<D> {
         ensures step { Step (⟦<D as AbstractStore>⟧.store self.old) (command_of command.now)
             (answer_of result) (⟦<D as AbstractStore>⟧.store self.new) }
         ensures ok { IfOk result (λ reply. IsRefused (reply_of reply) → ⊥) }
-        ensures err { OnErr result (⟦<D as AbstractStore>⟧.store self.new ≡ ⟦<D as AbstractStore>⟧.store self.old) }
+        ensures err { OnErr result (RefusalLeaves (command_of command.now)
+            (⟦<D as AbstractStore>⟧.store self.old) (⟦<D as AbstractStore>⟧.store self.new)) }
         ensures provider { self.new.provider ≡ self.old.provider }
         ensures was_sound { IsSound (⟦<D as AbstractStore>⟧.store self.old) }
         ensures sound { IsSound (⟦<D as AbstractStore>⟧.store self.new) }
@@ -224,6 +229,7 @@ impl<D: DependencyProvider + Drop> ClauseStore<D> {
             Command::Unpropagated => Ok(self.unpropagated()),
             Command::Rewatch(clause, from, to) => self.rewatch(*clause, *from, *to),
             Command::Watchers(literal) => self.watchers_of(*literal),
+            Command::Saturate(level) => self.saturate(*level),
             Command::Decide => self.decide(),
             Command::Disjunction(literals, condition) => self.disjunction(literals, *condition),
             Command::AtMostOnce(name, variable) => self.at_most_once(*name, *variable),
@@ -234,7 +240,8 @@ impl<D: DependencyProvider + Drop> ClauseStore<D> {
     }
 
     /// Obeys commands in turn, and answers each. The room for the replies comes first: where that is refused, no command
-    /// was obeyed. Any later refusal is a reply, and the commands after it are obeyed.
+    /// was obeyed. Any later refusal is a reply, and the commands after it are obeyed. A refused command changes nothing,
+    /// but for a `Saturate`, which keeps what it forced.
     pub fn run(
         &mut self,
         commands: &[Command<D::NameId, D::SolvableId, D::Alloc>],

@@ -5,7 +5,7 @@ use Rattle.std.specs.Str.{bytes_eq}
 use Rattle.typed_ids.specs.declared.string_id.StringId.{StringId}
 use Rattle.typed_ids.specs.declared.version_set_id.VersionSetId.{VersionSetId}
 use Rattle.decisions.specs.Literals.{Lit, Pos, Neg}
-use Rattle.resolvo_store.specs.Command.{Command, Variable, Helper, Load, Disjunction, Requires, Root, Constrains, ConstrainsExcluded, ConstrainsParent, Lock, Exclude, AnyOf, Learnt, AtMostOnce, Assign, UndoLast, UndoUntil, Unpropagated, Bump, Decay, Standard, Rewatch, Watchers, Decide}
+use Rattle.resolvo_store.specs.Command.{Command, Variable, Helper, Load, Disjunction, Requires, Root, Constrains, ConstrainsExcluded, ConstrainsParent, Lock, Exclude, AnyOf, Learnt, AtMostOnce, Assign, UndoLast, UndoUntil, Unpropagated, Bump, Decay, Standard, Rewatch, Watchers, Saturate, Decide}
 use Rattle.resolvo_store.specs.declared.helper_origin.HelperOrigin.{HelperOrigin}
 use Rattle.resolvo_store.specs.declared.helper_origin.HelperOrigin.TheVariants.{AtLeastOne, ConstrainsViolation, RequiresGate}
 use Rattle.script_packages.specs.Ids.{number_32, variable_of, clause_of, requirement_of, truth_of}
@@ -126,6 +126,10 @@ module _ {N S : Type 0} where
   watchers_command (l ∷ []) = option_map (λ literal. Watchers literal) (literal_of l)
   watchers_command _ = None
 
+  abbrev pub saturate_command : List (List ℕ) → Option (Command N S)
+  saturate_command (l ∷ []) = option_map (λ level. Saturate level) (number_32 l)
+  saturate_command _ = None
+
   -- the clauses between two variables
   abbrev pub between_command : List ℕ → List (List ℕ) → Option (Command N S)
   between_command keyword ws =
@@ -195,6 +199,7 @@ module _ {N S : Type 0} (ids : Ids N S) where
       else if bytes_eq keyword (codes "undo-until") then undo_command ws
       else if bytes_eq keyword (codes "rewatch") then rewatch_command ws
       else if bytes_eq keyword (codes "watchers") then watchers_command ws
+      else if bytes_eq keyword (codes "saturate") then saturate_command ws
       else package_command keyword ws
 
   -- the command of a line's words

@@ -6,7 +6,7 @@ ghost use Rattle.resolvo_store.specs.Command.{command_of};
 ghost use Rattle.scripts.specs.Commands.{ids_at, only_word, pair_of, pair_and_set_of, helper_origin_of};
 ghost use Rattle.scripts.specs.Commands.{command_said, plain_command, package_command, seldom_command, between_command, bare_command};
 ghost use Rattle.scripts.specs.Commands.{variable_command, helper_command, load_command, disjunction_command, requires_command, assign_command};
-ghost use Rattle.scripts.specs.Commands.{undo_command, exclude_command, learnt_command, rewatch_command, watchers_command};
+ghost use Rattle.scripts.specs.Commands.{undo_command, exclude_command, learnt_command, rewatch_command, watchers_command, saturate_command};
 ghost use Rattle.scripts.specs.Commands.{at_most_once_command, bump_command, decay_command, standard_command};
 ghost use Rattle.scripts.specs.Transcript.{IsRead};
 
@@ -83,6 +83,8 @@ fn plain_command<N: DenseIndex, S: DenseIndex, A: Allocator>(
         rewatch(said.rest)
     } else if is_word(said.keyword, b"watchers") {
         watchers(said.rest)
+    } else if is_word(said.keyword, b"saturate") {
+        saturate(said.rest)
     } else {
         package_command(said)
     }
@@ -368,6 +370,14 @@ fn watchers<N, S, A: Allocator>(text: &[u8]) -> Option<Command<N, S, A>>
 {
     let watched = literal(only_word(text)?)?;
     Some(Command::Watchers(watched))
+}
+
+/// `saturate LEVEL`
+fn saturate<N, S, A: Allocator>(text: &[u8]) -> Option<Command<N, S, A>>
+    ensures { option_map command_of result ≡ saturate_command (words text.now) }
+{
+    let level = id(only_word(text)?)?;
+    Some(Command::Saturate(level))
 }
 
 /// `true` or `false`

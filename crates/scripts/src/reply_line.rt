@@ -40,6 +40,7 @@ fn push_words<A: Allocator>(text: &mut Vec<u8>, reply: &Reply<A>) -> Result<(), 
         Reply::Decided(decision) => push_decision(text, decision),
         Reply::NoDecision => text.extend_from_slice(b"no decision"),
         Reply::Falsified(clause) => push_field(text, b"falsified ", clause.to_index()),
+        Reply::Conflict(clause) => push_field(text, b"conflict ", clause.to_index()),
         Reply::Refused(e) => push_field(text, b"refused ", e.code() as usize),
     }
 }

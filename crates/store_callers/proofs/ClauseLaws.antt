@@ -16,11 +16,12 @@ use Rattle.resolvo_queue.specs.declared.offer.Offer.{Offer}
 use Rattle.resolvo_store.specs.declared.helper_origin.HelperOrigin.{HelperOrigin}
 use Rattle.resolvo_store.specs.declared.reply.Reply.{Reply as ProgramReply}
 use Rattle.resolvo_store.specs.declared.reply.Reply.TheVariants as Out
-use Rattle.resolvo_store.specs.Command.{Command, Helper, Load, Requires, Root, Constrains, ConstrainsExcluded, ConstrainsParent, Lock, Exclude, AnyOf, Learnt, AtMostOnce, Assign, Unpropagated, Decide, Reply, VariableIs, ClauseIs, TrackedAs, Already, Clash, Refused, IsRefused, reply_of}
+use Rattle.resolvo_store.specs.Command.{Command, Helper, Load, Requires, Root, Constrains, ConstrainsExcluded, ConstrainsParent, Lock, Exclude, AnyOf, Learnt, AtMostOnce, Assign, Unpropagated, Saturate, Decide, Reply, VariableIs, ClauseIs, TrackedAs, Already, Clash, Refused, IsRefused, reply_of}
 use Rattle.resolvo_store.specs.Store.{Store, values, lists_of, kept_literals}
 use Rattle.resolvo_store.specs.Refusals.{first_refusal}
 use Rattle.resolvo_store.specs.Outcome.{Outcome, outcome, helper_origin, load, adds_clause, with_registered, with_learnt, hands_next, assign_reply, decision, falsified_clause, picked, tracking, with_tracked}
 use Rattle.resolvo_store.specs.Step.{IsAnswered, Step}
+use Rattle.resolvo_store.proofs.CallerLaws.{answered_by_outcome}
 
 -- what is found, where something is there
 module _ {X E : Type 0} (r : Result (Option X) E) (f : X → List Lit) (there : Option (List Lit)) (ls : List Lit) where
@@ -116,9 +117,13 @@ module _ {N S : Type 0} where
       → (clause : ℕ) (conflict : Bool) → reply ≡ ClauseIs clause conflict → IsNext old new clause
   added_next old new c reply step clause conflict is = by_refusal (first_refusal old c) (subst (λ x. Step old c x new) is step)
     where
+      by_command : (d : Command N S) → IsAnswered old d (ClauseIs clause conflict) new → IsNext old new clause
+      by_command (Saturate level) h = absurd h
+      by_command d h = by_outcome old new d clause conflict h.1 h.2
+
       by_refusal : (e : Option StoreError) → MatchOption e (IsAnswered old c (ClauseIs clause conflict) new) (λ x. (ClauseIs clause conflict ≡ Refused x) × (new ≡ old))
           → IsNext old new clause
-      by_refusal None h = by_outcome old new c clause conflict h.1 h.2
+      by_refusal None h = by_command c h
       by_refusal (Some x) h = let no : ClauseIs clause conflict ≡ Refused x = h.0 in cc
 
   -- so it is known from then on
@@ -159,30 +164,18 @@ module _ {N S : Type 0} where
           rw (origins, id, last_at old.origins (helper_origin origin)) refl
       by_refusal (Some x) h = let no : VariableIs variable ≡ Refused x = h.0 in cc
 
-  -- what isn't refused is answered by its outcome
-  not_refused : (old new : Store N S) (c : Command N S) (reply : Reply) → Step old c reply new → (IsRefused reply → ⊥) → reply ≡ (outcome old c).reply
-  not_refused old new c reply step kept = by_refusal (first_refusal old c) step
-    where
-      by_reply : (x : Reply) → (IsRefused x → ⊥) → IsAnswered old c x new → x ≡ (outcome old c).reply
-      by_reply (Refused e) answers h = absurd (answers tt)
-      by_reply _ answers h = h.1
-
-      by_refusal : (e : Option StoreError) → MatchOption e (IsAnswered old c reply new) (λ x. (reply ≡ Refused x) × (new ≡ old)) → reply ≡ (outcome old c).reply
-      by_refusal None h = by_reply reply kept h
-      by_refusal (Some x) h = absurd (kept (subst IsRefused (sym h.0) tt))
-
   module _ {A : Type 0} where
-    -- so a command that excludes a variable is answered by a clause
+    -- a command that excludes a variable is answered by a clause, where it isn't refused
     pub exclude_answers : (old new : Store N S) (v : ℕ) (reason : StringId) (r : ProgramReply A) → Step old (Exclude v reason) (reply_of r) new
         → (IsRefused (reply_of r) → ⊥) → ((clause : ℕ) (conflict : Bool) → r ≡ Out.Clause clause conflict → ⊥) → ⊥
     exclude_answers old new v reason r step kept otherwise =
         let added = adds_clause old (Kind.Excluded v reason) in
-        let same : reply_of r ≡ added.reply = not_refused old new (Exclude v reason) (reply_of r) step kept in
+        let same : reply_of r ≡ added.reply = (answered_by_outcome old new (Exclude v reason) (reply_of r) refl step kept).0 in
         otherwise (length old.clauses) _ (clause_of_reply r (length old.clauses) _ same)
 
     -- and one that makes a helper variable by a variable
     pub helper_answers : (old new : Store N S) (origin : HelperOrigin N) (r : ProgramReply A) → Step old (Helper origin) (reply_of r) new
         → (IsRefused (reply_of r) → ⊥) → ((variable : ℕ) → r ≡ Out.Variable variable → ⊥) → ⊥
     helper_answers old new origin r step kept otherwise =
-        let same : reply_of r ≡ VariableIs (length old.origins) = not_refused old new (Helper origin) (reply_of r) step kept in
+        let same : reply_of r ≡ VariableIs (length old.origins) = (answered_by_outcome old new (Helper origin) (reply_of r) refl step kept).0 in
         otherwise (length old.origins) (variable_of_reply r (length old.origins) same)

@@ -1,6 +1,7 @@
 -- Each example is computed.
 use Rattle.std.proofs.Common.{refl}
 use Rattle.store_callers.specs.Examples.{Examples}
+use Rattle.store_callers.proofs.SaturationProofs.{saturation_examples}
 
 pub examples : Examples
 examples = record {
@@ -60,4 +61,5 @@ examples = record {
   others_by_score = refl;
   root_replaces = refl;
   first_without_scores = refl;
+  saturations = saturation_examples;
 }

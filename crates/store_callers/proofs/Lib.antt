@@ -4,3 +4,4 @@ pub mod DecisionLaws
 pub mod ExampleProofs
 pub mod LoadLaws
 pub mod PlayLaws
+pub mod SaturationProofs

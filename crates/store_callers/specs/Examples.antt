@@ -8,6 +8,7 @@ use Rattle.store_callers.specs.Script.{Packages}
 use Rattle.store_callers.specs.ExampleWords.{Gives, Leaves, solvable, range, set, string, single, union, decides, hands, takes_back, two_versions}
 use Rattle.store_callers.specs.ScoreExamples.{ScoreAndCount, LateScore, ScoreAlone, CountAlone, RootProtected, OthersReplaced, RootFirst, OthersAfterRoot, FalsifiedBeforeRoot, ScoresFall, RoundedDown, EitherSetting, CountOfOneSet, BetterOffer, EqualCount, EqualScore, RootStays, BestSoFar, RootAlone, OthersByScore, RootReplaces, FirstWithoutScores}
 use Rattle.store_callers.specs.ConditionExamples.{WaitsForCondition, ConditionOpens, EmptyCondition, ConditionLiterals, ConditionsRefused, UnknownConditions, FourTracked, FourTrackedLiterals, TwoNames, FavoredFirst, FavoredOutside}
+use Rattle.store_callers.specs.SaturationExamples.{SaturationExamples}
 
 -- ---- two packages: a decision is asked for, taken, undone, and asked for again; then their union is loaded
 
@@ -309,3 +310,4 @@ pub record Examples : Type 0 where
   pub others_by_score : OthersByScore
   pub root_replaces : RootReplaces
   pub first_without_scores : FirstWithoutScores
+  pub saturations : SaturationExamples

@@ -1,8 +1,8 @@
 -- The replies of the abstract store, computed: with ample memory.
-use Rattle.std.specs.Prelude.{if◌then◌else◌, List, [], ◌∷◌, Option, Some, None}
+use Rattle.std.specs.Prelude.{◌≡◌, false, if◌then◌else◌, List, [], ◌∷◌, All, Option, Some, None}
 use Rattle.resolvo_ids.specs.Types.StoreError.{StoreError}
 use Rattle.resolvo_ids.specs.Types.StoreError.TheVariants.{IdSpace}
-use Rattle.resolvo_store.specs.Command.{Command, Reply, Refused}
+use Rattle.resolvo_store.specs.Command.{Command, Reply, Refused, is_saturate}
 use Rattle.resolvo_store.specs.Store.{Store}
 use Rattle.resolvo_store.specs.Refusals.{first_refusal}
 use Rattle.resolvo_store.specs.Outcome.{Outcome, outcome}
@@ -27,6 +27,6 @@ module _ {N S : Type 0} where
   store_after st [] = st
   store_after st (c ∷ cs) = let o = answer st c in store_after o.store cs
 
--- what is computed is a run
+-- what is computed is a run, where no command is a Saturate: which has no one outcome to compute
 abbrev pub PlayIsRun : Type 0 → Type 0 → Type 0
-PlayIsRun N S = (st : Store N S) (cs : List (Command N S)) → Run st cs (play st cs) (store_after st cs)
+PlayIsRun N S = (st : Store N S) (cs : List (Command N S)) → All (λ c. is_saturate c ≡ false) cs → Run st cs (play st cs) (store_after st cs)

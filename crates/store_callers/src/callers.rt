@@ -2,18 +2,20 @@
 ghost use Rattle.std.specs.Prelude.{◌≡◌, ◌≢◌, ℕ, true, List, [], length, None};
 ghost use Rattle.resolvo_ids.specs.Types.StoreError.TheVariants.{UnknownId, EmptyTrail};
 ghost use Rattle.resolvo_pool.specs.Provider.{sets_of};
-ghost use Rattle.resolvo_store.specs.Command.{reply_of, LoadedAs, Refused, IsRefused};
+ghost use Rattle.resolvo_store.specs.Command.{command_of, reply_of, LoadedAs, Refused, IsRefused};
+ghost use Rattle.resolvo_store.specs.Saturating.{RefusalLeaves};
 ghost use Rattle.resolvo_store.specs.Store.{lists_of};
 
 use resolvo_pool::{DependencyProvider, Interner, Requirement};
 use resolvo_store::{AbstractStore, ClauseStore, Command, Reply};
 
-/// A command that is refused, whatever it is and why, changes nothing.
+/// A command that is refused, whatever it is and why, changes nothing, but for a `Saturate`, which keeps what it forced.
 pub fn obey<D: DependencyProvider + Drop>(
     store: &mut ClauseStore<D>,
     command: &Command<D::NameId, D::SolvableId, D::Alloc>,
 ) -> Reply<D::Alloc>
-    ensures { IsRefused (reply_of result) → ⟦<D as AbstractStore>⟧.store store.new ≡ ⟦<D as AbstractStore>⟧.store store.old }
+    ensures { IsRefused (reply_of result) → RefusalLeaves (command_of command.now)
+        (⟦<D as AbstractStore>⟧.store store.old) (⟦<D as AbstractStore>⟧.store store.new) }
 {
     store.step(command)
 }

@@ -1,8 +1,10 @@
 //! Callers that conclude what is true of every store, whatever store they are handed: they know nothing of the provider but
 //! its trait, and nothing of the store but its contracts. The laws that their proofs cite are those of
 //! `resolvo_store/proofs/CallerLaws.antt`.
-ghost use Rattle.std.specs.Prelude.{◌≡◌, ◌≤◌, ℕ, length, [], None};
-ghost use Rattle.resolvo_store.specs.Command.{reply_of, NoDecision};
+ghost use Rattle.std.specs.Prelude.{◌≡◌, ◌≤◌, ℕ, Bool, length, [], None, All};
+ghost use Rattle.resolvo_store.specs.Command.{reply_of, NoDecision, Falsified, Conflict};
+ghost use Rattle.resolvo_store.specs.Models.{IsModel, IsModelNow, MayLeaveFalse, true_alone};
+ghost use Rattle.resolvo_store.specs.Saturating.{HasForcedMore};
 ghost use Rattle.resolvo_store.specs.Solved.{IsSolved};
 ghost use Rattle.resolvo_store.specs.ForbidsTwo.{ForbidsTwo};
 ghost use Rattle.resolvo_store.specs.Sound.{WatchOwn};
@@ -37,6 +39,38 @@ pub fn search_is_done<D: DependencyProvider + Drop>(store: &mut ClauseStore<D>) 
     ensures { reply_of result ≡ NoDecision → IsSolved (⟦<D as AbstractStore>⟧.store store.new) }
 {
     store.step(&Command::Decide)
+}
+
+/// Assigns what clauses force, and asks for a decision once no clause is false or forces anything. No registered clause is
+/// falsified then; and where no decision is left, what the trail says to be true, all else false, meets each clause, unless a
+/// condition holds a variable that isn't negated, or a learnt clause needs more.
+pub fn saturate_and_decide<D: DependencyProvider + Drop>(
+    store: &mut ClauseStore<D>,
+    level: u32,
+) -> Reply<D::Alloc>
+    ensures unfalsified { (clause : ℕ) → reply_of result ≡ Falsified clause → ⊥ }
+    ensures model { let st = ⟦<D as AbstractStore>⟧.store store.new in
+        All (MayLeaveFalse st) st.clauses → reply_of result ≡ NoDecision → IsModel st (true_alone (values st)) }
+{
+    match store.step(&Command::Saturate(level)) {
+        Reply::Done => store.step(&Command::Decide),
+        reply => reply,
+    }
+}
+
+/// Assigns what clauses force. Whatever is replied, each new entry follows from its clause and the entries before it: truth
+/// values of all variables that meet the clauses and agree with the trail still do. A conflict means that there were none.
+pub fn saturate_soundly<D: DependencyProvider + Drop>(
+    store: &mut ClauseStore<D>,
+    level: u32,
+) -> Reply<D::Alloc>
+    ensures forced { HasForcedMore level (⟦<D as AbstractStore>⟧.store store.old) (⟦<D as AbstractStore>⟧.store store.new) }
+    ensures kept { (a : ℕ → Bool) → IsModelNow (⟦<D as AbstractStore>⟧.store store.old) a
+        → IsModelNow (⟦<D as AbstractStore>⟧.store store.new) a }
+    ensures conflict { (clause : ℕ) → reply_of result ≡ Conflict clause
+        → (a : ℕ → Bool) → IsModelNow (⟦<D as AbstractStore>⟧.store store.old) a → ⊥ }
+{
+    store.step(&Command::Saturate(level))
 }
 
 /// Obeys commands in turn. Whatever was refused, each literal's watch list then holds exactly the clauses that watch the

@@ -81,6 +81,7 @@ fn without_names<N, S, A: Allocator>(command: &Command<NameId, SolvableId, A>) -
         Command::Standard(standard) => Command::Standard(*standard),
         Command::Rewatch(clause, from, to) => Command::Rewatch(*clause, *from, *to),
         Command::Watchers(literal) => Command::Watchers(*literal),
+        Command::Saturate(level) => Command::Saturate(*level),
         _ => Command::Decide,
     }
 }

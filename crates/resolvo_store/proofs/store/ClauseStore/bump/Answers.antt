@@ -30,6 +30,6 @@ returns-clause-step g c =
     let large = g.D.NameId.Slots.IdMap.is_too_large name in
     let parts = bumped_or_same st name c.args.amount (g.D.NameId.Scores.IdMap.value_at c.raise.new.scores.map) c.raise.result refl c.raise.ensures.clauses.clauses c.raise.ensures.bumped c.raise.ensures.same_scores in
     subst (λ (k : Kept g.row.D.Denot g.row.D-NameId.Denot g.row.D-SolvableId.Denot g.row.D-NameId-Scores.Denot). Step (store_of (given g) g.D.NameId.Scores.IdMap.value_at k) (Bump name c.args.amount) (answer_of c.raise.result) after) c.self.view_is
-    (step_grown st (Bump name c.args.amount) large c.raise.result after
+    (step_grown st (Bump name c.args.amount) large c.raise.result after refl
     (first_of_bump st name c.args.amount (subst (λ p. (g.D.Interner.universe p).knows_name name ≡ true) c.provider.ensures.provider (sym c.knows_name.ensures ∙ c.if-not-knows_name.false)))
     refl refl (λ h. h) c.raise.ensures.reply parts.0 parts.1 c.raise.ensures.refused c.raise.ensures.too_large)

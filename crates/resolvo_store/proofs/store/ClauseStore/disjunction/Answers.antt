@@ -1,6 +1,6 @@
 use Rattle.std.proofs.Common.{◌≡◌, ◌∙◌, refl, ap, sym, subst, true}
 use Rattle.std.specs.List.{list_all}
-use Rattle.std.specs.Prelude.{◌&&◌, nat_lt}
+use Rattle.std.specs.Prelude.{Bool, length, ◌&&◌, nat_lt}
 use Rattle.decisions.specs.Literals.{variable_of}
 use Rattle.resolvo_store.specs.Command.{Disjunction, answer_of}
 use Rattle.resolvo_store.specs.Lists.{disjunctions_kept}
@@ -8,7 +8,7 @@ use Rattle.resolvo_store.specs.Refusals.{are_disjunctions_out}
 use Rattle.resolvo_store.specs.Step.{Step}
 use Rattle.resolvo_store.specs.Store.{Kept, Provider, store_of, gathered}
 use Rattle.resolvo_store.proofs.CallerLaws.{store_in}
-use Rattle.resolvo_store.proofs.AddingLemmas.{step_grown, first_of_disjunction}
+use Rattle.resolvo_store.proofs.AddingLemmas.{both, step_grown, first_of_disjunction}
 use Rattle.resolvo_store.proofs.InvariantLemmas.{after_disjunction, on_ok, on_err}
 use Rattle.resolvo_store.proofs.store.ClauseStore.disjunction.Given.{Over}
 use Rattle.resolvo_store.proofs.store.ClauseStore.disjunction.Goals as goal
@@ -19,7 +19,12 @@ given g = gathered g.D.NameId.PartialEq.eq g.D.SolvableId.PartialEq.eq g.D.NameI
     g.D.SolvableId.Set.IdSet.is_too_large g.D.NameId.SolverId.are_many g.D.Interner.universe g.D.DependencyProvider.answers
 
 pub invariant_of-self : goal.invariant_of-self
-invariant_of-self g c = after_disjunction c.self.invariant c.keep_disjunction.result refl c.keep_disjunction.ensures.more c.keep_disjunction.ensures.err
+invariant_of-self g c =
+    let knows : Bool = list_all (λ l. nat_lt (variable_of l) (length c.self.inside.variables)) c.args.literals.now in
+    let known = subst (λ n. (list_all (λ l. nat_lt (variable_of l) n) c.args.literals.now && (g.D.Interner.universe c.provider.result.now).knows_condition c.args.condition) ≡ true) c.count.ensures.value
+    (sym c.knows_parts.ensures ∙ c.if-not-knows_parts.false) in
+    after_disjunction c.self.invariant c.args.literals.now c.args.condition c.keep_disjunction.result refl (both knows ((g.D.Interner.universe c.provider.result.now).knows_condition c.args.condition) known).0
+    c.keep_disjunction.ensures.more c.keep_disjunction.ensures.ok c.keep_disjunction.ensures.err
 
 pub returns-clause-step : goal.returns-clause-step
 returns-clause-step g c =
@@ -29,7 +34,7 @@ returns-clause-step g c =
     (sym c.knows_parts.ensures ∙ c.if-not-knows_parts.false)) in
     let made = record st { disjunctions = disjunctions_kept c.keep_disjunction.new.disjunctions } in
     subst (λ (k : Kept g.row.D.Denot g.row.D-NameId.Denot g.row.D-SolvableId.Denot g.row.D-NameId-Scores.Denot). Step (store_of (given g) g.D.NameId.Scores.IdMap.value_at k) (Disjunction c.args.literals.now c.args.condition) (answer_of c.keep_disjunction.result) made) c.self.view_is
-    (step_grown st (Disjunction c.args.literals.now c.args.condition) (are_disjunctions_out st) c.keep_disjunction.result made
+    (step_grown st (Disjunction c.args.literals.now c.args.condition) (are_disjunctions_out st) c.keep_disjunction.result made refl
     (first_of_disjunction st c.args.literals.now c.args.condition known)
     refl refl (λ h. h) c.keep_disjunction.ensures.reply (on_ok c.keep_disjunction.result (ap (λ ds. record st { disjunctions = ds })) c.keep_disjunction.ensures.ok)
     (on_err c.keep_disjunction.result (ap (λ ds. record st { disjunctions = disjunctions_kept ds })) c.keep_disjunction.ensures.err) c.keep_disjunction.ensures.refused c.keep_disjunction.ensures.ids_out)

@@ -45,5 +45,5 @@ returns-clause-step g c =
     let with_origins = λ (os : List (VariableOrigin g.row.D-NameId.Denot g.row.D-SolvableId.Denot)). record st { origins = os } in
     let made = with_origins c.add_helper.new.variables in
     subst (λ (k : Kept g.row.D.Denot g.row.D-NameId.Denot g.row.D-SolvableId.Denot g.row.D-NameId-Scores.Denot). Step (store_of (given g) g.D.NameId.Scores.IdMap.value_at k) (Helper origin) (answer_of c.add_helper.result) made) c.self.view_is
-    (step_grown st (Helper origin) (are_variables_out (length st.origins)) c.add_helper.result made (first_of_helper st origin (sym known_is ∙ c.if-not-knows_helper.false)) refl refl (λ h. h) c.add_helper.ensures.reply
+    (step_grown st (Helper origin) (are_variables_out (length st.origins)) c.add_helper.result made refl (first_of_helper st origin (sym known_is ∙ c.if-not-knows_helper.false)) refl refl (λ h. h) c.add_helper.ensures.reply
     (on_ok c.add_helper.result (ap with_origins) c.add_helper.ensures.ok) (on_err c.add_helper.result (ap with_origins) c.add_helper.ensures.err) c.add_helper.ensures.refused c.add_helper.ensures.ids_out)

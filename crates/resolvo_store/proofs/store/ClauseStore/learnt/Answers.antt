@@ -19,7 +19,9 @@ pub learn_clause-requires : goal.learn_clause-requires
 learn_clause-requires g c = not_empty c.args.literals.now (sym c.is_bad_learnt.ensures ∙ c.if-is_bad_learnt.false)
 
 pub invariant_of-self : goal.invariant_of-self
-invariant_of-self g c = after_learnt c.self.invariant c.args.literals.now c.learn_clause.result c.learn_clause.ensures.ok c.learn_clause.ensures.err
+invariant_of-self g c =
+    let known = subst (λ n. list_all (λ l. nat_lt (variable_of l) n) c.args.literals.now ≡ true) c.count.ensures.value (sym c.knows_literals.ensures ∙ c.if-not-knows_literals.false) in
+    after_learnt c.self.invariant c.args.literals.now c.learn_clause.result known c.learn_clause.ensures.ok c.learn_clause.ensures.err
 
 pub returns-clause-step : goal.returns-clause-step
 returns-clause-step g c =

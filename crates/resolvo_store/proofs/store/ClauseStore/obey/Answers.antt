@@ -3,7 +3,7 @@ use Rattle.resolvo_store.specs.Command.{command_of, answer_of}
 use Rattle.resolvo_store.specs.Sound.{IsSound}
 use Rattle.resolvo_store.specs.Store.{Store, Provider, Kept, store_of, gathered}
 use Rattle.resolvo_store.proofs.KnownLemmas.{IsLawful}
-use Rattle.resolvo_store.proofs.RunLemmas.{refused_same}
+use Rattle.resolvo_store.proofs.SaturatedLaws.{refusal_leaves}
 use Rattle.resolvo_store.proofs.SoundSteps.{IsSound-step}
 use Rattle.resolvo_store.proofs.store.ClauseStore.obey.Given.{Over}
 use Rattle.resolvo_store.proofs.store.ClauseStore.obey.Goals as goal
@@ -32,4 +32,5 @@ returns-clause-sound g c =
     IsSound-step (command_of c.args.command.now) (answer_of c.dispatch.result) (lawful g c.args.self.now.provider) (subst (λ k. IsSound (store g k)) c.self.view_is c.self.invariant.sound) c.dispatch.ensures.step
 
 pub returns-clause-err : goal.returns-clause-err
-returns-clause-err g c = refused_same (store g c.args.self.now) (store g c.dispatch.new.self) (command_of c.args.command.now) c.dispatch.result c.dispatch.ensures.step
+returns-clause-err g c =
+    refusal_leaves (store g c.args.self.now) (store g c.dispatch.new.self) (command_of c.args.command.now) c.dispatch.result (subst (λ k. IsSound (store g k)) c.self.view_is c.self.invariant.sound) c.dispatch.ensures.step

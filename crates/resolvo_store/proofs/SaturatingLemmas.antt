@@ -1,0 +1,116 @@
+-- What the list of clauses leaves where it is asked to saturate makes a step, and keeps the store in order. N are the names,
+-- S the solvables.
+use Rattle.std.proofs.Common.{◌≡◌, ℕ, ◌<◌, ◌≤◌, ◌^◌, true, false, not, List, [], ◌∷◌, ◌++◌, length, Option, None, Some, Result, Ok, Err, refl, sym, subst, ap, ◌∙◌}
+use Rattle.std.specs.Prelude.{MatchOption, Bool, IfOk, IfErr}
+use Rattle.std.specs.declared.vec.Vec.{Vec}
+use Rattle.typed_ids.specs.declared.error.StoreError.{StoreError}
+use Rattle.typed_ids.specs.declared.error.StoreError.TheVariants.{OutOfMemory, LevelOutOfRange}
+use Rattle.providers.specs.declared.requirement.Requirement.{Requirement}
+use Rattle.decisions.specs.Literals.{Lit}
+use Rattle.decisions.specs.Trail.{Entry, Trail, val}
+use Rattle.clauses.specs.declared.disjunction.Disjunction.{Disjunction}
+use Rattle.watch_map.specs.ClauseList.{Clauses, IsClauseList}
+use Rattle.watch_map.specs.ClauseList as in_list
+use Rattle.watch_map.specs.Forcing.{AreForced, AreSettled, IsConflict}
+use Rattle.watch_map.specs.Saturation.{HasForced, IsRearranged}
+use Rattle.solver_cache.specs.Cache.{Cache}
+use Rattle.resolvo_queue.specs.Queue.{Queue}
+use Rattle.resolvo_store.specs.Command.{Saturate, Reply, Refused}
+use Rattle.resolvo_store.specs.Store.{Store, clause_literals, watched_by}
+use Rattle.resolvo_store.specs.Lists.{IsConsistent}
+use Rattle.resolvo_store.specs.Refusals.{is_level}
+use Rattle.resolvo_store.specs.Saturating.{IsSaturated, Saturates, found_answer}
+use Rattle.resolvo_store.specs.Step.{Step}
+use Rattle.resolvo_store.specs.Sound.{IsSound}
+use Rattle.resolvo_store.proofs.AddingLemmas.{first_of}
+use Rattle.resolvo_store.proofs.InvariantLemmas.{with_list}
+use Rattle.resolvo_store.proofs.SaturatedLaws.{IsSound-saturated}
+use Rattle.resolvo_store.proofs.SyncedLemmas.{in_step-forced}
+
+module _ {N S : Type 0} (st : Store N S) where
+  -- a step at a level that isn't in range
+  pub step_bad_level : (level : ℕ) → is_level level ≡ false → Step st (Saturate level) (Refused LevelOutOfRange) st
+  step_bad_level level bad =
+      subst (λ b. MatchOption (first_of ((not b, LevelOutOfRange) ∷ [])) (Saturates level st (Refused LevelOutOfRange) st) (λ e. (Refused LevelOutOfRange ≡ Refused e) × (st ≡ st)))
+      (sym bad) (refl, refl)
+
+  -- and at one that is
+  pub step_saturates : (level : ℕ) (reply : Reply) (after : Store N S) → is_level level ≡ true → Saturates level st reply after → Step st (Saturate level) reply after
+  step_saturates level reply after good is =
+      subst (λ b. MatchOption (first_of ((not b, LevelOutOfRange) ∷ [])) (Saturates level st reply after) (λ e. (reply ≡ Refused e) × (after ≡ st))) (sym good) is
+
+  -- the store with another list of clauses and another trail
+  abbrev pub with_forced : Clauses N → Trail → Store N S
+  with_forced cs t = record (with_list st cs) { trail = t.entries; place = t.place }
+
+  -- what the list left, where these are the literals of its clauses
+  pub record HasLeft (literals : ℕ → List Lit) (level : ℕ) (before after : Trail) (cs : Clauses N) : Type 0 where
+    pub literals_are : literals ≡ clause_literals st
+    pub clauses : cs.clauses ≡ st.clauses
+    pub learnt : cs.learnt ≡ st.learnt
+    pub rearranged : IsRearranged literals (watched_by st) (in_list.watched_by cs)
+    pub is_list : IsClauseList cs
+    pub forced : HasForced literals level before after
+
+  module _ (sound : IsSound st) (literals : ℕ → List Lit) (level : ℕ) (before after : Trail) (cs : Clauses N) (left : HasLeft literals level before after cs)
+      (entries : before.entries ≡ st.trail) (place : before.place ≡ st.place) where
+    new_parts : (added : List Entry) → after.entries ≡ st.trail ++ added
+        → with_forced cs after ≡ record st { trail = st.trail ++ added; watches = cs.watches; watchers = cs.watchers }
+    new_parts added longer =
+        ap (λ x. record st { clauses = x; learnt = cs.learnt; watches = cs.watches; watchers = cs.watchers; trail = after.entries; place = after.place }) left.clauses
+        ∙ ap (λ x. record st { learnt = x; watches = cs.watches; watchers = cs.watchers; trail = after.entries; place = after.place }) left.learnt
+        ∙ ap (λ x. record st { watches = cs.watches; watchers = cs.watchers; trail = x; place = after.place }) longer
+        ∙ ap (λ x. record st { watches = cs.watches; watchers = cs.watchers; trail = st.trail ++ added; place = x }) (left.forced.place ∙ place)
+
+    -- is the store saturated so far
+    pub saturated : IsSaturated level st (with_forced cs after)
+    saturated = record {
+      added = left.forced.added;
+      forced = subst (λ f. AreForced f level st.trail left.forced.added) left.literals_are
+          (subst (λ es. AreForced literals level es left.forced.added) entries left.forced.forced);
+      watches = cs.watches;
+      watchers = cs.watchers;
+      rest = new_parts left.forced.added (left.forced.entries ∙ ap (λ es. es ++ left.forced.added) entries);
+      watched = left.is_list.paired ∙ ap length left.clauses ∙ sym sound.watched;
+      rearranged = subst (λ f. IsRearranged f (watched_by st) (in_list.watched_by cs)) left.literals_are left.rearranged;
+      exact = left.is_list.exact;
+    }
+
+    -- what is true of the clauses' literals and their number is true of the new store's
+    still : (P : (ℕ → List Lit) → ℕ → Type 0) → P literals (length st.clauses) → P (clause_literals (with_forced cs after)) (length cs.clauses)
+    still P h =
+        subst (λ x. P (clause_literals (record st { clauses = x; learnt = cs.learnt })) (length x)) (sym left.clauses)
+        (subst (λ x. P (clause_literals (record st { learnt = x })) (length st.clauses)) (sym left.learnt) (subst (λ f. P f (length st.clauses)) left.literals_are h))
+
+    -- what the list found
+    abbrev pub Finds : Option ℕ → Type 0
+    Finds found = MatchOption found (AreSettled literals (length st.clauses) (val after.entries)) (IsConflict literals (length st.clauses) (val after.entries))
+
+    saturates : (found : Option ℕ) → Finds found → Saturates level st (found_answer (Ok found)) (with_forced cs after)
+    saturates None settled = (saturated, still (λ f n. AreSettled f n (val after.entries)) settled)
+    saturates (Some c) conflict = (saturated, still (λ f n. IsConflict f n (val after.entries) c) conflict)
+
+    -- and with what it found, or its refusal, a step
+    pub step_found : (found : Result (Option ℕ) StoreError) → is_level level ≡ true → IfOk found Finds → IfErr found (λ e. e ≡ OutOfMemory)
+        → Step st (Saturate level) (found_answer found) (with_forced cs after)
+    step_found (Ok found) good ok err = step_saturates level (found_answer (Ok found)) (with_forced cs after) good (saturates found ok)
+    step_found (Err e) good ok err =
+        subst (λ x. Step st (Saturate level) (Refused x) (with_forced cs after)) (sym err) (step_saturates level (Refused OutOfMemory) (with_forced cs after) good saturated)
+
+module _ {D N S A H Q : Type 0} {has : Q → N → Bool} {st : Store N S} {loaded : List (Requirement × Vec (Vec ℕ A) A)} {disjunctions : List (Disjunction A)}
+    {cache : Cache D N S A H} {queue : Queue N Q} {trail : Trail} (is : IsConsistent has st loaded disjunctions cache queue trail) where
+  -- a store that keeps what it should still does
+  pub after_saturated : {literals : ℕ → List Lit} (level : ℕ) {after : Trail} {cs : Clauses N} → (1 ≤ level) × (level < 2 ^ 31) → HasLeft st literals level trail after cs
+      → trail.entries ≡ st.trail → trail.place ≡ st.place → IsConsistent has (with_forced st cs after) loaded disjunctions cache queue after
+  after_saturated {literals = literals} level {after = after} {cs = cs} in_range left entries place = record {
+    few = is.few;
+    known = is.known;
+    asked = is.asked;
+    sound = IsSound-saturated level st (with_forced st cs after) in_range is.sound (saturated st is.sound literals level trail after cs left entries place);
+    may_ask = record {
+      in_step = in_step-forced trail after left.forced is.may_ask.in_step;
+      stands = is.may_ask.stands;
+      named = is.may_ask.named;
+      hot = is.may_ask.hot;
+    };
+  }
