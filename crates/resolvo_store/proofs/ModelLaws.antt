@@ -11,7 +11,8 @@ use Rattle.clauses.specs.declared.clause.Clause.{Clause}
 use Rattle.clauses.specs.Clauses.{same_literal, literals_of}
 use Rattle.watch_map.specs.Watching.{is_literal_in}
 use Rattle.watch_map.specs.Forcing.{is_false, are_others_false, forces, decided_literal, IsForced, AreForced}
-use Rattle.watch_map.proofs.ForcingLaws.{val_of_more, forced_is_own}
+use Rattle.watch_map.proofs.ForcingLaws.{forced_is_own}
+use Rattle.watch_map.proofs.ValueLaws.{val_of_more}
 use Rattle.watch_map.proofs.WatchingLaws.{same_is}
 use Rattle.resolvo_store.specs.Store.{Store, values, kept_literals, clause_literals}
 use Rattle.resolvo_store.specs.ForbidsTwo.{is_true_literal, is_met}

@@ -10,7 +10,8 @@ use Rattle.decisions.specs.Trail.{Entry, HasLevel}
 use Rattle.watch_map.specs.Watching.{IsExact}
 use Rattle.watch_map.specs.Forcing.{IsForced, AreForced, decided_literal}
 use Rattle.watch_map.specs.Saturation.{IsRearranged}
-use Rattle.watch_map.proofs.ForcingLaws.{decided_variable, forced_was_open, forced_is_own}
+use Rattle.watch_map.proofs.ForcingLaws.{forced_was_open, forced_is_own}
+use Rattle.watch_map.proofs.ValueLaws.{decided_variable}
 use Rattle.resolvo_store.specs.Command.{Command, Saturate, Reply, Done, Conflict, Refused, answer_of, is_saturate}
 use Rattle.resolvo_store.specs.declared.reply.Reply.{Reply as ProgramReply}
 use Rattle.resolvo_store.specs.Store.{Store, values, clause_literals, watched_by}

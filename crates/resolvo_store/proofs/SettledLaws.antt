@@ -16,7 +16,7 @@ use Rattle.clauses.specs.declared.clause.Clause.TheVariants as Kind
 use Rattle.clauses.specs.Clauses.{literals_of, other_literals}
 use Rattle.watch_map.specs.Forcing.{is_false, are_others_false, forces, IsSettled}
 use Rattle.watch_map.specs.Watching.{is_literal_in}
-use Rattle.watch_map.proofs.ListFacts.{all_at}
+use Rattle.watch_map.proofs.LiteralLists.{all_at}
 use Rattle.resolvo_queue.specs.declared.requires_clause.RequiresClause.{RequiresClause}
 use Rattle.resolvo_queue.specs.Rows.{Row, list_rows, rows, all_false}
 use Rattle.resolvo_queue.specs.Scan.{parents, clauses_of, scan, are_literals_false, is_falsified}

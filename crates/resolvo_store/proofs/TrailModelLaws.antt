@@ -13,7 +13,7 @@ use Rattle.clauses.specs.declared.clause.Clause.TheVariants as Kind
 use Rattle.clauses.specs.Clauses.{same_literal, literals_of}
 use Rattle.watch_map.specs.Forcing.{is_false, are_others_false, IsSettled}
 use Rattle.watch_map.specs.Watching.{is_literal_in}
-use Rattle.watch_map.proofs.ListFacts.{any_at}
+use Rattle.watch_map.proofs.LiteralLists.{any_at}
 use Rattle.watch_map.proofs.WatchingLaws.{same_is, same_self}
 use Rattle.resolvo_queue.specs.declared.requires_clause.RequiresClause.{RequiresClause}
 use Rattle.resolvo_queue.specs.Rows.{Row, list_rows, rows, has_true_row}
