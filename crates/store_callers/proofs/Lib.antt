@@ -4,4 +4,5 @@ pub mod DecisionLaws
 pub mod ExampleProofs
 pub mod LoadLaws
 pub mod PlayLaws
+pub mod SaturatingLaws
 pub mod SaturationProofs

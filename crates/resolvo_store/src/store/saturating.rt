@@ -26,7 +26,9 @@ impl<D: DependencyProvider + Drop> ClauseStore<D> {
             return Err(StoreError::LevelOutOfRange);
         }
         let (lists, disjunctions) = (&self.loaded, &self.disjunctions);
-        let found = self.clauses.saturate(lists, disjunctions, &mut self.trail, level);
+        let found = self
+            .clauses
+            .saturate(lists, disjunctions, &mut self.trail, level);
         answered(found)
     }
 }
