@@ -65,6 +65,17 @@ impl<A: Allocator + Copy> PositionSet<A> {
         self.positions.remove(&position);
     }
 
+    /// The first position.
+    pub(crate) fn first(&self) -> Option<Position>
+        ensures none { MatchOption result ((p : Position) → has self.now p ≡ false) (λ f. has self.now f ≡ true) }
+        ensures least { IfSome result (λ f. (p : Position) → has self.now p ≡ true → is_after f p ≡ false) }
+    {
+        match self.positions.first() {
+            Some(first) => Some(*first),
+            None => None,
+        }
+    }
+
     /// The first position that isn't before another one.
     pub(crate) fn first_from(&self, position: Position) -> Option<Position>
         ensures none { MatchOption result ((p : Position) → is_after position p ≡ false → has self.now p ≡ false)

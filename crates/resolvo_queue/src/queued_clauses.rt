@@ -65,8 +65,21 @@ impl<A: Allocator + Copy> QueuedClauses<A> {
         self.hot.remove(position);
     }
 
-    /// The first position of a group.
+    /// The first position of a group. Where the root was registered first, its clauses are the first of all.
     pub(crate) fn first_of(&self, group: Group) -> Option<Position>
+        ensures none { MatchOption result ((p : Position) → has_of group self.now.all p ≡ false)
+            (λ f. has_of group self.now.all f ≡ true) }
+        ensures least { IfSome result (λ f. (p : Position) → has_of group self.now.all p ≡ true → is_after f p ≡ false) }
+    {
+        let start = group.start();
+        match self.all.first() {
+            Some(first) if first.first_of_parent < start.first_of_parent => self.search(group),
+            first => group.only(first),
+        }
+    }
+
+    /// The first position of a group, looked for behind those of other groups.
+    fn search(&self, group: Group) -> Option<Position>
         ensures none { MatchOption result ((p : Position) → has_of group self.now.all p ≡ false)
             (λ f. has_of group self.now.all f ≡ true) }
         ensures least { IfSome result (λ f. (p : Position) → has_of group self.now.all p ≡ true → is_after f p ≡ false) }
