@@ -1,5 +1,6 @@
 //! Trials of which each request is refused in turn. Beside the store to which a request is refused there is a twin in ample memory, to
-//! which the refused command isn't given: both must then tell the same. A command that takes no memory must not meet a refusal.
+//! which the refused command isn't given: both must then tell the same. A command that takes no memory must not meet a refusal. A refused
+//! `saturate` keeps what it forced: so it is compared where it is given again alone, from there on.
 use crate::answers::{Heap, push_replies, push_reply, push_steps, push_unlike};
 use crate::few::{Counts, refused_reply};
 use crate::free::is_free;
@@ -8,6 +9,7 @@ use crate::obeys::Obeys;
 use crate::played::{IdKind, Play};
 use crate::trial::Trial;
 use resolvo_store::Command;
+use script_text::is_word;
 use std::alloc::{AllocError, Allocator, Global};
 use test_support::Refusing;
 use typed_ids::StoreError;
@@ -76,7 +78,9 @@ impl<N, S, A: Allocator + Copy> Refused<'_, N, S, A> {
         let (before, after) = self.parts(place);
         push_steps(store, self.alloc, before, told)?;
         let is_met = self.push_refused(store, after, number, told)?;
-        push_steps(store, self.alloc, self.probes, told)?;
+        if !matches!(after, [Command::Saturate(_), ..]) {
+            push_steps(store, self.alloc, self.probes, told)?;
+        }
         push_steps(store, self.alloc, after, told)?;
         Ok(is_met)
     }
@@ -185,11 +189,19 @@ pub(crate) fn tell_each<'h, K: IdKind>(
             waiting.extend_from_slice(said.keyword)?;
             waiting.push(b'\n')?;
         }
-        if trial.is(b"over") {
+        if trial.is(b"over") && !keeps_its_part(trial, place) {
             tell_over::<K>(heap, trial, (place, count), waiting)?;
         }
     }
     tell_runs::<K>(heap, trial, answers, waiting)
+}
+
+/// Whether the command of a place keeps what it did where it is refused.
+fn keeps_its_part(trial: &Trial<'_>, place: usize) -> bool {
+    trial
+        .commands
+        .get(place)
+        .is_some_and(|said| is_word(said.keyword, b"saturate"))
 }
 
 /// What is told where there is no end of requests.
@@ -253,6 +265,9 @@ fn tell_runs<'h, K: IdKind>(
             return Ok(());
         }
         let place = seen.as_str().lines().position(|line| line == "refused 1");
+        if place.is_some_and(|place| keeps_its_part(trial, place)) {
+            continue;
+        }
         let (twin, _) = told::<K>(heap, trial, Fate::Without(place))?;
         push_unlike(
             "refused a request in a run:\n",
