@@ -24,3 +24,7 @@ returns-in-Done-clause-model g c = λ may none.
 pub returns-in_default-clause-unfalsified : goal.returns-in_default-clause-unfalsified
 returns-in_default-clause-unfalsified g c =
     saturate_not_falsified (store_in c.step.ensures.was_sound) (store_in c.step.ensures.sound) c.args.level (reply_of c.step.result) c.step.ensures.step
+
+pub returns-in_default-clause-model : goal.returns-in_default-clause-model
+returns-in_default-clause-model g c = λ may none.
+    absurd (saturate_not_undecided (store_in c.step.ensures.was_sound) (store_in c.step.ensures.sound) c.args.level (reply_of c.step.result) c.step.ensures.step none)
