@@ -128,7 +128,8 @@ fn push_text<I: Interner>(
         2 => interner.display_version_set(set, out),
         3 => interner.display_string(string, out),
         4 => interner.display_solvable_name(solvable, out),
-        5 => interner.display_merged_solvables(&[solvable, solvable], out),
+        // of none, as the provider of the tests has one text for solvables together, however many
+        5 => interner.display_merged_solvables(&[], out),
         6 => Requirement::Single(set).display(interner, out),
         7 => Requirement::Union(union).display(interner, out),
         _ => SolvableIdOrRoot::Solvable(solvable).display(interner, out),

@@ -8,23 +8,15 @@ use Rattle.store_callers.proofs.law_callers.saturate_and_decide.Goals as goal
 pub returns-in-Done-clause-unfalsified : goal.returns-in-Done-clause-unfalsified
 returns-in-Done-clause-unfalsified g c =
     let old = store_in c.step.ensures.was_sound in
-    let mid = store_in c.step-2.ensures.was_sound in
-    let new = store_in c.step-2.ensures.sound in
+    let mid = store_in c.step-in-Done.ensures.was_sound in
+    let new = store_in c.step-in-Done.ensures.sound in
     let done = subst (λ reply. Step old (Saturate c.args.level) (reply_of reply) mid) c.in-Done.is c.step.ensures.step in
-    decides_unfalsified mid new (reply_of c.step-2.result) (done_unfalsified old mid c.args.level c.step-2.ensures.was_sound done) c.step-2.ensures.step
+    decides_unfalsified mid new (reply_of c.step-in-Done.result) (done_unfalsified old mid c.args.level c.step-in-Done.ensures.was_sound done) c.step-in-Done.ensures.step
 
 pub returns-in-Done-clause-model : goal.returns-in-Done-clause-model
 returns-in-Done-clause-model g c = λ may none.
     let old = store_in c.step.ensures.was_sound in
-    let mid = store_in c.step-2.ensures.was_sound in
-    let new = store_in c.step-2.ensures.sound in
+    let mid = store_in c.step-in-Done.ensures.was_sound in
+    let new = store_in c.step-in-Done.ensures.sound in
     let done = subst (λ reply. Step old (Saturate c.args.level) (reply_of reply) mid) c.in-Done.is c.step.ensures.step in
-    no_decision_is_model mid new c.step-2.ensures.sound (done_settles old mid c.args.level done) (subst (λ reply. Step mid Decide reply new) none c.step-2.ensures.step) may
-
-pub returns-in_default-clause-unfalsified : goal.returns-in_default-clause-unfalsified
-returns-in_default-clause-unfalsified g c =
-    saturate_not_falsified (store_in c.step.ensures.was_sound) (store_in c.step.ensures.sound) c.args.level (reply_of c.step.result) c.step.ensures.step
-
-pub returns-in_default-clause-model : goal.returns-in_default-clause-model
-returns-in_default-clause-model g c = λ may none.
-    absurd (saturate_not_undecided (store_in c.step.ensures.was_sound) (store_in c.step.ensures.sound) c.args.level (reply_of c.step.result) c.step.ensures.step none)
+    no_decision_is_model mid new c.step-in-Done.ensures.sound (done_settles old mid c.args.level done) (subst (λ reply. Step mid Decide reply new) none c.step-in-Done.ensures.step) may
