@@ -1,5 +1,5 @@
 -- What a queue's clauses name stays there while other things come to it; and the values of a trail.
-use Rattle.std.proofs.Common.{◌≡◌, ℕ, zero, suc, ◌+◌, ◌<◌, Bool, true, false, cond, eqb, List, [], ◌∷◌, ◌++◌, length, map, flat_map, Option, Some, None, is_some, slice_get, sym, ap, ◌∙◌, subst, refl, arith, length-append, Vec, unwrap_or}
+use Rattle.std.proofs.Common.{◌≡◌, ℕ, zero, suc, ◌+◌, ◌<◌, ◌≤◌, Bool, true, false, cond, eqb, List, [], ◌∷◌, ◌++◌, length, map, flat_map, Option, Some, None, is_some, slice_get, sym, ap, ◌∙◌, subst, refl, arith, length-append, Vec, unwrap_or}
 use Rattle.std.specs.Prelude.{All, Contains, IfSome, IsSome}
 use Rattle.std.specs.Map.{lookup}
 use Rattle.std.proofs.lemmas.List.Elements.{All-weaker}
@@ -18,8 +18,9 @@ use Rattle.resolvo_queue.specs.Queue.{values_of}
 use Rattle.resolvo_queue.specs.Question.{clause_literals}
 use Rattle.resolvo_queue.specs.References.{HasParts, references, rows_in}
 use Rattle.resolvo_queue.specs.Rows.{candidates, lists_or_none, loaded_rows, rows}
-use Rattle.resolvo_queue.specs.Tracked.{Tracked, known_at, rows_at, walk_of}
+use Rattle.resolvo_queue.specs.Tracked.{Tracked, known_at, owed_of, rows_at, walk_of}
 use Rattle.resolvo_queue.specs.Tracked.{rows_in as rows_of_record}
+use Rattle.resolvo_queue.specs.WalkCounts.{owed_in, record_of, walks_in, walks_of}
 use Rattle.resolvo_queue.specs.declared.tracked_clause.TrackedClause.{TrackedClause}
 use Rattle.resolvo_queue.proofs.AskableLaws.{all_tracked}
 use Rattle.resolvo_queue.proofs.EntryLaws.{looked_up}
@@ -29,6 +30,20 @@ use Rattle.resolvo_queue.proofs.OccurrenceLaws.{same_is}
 use Rattle.resolvo_queue.proofs.QueuedLaws.{grows_none}
 use Rattle.resolvo_queue.proofs.StandsLaws.{finds_same, synced_same}
 use Rattle.resolvo_queue.proofs.WitnessLaws.{candidates_with_lists}
+
+-- ---- walks
+
+-- no requirement was walked that owed no walk
+pub walks_within : (ts : List Tracked) (r : Requirement) → walks_in ts r ≤ owed_in ts r
+walks_within ts r = go (record_of ts r)
+  where
+    go : (o : Option Tracked) → walks_of o ≤ owed_of o
+    go None = omega arith
+    go (Some t) = known (is_some t.walk)
+      where
+        known : (b : Bool) → t.walks ≤ t.walks + cond b 0 1
+        known true = omega arith
+        known false = omega arith
 
 -- ---- one disjunction more
 

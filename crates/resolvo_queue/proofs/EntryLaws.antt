@@ -4,7 +4,7 @@ use Rattle.std.specs.Map.{lookup}
 use Rattle.providers.specs.Requirement.{same_requirement}
 use Rattle.providers.specs.RequirementMap.{with_entry}
 use Rattle.providers.specs.declared.requirement.Requirement.{Requirement}
-use Rattle.resolvo_queue.specs.Records.{ArePlaced}
+use Rattle.resolvo_queue.specs.Records.{ArePlaced, IsCounted}
 use Rattle.resolvo_queue.specs.Tracked.{Tracked, HasNoPlace, IsPlaceOf, fresh, known_at, updated_at}
 use Rattle.resolvo_queue.proofs.OccurrenceLaws.{same_is, same_self}
 
@@ -64,6 +64,7 @@ pub placed_more : (ts : List Tracked) (places : List (Requirement × ℕ)) (r : 
 placed_more ts places r a none = record {
   at = λ k t e. at k t (earlier_or_last ts (fresh r) k t e);
   of = λ q k e. of q k (same_requirement q r) refl (sym (looked_up places r (length ts) q) ∙ e);
+  counted = λ k t e. elim (earlier_or_last ts (fresh r) k t e) [ inl was ↦ a.counted k t was | inr p ↦ subst IsCounted (sym p.0) (inl refl) ];
 }
   where
     missed : {V : Type 0} (v w : V) → None ≡ Some v → ⊥

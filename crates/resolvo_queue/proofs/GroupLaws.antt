@@ -1,23 +1,27 @@
 -- Groups of clauses, and the root's clauses as one.
-use Rattle.std.proofs.Common.{◌≡◌, ℕ, ◌+◌, Bool, true, false, ◌&&◌, cond, eqb, eqb-true, eq-eqb, List, [], ◌∷◌, filter, filter_map, Option, Some, None, IfSome, MatchOption, option_map, slice_get, sym, ap, ap₂, refl, ◌∙◌, subst, arith}
+use Rattle.std.proofs.Common.{◌≡◌, ℕ, ◌+◌, Bool, true, false, ◌&&◌, cond, eqb, eqb-true, eq-eqb, List, [], ◌∷◌, filter, filter_map, Option, Some, None, IfOk, IfSome, MatchOption, Result, Ok, Err, option_map, slice_get, sym, ap, ap₂, refl, ◌∙◌, subst, arith}
 use Rattle.std.specs.List.{cons_option}
 use Rattle.decisions.specs.Literals.{Lit, Values}
 use Rattle.providers.specs.declared.requirement.Requirement.{Requirement}
+use Rattle.typed_ids.specs.declared.error.StoreError.{StoreError}
 use Rattle.typed_ids.specs.declared.version_set_id.VersionSetId.{VersionSetId}
-use Rattle.resolvo_queue.specs.Group.{Group, has_of, is_in, offers_of, only_in}
+use Rattle.resolvo_queue.specs.Group.{Group, group_at, has_of, is_in, offers_of, only_in}
 use Rattle.resolvo_queue.specs.Index.{list_at}
 use Rattle.resolvo_queue.specs.Inspection.{eligible_frontier, offer_of, offer_with}
 use Rattle.resolvo_queue.specs.Order.{Stands, here, there}
-use Rattle.resolvo_queue.specs.Pick.{Offer, best_offer, is_of_root}
-use Rattle.resolvo_queue.specs.Positions.{has, is_after}
-use Rattle.resolvo_queue.specs.Ready.{AreLocated, offered, scanned}
+use Rattle.resolvo_queue.specs.Pick.{Offer, best_offer, is_of_root, pick}
+use Rattle.resolvo_queue.specs.Positions.{has, is_after, position_cmp}
+use Rattle.resolvo_queue.specs.Ready.{AreLocated, offered, place_of, rest_picked, scanned}
 use Rattle.resolvo_queue.specs.Rows.{Row}
 use Rattle.resolvo_queue.specs.ScanOrder.{first_from}
+use Rattle.resolvo_queue.specs.Selection.{behind}
 use Rattle.resolvo_queue.specs.Tracking.{BeginFirst, HasNoClause, IsFirstOf}
+use Rattle.resolvo_queue.specs.declared.candidate.Candidate.{Candidate}
 use Rattle.resolvo_queue.specs.declared.frontier.Frontier.{Frontier}
 use Rattle.resolvo_queue.specs.declared.group.Group.TheVariants.{OfParent}
 use Rattle.resolvo_queue.specs.declared.position.Position.{Position}
 use Rattle.resolvo_queue.specs.declared.tracked_clause.TrackedClause.{TrackedClause}
+use Rattle.resolvo_queue.proofs.PickLaws.{picks_started}
 use Rattle.resolvo_queue.proofs.ScanLaws.{first_is_own, scanned_at}
 
 -- what is of a group, and in a set, is in the set
@@ -127,6 +131,31 @@ module _ (clauses : List TrackedClause) (located : AreLocated clauses) (by_paren
       best_offer (offered clauses (offers_of group offers)) ≡ best_offer (filter is_of_root (offered clauses offers))
   best_of_group of group first is = ap best_offer (of_root (slice_get (list_at by_parent 0) 0) group refl (sym first ∙ is))
 
+  -- the first of them as a candidate, of whose own group it is the first
+  pub first_of_group : (of : Option Group) (group : Group) → of ≡ option_map OfParent (slice_get (list_at by_parent 0) 0) → of ≡ Some group →
+      (found : Result (Option Candidate) StoreError) →
+      IfOk found (λ o. MatchOption o (best_offer (offered clauses (offers_of group offers)) ≡ None)
+      (λ b. best_offer (offered clauses (offers_of group offers)) ≡ rest_picked clauses (offers_of group offers) b.offer b.position)) →
+      IfOk found (λ o. IfSome o (λ b. is_in group b.position ≡ true)) →
+      IfOk found (λ o. MatchOption o (best_offer (filter is_of_root (offered clauses offers)) ≡ None)
+      (λ b. best_offer (filter is_of_root (offered clauses offers)) ≡ rest_picked clauses (offers_of (group_at b.position) offers) b.offer b.position))
+  first_of_group of group first is (Err e) best own = tt
+  first_of_group of group first is (Ok None) best own = sym (best_of_group of group first is) ∙ best
+  first_of_group of group first is (Ok (Some b)) best own =
+      sym (best_of_group of group first is) ∙ (best
+      ∙ ap (λ at. rest_picked clauses (offers_of at offers) b.offer b.position) (own_group (slice_get (list_at by_parent 0) 0) (sym first ∙ is)))
+    where
+      own_group : (o : Option ℕ) → option_map OfParent o ≡ Some group → group ≡ group_at b.position
+      own_group None e = cc
+      own_group (Some n) e = at n (inner (OfParent n) group e)
+        where
+          inner : (x y : Group) → Some x ≡ Some y → x ≡ y
+          inner x y h = cc
+
+          at : (n : ℕ) → OfParent n ≡ group → group ≡ group_at b.position
+          at n h =
+              sym h ∙ ap OfParent (sym (eqb-true b.position.first_of_parent n (subst (λ x. is_in x b.position ≡ true) (sym h) own)))
+
   pub best_of_none : (of : Option Group) → of ≡ option_map OfParent (slice_get (list_at by_parent 0) 0) → of ≡ None →
       best_offer (filter is_of_root (offered clauses offers)) ≡ None
   best_of_none of first none = ap best_offer (without_root (unmapped (slice_get (list_at by_parent 0) 0) (sym first ∙ none)))
@@ -143,3 +172,9 @@ offers_own val literals rows_of score c = go (eligible_frontier val literals row
     go : (o : Option Frontier) → IfSome (option_map (offer_with score c) o) (λ f. f.clause.parent ≡ c.parent)
     go None = tt
     go (Some f) = refl
+
+-- what the clauses behind the root's first make of it is the pick, where it is the best of the root's
+pub picks_rest : (clauses : List TrackedClause) (offers own : TrackedClause → Option Offer) (b : Offer) (p : Position) →
+    best_offer (filter is_of_root (offered clauses offers)) ≡ rest_picked clauses own b p → pick (offered clauses offers) ≡ rest_picked clauses own b p
+picks_rest clauses offers own b p =
+    picks_started (offered clauses offers) b (filter_map (λ x. own x.1) (behind position_cmp (place_of clauses) (λ x. own x.1) p (scanned clauses)))

@@ -1,5 +1,5 @@
 -- What is owed of requirements after a registration, and after a sync.
-use Rattle.std.proofs.Common.{◌≡◌, ℕ, zero, suc, ◌+◌, ◌≤◌, ◌<◌, min, Bool, true, false, cond, ltb, ◌⊎◌, inl, inr, List, [], ◌∷◌, ◌++◌, flat_map, drop, length, take, Option, Some, None, option_map, is_some, sym, ap, ap₂, refl, ◌∙◌, subst, arith, length-take}
+use Rattle.std.proofs.Common.{◌≡◌, ℕ, zero, suc, ◌+◌, ◌≤◌, ◌<◌, min, Bool, true, false, cond, ltb, ◌⊎◌, inl, inr, List, [], ◌∷◌, ◌++◌, flat_map, drop, length, take, Option, Some, None, option_map, is_some, slice_get, sym, ap, ap₂, refl, ◌∙◌, subst, arith, length-take}
 use Rattle.std.proofs.lemmas.Bool.{ltb-false, ltb-true}
 use Rattle.std.proofs.lemmas.List.{drop_all}
 use Rattle.typed_ids.specs.declared.version_set_id.VersionSetId.{VersionSetId}
@@ -10,13 +10,14 @@ use Rattle.providers.specs.declared.requirement.Requirement.{Requirement}
 use Rattle.resolvo_queue.specs.Occurrences.{listing}
 use Rattle.resolvo_queue.specs.Order.{Stands, here, there}
 use Rattle.resolvo_queue.specs.Queue.{AgreesBelow, Queue, StandsOn}
+use Rattle.resolvo_queue.specs.Records.{IsCounted}
 use Rattle.resolvo_queue.specs.References.{IsWalkable, References, rows_in}
 use Rattle.resolvo_queue.specs.Routing.{OnlyForgets, Unrouted, variables_of}
 use Rattle.resolvo_queue.specs.Rows.{Row, candidates, list_rows, lists_loaded, rows}
-use Rattle.resolvo_queue.specs.Tracked.{GainsRecord, Tracked, forgotten, fresh, owed_of, updated_at, with_clause}
+use Rattle.resolvo_queue.specs.Tracked.{GainsRecord, IsPlaceOf, Tracked, forgotten, fresh, owed_of, updated_at, with_clause}
 use Rattle.resolvo_queue.specs.WalkCounts.{HasNoneOf, OwesFirst, OwesOneMore, changed_from, owed_in, record_of, walks_in, walks_of}
 use Rattle.resolvo_queue.proofs.Members.{contains_if_stands, stands_if_contains}
-use Rattle.resolvo_queue.proofs.OccurrenceLaws.{same_is}
+use Rattle.resolvo_queue.proofs.OccurrenceLaws.{same_is, same_self}
 
 inner : {X : Type 0} (x y : X) → Some x ≡ Some y → x ≡ y
 inner x y e = cc
@@ -75,6 +76,34 @@ clause_entered number (t ∷ ts) (suc place) r = go (same_requirement r t.requir
       ap walks_of (found_first t (updated_at (with_clause number) ts place) r false e) ∙ (m.0 ∙ sym (ap walks_of (found_first t ts r false e))),
       ap owed_of (found_first t (updated_at (with_clause number) ts place) r false e) ∙ (m.1 ∙ sym (ap owed_of (found_first t ts r false e))),
     )
+
+-- a requirement with a record owes a walk at least, or was walked
+pub owes_placed : (ts : List Tracked) (r : Requirement) (k : ℕ) → IsPlaceOf ts r k → ((j : ℕ) (t : Tracked) → slice_get ts j ≡ Some t → IsCounted t) → 1 ≤ owed_in ts r
+owes_placed [] r k p counted = absurd (missed p.0 p.1)
+  where
+    missed : (t : Tracked) → None ≡ Some t → ⊥
+    missed t e = cc
+owes_placed (x ∷ xs) r k p counted = go (same_requirement r x.requirement) refl (λ j q. owes_placed xs r j q (λ i t s. counted (suc i) t s))
+  where
+    own : (t : Tracked) → IsCounted t → 1 ≤ owed_of (Some t)
+    own t (inl e) = subst (λ w. 1 ≤ t.walks + cond (is_some w) 0 1) (sym e) (omega arith)
+    own t (inr e) = known (is_some t.walk)
+      where
+        known : (b : Bool) → 1 ≤ t.walks + cond b 0 1
+        known true = omega (arith, e)
+        known false = omega arith
+
+    differ : false ≡ true → ⊥
+    differ e = cc
+
+    later : (j : ℕ) → IsPlaceOf (x ∷ xs) r j → same_requirement r x.requirement ≡ false → ((i : ℕ) → IsPlaceOf xs r i → 1 ≤ owed_in xs r) → 1 ≤ owed_in xs r
+    later zero q e rest =
+        absurd (differ (sym e ∙ (ap (same_requirement r) (ap (λ (t : Tracked). t.requirement) (inner x q.0 q.1) ∙ q.2) ∙ same_self r)))
+    later (suc j) q e rest = rest j q
+
+    go : (b : Bool) → same_requirement r x.requirement ≡ b → ((i : ℕ) → IsPlaceOf xs r i → 1 ≤ owed_in xs r) → 1 ≤ owed_in (x ∷ xs) r
+    go true e rest = subst (λ o. 1 ≤ owed_of o) (sym (found_first x xs r true e)) (own x (counted zero x refl))
+    go false e rest = subst (λ o. 1 ≤ owed_of o) (sym (found_first x xs r false e)) (later k p e rest)
 
 pub owes_none : (own : Requirement) (ts : List Tracked) → OwesFirst own ts ts
 owes_none own ts = record { walks = λ r. refl; owed = λ r. inl refl }

@@ -239,6 +239,13 @@ read_here clauses p of c e = read_at clauses p.number c (within clauses p.number
     within (x ∷ xs) zero d s = omega arith
     within (x ∷ xs) (suc k) d s = let h : k < length xs = within xs k d s in omega arith
 
+pub match_some : {T : Type 0} (o : Option T) (x : T) (P : Type 0) (Q : T → Type 0) → o ≡ Some x → MatchOption o P Q → Q x
+match_some None x P Q e h = cc
+match_some (Some y) x P Q e h = subst Q (inner y x e) h
+  where
+    inner : {X : Type 0} (a b : X) → Some a ≡ Some b → a ≡ b
+    inner a b p = cc
+
 pub match_none : {T : Type 0} (o : Option T) (P : Type 0) (Q : T → Type 0) → o ≡ None → MatchOption o P Q → P
 match_none None P Q e h = h
 match_none (Some x) P Q e h = cc

@@ -5,7 +5,7 @@ use Rattle.std.proofs.lemmas.List.{length-map, drop_more, take_more, take_more_s
 use Rattle.providers.specs.Requirement.{same_requirement}
 use Rattle.providers.specs.declared.requirement.Requirement.{Requirement}
 use Rattle.resolvo_queue.specs.Tracked.{Tracked, IsPlaceOf, HasNoPlace, updated_at, forgotten}
-use Rattle.resolvo_queue.specs.Records.{tracked, ArePlaced}
+use Rattle.resolvo_queue.specs.Records.{tracked, ArePlaced, IsCounted}
 use Rattle.resolvo_queue.specs.declared.requirements.RequirementRecord.{RequirementRecord}
 use Rattle.resolvo_queue.proofs.OccurrenceLaws.{same_is}
 
@@ -47,8 +47,8 @@ length_updated f (t ∷ ts) (suc place) = ap suc (length_updated f ts place)
 -- ---- places
 
 pub placed_updated : (f : Tracked → Tracked) → ((t : Tracked) → (f t).requirement ≡ t.requirement) → (ts : List Tracked) (places : List (Requirement × ℕ)) (k : ℕ) →
-    ArePlaced ts places → ArePlaced (updated_at f ts k) places
-placed_updated f keeps ts places k a = record {
+    ((t : Tracked) → IsCounted t → IsCounted (f t)) → ArePlaced ts places → ArePlaced (updated_at f ts k) places
+placed_updated f keeps ts places k counts a = record {
   at = λ j t e.
       (let m = was_at f ts k j t e in
       let same : t.requirement ≡ m.0.requirement = elim m.2 [ inl s ↦ ap (λ (x : Tracked). x.requirement) s | inr p ↦ ap (λ (x : Tracked). x.requirement) p.0 ∙ keeps m.0 ] in
@@ -64,6 +64,9 @@ placed_updated f keeps ts places k a = record {
         )
         | inr ne ↦ (m.0, is_elsewhere f ts k j ne ∙ m.1, m.2)
       ]);
+  counted = λ j t e.
+      (let m = was_at f ts k j t e in
+      elim m.2 [ inl s ↦ subst IsCounted (sym s) (a.counted j m.0 m.1) | inr p ↦ subst IsCounted (sym p.0) (counts m.0 (a.counted j m.0 m.1)) ]);
 }
   where
     same_place : (j : ℕ) → (j ≡ k) ⊎ (j ≢ k)
@@ -107,8 +110,8 @@ module _ {A : Type 0} (f : Tracked → Tracked) (keeps : (t : Tracked) → (f t)
       let all : k < length (map tracked rs) = subst (λ l. k < length l) (sym view) within in
       tracked_set f rs k r s (subst (λ n. k < n) (length-map rs tracked) all) read is
 
-  pub written_placed : ArePlaced (map tracked rs) places → ArePlaced (map tracked (set rs k s)) places
-  written_placed a = subst (λ l. ArePlaced l places) (sym written) (placed_updated f keeps (map tracked rs) places k a)
+  pub written_placed : ((t : Tracked) → IsCounted t → IsCounted (f t)) → ArePlaced (map tracked rs) places → ArePlaced (map tracked (set rs k s)) places
+  written_placed counts a = subst (λ l. ArePlaced l places) (sym written) (placed_updated f keeps (map tracked rs) places k counts a)
 
   pub written_is : map tracked (set rs k s) ≡ updated_at f ts k
   written_is = written ∙ ap (λ l. updated_at f l k) view
@@ -160,6 +163,7 @@ placed_all ts places a = record {
   at = λ k t e. (let m = forgotten_at ts k t e in
       ap (λ r. lookup (same_requirement r) places) (ap (λ (x : Tracked). x.requirement) m.2) ∙ a.at k m.0 m.1);
   of = λ r k e. (let p = a.of r k e in (forgotten p.0, at_forgotten ts k p.0 p.1, p.2));
+  counted = λ k t e. subst IsCounted (sym (forgotten_at ts k t e).2) (inl refl);
 }
   where
     forgotten_at : (xs : List Tracked) (k : ℕ) (t : Tracked) → slice_get (map forgotten xs) k ≡ Some t → (s : Tracked) × (slice_get xs k ≡ Some s) × (t ≡ forgotten s)

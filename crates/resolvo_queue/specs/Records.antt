@@ -1,5 +1,5 @@
 -- Records as their code keeps them.
-use Rattle.std.specs.Prelude.{◌≡◌, ℕ, List, Some, None, slice_get, length}
+use Rattle.std.specs.Prelude.{◌≡◌, ◌⊎◌, ◌≤◌, ℕ, List, Some, None, slice_get, length}
 use Rattle.std.specs.Map.{lookup}
 use Rattle.providers.specs.Requirement.{same_requirement}
 use Rattle.providers.specs.declared.requirement.Requirement.{Requirement}
@@ -16,7 +16,12 @@ known_of (Kind.Known f) = Some f
 abbrev pub tracked : {A : Type 0} → RequirementRecord A → Tracked
 tracked r = record { requirement = r.requirement; clauses = r.clauses.items; walk = known_of r.walk; walks = length r.log.walked }
 
+-- what is known of a requirement's rows was told by a walk
+abbrev pub IsCounted : Tracked → Type 0
+IsCounted t = (t.walk ≡ None) ⊎ (1 ≤ t.walks)
+
 -- each requirement's record stands at its place, and each place is that of the record's requirement
 pub record ArePlaced (ts : List Tracked) (places : List (Requirement × ℕ)) : Type 0 where
   pub at : (place : ℕ) (t : Tracked) → slice_get ts place ≡ Some t → lookup (same_requirement t.requirement) places ≡ Some place
   pub of : (r : Requirement) (place : ℕ) → lookup (same_requirement r) places ≡ Some place → IsPlaceOf ts r place
+  pub counted : (place : ℕ) (t : Tracked) → slice_get ts place ≡ Some t → IsCounted t

@@ -80,6 +80,7 @@ use crate::falsification::falsified_clause;
 use crate::names::{copied, has_hot_name};
 use crate::offer::decision_at;
 use crate::parent_value::{ParentValue, is_true};
+use crate::question::Question;
 use crate::queue_decision::QueueDecision;
 use crate::requires_clause::RequiresClause;
 use crate::row_reader::RowReader;
@@ -199,9 +200,11 @@ impl<D: DependencyProvider> DecideQueue<D> {
         ensures full { (result ≡ Err TooManyClauses) ↔ (2 ^ 32 - 1 ≤ length self.old.clauses) }
         ensures memory { IfErr result (λ e. e ≢ TooManyClauses → e ≡ OutOfMemory) }
 
-        // Nothing is walked, whatever the result, and one walk is owed of a requirement that is new.
+        // Nothing is walked, whatever the result. One walk is owed of a requirement that is new; it may be owed also where
+        // the clause was refused, and then isn't owed twice.
         ensures walks { SameValues (walks self.old) (walks self.new) }
         ensures owed { (r : ARequirement) → (owed self.new r ≡ owed self.old r) ⊎ ((r ≡ requirement) × (owed self.old r ≡ 0) × (owed self.new r ≡ 1)) }
+        ensures owes_one { OnOk result (1 ≤ owed self.new requirement) }
 
         // What the queue's clauses name is there as before, where the requirement has lists.
         ensures stands { (universe : Universe D.NameId D.SolvableId) (lists : Lists D.Alloc) →
@@ -337,14 +340,14 @@ impl<D: DependencyProvider> DecideQueue<D> {
     }
 
     /// The decision of an eligible clause which no other one beats.
-    fn pick(
+    fn pick<'q>(
         &mut self,
-        map: &DecisionMap<D::Alloc>,
+        map: &'q DecisionMap<D::Alloc>,
         reader: &mut RowReader<'_, D::Alloc>,
-        disjunctions: &Arena<DisjunctionId, Disjunction<D::Alloc>, D::Alloc>,
-        scores: &<D::NameId as SolverId<D::Alloc>>::Scores,
+        disjunctions: &'q Arena<DisjunctionId, Disjunction<D::Alloc>, D::Alloc>,
+        scores: &'q <D::NameId as SolverId<D::Alloc>>::Scores,
         largest: u64,
-        provider: &D,
+        provider: &'q D,
     ) -> Result<Option<QueueDecision>, StoreError>
         requires synced { IsSynced (values_in map.now) self.old }
         requires stands { StandsOn (references (D.universe provider.now) reader.old.lists disjunctions.now) self.old }
@@ -370,15 +373,14 @@ impl<D: DependencyProvider> DecideQueue<D> {
         ensures walks { WalksOnce self.old.inside.requirements self.new.inside.requirements reader.old.walked reader.new.walked }
         ensures owed { SameValues (owed self.old) (owed self.new) }
     {
-        let offer = next_offer(
-            &mut self.tracked,
+        let question = Question {
             map,
-            reader,
             disjunctions,
             scores,
             largest,
-            provider,
-        )?;
+            interner: provider,
+        };
+        let offer = next_offer(&mut self.tracked, reader, &question)?;
         Ok(decision_at(&offer))
     }
 
@@ -388,14 +390,14 @@ impl<D: DependencyProvider> DecideQueue<D> {
     /// A refusal leaves the clauses, the trail and the hot names as they were, and the reader its walks. Linear in the clauses
     /// that changed variables find, in the queued clauses that turn out not to be eligible, which leave the queue, in the hot
     /// ones behind the first that is, and in the rows of their requirements of which nothing was known.
-    pub fn next_decision(
+    pub fn next_decision<'q>(
         &mut self,
-        map: &DecisionMap<D::Alloc>,
+        map: &'q DecisionMap<D::Alloc>,
         reader: &mut RowReader<'_, D::Alloc>,
-        disjunctions: &Arena<DisjunctionId, Disjunction<D::Alloc>, D::Alloc>,
-        scores: &<D::NameId as SolverId<D::Alloc>>::Scores,
+        disjunctions: &'q Arena<DisjunctionId, Disjunction<D::Alloc>, D::Alloc>,
+        scores: &'q <D::NameId as SolverId<D::Alloc>>::Scores,
         largest: u64,
-        provider: &D,
+        provider: &'q D,
     ) -> Result<Option<QueueDecision>, StoreError>
         requires synced { IsSynced (values_in map.now) self.old }
         requires stands { StandsOn (references (D.universe provider.now) reader.old.lists disjunctions.now) self.old }

@@ -6,7 +6,7 @@ ghost use Rattle.std.specs.Prelude.{IfSome, MatchOption, IfOk, IfErr};
 ghost use Rattle.typed_ids.specs.declared.error.StoreError.TheVariants.{OutOfMemory};
 ghost use Rattle.decisions.specs.Decisions.{values_in};
 ghost use Rattle.resolvo_queue.specs.Asking.{CanBeAsked, OnlyWalks};
-ghost use Rattle.resolvo_queue.specs.Group.{has_of, is_in, offers_of};
+ghost use Rattle.resolvo_queue.specs.Group.{group_at, has_of, is_in, offers_of};
 ghost use Rattle.resolvo_queue.specs.Inspection.{offer_with};
 ghost use Rattle.resolvo_queue.specs.Pick.{best_offer, is_of_root, pick};
 ghost use Rattle.resolvo_queue.specs.Positions.{has, is_after, IsBefore};
@@ -17,6 +17,7 @@ ghost use Rattle.resolvo_queue.specs.References.{references, rows_in, score_in};
 ghost use Rattle.resolvo_queue.specs.declared.candidate.Candidate.{Candidate as ACandidate};
 ghost use Rattle.resolvo_queue.specs.declared.position.Position.{Position as APosition};
 ghost use Rattle.resolvo_queue.specs.declared.tracked_clause.TrackedClause.{TrackedClause as ATrackedClause};
+ghost use Rattle.typed_ids.specs.declared.version_set_id.VersionSetId.{VersionSetId as AVersionSetId};
 
 use crate::candidate::Candidate;
 use crate::frontier::Frontier;
@@ -24,40 +25,39 @@ use crate::group::Group;
 use crate::inspection::inspect;
 use crate::offer::Offer;
 use crate::position::Position;
+use crate::question::Question;
 use crate::requires_clause::RequiresClause;
 use crate::row_reader::RowReader;
 use crate::tracked_clause::TrackedClause;
 use crate::tracked_clauses::TrackedClauses;
-use clauses::Disjunction;
-use decisions::DecisionMap;
 use id_maps::{IdMap, SolverId};
-use id_storage::Arena;
 use providers::Interner;
 use std::alloc::Allocator;
-use typed_ids::{DisjunctionId, StoreError, VariableId, VersionSetId};
+use typed_ids::{StoreError, VariableId, VersionSetId};
 
 /// What the clause at a position offers. One that isn't eligible leaves the queue.
 fn look<I: Interner>(
     tracked: &mut TrackedClauses<I::Alloc>,
     position: Position,
-    map: &DecisionMap<I::Alloc>,
     reader: &mut RowReader<'_, I::Alloc>,
-    disjunctions: &Arena<DisjunctionId, Disjunction<I::Alloc>, I::Alloc>,
-    scores: &<I::NameId as SolverId<I::Alloc>>::Scores,
-    interner: &I,
+    question: &Question<'_, I>,
 ) -> Result<Option<Candidate>, StoreError>
     requires of { IsOfClause tracked.old.index.clauses.items position }
-    requires asked { let refs = references (I.universe interner.now) reader.old.lists disjunctions.now in
-        CanBeAsked refs (values_in map.now) tracked.old }
-    ensures offers { let refs = references (I.universe interner.now) reader.old.lists disjunctions.now in
-        let offers = offers_in refs (values_in map.now) (I.NameId.Scores.value_at scores.now) in
+    requires asked {
+        let refs = references (I.universe question.now.interner.now) reader.old.lists question.now.disjunctions.now in
+        CanBeAsked refs (values_in question.now.map.now) tracked.old }
+    ensures offers {
+        let refs = references (I.universe question.now.interner.now) reader.old.lists question.now.disjunctions.now in
+        let score = I.NameId.Scores.value_at question.now.scores.now in
+        let offers = offers_in refs (values_in question.now.map.now) score in
         IfOk result (λ o. (c : ATrackedClause) → slice_get tracked.old.index.clauses.items position.number ≡ Some c →
         option_map (λ (b : ACandidate). b.offer) o ≡ offers c) }
     ensures at { IfOk result (λ o. IfSome o (λ b. b.position ≡ position)) }
     ensures fewer { IfOk result (λ o. o ≡ None → has tracked.old.queued.all position ≡ true →
         length tracked.new.queued.all < length tracked.old.queued.all) }
-    ensures asked { let refs = references (I.universe interner.now) reader.old.lists disjunctions.now in
-        CanBeAsked refs (values_in map.now) tracked.new }
+    ensures asked {
+        let refs = references (I.universe question.now.interner.now) reader.old.lists question.now.disjunctions.now in
+        CanBeAsked refs (values_in question.now.map.now) tracked.new }
     ensures walks { OnlyWalks tracked.old tracked.new reader.old reader.new }
     ensures memory { IfErr result (λ e. e ≡ OutOfMemory) }
 {
@@ -66,10 +66,10 @@ fn look<I: Interner>(
         &mut tracked.requirements,
         &mut tracked.occurrences,
         reader,
-        disjunctions,
+        question.disjunctions,
         clause,
-        map,
-        interner,
+        question.map,
+        question.interner,
     )?;
     match found {
         None => {
@@ -78,7 +78,7 @@ fn look<I: Interner>(
         }
         Some(frontier) => Ok(Some(Candidate {
             position,
-            offer: offer_at(clause, frontier, scores, interner),
+            offer: offer_at(clause, frontier, question),
         })),
     }
 }
@@ -87,12 +87,12 @@ fn look<I: Interner>(
 fn offer_at<I: Interner>(
     clause: &TrackedClause,
     frontier: Frontier,
-    scores: &<I::NameId as SolverId<I::Alloc>>::Scores,
-    interner: &I,
+    question: &Question<'_, I>,
 ) -> Offer
-    requires { (I.universe interner.now).knows_set frontier.set ≡ true }
-    ensures { result ≡ offer_with
-        (λ set. I.NameId.Scores.value_at scores.now ((I.universe interner.now).set_name set)) clause.now frontier }
+    requires { (I.universe question.now.interner.now).knows_set frontier.set ≡ true }
+    ensures { let universe = I.universe question.now.interner.now in
+        let score = λ (set : AVersionSetId). I.NameId.Scores.value_at question.now.scores.now (universe.set_name set) in
+        result ≡ offer_with score clause.now frontier }
 {
     Offer {
         clause: RequiresClause {
@@ -102,7 +102,7 @@ fn offer_at<I: Interner>(
             clause_id: clause.clause_id,
         },
         frontier,
-        score: score_of(frontier.set, scores, interner),
+        score: score_of(frontier.set, question.scores, question.interner),
     }
 }
 
@@ -110,34 +110,27 @@ fn offer_at<I: Interner>(
 fn first_eligible<I: Interner>(
     tracked: &mut TrackedClauses<I::Alloc>,
     group: Group,
-    map: &DecisionMap<I::Alloc>,
     reader: &mut RowReader<'_, I::Alloc>,
-    disjunctions: &Arena<DisjunctionId, Disjunction<I::Alloc>, I::Alloc>,
-    scores: &<I::NameId as SolverId<I::Alloc>>::Scores,
-    interner: &I,
+    question: &Question<'_, I>,
 ) -> Result<Option<Candidate>, StoreError>
-    requires asked { let refs = references (I.universe interner.now) reader.old.lists disjunctions.now in
-        CanBeAsked refs (values_in map.now) tracked.old }
-    ensures picked { let refs = references (I.universe interner.now) reader.old.lists disjunctions.now in
-        let offers = offers_of group (offers_in refs (values_in map.now) (I.NameId.Scores.value_at scores.now)) in
+    requires asked {
+        let refs = references (I.universe question.now.interner.now) reader.old.lists question.now.disjunctions.now in
+        CanBeAsked refs (values_in question.now.map.now) tracked.old }
+    ensures picked {
+        let refs = references (I.universe question.now.interner.now) reader.old.lists question.now.disjunctions.now in
+        let score = I.NameId.Scores.value_at question.now.scores.now in
+        let offers = offers_of group (offers_in refs (values_in question.now.map.now) score) in
         let clauses = tracked.old.index.clauses.items in let best = best_offer (offered clauses offers) in
         IfOk result (λ o. MatchOption o (best ≡ None) (λ b. best ≡ rest_picked clauses offers b.offer b.position)) }
     ensures of { IfOk result (λ o. IfSome o (λ b. is_in group b.position ≡ true)) }
-    ensures asked { let refs = references (I.universe interner.now) reader.old.lists disjunctions.now in
-        CanBeAsked refs (values_in map.now) tracked.new }
+    ensures asked {
+        let refs = references (I.universe question.now.interner.now) reader.old.lists question.now.disjunctions.now in
+        CanBeAsked refs (values_in question.now.map.now) tracked.new }
     ensures walks { OnlyWalks tracked.old tracked.new reader.old reader.new }
     ensures memory { IfErr result (λ e. e ≡ OutOfMemory) }
 {
     while let Some(position) = tracked.queued.first_of(group) {
-        match look(
-            tracked,
-            position,
-            map,
-            reader,
-            disjunctions,
-            scores,
-            interner,
-        )? {
+        match look(tracked, position, reader, question)? {
             Some(candidate) => return Ok(Some(candidate)),
             None => {}
         }
@@ -175,32 +168,25 @@ fn better_of<I: Interner>(
     tracked: &mut TrackedClauses<I::Alloc>,
     best: Candidate,
     position: Position,
-    map: &DecisionMap<I::Alloc>,
     reader: &mut RowReader<'_, I::Alloc>,
-    disjunctions: &Arena<DisjunctionId, Disjunction<I::Alloc>, I::Alloc>,
-    scores: &<I::NameId as SolverId<I::Alloc>>::Scores,
-    interner: &I,
+    question: &Question<'_, I>,
 ) -> Result<Candidate, StoreError>
     requires of { IsOfClause tracked.old.index.clauses.items position }
-    requires asked { let refs = references (I.universe interner.now) reader.old.lists disjunctions.now in
-        CanBeAsked refs (values_in map.now) tracked.old }
-    ensures better { let refs = references (I.universe interner.now) reader.old.lists disjunctions.now in
+    requires asked {
+        let refs = references (I.universe question.now.interner.now) reader.old.lists question.now.disjunctions.now in
+        CanBeAsked refs (values_in question.now.map.now) tracked.old }
+    ensures better {
+        let refs = references (I.universe question.now.interner.now) reader.old.lists question.now.disjunctions.now in
+        let score = I.NameId.Scores.value_at question.now.scores.now in
         IfOk result (λ b. (c : ATrackedClause) → slice_get tracked.old.index.clauses.items position.number ≡ Some c →
-        b.offer ≡ improved best.offer (offers_in refs (values_in map.now) (I.NameId.Scores.value_at scores.now) c)) }
-    ensures asked { let refs = references (I.universe interner.now) reader.old.lists disjunctions.now in
-        CanBeAsked refs (values_in map.now) tracked.new }
+        b.offer ≡ improved best.offer (offers_in refs (values_in question.now.map.now) score c)) }
+    ensures asked {
+        let refs = references (I.universe question.now.interner.now) reader.old.lists question.now.disjunctions.now in
+        CanBeAsked refs (values_in question.now.map.now) tracked.new }
     ensures walks { OnlyWalks tracked.old tracked.new reader.old reader.new }
     ensures memory { IfErr result (λ e. e ≡ OutOfMemory) }
 {
-    match look(
-        tracked,
-        position,
-        map,
-        reader,
-        disjunctions,
-        scores,
-        interner,
-    )? {
+    match look(tracked, position, reader, question)? {
         Some(candidate) => {
             if candidate.offer.beats(&best.offer) {
                 Ok(candidate)
@@ -212,91 +198,106 @@ fn better_of<I: Interner>(
     }
 }
 
-/// The best offer of a group's eligible clauses, in the order of the scan: the first, unless a later one beats the best
-/// so far.
-fn best_of<I: Interner>(
+/// The best offer of the first clause of a group and of those behind it, in the order of the scan: the first, unless a
+/// later one beats the best so far.
+fn best_from<I: Interner>(
     tracked: &mut TrackedClauses<I::Alloc>,
     group: Group,
-    map: &DecisionMap<I::Alloc>,
+    first: Candidate,
     reader: &mut RowReader<'_, I::Alloc>,
-    disjunctions: &Arena<DisjunctionId, Disjunction<I::Alloc>, I::Alloc>,
-    scores: &<I::NameId as SolverId<I::Alloc>>::Scores,
-    largest: u64,
-    interner: &I,
+    question: &Question<'_, I>,
 ) -> Result<Option<Offer>, StoreError>
-    requires asked { let refs = references (I.universe interner.now) reader.old.lists disjunctions.now in
-        CanBeAsked refs (values_in map.now) tracked.old }
-    requires cold { let refs = references (I.universe interner.now) reader.old.lists disjunctions.now in
-        ColdHasNoScore tracked.old.index.clauses.items (clause_literals refs) (rows_in refs) (values_in map.now)
-        (score_in refs (I.NameId.Scores.value_at scores.now)) }
-    requires largest { let refs = references (I.universe interner.now) reader.old.lists disjunctions.now in
-        AreUpTo largest (score_in refs (I.NameId.Scores.value_at scores.now)) }
-    ensures best { let refs = references (I.universe interner.now) reader.old.lists disjunctions.now in
-        let offers = offers_in refs (values_in map.now) (I.NameId.Scores.value_at scores.now) in
-        IfOk result (λ o. o ≡ best_offer (offered tracked.old.index.clauses.items (offers_of group offers))) }
-    ensures asked { let refs = references (I.universe interner.now) reader.old.lists disjunctions.now in
-        CanBeAsked refs (values_in map.now) tracked.new }
+    requires of { is_in group first.position ≡ true }
+    requires asked {
+        let refs = references (I.universe question.now.interner.now) reader.old.lists question.now.disjunctions.now in
+        CanBeAsked refs (values_in question.now.map.now) tracked.old }
+    requires cold {
+        let refs = references (I.universe question.now.interner.now) reader.old.lists question.now.disjunctions.now in
+        let score = score_in refs (I.NameId.Scores.value_at question.now.scores.now) in
+        ColdHasNoScore tracked.old.index.clauses.items (clause_literals refs) (rows_in refs)
+        (values_in question.now.map.now) score }
+    requires largest {
+        let refs = references (I.universe question.now.interner.now) reader.old.lists question.now.disjunctions.now in
+        AreUpTo question.now.largest (score_in refs (I.NameId.Scores.value_at question.now.scores.now)) }
+    ensures best {
+        let refs = references (I.universe question.now.interner.now) reader.old.lists question.now.disjunctions.now in
+        let score = I.NameId.Scores.value_at question.now.scores.now in
+        let offers = offers_of group (offers_in refs (values_in question.now.map.now) score) in
+        IfOk result (λ o. o ≡ rest_picked tracked.old.index.clauses.items offers first.offer first.position) }
+    ensures asked {
+        let refs = references (I.universe question.now.interner.now) reader.old.lists question.now.disjunctions.now in
+        CanBeAsked refs (values_in question.now.map.now) tracked.new }
     ensures walks { OnlyWalks tracked.old tracked.new reader.old reader.new }
     ensures memory { IfErr result (λ e. e ≡ OutOfMemory) }
 {
-    let first = first_eligible(tracked, group, map, reader, disjunctions, scores, interner)?;
-    let mut best = match first {
-        Some(first) => first,
-        None => return Ok(None),
-    };
+    let mut best = first;
     let mut cursor = best.position;
-    while let Some(position) = next_rival(tracked, group, &best, cursor, largest) {
-        best = better_of(
-            tracked,
-            best,
-            position,
-            map,
-            reader,
-            disjunctions,
-            scores,
-            interner,
-        )?;
+    while let Some(position) = next_rival(tracked, group, &best, cursor, question.largest) {
+        best = better_of(tracked, best, position, reader, question)?;
         cursor = position;
     }
     Ok(Some(best.offer))
 }
 
-/// The best offer of the root's eligible clauses, wherever among the parents the root was registered.
-fn best_of_root<I: Interner>(
+/// The first eligible clause of the root, wherever among the parents the root was registered.
+fn first_of_root<I: Interner>(
     tracked: &mut TrackedClauses<I::Alloc>,
-    map: &DecisionMap<I::Alloc>,
     reader: &mut RowReader<'_, I::Alloc>,
-    disjunctions: &Arena<DisjunctionId, Disjunction<I::Alloc>, I::Alloc>,
-    scores: &<I::NameId as SolverId<I::Alloc>>::Scores,
-    largest: u64,
-    interner: &I,
-) -> Result<Option<Offer>, StoreError>
-    requires asked { let refs = references (I.universe interner.now) reader.old.lists disjunctions.now in
-        CanBeAsked refs (values_in map.now) tracked.old }
-    requires cold { let refs = references (I.universe interner.now) reader.old.lists disjunctions.now in
-        ColdHasNoScore tracked.old.index.clauses.items (clause_literals refs) (rows_in refs) (values_in map.now)
-        (score_in refs (I.NameId.Scores.value_at scores.now)) }
-    requires largest { let refs = references (I.universe interner.now) reader.old.lists disjunctions.now in
-        AreUpTo largest (score_in refs (I.NameId.Scores.value_at scores.now)) }
-    ensures best { let refs = references (I.universe interner.now) reader.old.lists disjunctions.now in
-        let offers = offers_in refs (values_in map.now) (I.NameId.Scores.value_at scores.now) in
-        IfOk result (λ o. o ≡ best_offer (filter is_of_root (offered tracked.old.index.clauses.items offers))) }
-    ensures asked { let refs = references (I.universe interner.now) reader.old.lists disjunctions.now in
-        CanBeAsked refs (values_in map.now) tracked.new }
+    question: &Question<'_, I>,
+) -> Result<Option<Candidate>, StoreError>
+    requires asked {
+        let refs = references (I.universe question.now.interner.now) reader.old.lists question.now.disjunctions.now in
+        CanBeAsked refs (values_in question.now.map.now) tracked.old }
+    ensures picked {
+        let refs = references (I.universe question.now.interner.now) reader.old.lists question.now.disjunctions.now in
+        let score = I.NameId.Scores.value_at question.now.scores.now in
+        let offers = offers_in refs (values_in question.now.map.now) score in
+        let clauses = tracked.old.index.clauses.items in
+        let best = best_offer (filter is_of_root (offered clauses offers)) in
+        IfOk result (λ o. MatchOption o (best ≡ None)
+        (λ b. best ≡ rest_picked clauses (offers_of (group_at b.position) offers) b.offer b.position)) }
+    ensures asked {
+        let refs = references (I.universe question.now.interner.now) reader.old.lists question.now.disjunctions.now in
+        CanBeAsked refs (values_in question.now.map.now) tracked.new }
     ensures walks { OnlyWalks tracked.old tracked.new reader.old reader.new }
     ensures memory { IfErr result (λ e. e ≡ OutOfMemory) }
 {
     match tracked.index.group_of(VariableId::root()) {
-        Some(of_root) => best_of(
-            tracked,
-            of_root,
-            map,
-            reader,
-            disjunctions,
-            scores,
-            largest,
-            interner,
-        ),
+        Some(of_root) => first_eligible(tracked, of_root, reader, question),
+        None => Ok(None),
+    }
+}
+
+/// The best offer of all eligible clauses.
+fn best_of_all<I: Interner>(
+    tracked: &mut TrackedClauses<I::Alloc>,
+    reader: &mut RowReader<'_, I::Alloc>,
+    question: &Question<'_, I>,
+) -> Result<Option<Offer>, StoreError>
+    requires asked {
+        let refs = references (I.universe question.now.interner.now) reader.old.lists question.now.disjunctions.now in
+        CanBeAsked refs (values_in question.now.map.now) tracked.old }
+    requires cold {
+        let refs = references (I.universe question.now.interner.now) reader.old.lists question.now.disjunctions.now in
+        let score = score_in refs (I.NameId.Scores.value_at question.now.scores.now) in
+        ColdHasNoScore tracked.old.index.clauses.items (clause_literals refs) (rows_in refs)
+        (values_in question.now.map.now) score }
+    requires largest {
+        let refs = references (I.universe question.now.interner.now) reader.old.lists question.now.disjunctions.now in
+        AreUpTo question.now.largest (score_in refs (I.NameId.Scores.value_at question.now.scores.now)) }
+    ensures best {
+        let refs = references (I.universe question.now.interner.now) reader.old.lists question.now.disjunctions.now in
+        let score = I.NameId.Scores.value_at question.now.scores.now in
+        let offers = offers_in refs (values_in question.now.map.now) score in
+        IfOk result (λ o. o ≡ best_offer (offered tracked.old.index.clauses.items offers)) }
+    ensures asked {
+        let refs = references (I.universe question.now.interner.now) reader.old.lists question.now.disjunctions.now in
+        CanBeAsked refs (values_in question.now.map.now) tracked.new }
+    ensures walks { OnlyWalks tracked.old tracked.new reader.old reader.new }
+    ensures memory { IfErr result (λ e. e ≡ OutOfMemory) }
+{
+    match first_eligible(tracked, Group::OfAllParents, reader, question)? {
+        Some(first) => best_from(tracked, Group::OfAllParents, first, reader, question),
         None => Ok(None),
     }
 }
@@ -304,49 +305,34 @@ fn best_of_root<I: Interner>(
 /// The decision to take, if a clause is eligible: the pick of all eligible clauses, in the order of the scan.
 pub(crate) fn next_offer<I: Interner>(
     tracked: &mut TrackedClauses<I::Alloc>,
-    map: &DecisionMap<I::Alloc>,
     reader: &mut RowReader<'_, I::Alloc>,
-    disjunctions: &Arena<DisjunctionId, Disjunction<I::Alloc>, I::Alloc>,
-    scores: &<I::NameId as SolverId<I::Alloc>>::Scores,
-    largest: u64,
-    interner: &I,
+    question: &Question<'_, I>,
 ) -> Result<Option<Offer>, StoreError>
-    requires asked { let refs = references (I.universe interner.now) reader.old.lists disjunctions.now in
-        CanBeAsked refs (values_in map.now) tracked.old }
-    requires cold { let refs = references (I.universe interner.now) reader.old.lists disjunctions.now in
-        ColdHasNoScore tracked.old.index.clauses.items (clause_literals refs) (rows_in refs) (values_in map.now)
-        (score_in refs (I.NameId.Scores.value_at scores.now)) }
-    requires largest { let refs = references (I.universe interner.now) reader.old.lists disjunctions.now in
-        AreUpTo largest (score_in refs (I.NameId.Scores.value_at scores.now)) }
-    ensures picked { let refs = references (I.universe interner.now) reader.old.lists disjunctions.now in
-        let offers = offers_in refs (values_in map.now) (I.NameId.Scores.value_at scores.now) in
+    requires asked {
+        let refs = references (I.universe question.now.interner.now) reader.old.lists question.now.disjunctions.now in
+        CanBeAsked refs (values_in question.now.map.now) tracked.old }
+    requires cold {
+        let refs = references (I.universe question.now.interner.now) reader.old.lists question.now.disjunctions.now in
+        let score = score_in refs (I.NameId.Scores.value_at question.now.scores.now) in
+        ColdHasNoScore tracked.old.index.clauses.items (clause_literals refs) (rows_in refs)
+        (values_in question.now.map.now) score }
+    requires largest {
+        let refs = references (I.universe question.now.interner.now) reader.old.lists question.now.disjunctions.now in
+        AreUpTo question.now.largest (score_in refs (I.NameId.Scores.value_at question.now.scores.now)) }
+    ensures picked {
+        let refs = references (I.universe question.now.interner.now) reader.old.lists question.now.disjunctions.now in
+        let score = I.NameId.Scores.value_at question.now.scores.now in
+        let offers = offers_in refs (values_in question.now.map.now) score in
         IfOk result (λ o. o ≡ pick (offered tracked.old.index.clauses.items offers)) }
-    ensures asked { let refs = references (I.universe interner.now) reader.old.lists disjunctions.now in
-        CanBeAsked refs (values_in map.now) tracked.new }
+    ensures asked {
+        let refs = references (I.universe question.now.interner.now) reader.old.lists question.now.disjunctions.now in
+        CanBeAsked refs (values_in question.now.map.now) tracked.new }
     ensures walks { OnlyWalks tracked.old tracked.new reader.old reader.new }
     ensures memory { IfErr result (λ e. e ≡ OutOfMemory) }
 {
-    let of_root = best_of_root(
-        tracked,
-        map,
-        reader,
-        disjunctions,
-        scores,
-        largest,
-        interner,
-    )?;
-    match of_root {
-        Some(offer) => Ok(Some(offer)),
-        None => best_of(
-            tracked,
-            Group::OfAllParents,
-            map,
-            reader,
-            disjunctions,
-            scores,
-            largest,
-            interner,
-        ),
+    match first_of_root(tracked, reader, question)? {
+        Some(first) => best_from(tracked, Group::at(first.position), first, reader, question),
+        None => best_of_all(tracked, reader, question),
     }
 }
 

@@ -12,7 +12,14 @@ pub(crate) enum Group {
 }
 
 impl Group {
-    ghost use Rattle.resolvo_queue.specs.Group.{is_in, only_in, start_of};
+    ghost use Rattle.resolvo_queue.specs.Group.{group_at, is_in, only_in, start_of};
+
+    /// The clauses of the parent whose clause is at the position.
+    pub(crate) fn at(position: Position) -> Self
+        ensures { result ≡ group_at position }
+    {
+        Group::OfParent(position.first_of_parent)
+    }
 
     /// None of its positions is before this one.
     pub(crate) fn start(self) -> Position

@@ -31,6 +31,7 @@ mod offer;
 mod parent_value;
 mod position;
 mod position_set;
+mod question;
 mod queue_decision;
 mod queued_clauses;
 mod registering;

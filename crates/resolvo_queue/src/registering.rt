@@ -1,12 +1,12 @@
 //! Putting a clause to those that are there.
-ghost use Rattle.std.specs.Prelude.{◌≡◌, ◌<◌, ◌-◌, ◌^◌, ◌++◌, ◌∷◌, [], true, false, length, OnOk, OnErr, IfErr};
+ghost use Rattle.std.specs.Prelude.{◌≡◌, ◌<◌, ◌≤◌, ◌-◌, ◌^◌, ◌++◌, ◌∷◌, [], true, false, length, OnOk, OnErr, IfErr};
 ghost use Rattle.typed_ids.specs.TotalMaps.{IsUpdate, SameValues};
 ghost use Rattle.typed_ids.specs.declared.error.StoreError.TheVariants.{OutOfMemory};
 ghost use Rattle.resolvo_queue.specs.Index.{list_at};
 ghost use Rattle.resolvo_queue.specs.Positions.{has, same_position};
 ghost use Rattle.resolvo_queue.specs.Queued.{GrowsBy, IsQueued};
 ghost use Rattle.resolvo_queue.specs.Tracking.{IsAsBefore, IsInOrder, Registers, tracking_of};
-ghost use Rattle.resolvo_queue.specs.WalkCounts.{OwesFirst};
+ghost use Rattle.resolvo_queue.specs.WalkCounts.{OwesFirst, owed_in};
 
 use crate::clause_index::add_to_conditions;
 use crate::lists_by_variable::ListsByVariable;
@@ -75,6 +75,7 @@ impl<A: Allocator + Copy> TrackedClauses<A> {
         ensures ok { OnOk result (Registers clause.now is_hot counts literals.now (tracking_of self.old) (tracking_of self.new)) }
         ensures err { OnErr result (IsAsBefore (tracking_of self.old) (tracking_of self.new)) }
         ensures owes { OwesFirst clause.now.requirement self.old.requirements self.new.requirements }
+        ensures owes_one { OnOk result (1 ≤ owed_in self.new.requirements clause.now.requirement) }
         ensures same { (self.new.only_hot ≡ self.old.only_hot) × (self.new.trail ≡ self.old.trail) × (self.new.must_start_anew ≡ self.old.must_start_anew) }
         ensures memory { IfErr result (λ e. e ≡ OutOfMemory) }
     {

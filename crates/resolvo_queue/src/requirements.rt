@@ -1,5 +1,5 @@
 //! What a queue knows of each requirement of its clauses.
-ghost use Rattle.std.specs.Prelude.{◌≡◌, ◌<◌, ◌+◌, [], ◌∷◌, ◌++◌, map, Some, None, length, IfSome, MatchOption, IfOk, OnOk, OnErr, IfErr};
+ghost use Rattle.std.specs.Prelude.{◌≡◌, ◌<◌, ◌≤◌, ◌+◌, [], ◌∷◌, ◌++◌, map, Some, None, length, IfSome, MatchOption, IfOk, OnOk, OnErr, IfErr};
 ghost use Rattle.std.specs.Option.{option_copied};
 ghost use Rattle.typed_ids.specs.declared.error.StoreError.TheVariants.{OutOfMemory};
 ghost use Rattle.providers.specs.declared.requirement.Requirement.{Requirement as ARequirement};
@@ -58,7 +58,7 @@ impl<A: Allocator + Copy> Requirements<A> {
     ghost use Rattle.resolvo_queue.specs.Records.{known_of};
     ghost use Rattle.resolvo_queue.specs.Order.{Stands};
     ghost use Rattle.resolvo_queue.specs.Tracking.{GainsClauses};
-    ghost use Rattle.resolvo_queue.specs.WalkCounts.{OwesFirst};
+    ghost use Rattle.resolvo_queue.specs.WalkCounts.{OwesFirst, owed_in};
 
     /// No requirement has a record. Takes no memory.
     pub(crate) fn new(alloc: A) -> Self
@@ -122,6 +122,7 @@ impl<A: Allocator + Copy> Requirements<A> {
     ) -> Result<usize, StoreError>
         ensures gains { GainsClauses self.old self.new }
         ensures owes { OwesFirst requirement self.old self.new }
+        ensures owes_one { OnOk result (1 ≤ owed_in self.new requirement) }
         ensures placed { IfOk result (IsPlaceOf self.new requirement) }
         ensures found { IfOk result (λ place. Stands number (clauses_at self.new place)) }
         ensures memory { IfErr result (λ e. e ≡ OutOfMemory) }
@@ -135,6 +136,7 @@ impl<A: Allocator + Copy> Requirements<A> {
     fn add_clause(&mut self, place: usize, number: u32) -> Result<(), StoreError>
         requires { place < length self.old }
         ensures ok { OnOk result (self.new ≡ updated_at (with_clause number) self.old place) }
+        ensures owes { OnOk result ((r : ARequirement) → IsPlaceOf self.new r place → 1 ≤ owed_in self.new r) }
         ensures err { OnErr result (self.new ≡ self.old) }
         ensures memory { IfErr result (λ e. e ≡ OutOfMemory) }
     {

@@ -21,4 +21,5 @@ pub mod TrackedLaws
 pub mod TrackingLaws
 pub mod TrackingSteps
 pub mod TrailModelLaws
+pub mod WalkLemmas
 pub mod WatchLaws

@@ -1,4 +1,5 @@
 pub mod Adding
+pub mod Asked
 pub mod Command
 pub mod CommandLaws
 pub mod ForbidsTwo
@@ -17,3 +18,4 @@ pub mod Step
 pub mod Store
 pub mod Synced
 pub mod Tracking
+pub mod Walks

@@ -13,6 +13,7 @@ use Rattle.clauses.specs.Clauses.{Kept as KeptLiterals, literals_of, condition_l
 use Rattle.clauses.specs.declared.clause.Clause.{Clause}
 use Rattle.at_most_once.specs.AtMostOne.{Tracker, BitClause, Kept as KeptTracker, empty}
 use Rattle.at_most_once.specs.NameTrackers.{tracker_of}
+use Rattle.resolvo_store.specs.Asked.{Asked}
 use Rattle.resolvo_store.specs.Tracking.{bits_of}
 use Rattle.watch_map.specs.WatchLists.{WatchLists, Watches, literals_in, watchers}
 use Rattle.resolvo_queue.specs.declared.requires_clause.RequiresClause.{RequiresClause}
@@ -69,6 +70,8 @@ pub record Kept (D N S C : Type 0) : Type 0 where
   -- the trackers of the names that have one
   pub trackers : List (N × KeptTracker ℕ)
   pub scores : C
+  -- what the queue was told, and how often it walked rows: no part of the abstract store
+  pub asked : Asked
 
 -- the abstract store of what is kept, where scored tells the scores that a map has
 abbrev pub store_of : {D N S C : Type 0} → (D → Provider N S) → (C → N → ℕ) → Kept D N S C → Store N S

@@ -22,6 +22,7 @@
 ghost use Rattle.std.specs.Prelude.{◌≡◌, map, length, vec_len, IfOk, IfErr, OnErr};
 ghost use Rattle.typed_ids.specs.declared.error.StoreError.TheVariants.{OutOfMemory};
 ghost use Rattle.decisions.specs.Trail.{val};
+ghost use Rattle.providers.specs.declared.requirement.Requirement.{Requirement as ARequirement};
 
 mod adding;
 mod assigning;
@@ -76,6 +77,7 @@ pub struct ClauseStore<D: DependencyProvider> {
 }
 
 impl<D: DependencyProvider> Model for ClauseStore<D> {
+    ghost use Rattle.resolvo_store.specs.Asked.{asked_of};
     ghost use Rattle.resolvo_store.specs.Store.{Kept, store_of};
     ghost use Rattle.resolvo_store.specs.Lists.{lists_kept, disjunctions_kept, IsConsistent};
     ghost use Rattle.solver_cache.specs.Functions.{gathered};
@@ -96,6 +98,7 @@ impl<D: DependencyProvider> Model for ClauseStore<D> {
       place = a.trail.place;
       trackers = a.trackers;
       scores = a.scores.map;
+      asked = asked_of a.queue a.trail;
     } };
 
     ghost invariant = { λ a. IsConsistent D.NameId.Set.has (store_of (gathered D.NameId.eq D.SolvableId.eq D.NameId.Slots.is_too_large D.SolvableId.Slots.is_too_large
@@ -113,6 +116,7 @@ impl<D: DependencyProvider> Model for ClauseStore<D> {
           place = a.trail.place;
           trackers = a.trackers;
           scores = a.scores.map;
+          asked = asked_of a.queue a.trail;
         })) a.loaded a.disjunctions a.cache a.queue a.trail };
 }
 
@@ -122,6 +126,7 @@ impl<D: DependencyProvider + Drop> ClauseStore<D> {
     ghost use Rattle.resolvo_store.specs.Saturating.{RefusalLeaves};
     ghost use Rattle.resolvo_store.specs.Step.{Step, Run};
     ghost use Rattle.resolvo_store.specs.Sound.{IsSound};
+    ghost use Rattle.resolvo_store.specs.Walks.{Asks};
 
     /// A store that has the root's variable, and nothing else.
     pub fn new(alloc: D::Alloc, provider: D) -> Result<Self, StoreError>
@@ -129,6 +134,7 @@ impl<D: DependencyProvider + Drop> ClauseStore<D> {
         ensures ok { IfOk result (λ s. ⟦<D as AbstractStore>⟧.store s
             ≡ new_store (⟦<D as AbstractStore>⟧.store s).provider) }
         ensures sound { IfOk result (λ s. IsSound (⟦<D as AbstractStore>⟧.store s)) }
+        ensures owed { IfOk result (λ s. (r : ARequirement) → s.asked.owed r ≡ 0) }
         ensures err { IfErr result (λ e. e ≡ OutOfMemory) }
     {
         let variables = VariableMap::new(alloc)?;
@@ -161,6 +167,9 @@ impl<D: DependencyProvider + Drop> ClauseStore<D> {
         ensures refused { IsRefused (reply_of result) → RefusalLeaves (command_of command.now)
             (⟦<D as AbstractStore>⟧.store self.old) (⟦<D as AbstractStore>⟧.store self.new) }
         ensures provider { self.new.provider ≡ self.old.provider }
+        ensures asked { let new = ⟦<D as AbstractStore>⟧.store self.new in
+            Asks (⟦<D as AbstractStore>⟧.store self.old) (command_of command.now) (reply_of result) new.trail
+            self.old.asked self.new.asked }
         ensures was_sound { IsSound (⟦<D as AbstractStore>⟧.store self.old) }
         ensures sound { IsSound (⟦<D as AbstractStore>⟧.store self.new) }
     {
@@ -182,6 +191,9 @@ impl<D: DependencyProvider + Drop> ClauseStore<D> {
         ensures err { OnErr result (RefusalLeaves (command_of command.now)
             (⟦<D as AbstractStore>⟧.store self.old) (⟦<D as AbstractStore>⟧.store self.new)) }
         ensures provider { self.new.provider ≡ self.old.provider }
+        ensures asked { let new = ⟦<D as AbstractStore>⟧.store self.new in
+            Asks (⟦<D as AbstractStore>⟧.store self.old) (command_of command.now) (answer_of result) new.trail
+            self.old.asked self.new.asked }
         ensures was_sound { IsSound (⟦<D as AbstractStore>⟧.store self.old) }
         ensures sound { IsSound (⟦<D as AbstractStore>⟧.store self.new) }
     {
@@ -199,6 +211,9 @@ impl<D: DependencyProvider + Drop> ClauseStore<D> {
             (answer_of result) (⟦<D as AbstractStore>⟧.store self.new) }
         ensures answered { IfOk result (λ reply. IsRefused (reply_of reply) → ⊥) }
         ensures provider { self.new.provider ≡ self.old.provider }
+        ensures asked { let new = ⟦<D as AbstractStore>⟧.store self.new in
+            Asks (⟦<D as AbstractStore>⟧.store self.old) (command_of command.now) (answer_of result) new.trail
+            self.old.asked self.new.asked }
     {
         match command {
             Command::Variable(solvable) => self.variable(*solvable),

@@ -33,6 +33,7 @@ impl<D: DependencyProvider + Drop> ClauseStore<D> {
             (answer_of result) (⟦<D as AbstractStore>⟧.store self.new) }
         ensures answered { IfOk result (λ reply. IsRefused (reply_of reply) → ⊥) }
         ensures provider { self.new.provider ≡ self.old.provider }
+        ensures asked { self.new.asked ≡ self.old.asked }
     {
         if !knows_named(self.variables.count(), self.cache.provider(), clause) {
             return Err(StoreError::UnknownId);
@@ -47,6 +48,7 @@ impl<D: DependencyProvider + Drop> ClauseStore<D> {
             (answer_of result) (⟦<D as AbstractStore>⟧.store self.new) }
         ensures answered { IfOk result (λ reply. IsRefused (reply_of reply) → ⊥) }
         ensures provider { self.new.provider ≡ self.old.provider }
+        ensures asked { self.new.asked ≡ self.old.asked }
     {
         if !knows_literals(literals, self.variables.count()) {
             return Err(StoreError::UnknownId);

@@ -11,6 +11,7 @@ use typed_ids::{ClauseId, DenseIndex, StoreError, VariableId};
 impl<D: DependencyProvider + Drop> ClauseStore<D> {
     ghost use Rattle.resolvo_store.specs.Command.{Assign, UndoLast, UndoUntil, Unpropagated, answer_of, reply_of, IsRefused};
     ghost use Rattle.resolvo_store.specs.Step.{Step};
+    ghost use Rattle.resolvo_store.specs.Walks.{taken_back};
 
     /// Gives a variable a value.
     pub(super) fn assign(
@@ -24,6 +25,7 @@ impl<D: DependencyProvider + Drop> ClauseStore<D> {
             (answer_of result) (⟦<D as AbstractStore>⟧.store self.new) }
         ensures answered { IfOk result (λ reply. IsRefused (reply_of reply) → ⊥) }
         ensures provider { self.new.provider ≡ self.old.provider }
+        ensures asked { self.new.asked ≡ self.old.asked }
     {
         if variable.to_index() >= self.variables.count()
             || clause.to_index() >= self.clauses.len()
@@ -48,6 +50,7 @@ impl<D: DependencyProvider + Drop> ClauseStore<D> {
             (answer_of result) (⟦<D as AbstractStore>⟧.store self.new) }
         ensures answered { IfOk result (λ reply. IsRefused (reply_of reply) → ⊥) }
         ensures provider { self.new.provider ≡ self.old.provider }
+        ensures asked { self.new.asked ≡ taken_back (⟦<D as AbstractStore>⟧.store self.new).trail self.old.asked }
     {
         if self.trail.assignments().is_empty() {
             return Err(StoreError::EmptyTrail);
@@ -62,6 +65,7 @@ impl<D: DependencyProvider + Drop> ClauseStore<D> {
             (reply_of result) (⟦<D as AbstractStore>⟧.store self.new) }
         ensures answered { IsRefused (reply_of result) → ⊥ }
         ensures provider { self.new.provider ≡ self.old.provider }
+        ensures asked { self.new.asked ≡ taken_back (⟦<D as AbstractStore>⟧.store self.new).trail self.old.asked }
     {
         self.trail.undo_until(level);
         Reply::Undone(None)
@@ -73,6 +77,7 @@ impl<D: DependencyProvider + Drop> ClauseStore<D> {
             (reply_of result) (⟦<D as AbstractStore>⟧.store self.new) }
         ensures answered { IsRefused (reply_of result) → ⊥ }
         ensures provider { self.new.provider ≡ self.old.provider }
+        ensures asked { self.new.asked ≡ self.old.asked }
     {
         Reply::Next(self.trail.next_unpropagated())
     }

@@ -1,5 +1,5 @@
 //! The decision: the command `Decide`, and its two halves as calls of their own.
-ghost use Rattle.std.specs.Prelude.{◌≡◌, ◌↔◌, None, All, false, option_map, IfOk, IfErr};
+ghost use Rattle.std.specs.Prelude.{◌≡◌, ◌↔◌, None, All, false, option_map, IfOk, IfErr, OnOk};
 ghost use Rattle.typed_ids.specs.declared.error.StoreError.TheVariants.{OutOfMemory};
 ghost use Rattle.resolvo_queue.specs.Pick.{decided, DecidesUnbeaten};
 ghost use Rattle.resolvo_queue.specs.Scan.{scan};
@@ -15,6 +15,7 @@ impl<D: DependencyProvider + Drop> ClauseStore<D> {
     ghost use Rattle.resolvo_store.specs.Command.{Decide, answer_of, reply_of, IsRefused};
     ghost use Rattle.resolvo_store.specs.Outcome.{falsified_clause, is_eligible_clause, offers, picked};
     ghost use Rattle.resolvo_store.specs.Step.{Step};
+    ghost use Rattle.resolvo_store.specs.Walks.{Asks, AsksOnce, IsTold};
 
     /// The first falsified clause, else the decision, else that there is none.
     pub(super) fn decide(&mut self) -> Result<Reply<D::Alloc>, StoreError>
@@ -22,6 +23,8 @@ impl<D: DependencyProvider + Drop> ClauseStore<D> {
             (answer_of result) (⟦<D as AbstractStore>⟧.store self.new) }
         ensures answered { IfOk result (λ reply. IsRefused (reply_of reply) → ⊥) }
         ensures provider { self.new.provider ≡ self.old.provider }
+        ensures asked { let old = ⟦<D as AbstractStore>⟧.store self.old in
+            Asks old Decide (answer_of result) old.trail self.old.asked self.new.asked }
     {
         if let Some(clause) = self.falsified_since() {
             return Ok(Reply::Falsified(clause));
@@ -76,6 +79,10 @@ impl<D: DependencyProvider + Drop> ClauseStore<D> {
         ensures same { ⟦<D as AbstractStore>⟧.store self.new ≡ ⟦<D as AbstractStore>⟧.store self.old }
         ensures provider { self.new.provider ≡ self.old.provider }
         ensures memory { IfErr result (λ e. e ≡ OutOfMemory) }
+
+        // No requirement is walked twice, whatever the result; and the queue has this trail then, unless it was refused.
+        ensures asked { AsksOnce (⟦<D as AbstractStore>⟧.store self.old) self.old.asked self.new.asked }
+        ensures told { OnOk result (IsTold (⟦<D as AbstractStore>⟧.store self.old).trail self.new.asked) }
     {
         let floor = self.trail.take_sync_floor();
         self.queue

@@ -38,6 +38,7 @@ impl<D: DependencyProvider + Drop> ClauseStore<D> {
             (answer_of result) (⟦<D as AbstractStore>⟧.store self.new) }
         ensures answered { IfOk result (λ reply. IsRefused (reply_of reply) → ⊥) }
         ensures provider { self.new.provider ≡ self.old.provider }
+        ensures asked { self.new.asked ≡ self.old.asked }
     {
         if !self.cache.provider().knows_solvable(solvable) {
             return Err(StoreError::UnknownId);
@@ -55,6 +56,7 @@ impl<D: DependencyProvider + Drop> ClauseStore<D> {
             (answer_of result) (⟦<D as AbstractStore>⟧.store self.new) }
         ensures answered { IfOk result (λ reply. IsRefused (reply_of reply) → ⊥) }
         ensures provider { self.new.provider ≡ self.old.provider }
+        ensures asked { self.new.asked ≡ self.old.asked }
     {
         if !knows_helper(self.cache.provider(), origin) {
             return Err(StoreError::UnknownId);
@@ -68,6 +70,7 @@ impl<D: DependencyProvider + Drop> ClauseStore<D> {
             (answer_of result) (⟦<D as AbstractStore>⟧.store self.new) }
         ensures answered { IfOk result (λ reply. IsRefused (reply_of reply) → ⊥) }
         ensures provider { self.new.provider ≡ self.old.provider }
+        ensures asked { self.new.asked ≡ self.old.asked }
     {
         if !knows_requirement(self.cache.provider(), requirement) {
             return Err(StoreError::UnknownId);
@@ -88,6 +91,7 @@ impl<D: DependencyProvider + Drop> ClauseStore<D> {
         ensures err { IfErr result (λ e. IsAnswered (⟦<D as AbstractStore>⟧.store self.old) (Load requirement) (Refused e)
             (⟦<D as AbstractStore>⟧.store self.new)) }
         ensures provider { self.new.provider ≡ self.old.provider }
+        ensures asked { self.new.asked ≡ self.old.asked }
     {
         let before = self.variables.count();
         let kept = self.keep_candidates(requirement);

@@ -1,19 +1,22 @@
 //! The commands that keep conditions' literals and add requires clauses.
-ghost use Rattle.std.specs.Prelude.{◌≡◌, ◌-◌, ◌^◌, ◌∷◌, ◌++◌, [], length, true, false, nat_le, nat_lt, ◌&&◌, is_some, unwrap_or, map, ◌<◌, IsSome, IfSome, All, Err, IsTrue, IfOk, OnOk, OnErr, IfErr};
+ghost use Rattle.std.specs.Prelude.{◌≡◌, ◌⊎◌, ◌-◌, ◌^◌, ◌∷◌, ◌++◌, [], length, true, false, nat_le, nat_lt, ◌&&◌, is_some, unwrap_or, map, ◌<◌, IsSome, IfSome, All, Err, IsTrue, IfOk, OnOk, OnErr, IfErr};
 ghost use Rattle.decisions.specs.Literals.{Neg};
 ghost use Rattle.decisions.specs.Trail.{val};
 ghost use Rattle.typed_ids.specs.Refusals.{IsGrowthRefusal, are_ids_out};
+ghost use Rattle.typed_ids.specs.TotalMaps.{SameValues};
 ghost use Rattle.std.specs.Map.{lookup};
 ghost use Rattle.std.specs.Option.{option_map_or};
 ghost use Rattle.typed_ids.specs.declared.error.StoreError.TheVariants.{IdSpace, OutOfMemory};
 ghost use Rattle.providers.specs.Requirement.{same_requirement};
 ghost use Rattle.providers.specs.Provider.{knows_requirement, sets_of};
+ghost use Rattle.providers.specs.declared.requirement.Requirement.{Requirement as ARequirement};
 ghost use Rattle.clauses.specs.Clauses.{Kept, first_watches, is_conflict, condition_literals};
 ghost use Rattle.clauses.specs.Stored.{kept_in};
 ghost use Rattle.clauses.specs.declared.clause.Clause.TheVariants as Kind;
 ghost use Rattle.watch_map.specs.Watching.{AreTwoOrNone, is_literal_in};
 ghost use Rattle.resolvo_queue.specs.Queue.{IsRegistered, IsUnchanged, StandsOn};
 ghost use Rattle.resolvo_queue.specs.References.{Lists, references};
+ghost use Rattle.resolvo_queue.specs.WalkCounts.{owed, walks};
 ghost use Rattle.watch_map.specs.ClauseList.{contents, literals_watched, two_or_none, is_full, with_clause};
 ghost use Rattle.resolvo_store.specs.Command.{DisjunctionIs, ClauseIs, reply_of};
 ghost use Rattle.resolvo_store.specs.Lists.{lists_kept, disjunctions_kept, IsOneMore};
@@ -38,6 +41,7 @@ use watch_map::{ClauseList, WatchedLiterals};
 impl<D: DependencyProvider + Drop> ClauseStore<D> {
     ghost use Rattle.resolvo_store.specs.Command.{Disjunction as KeepDisjunction, Requires, answer_of, IsRefused};
     ghost use Rattle.resolvo_store.specs.Step.{Step};
+    ghost use Rattle.resolvo_store.specs.Walks.{OwesFirst};
 
     /// Keeps the literals of a condition.
     pub(super) fn disjunction(
@@ -49,6 +53,7 @@ impl<D: DependencyProvider + Drop> ClauseStore<D> {
             (answer_of result) (⟦<D as AbstractStore>⟧.store self.new) }
         ensures answered { IfOk result (λ reply. IsRefused (reply_of reply) → ⊥) }
         ensures provider { self.new.provider ≡ self.old.provider }
+        ensures asked { self.new.asked ≡ self.old.asked }
     {
         if !knows_parts(
             self.cache.provider(),
@@ -72,6 +77,7 @@ impl<D: DependencyProvider + Drop> ClauseStore<D> {
             (answer_of result) (⟦<D as AbstractStore>⟧.store self.new) }
         ensures answered { IfOk result (λ reply. IsRefused (reply_of reply) → ⊥) }
         ensures provider { self.new.provider ≡ self.old.provider }
+        ensures asked { OwesFirst requirement self.old.asked self.new.asked }
     {
         let provider = self.cache.provider();
         if !knows_required(
@@ -264,6 +270,9 @@ fn register<D: DependencyProvider + Drop>(
         (map (D.universe provider.now).set_name (sets_of (D.universe provider.now) required.now.requirement)) required.now.parent_value queue.old queue.new) }
     ensures unadded { OnErr result (contents clauses.new ≡ contents clauses.old) }
     ensures unregistered { OnErr result (IsUnchanged queue.old queue.new D.NameId.Set.has) }
+    ensures walks { SameValues (walks queue.old) (walks queue.new) }
+    ensures owed { (r : ARequirement) → (owed queue.new r ≡ owed queue.old r)
+        ⊎ ((r ≡ required.now.requirement) × (owed queue.old r ≡ 0) × (owed queue.new r ≡ 1)) }
     ensures stands { (lists : Lists D.Alloc) → IsSome (lookup (same_requirement required.now.requirement) lists) →
         StandsOn (references (D.universe provider.now) lists disjunctions.now) queue.old →
         StandsOn (references (D.universe provider.now) lists disjunctions.now) queue.new }

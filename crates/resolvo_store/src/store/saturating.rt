@@ -21,6 +21,7 @@ impl<D: DependencyProvider + Drop> ClauseStore<D> {
             (answer_of result) (⟦<D as AbstractStore>⟧.store self.new) }
         ensures answered { IfOk result (λ reply. IsRefused (reply_of reply) → ⊥) }
         ensures provider { self.new.provider ≡ self.old.provider }
+        ensures asked { self.new.asked ≡ self.old.asked }
     {
         if !DecisionTracker::<D::Alloc>::level_in_range(level) {
             return Err(StoreError::LevelOutOfRange);

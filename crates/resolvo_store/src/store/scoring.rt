@@ -6,6 +6,7 @@ ghost use Rattle.typed_ids.specs.declared.error.StoreError.TheVariants.{IdSpace}
 ghost use Rattle.id_maps.specs.Scores.{bumped};
 ghost use Rattle.resolvo_queue.specs.Queue.{SameClauses, SameSync, StandsOn};
 ghost use Rattle.resolvo_queue.specs.References.{References};
+ghost use Rattle.resolvo_queue.specs.WalkCounts.{owed, walks};
 ghost use Rattle.resolvo_store.specs.Command.{Done, reply_of};
 
 use crate::abstract_store::AbstractStore;
@@ -20,6 +21,7 @@ impl<D: DependencyProvider + Drop> ClauseStore<D> {
     ghost use Rattle.resolvo_store.specs.Command.{Bump, Decay, Standard, answer_of, reply_of, IsRefused};
     ghost use Rattle.resolvo_store.specs.Refusals.{is_bad_fraction};
     ghost use Rattle.resolvo_store.specs.Step.{Step};
+    ghost use Rattle.resolvo_store.specs.Walks.{WalksNothing};
 
     /// Raises the score of a name.
     pub(super) fn bump(
@@ -31,6 +33,7 @@ impl<D: DependencyProvider + Drop> ClauseStore<D> {
             (answer_of result) (⟦<D as AbstractStore>⟧.store self.new) }
         ensures answered { IfOk result (λ reply. IsRefused (reply_of reply) → ⊥) }
         ensures provider { self.new.provider ≡ self.old.provider }
+        ensures asked { WalksNothing self.old.asked self.new.asked }
     {
         if !self.cache.provider().knows_name(name) {
             return Err(StoreError::UnknownId);
@@ -48,6 +51,7 @@ impl<D: DependencyProvider + Drop> ClauseStore<D> {
             (answer_of result) (⟦<D as AbstractStore>⟧.store self.new) }
         ensures answered { IfOk result (λ reply. IsRefused (reply_of reply) → ⊥) }
         ensures provider { self.new.provider ≡ self.old.provider }
+        ensures asked { self.new.asked ≡ self.old.asked }
     {
         if denominator == 0 || denominator < numerator {
             return Err(StoreError::BadFraction);
@@ -62,6 +66,7 @@ impl<D: DependencyProvider + Drop> ClauseStore<D> {
             (reply_of result) (⟦<D as AbstractStore>⟧.store self.new) }
         ensures answered { IsRefused (reply_of result) → ⊥ }
         ensures provider { self.new.provider ≡ self.old.provider }
+        ensures asked { WalksNothing self.old.asked self.new.asked }
     {
         self.queue.set_standard_activity_params(standard);
         Reply::Done
@@ -83,6 +88,8 @@ fn raise<D: DependencyProvider>(
     ensures same_hot { OnErr result (SameValues (D.NameId.Set.has queue.old.hot) (D.NameId.Set.has queue.new.hot)) }
     ensures clauses { SameClauses queue.old queue.new }
     ensures synced { SameSync queue.old queue.new }
+    ensures walks { SameValues (walks queue.old) (walks queue.new) }
+    ensures owed { SameValues (owed queue.old) (owed queue.new) }
     ensures stands { (refs : References D.NameId D.SolvableId D.Alloc) → StandsOn refs queue.old → StandsOn refs queue.new }
     ensures refused { IfErr result (IsGrowthRefusal (D.NameId.Slots.is_too_large name)) }
     ensures too_large { IsTrue (D.NameId.Slots.is_too_large name) → result ≡ Err IdSpace }

@@ -36,6 +36,7 @@ impl<D: DependencyProvider + Drop> ClauseStore<D> {
             (answer_of result) (⟦<D as AbstractStore>⟧.store self.new) }
         ensures answered { IfOk result (λ reply. IsRefused (reply_of reply) → ⊥) }
         ensures provider { self.new.provider ≡ self.old.provider }
+        ensures asked { self.new.asked ≡ self.old.asked }
     {
         if !may_track(self.cache.provider(), &self.variables, name, variable) {
             return Err(StoreError::UnknownId);

@@ -35,6 +35,7 @@ impl<D: DependencyProvider + Drop> ClauseStore<D> {
             (answer_of result) (⟦<D as AbstractStore>⟧.store self.new) }
         ensures answered { IfOk result (λ reply. IsRefused (reply_of reply) → ⊥) }
         ensures provider { self.new.provider ≡ self.old.provider }
+        ensures asked { self.new.asked ≡ self.old.asked }
     {
         if !knows_watches(&self.clauses, &self.variables, clause, from, to) {
             return Err(StoreError::UnknownId);

@@ -18,20 +18,20 @@ look-requires-clause-of g c =
 
 pub look-requires-clause-asked : goal.look-requires-clause-asked
 look-requires-clause-asked g c =
-    asked_by (g.I.Interner.universe c.args.interner.now) c.args.reader.now.lists c.loop-position.reader.lists c.args.disjunctions.now (values_in c.args.map.now) c.loop-position.tracked (sym c.loop-position.invariant.walks.lists) c.loop-position.invariant.asked
+    asked_by (g.I.Interner.universe c.args.question.now.interner.now) c.args.reader.now.lists c.loop-position.reader.lists c.args.question.now.disjunctions.now (values_in c.args.question.now.map.now) c.loop-position.tracked (sym c.loop-position.invariant.walks.lists) c.loop-position.invariant.asked
 
 pub returns-in-Some-2-clause-picked : goal.returns-in-Some-2-clause-picked
 returns-in-Some-2-clause-picked g c =
-    let refs = (references (g.I.Interner.universe c.args.interner.now) c.args.reader.now.lists c.args.disjunctions.now) in
-    let val = values_in c.args.map.now in
-    let score = score_in refs (g.I.NameId.Scores.IdMap.value_at c.args.scores.now) in
+    let refs = (references (g.I.Interner.universe c.args.question.now.interner.now) c.args.reader.now.lists c.args.question.now.disjunctions.now) in
+    let val = values_in c.args.question.now.map.now in
+    let score = score_in refs (g.I.NameId.Scores.IdMap.value_at c.args.question.now.scores.now) in
     first_found c.args.tracked.now.index.clauses.items (clause_literals refs) (rows_in refs) val score c.requires.asked.located c.args.group
     c.loop-position.tracked.requirements c.loop-position.tracked.queued
     (ready_by refs val c.loop-position.tracked c.args.tracked.now c.loop-position.invariant.walks.index c.loop-position.invariant.asked)
     c.in-Some.position c.in-Some.ensures.none c.in-Some.ensures.least
     c.in_ok-candidate.field-0 c.in-Some-2.candidate c.in-Some-2.is
     (λ d s. c.in_ok-candidate.ensures.offers d (subst (λ ix. slice_get ix.clauses.items c.in-Some.position.number ≡ Some d) (sym c.loop-position.invariant.walks.index) s)
-    ∙ ap (λ ls. offer_of val (clause_literals refs) (loaded_rows (g.I.Interner.universe c.args.interner.now) ls) score d) c.loop-position.invariant.walks.lists)
+    ∙ ap (λ ls. offer_of val (clause_literals refs) (loaded_rows (g.I.Interner.universe c.args.question.now.interner.now) ls) score d) c.loop-position.invariant.walks.lists)
     c.in_ok-candidate.ensures.at
 
 pub returns-in-Some-2-clause-of : goal.returns-in-Some-2-clause-of
@@ -42,10 +42,10 @@ returns-in-Some-2-clause-of g c =
 
 pub returns-clause-picked : goal.returns-clause-picked
 returns-clause-picked g c =
-    let refs = (references (g.I.Interner.universe c.args.interner.now) c.args.reader.now.lists c.args.disjunctions.now) in
-    let val = values_in c.args.map.now in
+    let refs = (references (g.I.Interner.universe c.args.question.now.interner.now) c.args.reader.now.lists c.args.question.now.disjunctions.now) in
+    let val = values_in c.args.question.now.map.now in
     none_found c.args.tracked.now.index.clauses.items (clause_literals refs) (rows_in refs) val
-    (score_in refs (g.I.NameId.Scores.IdMap.value_at c.args.scores.now)) c.requires.asked.located c.args.group
+    (score_in refs (g.I.NameId.Scores.IdMap.value_at c.args.question.now.scores.now)) c.requires.asked.located c.args.group
     c.loop-position.tracked.requirements c.loop-position.tracked.queued
     (ready_by refs val c.loop-position.tracked c.args.tracked.now c.loop-position.invariant.walks.index c.loop-position.invariant.asked)
     (match_none c.first_of.result _ _ c.in_default.is c.first_of.ensures.none)
@@ -53,7 +53,7 @@ returns-clause-picked g c =
 pub loop-position-preserved : goal.loop-position-preserved
 loop-position-preserved g c =
     record {
-      asked = asked_by (g.I.Interner.universe c.args.interner.now) c.loop-position.reader.lists c.args.reader.now.lists c.args.disjunctions.now (values_in c.args.map.now) c.look.new.tracked c.loop-position.invariant.walks.lists c.look.ensures.asked;
+      asked = asked_by (g.I.Interner.universe c.args.question.now.interner.now) c.loop-position.reader.lists c.args.reader.now.lists c.args.question.now.disjunctions.now (values_in c.args.question.now.map.now) c.look.new.tracked c.loop-position.invariant.walks.lists c.look.ensures.asked;
       walks = only_walks_along c.args.tracked.now c.loop-position.tracked c.look.new.tracked c.args.reader.now c.loop-position.reader c.look.new.reader c.loop-position.invariant.walks c.look.ensures.walks;
     }
 
@@ -63,7 +63,7 @@ loop-position-init g c =
 
 pub returns-in-Some-2-clause-asked : goal.returns-in-Some-2-clause-asked
 returns-in-Some-2-clause-asked g c =
-    asked_by (g.I.Interner.universe c.args.interner.now) c.loop-position.reader.lists c.args.reader.now.lists c.args.disjunctions.now (values_in c.args.map.now) c.look.new.tracked c.loop-position.invariant.walks.lists c.look.ensures.asked
+    asked_by (g.I.Interner.universe c.args.question.now.interner.now) c.loop-position.reader.lists c.args.reader.now.lists c.args.question.now.disjunctions.now (values_in c.args.question.now.map.now) c.look.new.tracked c.loop-position.invariant.walks.lists c.look.ensures.asked
 
 pub returns-in-Some-2-clause-walks : goal.returns-in-Some-2-clause-walks
 returns-in-Some-2-clause-walks g c =
@@ -71,7 +71,7 @@ returns-in-Some-2-clause-walks g c =
 
 pub returns-in_err-candidate-clause-asked : goal.returns-in_err-candidate-clause-asked
 returns-in_err-candidate-clause-asked g c =
-    asked_by (g.I.Interner.universe c.args.interner.now) c.loop-position.reader.lists c.args.reader.now.lists c.args.disjunctions.now (values_in c.args.map.now) c.look.new.tracked c.loop-position.invariant.walks.lists c.look.ensures.asked
+    asked_by (g.I.Interner.universe c.args.question.now.interner.now) c.loop-position.reader.lists c.args.reader.now.lists c.args.question.now.disjunctions.now (values_in c.args.question.now.map.now) c.look.new.tracked c.loop-position.invariant.walks.lists c.look.ensures.asked
 
 pub returns-in_err-candidate-clause-walks : goal.returns-in_err-candidate-clause-walks
 returns-in_err-candidate-clause-walks g c =

@@ -6,7 +6,7 @@ use Rattle.resolvo_queue.proofs.deciding.first_eligible.Given as goal
 
 abbrev pub invariant-loop-position : goal.invariant-loop-position
 invariant-loop-position g l = record {
-  asked : CanBeAsked (references (g.I.Interner.universe l.interner) l.initial.reader.lists l.disjunctions) (values_in l.map) l.tracked;
+  asked : CanBeAsked (references (g.I.Interner.universe l.question.interner.now) l.initial.reader.lists l.question.disjunctions.now) (values_in l.question.map.now) l.tracked;
   walks : OnlyWalks l.initial.tracked l.tracked l.initial.reader l.reader;
 }
 

@@ -7,29 +7,29 @@ use Rattle.resolvo_queue.proofs.deciding.look.Goals as goal
 
 pub inspect-requires-clause-walkable : goal.inspect-requires-clause-walkable
 inspect-requires-clause-walkable g c =
-    (askable_here (references (g.I.Interner.universe c.args.interner.now) c.args.reader.now.lists c.args.disjunctions.now) (values_in c.args.map.now)
+    (askable_here (references (g.I.Interner.universe c.args.question.now.interner.now) c.args.reader.now.lists c.args.question.now.disjunctions.now) (values_in c.args.question.now.map.now)
     c.args.tracked.now c.requires.asked c.args.position c.requires.of c.index-clause.result.now c.index-clause.ensures).walkable
 
 pub inspect-requires-clause-right : goal.inspect-requires-clause-right
 inspect-requires-clause-right g c =
-    right_here (references (g.I.Interner.universe c.args.interner.now) c.args.reader.now.lists c.args.disjunctions.now) (values_in c.args.map.now)
+    right_here (references (g.I.Interner.universe c.args.question.now.interner.now) c.args.reader.now.lists c.args.question.now.disjunctions.now) (values_in c.args.question.now.map.now)
     c.args.tracked.now c.requires.asked c.args.position c.requires.of c.index-clause.result.now c.index-clause.ensures
 
 pub returns-in_err-found-clause-asked : goal.returns-in_err-found-clause-asked
 returns-in_err-found-clause-asked g c =
-    looked_asked (references (g.I.Interner.universe c.args.interner.now) c.args.reader.now.lists c.args.disjunctions.now) (values_in c.args.map.now)
+    looked_asked (references (g.I.Interner.universe c.args.question.now.interner.now) c.args.reader.now.lists c.args.question.now.disjunctions.now) (values_in c.args.question.now.map.now)
     c.args.tracked.now c.requires.asked c.args.position c.requires.of c.index-clause.result.now c.index-clause.ensures
     c.inspect.new.requirements c.inspect.new.occurrences c.inspect.ensures.listed c.args.reader.now.walked c.inspect.new.reader.walked c.inspect.ensures.learns
 
 pub returns-in-None-clause-offers : goal.returns-in-None-clause-offers
 returns-in-None-clause-offers g c =
-    nothing_here (references (g.I.Interner.universe c.args.interner.now) c.args.reader.now.lists c.args.disjunctions.now) (values_in c.args.map.now)
+    nothing_here (references (g.I.Interner.universe c.args.question.now.interner.now) c.args.reader.now.lists c.args.question.now.disjunctions.now) (values_in c.args.question.now.map.now)
     c.args.tracked.now c.requires.asked c.args.position c.requires.of c.index-clause.result.now c.index-clause.ensures
-    (score_in (references (g.I.Interner.universe c.args.interner.now) c.args.reader.now.lists c.args.disjunctions.now) (g.I.NameId.Scores.IdMap.value_at c.args.scores.now)) c.in_ok-found.found c.in-None.is c.in_ok-found.ensures.eligible
+    (score_in (references (g.I.Interner.universe c.args.question.now.interner.now) c.args.reader.now.lists c.args.question.now.disjunctions.now) (g.I.NameId.Scores.IdMap.value_at c.args.question.now.scores.now)) c.in_ok-found.found c.in-None.is c.in_ok-found.ensures.eligible
 
 pub returns-in-None-clause-asked : goal.returns-in-None-clause-asked
 returns-in-None-clause-asked g c =
-    dropped_asked (references (g.I.Interner.universe c.args.interner.now) c.args.reader.now.lists c.args.disjunctions.now) (values_in c.args.map.now)
+    dropped_asked (references (g.I.Interner.universe c.args.question.now.interner.now) c.args.reader.now.lists c.args.question.now.disjunctions.now) (values_in c.args.question.now.map.now)
     c.args.tracked.now c.requires.asked c.args.position c.requires.of c.index-clause.result.now c.index-clause.ensures
     c.inspect.new.requirements c.inspect.new.occurrences c.inspect.ensures.listed c.args.reader.now.walked c.inspect.new.reader.walked c.inspect.ensures.learns
     c.remove.new.self c.remove.ensures.loses (c.in_ok-found.ensures.possible ∙ ap is_some c.in-None.is)
@@ -37,13 +37,13 @@ returns-in-None-clause-asked g c =
 pub returns-in-Some-clause-offers : goal.returns-in-Some-clause-offers
 returns-in-Some-clause-offers g c =
     λ d s. ap Some c.offer_at.ensures
-    ∙ offer_here (references (g.I.Interner.universe c.args.interner.now) c.args.reader.now.lists c.args.disjunctions.now) (values_in c.args.map.now)
+    ∙ offer_here (references (g.I.Interner.universe c.args.question.now.interner.now) c.args.reader.now.lists c.args.question.now.disjunctions.now) (values_in c.args.question.now.map.now)
     c.args.tracked.now c.requires.asked c.args.position c.requires.of c.index-clause.result.now c.index-clause.ensures
-    (score_in (references (g.I.Interner.universe c.args.interner.now) c.args.reader.now.lists c.args.disjunctions.now) (g.I.NameId.Scores.IdMap.value_at c.args.scores.now)) c.in_ok-found.found c.in-Some.frontier c.in-Some.is c.in_ok-found.ensures.eligible d s
+    (score_in (references (g.I.Interner.universe c.args.question.now.interner.now) c.args.reader.now.lists c.args.question.now.disjunctions.now) (g.I.NameId.Scores.IdMap.value_at c.args.question.now.scores.now)) c.in_ok-found.found c.in-Some.frontier c.in-Some.is c.in_ok-found.ensures.eligible d s
 
 pub returns-in-Some-clause-asked : goal.returns-in-Some-clause-asked
 returns-in-Some-clause-asked g c =
-    looked_asked (references (g.I.Interner.universe c.args.interner.now) c.args.reader.now.lists c.args.disjunctions.now) (values_in c.args.map.now)
+    looked_asked (references (g.I.Interner.universe c.args.question.now.interner.now) c.args.reader.now.lists c.args.question.now.disjunctions.now) (values_in c.args.question.now.map.now)
     c.args.tracked.now c.requires.asked c.args.position c.requires.of c.index-clause.result.now c.index-clause.ensures
     c.inspect.new.requirements c.inspect.new.occurrences c.inspect.ensures.listed c.args.reader.now.walked c.inspect.new.reader.walked c.inspect.ensures.learns
 

@@ -26,3 +26,8 @@ pub returns-in_err-add_clause-clause-owes : goal.returns-in_err-add_clause-claus
 returns-in_err-add_clause-clause-owes g c =
     subst (OwesFirst c.args.requirement c.args.self.now) (sym c.in_err-add_clause.ensures.err)
     (owes_record c.args.requirement c.args.self.now c.enter.new.self c.in_ok-place.ensures.more)
+
+pub returns-clause-owes_one : goal.returns-clause-owes_one
+returns-clause-owes_one g c =
+    c.in_ok-add_clause.ensures.owes c.args.requirement
+    (entered_place c.args.number c.args.requirement c.in_ok-place.place c.enter.new.self c.add_clause.new.self c.in_ok-add_clause.ensures.ok c.in_ok-place.ensures.place)

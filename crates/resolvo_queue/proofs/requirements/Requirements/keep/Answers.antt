@@ -1,4 +1,4 @@
-use Rattle.std.proofs.Common.{ℕ, Some, map, refl, ap, sym, subst, ◌∙◌, ◌∷◌, [], length, length-append}
+use Rattle.std.proofs.Common.{ℕ, Some, arith, inr, map, refl, ap, sym, subst, ◌∙◌, ◌∷◌, [], length, length-append}
 use Rattle.resolvo_queue.specs.Records.{tracked}
 use Rattle.resolvo_queue.specs.Tracked.{IsPlaceOf, walked}
 use Rattle.resolvo_queue.proofs.RecordLaws.{one_place, placed_at, written_placed, written_is}
@@ -10,7 +10,7 @@ invariant_of-self g c =
     written_placed (walked c.args.frontier.now) (λ t. refl) c.self.inside.records.items c.args.self.now c.self.inside.places c.args.place r _
     c.self.view_is c.requires c.index_mut-record.ensures.value
     (ap (λ (n : ℕ). record { requirement = r.requirement; clauses = r.clauses.items; walk = Some c.args.frontier.now; walks = n }) (ap length c.and-record.ensures ∙ length-append r.log.walked (r.requirement ∷ [])))
-    c.self.invariant
+    (λ t h. inr (omega arith)) c.self.invariant
 
 pub returns-clause-walked : goal.returns-clause-walked
 returns-clause-walked g c =

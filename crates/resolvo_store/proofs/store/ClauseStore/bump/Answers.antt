@@ -2,10 +2,12 @@ use Rattle.std.proofs.Common.{◌≡◌, ◌∙◌, refl, sym, subst, true}
 use Rattle.resolvo_queue.specs.References.{references}
 use Rattle.resolvo_store.specs.Command.{Bump, answer_of}
 use Rattle.resolvo_store.specs.Step.{Step}
+use Rattle.resolvo_store.specs.Walks.{WalksNothing}
 use Rattle.resolvo_store.specs.Store.{Store, Kept, Provider, store_of, gathered}
 use Rattle.resolvo_store.proofs.AddingLemmas.{step_grown, first_of_bump}
 use Rattle.resolvo_store.proofs.CallerLaws.{store_in}
 use Rattle.resolvo_store.proofs.InvariantLemmas.{after_bumped, bumped_or_same}
+use Rattle.resolvo_store.proofs.WalkLemmas.{walks_no_more, walks_still}
 use Rattle.resolvo_store.proofs.store.ClauseStore.bump.Given.{Over}
 use Rattle.resolvo_store.proofs.store.ClauseStore.bump.Goals as goal
 
@@ -33,3 +35,11 @@ returns-clause-step g c =
     (step_grown st (Bump name c.args.amount) large c.raise.result after refl
     (first_of_bump st name c.args.amount (subst (λ p. (g.D.Interner.universe p).knows_name name ≡ true) c.provider.ensures.provider (sym c.knows_name.ensures ∙ c.if-not-knows_name.false)))
     refl refl (λ h. h) c.raise.ensures.reply parts.0 parts.1 c.raise.ensures.refused c.raise.ensures.too_large)
+
+pub returns-then-not-knows_name-clause-asked : goal.returns-then-not-knows_name-clause-asked
+returns-then-not-knows_name-clause-asked g c = walks_no_more c.args.self.now.asked
+
+pub returns-clause-asked : goal.returns-clause-asked
+returns-clause-asked g c =
+    subst (λ (k : Kept g.row.D.Denot g.row.D-NameId.Denot g.row.D-SolvableId.Denot g.row.D-NameId-Scores.Denot). WalksNothing k.asked _) c.self.view_is
+    (walks_still c.self.inside.queue c.raise.new.queue c.self.inside.trail c.raise.ensures.synced c.raise.ensures.walks c.raise.ensures.owed)

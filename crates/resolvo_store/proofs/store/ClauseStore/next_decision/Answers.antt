@@ -13,9 +13,11 @@ use Rattle.resolvo_store.specs.Lists.{IsConsistent}
 use Rattle.resolvo_store.specs.Outcome.{falsified_clause, is_eligible_clause, offers, picked}
 use Rattle.resolvo_store.specs.Store.{Kept, Provider, store_of, gathered, kept_literals}
 use Rattle.resolvo_store.specs.Synced.{decisions_of}
+use Rattle.resolvo_store.specs.Walks.{AsksOnce, IsTold}
 use Rattle.resolvo_store.proofs.AskingLemmas.{can_walk, asked_as_store, asked_by_store}
 use Rattle.resolvo_store.proofs.CallerLaws.{store_in}
 use Rattle.resolvo_store.proofs.InvariantLemmas.{after_sync}
+use Rattle.resolvo_store.proofs.WalkLemmas.{asks_told, asks_walked, on_any, told_of}
 use Rattle.resolvo_store.proofs.store.ClauseStore.next_decision.Given.{Over}
 use Rattle.resolvo_store.proofs.store.ClauseStore.next_decision.Goals as goal
 
@@ -121,3 +123,26 @@ returns-clause-same g c = grind (arith, common_steps)
 
 pub returns-clause-provider : goal.returns-clause-provider
 returns-clause-provider g c = grind (arith, common_steps)
+
+pub returns-in_err-sync-clause-asked : goal.returns-in_err-sync-clause-asked
+returns-in_err-sync-clause-asked g c =
+    subst (λ (k : Kept g.row.D.Denot g.row.D-NameId.Denot g.row.D-SolvableId.Denot g.row.D-NameId-Scores.Denot). AsksOnce (store_of (given g) g.D.NameId.Scores.IdMap.value_at k) k.asked _) c.self.view_is
+    (asks_told c.self.invariant refl refl refl c.take_sync_floor-floor.result c.assignments.result.now c.sync.new.self c.take_sync_floor-floor.new.self
+    c.take_sync_floor-floor.ensures.floor (c.assignments.ensures.decisions ∙ ap (λ t. decisions_of t.entries) c.take_sync_floor-floor.ensures.trail)
+    c.sync.ensures.walks c.sync.ensures.owed c.sync.ensures.owed_still)
+
+pub returns-clause-asked : goal.returns-clause-asked
+returns-clause-asked g c =
+    subst (λ (k : Kept g.row.D.Denot g.row.D-NameId.Denot g.row.D-SolvableId.Denot g.row.D-NameId-Scores.Denot). AsksOnce (store_of (given g) g.D.NameId.Scores.IdMap.value_at k) k.asked _) c.self.view_is
+    (asks_walked c.self.invariant refl refl refl c.sync.new.self c.next_decision.new.self c.take_sync_floor-floor.new.self c.take_sync_floor-floor.new.self
+    c.new-reader.result.walked c.next_decision.new.reader.walked
+    (asks_told c.self.invariant refl refl refl c.take_sync_floor-floor.result c.assignments.result.now c.sync.new.self c.take_sync_floor-floor.new.self
+    c.take_sync_floor-floor.ensures.floor (c.assignments.ensures.decisions ∙ ap (λ t. decisions_of t.entries) c.take_sync_floor-floor.ensures.trail)
+    c.sync.ensures.walks c.sync.ensures.owed c.sync.ensures.owed_still)
+    c.sync.ensures.walks c.next_decision.ensures.walks c.next_decision.ensures.owed)
+
+pub returns-clause-told : goal.returns-clause-told
+returns-clause-told g c =
+    subst (λ (k : Kept g.row.D.Denot g.row.D-NameId.Denot g.row.D-SolvableId.Denot g.row.D-NameId-Scores.Denot). OnOk c.next_decision.result (IsTold (store_of (given g) g.D.NameId.Scores.IdMap.value_at k).trail _)) c.self.view_is
+    (on_any c.next_decision.result (told_of c.self.invariant refl refl refl c.assignments.result.now c.sync.new.self c.next_decision.new.self c.take_sync_floor-floor.new.self
+    c.take_sync_floor-floor.ensures.trail c.assignments.ensures.decisions c.in_ok-sync.ensures.ok c.next_decision.ensures.unchanged.synced))

@@ -14,6 +14,7 @@ use Rattle.resolvo_queue.specs.declared.requires_clause.RequiresClause.{Requires
 use Rattle.resolvo_queue.specs.References.{references}
 use Rattle.resolvo_store.specs.Command.{Requires, Refused}
 use Rattle.resolvo_store.specs.Step.{Step}
+use Rattle.resolvo_store.specs.Walks.{OwesFirst}
 use Rattle.resolvo_store.specs.Store.{Kept, Provider, store_of, gathered, kept_literals, values}
 use Rattle.resolvo_store.proofs.AddingLemmas.{step_foreseen, step_registered, first_of_requires, first_of_unknown, first_of_unloaded, first_of_negating, first_of_full, all_known_is, each_known}
 use Rattle.resolvo_store.proofs.AskingLemmas.{condition_seen}
@@ -21,6 +22,7 @@ use Rattle.resolvo_store.proofs.CallerLaws.{store_in}
 use Rattle.resolvo_store.proofs.InvariantLemmas.{after_registered, on_ok, on_err}
 use Rattle.resolvo_store.proofs.ListLemmas.{length_disjunctions, lookup-some}
 use Rattle.resolvo_store.proofs.WatchLaws.{two_if_first}
+use Rattle.resolvo_store.proofs.WalkLemmas.{owes_nothing, owes_registered}
 use Rattle.resolvo_store.proofs.store.ClauseStore.requires_clause.Given.{Over}
 use Rattle.resolvo_store.proofs.store.ClauseStore.requires_clause.Goals as goal
 
@@ -148,3 +150,23 @@ returns-clause-step g c =
 
 pub returns-clause-provider : goal.returns-clause-provider
 returns-clause-provider g c = grind (arith, common_steps)
+
+pub returns-then-not-knows_required-clause-asked : goal.returns-then-not-knows_required-clause-asked
+returns-then-not-knows_required-clause-asked g c = owes_nothing c.args.requirement c.args.self.now.asked
+
+pub returns-then-not-is_loaded-clause-asked : goal.returns-then-not-is_loaded-clause-asked
+returns-then-not-is_loaded-clause-asked g c = owes_nothing c.args.requirement c.args.self.now.asked
+
+pub returns-then-negates_parent-clause-asked : goal.returns-then-negates_parent-clause-asked
+returns-then-negates_parent-clause-asked g c = owes_nothing c.args.requirement c.args.self.now.asked
+
+pub returns-then-is_full-clause-asked : goal.returns-then-is_full-clause-asked
+returns-then-is_full-clause-asked g c = owes_nothing c.args.requirement c.args.self.now.asked
+
+pub returns-clause-asked : goal.returns-clause-asked
+returns-clause-asked g c =
+    let inside = c.self.inside in
+    let one : RequiresClause = record { parent = c.args.parent; requirement = c.args.requirement; condition = c.args.disjunction; clause_id = length inside.clauses.clauses } in
+    subst (λ (k : Kept g.row.D.Denot g.row.D-NameId.Denot g.row.D-SolvableId.Denot g.row.D-NameId-Scores.Denot). OwesFirst c.args.requirement k.asked _) c.self.view_is
+    (owes_registered inside.queue c.register.new.queue inside.trail {has = g.D.NameId.Set.IdSet.has} c.register.result one _ _
+    c.register.ensures.registered c.register.ensures.unregistered c.register.ensures.walks c.register.ensures.owed)

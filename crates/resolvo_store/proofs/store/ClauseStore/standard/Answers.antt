@@ -1,6 +1,9 @@
-use Rattle.std.proofs.Common.{refl}
+use Rattle.std.proofs.Common.{refl, subst}
 use Rattle.resolvo_queue.specs.References.{references}
 use Rattle.resolvo_store.proofs.InvariantLemmas.{after_question}
+use Rattle.resolvo_store.specs.Store.{Kept}
+use Rattle.resolvo_store.specs.Walks.{WalksNothing}
+use Rattle.resolvo_store.proofs.WalkLemmas.{walks_still}
 use Rattle.resolvo_store.proofs.store.ClauseStore.standard.Goals as goal
 
 pub invariant_of-self : goal.invariant_of-self
@@ -8,3 +11,9 @@ invariant_of-self g c =
     let inside = c.self.inside in
     after_question c.self.invariant refl c.set_standard_activity_params.ensures.unchanged
     (c.set_standard_activity_params.ensures.stands (references (g.D.Interner.universe inside.cache.provider) inside.loaded inside.disjunctions) c.self.invariant.may_ask.stands)
+
+pub returns-clause-asked : goal.returns-clause-asked
+returns-clause-asked g c =
+    let call = c.set_standard_activity_params in
+    subst (λ (k : Kept g.row.D.Denot g.row.D-NameId.Denot g.row.D-SolvableId.Denot g.row.D-NameId-Scores.Denot). WalksNothing k.asked _) c.self.view_is
+    (walks_still c.self.inside.queue call.new.self c.self.inside.trail call.ensures.unchanged.synced call.ensures.walks call.ensures.owed)

@@ -2,20 +2,20 @@ use Rattle.std.proofs.Common.{◌≡◌, true}
 use Rattle.decisions.specs.Decisions.{values_in}
 use Rattle.resolvo_queue.specs.Asking.{CanBeAsked, OnlyWalks}
 use Rattle.resolvo_queue.specs.Group.{is_in, offers_of}
-use Rattle.resolvo_queue.specs.Pick.{best_offer}
 use Rattle.resolvo_queue.specs.Question.{offers_in}
 use Rattle.resolvo_queue.specs.References.{references}
-use Rattle.resolvo_queue.specs.Ready.{clauses_behind, offered, rest_picked}
-use Rattle.resolvo_queue.proofs.deciding.best_of.Given as goal
+use Rattle.resolvo_queue.specs.Ready.{clauses_behind, rest_picked}
+use Rattle.resolvo_queue.proofs.deciding.best_from.Given as goal
 
 abbrev pub invariant-loop-position : goal.invariant-loop-position
 invariant-loop-position g l =
-    let refs = references (g.I.Interner.universe l.interner) l.fn.reader.lists l.disjunctions in
-    let offers = offers_of l.group (offers_in refs (values_in l.map) (g.I.NameId.Scores.IdMap.value_at l.scores)) in
+    let refs = references (g.I.Interner.universe l.question.interner.now) l.fn.reader.lists l.question.disjunctions.now in
+    let offers = offers_of l.group (offers_in refs (values_in l.question.map.now) (g.I.NameId.Scores.IdMap.value_at l.question.scores.now)) in
     record {
-      picked : best_offer (offered l.fn.tracked.index.clauses.items offers) ≡ rest_picked l.fn.tracked.index.clauses.items offers l.best.offer l.cursor;
+      picked : rest_picked l.fn.tracked.index.clauses.items offers l.fn.first.offer l.fn.first.position
+          ≡ rest_picked l.fn.tracked.index.clauses.items offers l.best.offer l.cursor;
       of : is_in l.group l.cursor ≡ true;
-      asked : CanBeAsked refs (values_in l.map) l.tracked;
+      asked : CanBeAsked refs (values_in l.question.map.now) l.tracked;
       walks : OnlyWalks l.fn.tracked l.tracked l.fn.reader l.reader;
     }
 

@@ -1,0 +1,118 @@
+-- What the calls on a store's queue walk and owe. N are the names, S the solvables.
+use Rattle.std.proofs.Common.{◌≡◌, ℕ, ◌+◌, ◌≤◌, ◌⊎◌, inl, Bool, false, List, length, drop, Result, Ok, Err, refl, sym, subst, ap, ◌∙◌, arith}
+use Rattle.std.specs.Prelude.{All, OnOk, OnErr, unwrap_or, [], ◌++◌}
+use Rattle.std.specs.Map.{lookup}
+use Rattle.std.specs.declared.vec.Vec.{Vec}
+use Rattle.typed_ids.specs.TotalMaps.{SameValues}
+use Rattle.providers.specs.Provider.{sets_of}
+use Rattle.providers.specs.Requirement.{same_requirement}
+use Rattle.providers.specs.declared.requirement.Requirement.{Requirement}
+use Rattle.decisions.specs.Trail.{Entry, Trail, floor_taken}
+use Rattle.decisions.specs.declared.decision.Decision.{Decision}
+use Rattle.clauses.specs.declared.disjunction.Disjunction.{Disjunction}
+use Rattle.resolvo_queue.specs.Queue.{Queue, HasTrail, IsRegistered, IsUnchanged, SameSync, StandsOn}
+use Rattle.resolvo_queue.specs.References.{References, IsWalkable, references, rows_in}
+use Rattle.resolvo_queue.specs.Routing.{variables_of}
+use Rattle.resolvo_queue.specs.Rows.{rows}
+use Rattle.resolvo_queue.specs.WalkCounts.{HasNoneOf, WalksOnce, changed_from, owed, walks}
+use Rattle.resolvo_queue.specs.declared.requires_clause.RequiresClause.{RequiresClause}
+use Rattle.resolvo_queue.proofs.CallerLaws.{walks_within}
+use Rattle.resolvo_store.specs.Asked.{Asked, asked_of}
+use Rattle.resolvo_store.specs.Lists.{IsConsistent, lists_kept}
+use Rattle.resolvo_store.specs.Store.{Store, rows_of}
+use Rattle.resolvo_store.specs.Synced.{decisions_of}
+use Rattle.resolvo_store.specs.Walks.{AsksOnce, IsTold, OwesFirst, ToldNothing, WalksNothing, changed_since}
+use Rattle.resolvo_store.proofs.AskingLemmas.{can_walk}
+use Rattle.resolvo_store.proofs.ListLemmas.{rows-kept}
+use Rattle.solver_cache.specs.Cache.{Cache}
+
+-- what holds whatever the result holds of success
+pub on_any : {T E P : Type 0} (result : Result T E) → P → OnOk result P
+on_any (Ok x) p = p
+on_any (Err e) p = tt
+
+-- ---- where nothing is asked
+
+pub told_nothing : (a : Asked) → ToldNothing a a
+told_nothing a = record { trail = refl; must_start_anew = refl; floor = refl }
+
+pub owes_nothing : (own : Requirement) (a : Asked) → OwesFirst own a a
+owes_nothing own a = record { walks = λ r. refl; owed = λ r. inl refl; told = told_nothing a }
+
+pub walks_no_more : (a : Asked) → WalksNothing a a
+walks_no_more a = record { walks = λ r. refl; owed = λ r. refl; told = told_nothing a }
+
+-- another trail, with the same floor
+pub asked_still : {N Q : Type 0} (q : Queue N Q) (t t' : Trail) → t'.floor ≡ t.floor → asked_of q t' ≡ asked_of q t
+asked_still q t t' same = ap (λ n. record { walks = walks q; owed = owed q; trail = q.trail; must_start_anew = q.must_start_anew; floor = n }) same
+
+module _ {N Q : Type 0} (queue q : Queue N Q) (trail : Trail) where
+  told_still : SameSync queue q → ToldNothing (asked_of queue trail) (asked_of q trail)
+  told_still same = record { trail = same.trail; must_start_anew = same.must_start_anew; floor = refl }
+
+  -- the queue was changed by a call that walks nothing
+  pub walks_still : SameSync queue q → SameValues (walks queue) (walks q) → SameValues (owed queue) (owed q) → WalksNothing (asked_of queue trail) (asked_of q trail)
+  walks_still same walked owes = record { walks = walked; owed = owes; told = told_still same }
+
+  -- a clause was to be registered
+  pub owes_registered : {T E : Type 0} {has : Q → N → Bool} (result : Result T E) (clause : RequiresClause) (names : List N) (value : _) →
+      OnOk result (IsRegistered has clause names value queue q) → OnErr result (IsUnchanged queue q has) → SameValues (walks queue) (walks q) →
+      ((r : Requirement) → (owed q r ≡ owed queue r) ⊎ ((r ≡ clause.requirement) × (owed queue r ≡ 0) × (owed q r ≡ 1))) →
+      OwesFirst clause.requirement (asked_of queue trail) (asked_of q trail)
+  owes_registered (Ok x) clause names value registered same walked owes =
+      record { walks = walked; owed = owes; told = record { trail = registered.trail; must_start_anew = registered.must_start_anew; floor = refl } }
+  owes_registered (Err e) clause names value registered same walked owes = record { walks = walked; owed = owes; told = told_still same.synced }
+
+-- ---- a question
+
+module _ {D N S A H Q : Type 0} {has : Q → N → Bool} {st : Store N S} {loaded : List (Requirement × Vec (Vec ℕ A) A)} {disjunctions : List (Disjunction A)}
+    {cache : Cache D N S A H} {queue : Queue N Q} {trail : Trail} (is : IsConsistent has st loaded disjunctions cache queue trail)
+    (requires : st.requires ≡ queue.clauses) (kept : st.loaded ≡ lists_kept loaded) (entries : st.trail ≡ trail.entries) where
+  abbrev refs : References N S A
+  refs = references st.provider.universe loaded disjunctions
+
+  abbrev asked : Asked
+  asked = asked_of queue trail
+
+  rows_seen : (r : Requirement) → rows_of st r ≡ rows_in refs r
+  rows_seen r =
+      ap (λ ls. rows (sets_of st.provider.universe r) (unwrap_or (lookup (same_requirement r) ls) [])) kept
+      ∙ sym (ap (λ f. f r) (rows-kept st.provider.universe loaded))
+
+  -- the queue was told of the trail, or that was refused
+  pub asks_told : (floor : ℕ) (ds : List Decision) (q : Queue N Q) (t : Trail) → floor ≡ trail.floor → ds ≡ decisions_of trail.entries →
+      SameValues (walks queue) (walks q) → ((r : Requirement) → owed q r ≤ owed queue r + 1) →
+      (queue.must_start_anew ≡ false → (any : References N S A) → StandsOn any queue → (r : Requirement) → IsWalkable any.universe any.lists r →
+      HasNoneOf (changed_from floor ds queue) (rows_in any r) → owed q r ≡ owed queue r) →
+      AsksOnce st asked (asked_of q t)
+  asks_told floor ds q t at is_trail walked owes still = record {
+    walks = λ r. (let e = walked r in omega arith);
+    within = λ r. walks_within q.inside.requirements r;
+    owed = owes;
+    owed_still = λ accepted. subst (λ cs. All (λ c. HasNoneOf (changed_since st asked) (rows_of st c.requirement) → owed q c.requirement ≡ owed queue c.requirement) cs) (sym requires)
+        (λ k d within none. still accepted refs is.may_ask.stands _ (can_walk is requires kept k d within)
+        (subst (HasNoneOf (changed_from floor ds queue)) (rows_seen _) (subst (λ vs. HasNoneOf vs (rows_of st _)) (sym changed) none)));
+  }
+    where
+      changed : changed_from floor ds queue ≡ changed_since st asked
+      changed =
+          ap (λ n. variables_of (drop n queue.trail) ++ variables_of (drop n ds)) at
+          ∙ ap (λ es. variables_of (drop trail.floor queue.trail) ++ variables_of (drop trail.floor es)) (is_trail ∙ sym (ap decisions_of entries))
+
+  -- then it was asked
+  pub asks_walked : (q n : Queue N Q) (t t' : Trail) (log log' : List Requirement) → AsksOnce st asked (asked_of q t) → SameValues (walks queue) (walks q) →
+      WalksOnce q.inside.requirements n.inside.requirements log log' → SameValues (owed q) (owed n) → AsksOnce st asked (asked_of n t')
+  asks_walked q n t t' log log' asks walked once owes = record {
+    walks = λ r. (let e = walked r in let more = once.walks r in let one = once.once r in omega arith);
+    within = λ r. walks_within n.inside.requirements r;
+    owed = λ r. (let e = owes r in let less = asks.owed r in omega arith);
+    owed_still = λ accepted k d within none. owes _ ∙ asks.owed_still accepted k d within none;
+  }
+
+  -- it has the trail then
+  pub told_of : (ds : List Decision) (q n : Queue N Q) (t : Trail) → t ≡ floor_taken trail → ds ≡ decisions_of t.entries → HasTrail ds q → SameSync q n → IsTold st.trail (asked_of n t)
+  told_of ds q n t taken is_trail told same = record {
+    trail = same.trail ∙ (told.trail ∙ (is_trail ∙ ap decisions_of (ap (λ x. x.entries) taken ∙ sym entries)));
+    must_start_anew = same.must_start_anew ∙ told.must_start_anew;
+    floor = ap (λ x. x.floor) taken ∙ ap length (sym entries);
+  }
