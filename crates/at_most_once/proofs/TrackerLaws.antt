@@ -1,6 +1,6 @@
 -- What changes of kept trackers make of the function from names to trackers.
 use Rattle.std.proofs.Common.{◌≡◌, ℕ, ◌<◌, ◌^◌, ◌||◌, Bool, true, false, cond, List, [], ◌∷◌, ◌++◌, is_some, Option, None, Some, refl, sym, ◌∙◌, ap, subst, arith, true≢false}
-use Rattle.std.specs.Prelude.{nat_eq, nat_le, ◌&&◌, min, IsTrue}
+use Rattle.std.specs.Prelude.{nat_eq, nat_le, ◌&&◌, min, IsTrue, MatchOption}
 use Rattle.std.proofs.Math.Path.{fun_ext}
 use Rattle.std.specs.Option.{option_map, unwrap_or}
 use Rattle.std.specs.Cmp.{IsEquivalence}
@@ -11,8 +11,8 @@ use Rattle.typed_ids.specs.Refusals.{IsGrowthRefusal}
 use Rattle.typed_ids.specs.declared.error.StoreError.{StoreError}
 use Rattle.typed_ids.specs.declared.error.StoreError.TheVariants.{OutOfMemory, IdSpace, UnknownId, LevelOutOfRange, NotLoaded, NegatesParent, BadWatch, BadLearnt, EmptyTrail, BadFraction, TooManyClauses, Cancelled}
 use Rattle.id_storage.specs.KeptAnswers.{lacks_answer}
-use Rattle.at_most_once.specs.AtMostOne.{Tracker, Kept, empty, with_variable}
-use Rattle.at_most_once.specs.NameTrackers.{tracker_of, with_tracked, lacks_tracker}
+use Rattle.at_most_once.specs.AtMostOne.{Tracker, Kept, HasRoom, KeepsRoom, empty, with_variable}
+use Rattle.at_most_once.specs.NameTrackers.{tracker_of, with_tracked, KeepsRoomFor, lacks_tracker}
 
 -- the tracker in what is found
 abbrev pub tracker_in : Option (Kept ℕ) → Tracker ℕ
@@ -58,6 +58,14 @@ module _ {N : Type 0} (same : N → N → Bool) where
       elim (same name k.0) as (λ b. is_some (cond b (Some k.1) (lookup (same name) (kept ++ (name, t) ∷ []))) ≡ true)
       [ true ↦ refl | false ↦ found_started laws kept name t ]
 
+  -- an empty tracker more takes no room away
+  pub room_started : (kept : List (N × Kept ℕ)) (name : N) (t : Kept ℕ) (other : N) → KeepsRoomFor same other kept (kept ++ (name, t) ∷ [])
+  room_started [] name t other with_helper h = absurd h
+  room_started (k ∷ kept) name t other with_helper h =
+      (elim (same other k.0) as (λ b. MatchOption (cond b (Some k.1) (lookup (same other) kept)) ⊥ (λ t. HasRoom t with_helper)
+      → MatchOption (cond b (Some k.1) (lookup (same other) (kept ++ (name, t) ∷ []))) ⊥ (λ t. HasRoom t with_helper))
+      [ true ↦ λ h. h | false ↦ λ h. room_started kept name t other with_helper h ]) h
+
 module _ {N : Type 0} (same : N → N → Bool) (laws : IsEquivalence same) where
   -- with another tracker in the place of a name's
   found_put : (kept : List (N × Kept ℕ)) (name : N) (t : Kept ℕ) (other : N) → is_some (lookup (same name) kept) ≡ true
@@ -95,6 +103,26 @@ module _ {N : Type 0} (same : N → N → Bool) (laws : IsEquivalence same) wher
         by : (other : N) (b : Bool) → same other name ≡ b → tracker_in (cond b (Some after) (lookup (same other) kept)) ≡ tracker_in (lookup (same other) kept)
         by other true t = e ∙ sym (ap tracker_in (subst (λ n. lookup (same n) kept ≡ Some earlier) (sym (is_sameness other name t)) is))
         by other false t = refl
+
+    -- another name has the room that it had
+    pub room_of_others : (other : N) → same other name ≡ false
+        → KeepsRoomFor same other kept (set_value (same name) (set_value (same name) kept between) after)
+    room_of_others other differs with_helper h =
+        subst (λ o. MatchOption o ⊥ (λ t. HasRoom t with_helper))
+        (sym (found_exchanged kept name between after other (ap is_some is) ∙ ap (λ b. cond b (Some after) (lookup (same other) kept)) differs)) h
+
+    -- a tracker with the same room, or more
+    pub room_kept : KeepsRoom earlier after → (other : N)
+        → KeepsRoomFor same other kept (set_value (same name) (set_value (same name) kept between) after)
+    room_kept keeps other with_helper h =
+        subst (λ o. MatchOption o ⊥ (λ t. HasRoom t with_helper)) (sym (found_exchanged kept name between after other (ap is_some is)))
+        (by (same other name) refl h)
+      where
+        by : (b : Bool) → same other name ≡ b → MatchOption (lookup (same other) kept) ⊥ (λ t. HasRoom t with_helper)
+            → MatchOption (cond b (Some after) (lookup (same other) kept)) ⊥ (λ t. HasRoom t with_helper)
+        by true e h = keeps with_helper
+            (subst (λ o. MatchOption o ⊥ (λ t. HasRoom t with_helper)) (ap (λ n. lookup (same n) kept) (is_sameness other name e) ∙ is) h)
+        by false e h = h
 
     -- a tracker with one variable more
     pub variable_tracked : (variable : ℕ) (helper : Option ℕ) → after.tracker ≡ with_variable nat_eq earlier.tracker helper variable

@@ -23,6 +23,10 @@ pub record HasRoom {V : Type 0} (kept : Kept V) (with_helper : Bool) : Type 0 wh
   pub variable : 0 < kept.variable_room
   pub helper : IsTrue with_helper → 0 < kept.helper_room
 
+-- no room is lost
+abbrev pub KeepsRoom : {V : Type 0} → Kept V → Kept V → Type 0
+KeepsRoom old new = (with_helper : Bool) → HasRoom old with_helper → HasRoom new with_helper
+
 -- a clause of a variable x and a helper h: "not x or h" where the third part is true, "not x or not h" where it is false
 abbrev pub BitClause : Type 0 → Type 0
 BitClause V = V × V × Bool

@@ -17,6 +17,10 @@ module _ {N : Type 0} (same : N → N → Bool) where
   abbrev pub HasRoomFor : List (N × Kept ℕ) → N → Bool → Type 0
   HasRoomFor kept name with_helper = MatchOption (lookup (same name) kept) ⊥ (λ t. HasRoom t with_helper)
 
+  -- no room is lost under this name
+  abbrev pub KeepsRoomFor : N → List (N × Kept ℕ) → List (N × Kept ℕ) → Type 0
+  KeepsRoomFor name old new = (with_helper : Bool) → HasRoomFor old name with_helper → HasRoomFor new name with_helper
+
 -- nothing can be tracked under a name: it is too large for a map; or nothing is yet, and there may be more than 2^32 names,
 -- each with a tracker
 abbrev pub lacks_tracker : (is_large are_many : Bool) → Tracker ℕ → Bool

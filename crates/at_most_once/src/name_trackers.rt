@@ -1,10 +1,10 @@
 //! Trackers, each found by the name of a package.
-ghost use Rattle.std.specs.Prelude.{◌≡◌, ◌++◌, is_some, nat_eq, true, IfSome, IfNone, IsTrue, OnOk, OnErr, IfErr, Err};
+ghost use Rattle.std.specs.Prelude.{◌≡◌, ◌++◌, is_some, nat_eq, true, false, IfSome, IfNone, IsTrue, IsOk, OnOk, OnErr, IfErr, Err};
 ghost use Rattle.std.specs.Map.{lookup};
 ghost use Rattle.typed_ids.specs.Refusals.{IsGrowthRefusal};
 ghost use Rattle.typed_ids.specs.declared.error.StoreError.TheVariants.{IdSpace, OutOfMemory};
 ghost use Rattle.at_most_once.specs.AtMostOne.{empty, HasRoom, is_tracked, needs_helper, clauses_for, with_variable};
-ghost use Rattle.at_most_once.specs.NameTrackers.{tracker_of, with_tracked, HasRoomFor, lacks_tracker};
+ghost use Rattle.at_most_once.specs.NameTrackers.{tracker_of, with_tracked, HasRoomFor, KeepsRoomFor, lacks_tracker};
 
 use crate::tracker::AtMostOnceTracker;
 use id_maps::SolverId;
@@ -83,10 +83,12 @@ impl<N: SolverId<A>, A: Allocator + Copy> NameTrackers<N, A> {
     }
 
     /// Makes room for one more variable under the name, and for a helper where one comes with it: then
-    /// [`NameTrackers::add_reserved`] may add them. Nothing is tracked by it.
+    /// [`NameTrackers::add_reserved`] may add them. Nothing is tracked by it, and room that is there is kept.
     pub fn make_room(&mut self, name: N, with_helper: bool) -> Result<(), StoreError>
         ensures same { tracker_of N.eq self.new ≡ tracker_of N.eq self.old }
         ensures room { OnOk result (HasRoomFor N.eq self.new name with_helper) }
+        ensures succeeds { HasRoomFor N.eq self.old name with_helper → IsOk result }
+        ensures keeps { (other : N) → KeepsRoomFor N.eq other self.old self.new }
         ensures refused { IfErr result (IsGrowthRefusal (lacks_tracker (N.Slots.is_too_large name) N.are_many (tracker_of N.eq self.old name))) }
         ensures too_large { IsTrue (N.Slots.is_too_large name) → result ≡ Err IdSpace }
     {
@@ -103,7 +105,8 @@ impl<N: SolverId<A>, A: Allocator + Copy> NameTrackers<N, A> {
     /// changes nothing. Takes no memory.
     pub fn add_reserved(&mut self, name: N, variable: VariableId, helper: Option<VariableId>)
         requires { HasRoomFor N.eq self.old name (is_some helper) }
-        ensures { tracker_of N.eq self.new ≡ with_tracked N.eq name variable helper (tracker_of N.eq self.old) }
+        ensures added { tracker_of N.eq self.new ≡ with_tracked N.eq name variable helper (tracker_of N.eq self.old) }
+        ensures keeps { (other : N) → N.eq other name ≡ false → KeepsRoomFor N.eq other self.old self.new }
     {
         let mut tracker = self
             .trackers
@@ -116,6 +119,8 @@ impl<N: SolverId<A>, A: Allocator + Copy> NameTrackers<N, A> {
     fn start(&mut self, name: N) -> Result<(), StoreError>
         ensures same { tracker_of N.eq self.new ≡ tracker_of N.eq self.old }
         ensures there { OnOk result (is_some (lookup (N.eq name) self.new) ≡ true) }
+        ensures known { is_some (lookup (N.eq name) self.old) ≡ true → IsOk result }
+        ensures keeps { (other : N) → KeepsRoomFor N.eq other self.old self.new }
         ensures refused { IfErr result (IsGrowthRefusal (lacks_tracker (N.Slots.is_too_large name) N.are_many (tracker_of N.eq self.old name))) }
         ensures too_large { IsTrue (N.Slots.is_too_large name) → result ≡ Err IdSpace }
     {

@@ -1,7 +1,7 @@
 //! The variables of which at most one may be true, and their helpers.
 ghost use Rattle.std.specs.Prelude.{◌≡◌, ◌≤◌, ◌+◌, ◌-◌, ◌^◌, ◌++◌, ◌&&◌, not, nat_lt, length, vec_len, vec_capacity, is_some, IsTrue, IsOk, IfOk, OnOk, IfErr, OnErr};
 ghost use Rattle.typed_ids.specs.declared.error.StoreError.TheVariants.{OutOfMemory};
-ghost use Rattle.at_most_once.specs.AtMostOne.{empty, HasRoom, is_tracked, needs_helper, clauses_for, with_variable, new_clauses, helper_clauses, variable_clauses};
+ghost use Rattle.at_most_once.specs.AtMostOne.{empty, HasRoom, KeepsRoom, is_tracked, needs_helper, clauses_for, with_variable, new_clauses, helper_clauses, variable_clauses};
 ghost use Rattle.at_most_once.specs.AtMostOne as def;
 
 use indexmap::IndexSet;
@@ -104,10 +104,12 @@ impl<V: Eq + Hash + Copy, A: Allocator + Copy> AtMostOnceTracker<V, A> {
     }
 
     /// Makes room for one more variable, and for a helper where one comes with it: then [`AtMostOnceTracker::add_reserved`]
-    /// may add them.
+    /// may add them. Room that is there is kept.
     pub fn make_room(&mut self, with_helper: bool) -> Result<(), StoreError>
         ensures same { self.new.tracker ≡ self.old.tracker }
         ensures room { OnOk result (HasRoom self.new with_helper) }
+        ensures succeeds { HasRoom self.old with_helper → IsOk result }
+        ensures keeps { KeepsRoom self.old self.new }
         ensures memory { IfErr result (λ e. e ≡ OutOfMemory) }
     {
         self.variables.reserve(1)?;

@@ -1,4 +1,4 @@
--- What is true of every clause, and of values that compare equal.
+-- What is true of every clause.
 use Rattle.std.specs.Prelude.{◌≡◌, ◌≢◌, ⊤, List, [], ◌∷◌, Option, Some, None, Contains}
 use Rattle.decisions.specs.Literals.{Lit, Values}
 use Rattle.clauses.specs.declared.clause.Clause.{Clause}

@@ -16,7 +16,8 @@ use id_storage::Arena;
 use providers::{Requirement, RequirementMap};
 use std::alloc::Allocator;
 use typed_ids::{
-    DenseIndex, DisjunctionId, LearntClauseId, StoreError, StringId, VariableId, VersionSetId,
+    DenseIndex, DisjunctionId, LearntClauseId, SameClone, StoreError, StringId, VariableId,
+    VersionSetId,
 };
 
 /// A clause: one of its literals has to be true. `N` are the names of packages.
@@ -179,4 +180,10 @@ impl<N> Clause<N> {
         }
         &[]
     }
+}
+
+impl<N: SameClone> SameClone for Clause<N> {
+    ghost use Rattle.std.proofs.Common.{rules};
+
+    ghost clone_is_same = { λ a b h. Prim.search rules };
 }

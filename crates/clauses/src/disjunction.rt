@@ -5,7 +5,7 @@ use typed_ids::ConditionId;
 
 /// The literals of which one is true exactly where a part of a condition isn't met, and the condition.
 #[derive(Drop)]
-#[derive_where(Debug, PartialEq, Eq)]
+#[derive_where(Debug)]
 pub struct Disjunction<A: Allocator> {
     /// The literals.
     pub literals: Vec<Literal, A>,

@@ -1,7 +1,7 @@
 //! Decisions: what a variable is, and why.
 ghost use Rattle.std.specs.Prelude.{◌≡◌};
 
-use typed_ids::{ClauseId, SameValue, VariableId};
+use typed_ids::{ClauseId, SameClone, SameValue, VariableId};
 
 /// A value given to a variable, and the clause that gave it.
 #[derive(Clone, Copy, Debug, PartialEq, Eq)]
@@ -26,6 +26,12 @@ impl Decision {
             derived_from,
         }
     }
+}
+
+impl SameClone for Decision {
+    ghost use Rattle.std.proofs.Common.{rules};
+
+    ghost clone_is_same = { λ a b h. Prim.search rules };
 }
 
 impl SameValue for Decision {

@@ -23,7 +23,7 @@ use crate::decision::Decision;
 use crate::decision_map::DecisionMap;
 use std::alloc::Allocator;
 use std::marker::Model;
-use typed_ids::{ClauseId, SameValue, StoreError, VariableId};
+use typed_ids::{ClauseId, SameClone, SameValue, StoreError, VariableId};
 
 /// Why a decision wasn't added.
 #[derive(Clone, Copy, Debug, PartialEq, Eq)]
@@ -32,6 +32,12 @@ pub enum AddFault {
     Clash,
     /// There was no room for it.
     Store(StoreError),
+}
+
+impl SameClone for AddFault {
+    ghost use Rattle.std.proofs.Common.{rules};
+
+    ghost clone_is_same = { λ a b h. Prim.search rules };
 }
 
 impl SameValue for AddFault {
@@ -83,8 +89,7 @@ impl<A: Allocator + Copy> DecisionTracker<A> {
         }
     }
 
-    /// Makes the trail empty, and keeps its memory for later entries. Takes no memory, and time only for what it takes
-    /// back.
+    /// Makes the trail empty. Takes no memory, and time only for what it takes back.
     pub fn clear(&mut self)
         ensures { self.new ≡ empty_trail }
     {

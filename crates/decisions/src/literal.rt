@@ -6,7 +6,7 @@ ghost use Rattle.decisions.specs.Literals.{Pos, Neg, variable_of, negation, sati
 use crate::decision_map::DecisionMap;
 use std::alloc::Allocator;
 use std::marker::Model;
-use typed_ids::{DenseIndex, SameValue, VariableId};
+use typed_ids::{DenseIndex, SameClone, SameValue, VariableId};
 
 /// How many literals there are: two for each of the 2^31 - 1 variables.
 const COUNT: usize = 4294967294;
@@ -100,6 +100,12 @@ impl DenseIndex for Literal {
     fn to_index(self) -> usize {
         (self.0 - 1) as usize
     }
+}
+
+impl SameClone for Literal {
+    ghost use Rattle.std.proofs.Common.{rules};
+
+    ghost clone_is_same = { λ a b h. Prim.search rules };
 }
 
 impl SameValue for Literal {

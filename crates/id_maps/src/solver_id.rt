@@ -62,21 +62,23 @@ impl<Tag, Repr: DenseIndex + SameId, A: Allocator + Copy> SolverId<A> for DenseI
     }
 }
 
-impl<Tag, Repr: SameId, H: BuildHasher + Default + Drop, A: Allocator + Copy> SolverId<A>
-    for SparseId<Tag, Repr, H> {
+impl<Tag, Repr: DenseIndex + SameId, H: BuildHasher + Default + Drop, A: Allocator + Copy>
+    SolverId<A> for SparseId<Tag, Repr, H> {
     type Slots = IndexMap<Self, Slot, H, A>;
 
     type Scores = IndexMap<Self, u64, H, A>;
 
     type Set = HashSet<Self, H, A>;
 
-    ghost is_id = { λ id. ⊤ };
+    ghost is_id = { λ id. Repr.index_of id < Repr.limit };
 
-    ghost are_many = { true };
+    ghost are_many = { nat_lt (2 ^ 32) Repr.limit };
 
-    ghost few = { λ many. absurd (true≢false many) };
+    ghost few = { few_ids Repr.eq Repr.Eq.laws.refl Repr.index_of Repr.distinct Repr.limit };
 
     ghost hold_alike = { λ id. (refl, refl) };
 
-    fn attest(self) {}
+    fn attest(self) {
+        let _number = self.into_raw().to_index();
+    }
 }

@@ -59,7 +59,7 @@ impl<TId: DenseIndex, V, A: Allocator> Arena<TId, V, A> {
         })
     }
 
-    /// Takes all values out, and keeps the room. Takes no memory, and time with the number of values.
+    /// Takes all values out. Takes no memory, and time with the number of values.
     pub fn clear(&mut self)
     where
         V: Drop,

@@ -28,6 +28,7 @@ pub use Rattle.id_storage.specs.declared.mapping_iter.MappingIter
 pub use Rattle.typed_ids.specs.declared.default_value.DefaultValue
 pub use Rattle.typed_ids.specs.declared.dense_index.DenseIndex
 pub use Rattle.typed_ids.specs.declared.ordered_by_parts.OrderedByParts
+pub use Rattle.typed_ids.specs.declared.same_clone.SameClone
 pub use Rattle.typed_ids.specs.declared.same_id.SameId
 pub use Rattle.typed_ids.specs.declared.same_value.SameValue
 pub use Rattle.id_maps.specs.declared.id_map.IdMap

@@ -15,6 +15,6 @@ pub use id_storage::{Arena, ArenaIter, FrozenCopyMap, Mapping, MappingIter};
 pub use typed_ids::{
     CandidatesId, ClauseId, ConditionId, DENSE_LIMIT, DefaultValue, DenseId, DenseIndex,
     DependenciesId, DisjunctionId, InsertError, LearntClauseId, NameId, NameTag, OrderedByParts,
-    SameId, SameValue, SolvableId, SolvableIdOrRoot, SolvableTag, SparseId, StoreError, StringId,
-    VariableId, VersionSetId, VersionSetUnionId,
+    SameClone, SameId, SameValue, SolvableId, SolvableIdOrRoot, SolvableTag, SparseId, StoreError,
+    StringId, VariableId, VersionSetId, VersionSetUnionId,
 };

@@ -1,5 +1,5 @@
 //! Laws of clauses, whatever they refer to.
-ghost use Rattle.std.specs.Prelude.{◌≡◌, true, IfOk};
+ghost use Rattle.std.specs.Prelude.{IfOk};
 ghost use Rattle.clauses.specs.Laws.{FirstWatchesAreTwo};
 ghost use Rattle.clauses.specs.Stored.{kept_in};
 ghost use Rattle.room_callers.specs.Truth.{RequiresSays};
@@ -15,15 +15,6 @@ use typed_ids::{DisjunctionId, LearntClauseId, StoreError, VariableId};
 pub fn first_watches_are_two<N>()
     ensures { FirstWatchesAreTwo N }
 {}
-
-/// Disjunctions that compare equal have the same literals, and come of one condition.
-#[tactic(auto, using(clauses::specs::SameLaws::same_literals))]
-pub fn are_equal<A: Allocator>(first: &Disjunction<A>, second: &Disjunction<A>) -> bool
-    ensures literals { result ≡ true → first.now.literals.items ≡ second.now.literals.items }
-    ensures condition { result ≡ true → first.now.condition ≡ second.now.condition }
-{
-    first == second
-}
 
 /// The literals of a clause. If it requires: whatever truth values the variables have, one of the literals is true exactly
 /// if the parent is false, a literal of the condition is true, or a candidate is true.

@@ -28,10 +28,10 @@ mod watch_laws;
 
 pub use any_set::{SetAnswers, set_answers};
 pub use arena_callers::{added, count, pairs, replace, total};
-pub use clause_laws::{are_equal, first_watches_are_two, literals_of_required};
+pub use clause_laws::{first_watches_are_two, literals_of_required};
 pub use computed::examples;
 pub use each_kind::{Conditions, Names, Solvables, Strings, Unions, VersionSets};
-pub use few_names::names_are_few;
+pub use few_names::{names_are_few, sparse_names_are_few};
 pub use interning::{Twice, interned_twice};
 pub use kinds::{Kind, Seen};
 pub use map_callers::{clear_requirement, count_requirement};

@@ -1,5 +1,6 @@
 //! Candidates of packages.
 use crate::dense_index::DenseIndex;
+use crate::same_clone::SameClone;
 use crate::same_value::SameValue;
 use std::marker::Model;
 
@@ -41,6 +42,12 @@ impl DenseIndex for CandidatesId {
     fn to_index(self) -> usize {
         self.0 as usize
     }
+}
+
+impl SameClone for CandidatesId {
+    ghost use Rattle.std.proofs.Common.{rules};
+
+    ghost clone_is_same = { λ a b h. Prim.search rules };
 }
 
 impl SameValue for CandidatesId {

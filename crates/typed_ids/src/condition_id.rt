@@ -3,6 +3,7 @@ ghost use Rattle.std.specs.Prelude.{◌≡◌, ◌<◌};
 
 use crate::dense_index::DenseIndex;
 use crate::ordered_by_parts::OrderedByParts;
+use crate::same_clone::SameClone;
 use crate::same_value::SameValue;
 use std::marker::Model;
 
@@ -70,6 +71,12 @@ impl DenseIndex for ConditionId {
     fn to_index(self) -> usize {
         (self.0 - 1) as usize
     }
+}
+
+impl SameClone for ConditionId {
+    ghost use Rattle.std.proofs.Common.{rules};
+
+    ghost clone_is_same = { λ a b h. Prim.search rules };
 }
 
 impl SameValue for ConditionId {

@@ -3,6 +3,7 @@ ghost use Rattle.std.specs.Prelude.{◌≡◌};
 
 use crate::dense_index::DenseIndex;
 use crate::ordered_by_parts::OrderedByParts;
+use crate::same_clone::SameClone;
 use crate::same_value::SameValue;
 use std::fmt;
 use std::marker::{Model, PhantomData};
@@ -76,6 +77,12 @@ impl<Tag, Repr: DenseIndex> DenseIndex for DenseId<Tag, Repr> {
     fn to_index(self) -> usize {
         self.raw.to_index()
     }
+}
+
+impl<Tag, Repr: SameClone> SameClone for DenseId<Tag, Repr> {
+    ghost use Rattle.std.proofs.Common.{rules};
+
+    ghost clone_is_same = { λ a b h. Prim.search rules };
 }
 
 impl<Tag, Repr: SameValue> SameValue for DenseId<Tag, Repr> {

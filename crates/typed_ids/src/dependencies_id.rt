@@ -1,5 +1,6 @@
 //! Dependencies of solvables. An id is kept as its index plus one, which its `Debug` text shows; a contract sees the index.
 use crate::dense_index::DenseIndex;
+use crate::same_clone::SameClone;
 use crate::same_value::SameValue;
 use std::marker::Model;
 
@@ -49,6 +50,12 @@ impl DenseIndex for DependenciesId {
     fn to_index(self) -> usize {
         (self.0 - 1) as usize
     }
+}
+
+impl SameClone for DependenciesId {
+    ghost use Rattle.std.proofs.Common.{rules};
+
+    ghost clone_is_same = { λ a b h. Prim.search rules };
 }
 
 impl SameValue for DependenciesId {

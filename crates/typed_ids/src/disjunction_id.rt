@@ -1,6 +1,7 @@
 //! Disjunctions. An id is kept as its index plus one, which its `Debug` text shows; a contract sees the index.
 use crate::dense_index::DenseIndex;
 use crate::ordered_by_parts::OrderedByParts;
+use crate::same_clone::SameClone;
 use crate::same_value::SameValue;
 use std::marker::Model;
 
@@ -50,6 +51,12 @@ impl DenseIndex for DisjunctionId {
     fn to_index(self) -> usize {
         (self.0 - 1) as usize
     }
+}
+
+impl SameClone for DisjunctionId {
+    ghost use Rattle.std.proofs.Common.{rules};
+
+    ghost clone_is_same = { λ a b h. Prim.search rules };
 }
 
 impl SameValue for DisjunctionId {

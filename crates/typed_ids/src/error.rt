@@ -2,6 +2,7 @@
 ghost use Rattle.std.specs.Prelude.{◌≡◌};
 ghost use Rattle.typed_ids.specs.declared.error.StoreError.TheVariants.{OutOfMemory};
 
+use crate::same_clone::SameClone;
 use crate::same_value::SameValue;
 use std::alloc::{AllocError, AllocFailed};
 use thiserror::Error;
@@ -87,6 +88,12 @@ impl<T: Drop> From<AllocFailed<T>> for StoreError {
     fn from(_refused: AllocFailed<T>) -> StoreError {
         StoreError::OutOfMemory
     }
+}
+
+impl SameClone for StoreError {
+    ghost use Rattle.std.proofs.Common.{rules};
+
+    ghost clone_is_same = { λ a b h. Prim.search rules };
 }
 
 impl SameValue for StoreError {

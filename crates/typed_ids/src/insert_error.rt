@@ -1,5 +1,6 @@
 //! What a refused insertion hands back.
 use crate::error::StoreError;
+use crate::same_clone::SameClone;
 use crate::same_value::SameValue;
 use thiserror::Error;
 
@@ -21,6 +22,12 @@ impl<V: Drop> From<InsertError<V>> for StoreError {
     fn from(refused: InsertError<V>) -> StoreError {
         refused.error
     }
+}
+
+impl<V: SameClone> SameClone for InsertError<V> {
+    ghost use Rattle.std.proofs.Common.{rules};
+
+    ghost clone_is_same = { λ a b h. Prim.search rules };
 }
 
 impl<V: SameValue> SameValue for InsertError<V> {

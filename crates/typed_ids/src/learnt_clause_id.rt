@@ -1,5 +1,6 @@
 //! Learnt clauses.
 use crate::dense_index::DenseIndex;
+use crate::same_clone::SameClone;
 use std::marker::Model;
 
 /// The literals of a learnt clause, kept by a store.
@@ -40,4 +41,10 @@ impl DenseIndex for LearntClauseId {
     fn to_index(self) -> usize {
         self.0 as usize
     }
+}
+
+impl SameClone for LearntClauseId {
+    ghost use Rattle.std.proofs.Common.{rules};
+
+    ghost clone_is_same = { λ a b h. Prim.search rules };
 }

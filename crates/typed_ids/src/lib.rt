@@ -4,10 +4,10 @@
 //! lies in vectors: total maps and sets in `id_maps`, lists of values and finite maps in `id_storage`.
 //!
 //! Each id has a file of its own. Those of names and solvables are a provider's to choose, and are dense (`dense_id`) or
-//! sparse (`sparse_id`); `dense_index` and `same_id` have the traits. Three more traits are laws of a type's derives:
-//! `same_value` of `==`, `ordered_by_parts` of the order, `default_value` of the default. The refusals are in `error`,
-//! and `insert_error` hands back what was refused. `specs/Refusals` and `specs/TotalMaps` have the words by which
-//! contracts of all crates speak of them and of total maps.
+//! sparse (`sparse_id`); `dense_index` and `same_id` have the traits. Four more traits are laws of a type's derives:
+//! `same_value` of `==`, `same_clone` of `clone`, `ordered_by_parts` of the order, `default_value` of the default. The
+//! refusals are in `error`, and `insert_error` hands back what was refused. `specs/Refusals` and `specs/TotalMaps` have
+//! the words by which contracts of all crates speak of them and of total maps.
 #![tactic(auto)]
 
 mod candidates_id;
@@ -22,6 +22,7 @@ mod error;
 mod insert_error;
 mod learnt_clause_id;
 mod ordered_by_parts;
+mod same_clone;
 mod same_id;
 mod same_value;
 mod solvable_id_or_root;
@@ -43,6 +44,7 @@ pub use error::StoreError;
 pub use insert_error::InsertError;
 pub use learnt_clause_id::LearntClauseId;
 pub use ordered_by_parts::OrderedByParts;
+pub use same_clone::SameClone;
 pub use same_id::SameId;
 pub use same_value::SameValue;
 pub use solvable_id_or_root::SolvableIdOrRoot;

@@ -3,6 +3,7 @@ ghost use Rattle.std.specs.Prelude.{◌≡◌};
 ghost use Rattle.typed_ids.specs.declared.solvable_id_or_root.SolvableIdOrRoot.TheVariants.{Root};
 ghost use Rattle.typed_ids.specs.WithRoot.{solvable_of};
 
+use crate::same_clone::SameClone;
 use crate::same_value::SameValue;
 
 /// The root, or a solvable of the provider.
@@ -41,6 +42,12 @@ impl<S> From<S> for SolvableIdOrRoot<S> {
     fn from(solvable: S) -> Self {
         SolvableIdOrRoot::Solvable(solvable)
     }
+}
+
+impl<S: SameClone> SameClone for SolvableIdOrRoot<S> {
+    ghost use Rattle.std.proofs.Common.{rules};
+
+    ghost clone_is_same = { λ a b h. Prim.search rules };
 }
 
 impl<S: SameValue> SameValue for SolvableIdOrRoot<S> {

@@ -1,6 +1,7 @@
 //! Ids with gaps between their numbers.
 ghost use Rattle.std.specs.Prelude.{◌≡◌};
 
+use crate::same_clone::SameClone;
 use crate::same_value::SameValue;
 use std::fmt;
 use std::hash::{BuildHasherDefault, DefaultHasher};
@@ -49,6 +50,12 @@ impl<Tag, Repr: fmt::Debug, H> fmt::Debug for SparseId<Tag, Repr, H> {
     fn fmt<W: fmt::Write>(&self, f: &mut fmt::Formatter<W>) -> fmt::Result {
         self.raw.fmt(f)
     }
+}
+
+impl<Tag, Repr: SameClone, H> SameClone for SparseId<Tag, Repr, H> {
+    ghost use Rattle.std.proofs.Common.{rules};
+
+    ghost clone_is_same = { λ a b h. Prim.search rules };
 }
 
 impl<Tag, Repr: SameValue, H> SameValue for SparseId<Tag, Repr, H> {

@@ -1,6 +1,7 @@
 //! Strings.
 use crate::dense_index::DenseIndex;
 use crate::ordered_by_parts::OrderedByParts;
+use crate::same_clone::SameClone;
 use crate::same_value::SameValue;
 
 /// A string of a pool, as a reason why a solvable is excluded.
@@ -32,6 +33,12 @@ impl DenseIndex for StringId {
     fn to_index(self) -> usize {
         self.0 as usize
     }
+}
+
+impl SameClone for StringId {
+    ghost use Rattle.std.proofs.Common.{rules};
+
+    ghost clone_is_same = { λ a b h. Prim.search rules };
 }
 
 impl SameValue for StringId {

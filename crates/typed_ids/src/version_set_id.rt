@@ -2,6 +2,7 @@
 use crate::default_value::DefaultValue;
 use crate::dense_index::DenseIndex;
 use crate::ordered_by_parts::OrderedByParts;
+use crate::same_clone::SameClone;
 use crate::same_value::SameValue;
 
 /// A set of versions of one package.
@@ -33,6 +34,12 @@ impl DenseIndex for VersionSetId {
     fn to_index(self) -> usize {
         self.0 as usize
     }
+}
+
+impl SameClone for VersionSetId {
+    ghost use Rattle.std.proofs.Common.{rules};
+
+    ghost clone_is_same = { λ a b h. Prim.search rules };
 }
 
 impl SameValue for VersionSetId {

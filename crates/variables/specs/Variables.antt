@@ -1,6 +1,9 @@
 -- The variables: a list of origins, one for each variable. N are the names, S the solvables.
-use Rattle.std.specs.Prelude.{◌≡◌, ℕ, ◌≤◌, ◌^◌, ◌-◌, Bool, false, ◌&&◌, ◌||◌, nat_le, nat_lt, if◌then◌else◌, List, [], ◌∷◌, ◌++◌, length, take, fold, Option, None, Some, is_some, is_none, unwrap_or, slice_get}
+use Rattle.std.specs.Prelude.{◌≡◌, ℕ, ◌≤◌, ◌^◌, ◌-◌, Bool, false, ◌&&◌, ◌||◌, nat_le, nat_lt, if◌then◌else◌, List, [], ◌∷◌, ◌++◌, length, take, fold, Option, None, Some, is_some, is_none, unwrap_or, slice_get, IsTrue, Result, Ok, Err, IfErr, OnOk}
 use Rattle.std.specs.List.{position_from, list_any}
+use Rattle.typed_ids.specs.Refusals.{IsGrowthRefusal}
+use Rattle.typed_ids.specs.declared.error.StoreError.{StoreError}
+use Rattle.typed_ids.specs.declared.error.StoreError.TheVariants.{IdSpace}
 use Rattle.typed_ids.specs.declared.solvable_id_or_root.SolvableIdOrRoot.{SolvableIdOrRoot}
 use Rattle.typed_ids.specs.declared.solvable_id_or_root.SolvableIdOrRoot.TheVariants as Key
 use Rattle.variables.specs.declared.variable_origin.VariableOrigin.{VariableOrigin}
@@ -24,6 +27,12 @@ IsRootFirst origins = slice_get origins 0 ≡ Some Root
 -- no variable id is left where there are this many variables
 abbrev pub are_variables_out : ℕ → Bool
 are_variables_out count = nat_le (2 ^ 31 - 1) count
+
+-- it fails for want of ids exactly where they are out, and else for want of memory alone
+pub record FailsWhereOut {T : Type 0} (out : Bool) (result : Result T StoreError) : Type 0 where
+  pub ids_out : IsTrue out → result ≡ Err IdSpace
+  pub refused : IfErr result (IsGrowthRefusal out)
+  pub fits : OnOk result (out ≡ false)
 
 module _ {N S : Type 0} (same : S → S → Bool) where
   -- whether the origin is the solvable

@@ -1,8 +1,7 @@
 //! The variables of a store: what each stands for, and the variable of each solvable.
-ghost use Rattle.std.specs.Prelude.{◌≡◌, ◌<◌, ◌≤◌, ◌+◌, ◌^◌, [], ◌∷◌, ◌++◌, length, take, slice_get, false, IsTrue, IsSome, IfSome, IsOk, IfOk, OnOk, OnErr, IfErr};
-ghost use Rattle.typed_ids.specs.Refusals.{IsGrowthRefusal};
+ghost use Rattle.std.specs.Prelude.{◌≡◌, ◌<◌, ◌≤◌, ◌+◌, ◌^◌, [], ◌∷◌, ◌++◌, length, take, slice_get, false, IsSome, IfSome, IsOk, IfOk, OnOk, OnErr, IfErr};
 ghost use Rattle.typed_ids.specs.WithRoot.{root_or};
-ghost use Rattle.typed_ids.specs.declared.error.StoreError.TheVariants.{OutOfMemory, IdSpace};
+ghost use Rattle.typed_ids.specs.declared.error.StoreError.TheVariants.{OutOfMemory};
 
 use crate::forget::forget_rest;
 use crate::variable_origin::VariableOrigin;
@@ -34,6 +33,7 @@ impl<N: Copy, S: SolverId<A>, A: Allocator + Copy> Model for VariableMap<N, S, A
 
 impl<N: Copy, S: SolverId<A>, A: Allocator + Copy> VariableMap<N, S, A> {
     ghost use Rattle.variables.specs.Variables.{variable_of_solvable, interned_variable, with_variable, lacks_variable, IsRootFirst};
+    ghost use Rattle.variables.specs.Variables.{FailsWhereOut};
     ghost use Rattle.variables.specs.Variables.{variable_of_key, interned_key, with_key, are_variables_out, solvable_of, key_of};
 
     /// The root's variable alone.
@@ -82,10 +82,8 @@ impl<N: Copy, S: SolverId<A>, A: Allocator + Copy> VariableMap<N, S, A> {
         ensures variable { IfOk result (λ v. v ≡ interned_variable S.eq self.old solvable) }
         ensures ok { OnOk result (self.new ≡ with_variable S.eq self.old solvable) }
         ensures known { IsSome (variable_of_solvable S.eq self.old solvable) → IsOk result }
-        ensures ids_out { IsTrue (lacks_variable S.eq S.Slots.is_too_large self.old solvable) → result ≡ Err IdSpace }
         ensures err { OnErr result (self.new ≡ self.old) }
-        ensures refused { IfErr result (IsGrowthRefusal (lacks_variable S.eq S.Slots.is_too_large self.old solvable)) }
-        ensures fits { OnOk result (lacks_variable S.eq S.Slots.is_too_large self.old solvable ≡ false) }
+        ensures ids { FailsWhereOut (lacks_variable S.eq S.Slots.is_too_large self.old solvable) result }
         ensures not_large { OnOk result (S.Slots.is_too_large solvable ≡ false) }
     {
         if let Some(variable) = self.lookup_solvable(solvable) {
@@ -109,10 +107,8 @@ impl<N: Copy, S: SolverId<A>, A: Allocator + Copy> VariableMap<N, S, A> {
         ensures variable { IfOk result (λ v. v ≡ interned_key S.eq self.old key) }
         ensures ok { OnOk result (self.new ≡ with_key S.eq self.old key) }
         ensures known { IsSome (variable_of_key S.eq self.old key) → IsOk result }
-        ensures ids_out { IsTrue (root_or false (lacks_variable S.eq S.Slots.is_too_large self.old) key) → result ≡ Err IdSpace }
         ensures err { OnErr result (self.new ≡ self.old) }
-        ensures refused { IfErr result (IsGrowthRefusal (root_or false (lacks_variable S.eq S.Slots.is_too_large self.old) key)) }
-        ensures fits { OnOk result (root_or false (lacks_variable S.eq S.Slots.is_too_large self.old) key ≡ false) }
+        ensures ids { FailsWhereOut (root_or false (lacks_variable S.eq S.Slots.is_too_large self.old) key) result }
         ensures not_large { OnOk result (root_or false S.Slots.is_too_large key ≡ false) }
     {
         match key {
@@ -125,10 +121,8 @@ impl<N: Copy, S: SolverId<A>, A: Allocator + Copy> VariableMap<N, S, A> {
     pub fn alloc_forbid_multiple_variable(&mut self, name: N) -> Result<VariableId, StoreError>
         ensures variable { IfOk result (λ v. v ≡ length self.old) }
         ensures ok { OnOk result (self.new ≡ self.old ++ VariableOrigin.ForbidMultiple name ∷ []) }
-        ensures ids_out { IsTrue (are_variables_out (length self.old)) → result ≡ Err IdSpace }
         ensures err { OnErr result (self.new ≡ self.old) }
-        ensures refused { IfErr result (IsGrowthRefusal (are_variables_out (length self.old))) }
-        ensures fits { OnOk result (are_variables_out (length self.old) ≡ false) }
+        ensures ids { FailsWhereOut (are_variables_out (length self.old)) result }
     {
         self.alloc(VariableOrigin::ForbidMultiple(name))
     }
@@ -137,10 +131,8 @@ impl<N: Copy, S: SolverId<A>, A: Allocator + Copy> VariableMap<N, S, A> {
     pub fn alloc_at_least_one_variable(&mut self, name: N) -> Result<VariableId, StoreError>
         ensures variable { IfOk result (λ v. v ≡ length self.old) }
         ensures ok { OnOk result (self.new ≡ self.old ++ VariableOrigin.AtLeastOne name ∷ []) }
-        ensures ids_out { IsTrue (are_variables_out (length self.old)) → result ≡ Err IdSpace }
         ensures err { OnErr result (self.new ≡ self.old) }
-        ensures refused { IfErr result (IsGrowthRefusal (are_variables_out (length self.old))) }
-        ensures fits { OnOk result (are_variables_out (length self.old) ≡ false) }
+        ensures ids { FailsWhereOut (are_variables_out (length self.old)) result }
     {
         self.alloc(VariableOrigin::AtLeastOne(name))
     }
@@ -152,10 +144,8 @@ impl<N: Copy, S: SolverId<A>, A: Allocator + Copy> VariableMap<N, S, A> {
     ) -> Result<VariableId, StoreError>
         ensures variable { IfOk result (λ v. v ≡ length self.old) }
         ensures ok { OnOk result (self.new ≡ self.old ++ VariableOrigin.ConstrainsViolation set ∷ []) }
-        ensures ids_out { IsTrue (are_variables_out (length self.old)) → result ≡ Err IdSpace }
         ensures err { OnErr result (self.new ≡ self.old) }
-        ensures refused { IfErr result (IsGrowthRefusal (are_variables_out (length self.old))) }
-        ensures fits { OnOk result (are_variables_out (length self.old) ≡ false) }
+        ensures ids { FailsWhereOut (are_variables_out (length self.old)) result }
     {
         self.alloc(VariableOrigin::ConstrainsViolation(set))
     }
@@ -167,10 +157,8 @@ impl<N: Copy, S: SolverId<A>, A: Allocator + Copy> VariableMap<N, S, A> {
     ) -> Result<VariableId, StoreError>
         ensures variable { IfOk result (λ v. v ≡ length self.old) }
         ensures ok { OnOk result (self.new ≡ self.old ++ VariableOrigin.RequiresGate requirement ∷ []) }
-        ensures ids_out { IsTrue (are_variables_out (length self.old)) → result ≡ Err IdSpace }
         ensures err { OnErr result (self.new ≡ self.old) }
-        ensures refused { IfErr result (IsGrowthRefusal (are_variables_out (length self.old))) }
-        ensures fits { OnOk result (are_variables_out (length self.old) ≡ false) }
+        ensures ids { FailsWhereOut (are_variables_out (length self.old)) result }
     {
         self.alloc(VariableOrigin::RequiresGate(requirement))
     }
@@ -188,10 +176,8 @@ impl<N: Copy, S: SolverId<A>, A: Allocator + Copy> VariableMap<N, S, A> {
         requires { key_of origin ≡ None }
         ensures variable { IfOk result (λ v. v ≡ length self.old) }
         ensures ok { OnOk result (self.new ≡ self.old ++ origin ∷ []) }
-        ensures ids_out { IsTrue (are_variables_out (length self.old)) → result ≡ Err IdSpace }
         ensures err { OnErr result (self.new ≡ self.old) }
-        ensures refused { IfErr result (IsGrowthRefusal (are_variables_out (length self.old))) }
-        ensures fits { OnOk result (are_variables_out (length self.old) ≡ false) }
+        ensures ids { FailsWhereOut (are_variables_out (length self.old)) result }
     {
         let index = self.origins.len();
         if VariableId::in_range(index) {

@@ -2,7 +2,7 @@
 ghost use Rattle.std.specs.Prelude.{◌≡◌};
 
 use providers::Requirement;
-use typed_ids::{SolvableIdOrRoot, VersionSetId};
+use typed_ids::{SameClone, SolvableIdOrRoot, VersionSetId};
 
 /// What a variable stands for.
 #[derive(Clone, Copy, Debug)]
@@ -51,4 +51,10 @@ impl<N: Copy, S: Copy> VariableOrigin<N, S> {
             VariableOrigin::RequiresGate(_) => None,
         }
     }
+}
+
+impl<N: SameClone, S: SameClone> SameClone for VariableOrigin<N, S> {
+    ghost use Rattle.std.proofs.Common.{rules};
+
+    ghost clone_is_same = { λ a b h. Prim.search rules };
 }

@@ -68,7 +68,7 @@ returns-in_err-variable-clause-refused g c =
     (refusal_wider _ _ e
     (λ out. subst (λ l. lacks_variables same large first l ≡ true) (sym split)
     (lacks_for_one same large first done x rest (subst (λ os. lacks_variable same large os x ≡ true) c.loop-solvable.invariant.done out)))
-    c.in_err-variable.ensures.refused)
+    c.in_err-variable.ensures.ids.refused)
 
 -- where the variable's place was refused, so has the solvable
 part-push : (g : Over) (c : After-drop-list-in_err-push g) → IsPartlyInterned g.S.PartialEq.eq c.args.variables.now c.args.solvables.now c.intern_solvable.new.self

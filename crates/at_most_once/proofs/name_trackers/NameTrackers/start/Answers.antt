@@ -1,8 +1,8 @@
-use Rattle.std.proofs.Common.{◌≡◌, true, is_some, length, sym, subst, ap, ◌∙◌}
+use Rattle.std.proofs.Common.{◌≡◌, ◌++◌, ◌∷◌, [], true, is_some, length, sym, subst, ap, ◌∙◌}
 use Rattle.std.specs.Map.{lookup}
 use Rattle.typed_ids.specs.Refusals.{IsGrowthRefusal}
-use Rattle.at_most_once.specs.NameTrackers.{tracker_of, lacks_tracker}
-use Rattle.at_most_once.proofs.TrackerLaws.{tracker_missing, tracker_started, found_started, tracker_refused}
+use Rattle.at_most_once.specs.NameTrackers.{tracker_of, KeepsRoomFor, lacks_tracker}
+use Rattle.at_most_once.proofs.TrackerLaws.{tracker_missing, tracker_started, room_started, found_started, tracker_refused}
 use Rattle.at_most_once.proofs.name_trackers.NameTrackers.start.Goals as goal
 
 pub returns-in-Err-clause-refused : goal.returns-in-Err-clause-refused
@@ -26,3 +26,10 @@ returns-clause-there g c =
     let same = g.N.PartialEq.eq in
     subst (λ now. is_some (lookup (same c.args.name) now) ≡ true) (sym c.in-Ok.ensures.ok)
     (found_started same g.met.N.Eq.laws c.self.inside.trackers c.args.name c.new.result)
+
+pub returns-clause-keeps : goal.returns-clause-keeps
+returns-clause-keeps g c = λ other.
+    let same = g.N.PartialEq.eq in
+    subst (λ now. KeepsRoomFor same other c.args.self.now now) (sym c.in-Ok.ensures.ok)
+    (subst (λ old. KeepsRoomFor same other old (c.self.inside.trackers ++ (c.args.name, c.new.result) ∷ [])) c.self.view_is
+    (room_started same c.self.inside.trackers c.args.name c.new.result other))
