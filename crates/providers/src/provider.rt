@@ -1,9 +1,10 @@
 //! The packages of an ecosystem, as a resolver asks for them.
-ghost use Rattle.std.specs.Prelude.{◌≡◌, true, List, All, IfOk, IfErr, OnOk, OnErr};
+ghost use Rattle.std.specs.Prelude.{◌≡◌, true, List, Option, All, ⊤, IfOk, IfErr, OnOk, OnErr};
 ghost use Rattle.std.specs.List.Sorted.{IsPermutation};
 ghost use Rattle.typed_ids.specs.declared.error.StoreError.TheVariants.{OutOfMemory};
 ghost use Rattle.providers.specs.Dependencies.{needs_of};
 ghost use Rattle.providers.specs.Provider.{Answers, candidates_of, favored_of, filtered};
+ghost use Rattle.providers.specs.declared.candidates.Candidates.{Candidates};
 
 use crate::candidates::Candidates;
 use crate::dependencies::Dependencies;
@@ -11,14 +12,18 @@ use crate::interner::Interner;
 use typed_ids::{StoreError, VersionSetId};
 
 /// Answers what a resolver asks of packages. The candidates of a package, the favored one, which of them a version set
-/// holds, the order of preference and what a solvable needs are fixed functions of the provider's value; of what else is
-/// answered with candidates nothing is promised. A refusal is want of memory.
+/// holds, the order of preference and what a solvable needs are fixed functions of the provider's value. What else is
+/// answered with candidates may differ from one question to the next; a provider says what it may be, where it can. A
+/// refusal is want of memory.
 pub trait DependencyProvider: Interner {
     /// What a provider that asks to stop hands to whoever it stops.
     type Cancel: Drop;
 
     /// The fixed functions.
     ghost answers: { Self → Answers Self.NameId Self.SolvableId };
+
+    /// Whether this may be what is found of a package, all of it. By default anything may.
+    ghost may_answer: { Self → Self.NameId → Option (Candidates Self.SolvableId Self.Alloc) → Type 0 } = { λ _ _ _. ⊤ };
 
     /// The candidates that the version set holds, or, if `inverse`, those that it doesn't, in order.
     fn filter_candidates(
@@ -41,6 +46,7 @@ pub trait DependencyProvider: Interner {
     ) -> Result<Option<Candidates<Self::SolvableId, Self::Alloc>>, StoreError>
         ensures candidates { IfOk result (λ found. candidates_of found ≡ (answers self.now).candidates name) }
         ensures favored { IfOk result (λ found. favored_of found ≡ (answers self.now).favored name) }
+        ensures told { IfOk result (λ found. may_answer self.now name found) }
         ensures err { IfErr result (λ e. e ≡ OutOfMemory) };
 
     /// Puts solvables in the order of preference, the best first. A refusal may leave them in any order.

@@ -24,7 +24,7 @@ use Rattle.solver_cache.specs.Cache.{Cache, IsAnswer, IsCache, is_asked, is_set_
 use Rattle.solver_cache.specs.declared.list_id.ListKind.TheVariants.{Matching, NonMatching, Sorted}
 use Rattle.providers.specs.Requirement.{same_requirement}
 use Rattle.providers.specs.declared.requirement.Requirement.TheVariants.{Single, Union}
-use Rattle.solver_cache.specs.Functions.{Provider}
+use Rattle.solver_cache.specs.Functions.{Provider, MayAnswer}
 use Rattle.solver_cache.specs.Hints.{hints_of}
 use Rattle.solver_cache.specs.Questions.{BeginsWith, IsLater, IsOnce, IsMarked, IsAsked, IsMatched, IsSorted, AreSorted, IsRefusedOf, IsRefusedOfSets, lacks_candidates}
 use Rattle.solver_cache.specs.declared.error.CacheError.{CacheError}
@@ -179,14 +179,14 @@ module _ {D N S A H : Type 0} (has : H → S → Bool) where
 
 -- ---- what is kept is right
 
-module _ {D N S A H : Type 0} (p : Provider N S) (c : Cache D N S A H) (is : IsCache p c) where
-  pub right_marked : (hinted : H) → IsCache p (record c { hinted = hinted })
+module _ {D N S A H : Type 0} {may : MayAnswer N S A} (p : Provider N S) (c : Cache D N S A H) (is : IsCache p may c) where
+  pub right_marked : (hinted : H) → IsCache p may (record c { hinted = hinted })
   right_marked hinted = record { answers = is.answers; fits = is.fits; matching = is.matching; non_matching = is.non_matching; sorted = is.sorted; needs = is.needs }
 
-  pub right_asked : (n : N) (answer : Candidates S A) (hinted : H) → IsAnswer p n answer → p.is_large_name n ≡ false
-      → IsCache p (record c { candidates = c.candidates ++ (n, answer) ∷ []; hinted = hinted })
+  pub right_asked : (n : N) (answer : Candidates S A) (hinted : H) → IsAnswer p may n answer → p.is_large_name n ≡ false
+      → IsCache p may (record c { candidates = c.candidates ++ (n, answer) ∷ []; hinted = hinted })
   right_asked n answer hinted h fit = record {
-    answers = All-push (λ e. IsAnswer p e.0 e.1) c.candidates (n, answer) is.answers h;
+    answers = All-push (λ e. IsAnswer p may e.0 e.1) c.candidates (n, answer) is.answers h;
     fits = All-push (λ e. p.is_large_name e.0 ≡ false) c.candidates (n, answer) is.fits fit;
     matching = λ k d lt. ((is.matching k d lt).0, kept_more _ c.candidates (n, answer) (is.matching k d lt).1);
     non_matching = λ k d lt. ((is.non_matching k d lt).0, kept_more _ c.candidates (n, answer) (is.non_matching k d lt).1);
@@ -195,7 +195,7 @@ module _ {D N S A H : Type 0} (p : Provider N S) (c : Cache D N S A H) (is : IsC
   }
 
   pub right_fetched : (s : S) (answer : Dependencies A) → needs_of answer ≡ p.answers.needs s
-      → IsCache p (record c { dependencies = c.dependencies ++ (s, answer) ∷ [] })
+      → IsCache p may (record c { dependencies = c.dependencies ++ (s, answer) ∷ [] })
   right_fetched s answer h = record {
     answers = is.answers;
     fits = is.fits;
@@ -206,7 +206,7 @@ module _ {D N S A H : Type 0} (p : Provider N S) (c : Cache D N S A H) (is : IsC
   }
 
   pub right_matched : (v : VersionSetId) (list : List S) → list ≡ matching p.universe p.answers v → is_set_asked p c v ≡ true
-      → IsCache p (record c { matching = c.matching ++ (v, list) ∷ [] })
+      → IsCache p may (record c { matching = c.matching ++ (v, list) ∷ [] })
   right_matched v list h asked = record {
     answers = is.answers;
     fits = is.fits;
@@ -217,7 +217,7 @@ module _ {D N S A H : Type 0} (p : Provider N S) (c : Cache D N S A H) (is : IsC
   }
 
   pub right_unmatched : (v : VersionSetId) (list : List S) → list ≡ non_matching p.universe p.answers v → is_set_asked p c v ≡ true
-      → IsCache p (record c { non_matching = c.non_matching ++ (v, list) ∷ [] })
+      → IsCache p may (record c { non_matching = c.non_matching ++ (v, list) ∷ [] })
   right_unmatched v list h asked = record {
     answers = is.answers;
     fits = is.fits;
@@ -228,7 +228,7 @@ module _ {D N S A H : Type 0} (p : Provider N S) (c : Cache D N S A H) (is : IsC
   }
 
   pub right_sorted : (r : Requirement) (list : List S) → list ≡ sorted_of p r → All (λ v. is_set_asked p c v ≡ true) (sets_of p.universe r)
-      → IsCache p (record c { sorted = c.sorted ++ (r, list) ∷ [] })
+      → IsCache p may (record c { sorted = c.sorted ++ (r, list) ∷ [] })
   right_sorted r list h asked = record {
     answers = is.answers;
     fits = is.fits;
@@ -239,7 +239,7 @@ module _ {D N S A H : Type 0} (p : Provider N S) (c : Cache D N S A H) (is : IsC
   }
 
   pub right_single : (v : VersionSetId) (list : List S) → list ≡ sorted p.universe p.answers p.same_solvable v → is_set_asked p c v ≡ true
-      → IsCache p (record c { sorted = c.sorted ++ (Single v, list) ∷ [] })
+      → IsCache p may (record c { sorted = c.sorted ++ (Single v, list) ∷ [] })
   right_single v list h asked =
       right_sorted (Single v) list (h ∙ sym (append-nil (sorted p.universe p.answers p.same_solvable v)))
       (All-push (λ v. is_set_asked p c v ≡ true) [] v (λ k d lt. (let no : ⊥ = omega arith in absurd no)) asked)
@@ -247,8 +247,8 @@ module _ {D N S A H : Type 0} (p : Provider N S) (c : Cache D N S A H) (is : IsC
   -- the answer that is kept of a package
   pub found_answer : ((a b : N) → p.same_name a b ≡ true → a ≡ b) → (n : N) (place : ℕ) → is_kept (p.same_name n) c.candidates ≡ true
       → slice_get (values_of c.candidates) place ≡ lookup (p.same_name n) c.candidates
-      → (answer : Candidates S A) × (slice_get (values_of c.candidates) place ≡ Some answer) × IsAnswer p n answer
-  found_answer is_sameness n place kept at = kept_answer p.same_name is_sameness (IsAnswer p) n place c.candidates is.answers kept at
+      → (answer : Candidates S A) × (slice_get (values_of c.candidates) place ≡ Some answer) × IsAnswer p may n answer
+  found_answer is_sameness n place kept at = kept_answer p.same_name is_sameness (IsAnswer p may) n place c.candidates is.answers kept at
 
   -- what is kept of a version set, and that its package was asked for
   pub found_matching : (v : VersionSetId) (place : ℕ) → is_kept (same_set v) c.matching ≡ true → slice_get (values_of c.matching) place ≡ lookup (same_set v) c.matching
@@ -293,7 +293,7 @@ module _ {D N S A H : Type 0} (c mid : Cache D N S A H) (e : c ≡ mid) where
   more_sorted r list = ap (λ (x : Cache D N S A H). record x { sorted = x.sorted ++ (r, list) ∷ [] }) e
 
 -- nothing is kept
-pub right_new : {D N S A H : Type 0} (p : Provider N S) (provider : D) (hinted : H) → IsCache {D = D} {N = N} {S = S} {A = A} {H = H} p (record {
+pub right_new : {D N S A H : Type 0} {may : MayAnswer N S A} (p : Provider N S) (provider : D) (hinted : H) → IsCache {D = D} {N = N} {S = S} {A = A} {H = H} p may (record {
   provider = provider;
   candidates = [];
   matching = [];
@@ -346,10 +346,10 @@ module _ {D N S A H : Type 0} (has : H → S → Bool) where
   asked_later p v c d later h = kept_later _ c.candidates d.candidates later.candidates h
 
   -- one version set more
-  pub sorted_push : (p : Provider N S) (vs : List VersionSetId) (v : VersionSetId) (c d e : Cache D N S A H) → AreSorted p has c vs d → IsSorted p has d v e
-      → AreSorted p has c (vs ++ v ∷ []) e
-  sorted_push p [] v c d e first next = (e, subst (λ x. IsSorted p has x v e) first next, refl)
-  sorted_push p (w ∷ vs) v c d e first next = (first.0, first.1, sorted_push p vs v first.0 d e first.2 next)
+  pub sorted_push : (p : Provider N S) (may : MayAnswer N S A) (vs : List VersionSetId) (v : VersionSetId) (c d e : Cache D N S A H) → AreSorted p may has c vs d → IsSorted p may has d v e
+      → AreSorted p may has c (vs ++ v ∷ []) e
+  sorted_push p may [] v c d e first next = (e, subst (λ x. IsSorted p may has x v e) first next, refl)
+  sorted_push p may (w ∷ vs) v c d e first next = (first.0, first.1, sorted_push p may vs v first.0 d e first.2 next)
 
 -- a growth that may be refused may also be refused where ids are out in more cases
 pub refusal_wider : (a b : Bool) (e : StoreError) → (a ≡ true → b ≡ true) → IsGrowthRefusal a e → IsGrowthRefusal b e
@@ -399,36 +399,36 @@ skips test (f ∷ es) e h =
     elim (test f.0) as (λ b. is_some (cond b (Some f.1) (lookup test (es ++ e ∷ []))) ≡ is_some (cond b (Some f.1) (lookup test es)))
     [ true ↦ refl | false ↦ skips test es e h ]
 
-module _ {D N S A H : Type 0} (has : H → S → Bool) (p : Provider N S) (u : VersionSetUnionId) where
+module _ {D N S A H : Type 0} (has : H → S → Bool) (p : Provider N S) (may : MayAnswer N S A) (u : VersionSetUnionId) where
   abbrev kept_union : Cache D N S A H → Bool
   kept_union c = is_kept (same_requirement (Union u)) c.sorted
 
-  asked_skips : (n : N) (c d : Cache D N S A H) → IsAsked p has c n d → kept_union d ≡ kept_union c
+  asked_skips : (n : N) (c d : Cache D N S A H) → IsAsked p may has c n d → kept_union d ≡ kept_union c
   asked_skips n c d h = by_kept (is_asked p c n) h
     where
-      by_kept : (b : Bool) → IsOnce b c (λ new. (answer : Candidates S A) × IsAnswer p n answer × IsMarked p has c (hints_of answer) new.hinted ×
+      by_kept : (b : Bool) → IsOnce b c (λ new. (answer : Candidates S A) × IsAnswer p may n answer × IsMarked p may has c (hints_of answer) new.hinted ×
           (new ≡ record c { candidates = c.candidates ++ (n, answer) ∷ []; hinted = new.hinted })) d → kept_union d ≡ kept_union c
       by_kept true h = ap kept_union h
       by_kept false h = ap kept_union h.3
 
-  matched_skips : (v : VersionSetId) (c d : Cache D N S A H) → IsMatched p has c v d → kept_union d ≡ kept_union c
+  matched_skips : (v : VersionSetId) (c d : Cache D N S A H) → IsMatched p may has c v d → kept_union d ≡ kept_union c
   matched_skips v c d h = by_kept (is_kept (same_set v) c.matching) h
     where
-      by_kept : (b : Bool) → IsOnce b c (λ new. (mid : Cache D N S A H) × IsAsked p has c (p.universe.set_name v) mid ×
+      by_kept : (b : Bool) → IsOnce b c (λ new. (mid : Cache D N S A H) × IsAsked p may has c (p.universe.set_name v) mid ×
           (new ≡ record mid { matching = mid.matching ++ (v, matching p.universe p.answers v) ∷ [] })) d → kept_union d ≡ kept_union c
       by_kept true h = ap kept_union h
       by_kept false h = ap kept_union h.2 ∙ asked_skips (p.universe.set_name v) c h.0 h.1
 
-  sorted_skips : (v : VersionSetId) (c d : Cache D N S A H) → IsSorted p has c v d → kept_union d ≡ kept_union c
+  sorted_skips : (v : VersionSetId) (c d : Cache D N S A H) → IsSorted p may has c v d → kept_union d ≡ kept_union c
   sorted_skips v c d h = by_kept (is_kept (same_requirement (Single v)) c.sorted) h
     where
-      by_kept : (b : Bool) → IsOnce b c (λ new. (mid : Cache D N S A H) × IsMatched p has c v mid ×
+      by_kept : (b : Bool) → IsOnce b c (λ new. (mid : Cache D N S A H) × IsMatched p may has c v mid ×
           (new ≡ record mid { sorted = mid.sorted ++ (Single v, sorted p.universe p.answers p.same_solvable v) ∷ [] })) d → kept_union d ≡ kept_union c
       by_kept true h = ap kept_union h
       by_kept false h =
           ap kept_union h.2 ∙ skips (same_requirement (Union u)) h.0.sorted (Single v, sorted p.universe p.answers p.same_solvable v) refl ∙ matched_skips v c h.0 h.1
 
   -- version sets that are asked for in turn keep no union
-  pub union_still_new : (vs : List VersionSetId) (c d : Cache D N S A H) → AreSorted p has c vs d → kept_union c ≡ false → kept_union d ≡ false
+  pub union_still_new : (vs : List VersionSetId) (c d : Cache D N S A H) → AreSorted p may has c vs d → kept_union c ≡ false → kept_union d ≡ false
   union_still_new [] c d h new = ap kept_union h ∙ new
   union_still_new (v ∷ vs) c d h new = union_still_new vs h.0 d h.2 (sorted_skips v c h.0 h.1 ∙ new)

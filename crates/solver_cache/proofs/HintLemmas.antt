@@ -17,6 +17,11 @@ or_nothing : (h : Bool) → h ≡ (h || false)
 or_nothing true = refl
 or_nothing false = refl
 
+wider : (h a b n : Bool) → (h || (a && n)) ≡ true → (h || ((a || b) && n)) ≡ true
+wider true a b n e = refl
+wider false true b n e = e
+wider false false b n e = cc
+
 or_kept : (h b : Bool) → h ≡ true → (h || b) ≡ true
 or_kept true b e = refl
 or_kept false b e = cc
@@ -37,3 +42,9 @@ module _ {S : Type 0} (same : S → S → Bool) (is_large : S → Bool) (hinted 
   -- what was marked is marked
   pub still_marked : (hints : List S) (s : S) → hinted s ≡ true → with_hints same is_large hinted hints s ≡ true
   still_marked hints s h = or_kept (hinted s) _ h
+
+  -- what some hints mark, more hints mark
+  pub more_hints : (hints more : List S) (s : S) → with_hints same is_large hinted hints s ≡ true → with_hints same is_large hinted (hints ++ more) s ≡ true
+  more_hints hints more s h =
+      ap (λ b. hinted s || (b && not (is_large s))) (list_any-append (same s) hints more)
+      ∙ wider (hinted s) (list_any (same s) hints) (list_any (same s) more) (not (is_large s)) h

@@ -6,3 +6,4 @@ pub mod IdLemmas
 pub mod KeptListLemmas
 pub mod ListedLemmas
 pub mod SortingLemmas
+pub mod UnansweredLemmas

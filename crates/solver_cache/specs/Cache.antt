@@ -1,14 +1,16 @@
 -- A cache: what it was asked, and what it was answered. D are the providers, N the names, S the solvables, A the allocators,
 -- H the sets of solvables.
-use Rattle.std.specs.Prelude.{◌≡◌, ℕ, Bool, true, false, ◌||◌, ◌==◌, List, [], map, flat_map, All, Option, Some, is_some, unwrap_or, slice_get}
+use Rattle.std.specs.Prelude.{◌≡◌, ℕ, Bool, true, false, ◌||◌, ◌==◌, List, [], map, flat_map, All}
+use Rattle.std.specs.Prelude.{Option, None, Some, is_some, unwrap_or, slice_get}
 use Rattle.std.specs.Map.{lookup}
 use Rattle.typed_ids.specs.declared.version_set_id.VersionSetId.{VersionSetId}
 use Rattle.providers.specs.Dependencies.{needs_of}
 use Rattle.providers.specs.Provider.{matching, non_matching, sorted, sets_of}
 use Rattle.providers.specs.declared.candidates.Candidates.{Candidates}
+use Rattle.providers.specs.declared.candidates.HintDependenciesAvailable.TheVariants as Hint
 use Rattle.providers.specs.declared.dependencies.Dependencies.{Dependencies}
 use Rattle.providers.specs.declared.requirement.Requirement.{Requirement}
-use Rattle.solver_cache.specs.Functions.{Provider}
+use Rattle.solver_cache.specs.Functions.{Provider, MayAnswer}
 use Rattle.solver_cache.specs.declared.list_id.ListKind.{ListKind}
 use Rattle.solver_cache.specs.declared.list_id.ListKind.TheVariants.{Matching, NonMatching, Sorted}
 
@@ -50,10 +52,18 @@ module _ {D N S A H : Type 0} (p : Provider N S) (c : Cache D N S A H) where
   abbrev pub is_available : (H → S → Bool) → S → Bool
   is_available has s = is_fetched s || has c.hinted s
 
--- an answer of the provider to the question for a package
-pub record IsAnswer {N S A : Type 0} (p : Provider N S) (n : N) (answer : Candidates S A) : Type 0 where
+-- what was found of a package, whole; of one that there isn't, nothing is told
+abbrev pub IsWhole : {S A : Type 0} → Option (Candidates S A) → Candidates S A → Type 0
+IsWhole None answer = (answer.candidates.items ≡ []) × (answer.favored ≡ None) × (answer.locked ≡ None) ×
+    (answer.hint_dependencies_available ≡ Hint.None) × (answer.excluded.items ≡ [])
+IsWhole (Some found) answer = answer ≡ found
+
+-- an answer of the provider to the question for a package, whole
+pub record IsAnswer {N S A : Type 0} (p : Provider N S) (may : MayAnswer N S A) (n : N) (answer : Candidates S A) :
+    Type 0 where
   pub candidates : answer.candidates.items ≡ p.answers.candidates n
   pub favored : answer.favored ≡ p.answers.favored n
+  pub told : (found : Option (Candidates S A)) × may n found × IsWhole found answer
 
 module _ {N S : Type 0} (p : Provider N S) where
   -- the candidates of a version set, best first
@@ -65,8 +75,8 @@ module _ {N S : Type 0} (p : Provider N S) where
   sorted_of r = flat_map sorted_of_set (sets_of p.universe r)
 
 -- what is kept is what the provider answers, and for what is kept of a version set its package was asked for
-pub record IsCache {D N S A H : Type 0} (p : Provider N S) (c : Cache D N S A H) : Type 0 where
-  pub answers : All (λ e. IsAnswer p e.0 e.1) c.candidates
+pub record IsCache {D N S A H : Type 0} (p : Provider N S) (may : MayAnswer N S A) (c : Cache D N S A H) : Type 0 where
+  pub answers : All (λ e. IsAnswer p may e.0 e.1) c.candidates
   pub fits : All (λ e. p.is_large_name e.0 ≡ false) c.candidates
   pub matching : All (λ e. (e.1 ≡ matching p.universe p.answers e.0) × (is_set_asked p c e.0 ≡ true)) c.matching
   pub non_matching : All (λ e. (e.1 ≡ non_matching p.universe p.answers e.0) × (is_set_asked p c e.0 ≡ true)) c.non_matching

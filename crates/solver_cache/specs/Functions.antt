@@ -1,6 +1,8 @@
--- The fixed functions of a provider and of its ids, gathered. N are the names, S the solvables.
-use Rattle.std.specs.Prelude.{Bool}
+-- The fixed functions of a provider and of its ids, gathered, and what else it may tell. N are the names, S the solvables,
+-- A the allocators.
+use Rattle.std.specs.Prelude.{Bool, Option}
 use Rattle.providers.specs.Provider.{Universe, Answers}
+use Rattle.providers.specs.declared.candidates.Candidates.{Candidates}
 
 pub record Provider (N S : Type 0) : Type 0 where
   pub same_name : N → N → Bool
@@ -15,7 +17,11 @@ pub record Provider (N S : Type 0) : Type 0 where
   pub universe : Universe N S
   pub answers : Answers N S
 
--- the same, of a provider D
+-- what a provider may find of a package, all of it: its `may_answer`
+abbrev pub MayAnswer : Type 0 → Type 0 → Type 0 → Type 1
+MayAnswer N S A = N → Option (Candidates S A) → Type 0
+
+-- the same functions, of a provider D
 abbrev pub gathered : {D N S : Type 0} → (N → N → Bool) → (S → S → Bool) → (N → Bool) → (S → Bool) → (S → Bool) →
     Bool → (D → Universe N S) → (D → Answers N S) → D → Provider N S
 gathered same_name same_solvable is_large_name is_large_solvable is_large_hint are_names_many universe answers p = record {

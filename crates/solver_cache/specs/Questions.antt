@@ -15,7 +15,7 @@ use Rattle.providers.specs.declared.dependencies.Dependencies.{Dependencies}
 use Rattle.providers.specs.declared.requirement.Requirement.{Requirement}
 use Rattle.providers.specs.declared.requirement.Requirement.TheVariants.{Single, Union}
 use Rattle.solver_cache.specs.Cache.{Cache, IsAnswer, is_asked, is_set_asked, is_fetched, is_kept, same_set, sorted_of}
-use Rattle.solver_cache.specs.Functions.{Provider}
+use Rattle.solver_cache.specs.Functions.{Provider, MayAnswer}
 use Rattle.solver_cache.specs.Hints.{hints_of, with_hints}
 use Rattle.solver_cache.specs.declared.error.CacheError.{CacheError}
 use Rattle.solver_cache.specs.declared.error.CacheError.TheVariants.{Store, Cancelled}
@@ -49,7 +49,7 @@ abbrev pub IsFetched : {D N S A H : Type 0} → Provider N S → Cache D N S A H
 IsFetched {A} p old s = IsOnce (is_fetched p old s) old (λ new. (answer : Dependencies A) × (needs_of answer ≡ p.answers.needs s) ×
     (new ≡ record old { dependencies = old.dependencies ++ (s, answer) ∷ [] }))
 
-module _ {D N S A H : Type 0} (p : Provider N S) (has : H → S → Bool) where
+module _ {D N S A H : Type 0} (p : Provider N S) (may : MayAnswer N S A) (has : H → S → Bool) where
   module _ (old : Cache D N S A H) where
     -- the set has what it had, and the hints
     abbrev pub IsMarked : List S → H → Type 0
@@ -57,7 +57,7 @@ module _ {D N S A H : Type 0} (p : Provider N S) (has : H → S → Bool) where
 
     -- after a package was asked for
     abbrev pub IsAsked : N → Cache D N S A H → Type 0
-    IsAsked n = IsOnce (is_asked p old n) old (λ new. (answer : Candidates S A) × IsAnswer p n answer × IsMarked (hints_of answer) new.hinted ×
+    IsAsked n = IsOnce (is_asked p old n) old (λ new. (answer : Candidates S A) × IsAnswer p may n answer × IsMarked (hints_of answer) new.hinted ×
         (new ≡ record old { candidates = old.candidates ++ (n, answer) ∷ []; hinted = new.hinted }))
 
     -- after the candidates that a version set holds were: its package is asked for first

@@ -50,15 +50,17 @@ impl<D: DependencyProvider> Model for SolverCache<D> {
       hinted = a.hinted;
     } };
 
-    ghost invariant = { λ a. IsCache (gathered D.NameId.eq D.SolvableId.eq D.NameId.Slots.is_too_large D.SolvableId.Slots.is_too_large D.SolvableId.Set.is_too_large D.NameId.are_many D.universe D.answers a.provider) (record {
-      provider = a.provider;
-      candidates = a.candidates;
-      matching = a.matching;
-      non_matching = a.non_matching;
-      sorted = a.sorted;
-      dependencies = a.dependencies;
-      hinted = a.hinted;
-    }) };
+    ghost invariant = { λ a. IsCache (gathered D.NameId.eq D.SolvableId.eq D.NameId.Slots.is_too_large
+        D.SolvableId.Slots.is_too_large D.SolvableId.Set.is_too_large D.NameId.are_many D.universe D.answers a.provider)
+        (D.may_answer a.provider) (record {
+          provider = a.provider;
+          candidates = a.candidates;
+          matching = a.matching;
+          non_matching = a.non_matching;
+          sorted = a.sorted;
+          dependencies = a.dependencies;
+          hinted = a.hinted;
+        }) };
 }
 
 impl<D: DependencyProvider + Drop> SolverCache<D> {
@@ -88,7 +90,8 @@ impl<D: DependencyProvider + Drop> SolverCache<D> {
     /// The provider.
     pub fn provider(&self) -> &D
         ensures provider { result.now ≡ self.now.provider }
-        ensures kept { IsCache (⟦<D as ProviderFunctions>⟧.functions self.now.provider) self.now }
+        ensures kept { IsCache (⟦<D as ProviderFunctions>⟧.functions self.now.provider)
+            (D.may_answer self.now.provider) self.now }
     {
         &self.provider
     }

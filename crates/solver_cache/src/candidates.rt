@@ -1,8 +1,10 @@
 //! The candidates of packages, asked of the provider.
-ghost use Rattle.std.specs.Prelude.{◌≡◌, IfOk, IfErr};
+ghost use Rattle.std.specs.Prelude.{◌≡◌, Option, IfOk, IfErr};
 ghost use Rattle.typed_ids.specs.declared.error.StoreError.TheVariants.{OutOfMemory};
 ghost use Rattle.providers.specs.Provider.{favored_of};
 ghost use Rattle.providers.specs.Provider.{candidates_of as answered_candidates};
+ghost use Rattle.providers.specs.declared.candidates.Candidates.{Candidates};
+ghost use Rattle.solver_cache.specs.Cache.{IsWhole};
 
 use providers::{Candidates, DependencyProvider, Interner};
 use std::alloc::Allocator;
@@ -12,6 +14,7 @@ use typed_ids::StoreError;
 fn answered<S, A: Allocator + Copy>(alloc: A, found: Option<Candidates<S, A>>) -> Candidates<S, A>
     ensures candidates { result.candidates.items ≡ answered_candidates found }
     ensures favored { result.favored ≡ favored_of found }
+    ensures whole { IsWhole found result }
 {
     match found {
         Some(candidates) => candidates,
@@ -27,6 +30,8 @@ pub(crate) fn candidates_of<D: DependencyProvider>(
 ) -> Result<Candidates<D::SolvableId, D::Alloc>, StoreError>
     ensures candidates { IfOk result (λ found. found.candidates.items ≡ (D.answers provider.now).candidates name) }
     ensures favored { IfOk result (λ found. found.favored ≡ (D.answers provider.now).favored name) }
+    ensures told { IfOk result (λ answer. (found : Option (Candidates D.SolvableId D.Alloc)) ×
+        D.may_answer provider.now name found × IsWhole found answer) }
     ensures err { IfErr result (λ e. e ≡ OutOfMemory) }
 {
     let found = provider.get_candidates(alloc, name)?;

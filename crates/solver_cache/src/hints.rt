@@ -16,6 +16,8 @@ pub(crate) fn mark_hints<S: SolverId<A>, A: Allocator + Copy>(
 ) -> Result<(), StoreError>
     ensures ok { OnOk result ((s : S) → S.Set.has hinted.new s ≡ with_hints S.eq S.Set.is_too_large (λ t. S.Set.has hinted.old t) (hints_of answer.now) s) }
     ensures err { OnErr result ((s : S) → S.Set.has hinted.old s ≡ true → S.Set.has hinted.new s ≡ true) }
+    ensures err_hints { OnErr result ((s : S) → S.Set.has hinted.new s ≡ true →
+        with_hints S.eq S.Set.is_too_large (λ t. S.Set.has hinted.old t) (hints_of answer.now) s ≡ true) }
     ensures memory { IfErr result (λ e. e ≡ OutOfMemory) }
 {
     match &answer.hint_dependencies_available {
@@ -32,6 +34,8 @@ fn mark_all<S: SolverId<A>, A: Allocator + Copy>(
 ) -> Result<(), StoreError>
     ensures ok { OnOk result ((s : S) → S.Set.has hinted.new s ≡ with_hints S.eq S.Set.is_too_large (λ t. S.Set.has hinted.old t) solvables.now s) }
     ensures err { OnErr result ((s : S) → S.Set.has hinted.old s ≡ true → S.Set.has hinted.new s ≡ true) }
+    ensures err_hints { OnErr result ((s : S) → S.Set.has hinted.new s ≡ true →
+        with_hints S.eq S.Set.is_too_large (λ t. S.Set.has hinted.old t) solvables.now s ≡ true) }
     ensures memory { IfErr result (λ e. e ≡ OutOfMemory) }
 {
     for solvable in solvables {

@@ -17,19 +17,25 @@ impl<D: DependencyProvider + Drop> SolverCache<D> {
     ghost use Rattle.providers.specs.declared.dependencies.Dependencies.{Dependencies};
     ghost use Rattle.solver_cache.specs.Cache.{IsAnswer, is_asked, is_fetched};
     ghost use Rattle.solver_cache.specs.Questions.{IsLater, IsAsked, IsFetched, IsRefusedOf, lacks_candidates, lacks_dependencies};
+    ghost use Rattle.solver_cache.specs.Unanswered.{IsUnasked};
 
     /// The candidates of a package. A package that there isn't has none.
     pub fn get_or_cache_candidates(
         &mut self,
         name: D::NameId,
     ) -> Result<CandidatesId, CacheError<D::Cancel>>
-        ensures asked { OnOk result (IsAsked (⟦<D as ProviderFunctions>⟧.functions self.old.provider) D.SolvableId.Set.has self.old name self.new) }
+        ensures asked { OnOk result (IsAsked (⟦<D as ProviderFunctions>⟧.functions self.old.provider)
+            (D.may_answer self.old.provider) D.SolvableId.Set.has self.old name self.new) }
         ensures own { IfOk result (λ id. slice_get (map (λ e. e.1) self.new.candidates) id ≡ lookup (D.NameId.eq name) self.new.candidates) }
-        ensures answer { IfOk result (λ id. (answer : Candidates D.SolvableId D.Alloc) × (slice_get (map (λ e. e.1) self.new.candidates) id ≡ Some answer)
-            × IsAnswer (⟦<D as ProviderFunctions>⟧.functions self.old.provider) name answer) }
+        ensures answer { IfOk result (λ id. (answer : Candidates D.SolvableId D.Alloc) ×
+            (slice_get (map (λ e. e.1) self.new.candidates) id ≡ Some answer) ×
+            IsAnswer (⟦<D as ProviderFunctions>⟧.functions self.old.provider)
+            (D.may_answer self.old.provider) name answer) }
         ensures kept { is_asked (⟦<D as ProviderFunctions>⟧.functions self.old.provider) self.old name ≡ true → IsOk result }
         ensures refused { IfErr result (λ e. let p = ⟦<D as ProviderFunctions>⟧.functions self.old.provider in
             IsRefusedOf (is_asked p self.old name) (lacks_candidates p self.new name) self.old e self.new) }
+        ensures refused_hints { OnErr result (IsUnasked (⟦<D as ProviderFunctions>⟧.functions self.old.provider)
+            (D.may_answer self.old.provider) D.SolvableId.Set.has self.old name self.new) }
         ensures later { IsLater D.SolvableId.Set.has self.old self.new }
         ensures asked_now { OnOk result (is_asked (⟦<D as ProviderFunctions>⟧.functions self.old.provider) self.new name ≡ true) }
     {
@@ -42,12 +48,17 @@ impl<D: DependencyProvider + Drop> SolverCache<D> {
     /// Asks the provider for a package's candidates, unless it wants to stop.
     fn ask_for(&mut self, name: D::NameId) -> Result<CandidatesId, CacheError<D::Cancel>>
         requires { is_asked (⟦<D as ProviderFunctions>⟧.functions self.old.provider) self.old name ≡ false }
-        ensures asked { OnOk result (IsAsked (⟦<D as ProviderFunctions>⟧.functions self.old.provider) D.SolvableId.Set.has self.old name self.new) }
+        ensures asked { OnOk result (IsAsked (⟦<D as ProviderFunctions>⟧.functions self.old.provider)
+            (D.may_answer self.old.provider) D.SolvableId.Set.has self.old name self.new) }
         ensures own { IfOk result (λ id. slice_get (map (λ e. e.1) self.new.candidates) id ≡ lookup (D.NameId.eq name) self.new.candidates) }
-        ensures answer { IfOk result (λ id. (answer : Candidates D.SolvableId D.Alloc) × (slice_get (map (λ e. e.1) self.new.candidates) id ≡ Some answer)
-            × IsAnswer (⟦<D as ProviderFunctions>⟧.functions self.old.provider) name answer) }
+        ensures answer { IfOk result (λ id. (answer : Candidates D.SolvableId D.Alloc) ×
+            (slice_get (map (λ e. e.1) self.new.candidates) id ≡ Some answer) ×
+            IsAnswer (⟦<D as ProviderFunctions>⟧.functions self.old.provider)
+            (D.may_answer self.old.provider) name answer) }
         ensures refused { IfErr result (λ e. let p = ⟦<D as ProviderFunctions>⟧.functions self.old.provider in
             IsRefusedOf (is_asked p self.old name) (lacks_candidates p self.new name) self.old e self.new) }
+        ensures refused_hints { OnErr result (IsUnasked (⟦<D as ProviderFunctions>⟧.functions self.old.provider)
+            (D.may_answer self.old.provider) D.SolvableId.Set.has self.old name self.new) }
         ensures later { IsLater D.SolvableId.Set.has self.old self.new }
         ensures asked_now { OnOk result (is_asked (⟦<D as ProviderFunctions>⟧.functions self.old.provider) self.new name ≡ true) }
     {

@@ -1,5 +1,6 @@
 //! The questions about requirements: their candidates, best first.
-ghost use Rattle.std.specs.Prelude.{◌≡◌, ℕ, [], ◌∷◌, ◌++◌, true, false, All, flat_map, Some, IsOk, IfOk, OnOk, IfErr};
+ghost use Rattle.std.specs.Prelude.{◌≡◌, ◌⊎◌, ℕ, [], ◌∷◌, ◌++◌, true, false, All, flat_map};
+ghost use Rattle.std.specs.Prelude.{Some, IsOk, IfOk, OnOk, OnErr, IfErr};
 ghost use Rattle.std.specs.List.{list_any};
 ghost use Rattle.typed_ids.specs.declared.error.StoreError.TheVariants.{OutOfMemory};
 ghost use Rattle.providers.specs.Provider.{favored_first};
@@ -20,6 +21,7 @@ impl<D: DependencyProvider + Drop> SolverCache<D> {
     ghost use Rattle.solver_cache.specs.Cache.{is_set_asked, is_kept, list_at, listed, sorted_of, AreListed};
     ghost use Rattle.solver_cache.specs.declared.list_id.ListKind.{ListKind};
     ghost use Rattle.solver_cache.specs.Questions.{IsLater, IsSorted, AreSorted, IsRequirementSorted, IsRefusedOf, IsRefusedOfSets, lacks_candidates};
+    ghost use Rattle.solver_cache.specs.Unanswered.{IsUnsorted, AreLeft};
 
     /// The candidates of a requirement: of each of its version sets, one after the other, those that it holds, best first.
     /// The first refusal ends the call.
@@ -28,10 +30,14 @@ impl<D: DependencyProvider + Drop> SolverCache<D> {
         requirement: Requirement,
     ) -> Result<ListId, CacheError<D::Cancel>>
         requires { knows_requirement (D.universe self.old.provider) requirement ≡ true }
-        ensures sorted { OnOk result (IsRequirementSorted (⟦<D as ProviderFunctions>⟧.functions self.old.provider) D.SolvableId.Set.has self.old requirement self.new) }
+        ensures sorted { OnOk result (IsRequirementSorted (⟦<D as ProviderFunctions>⟧.functions self.old.provider)
+            (D.may_answer self.old.provider) D.SolvableId.Set.has self.old requirement self.new) }
         ensures list { IfOk result (λ id. list_at self.new id ≡ Some (sorted_of (⟦<D as ProviderFunctions>⟧.functions self.old.provider) requirement)) }
         ensures kept { is_kept (same_requirement requirement) self.old.sorted ≡ true → IsOk result }
         ensures refused { IfErr result (λ e. IsRefusedOfSets (⟦<D as ProviderFunctions>⟧.functions self.old.provider)
+            (sets_of (D.universe self.old.provider) requirement) self.old e self.new) }
+        ensures refused_leaves { IfErr result (λ e. AreLeft (⟦<D as ProviderFunctions>⟧.functions self.old.provider)
+            (D.may_answer self.old.provider) D.SolvableId.Set.has
             (sets_of (D.universe self.old.provider) requirement) self.old e self.new) }
         ensures later { IsLater D.SolvableId.Set.has self.old self.new }
         ensures asked { OnOk result (All (λ v. is_set_asked (⟦<D as ProviderFunctions>⟧.functions self.old.provider) self.new v ≡ true)
@@ -50,11 +56,14 @@ impl<D: DependencyProvider + Drop> SolverCache<D> {
         set: VersionSetId,
     ) -> Result<ListId, CacheError<D::Cancel>>
         requires { (D.universe self.old.provider).knows_set set ≡ true }
-        ensures sorted { OnOk result (IsSorted (⟦<D as ProviderFunctions>⟧.functions self.old.provider) D.SolvableId.Set.has self.old set self.new) }
+        ensures sorted { OnOk result (IsSorted (⟦<D as ProviderFunctions>⟧.functions self.old.provider)
+            (D.may_answer self.old.provider) D.SolvableId.Set.has self.old set self.new) }
         ensures list { IfOk result (λ id. list_at self.new id ≡ Some (sorted (D.universe self.old.provider) (D.answers self.old.provider) D.SolvableId.eq set)) }
         ensures kept { is_kept (same_requirement (Single set)) self.old.sorted ≡ true → IsOk result }
         ensures refused { IfErr result (λ e. let p = ⟦<D as ProviderFunctions>⟧.functions self.old.provider in
             IsRefusedOf (is_set_asked p self.old set) (lacks_candidates p self.new (p.universe.set_name set)) self.old e self.new) }
+        ensures refused_leaves { OnErr result (IsUnsorted (⟦<D as ProviderFunctions>⟧.functions self.old.provider)
+            (D.may_answer self.old.provider) D.SolvableId.Set.has self.old set self.new) }
         ensures later { IsLater D.SolvableId.Set.has self.old self.new }
         ensures asked { OnOk result (is_set_asked (⟦<D as ProviderFunctions>⟧.functions self.old.provider) self.new set ≡ true) }
     {
@@ -84,10 +93,14 @@ impl<D: DependencyProvider + Drop> SolverCache<D> {
     /// The candidates of a union.
     fn sorted_union(&mut self, union: VersionSetUnionId) -> Result<ListId, CacheError<D::Cancel>>
         requires { (D.universe self.old.provider).knows_union union ≡ true }
-        ensures sorted { OnOk result (IsRequirementSorted (⟦<D as ProviderFunctions>⟧.functions self.old.provider) D.SolvableId.Set.has self.old (Union union) self.new) }
+        ensures sorted { OnOk result (IsRequirementSorted (⟦<D as ProviderFunctions>⟧.functions self.old.provider)
+            (D.may_answer self.old.provider) D.SolvableId.Set.has self.old (Union union) self.new) }
         ensures list { IfOk result (λ id. list_at self.new id ≡ Some (sorted_of (⟦<D as ProviderFunctions>⟧.functions self.old.provider) (Union union))) }
         ensures kept { is_kept (same_requirement (Union union)) self.old.sorted ≡ true → IsOk result }
         ensures refused { IfErr result (λ e. IsRefusedOfSets (⟦<D as ProviderFunctions>⟧.functions self.old.provider)
+            ((D.universe self.old.provider).union_sets union) self.old e self.new) }
+        ensures refused_leaves { IfErr result (λ e. AreLeft (⟦<D as ProviderFunctions>⟧.functions self.old.provider)
+            (D.may_answer self.old.provider) D.SolvableId.Set.has
             ((D.universe self.old.provider).union_sets union) self.old e self.new) }
         ensures later { IsLater D.SolvableId.Set.has self.old self.new }
         ensures asked { OnOk result (All (λ v. is_set_asked (⟦<D as ProviderFunctions>⟧.functions self.old.provider) self.new v ≡ true)
@@ -115,10 +128,14 @@ impl<D: DependencyProvider + Drop> SolverCache<D> {
         union: VersionSetUnionId,
     ) -> Result<Vec<D::SolvableId, D::Alloc>, CacheError<D::Cancel>>
         requires { (D.universe self.old.provider).knows_union union ≡ true }
-        ensures sorted { OnOk result (AreSorted (⟦<D as ProviderFunctions>⟧.functions self.old.provider) D.SolvableId.Set.has self.old
+        ensures sorted { OnOk result (AreSorted (⟦<D as ProviderFunctions>⟧.functions self.old.provider)
+            (D.may_answer self.old.provider) D.SolvableId.Set.has self.old
             ((D.universe self.old.provider).union_sets union) self.new) }
         ensures list { IfOk result (λ list. list.items ≡ sorted_of (⟦<D as ProviderFunctions>⟧.functions self.old.provider) (Union union)) }
         ensures refused { IfErr result (λ e. IsRefusedOfSets (⟦<D as ProviderFunctions>⟧.functions self.old.provider)
+            ((D.universe self.old.provider).union_sets union) self.old e self.new) }
+        ensures refused_leaves { IfErr result (λ e. AreLeft (⟦<D as ProviderFunctions>⟧.functions self.old.provider)
+            (D.may_answer self.old.provider) D.SolvableId.Set.has
             ((D.universe self.old.provider).union_sets union) self.old e self.new) }
         ensures later { IsLater D.SolvableId.Set.has self.old self.new }
         ensures asked { OnOk result (All (λ v. is_set_asked (⟦<D as ProviderFunctions>⟧.functions self.old.provider) self.new v ≡ true)
@@ -135,11 +152,15 @@ impl<D: DependencyProvider + Drop> SolverCache<D> {
         requirement: Requirement,
     ) -> Result<Vec<ListId, D::Alloc>, CacheError<D::Cancel>>
         requires { knows_requirement (D.universe self.old.provider) requirement ≡ true }
-        ensures sorted { OnOk result (AreSorted (⟦<D as ProviderFunctions>⟧.functions self.old.provider) D.SolvableId.Set.has self.old
+        ensures sorted { OnOk result (AreSorted (⟦<D as ProviderFunctions>⟧.functions self.old.provider)
+            (D.may_answer self.old.provider) D.SolvableId.Set.has self.old
             (sets_of (D.universe self.old.provider) requirement) self.new) }
         ensures lists { IfOk result (λ ids. AreListed (⟦<D as ProviderFunctions>⟧.functions self.old.provider) self.new ids.items
             (sets_of (D.universe self.old.provider) requirement)) }
         ensures refused { IfErr result (λ e. IsRefusedOfSets (⟦<D as ProviderFunctions>⟧.functions self.old.provider)
+            (sets_of (D.universe self.old.provider) requirement) self.old e self.new) }
+        ensures refused_leaves { IfErr result (λ e. AreLeft (⟦<D as ProviderFunctions>⟧.functions self.old.provider)
+            (D.may_answer self.old.provider) D.SolvableId.Set.has
             (sets_of (D.universe self.old.provider) requirement) self.old e self.new) }
         ensures later { IsLater D.SolvableId.Set.has self.old self.new }
         ensures asked { OnOk result (All (λ v. is_set_asked (⟦<D as ProviderFunctions>⟧.functions self.old.provider) self.new v ≡ true)
@@ -166,9 +187,12 @@ impl<D: DependencyProvider + Drop> SolverCache<D> {
     ) -> Result<(), CacheError<D::Cancel>>
         requires known { All (λ v. (D.universe self.old.provider).knows_set v ≡ true) sets.now }
         requires empty { ids.old.items ≡ [] }
-        ensures sorted { OnOk result (AreSorted (⟦<D as ProviderFunctions>⟧.functions self.old.provider) D.SolvableId.Set.has self.old sets.now self.new) }
+        ensures sorted { OnOk result (AreSorted (⟦<D as ProviderFunctions>⟧.functions self.old.provider)
+            (D.may_answer self.old.provider) D.SolvableId.Set.has self.old sets.now self.new) }
         ensures lists { OnOk result (AreListed (⟦<D as ProviderFunctions>⟧.functions self.old.provider) self.new ids.new.items sets.now) }
         ensures refused { IfErr result (λ e. IsRefusedOfSets (⟦<D as ProviderFunctions>⟧.functions self.old.provider) sets.now self.old e self.new) }
+        ensures refused_leaves { IfErr result (λ e. AreLeft (⟦<D as ProviderFunctions>⟧.functions self.old.provider)
+            (D.may_answer self.old.provider) D.SolvableId.Set.has sets.now self.old e self.new) }
         ensures later { IsLater D.SolvableId.Set.has self.old self.new }
         ensures asked { OnOk result (All (λ v. is_set_asked (⟦<D as ProviderFunctions>⟧.functions self.old.provider) self.new v ≡ true) sets.now) }
     {
@@ -185,11 +209,15 @@ impl<D: DependencyProvider + Drop> SolverCache<D> {
         ids: &mut Vec<ListId, D::Alloc>,
     ) -> Result<(), CacheError<D::Cancel>>
         requires { (D.universe self.old.provider).knows_set set ≡ true }
-        ensures sorted { OnOk result (IsSorted (⟦<D as ProviderFunctions>⟧.functions self.old.provider) D.SolvableId.Set.has self.old set self.new) }
+        ensures sorted { OnOk result (IsSorted (⟦<D as ProviderFunctions>⟧.functions self.old.provider)
+            (D.may_answer self.old.provider) D.SolvableId.Set.has self.old set self.new) }
         ensures noted { OnOk result ((id : ListKind × ℕ) × (ids.new.items ≡ ids.old.items ++ id ∷ [])
             × (list_at self.new id ≡ Some (sorted (D.universe self.old.provider) (D.answers self.old.provider) D.SolvableId.eq set))) }
         ensures refused { IfErr result (λ e. let p = ⟦<D as ProviderFunctions>⟧.functions self.old.provider in
             IsRefusedOf (is_set_asked p self.old set) (lacks_candidates p self.new (p.universe.set_name set)) self.old e self.new) }
+        ensures refused_leaves { OnErr result (let p = ⟦<D as ProviderFunctions>⟧.functions self.old.provider in
+            let may = D.may_answer self.old.provider in let has = D.SolvableId.Set.has in
+            IsUnsorted p may has self.old set self.new ⊎ IsSorted p may has self.old set self.new) }
         ensures later { IsLater D.SolvableId.Set.has self.old self.new }
         ensures asked { OnOk result (is_set_asked (⟦<D as ProviderFunctions>⟧.functions self.old.provider) self.new set ≡ true) }
     {

@@ -1,8 +1,8 @@
-use Rattle.std.proofs.Common.{◌≡◌, ◌∷◌, [], ◌++◌, ◌+◌, ◌∙◌, sym, ap, take}
-use Rattle.std.proofs.lemmas.List.{take_more, take_all}
+use Rattle.std.proofs.Common.{◌≡◌, ◌∷◌, [], ◌++◌, ◌+◌, ◌∙◌, true, sym, ap, subst, take, drop}
+use Rattle.std.proofs.lemmas.List.{take_more, take_all, take-append-drop}
 use Rattle.solver_cache.specs.Hints.{with_hints}
 use Rattle.solver_cache.proofs.CacheLemmas.{on_err}
-use Rattle.solver_cache.proofs.HintLemmas.{no_hints, one_hint, still_marked}
+use Rattle.solver_cache.proofs.HintLemmas.{no_hints, one_hint, still_marked, more_hints}
 use Rattle.solver_cache.proofs.hints.mark_all.Goals as goal
 
 pub loop-solvable-init : goal.loop-solvable-init
@@ -27,3 +27,14 @@ returns-in_err-mark-clause-err g c =
     let has = g.S.Set.IdSet.has in
     on_err _ c.from_residual.result (λ s h.
     c.in_err-mark.ensures.err s ∙ c.loop-solvable.invariant s ∙ still_marked g.S.PartialEq.eq g.S.Set.IdSet.is_too_large (has c.args.hinted.now) _ s h)
+
+pub returns-in_err-mark-clause-err_hints : goal.returns-in_err-mark-clause-err_hints
+returns-in_err-mark-clause-err_hints g c =
+    let same = g.S.PartialEq.eq in
+    let is_large = g.S.Set.IdSet.is_too_large in
+    let old = g.S.Set.IdSet.has c.args.hinted.now in
+    let ss = c.args.solvables.now in
+    let i = c.loop-solvable.solvable-index in
+    on_err _ c.from_residual.result (λ s h.
+    subst (λ l. with_hints same is_large old l s ≡ true) (take-append-drop i ss)
+    (more_hints same is_large old (take i ss) (drop i ss) s (sym (c.loop-solvable.invariant s) ∙ sym (c.in_err-mark.ensures.err s) ∙ h)))

@@ -1,8 +1,8 @@
 use Rattle.std.proofs.lemmas.Grind.{common_steps}
-use Rattle.std.proofs.Common.{◌∙◌, sym, refl, ap, length, arith}
+use Rattle.std.proofs.Common.{◌∙◌, sym, refl, ap, length, inr, arith}
 use Rattle.solver_cache.specs.Cache.{is_kept}
 use Rattle.solver_cache.specs.Hints.{hints_of}
-use Rattle.solver_cache.proofs.CacheLemmas.{right_asked, later_asked, later_marked, once_new, value_last, found_last, kept_last, handed_on, refused_unasked, refusal_wider}
+use Rattle.solver_cache.proofs.CacheLemmas.{on_err, right_asked, right_marked, later_asked, later_marked, once_new, value_last, found_last, kept_last, handed_on, refused_unasked, refusal_wider}
 use Rattle.solver_cache.proofs.IdLemmas.{used_up_by_many, second_fails}
 use Rattle.solver_cache.specs.declared.error.CacheError.TheVariants.{Store}
 use Rattle.solver_cache.proofs.HintLemmas.{still_marked}
@@ -10,18 +10,19 @@ use Rattle.solver_cache.proofs.cache.SolverCache.ask_for.Goals as goal
 
 pub invariant_of-self-2 : goal.invariant_of-self-2
 invariant_of-self-2 g c =
-    rw c.in_ok-insert.ensures.ok (right_asked _ _ c.self.invariant c.args.name c.in_ok-answer.answer c.mark_hints.new.hinted (record { candidates = c.in_ok-answer.ensures.candidates; favored = c.in_ok-answer.ensures.favored })
+    rw c.in_ok-insert.ensures.ok (right_asked _ _ c.self.invariant c.args.name c.in_ok-answer.answer c.mark_hints.new.hinted
+    (record { candidates = c.in_ok-answer.ensures.candidates; favored = c.in_ok-answer.ensures.favored; told = c.in_ok-answer.ensures.told })
     (second_fails _ _ c.in_ok-insert.ensures.fits))
 
 pub returns-clause-asked : goal.returns-clause-asked
 returns-clause-asked g c =
     once_new _ _ _ _ c.requires (rw (sym c.self.view_is, c.in_ok-insert.ensures.ok)
-    (c.in_ok-answer.answer, (record { candidates = c.in_ok-answer.ensures.candidates; favored = c.in_ok-answer.ensures.favored }), c.in_ok-mark_hints.ensures.ok, refl))
+    (c.in_ok-answer.answer, record { candidates = c.in_ok-answer.ensures.candidates; favored = c.in_ok-answer.ensures.favored; told = c.in_ok-answer.ensures.told }, c.in_ok-mark_hints.ensures.ok, refl))
 
 pub returns-clause-answer : goal.returns-clause-answer
 returns-clause-answer g c =
     rw (sym c.self.view_is, c.in_ok-insert.ensures.ok, c.in_ok-insert.ensures.place)
-    (c.in_ok-answer.answer, value_last c.self.inside.candidates c.args.name c.in_ok-answer.answer, (record { candidates = c.in_ok-answer.ensures.candidates; favored = c.in_ok-answer.ensures.favored }))
+    (c.in_ok-answer.answer, value_last c.self.inside.candidates c.args.name c.in_ok-answer.answer, record { candidates = c.in_ok-answer.ensures.candidates; favored = c.in_ok-answer.ensures.favored; told = c.in_ok-answer.ensures.told })
 
 pub returns-clause-own : goal.returns-clause-own
 returns-clause-own g c =
@@ -61,6 +62,26 @@ returns-in_err-insert-clause-later g c =
     (later_marked has _ c.mark_hints.new.hinted
     (λ s h. c.in_ok-mark_hints.ensures.ok s ∙ still_marked g.D.SolvableId.PartialEq.eq g.D.SolvableId.Set.IdSet.is_too_large (has c.self.inside.hinted) (hints_of c.in_ok-answer.answer) s h))
 
+-- what a refusal leaves
+
+pub returns-in_err-mark_hints-clause-refused_hints : goal.returns-in_err-mark_hints-clause-refused_hints
+returns-in_err-mark_hints-clause-refused_hints g c =
+    rw (sym c.self.view_is) (on_err _ c.from_residual-in_err-mark_hints.result (inr (
+      c.in_ok-answer.answer,
+      record { candidates = c.in_ok-answer.ensures.candidates; favored = c.in_ok-answer.ensures.favored; told = c.in_ok-answer.ensures.told },
+      c.in_err-mark_hints.ensures.err_hints,
+      refl,
+    )))
+
+pub returns-in_err-insert-clause-refused_hints : goal.returns-in_err-insert-clause-refused_hints
+returns-in_err-insert-clause-refused_hints g c =
+    rw (sym c.self.view_is, c.in_err-insert.ensures.err) (on_err _ c.from_residual-in_err-insert.result (inr (
+      c.in_ok-answer.answer,
+      record { candidates = c.in_ok-answer.ensures.candidates; favored = c.in_ok-answer.ensures.favored; told = c.in_ok-answer.ensures.told },
+      λ s h. sym (c.in_ok-mark_hints.ensures.ok s) ∙ h,
+      refl,
+    )))
+
 pub returns-in-Some-clause-later : goal.returns-in-Some-clause-later
 returns-in-Some-clause-later g c = grind (arith, common_steps)
 
@@ -74,4 +95,5 @@ pub insert-requires : goal.insert-requires
 insert-requires g c = grind (arith, common_steps)
 
 pub invariant_of-self-in_err-insert : goal.invariant_of-self-in_err-insert
-invariant_of-self-in_err-insert g c = grind (arith, common_steps)
+invariant_of-self-in_err-insert g c =
+    rw c.in_err-insert.ensures.err (right_marked _ _ c.self.invariant c.mark_hints.new.hinted)

@@ -1,7 +1,16 @@
-use Rattle.std.proofs.Common.{◌≡◌, ◌∙◌, ap}
+use Rattle.std.proofs.Common.{◌≡◌, ◌∙◌, ap, subst, inl, inr}
 use Rattle.providers.specs.Provider.{filtered}
-use Rattle.solver_cache.proofs.CacheLemmas.{same_answer}
+use Rattle.solver_cache.specs.Functions.{Provider, gathered}
+use Rattle.solver_cache.specs.Questions.{IsAsked}
+use Rattle.solver_cache.specs.Unanswered.{IsUnasked}
+use Rattle.solver_cache.proofs.CacheLemmas.{on_err, same_answer}
+use Rattle.solver_cache.proofs.cache.SolverCache.filtered.Given.{Over}
 use Rattle.solver_cache.proofs.cache.SolverCache.filtered.Goals as goal
+
+-- the provider's functions
+abbrev provided : (g : Over) → g.row.D.Denot → Provider g.row.D-NameId.Denot g.row.D-SolvableId.Denot
+provided g = gathered g.D.NameId.PartialEq.eq g.D.SolvableId.PartialEq.eq g.D.NameId.Slots.IdMap.is_too_large g.D.SolvableId.Slots.IdMap.is_too_large
+    g.D.SolvableId.Set.IdSet.is_too_large g.D.NameId.SolverId.are_many g.D.Interner.universe g.D.DependencyProvider.answers
 
 pub filter_candidates-requires-clause-known : goal.filter_candidates-requires-clause-known
 filter_candidates-requires-clause-known g c =
@@ -24,3 +33,21 @@ returns-clause-list g c =
     c.deref.ensures.value ∙ ap (λ a. a.candidates.items) same ∙ found.2.candidates ∙ ap (answers c.args.self.now.provider).candidates name in
     c.in_ok-filter_candidates.ensures.ok ∙ ap (λ q. filtered ((answers q).matches c.args.set) c.args.inverse c.deref.result.now) provider
     ∙ ap (filtered ((answers c.args.self.now.provider).matches c.args.set) c.args.inverse) list
+
+pub returns-in_err-id-clause-refused_leaves : goal.returns-in_err-id-clause-refused_leaves
+returns-in_err-id-clause-refused_leaves g c =
+    let old = c.args.self.now in
+    let p = provided g old.provider in
+    let name : c.version_set_name-name.result ≡ p.universe.set_name c.args.set =
+    c.version_set_name-name.ensures ∙ ap (λ v. (g.D.Interner.universe v.provider).set_name c.args.set) c.self.view_is in
+    on_err _ c.from_residual.result (inl (subst (λ n. IsUnasked p (g.D.DependencyProvider.may_answer old.provider) g.D.SolvableId.Set.IdSet.has old n
+    c.get_or_cache_candidates.new.self) name c.in_err-id.ensures.refused_hints))
+
+pub returns-in_err-filter_candidates-clause-refused_leaves : goal.returns-in_err-filter_candidates-clause-refused_leaves
+returns-in_err-filter_candidates-clause-refused_leaves g c =
+    let old = c.args.self.now in
+    let p = provided g old.provider in
+    let name : c.version_set_name-name.result ≡ p.universe.set_name c.args.set =
+    c.version_set_name-name.ensures ∙ ap (λ v. (g.D.Interner.universe v.provider).set_name c.args.set) c.self.view_is in
+    on_err _ c.from_residual-in_err-filter_candidates.result (inr (subst (λ n. IsAsked p (g.D.DependencyProvider.may_answer old.provider) g.D.SolvableId.Set.IdSet.has old n
+    c.get_or_cache_candidates.new.self) name c.in_ok-id.ensures.asked))

@@ -10,5 +10,5 @@ returns-in-Some-clause-answer g c =
     let p = gathered D.NameId.PartialEq.eq D.SolvableId.PartialEq.eq D.NameId.Slots.IdMap.is_too_large D.SolvableId.Slots.IdMap.is_too_large
     D.SolvableId.Set.IdSet.is_too_large D.NameId.SolverId.are_many D.Interner.universe D.DependencyProvider.answers c.self.inside.provider in
     rw (sym c.self.view_is) (kept_answer g.D.NameId.PartialEq.eq g.met.D.NameId.SameValue.same
-    (IsAnswer p) c.args.name c.in-Some.id c.self.inside.candidates
+    (IsAnswer p (D.DependencyProvider.may_answer c.self.inside.provider)) c.args.name c.in-Some.id c.self.inside.candidates
     c.self.invariant.answers (sym c.in-Some.ensures.found) c.in-Some.ensures.answer)

@@ -1,11 +1,11 @@
 use Rattle.std.proofs.lemmas.Grind.{common_steps}
-use Rattle.std.proofs.Common.{◌≡◌, ◌∙◌, true, false, ap, subst, sym, true≢false, arith}
+use Rattle.std.proofs.Common.{◌≡◌, ◌∙◌, true, false, ap, subst, sym, true≢false, inr, arith}
 use Rattle.providers.specs.Provider.{matching}
 use Rattle.solver_cache.specs.Cache.{is_kept, is_set_asked, same_set}
 use Rattle.solver_cache.specs.Functions.{Provider, gathered}
-use Rattle.solver_cache.specs.Questions.{IsLater}
+use Rattle.solver_cache.specs.Questions.{IsLater, IsAsked}
 use Rattle.solver_cache.specs.declared.error.CacheError.TheVariants.{Store}
-use Rattle.solver_cache.proofs.CacheLemmas.{found_matching, handed_on, more_matching, none_of, once_new, right_matched, value_last}
+use Rattle.solver_cache.proofs.CacheLemmas.{on_err, found_matching, handed_on, more_matching, none_of, once_new, right_matched, value_last}
 use Rattle.solver_cache.proofs.FilteringLemmas.{asked_matching, later_matching, memory_refused}
 use Rattle.solver_cache.proofs.cache.SolverCache.get_or_cache_matching_candidates.Given.{Over}
 use Rattle.solver_cache.proofs.cache.SolverCache.get_or_cache_matching_candidates.Goals as goal
@@ -39,7 +39,7 @@ insert-requires g c =
     let new : is_kept (same_set set) old.matching ≡ false = rw (sym c.self.view_is) (sym c.in-None.ensures.found) in
     let p = provided g old.provider in
     none_of _ (ap (λ v. is_kept (same_set set) v.matching) c.self-in-None.view_is
-    ∙ ap (is_kept (same_set set)) (asked_matching g.D.SolvableId.Set.IdSet.has p (p.universe.set_name set) old c.filtered.new.self c.in_ok-found-in-None.ensures.package) ∙ new)
+    ∙ ap (is_kept (same_set set)) (asked_matching g.D.SolvableId.Set.IdSet.has p (g.D.DependencyProvider.may_answer old.provider) (p.universe.set_name set) old c.filtered.new.self c.in_ok-found-in-None.ensures.package) ∙ new)
 
 pub returns-in_err-place-in-None-clause-kept : goal.returns-in_err-place-in-None-clause-kept
 returns-in_err-place-in-None-clause-kept g c = λ kept. absurd (true≢false (sym kept ∙ rw (sym c.self.view_is) (sym c.in-None.ensures.found)))
@@ -48,6 +48,14 @@ pub returns-in_err-place-in-None-clause-refused : goal.returns-in_err-place-in-N
 returns-in_err-place-in-None-clause-refused g c =
     handed_on _ c.from_residual-in_err-place-in-None.result (Store c.in_err-place-in-None.field-0.0) c.from_residual-in_err-place-in-None.ensures.1
     (memory_refused _ c.in_err-place-in-None.field-0.0 c.in_err-place-in-None.ensures.memory)
+
+pub returns-in_err-place-in-None-clause-refused_leaves : goal.returns-in_err-place-in-None-clause-refused_leaves
+returns-in_err-place-in-None-clause-refused_leaves g c =
+    let old = c.args.self.now in
+    let p = provided g old.provider in
+    rw c.in_err-place-in-None.ensures.err (on_err _ c.from_residual-in_err-place-in-None.result (inr (subst (λ v. IsAsked p
+    (g.D.DependencyProvider.may_answer old.provider) g.D.SolvableId.Set.IdSet.has old (p.universe.set_name c.args.set) v) (sym c.self-in-None.view_is)
+    c.in_ok-found-in-None.ensures.package)))
 
 pub returns-in_err-place-in-None-clause-later : goal.returns-in_err-place-in-None-clause-later
 returns-in_err-place-in-None-clause-later g c =

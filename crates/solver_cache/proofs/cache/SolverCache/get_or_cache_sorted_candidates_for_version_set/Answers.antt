@@ -1,13 +1,13 @@
 use Rattle.std.proofs.lemmas.Grind.{common_steps}
-use Rattle.std.proofs.Common.{◌≡◌, ◌∙◌, Some, true, false, ap, subst, sym, true≢false, arith}
+use Rattle.std.proofs.Common.{◌≡◌, ◌∙◌, Some, true, false, ap, subst, sym, true≢false, inl, inr, arith}
 use Rattle.std.specs.Map.{lookup}
 use Rattle.providers.specs.Provider.{sorted, favored_first}
 use Rattle.providers.specs.Requirement.{same_requirement}
 use Rattle.providers.specs.declared.requirement.Requirement.TheVariants.{Single}
 use Rattle.solver_cache.specs.Cache.{is_kept, is_set_asked}
 use Rattle.solver_cache.specs.Functions.{Provider, gathered}
-use Rattle.solver_cache.specs.Questions.{IsLater}
-use Rattle.solver_cache.proofs.CacheLemmas.{found_single, more_list, more_sorted, none_of, once_new, right_single, same_is, value_last}
+use Rattle.solver_cache.specs.Questions.{IsLater, IsMatched}
+use Rattle.solver_cache.proofs.CacheLemmas.{on_err, found_single, more_list, more_sorted, none_of, once_new, right_single, same_is, value_last}
 use Rattle.solver_cache.proofs.SortingLemmas.{later_sorted, matched_sorted, not_kept}
 use Rattle.solver_cache.proofs.cache.SolverCache.get_or_cache_sorted_candidates_for_version_set.Given.{Over}
 use Rattle.solver_cache.proofs.cache.SolverCache.get_or_cache_sorted_candidates_for_version_set.Goals as goal
@@ -47,6 +47,23 @@ pub returns-in_err-place-in-None-clause-kept : goal.returns-in_err-place-in-None
 returns-in_err-place-in-None-clause-kept g c = λ kept.
     absurd (true≢false (sym kept ∙ rw (sym c.self.view_is) (not_kept (Single c.args.set) c.self.inside.sorted c.in-None.ensures.found)))
 
+-- what a refusal leaves
+
+pub returns-in_err-id-in-None-clause-refused_leaves : goal.returns-in_err-id-in-None-clause-refused_leaves
+returns-in_err-id-in-None-clause-refused_leaves g c =
+    on_err _ c.from_residual.result (inl c.in_err-id-in-None.ensures.refused_leaves)
+
+pub returns-in_err-list-in-None-clause-refused_leaves : goal.returns-in_err-list-in-None-clause-refused_leaves
+returns-in_err-list-in-None-clause-refused_leaves g c =
+    on_err _ c.from_residual-in_err-list-in-None.result (inr c.in_ok-id-in-None.ensures.matched)
+
+pub returns-in_err-place-in-None-clause-refused_leaves : goal.returns-in_err-place-in-None-clause-refused_leaves
+returns-in_err-place-in-None-clause-refused_leaves g c =
+    let old = c.args.self.now in
+    rw c.in_err-place-in-None.ensures.err (on_err _ c.from_residual-in_err-place-in-None.result (inr (subst (λ v. IsMatched (provided g old.provider)
+    (g.D.DependencyProvider.may_answer old.provider) g.D.SolvableId.Set.IdSet.has old c.args.set v) (sym c.self-in-None.view_is)
+    c.in_ok-id-in-None.ensures.matched)))
+
 -- where the list is kept
 
 pub insert-requires : goal.insert-requires
@@ -55,7 +72,7 @@ insert-requires g c =
     let old = c.args.self.now in
     let new : is_kept (same_requirement r) old.sorted ≡ false = rw (sym c.self.view_is) (not_kept r c.self.inside.sorted c.in-None.ensures.found) in
     none_of _ (ap (λ t. is_kept t c.self-in-None.inside.sorted) (same_is r) ∙ ap (λ v. is_kept (same_requirement r) v.sorted) c.self-in-None.view_is
-    ∙ ap (is_kept (same_requirement r)) (matched_sorted g.D.SolvableId.Set.IdSet.has (provided g old.provider) c.args.set old c.get_or_cache_matching_candidates.new.self
+    ∙ ap (is_kept (same_requirement r)) (matched_sorted g.D.SolvableId.Set.IdSet.has (provided g old.provider) (g.D.DependencyProvider.may_answer old.provider) c.args.set old c.get_or_cache_matching_candidates.new.self
     c.in_ok-id-in-None.ensures.matched) ∙ new)
 
 in_order : (g : Over) (c : goal.In_ok-place-in-None g) → let q = c.args.self.now.provider in

@@ -5,7 +5,11 @@ use Rattle.std.specs.Prelude.{All}
 use Rattle.providers.specs.Provider.{sets_of}
 use Rattle.solver_cache.specs.Cache.{is_set_asked}
 use Rattle.solver_cache.specs.Functions.{gathered}
+use Rattle.typed_ids.specs.declared.error.StoreError.TheVariants.{OutOfMemory}
+use Rattle.solver_cache.specs.declared.error.CacheError.TheVariants.{Store}
+use Rattle.solver_cache.proofs.CacheLemmas.{handed_on}
 use Rattle.solver_cache.proofs.IdLemmas.{all_asked_fit}
+use Rattle.solver_cache.proofs.UnansweredLemmas.{none_sorted}
 use Rattle.solver_cache.proofs.cache.SolverCache.get_or_cache_sorted_lists.Goals as goal
 
 pub returns-clause-fit : goal.returns-clause-fit
@@ -23,6 +27,10 @@ returns-clause-fit g c =
     (all_asked_fit _ _ c.self-2.invariant g.met.D.NameId.SameValue.same (sets_of (D.Interner.universe inside) r)
     (subst (λ st. All (λ v. is_set_asked (provided inside) st v ≡ true) (sets_of (D.Interner.universe inside) r)) (sym c.self-2.view_is)
     (subst (λ q. All (λ v. is_set_asked (provided q) new v ≡ true) (sets_of (D.Interner.universe q) r)) (sym same) asked)))
+
+pub returns-in_err-sets-clause-refused_leaves : goal.returns-in_err-sets-clause-refused_leaves
+returns-in_err-sets-clause-refused_leaves g c =
+    handed_on _ c.from_residual.result (Store OutOfMemory) c.from_residual.ensures.1 (rw (sym c.self.view_is) (none_sorted _ _ _ _ _))
 
 pub returns-in_err-sets-clause-later : goal.returns-in_err-sets-clause-later
 returns-in_err-sets-clause-later g c = grind (arith, common_steps)

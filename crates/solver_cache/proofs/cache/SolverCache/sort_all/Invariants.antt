@@ -14,7 +14,7 @@ invariant-loop-set g l =
     D.SolvableId.Set.IdSet.is_too_large D.NameId.SolverId.are_many D.Interner.universe D.DependencyProvider.answers old.provider in
     let done = take l.set-index l.sets in
     record {
-      in_turn : AreSorted p has old done l.self;
+      in_turn : AreSorted p (D.DependencyProvider.may_answer old.provider) has old done l.self;
       listed : AreListed p l.self l.ids.items done;
       later : IsLater has old l.self;
       asked : All (λ v. is_set_asked p l.self v ≡ true) done;

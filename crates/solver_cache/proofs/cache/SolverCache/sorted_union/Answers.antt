@@ -7,8 +7,11 @@ use Rattle.providers.specs.declared.requirement.Requirement.TheVariants.{Union}
 use Rattle.solver_cache.specs.Cache.{is_kept, is_set_asked, sorted_of}
 use Rattle.solver_cache.specs.Functions.{Provider, gathered}
 use Rattle.solver_cache.specs.Questions.{IsLater}
-use Rattle.solver_cache.proofs.CacheLemmas.{found_sorted, more_list, more_sorted, none_of, once_new, right_sorted, same_is, union_still_new, value_last}
+use Rattle.solver_cache.specs.Unanswered.{AreUnsorted}
+use Rattle.solver_cache.specs.declared.error.CacheError.TheVariants.{Store}
+use Rattle.solver_cache.proofs.CacheLemmas.{found_sorted, handed_on, more_list, more_sorted, none_of, once_new, right_sorted, same_is, union_still_new, value_last}
 use Rattle.solver_cache.proofs.SortingLemmas.{later_sorted, not_kept}
+use Rattle.solver_cache.proofs.UnansweredLemmas.{all_sorted}
 use Rattle.solver_cache.proofs.cache.SolverCache.sorted_union.Given.{Over}
 use Rattle.solver_cache.proofs.cache.SolverCache.sorted_union.Goals as goal
 
@@ -43,6 +46,19 @@ pub returns-in_err-place-in-None-clause-kept : goal.returns-in_err-place-in-None
 returns-in_err-place-in-None-clause-kept g c = λ kept.
     absurd (true≢false (sym kept ∙ rw (sym c.self.view_is) (not_kept (Union c.args.union) c.self.inside.sorted c.in-None.ensures.found)))
 
+-- what a refusal leaves
+
+pub returns-in_err-place-in-None-clause-refused_leaves : goal.returns-in_err-place-in-None-clause-refused_leaves
+returns-in_err-place-in-None-clause-refused_leaves g c =
+    let old = c.args.self.now in
+    let p = provided g old.provider in
+    let may = g.D.DependencyProvider.may_answer old.provider in
+    let has = g.D.SolvableId.Set.IdSet.has in
+    let sets = p.universe.union_sets c.args.union in
+    handed_on _ c.from_residual-in_err-place-in-None.result (Store c.in_err-place-in-None.field-0.0) c.from_residual-in_err-place-in-None.ensures.1
+    (rw c.in_err-place-in-None.ensures.err (subst (λ v. AreUnsorted p may has old sets v) (sym c.self-in-None.view_is)
+    (all_sorted p may has sets old c.joined.new.self c.in_ok-list-in-None.ensures.sorted)))
+
 -- where the list is kept
 
 pub insert-requires : goal.insert-requires
@@ -54,7 +70,7 @@ insert-requires g c =
     let p = provided g old.provider in
     let new : is_kept (same_requirement r) old.sorted ≡ false = rw (sym c.self.view_is) (not_kept r c.self.inside.sorted c.in-None.ensures.found) in
     let still : is_kept (same_requirement r) mid.sorted ≡ false =
-    union_still_new g.D.SolvableId.Set.IdSet.has p u (p.universe.union_sets u) old mid c.in_ok-list-in-None.ensures.sorted new in
+    union_still_new g.D.SolvableId.Set.IdSet.has p (g.D.DependencyProvider.may_answer old.provider) u (p.universe.union_sets u) old mid c.in_ok-list-in-None.ensures.sorted new in
     none_of _ (ap (λ t. is_kept t c.self-in-None.inside.sorted) (same_is r) ∙ ap (λ v. is_kept (same_requirement r) v.sorted) c.self-in-None.view_is ∙ still)
 
 pub invariant_of-self-in-None : goal.invariant_of-self-in-None
@@ -85,6 +101,11 @@ pub returns-in_ok-place-in-None-clause-list : goal.returns-in_ok-place-in-None-c
 returns-in_ok-place-in-None-clause-list g c =
     rw (c.in_ok-place-in-None.ensures.ok, c.in_ok-place-in-None.ensures.place)
     (value_last c.self-in-None.inside.sorted (Union c.args.union) c.in_ok-list-in-None.list.items ∙ ap Some c.in_ok-list-in-None.ensures.list)
+
+pub returns-in_ok-place-in-None-clause-asked : goal.returns-in_ok-place-in-None-clause-asked
+returns-in_ok-place-in-None-clause-asked g c =
+    let p = provided g c.args.self.now.provider in
+    subst (λ st. All (λ v. is_set_asked p st v ≡ true) (p.universe.union_sets c.args.union)) (sym c.self-in-None.view_is) c.in_ok-list-in-None.ensures.asked
 
 pub returns-in_ok-place-in-None-clause-later : goal.returns-in_ok-place-in-None-clause-later
 returns-in_ok-place-in-None-clause-later g c =
