@@ -1,5 +1,5 @@
 -- What the calls on a store's queue walk and owe. N are the names, S the solvables.
-use Rattle.std.proofs.Common.{◌≡◌, ℕ, ◌+◌, ◌≤◌, ◌⊎◌, inl, Bool, false, List, length, drop, Result, Ok, Err, refl, sym, subst, ap, ◌∙◌, arith}
+use Rattle.std.proofs.Common.{◌≡◌, ℕ, ◌+◌, ◌≤◌, ◌<◌, ◌⊎◌, inl, Bool, false, List, Option, length, drop, get_or, Result, Ok, Err, refl, sym, subst, ap, ◌∙◌, arith}
 use Rattle.std.specs.Prelude.{All, OnOk, OnErr, unwrap_or, [], ◌++◌}
 use Rattle.std.specs.Map.{lookup}
 use Rattle.std.specs.declared.vec.Vec.{Vec}
@@ -44,7 +44,7 @@ walks_no_more a = record { walks = λ r. refl; owed = λ r. refl; told = told_no
 
 -- another trail, with the same floor
 pub asked_still : {N Q : Type 0} (q : Queue N Q) (t t' : Trail) → t'.floor ≡ t.floor → asked_of q t' ≡ asked_of q t
-asked_still q t t' same = ap (λ n. record { walks = walks q; owed = owed q; trail = q.trail; must_start_anew = q.must_start_anew; floor = n }) same
+asked_still q t t' same = ap (λ n. record { records = q.inside.requirements; trail = q.trail; must_start_anew = q.must_start_anew; floor = n }) same
 
 module _ {N Q : Type 0} (queue q : Queue N Q) (trail : Trail) where
   told_still : SameSync queue q → ToldNothing (asked_of queue trail) (asked_of q trail)
@@ -55,13 +55,13 @@ module _ {N Q : Type 0} (queue q : Queue N Q) (trail : Trail) where
   walks_still same walked owes = record { walks = walked; owed = owes; told = told_still same }
 
   -- a clause was to be registered
-  pub owes_registered : {T E : Type 0} {has : Q → N → Bool} (result : Result T E) (clause : RequiresClause) (names : List N) (value : _) →
+  pub owes_registered : {T E : Type 0} (has : Q → N → Bool) (result : Result T E) (clause : RequiresClause) (names : List N) (value : Option Bool) →
       OnOk result (IsRegistered has clause names value queue q) → OnErr result (IsUnchanged queue q has) → SameValues (walks queue) (walks q) →
       ((r : Requirement) → (owed q r ≡ owed queue r) ⊎ ((r ≡ clause.requirement) × (owed queue r ≡ 0) × (owed q r ≡ 1))) →
       OwesFirst clause.requirement (asked_of queue trail) (asked_of q trail)
-  owes_registered (Ok x) clause names value registered same walked owes =
+  owes_registered has (Ok x) clause names value registered same walked owes =
       record { walks = walked; owed = owes; told = record { trail = registered.trail; must_start_anew = registered.must_start_anew; floor = refl } }
-  owes_registered (Err e) clause names value registered same walked owes = record { walks = walked; owed = owes; told = told_still same.synced }
+  owes_registered has (Err e) clause names value registered same walked owes = record { walks = walked; owed = owes; told = told_still same.synced }
 
 -- ---- a question
 
@@ -86,26 +86,35 @@ module _ {D N S A H Q : Type 0} {has : Q → N → Bool} {st : Store N S} {loade
       HasNoneOf (changed_from floor ds queue) (rows_in any r) → owed q r ≡ owed queue r) →
       AsksOnce st asked (asked_of q t)
   asks_told floor ds q t at is_trail walked owes still = record {
-    walks = λ r. (let e = walked r in omega arith);
+    once = λ r. (let e = walked r in omega (arith, e));
     within = λ r. walks_within q.inside.requirements r;
-    owed = owes;
-    owed_still = λ accepted. subst (λ cs. All (λ c. HasNoneOf (changed_since st asked) (rows_of st c.requirement) → owed q c.requirement ≡ owed queue c.requirement) cs) (sym requires)
-        (λ k d within none. still accepted refs is.may_ask.stands _ (can_walk is requires kept k d within)
-        (subst (HasNoneOf (changed_from floor ds queue)) (rows_seen _) (subst (λ vs. HasNoneOf vs (rows_of st _)) (sym changed) none)));
+    one_more = owes;
+    owed_still = λ accepted. subst StillOwed (sym requires) (λ k d within none. this accepted k d within none);
   }
     where
+      StillOwed : List RequiresClause → Type 0
+      StillOwed cs = All (λ c. HasNoneOf (changed_since st asked) (rows_of st c.requirement) → owed q c.requirement ≡ owed queue c.requirement) cs
+
       changed : changed_from floor ds queue ≡ changed_since st asked
       changed =
           ap (λ n. variables_of (drop n queue.trail) ++ variables_of (drop n ds)) at
           ∙ ap (λ es. variables_of (drop trail.floor queue.trail) ++ variables_of (drop trail.floor es)) (is_trail ∙ sym (ap decisions_of entries))
 
+      this : queue.must_start_anew ≡ false → (k : ℕ) (d : RequiresClause) → k < length queue.clauses →
+          HasNoneOf (changed_since st asked) (rows_of st (get_or queue.clauses k d).requirement) →
+          owed q (get_or queue.clauses k d).requirement ≡ owed queue (get_or queue.clauses k d).requirement
+      this accepted k d within none =
+          let r = (get_or queue.clauses k d).requirement in
+          still accepted refs is.may_ask.stands r (can_walk is requires kept k d within)
+          (subst (λ vs. HasNoneOf vs (rows_in refs r)) (sym changed) (subst (HasNoneOf (changed_since st asked)) (rows_seen r) none))
+
   -- then it was asked
   pub asks_walked : (q n : Queue N Q) (t t' : Trail) (log log' : List Requirement) → AsksOnce st asked (asked_of q t) → SameValues (walks queue) (walks q) →
       WalksOnce q.inside.requirements n.inside.requirements log log' → SameValues (owed q) (owed n) → AsksOnce st asked (asked_of n t')
   asks_walked q n t t' log log' asks walked once owes = record {
-    walks = λ r. (let e = walked r in let more = once.walks r in let one = once.once r in omega arith);
+    once = λ r. (let e = walked r in let more = once.walks r in let one = once.once r in omega (arith, e, more, one));
     within = λ r. walks_within n.inside.requirements r;
-    owed = λ r. (let e = owes r in let less = asks.owed r in omega arith);
+    one_more = λ r. (let e = owes r in let less = asks.one_more r in omega (arith, e, less));
     owed_still = λ accepted k d within none. owes _ ∙ asks.owed_still accepted k d within none;
   }
 

@@ -5,12 +5,12 @@ use Rattle.providers.specs.declared.requirement.Requirement.{Requirement}
 use Rattle.decisions.specs.Trail.{Trail}
 use Rattle.decisions.specs.declared.decision.Decision.{Decision}
 use Rattle.resolvo_queue.specs.Queue.{Queue}
-use Rattle.resolvo_queue.specs.WalkCounts.{walks, owed}
+use Rattle.resolvo_queue.specs.Tracked.{Tracked}
+use Rattle.resolvo_queue.specs.WalkCounts.{owed_in, walks_in}
 
 pub record Asked : Type 0 where
-  -- how often the rows of each requirement were walked, and once more where nothing is known of them
-  pub walks : Requirement → ℕ
-  pub owed : Requirement → ℕ
+  -- for each requirement of a registered clause how often its rows were walked, and what is known of them
+  pub records : List Tracked
   -- the trail that the queue was last told of, and whether that was refused
   pub trail : List Decision
   pub must_start_anew : Bool
@@ -18,10 +18,12 @@ pub record Asked : Type 0 where
   pub floor : ℕ
 
 abbrev pub asked_of : {N H : Type 0} → Queue N H → Trail → Asked
-asked_of q t = record {
-  walks = walks q;
-  owed = owed q;
-  trail = q.trail;
-  must_start_anew = q.must_start_anew;
-  floor = t.floor;
-}
+asked_of q t = record { records = q.inside.requirements; trail = q.trail; must_start_anew = q.must_start_anew; floor = t.floor }
+
+-- how often the rows of a requirement were walked
+abbrev pub walks : Asked → Requirement → ℕ
+walks asked r = walks_in asked.records r
+
+-- and once more where nothing is known of them
+abbrev pub owed : Asked → Requirement → ℕ
+owed asked r = owed_in asked.records r

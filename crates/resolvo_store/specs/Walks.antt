@@ -5,7 +5,7 @@ use Rattle.providers.specs.declared.requirement.Requirement.{Requirement}
 use Rattle.decisions.specs.Trail.{Entry}
 use Rattle.resolvo_queue.specs.Routing.{variables_of}
 use Rattle.resolvo_queue.specs.WalkCounts.{HasNoneOf}
-use Rattle.resolvo_store.specs.Asked.{Asked}
+use Rattle.resolvo_store.specs.Asked.{Asked, owed, walks}
 use Rattle.resolvo_store.specs.Command.{Command, Requires, Bump, Standard, UndoLast, UndoUntil, Decide, Reply, Decided, NoDecision, Falsified}
 use Rattle.resolvo_store.specs.Store.{Store, rows_of}
 use Rattle.resolvo_store.specs.Synced.{decisions_of}
@@ -18,14 +18,14 @@ pub record ToldNothing (old new : Asked) : Type 0 where
 
 -- nothing was walked, and nothing more is owed
 pub record WalksNothing (old new : Asked) : Type 0 where
-  pub walks : SameValues old.walks new.walks
-  pub owed : SameValues old.owed new.owed
+  pub walks : SameValues (walks old) (walks new)
+  pub owed : SameValues (owed old) (owed new)
   pub told : ToldNothing old new
 
 -- nor was where a requires clause came, but that its requirement owes its first walk, if it owed none
 pub record OwesFirst (own : Requirement) (old new : Asked) : Type 0 where
-  pub walks : SameValues old.walks new.walks
-  pub owed : (r : Requirement) → (new.owed r ≡ old.owed r) ⊎ ((r ≡ own) × (old.owed r ≡ 0) × (new.owed r ≡ 1))
+  pub walks : SameValues (walks old) (walks new)
+  pub owed : (r : Requirement) → (owed new r ≡ owed old r) ⊎ ((r ≡ own) × (owed old r ≡ 0) × (owed new r ≡ 1))
   pub told : ToldNothing old new
 
 -- the trail became shorter, or stayed
@@ -46,11 +46,11 @@ module _ {N S : Type 0} (st : Store N S) where
   -- a question walks no requirement twice, and none that owes no walk; it makes each owe at most one more, and none whose rows
   -- have no variable that changed, unless the queue's last telling was refused
   pub record AsksOnce (old new : Asked) : Type 0 where
-    pub walks : (r : Requirement) → new.walks r ≤ old.walks r + 1
-    pub within : (r : Requirement) → new.walks r ≤ new.owed r
-    pub owed : (r : Requirement) → new.owed r ≤ old.owed r + 1
+    pub once : (r : Requirement) → walks new r ≤ walks old r + 1
+    pub within : (r : Requirement) → walks new r ≤ owed new r
+    pub one_more : (r : Requirement) → owed new r ≤ owed old r + 1
     pub owed_still : old.must_start_anew ≡ false →
-        All (λ c. HasNoneOf (changed_since old) (rows_of st c.requirement) → new.owed c.requirement ≡ old.owed c.requirement) st.requires
+        All (λ c. HasNoneOf (changed_since old) (rows_of st c.requirement) → owed new c.requirement ≡ owed old c.requirement) st.requires
 
   -- what a command does to it, where it leaves these entries
   abbrev pub Asks : Command N S → Reply → List Entry → Asked → Asked → Type 0

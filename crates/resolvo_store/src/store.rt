@@ -126,6 +126,7 @@ impl<D: DependencyProvider + Drop> ClauseStore<D> {
     ghost use Rattle.resolvo_store.specs.Saturating.{RefusalLeaves};
     ghost use Rattle.resolvo_store.specs.Step.{Step, Run};
     ghost use Rattle.resolvo_store.specs.Sound.{IsSound};
+    ghost use Rattle.resolvo_store.specs.Asked.{owed};
     ghost use Rattle.resolvo_store.specs.Walks.{Asks};
 
     /// A store that has the root's variable, and nothing else.
@@ -134,7 +135,7 @@ impl<D: DependencyProvider + Drop> ClauseStore<D> {
         ensures ok { IfOk result (λ s. ⟦<D as AbstractStore>⟧.store s
             ≡ new_store (⟦<D as AbstractStore>⟧.store s).provider) }
         ensures sound { IfOk result (λ s. IsSound (⟦<D as AbstractStore>⟧.store s)) }
-        ensures owed { IfOk result (λ s. (r : ARequirement) → s.asked.owed r ≡ 0) }
+        ensures owed { IfOk result (λ s. (r : ARequirement) → owed s.asked r ≡ 0) }
         ensures err { IfErr result (λ e. e ≡ OutOfMemory) }
     {
         let variables = VariableMap::new(alloc)?;

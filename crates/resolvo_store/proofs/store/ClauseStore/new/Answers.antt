@@ -1,5 +1,6 @@
 use Rattle.std.proofs.Common.{rules, refl, subst, sym, []}
 use Rattle.watch_map.specs.ClauseList.{Clauses}
+use Rattle.resolvo_store.specs.Asked.{asked_of}
 use Rattle.resolvo_store.specs.Lists.{lists_kept, disjunctions_kept, IsConsistent}
 use Rattle.resolvo_store.specs.Sound.{IsSound}
 use Rattle.resolvo_store.specs.Store.{Kept, Provider, store_of, gathered}
@@ -29,6 +30,7 @@ invariant_of-result g c =
       place = c.new-7.result.place;
       trackers = c.new-8.result;
       scores = c.new-9.result.map;
+      asked = asked_of c.new-6.result c.new-7.result;
     } in
     subst (λ (cs : Clauses g.row.D-NameId.Denot). IsConsistent g.D.NameId.Set.IdSet.has (with_list (store_of (given g) g.D.NameId.Scores.IdMap.value_at kept) cs) c.new-4.result c.new-5.result c.new-3.result c.new-6.result c.new-7.result) (sym c.in_ok-clauses.ensures.ok)
     (rw (c.in_ok-variables.ensures.ok, c.new-3.ensures.provider, c.new-4.ensures, c.new-5.ensures, c.new-6.ensures.new.clauses, c.new-7.ensures, c.new-8.ensures, c.new-9.ensures)
@@ -56,6 +58,7 @@ returns-clause-sound g c =
       place = c.new-7.result.place;
       trackers = c.new-8.result;
       scores = c.new-9.result.map;
+      asked = asked_of c.new-6.result c.new-7.result;
     } in
     subst (λ (cs : Clauses g.row.D-NameId.Denot). IsSound (with_list (store_of (given g) g.D.NameId.Scores.IdMap.value_at kept) cs)) (sym c.in_ok-clauses.ensures.ok)
     (rw (c.in_ok-variables.ensures.ok, c.new-3.ensures.provider, c.new-4.ensures, c.new-5.ensures, c.new-6.ensures.new.clauses, c.new-7.ensures, c.new-8.ensures, c.new-9.ensures) (IsSound-new_store _))

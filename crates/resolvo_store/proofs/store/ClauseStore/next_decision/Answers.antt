@@ -9,6 +9,7 @@ use Rattle.resolvo_queue.specs.Queue.{HasTrail, StandsOn, values_of}
 use Rattle.resolvo_queue.specs.References.{CanWalk, references}
 use Rattle.resolvo_queue.specs.Scan.{scan, is_eligible, first_falsified}
 use Rattle.resolvo_queue.proofs.CallerLaws.{values_of_entries}
+use Rattle.resolvo_store.specs.Asked.{asked_of}
 use Rattle.resolvo_store.specs.Lists.{IsConsistent}
 use Rattle.resolvo_store.specs.Outcome.{falsified_clause, is_eligible_clause, offers, picked}
 use Rattle.resolvo_store.specs.Store.{Kept, Provider, store_of, gathered, kept_literals}
@@ -126,14 +127,14 @@ returns-clause-provider g c = grind (arith, common_steps)
 
 pub returns-in_err-sync-clause-asked : goal.returns-in_err-sync-clause-asked
 returns-in_err-sync-clause-asked g c =
-    subst (λ (k : Kept g.row.D.Denot g.row.D-NameId.Denot g.row.D-SolvableId.Denot g.row.D-NameId-Scores.Denot). AsksOnce (store_of (given g) g.D.NameId.Scores.IdMap.value_at k) k.asked _) c.self.view_is
+    subst (λ (k : Kept g.row.D.Denot g.row.D-NameId.Denot g.row.D-SolvableId.Denot g.row.D-NameId-Scores.Denot). AsksOnce (store_of (given g) g.D.NameId.Scores.IdMap.value_at k) k.asked (asked_of c.sync.new.self c.take_sync_floor-floor.new.self)) c.self.view_is
     (asks_told c.self.invariant refl refl refl c.take_sync_floor-floor.result c.assignments.result.now c.sync.new.self c.take_sync_floor-floor.new.self
     c.take_sync_floor-floor.ensures.floor (c.assignments.ensures.decisions ∙ ap (λ t. decisions_of t.entries) c.take_sync_floor-floor.ensures.trail)
     c.sync.ensures.walks c.sync.ensures.owed c.sync.ensures.owed_still)
 
 pub returns-clause-asked : goal.returns-clause-asked
 returns-clause-asked g c =
-    subst (λ (k : Kept g.row.D.Denot g.row.D-NameId.Denot g.row.D-SolvableId.Denot g.row.D-NameId-Scores.Denot). AsksOnce (store_of (given g) g.D.NameId.Scores.IdMap.value_at k) k.asked _) c.self.view_is
+    subst (λ (k : Kept g.row.D.Denot g.row.D-NameId.Denot g.row.D-SolvableId.Denot g.row.D-NameId-Scores.Denot). AsksOnce (store_of (given g) g.D.NameId.Scores.IdMap.value_at k) k.asked (asked_of c.next_decision.new.self c.take_sync_floor-floor.new.self)) c.self.view_is
     (asks_walked c.self.invariant refl refl refl c.sync.new.self c.next_decision.new.self c.take_sync_floor-floor.new.self c.take_sync_floor-floor.new.self
     c.new-reader.result.walked c.next_decision.new.reader.walked
     (asks_told c.self.invariant refl refl refl c.take_sync_floor-floor.result c.assignments.result.now c.sync.new.self c.take_sync_floor-floor.new.self
@@ -143,6 +144,6 @@ returns-clause-asked g c =
 
 pub returns-clause-told : goal.returns-clause-told
 returns-clause-told g c =
-    subst (λ (k : Kept g.row.D.Denot g.row.D-NameId.Denot g.row.D-SolvableId.Denot g.row.D-NameId-Scores.Denot). OnOk c.next_decision.result (IsTold (store_of (given g) g.D.NameId.Scores.IdMap.value_at k).trail _)) c.self.view_is
+    subst (λ (k : Kept g.row.D.Denot g.row.D-NameId.Denot g.row.D-SolvableId.Denot g.row.D-NameId-Scores.Denot). OnOk c.next_decision.result (IsTold (store_of (given g) g.D.NameId.Scores.IdMap.value_at k).trail (asked_of c.next_decision.new.self c.take_sync_floor-floor.new.self))) c.self.view_is
     (on_any c.next_decision.result (told_of c.self.invariant refl refl refl c.assignments.result.now c.sync.new.self c.next_decision.new.self c.take_sync_floor-floor.new.self
     c.take_sync_floor-floor.ensures.trail c.assignments.ensures.decisions c.in_ok-sync.ensures.ok c.next_decision.ensures.unchanged.synced))

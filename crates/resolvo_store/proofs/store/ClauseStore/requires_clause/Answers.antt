@@ -12,6 +12,7 @@ use Rattle.watch_map.specs.Watching.{is_literal_in}
 use Rattle.resolvo_queue.specs.Queue.{IsRegistered, StandsOn}
 use Rattle.resolvo_queue.specs.declared.requires_clause.RequiresClause.{RequiresClause}
 use Rattle.resolvo_queue.specs.References.{references}
+use Rattle.resolvo_store.specs.Asked.{asked_of}
 use Rattle.resolvo_store.specs.Command.{Requires, Refused}
 use Rattle.resolvo_store.specs.Step.{Step}
 use Rattle.resolvo_store.specs.Walks.{OwesFirst}
@@ -167,6 +168,7 @@ pub returns-clause-asked : goal.returns-clause-asked
 returns-clause-asked g c =
     let inside = c.self.inside in
     let one : RequiresClause = record { parent = c.args.parent; requirement = c.args.requirement; condition = c.args.disjunction; clause_id = length inside.clauses.clauses } in
-    subst (λ (k : Kept g.row.D.Denot g.row.D-NameId.Denot g.row.D-SolvableId.Denot g.row.D-NameId-Scores.Denot). OwesFirst c.args.requirement k.asked _) c.self.view_is
-    (owes_registered inside.queue c.register.new.queue inside.trail {has = g.D.NameId.Set.IdSet.has} c.register.result one _ _
+    subst (λ (k : Kept g.row.D.Denot g.row.D-NameId.Denot g.row.D-SolvableId.Denot g.row.D-NameId-Scores.Denot). OwesFirst c.args.requirement k.asked (asked_of c.register.new.queue inside.trail)) c.self.view_is
+    (owes_registered inside.queue c.register.new.queue inside.trail g.D.NameId.Set.IdSet.has c.register.result one
+    (map (g.D.Interner.universe c.provider-provider.result.now).set_name (sets_of (g.D.Interner.universe c.provider-provider.result.now) c.args.requirement)) c.assigned_value.result
     c.register.ensures.registered c.register.ensures.unregistered c.register.ensures.walks c.register.ensures.owed)

@@ -1,6 +1,7 @@
 use Rattle.std.proofs.Common.{refl, subst}
 use Rattle.resolvo_queue.specs.References.{references}
 use Rattle.resolvo_store.proofs.InvariantLemmas.{after_question}
+use Rattle.resolvo_store.specs.Asked.{asked_of}
 use Rattle.resolvo_store.specs.Store.{Kept}
 use Rattle.resolvo_store.specs.Walks.{WalksNothing}
 use Rattle.resolvo_store.proofs.WalkLemmas.{walks_still}
@@ -15,5 +16,5 @@ invariant_of-self g c =
 pub returns-clause-asked : goal.returns-clause-asked
 returns-clause-asked g c =
     let call = c.set_standard_activity_params in
-    subst (λ (k : Kept g.row.D.Denot g.row.D-NameId.Denot g.row.D-SolvableId.Denot g.row.D-NameId-Scores.Denot). WalksNothing k.asked _) c.self.view_is
+    subst (λ (k : Kept g.row.D.Denot g.row.D-NameId.Denot g.row.D-SolvableId.Denot g.row.D-NameId-Scores.Denot). WalksNothing k.asked (asked_of call.new.self c.self.inside.trail)) c.self.view_is
     (walks_still c.self.inside.queue call.new.self c.self.inside.trail call.ensures.unchanged.synced call.ensures.walks call.ensures.owed)
