@@ -1,6 +1,7 @@
 -- The list of clauses over its map and its records: what its calls make of them.
-use Rattle.std.proofs.Common.{◌≡◌, ℕ, Bool, true, false, not, List, [], ◌∷◌, ◌++◌, length, map, set, Option, Some, None, refl, sym, ap, subst, ◌∙◌, arith, nat_eq, ◌+◌, ◌<◌, take, drop, get_or, length-append, Result, Ok, Err}
-use Rattle.std.specs.Prelude.{◌&&◌, if◌then◌else◌, IsTrue, OnOk, OnErr}
+use Rattle.std.proofs.Common.{◌≡◌, ℕ, Bool, true, false, not, List, [], ◌∷◌, ◌++◌, length, map, set, Option, Some, None, refl, sym, ap, subst, ◌∙◌, arith, nat_eq, ◌+◌, ◌<◌, ◌≤◌, take, drop, get_or, length-append, Result, Ok, Err}
+use Rattle.std.specs.Prelude.{◌&&◌, ◌-◌, ◌^◌, nat_lt, if◌then◌else◌, IsTrue, OnOk, OnErr}
+use Rattle.typed_ids.specs.Refusals.{are_ids_out}
 use Rattle.std.proofs.lemmas.List.Sums.{fold_more}
 use Rattle.std.proofs.lemmas.List.Elements.{All-get_or, All-from_get_or}
 use Rattle.std.proofs.Math.Seq.{take-append_seam}
@@ -17,10 +18,10 @@ use Rattle.clauses.specs.declared.clause.Clause.TheVariants.{ForbidMultipleInsta
 use Rattle.watch_map.specs.declared.watched_literals.WatchedLiterals.{WatchedLiterals}
 use Rattle.watch_map.specs.Watching.{is_literal_in, AreTwoOrNone, IsExact, started}
 use Rattle.watch_map.specs.WatchLists.{WatchLists, Watches, literals_in, watched_by, watchers, HasRoom, AreWatched, Position, clause_of, literal_of, index_of}
-use Rattle.watch_map.specs.WatchCalls.{SameLists, UsesRoom, HaveRooms, Starts, StandsIn, Moves}
+use Rattle.watch_map.specs.WatchCalls.{SameLists, KeepsRoom, UsesRoom, HaveRooms, Starts, StandsIn, Moves}
 use Rattle.watch_map.proofs.WatchingLaws.{exact_same}
 use Rattle.watch_map.proofs.CallerLaws.{same_records_belong, new_clauses_join, records_skip, room_is_for_fewer}
-use Rattle.watch_map.specs.ClauseList.{Clauses, IsClauseList, is_full, literals_watched, two_or_none, rewatched, with_clause, with_rewatched, can_rewatch, Kept, helper_literal, bit_watches, with_forbidden_one, with_forbidden, HasRoomFor, HasRoom as HasRoomOf}
+use Rattle.watch_map.specs.ClauseList.{Clauses, IsClauseList, is_full, literals_watched, two_or_none, rewatched, with_clause, with_rewatched, can_rewatch, Kept, helper_literal, bit_watches, with_forbidden_one, with_forbidden, HasRoomFor, HasRoom as HasRoomOf, KeepsRoom as KeepsRoomOf}
 use Rattle.watch_map.specs.Walks.{StartsAtEnd, IsRewatched, may_rewatch}
 use Rattle.watch_map.proofs.ListCallerLaws.{watched_at, set_watches, watching_within, rewatched_is}
 
@@ -149,6 +150,16 @@ module _ {N : Type 0} where
     exact = exact_here new ws' watched;
   }
 
+  -- the same clauses and records, and lists that show the same
+  pub still_kept : (cs cs' : List (Clause N)) (learnt : List (List Lit)) (ws ws' : Watches) (old new : WatchLists)
+      → IsClauseList (contents_of cs ws learnt old) → AreWatched old ws → cs' ≡ cs → ws' ≡ ws → SameLists old new
+      → IsClauseList (contents_of cs' ws' learnt new) × AreWatched new ws'
+  still_kept cs cs' learnt ws ws' old new is watched same_clauses same_records same =
+      let now = (same ws watched).0 in
+      subst (λ (c : List (Clause N)). IsClauseList (contents_of c ws' learnt new) × AreWatched new ws') (sym same_clauses)
+      (subst (λ (r : Watches). IsClauseList (contents_of cs r learnt new) × AreWatched new r) (sym same_records)
+      (still_list cs learnt ws ws old new is refl now, now))
+
   -- a clause more
   pub more_list : (cs : List (Clause N)) (learnt : List (List Lit)) (ws : Watches) (old new : WatchLists) (clause : Clause N) (made : Option WatchedLiterals)
       → IsClauseList (contents_of cs ws learnt old) → is_full (contents_of cs ws learnt old) ≡ false → AreWatched new (ws ++ made ∷ [])
@@ -220,6 +231,25 @@ two_of_bit bit = by (same_literal (Neg bit.0) (helper_literal bit)) refl
     by false e = e
 
 module _ {N : Type 0} where
+  -- the same clauses, with the same room or more
+  pub room_stays : (old new : Kept N) → new.clauses ≡ old.clauses → old.clause_room ≤ new.clause_room → old.record_room ≤ new.record_room
+      → KeepsRoom old.lists new.lists → KeepsRoomOf old new
+  room_stays old new same more_clauses more_records keeps = record {
+    one = λ watched room. record {
+      id = ap (λ cs. are_ids_out (2 ^ 32 - 1) (length cs)) same ∙ room.id;
+      clause = (let there = room.clause in let as_many = ap length same in omega (arith, there, as_many, more_clauses));
+      watch = (let there = room.watch in let as_many = ap length same in omega (arith, there, as_many, more_records));
+      lists = λ l among. keeps l 1 (room.lists l among);
+    };
+    many = λ count bits room. record {
+      ids = ap (λ cs. nat_lt (2 ^ 32 - 1) (length cs + count)) same ∙ room.ids;
+      clauses = (let there = room.clauses in let as_many = ap length same in omega (arith, there, as_many, more_clauses));
+      records = (let there = room.records in let as_many = ap length same in omega (arith, there, as_many, more_records));
+      lists = All-from_get_or (λ (bit : ℕ × ℕ × Bool). HaveRooms new.lists count (two_or_none (bit_watches bit))) bits (0, 0, false) (λ i within l among.
+          keeps l count (All-get_or (λ (bit : ℕ × ℕ × Bool). HaveRooms old.lists count (two_or_none (bit_watches bit))) bits i (0, 0, false) within room.lists l among));
+    };
+  }
+
   pub room_after : (count : ℕ) (bits : List (ℕ × ℕ × Bool)) (old new : Kept N) (literals : List Lit) → length new.clauses ≡ length old.clauses + 1
       → new.clause_room ≡ old.clause_room → new.record_room ≡ old.record_room → UsesRoom literals old.lists new.lists
       → HasRoomFor (count + 1) bits old → HasRoomFor count bits new

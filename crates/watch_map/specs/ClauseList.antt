@@ -134,3 +134,8 @@ module _ {N : Type 0} where
     pub clause : length kept.clauses < kept.clause_room
     pub watch : length kept.clauses < kept.record_room
     pub lists : HaveRoom kept.lists watched
+
+  -- no room is lost
+  pub record KeepsRoom (old new : Kept N) : Type 0 where
+    pub one : (watched : List Lit) → HasRoom old watched → HasRoom new watched
+    pub many : (count : ℕ) (bits : List (ℕ × ℕ × Bool)) → HasRoomFor count bits old → HasRoomFor count bits new

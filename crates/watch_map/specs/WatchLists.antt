@@ -33,6 +33,10 @@ abbrev pub literals_in : Option WatchedLiterals → List Lit
 literals_in None = []
 literals_in (Some watched) = watched.watched_literals
 
+-- a record that is linked to no clause
+abbrev pub IsUnlinked : WatchedLiterals → Type 0
+IsUnlinked watched = watched.next_watches ≡ None ∷ None ∷ []
+
 -- the literals that a clause watches
 abbrev pub watched_by : Watches → ℕ → List Lit
 watched_by watches clause = literals_in (record_of watches clause)

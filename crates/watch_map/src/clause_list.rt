@@ -12,7 +12,7 @@ ghost use Rattle.typed_ids.specs.declared.error.StoreError.TheVariants.{IdSpace,
 ghost use Rattle.typed_ids.specs.Refusals.{IsGrowthRefusal};
 ghost use Rattle.watch_map.specs.Watching.{AreTwoOrNone};
 ghost use Rattle.watch_map.specs.ClauseList.{literals_watched, two_or_none, no_clauses, IsClauseList, is_full, is_learnt_full};
-ghost use Rattle.watch_map.specs.ClauseList.{contents, with_clause, with_learnt, with_rewatched, can_rewatch, HasRoom};
+ghost use Rattle.watch_map.specs.ClauseList.{contents, with_clause, with_learnt, with_rewatched, can_rewatch, HasRoom, KeepsRoom};
 ghost use Rattle.watch_map.specs.ClauseList.{are_ids_out_for, with_forbidden, HasRoomFor, watched_by};
 ghost use Rattle.decisions.specs.Trail.{val};
 ghost use Rattle.clauses.specs.Stored.{kept_in};
@@ -128,10 +128,12 @@ impl<N: Copy, A: Allocator + Copy> ClauseList<N, A> {
         &self.learnt
     }
 
-    /// Makes room for one more clause that watches this: then [`ClauseList::push_reserved`] may add it.
+    /// Makes room for one more clause that watches this: then [`ClauseList::push_reserved`] may add it. Room that is
+    /// there is kept.
     pub fn make_room(&mut self, watches: &Option<WatchedLiterals>) -> Result<(), StoreError>
         ensures same { contents self.new ≡ contents self.old }
         ensures room { OnOk result (HasRoom self.new (two_or_none (literals_watched watches.now))) }
+        ensures keeps { KeepsRoom self.old self.new }
         ensures refused { IfErr result (IsGrowthRefusal (is_full (contents self.old))) }
         ensures ids_out { IsTrue (is_full (contents self.old)) → result ≡ Err IdSpace }
     {
@@ -165,13 +167,14 @@ impl<N: Copy, A: Allocator + Copy> ClauseList<N, A> {
 
     /// Makes room for clauses of the kind that forbids multiple instances, each of a variable, a helper, and whether the
     /// helper is positive: then [`ClauseList::push_forbidden_reserved`] may add them. There is none where they were more
-    /// clauses than there may be.
+    /// clauses than there may be. Room that is there is kept.
     pub fn make_room_forbidden(
         &mut self,
         clauses: &[(VariableId, VariableId, bool)],
     ) -> Result<(), StoreError>
         ensures same { contents self.new ≡ contents self.old }
         ensures room { OnOk result (HasRoomFor (length clauses.now) clauses.now self.new) }
+        ensures keeps { KeepsRoom self.old self.new }
         ensures refused { IfErr result (IsGrowthRefusal (are_ids_out_for (length clauses.now) (contents self.old))) }
         ensures ids_out { IsTrue (are_ids_out_for (length clauses.now) (contents self.old)) → result ≡ Err IdSpace }
     {

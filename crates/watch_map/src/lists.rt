@@ -96,6 +96,7 @@ impl<A: Allocator + Copy> WatchMap<A> {
         ensures literals { clause.new.watched_literals ≡ clause.old.watched_literals }
         ensures ok { OnOk result (Starts self.old clause.new clause_id self.new) }
         ensures err { OnErr result (SameLists self.old self.new) }
+        ensures err_record { OnErr result (clause.new ≡ clause.old) }
         ensures ok_rooms { OnOk result (UsesRoom clause.old.watched_literals self.old self.new) }
         ensures err_rooms { OnErr result (KeepsRoom self.old self.new) }
         ensures succeeds { HaveRoom self.old clause.old.watched_literals → IsOk result }

@@ -75,6 +75,7 @@ pub(crate) fn make_rooms<A: Allocator + Copy>(
     clauses: &[(VariableId, VariableId, bool)],
 ) -> Result<(), StoreError>
     ensures lists { SameLists map.old map.new }
+    ensures rooms { KeepsRoom map.old map.new }
     ensures room { OnOk result (All (λ bit. HaveRooms map.new (length clauses.now) (two_or_none (bit_watches bit))) clauses.now) }
     ensures memory { IfErr result (λ e. e ≡ OutOfMemory) }
 {

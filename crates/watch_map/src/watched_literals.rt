@@ -1,12 +1,13 @@
 //! The two literals that a clause watches.
-ghost use Rattle.std.specs.Prelude.{◌≡◌, ◌<◌, ◌&&◌, not, [], ◌∷◌, map, length, None, option_map};
+ghost use Rattle.std.specs.Prelude.{◌≡◌, ◌<◌, ◌&&◌, not, [], ◌∷◌, map, length, None, IfSome, option_map};
 ghost use Rattle.decisions.specs.Decisions.{values_in};
-ghost use Rattle.decisions.specs.Literals.{Neg, Values, known_true, known_false, is_false_literal};
+ghost use Rattle.decisions.specs.Literals.{Pos, Neg, Values, known_true, known_false, is_false_literal};
 ghost use Rattle.decisions.specs.Trail.{val};
 ghost use Rattle.clauses.specs.Clauses.{Kept, condition_literals, asked_literals, same_literal, watch_pair, watch_beside, watch_ends};
 ghost use Rattle.clauses.specs.Clauses.{first_not_false, first_watches, is_met_by_parent, is_conflict, next_unwatched};
 ghost use Rattle.clauses.specs.Stored.{kept_in};
 ghost use Rattle.clauses.specs.Walks.{literals_in};
+ghost use Rattle.watch_map.specs.WatchLists.{IsUnlinked};
 ghost use Rattle.clauses.specs.declared.clause.Clause.TheVariants.{InstallRoot, Requires, ForbidMultipleInstances, Constrains, ConstrainsExcluded, ConstrainsParent, Lock, Learnt, Excluded, AnyOf};
 
 use clauses::{Clause, Disjunction, LiteralWalk, negative, positive};
@@ -14,7 +15,9 @@ use decisions::{DecisionMap, DecisionTracker, Literal};
 use id_storage::Arena;
 use providers::{Requirement, RequirementMap};
 use std::alloc::Allocator;
-use typed_ids::{ClauseId, DisjunctionId, LearntClauseId, StringId, VariableId, VersionSetId};
+use typed_ids::{
+    ClauseId, DisjunctionId, LearntClauseId, SameClone, StringId, VariableId, VersionSetId,
+};
 
 /// The two literals that a clause watches: while neither is false, nothing follows from the clause.
 ///
@@ -31,7 +34,8 @@ pub struct WatchedLiterals {
 impl WatchedLiterals {
     /// What a clause watches that watches these two, and stands in no list yet.
     pub fn new(first: Literal, second: Literal) -> Self
-        ensures { result.watched_literals ≡ first ∷ second ∷ [] }
+        ensures literals { result.watched_literals ≡ first ∷ second ∷ [] }
+        ensures unlinked { IsUnlinked result }
     {
         WatchedLiterals {
             watched_literals: [first, second],
@@ -57,10 +61,12 @@ impl WatchedLiterals {
         literals: &[Literal],
         tracker: &DecisionTracker<A>,
     ) -> (Option<Self>, bool, Clause<N>)
+        requires { disjunction ≡ None → literals.now ≡ [] }
         ensures clause { result.2 ≡ Requires parent disjunction requirement }
         ensures watches { option_map (λ w. w.watched_literals) result.0
             ≡ watch_beside (Neg parent) (first_not_false (val tracker.now.entries) (asked_literals literals.now (candidates.now ∷ []))) }
         ensures conflict { result.1 ≡ is_met_by_parent (val tracker.now.entries) parent (asked_literals literals.now (candidates.now ∷ [])) }
+        ensures unlinked { IfSome result.0 IsUnlinked }
     {
         let others = LiteralWalk {
             first: None,
@@ -81,12 +87,14 @@ impl WatchedLiterals {
         literals: &[Literal],
         tracker: &DecisionTracker<A>,
     ) -> (Option<Self>, bool, Clause<N>)
+        requires { disjunction ≡ None → literals.now ≡ [] }
         ensures clause { result.2 ≡ Requires parent disjunction requirement }
         ensures watches { option_map (λ w. w.watched_literals) result.0
             ≡ watch_beside (Neg parent) (first_not_false (val tracker.now.entries) (asked_literals literals.now (map (λ list. list.items) lists.now))) }
         ensures conflict { result.1 ≡ is_met_by_parent (val tracker.now.entries) parent (asked_literals literals.now (map (λ list. list.items) lists.now)) }
         ensures kept { (k : Kept) → condition_literals k disjunction ≡ literals.now → k.lists requirement ≡ map (λ list. list.items) lists.now →
             (option_map (λ w. w.watched_literals) result.0 ≡ first_watches k (val tracker.now.entries) result.2) × (result.1 ≡ is_conflict k (val tracker.now.entries) result.2) }
+        ensures unlinked { IfSome result.0 IsUnlinked }
     {
         let others = LiteralWalk {
             first: None,
@@ -106,8 +114,10 @@ impl WatchedLiterals {
         tracker: &DecisionTracker<A>,
     ) -> (Option<Self>, bool, Clause<N>)
         ensures clause { result.2 ≡ Constrains parent forbidden set }
+        ensures pair { option_map (λ w. w.watched_literals) result.0 ≡ watch_pair (Neg parent) (Neg forbidden) }
         ensures watches { (k : Kept) → option_map (λ w. w.watched_literals) result.0 ≡ first_watches k (val tracker.now.entries) result.2 }
         ensures conflict { (k : Kept) → result.1 ≡ is_conflict k (val tracker.now.entries) result.2 }
+        ensures unlinked { IfSome result.0 IsUnlinked }
     {
         let conflict = is_conflict(tracker, parent, forbidden);
         let watches = Self::pair(negative(parent), negative(forbidden));
@@ -126,8 +136,10 @@ impl WatchedLiterals {
         tracker: &DecisionTracker<A>,
     ) -> (Option<Self>, bool, Clause<N>)
         ensures clause { result.2 ≡ ConstrainsParent parent aux set }
+        ensures pair { option_map (λ w. w.watched_literals) result.0 ≡ watch_pair (Neg parent) (Neg aux) }
         ensures watches { (k : Kept) → option_map (λ w. w.watched_literals) result.0 ≡ first_watches k (val tracker.now.entries) result.2 }
         ensures conflict { (k : Kept) → result.1 ≡ is_conflict k (val tracker.now.entries) result.2 }
+        ensures unlinked { IfSome result.0 IsUnlinked }
     {
         let conflict = is_conflict(tracker, parent, aux);
         let watches = Self::pair(negative(parent), negative(aux));
@@ -145,7 +157,9 @@ impl WatchedLiterals {
         set: VersionSetId,
     ) -> (Option<Self>, Clause<N>)
         ensures clause { result.1 ≡ ConstrainsExcluded candidate aux set }
+        ensures pair { option_map (λ w. w.watched_literals) result.0 ≡ watch_pair (Neg candidate) (Pos aux) }
         ensures watches { (k : Kept) (now : Values) → option_map (λ w. w.watched_literals) result.0 ≡ first_watches k now result.1 }
+        ensures unlinked { IfSome result.0 IsUnlinked }
     {
         let watches = Self::pair(negative(candidate), positive(aux));
         (watches, Clause::ConstrainsExcluded(candidate, aux, set))
@@ -154,7 +168,9 @@ impl WatchedLiterals {
     /// The clause that the other solvable isn't part of the solution, since one of its package is locked.
     pub fn lock<N>(locked: VariableId, other: VariableId) -> (Option<Self>, Clause<N>)
         ensures clause { result.1 ≡ Lock locked other }
+        ensures pair { option_map (λ w. w.watched_literals) result.0 ≡ watch_pair (Neg 0) (Neg other) }
         ensures watches { (k : Kept) (now : Values) → option_map (λ w. w.watched_literals) result.0 ≡ first_watches k now result.1 }
+        ensures unlinked { IfSome result.0 IsUnlinked }
     {
         let watches = Self::pair(negative(VariableId::root()), negative(other));
         (watches, Clause::Lock(locked, other))
@@ -167,7 +183,9 @@ impl WatchedLiterals {
         name: N,
     ) -> (Option<Self>, Clause<N>)
         ensures clause { result.1 ≡ ForbidMultipleInstances candidate other name }
+        ensures pair { option_map (λ w. w.watched_literals) result.0 ≡ watch_pair (Neg candidate) other }
         ensures watches { (k : Kept) (now : Values) → option_map (λ w. w.watched_literals) result.0 ≡ first_watches k now result.1 }
+        ensures unlinked { IfSome result.0 IsUnlinked }
     {
         let watches = Self::pair(negative(candidate), other);
         (
@@ -181,6 +199,7 @@ impl WatchedLiterals {
         requires { 0 < length literals.now }
         ensures clause { result.1 ≡ Learnt id }
         ensures watches { option_map (λ w. w.watched_literals) result.0 ≡ watch_ends literals.now }
+        ensures unlinked { IfSome result.0 IsUnlinked }
     {
         let watches = match literals {
             [first, .., last] => Self::pair(*first, *last),
@@ -200,7 +219,9 @@ impl WatchedLiterals {
     /// The clause that what stands for all solvables of a package is true where one of them is part of the solution.
     pub fn any_of<N>(selected: VariableId, other: VariableId) -> (Option<Self>, Clause<N>)
         ensures clause { result.1 ≡ AnyOf selected other }
+        ensures pair { option_map (λ w. w.watched_literals) result.0 ≡ watch_pair (Pos selected) (Neg other) }
         ensures watches { (k : Kept) (now : Values) → option_map (λ w. w.watched_literals) result.0 ≡ first_watches k now result.1 }
+        ensures unlinked { IfSome result.0 IsUnlinked }
     {
         let watches = Self::pair(positive(selected), negative(other));
         (watches, Clause::AnyOf(selected, other))
@@ -218,6 +239,7 @@ impl WatchedLiterals {
         ensures watches { option_map (λ w. w.watched_literals) result.0
             ≡ watch_beside (Neg parent) (first_not_false (val tracker.now.entries) (literals_in others.now)) }
         ensures conflict { result.1 ≡ is_met_by_parent (val tracker.now.entries) parent (literals_in others.now) }
+        ensures unlinked { IfSome result.0 IsUnlinked }
     {
         let map = tracker.map();
         let first = others.find(|_| true);
@@ -257,7 +279,8 @@ impl WatchedLiterals {
 
     /// A literal beside another, if there is one.
     fn beside(literal: Literal, other: Option<Literal>) -> Option<Self>
-        ensures { option_map (λ w. w.watched_literals) result ≡ watch_beside literal other }
+        ensures literals { option_map (λ w. w.watched_literals) result ≡ watch_beside literal other }
+        ensures unlinked { IfSome result IsUnlinked }
     {
         match other {
             Some(other) => Self::pair(literal, other),
@@ -267,13 +290,20 @@ impl WatchedLiterals {
 
     /// Two literals as watches, if they are different ones.
     fn pair(first: Literal, second: Literal) -> Option<Self>
-        ensures { option_map (λ w. w.watched_literals) result ≡ watch_pair first second }
+        ensures literals { option_map (λ w. w.watched_literals) result ≡ watch_pair first second }
+        ensures unlinked { IfSome result IsUnlinked }
     {
         if first == second {
             return None;
         }
         Some(WatchedLiterals::new(first, second))
     }
+}
+
+impl SameClone for WatchedLiterals {
+    ghost use Rattle.std.proofs.Common.{rules};
+
+    ghost clone_is_same = { λ a b h. Prim.search rules };
 }
 
 fn is_false<A: Allocator + Copy>(map: &DecisionMap<A>, literal: Literal) -> bool

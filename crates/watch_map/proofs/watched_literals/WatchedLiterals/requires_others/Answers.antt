@@ -19,7 +19,7 @@ returns-clause-watches g c =
     let open_now : c.find-other.result ≡ find (λ l. not (is_false_literal now l)) ls = other ∙ ap (λ v. find (λ l. not (is_false_literal v l)) ls) c.map-map.ensures.values in
     let chosen : c.or.result ≡ first_not_false now ls = c.or.ensures ∙ (ap (λ o. option_or o c.find-first.result) open_now
     ∙ (ap (option_or (find (λ l. not (is_false_literal now l)) ls)) first ∙ sym (first_or now ls))) in
-    c.beside-watches.ensures ∙ (ap (λ n. watch_beside n c.or.result) c.negative.ensures ∙ ap (watch_beside (Neg c.args.parent)) chosen)
+    c.beside-watches.ensures.literals ∙ (ap (λ n. watch_beside n c.or.result) c.negative.ensures ∙ ap (watch_beside (Neg c.args.parent)) chosen)
 
 pub returns-clause-conflict : goal.returns-clause-conflict
 returns-clause-conflict g c =
