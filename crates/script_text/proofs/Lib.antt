@@ -1,3 +1,4 @@
+pub mod Calls
 pub mod FirstLines
 pub mod Lanes
 pub mod Prefixes
