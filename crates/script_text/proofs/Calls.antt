@@ -1,9 +1,9 @@
 -- Calls of a device, one after the other.
-use Rattle.std.proofs.Common.{◌≡◌, ℕ, suc, ◌+◌, ◌-◌, ◌<◌, ◌≤◌, Result, Ok, Err, List, ◌++◌, take, drop, length, arith, sym, ap, subst, inl, inr, ◌∙◌, add-one, append_assoc, take-append-drop}
+use Rattle.std.proofs.Common.{◌≡◌, ℕ, zero, suc, ◌+◌, ◌-◌, ◌<◌, ◌≤◌, Result, Ok, Err, List, ◌++◌, take, drop, length, arith, sym, ap, subst, inl, inr, ◌∙◌, add-one, append_assoc, take-append-drop}
 use Rattle.std.proofs.lemmas.List.{take_rest}
 use Rattle.script_text.specs.declared.fault.ScriptFault.{ScriptFault}
 use Rattle.script_text.specs.declared.fault.ScriptFault.TheVariants.{Unreadable, Device, Memory}
-use Rattle.script_text.specs.Devices.{Calls, ReadingEnds}
+use Rattle.script_text.specs.Devices.{Calls, ReadingEnds, GoesWell, GivesUp}
 use Rattle.script_text.specs.Reading.{ReadOnce}
 
 module _ {S : Type 0} (goes : S → S → Type 0) where
@@ -23,3 +23,19 @@ pub moves_front : (all done rest : List ℕ) (n : ℕ) → all ≡ done ++ rest 
 moves_front all done rest n e =
     e ∙ ap (λ l. done ++ l) (sym (take-append-drop n rest)) ∙ sym (append_assoc done (take n rest) (drop n rest))
     ∙ ap (λ l. (done ++ take n rest) ++ l) (sym (take_rest rest n))
+
+module _ {S : Type 0} (goes fails : S → S → Type 0) where
+  -- more calls after some
+  calls_on : (s m t : S) (n k : ℕ) → Calls goes n s m → Calls goes k m t → (all : ℕ) × (k ≤ all) × Calls goes all s t
+  calls_on s m t n zero h on = (n, omega arith, subst (Calls goes n s) on h)
+  calls_on s m t n (suc k) h on =
+      let before = calls_on s m on.0 n k h on.1 in (suc before.0, omega (arith, before.1), (on.0, before.2, on.2))
+
+  pub GoesWell-trans : (s m t : S) → GoesWell goes fails s m → GoesWell goes fails m t → GoesWell goes fails s t
+  GoesWell-trans s m t h on = let all = calls_on s m t h.0 on.0 h.1 on.1 in (all.0, all.2)
+
+  -- calls that are given up after some that went well
+  pub GivesUp-after : (s m t : S) → GoesWell goes fails s m → GivesUp goes fails m t → GivesUp goes fails s t
+  GivesUp-after s m t h (inl on) = inl (on.0, GoesWell-trans s m on.0 h on.1, on.2)
+  GivesUp-after s m t h (inr on) =
+      let all = calls_on s m t h.0 on.0 h.1 on.2 in inr (all.0, omega (arith, on.1, all.1), all.2)

@@ -8,6 +8,10 @@ Writes None waiting new waiting' text = ⊤
 Writes (Some held) waiting None waiting' text = ⊥
 Writes (Some held) waiting (Some held') waiting' text = held' ++ waiting' ≡ (held ++ waiting) ++ text
 
+-- what waited and a text behind it: the writer took a beginning, and what is left waits now
+abbrev pub HandsOn : Option (List ℕ) → List ℕ → Option (List ℕ) → List ℕ → List ℕ → Type 0
+HandsOn held waiting held' waiting' text = (front : List ℕ) × Appends held held' front × (front ++ waiting' ≡ waiting ++ text)
+
 -- the writer took a beginning of what waited
-abbrev pub WritesBeginning : Option (List ℕ) → List ℕ → Option (List ℕ) → Type 0
-WritesBeginning held waiting held' = (front back : List ℕ) × (waiting ≡ front ++ back) × Appends held held' front
+abbrev pub TakesSome : Option (List ℕ) → List ℕ → Option (List ℕ) → Type 0
+TakesSome held waiting held' = (front back : List ℕ) × Appends held held' front × (front ++ back ≡ waiting)

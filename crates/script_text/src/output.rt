@@ -3,7 +3,7 @@ ghost use Rattle.std.specs.Prelude.{◌≡◌, ◌≤◌, [], take, length, IfOk
 ghost use Rattle.std.specs.Io.KnownBytes.{Appends, Keeps};
 ghost use Rattle.script_text.specs.declared.fault.ScriptFault.TheVariants.{Device};
 ghost use Rattle.script_text.specs.Devices.{WritingEnds};
-ghost use Rattle.script_text.specs.Output.{Writes, WritesBeginning};
+ghost use Rattle.script_text.specs.Output.{HandsOn, TakesSome, Writes};
 
 use crate::device::Sink;
 use crate::fault::ScriptFault;
@@ -15,8 +15,9 @@ const PIECE: usize = 65536;
 /// Writes what waits, once that is much.
 pub fn write_much<W: Sink>(waiting: &mut Vec<u8>, writer: &mut W) -> Result<(), ScriptFault>
     ensures ok { OnOk result (Writes (W.contents writer.old) waiting.old.items (W.contents writer.new) waiting.new.items []) }
+    ensures handed { OnOk result (HandsOn (W.contents writer.old) waiting.old.items (W.contents writer.new) waiting.new.items []) }
     ensures err { IfErr result (λ e. e ≡ Device) }
-    ensures failed { OnErr result (WritesBeginning (W.contents writer.old) waiting.old.items (W.contents writer.new)) }
+    ensures failed { OnErr result (TakesSome (W.contents writer.old) waiting.old.items (W.contents writer.new)) }
     ensures ends { WritingEnds W.writes W.fails writer.old result writer.new }
 {
     if waiting.len() < PIECE {
@@ -28,9 +29,10 @@ pub fn write_much<W: Sink>(waiting: &mut Vec<u8>, writer: &mut W) -> Result<(), 
 /// Writes what waits.
 fn write_waiting<W: Sink>(waiting: &mut Vec<u8>, writer: &mut W) -> Result<(), ScriptFault>
     ensures ok { OnOk result (Writes (W.contents writer.old) waiting.old.items (W.contents writer.new) waiting.new.items []) }
+    ensures handed { OnOk result (HandsOn (W.contents writer.old) waiting.old.items (W.contents writer.new) waiting.new.items []) }
     ensures empty { OnOk result (waiting.new.items ≡ []) }
     ensures err { IfErr result (λ e. e ≡ Device) }
-    ensures failed { OnErr result (WritesBeginning (W.contents writer.old) waiting.old.items (W.contents writer.new)) }
+    ensures failed { OnErr result (TakesSome (W.contents writer.old) waiting.old.items (W.contents writer.new)) }
     ensures ends { WritingEnds W.writes W.fails writer.old result writer.new }
 {
     write_bytes(waiting, writer)?;
@@ -41,9 +43,10 @@ fn write_waiting<W: Sink>(waiting: &mut Vec<u8>, writer: &mut W) -> Result<(), S
 /// Writes all that waits, and flushes the writer.
 pub fn write_rest<W: Sink>(waiting: &mut Vec<u8>, writer: &mut W) -> Result<(), ScriptFault>
     ensures ok { OnOk result (Writes (W.contents writer.old) waiting.old.items (W.contents writer.new) waiting.new.items []) }
+    ensures handed { OnOk result (HandsOn (W.contents writer.old) waiting.old.items (W.contents writer.new) waiting.new.items []) }
     ensures empty { OnOk result (waiting.new.items ≡ []) }
     ensures err { IfErr result (λ e. e ≡ Device) }
-    ensures failed { OnErr result (WritesBeginning (W.contents writer.old) waiting.old.items (W.contents writer.new)) }
+    ensures failed { OnErr result (TakesSome (W.contents writer.old) waiting.old.items (W.contents writer.new)) }
     ensures ends { WritingEnds W.writes W.fails writer.old result writer.new }
 {
     write_waiting(waiting, writer)?;
@@ -57,7 +60,7 @@ pub fn write_rest<W: Sink>(waiting: &mut Vec<u8>, writer: &mut W) -> Result<(), 
 fn write_bytes<W: Sink>(bytes: &[u8], writer: &mut W) -> Result<(), ScriptFault>
     ensures ok { OnOk result (Appends (W.contents writer.old) (W.contents writer.new) bytes.now) }
     ensures err { IfErr result (λ e. e ≡ Device) }
-    ensures failed { OnErr result (WritesBeginning (W.contents writer.old) bytes.now (W.contents writer.new)) }
+    ensures failed { OnErr result (TakesSome (W.contents writer.old) bytes.now (W.contents writer.new)) }
     ensures ends { WritingEnds W.writes W.fails writer.old result writer.new }
 {
     let mut rest = bytes;
