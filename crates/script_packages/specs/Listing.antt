@@ -65,6 +65,10 @@ module _ (l : Listing) where
   abbrev pub has_span : ℕ → Bool
   has_span name = is_some (lookup (same_id name) l.spans)
 
+  -- whether a package line listed the name of this text
+  abbrev pub is_listed : List ℕ → Bool
+  is_listed name = nat_lt (name_number name) (length l.pool.names) && has_span (name_number name)
+
   abbrev pub is_made_of_listed : Condition → Bool
   is_made_of_listed (Binary operator left right) =
       nat_lt left (length l.pool.conditions) && nat_lt right (length l.pool.conditions)

@@ -17,7 +17,10 @@ use package_pool::{Pool, VersionSet};
 use providers::Condition;
 use script_text::{LineFault, next_word};
 use std::alloc::Global;
-use typed_ids::{NameId, SolvableId, VersionSetId};
+use typed_ids::{DenseIndex, NameId, SolvableId, VersionSetId};
+
+/// A pool has no more names than this.
+const MOST_NAMES: usize = 1 << 32;
 
 /// The solvables of a package: those from `first` to `last`.
 #[derive(Clone, Copy, Debug, PartialEq, Eq)]
@@ -58,7 +61,7 @@ impl Packages {
     ghost use Rattle.script_packages.specs.Listing.{listing_of, nothing_listed, named, name_number, has_span, with_pool};
     ghost use Rattle.script_packages.specs.Listing.{with_version, with_span_from, with_set, with_versions, listed_versions};
     ghost use Rattle.script_packages.specs.Listing.{listed_sets, with_some_union, is_made_of_listed, with_listed_condition};
-    ghost use Rattle.script_packages.specs.Listing.{are_sets};
+    ghost use Rattle.script_packages.specs.Listing.{are_sets, is_listed};
 
     /// No packages.
     pub(crate) fn new(alloc: Global) -> Packages
@@ -89,7 +92,7 @@ impl Packages {
     }
 
     /// Adds what a line says. Where memory is refused, the words that are left are read all the same, so that a line that
-    /// isn't in the format is found; only whether its package is listed already isn't known if its name finds no room.
+    /// isn't in the format is found; so is a second line of a package whose name finds no room.
     pub(crate) fn add(&mut self, line: &CatalogueLine<'_>) -> Result<(), LineFault>
         ensures ok { OnOk result (listed (listing_of self.old) (plain_said line.now) ≡ Some (listing_of self.new)) }
         ensures unreadable { IfErr result (λ e. e ≡ Unreadable → listed (listing_of self.old) (plain_said line.now) ≡ None) }
@@ -116,7 +119,8 @@ impl Packages {
             ≡ Some (listing_of self.new)) }
         ensures unreadable { let l = listing_of self.old in IfErr result (λ e. e ≡ Unreadable →
             with_versions (named l name.now) (name_number l name.now) (words versions.now) ≡ None) }
-        ensures memory { IfErr result (λ e. e ≡ Memory → are_versions (words versions.now) ≡ true) }
+        ensures memory { IfErr result (λ e. e ≡ Memory →
+            (are_versions (words versions.now) ≡ true) × (is_listed (listing_of self.old) name.now ≡ false)) }
     {
         match self.list_package(name, versions) {
             Err(LineFault::Memory) if !are_versions(versions) => Err(LineFault::Unreadable),
@@ -131,9 +135,41 @@ impl Packages {
             ≡ Some (listing_of self.new)) }
         ensures unreadable { let l = listing_of self.old in IfErr result (λ e. e ≡ Unreadable →
             with_versions (named l name.now) (name_number l name.now) (words versions.now) ≡ None) }
+        ensures memory { IfErr result (λ e. e ≡ Memory → is_listed (listing_of self.old) name.now ≡ false) }
     {
-        let name = self.name(name)?;
-        self.add_versions(name, versions)
+        match self.name(name) {
+            Ok(name) => self.add_versions(name, versions),
+            Err(_) => Err(self.unnamed(name)),
+        }
+    }
+
+    /// The fault of a package line whose name finds no room.
+    fn unnamed(&self, name: &str) -> LineFault
+        ensures unreadable { result ≡ Unreadable → is_listed (listing_of self.now) name.now ≡ true }
+        ensures memory { result ≡ Memory → is_listed (listing_of self.now) name.now ≡ false }
+    {
+        if self.is_listed(name) {
+            LineFault::Unreadable
+        } else {
+            LineFault::Memory
+        }
+    }
+
+    /// Whether a package line listed the name. It takes no memory, but a step for each name.
+    fn is_listed(&self, name: &str) -> bool
+        ensures { result ≡ is_listed (listing_of self.now) name.now }
+    {
+        self.pool.tell_sound();
+        for index in 0..MOST_NAMES {
+            let id = NameId::from_index(index);
+            if !self.pool.knows_name(id) {
+                return false;
+            }
+            if name == self.pool.resolve_package_name(id).as_str() {
+                return self.has_span(id);
+            }
+        }
+        false
     }
 
     /// Gives a name its versions, each of which is a solvable. A name is listed once.
@@ -309,6 +345,7 @@ impl Packages {
         ensures ok { OnOk result (listing_of self.new ≡ named (listing_of self.old) name.now) }
         ensures known { IfOk result (λ n. n < length self.new.pool.names) }
         ensures err { IfErr result (λ e. e ≡ Memory) }
+        ensures kept { OnErr result (listing_of self.new ≡ listing_of self.old) }
     {
         let text = String::from_str(self.alloc, name)?;
         self.pool

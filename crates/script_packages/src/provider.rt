@@ -1,7 +1,8 @@
 //! The provider of a script's packages.
-ghost use Rattle.std.specs.Prelude.{◌≡◌, ◌+◌, ◌-◌, length, slice_get, option_and_then, IfOk, OnOk, OnErr, IfErr};
+ghost use Rattle.std.specs.Prelude.{◌≡◌, ◌+◌, ◌-◌, [], IfSome, length, slice_get, option_and_then, IfOk, OnOk, OnErr, IfErr};
 ghost use Rattle.typed_ids.specs.declared.error.StoreError.TheVariants.{OutOfMemory};
-ghost use Rattle.providers.specs.Provider.{filtered};
+ghost use Rattle.providers.specs.Provider.{candidates_of, favored_of, filtered};
+ghost use Rattle.providers.specs.declared.candidates.HintDependenciesAvailable.TheVariants as Hint;
 ghost use Rattle.providers.specs.Texts.{IsAppended, IsSameText};
 ghost use Rattle.script_packages.specs.Packages.{numbers, is_within};
 ghost use Rattle.script_packages.specs.Order.{version_at};
@@ -151,7 +152,14 @@ impl DependencyProvider for Packages {
         &self,
         alloc: Global,
         name: NameId,
-    ) -> Result<Option<Candidates<SolvableId, Global>>, StoreError> {
+    ) -> Result<Option<Candidates<SolvableId, Global>>, StoreError>
+        ensures candidates { IfOk result (λ found. candidates_of found ≡ (answers_of self.now).candidates name) }
+        ensures favored { IfOk result (λ found. favored_of found ≡ (answers_of self.now).favored name) }
+        ensures locks_nothing { IfOk result (λ found. IfSome found (λ c. c.locked ≡ None)) }
+        ensures excludes_nothing { IfOk result (λ found. IfSome found (λ c. c.excluded.items ≡ [])) }
+        ensures hints_nothing { IfOk result (λ found. IfSome found (λ c. c.hint_dependencies_available ≡ Hint.None)) }
+        ensures err { IfErr result (λ e. e ≡ OutOfMemory) }
+    {
         let Some(span) = self.span(name) else {
             return Ok(None);
         };
@@ -179,6 +187,13 @@ impl DependencyProvider for Packages {
     ) -> Result<(), StoreError> {
         sort_best_first(&self.pool, solvables);
         Ok(())
+    }
+
+    /// It never asks to stop.
+    fn should_cancel_with_value(&self) -> Option<()>
+        ensures { result ≡ None }
+    {
+        None
     }
 }
 

@@ -1,4 +1,6 @@
+pub mod Calls
 pub mod FirstLines
+pub mod Handing
 pub mod Lanes
 pub mod Prefixes
 pub mod Printing

@@ -1,7 +1,5 @@
 -- The exit status of a script.
 use Rattle.std.specs.Prelude.{ℕ, Result, Ok, Err}
-use Rattle.std.specs.declared.io.ErrorKind.{ErrorKind}
-use Rattle.std.specs.declared.io.ErrorKind.TheVariants.{OutOfMemory}
 use Rattle.script_text.specs.declared.fault.LineFault.{LineFault}
 use Rattle.script_text.specs.declared.fault.LineFault.TheVariants as In
 use Rattle.script_text.specs.declared.fault.ScriptFault.{ScriptFault}
@@ -17,8 +15,3 @@ status_of (Err Memory) = 3
 abbrev pub fault_at : ℕ → LineFault → ScriptFault
 fault_at number In.Unreadable = Unreadable number
 fault_at number In.Memory = Memory
-
--- the fault of a script whose input couldn't be read for this: want of memory is that of the list alone, since a reader's own is told otherwise
-abbrev pub fault_of : ErrorKind → ScriptFault
-fault_of OutOfMemory = Memory
-fault_of _ = Device

@@ -5,6 +5,7 @@
 #![tactic(auto)]
 
 mod decimal;
+mod device;
 mod fault;
 mod input;
 mod line;
@@ -14,6 +15,7 @@ mod statement;
 mod word;
 
 pub use decimal::number;
+pub use device::{Sink, Source};
 pub use fault::{LineFault, ScriptFault, status};
 pub use input::{read_whole, read_within};
 pub use output::{write_much, write_rest};
