@@ -2,7 +2,7 @@
 ghost use Rattle.std.specs.Prelude.{◌≡◌};
 
 use std::marker::Model;
-use typed_ids::{DefaultValue, SameValue};
+use typed_ids::{DefaultValue, SameClone, SameValue};
 
 /// A number or none. A type of its own, since a bound on the maps of an id can't name `Option<u32>`.
 #[derive(Clone, Copy, Debug, PartialEq, Eq)]
@@ -58,4 +58,10 @@ impl SameValue for Slot {
     ghost use Rattle.std.proofs.Common.{rules};
 
     ghost same = { λ a b h. Prim.search rules };
+}
+
+impl SameClone for Slot {
+    ghost use Rattle.std.proofs.Common.{rules};
+
+    ghost clone_is_same = { λ a b h. Prim.search rules };
 }

@@ -1,5 +1,5 @@
 //! Conditions: when a requirement is asked for at all.
-use typed_ids::{ConditionId, OrderedByParts, SameValue, VersionSetId};
+use typed_ids::{ConditionId, OrderedByParts, SameClone, SameValue, VersionSetId};
 
 /// A condition is met by what is picked: by a candidate of a version set, or as two other conditions are.
 #[derive(Clone, Copy, Debug, PartialEq, Eq, PartialOrd, Ord, Hash)]
@@ -25,6 +25,12 @@ impl SameValue for Condition {
     ghost same = { λ a b h. Prim.search rules };
 }
 
+impl SameClone for Condition {
+    ghost use Rattle.std.proofs.Common.{rules};
+
+    ghost clone_is_same = { λ a b h. Prim.search rules };
+}
+
 impl OrderedByParts for Condition {
     ghost use Rattle.providers.specs.Parts.{condition_parts};
     ghost use Rattle.std.proofs.Common.{rules};
@@ -38,6 +44,12 @@ impl SameValue for LogicalOperator {
     ghost use Rattle.std.proofs.Common.{rules};
 
     ghost same = { λ a b h. Prim.search rules };
+}
+
+impl SameClone for LogicalOperator {
+    ghost use Rattle.std.proofs.Common.{rules};
+
+    ghost clone_is_same = { λ a b h. Prim.search rules };
 }
 
 impl OrderedByParts for LogicalOperator {

@@ -2,7 +2,7 @@
 ghost use Rattle.std.specs.Prelude.{◌≡◌, None};
 
 use crate::requirement::Requirement;
-use typed_ids::{ConditionId, OrderedByParts, SameValue, VersionSetId, VersionSetUnionId};
+use typed_ids::{ConditionId, OrderedByParts, SameClone, SameValue, VersionSetId, VersionSetUnionId};
 
 /// A requirement, and the condition under which alone it is asked for; without one it always is.
 #[derive(Clone, Copy, Debug, PartialEq, Eq, PartialOrd, Ord, Hash)]
@@ -51,6 +51,12 @@ impl SameValue for ConditionalRequirement {
     ghost use Rattle.std.proofs.Common.{rules};
 
     ghost same = { λ a b h. Prim.search rules };
+}
+
+impl SameClone for ConditionalRequirement {
+    ghost use Rattle.std.proofs.Common.{rules};
+
+    ghost clone_is_same = { λ a b h. Prim.search rules };
 }
 
 impl OrderedByParts for ConditionalRequirement {

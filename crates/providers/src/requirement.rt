@@ -12,7 +12,7 @@ use crate::version_sets::VersionSets;
 use std::hash::{Hash, Hasher};
 use std::slice;
 use typed_ids::{
-    ConditionId, DefaultValue, DenseIndex, OrderedByParts, SameValue, StoreError, VersionSetId,
+    ConditionId, DefaultValue, DenseIndex, OrderedByParts, SameClone, SameValue, StoreError, VersionSetId,
     VersionSetUnionId,
 };
 
@@ -123,6 +123,12 @@ impl SameValue for Requirement {
     ghost use Rattle.std.proofs.Common.{rules};
 
     ghost same = { λ a b h. Prim.search rules };
+}
+
+impl SameClone for Requirement {
+    ghost use Rattle.std.proofs.Common.{rules};
+
+    ghost clone_is_same = { λ a b h. Prim.search rules };
 }
 
 impl OrderedByParts for Requirement {

@@ -1,5 +1,5 @@
 //! What to decide next.
-use typed_ids::{ClauseId, SameValue, VariableId};
+use typed_ids::{ClauseId, SameClone, SameValue, VariableId};
 
 /// A candidate to try, and the clause that asks for it.
 #[derive(Clone, Copy, Debug, PartialEq, Eq)]
@@ -19,4 +19,10 @@ impl SameValue for QueueDecision {
     ghost use Rattle.std.proofs.Common.{rules};
 
     ghost same = { λ a b h. Prim.search rules };
+}
+
+impl SameClone for QueueDecision {
+    ghost use Rattle.std.proofs.Common.{rules};
+
+    ghost clone_is_same = { λ a b h. Prim.search rules };
 }

@@ -8,7 +8,7 @@ ghost use Rattle.resolvo_store.specs.Outcome.{helper_origin};
 use id_maps::{IdMap, SolverId};
 use providers::Requirement;
 use std::alloc::Allocator;
-use typed_ids::{SameValue, StoreError, VariableId, VersionSetId};
+use typed_ids::{SameClone, SameValue, StoreError, VariableId, VersionSetId};
 use variables::VariableMap;
 
 /// What a helper variable is asked to stand for. `N` are the provider's names.
@@ -26,6 +26,12 @@ impl<N: SameValue> SameValue for HelperOrigin<N> {
     ghost use Rattle.std.proofs.Common.{rules};
 
     ghost same = { λ a b h. Prim.search rules };
+}
+
+impl<N: SameClone> SameClone for HelperOrigin<N> {
+    ghost use Rattle.std.proofs.Common.{rules};
+
+    ghost clone_is_same = { λ a b h. Prim.search rules };
 }
 
 /// A new variable that stands for this.

@@ -6,7 +6,7 @@ ghost use Rattle.script_text.specs.declared.fault.ScriptFault.TheVariants as OfS
 
 use std::alloc::{AllocError, AllocFailed};
 use thiserror::Error;
-use typed_ids::SameValue;
+use typed_ids::{SameClone, SameValue};
 
 /// Why a script was left before its end.
 #[derive(Clone, Copy, Debug, PartialEq, Eq, Error)]
@@ -99,8 +99,20 @@ impl SameValue for ScriptFault {
     ghost same = { λ a b h. Prim.search rules };
 }
 
+impl SameClone for ScriptFault {
+    ghost use Rattle.std.proofs.Common.{rules};
+
+    ghost clone_is_same = { λ a b h. Prim.search rules };
+}
+
 impl SameValue for LineFault {
     ghost use Rattle.std.proofs.Common.{rules};
 
     ghost same = { λ a b h. Prim.search rules };
+}
+
+impl SameClone for LineFault {
+    ghost use Rattle.std.proofs.Common.{rules};
+
+    ghost clone_is_same = { λ a b h. Prim.search rules };
 }

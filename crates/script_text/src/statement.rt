@@ -6,7 +6,7 @@ ghost use Rattle.script_text.specs.Statements.{MeansWords, FirstMeans, IsRestPri
 
 use crate::line::first_line;
 use crate::word::next_word;
-use typed_ids::SameValue;
+use typed_ids::{SameClone, SameValue};
 
 /// What a line says.
 #[derive(Clone, Copy, PartialEq, Eq)]
@@ -58,4 +58,10 @@ impl<T: SameValue> SameValue for Line<T> {
     ghost use Rattle.std.proofs.Common.{rules};
 
     ghost same = { λ a b h. Prim.search rules };
+}
+
+impl<T: SameClone> SameClone for Line<T> {
+    ghost use Rattle.std.proofs.Common.{rules};
+
+    ghost clone_is_same = { λ a b h. Prim.search rules };
 }

@@ -2,7 +2,7 @@
 ghost use Rattle.std.specs.Prelude.{◌≡◌};
 
 use std::alloc::{AllocError, AllocFailed};
-use typed_ids::{SameValue, StoreError};
+use typed_ids::{SameClone, SameValue, StoreError};
 
 /// A question that isn't answered.
 #[derive(Clone, Copy, Debug, Drop, PartialEq, Eq)]
@@ -65,4 +65,10 @@ impl<C: SameValue> SameValue for CacheError<C> {
     ghost use Rattle.std.proofs.Common.{rules};
 
     ghost same = { λ a b h. Prim.search rules };
+}
+
+impl<C: SameClone> SameClone for CacheError<C> {
+    ghost use Rattle.std.proofs.Common.{rules};
+
+    ghost clone_is_same = { λ a b h. Prim.search rules };
 }

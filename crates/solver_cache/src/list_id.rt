@@ -1,5 +1,6 @@
 //! Where a cache keeps a list of candidates.
 use std::marker::Model;
+use typed_ids::{SameClone, SameValue};
 
 /// Where a cache keeps a list of candidates: `SolverCache::list` shows it. It stays there.
 #[derive(Clone, Copy, Debug, PartialEq, Eq)]
@@ -28,4 +29,28 @@ impl Model for ListId {
     ghost view = { λ id. (id.kind, id.place) };
 
     ghost inverse = { λ v. record { kind = v.0; place = v.1 } };
+}
+
+impl SameValue for ListId {
+    ghost use Rattle.std.proofs.Common.{rules};
+
+    ghost same = { λ a b h. Prim.search rules };
+}
+
+impl SameClone for ListId {
+    ghost use Rattle.std.proofs.Common.{rules};
+
+    ghost clone_is_same = { λ a b h. Prim.search rules };
+}
+
+impl SameValue for ListKind {
+    ghost use Rattle.std.proofs.Common.{rules};
+
+    ghost same = { λ a b h. Prim.search rules };
+}
+
+impl SameClone for ListKind {
+    ghost use Rattle.std.proofs.Common.{rules};
+
+    ghost clone_is_same = { λ a b h. Prim.search rules };
 }
