@@ -62,8 +62,9 @@ impl<Tag, Repr: DenseIndex + SameId, A: Allocator + Copy> SolverId<A> for DenseI
     }
 }
 
-impl<Tag, Repr: DenseIndex + SameId, H: BuildHasher + Default + Drop, A: Allocator + Copy>
-    SolverId<A> for SparseId<Tag, Repr, H> {
+impl<Tag, Repr: DenseIndex + SameId, H: BuildHasher + Default + Drop, A: Allocator + Copy> SolverId<
+    A,
+> for SparseId<Tag, Repr, H> {
     type Slots = IndexMap<Self, Slot, H, A>;
 
     type Scores = IndexMap<Self, u64, H, A>;

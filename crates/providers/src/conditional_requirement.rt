@@ -2,7 +2,9 @@
 ghost use Rattle.std.specs.Prelude.{◌≡◌, None};
 
 use crate::requirement::Requirement;
-use typed_ids::{ConditionId, OrderedByParts, SameClone, SameValue, VersionSetId, VersionSetUnionId};
+use typed_ids::{
+    ConditionId, OrderedByParts, SameClone, SameValue, VersionSetId, VersionSetUnionId,
+};
 
 /// A requirement, and the condition under which alone it is asked for; without one it always is.
 #[derive(Clone, Copy, Debug, PartialEq, Eq, PartialOrd, Ord, Hash)]

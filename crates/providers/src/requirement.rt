@@ -12,8 +12,8 @@ use crate::version_sets::VersionSets;
 use std::hash::{Hash, Hasher};
 use std::slice;
 use typed_ids::{
-    ConditionId, DefaultValue, DenseIndex, OrderedByParts, SameClone, SameValue, StoreError, VersionSetId,
-    VersionSetUnionId,
+    ConditionId, DefaultValue, DenseIndex, OrderedByParts, SameClone, SameValue, StoreError,
+    VersionSetId, VersionSetUnionId,
 };
 
 /// One of the candidates of a version set, or of any set of a union.

@@ -43,11 +43,11 @@ fn look<I: Interner>(
     question: &Question<'_, I>,
 ) -> Result<Option<Candidate>, StoreError>
     requires of { IsOfClause tracked.old.index.clauses.items position }
-    requires asked {
-        let refs = references (I.universe question.now.interner.now) reader.old.lists question.now.disjunctions.now in
+    requires asked { let refs = references (I.universe question.now.interner.now)
+        reader.old.lists question.now.disjunctions.now in
         CanBeAsked refs (values_in question.now.map.now) tracked.old }
-    ensures offers {
-        let refs = references (I.universe question.now.interner.now) reader.old.lists question.now.disjunctions.now in
+    ensures offers { let refs = references (I.universe question.now.interner.now)
+        reader.old.lists question.now.disjunctions.now in
         let score = I.NameId.Scores.value_at question.now.scores.now in
         let offers = offers_in refs (values_in question.now.map.now) score in
         IfOk result (λ o. (c : ATrackedClause) → slice_get tracked.old.index.clauses.items position.number ≡ Some c →
@@ -55,8 +55,8 @@ fn look<I: Interner>(
     ensures at { IfOk result (λ o. IfSome o (λ b. b.position ≡ position)) }
     ensures fewer { IfOk result (λ o. o ≡ None → has tracked.old.queued.all position ≡ true →
         length tracked.new.queued.all < length tracked.old.queued.all) }
-    ensures asked {
-        let refs = references (I.universe question.now.interner.now) reader.old.lists question.now.disjunctions.now in
+    ensures asked { let refs = references (I.universe question.now.interner.now)
+        reader.old.lists question.now.disjunctions.now in
         CanBeAsked refs (values_in question.now.map.now) tracked.new }
     ensures walks { OnlyWalks tracked.old tracked.new reader.old reader.new }
     ensures memory { IfErr result (λ e. e ≡ OutOfMemory) }
@@ -113,18 +113,18 @@ fn first_eligible<I: Interner>(
     reader: &mut RowReader<'_, I::Alloc>,
     question: &Question<'_, I>,
 ) -> Result<Option<Candidate>, StoreError>
-    requires asked {
-        let refs = references (I.universe question.now.interner.now) reader.old.lists question.now.disjunctions.now in
+    requires asked { let refs = references (I.universe question.now.interner.now)
+        reader.old.lists question.now.disjunctions.now in
         CanBeAsked refs (values_in question.now.map.now) tracked.old }
-    ensures picked {
-        let refs = references (I.universe question.now.interner.now) reader.old.lists question.now.disjunctions.now in
+    ensures picked { let refs = references (I.universe question.now.interner.now)
+        reader.old.lists question.now.disjunctions.now in
         let score = I.NameId.Scores.value_at question.now.scores.now in
         let offers = offers_of group (offers_in refs (values_in question.now.map.now) score) in
         let clauses = tracked.old.index.clauses.items in let best = best_offer (offered clauses offers) in
         IfOk result (λ o. MatchOption o (best ≡ None) (λ b. best ≡ rest_picked clauses offers b.offer b.position)) }
     ensures of { IfOk result (λ o. IfSome o (λ b. is_in group b.position ≡ true)) }
-    ensures asked {
-        let refs = references (I.universe question.now.interner.now) reader.old.lists question.now.disjunctions.now in
+    ensures asked { let refs = references (I.universe question.now.interner.now)
+        reader.old.lists question.now.disjunctions.now in
         CanBeAsked refs (values_in question.now.map.now) tracked.new }
     ensures walks { OnlyWalks tracked.old tracked.new reader.old reader.new }
     ensures memory { IfErr result (λ e. e ≡ OutOfMemory) }
@@ -172,16 +172,16 @@ fn better_of<I: Interner>(
     question: &Question<'_, I>,
 ) -> Result<Candidate, StoreError>
     requires of { IsOfClause tracked.old.index.clauses.items position }
-    requires asked {
-        let refs = references (I.universe question.now.interner.now) reader.old.lists question.now.disjunctions.now in
+    requires asked { let refs = references (I.universe question.now.interner.now)
+        reader.old.lists question.now.disjunctions.now in
         CanBeAsked refs (values_in question.now.map.now) tracked.old }
-    ensures better {
-        let refs = references (I.universe question.now.interner.now) reader.old.lists question.now.disjunctions.now in
+    ensures better { let refs = references (I.universe question.now.interner.now)
+        reader.old.lists question.now.disjunctions.now in
         let score = I.NameId.Scores.value_at question.now.scores.now in
         IfOk result (λ b. (c : ATrackedClause) → slice_get tracked.old.index.clauses.items position.number ≡ Some c →
         b.offer ≡ improved best.offer (offers_in refs (values_in question.now.map.now) score c)) }
-    ensures asked {
-        let refs = references (I.universe question.now.interner.now) reader.old.lists question.now.disjunctions.now in
+    ensures asked { let refs = references (I.universe question.now.interner.now)
+        reader.old.lists question.now.disjunctions.now in
         CanBeAsked refs (values_in question.now.map.now) tracked.new }
     ensures walks { OnlyWalks tracked.old tracked.new reader.old reader.new }
     ensures memory { IfErr result (λ e. e ≡ OutOfMemory) }
@@ -208,24 +208,24 @@ fn best_from<I: Interner>(
     question: &Question<'_, I>,
 ) -> Result<Option<Offer>, StoreError>
     requires of { is_in group first.position ≡ true }
-    requires asked {
-        let refs = references (I.universe question.now.interner.now) reader.old.lists question.now.disjunctions.now in
+    requires asked { let refs = references (I.universe question.now.interner.now)
+        reader.old.lists question.now.disjunctions.now in
         CanBeAsked refs (values_in question.now.map.now) tracked.old }
-    requires cold {
-        let refs = references (I.universe question.now.interner.now) reader.old.lists question.now.disjunctions.now in
+    requires cold { let refs = references (I.universe question.now.interner.now)
+        reader.old.lists question.now.disjunctions.now in
         let score = score_in refs (I.NameId.Scores.value_at question.now.scores.now) in
         ColdHasNoScore tracked.old.index.clauses.items (clause_literals refs) (rows_in refs)
         (values_in question.now.map.now) score }
-    requires largest {
-        let refs = references (I.universe question.now.interner.now) reader.old.lists question.now.disjunctions.now in
+    requires largest { let refs = references (I.universe question.now.interner.now)
+        reader.old.lists question.now.disjunctions.now in
         AreUpTo question.now.largest (score_in refs (I.NameId.Scores.value_at question.now.scores.now)) }
-    ensures best {
-        let refs = references (I.universe question.now.interner.now) reader.old.lists question.now.disjunctions.now in
+    ensures best { let refs = references (I.universe question.now.interner.now)
+        reader.old.lists question.now.disjunctions.now in
         let score = I.NameId.Scores.value_at question.now.scores.now in
         let offers = offers_of group (offers_in refs (values_in question.now.map.now) score) in
         IfOk result (λ o. o ≡ rest_picked tracked.old.index.clauses.items offers first.offer first.position) }
-    ensures asked {
-        let refs = references (I.universe question.now.interner.now) reader.old.lists question.now.disjunctions.now in
+    ensures asked { let refs = references (I.universe question.now.interner.now)
+        reader.old.lists question.now.disjunctions.now in
         CanBeAsked refs (values_in question.now.map.now) tracked.new }
     ensures walks { OnlyWalks tracked.old tracked.new reader.old reader.new }
     ensures memory { IfErr result (λ e. e ≡ OutOfMemory) }
@@ -245,19 +245,19 @@ fn first_of_root<I: Interner>(
     reader: &mut RowReader<'_, I::Alloc>,
     question: &Question<'_, I>,
 ) -> Result<Option<Candidate>, StoreError>
-    requires asked {
-        let refs = references (I.universe question.now.interner.now) reader.old.lists question.now.disjunctions.now in
+    requires asked { let refs = references (I.universe question.now.interner.now)
+        reader.old.lists question.now.disjunctions.now in
         CanBeAsked refs (values_in question.now.map.now) tracked.old }
-    ensures picked {
-        let refs = references (I.universe question.now.interner.now) reader.old.lists question.now.disjunctions.now in
+    ensures picked { let refs = references (I.universe question.now.interner.now)
+        reader.old.lists question.now.disjunctions.now in
         let score = I.NameId.Scores.value_at question.now.scores.now in
         let offers = offers_in refs (values_in question.now.map.now) score in
         let clauses = tracked.old.index.clauses.items in
         let best = best_offer (filter is_of_root (offered clauses offers)) in
         IfOk result (λ o. MatchOption o (best ≡ None)
         (λ b. best ≡ rest_picked clauses (offers_of (group_at b.position) offers) b.offer b.position)) }
-    ensures asked {
-        let refs = references (I.universe question.now.interner.now) reader.old.lists question.now.disjunctions.now in
+    ensures asked { let refs = references (I.universe question.now.interner.now)
+        reader.old.lists question.now.disjunctions.now in
         CanBeAsked refs (values_in question.now.map.now) tracked.new }
     ensures walks { OnlyWalks tracked.old tracked.new reader.old reader.new }
     ensures memory { IfErr result (λ e. e ≡ OutOfMemory) }
@@ -274,24 +274,24 @@ fn best_of_all<I: Interner>(
     reader: &mut RowReader<'_, I::Alloc>,
     question: &Question<'_, I>,
 ) -> Result<Option<Offer>, StoreError>
-    requires asked {
-        let refs = references (I.universe question.now.interner.now) reader.old.lists question.now.disjunctions.now in
+    requires asked { let refs = references (I.universe question.now.interner.now)
+        reader.old.lists question.now.disjunctions.now in
         CanBeAsked refs (values_in question.now.map.now) tracked.old }
-    requires cold {
-        let refs = references (I.universe question.now.interner.now) reader.old.lists question.now.disjunctions.now in
+    requires cold { let refs = references (I.universe question.now.interner.now)
+        reader.old.lists question.now.disjunctions.now in
         let score = score_in refs (I.NameId.Scores.value_at question.now.scores.now) in
         ColdHasNoScore tracked.old.index.clauses.items (clause_literals refs) (rows_in refs)
         (values_in question.now.map.now) score }
-    requires largest {
-        let refs = references (I.universe question.now.interner.now) reader.old.lists question.now.disjunctions.now in
+    requires largest { let refs = references (I.universe question.now.interner.now)
+        reader.old.lists question.now.disjunctions.now in
         AreUpTo question.now.largest (score_in refs (I.NameId.Scores.value_at question.now.scores.now)) }
-    ensures best {
-        let refs = references (I.universe question.now.interner.now) reader.old.lists question.now.disjunctions.now in
+    ensures best { let refs = references (I.universe question.now.interner.now)
+        reader.old.lists question.now.disjunctions.now in
         let score = I.NameId.Scores.value_at question.now.scores.now in
         let offers = offers_in refs (values_in question.now.map.now) score in
         IfOk result (λ o. o ≡ best_offer (offered tracked.old.index.clauses.items offers)) }
-    ensures asked {
-        let refs = references (I.universe question.now.interner.now) reader.old.lists question.now.disjunctions.now in
+    ensures asked { let refs = references (I.universe question.now.interner.now)
+        reader.old.lists question.now.disjunctions.now in
         CanBeAsked refs (values_in question.now.map.now) tracked.new }
     ensures walks { OnlyWalks tracked.old tracked.new reader.old reader.new }
     ensures memory { IfErr result (λ e. e ≡ OutOfMemory) }
@@ -308,24 +308,24 @@ pub(crate) fn next_offer<I: Interner>(
     reader: &mut RowReader<'_, I::Alloc>,
     question: &Question<'_, I>,
 ) -> Result<Option<Offer>, StoreError>
-    requires asked {
-        let refs = references (I.universe question.now.interner.now) reader.old.lists question.now.disjunctions.now in
+    requires asked { let refs = references (I.universe question.now.interner.now)
+        reader.old.lists question.now.disjunctions.now in
         CanBeAsked refs (values_in question.now.map.now) tracked.old }
-    requires cold {
-        let refs = references (I.universe question.now.interner.now) reader.old.lists question.now.disjunctions.now in
+    requires cold { let refs = references (I.universe question.now.interner.now)
+        reader.old.lists question.now.disjunctions.now in
         let score = score_in refs (I.NameId.Scores.value_at question.now.scores.now) in
         ColdHasNoScore tracked.old.index.clauses.items (clause_literals refs) (rows_in refs)
         (values_in question.now.map.now) score }
-    requires largest {
-        let refs = references (I.universe question.now.interner.now) reader.old.lists question.now.disjunctions.now in
+    requires largest { let refs = references (I.universe question.now.interner.now)
+        reader.old.lists question.now.disjunctions.now in
         AreUpTo question.now.largest (score_in refs (I.NameId.Scores.value_at question.now.scores.now)) }
-    ensures picked {
-        let refs = references (I.universe question.now.interner.now) reader.old.lists question.now.disjunctions.now in
+    ensures picked { let refs = references (I.universe question.now.interner.now)
+        reader.old.lists question.now.disjunctions.now in
         let score = I.NameId.Scores.value_at question.now.scores.now in
         let offers = offers_in refs (values_in question.now.map.now) score in
         IfOk result (λ o. o ≡ pick (offered tracked.old.index.clauses.items offers)) }
-    ensures asked {
-        let refs = references (I.universe question.now.interner.now) reader.old.lists question.now.disjunctions.now in
+    ensures asked { let refs = references (I.universe question.now.interner.now)
+        reader.old.lists question.now.disjunctions.now in
         CanBeAsked refs (values_in question.now.map.now) tracked.new }
     ensures walks { OnlyWalks tracked.old tracked.new reader.old reader.new }
     ensures memory { IfErr result (λ e. e ≡ OutOfMemory) }
