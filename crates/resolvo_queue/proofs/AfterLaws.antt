@@ -24,19 +24,20 @@ use Rattle.resolvo_queue.specs.Queue.{IsSynced as IsSyncedAt}
 use Rattle.resolvo_queue.specs.Queued.{GrowsBy, IsOfClause}
 use Rattle.resolvo_queue.specs.Question.{clause_literals}
 use Rattle.resolvo_queue.specs.Ready.{IsReady}
-use Rattle.resolvo_queue.specs.References.{HasParts, References, rows_in}
+use Rattle.resolvo_queue.specs.References.{CanWalk, HasParts, References, literals_in, rows_in}
 use Rattle.resolvo_queue.specs.Rows.{Row}
 use Rattle.resolvo_queue.specs.Routing.{OnlyForgets, variables_of}
+use Rattle.resolvo_queue.specs.Scan.{first_falsified}
 use Rattle.resolvo_queue.specs.Synced.{FindsAll, FindsConditions, IsRegistered, IsSynced, SyncsTo, is_among}
 use Rattle.resolvo_queue.specs.Tracked.{IsPlaceOf, SameFound, Tracked, clauses_in, forgotten}
 use Rattle.resolvo_queue.specs.Tracking.{Heats, IsInOrder, OnlyLists, Tracking, tracking_of}
 use Rattle.resolvo_queue.specs.Trails.{decided_value, stands_in}
-use Rattle.resolvo_queue.specs.Witnesses.{HaveEntries}
+use Rattle.resolvo_queue.specs.Witnesses.{HaveEntries, NoneFalsified}
 use Rattle.resolvo_queue.specs.declared.parent_value.ParentValue.{ParentValue}
 use Rattle.resolvo_queue.specs.declared.position.Position.{Position}
 use Rattle.resolvo_queue.specs.declared.tracked_clause.TrackedClause.{TrackedClause}
 use Rattle.resolvo_queue.specs.declared.tracked_clauses.TrackedClauses.{TrackedClauses}
-use Rattle.resolvo_queue.proofs.AskableLaws.{all_tracked}
+use Rattle.resolvo_queue.proofs.AskableLaws.{all_tracked, askable_tracked}
 use Rattle.resolvo_queue.proofs.CountLaws.{counted_old, counted_since, counts_asked, counts_now, last_none, own_number}
 use Rattle.resolvo_queue.proofs.FindingLaws.{finds_behind, finds_still, finds_synced, keeps_same}
 use Rattle.resolvo_queue.proofs.ListingLaws.{listed_after_sync, lists_known}
@@ -45,6 +46,7 @@ use Rattle.resolvo_queue.proofs.QueuedLaws.{grows_none}
 use Rattle.resolvo_queue.proofs.StandsLaws.{synced_same}
 use Rattle.resolvo_queue.proofs.SyncedLaws.{routed_among, sync_parents, sync_values}
 use Rattle.resolvo_queue.proofs.TrailLaws.{below_only, decided_is, value-append}
+use Rattle.resolvo_queue.proofs.WitnessLaws.{none_asked_in}
 
 -- ---- clauses that became hot
 
@@ -429,6 +431,14 @@ pub entries_in : {N S A H : Type 0} (refs : References N S A) (q : Queue N H) �
 entries_in refs q stands n c e =
     let has = all_tracked (HasParts refs) q.inside.clauses (subst (All (HasParts refs)) stands.clauses stands.parts) n c e in
     (has.disjunction, has.lists)
+
+-- where no clause is falsified, each that is asked has a candidate that isn't false
+pub none_asked_by : {N S A H : Type 0} (refs : References N S A) (q : Queue N H) (val : Values) → StandsOn refs q → All (CanWalk refs) q.clauses →
+    first_falsified val (literals_in refs) (rows_in refs) q.clauses ≡ None → NoneFalsified refs.lists q.inside.clauses (clause_literals refs) val
+none_asked_by refs q val stands walkable none =
+    none_asked_in refs val q.inside.clauses
+    (askable_tracked refs q.inside.clauses (subst (All (HasParts refs)) stands.clauses stands.parts) (subst (All (CanWalk refs)) stands.clauses walkable))
+    (subst (λ cs. first_falsified val (literals_in refs) (rows_in refs) cs ≡ None) stands.clauses none)
 
 -- what always holds of what is kept, after a question
 pub order_asked : (t u : Tracking) (literals : TrackedClause → List Lit) (rows_of : Requirement → List Row) (values : Values) → u.clauses ≡ t.clauses → u.by_parent ≡ t.by_parent →

@@ -1,29 +1,31 @@
 -- What changed finds all clauses that may be falsified, after each call of a queue.
 use Rattle.std.proofs.Common.{◌≡◌, ◌≤◌, ℕ, length, length-append, arith, Bool, true, false, List, [], ◌∷◌, ◌++◌, map, None, Some, Result, Ok, Err, slice_get, sym, ap, refl, ◌∙◌, subst}
 use Rattle.std.specs.Prelude.{OnErr, OnOk}
+use Rattle.std.specs.Map.{lookup}
+use Rattle.std.specs.Option.{option_flatten}
 use Rattle.std.proofs.lemmas.List.{length-map}
 use Rattle.typed_ids.specs.TotalMaps.{SameValues}
 use Rattle.decisions.specs.Literals.{Values}
 use Rattle.decisions.specs.declared.decision.Decision.{Decision}
+use Rattle.providers.specs.Requirement.{same_requirement}
 use Rattle.providers.specs.declared.requirement.Requirement.{Requirement}
 use Rattle.clauses.specs.declared.disjunction.Disjunction.{Disjunction}
-use Rattle.resolvo_queue.specs.Falsified.{is_falsified_in}
 use Rattle.resolvo_queue.specs.Inspection.{clause_of}
 use Rattle.resolvo_queue.specs.Occurrences.{KeepsListed, Listed}
 use Rattle.resolvo_queue.specs.Possible.{SameElsewhere}
 use Rattle.resolvo_queue.specs.Queue.{FindsFalsified, Queue, values_of}
-use Rattle.resolvo_queue.specs.Question.{AreAskable, clause_literals}
+use Rattle.resolvo_queue.specs.Question.{clause_literals}
 use Rattle.resolvo_queue.specs.References.{Lists, References, literals_in, references}
 use Rattle.resolvo_queue.specs.Routing.{variables_of}
 use Rattle.resolvo_queue.specs.Synced.{is_among}
-use Rattle.resolvo_queue.specs.Witnesses.{AreCandidates, AreNewSettled, AreSettled, AreWitnessed, Settles, Witnessed}
+use Rattle.resolvo_queue.specs.Witnesses.{AreCandidates, AreNewSettled, AreSettled, AreWitnessed, Found, NoneFalsified, Settles, Witnessed, witness}
 use Rattle.resolvo_queue.specs.declared.requires_clause.RequiresClause.{RequiresClause}
 use Rattle.resolvo_queue.specs.declared.tracked_clause.TrackedClause.{TrackedClause}
 use Rattle.resolvo_queue.proofs.Members.{at_mapped}
 use Rattle.resolvo_queue.proofs.WitnessLaws.{witnessed_anew, witnessed_changed, witnessed_refused, witnessed_registered, witnessed_same, witnessed_settled}
 
 -- what is listed stays, and so do the witnesses
-candidates_kept : {A : Type 0} (lists : Lists A) (o o' : Listed) (ws ws' : List (Requirement × ℕ)) → KeepsListed o o' → ws' ≡ ws → AreCandidates lists o ws → AreCandidates lists o' ws'
+candidates_kept : {A : Type 0} (lists : Lists A) (o o' : Listed) (ws ws' : Found) → KeepsListed o o' → ws' ≡ ws → AreCandidates lists o ws → AreCandidates lists o' ws'
 candidates_kept lists o o' ws ws' keeps same w =
     subst (AreCandidates lists o') (sym same) (λ r x e. (let own = w r x e in (keeps r own.0, own.1)))
 
@@ -33,10 +35,13 @@ keeps_same o o' same = subst (KeepsListed o) (sym same) (λ r h. h)
 no_clause : (clauses : List TrackedClause) → clauses ≡ [] → {P : Type 0} → (n : ℕ) (c : TrackedClause) → slice_get clauses n ≡ Some c → P
 no_clause clauses none n c e = let bad : None ≡ Some c = ap (λ l. slice_get l n) (sym none) ∙ e in cc
 
+no_witness : (ws : Found) → ws.entries ≡ [] → {P : Type 0} → (r : Requirement) (x : ℕ) → witness ws r ≡ Some x → P
+no_witness ws none r x e = let bad : None ≡ Some x = ap (λ es. option_flatten (lookup (same_requirement r) es)) (sym none) ∙ e in cc
+
 -- a queue without clauses
-pub finds_new : {N S A H : Type 0} (refs : References N S A) (q : Queue N H) → q.inside.clauses ≡ [] → q.witnesses.of ≡ [] → q.witnesses.looked ≡ 0 → FindsFalsified refs q
+pub finds_new : {N S A H : Type 0} (refs : References N S A) (q : Queue N H) → q.inside.clauses ≡ [] → q.witnesses.of.entries ≡ [] → q.witnesses.looked ≡ 0 → FindsFalsified refs q
 finds_new refs q none of looked = record {
-  candidates = subst (AreCandidates refs.lists q.inside.occurrences) (sym of) (λ r x e. cc);
+  candidates = λ r x e. no_witness q.witnesses.of of r x e;
   looked = subst (λ k. k ≤ length q.inside.clauses) (sym looked) (omega arith);
   witnessed = λ accepted n c e. no_clause q.inside.clauses none n c e;
 }
@@ -132,29 +137,28 @@ module _ {N S A H : Type 0} (refs : References N S A) (q q' : Queue N H) (finds 
   was_witnessed : q'.must_start_anew ≡ false → AreWitnessed (clause_literals refs) q.inside.clauses val q.witnesses
   was_witnessed accepted = subst (λ v. AreWitnessed (clause_literals refs) q.inside.clauses v q.witnesses) (λ i x. sym (values x) i) (finds.witnessed (sym anew ∙ accepted))
 
-  -- for all that changed
-  pub finds_settled : AreAskable refs q.inside.clauses → q'.witnesses.looked ≡ length q.inside.clauses →
-      AreSettled refs.lists q.inside.clauses (clause_literals refs) val q.witnesses.changed q.witnesses.of q'.witnesses.of →
-      AreNewSettled refs.lists q.inside.clauses (clause_literals refs) val q.witnesses.looked q'.witnesses.of →
-      ((n : ℕ) (c : TrackedClause) → slice_get q.inside.clauses n ≡ Some c → is_falsified_in refs val c ≡ false) → FindsFalsified refs q'
-  finds_settled askable looked settled new_settled none = record {
-    candidates = settles.candidates finds.candidates;
-    looked = subst (λ (x : ℕ × List TrackedClause). x.0 ≤ length x.1) (λ i. (sym looked i, sym clauses i)) (omega arith);
-    witnessed = λ accepted. with_witnesses (witnessed_settled refs q.inside.clauses askable val q.witnesses q'.witnesses settles.better settled new_settled none (was_witnessed accepted));
-  }
+  module _ (none : NoneFalsified refs.lists q.inside.clauses (clause_literals refs) val) where
+    -- for all that changed
+    pub finds_settled : q'.witnesses.looked ≡ length q.inside.clauses →
+        AreSettled refs.lists q.inside.clauses (clause_literals refs) val q.witnesses.changed q.witnesses.of q'.witnesses.of →
+        AreNewSettled refs.lists q.inside.clauses (clause_literals refs) val q.witnesses.looked q'.witnesses.of → FindsFalsified refs q'
+    finds_settled looked settled new_settled = record {
+      candidates = settles.candidates finds.candidates;
+      looked = subst (λ (x : ℕ × List TrackedClause). x.0 ≤ length x.1) (λ i. (sym looked i, sym clauses i)) (omega arith);
+      witnessed = λ accepted. with_witnesses (witnessed_settled (clause_literals refs) q.inside.clauses refs.lists val q.witnesses q'.witnesses settles.better none settled new_settled (was_witnessed accepted));
+    }
 
-  -- or for some of it
-  pub finds_refused : q'.witnesses.changed ≡ q.witnesses.changed → q'.witnesses.looked ≡ q.witnesses.looked → FindsFalsified refs q'
-  finds_refused changed looked = record {
-    candidates = settles.candidates finds.candidates;
-    looked = subst (λ (x : ℕ × List TrackedClause). x.0 ≤ length x.1) (λ i. (sym looked i, sym clauses i)) finds.looked;
-    witnessed = λ accepted. with_witnesses (witnessed_refused (clause_literals refs) q.inside.clauses val q.witnesses q'.witnesses settles.better changed looked (was_witnessed accepted));
-  }
+    -- or for some of it
+    pub finds_refused : q'.witnesses.changed ≡ q.witnesses.changed → q'.witnesses.looked ≡ q.witnesses.looked → FindsFalsified refs q'
+    finds_refused changed looked = record {
+      candidates = settles.candidates finds.candidates;
+      looked = subst (λ (x : ℕ × List TrackedClause). x.0 ≤ length x.1) (λ i. (sym looked i, sym clauses i)) finds.looked;
+      witnessed = λ accepted. with_witnesses (witnessed_refused (clause_literals refs) q.inside.clauses refs.lists val q.witnesses q'.witnesses settles.better none changed looked (was_witnessed accepted));
+    }
 
-  pub finds_after : {R E : Type 0} (result : Result R E) → OnOk result (q'.witnesses.looked ≡ length q.inside.clauses) →
-      OnOk result (AreSettled refs.lists q.inside.clauses (clause_literals refs) val q.witnesses.changed q.witnesses.of q'.witnesses.of) →
-      OnOk result (AreNewSettled refs.lists q.inside.clauses (clause_literals refs) val q.witnesses.looked q'.witnesses.of) →
-      OnErr result ((q'.witnesses.changed ≡ q.witnesses.changed) × (q'.witnesses.looked ≡ q.witnesses.looked)) → AreAskable refs q.inside.clauses →
-      ((n : ℕ) (c : TrackedClause) → slice_get q.inside.clauses n ≡ Some c → is_falsified_in refs val c ≡ false) → FindsFalsified refs q'
-  finds_after (Ok r) looked settled new_settled same askable none = finds_settled askable looked settled new_settled none
-  finds_after (Err e) looked settled new_settled same askable none = finds_refused same.0 same.1
+    pub finds_after : {R E : Type 0} (result : Result R E) → OnOk result (q'.witnesses.looked ≡ length q.inside.clauses) →
+        OnOk result (AreSettled refs.lists q.inside.clauses (clause_literals refs) val q.witnesses.changed q.witnesses.of q'.witnesses.of) →
+        OnOk result (AreNewSettled refs.lists q.inside.clauses (clause_literals refs) val q.witnesses.looked q'.witnesses.of) →
+        OnErr result ((q'.witnesses.changed ≡ q.witnesses.changed) × (q'.witnesses.looked ≡ q.witnesses.looked)) → FindsFalsified refs q'
+    finds_after (Ok r) looked settled new_settled same = finds_settled looked settled new_settled
+    finds_after (Err e) looked settled new_settled same = finds_refused same.0 same.1

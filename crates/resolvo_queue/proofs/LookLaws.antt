@@ -20,7 +20,7 @@ use Rattle.resolvo_queue.specs.Routing.{variables_of}
 use Rattle.resolvo_queue.specs.Scan.{first_falsified, is_falsified}
 use Rattle.resolvo_queue.specs.Tracked.{clauses_at, HasNoPlace, IsPlaceOf}
 use Rattle.resolvo_queue.specs.Tracking.{IsInOrder, Tracking}
-use Rattle.resolvo_queue.specs.Witnesses.{AreTouching, Touches, by_parent, by_condition, by_witness, witness}
+use Rattle.resolvo_queue.specs.Witnesses.{AreTouching, Found, Touches, by_parent, by_condition, by_witness, witness}
 use Rattle.resolvo_queue.specs.declared.position.Position.{Position}
 use Rattle.resolvo_queue.specs.declared.requires_clause.RequiresClause.{RequiresClause}
 use Rattle.resolvo_queue.specs.declared.tracked_clause.TrackedClause.{TrackedClause}
@@ -173,7 +173,7 @@ none_placed t o r none n c is e =
     not_both (same_requirement r r) (same_self r) (subst (λ q. same_requirement r q ≡ false) (at.2 ∙ e) (none c.requirement at.0 at.1))
 
 -- a requirement stands in the listing of its witness
-pub by_its_witness : {N S A : Type 0} (refs : References N S A) (t : Tracking) (ws : List (Requirement × ℕ)) → CanLook refs t ws →
+pub by_its_witness : {N S A : Type 0} (refs : References N S A) (t : Tracking) (ws : Found) → CanLook refs t ws →
     (r : Requirement) (v : ℕ) → witness ws r ≡ Some v → Stands r (listing t.occurrences v)
 by_its_witness refs t ws look r v e =
     let candidate = look.candidates r v e in
@@ -181,7 +181,7 @@ by_its_witness refs t ws look r v e =
 
 -- ---- the clauses that a variable finds
 
-module _ {N S A : Type 0} (refs : References N S A) (t : Tracking) (ws : List (Requirement × ℕ)) (look : CanLook refs t ws) (holds : TrackedClause → Bool) where
+module _ {N S A : Type 0} (refs : References N S A) (t : Tracking) (ws : Found) (look : CanLook refs t ws) (holds : TrackedClause → Bool) where
   -- by its lists, and as a witness
   pub finds_by : (v : ℕ) (p q : List ℕ) → p ≡ list_at t.by_parent v → q ≡ list_at t.by_condition v → (a b d e : Option TrackedClause) →
       Finds t.clauses holds (λ n c. Stands n p) a b → Finds t.clauses holds (λ n c. Stands n q) b d →
@@ -212,7 +212,7 @@ in_either [] ys v s = inr s
 in_either (x ∷ xs) ys v here = inl here
 in_either (x ∷ xs) ys v (there s) = elim (in_either xs ys v s) [ inl t ↦ inl (there t) | inr t ↦ inr t ]
 
-module _ (clauses : List TrackedClause) (holds : TrackedClause → Bool) (literals : TrackedClause → List Lit) (ws : List (Requirement × ℕ)) where
+module _ (clauses : List TrackedClause) (holds : TrackedClause → Bool) (literals : TrackedClause → List Lit) (ws : Found) where
   abbrev FindsBy : List ℕ → Option TrackedClause → Option TrackedClause → Type 0
   FindsBy vs a b = Finds clauses holds (λ n c. AreTouching literals ws vs c) a b
 
@@ -229,7 +229,7 @@ module _ (clauses : List TrackedClause) (holds : TrackedClause → Bool) (litera
       found_least clauses holds b (both.found tt) (λ n c is held. both.seen n c is held (all n c is held))
 
 -- what came, then what variables that are noted find, and then those of decisions
-pub found_id : {N S A : Type 0} (refs : References N S A) (val : Values) (clauses : List TrackedClause) → AreLocated clauses → (ws : List (Requirement × ℕ)) →
+pub found_id : {N S A : Type 0} (refs : References N S A) (val : Values) (clauses : List TrackedClause) → AreLocated clauses → (ws : Found) →
     (looked : ℕ) (xs ys : List ℕ) (ds bs es cs : List Decision) → ys ≡ xs → bs ≡ ds → cs ≡ es →
     ((n : ℕ) (c : TrackedClause) → slice_get clauses n ≡ Some c → is_falsified_in refs val c ≡ true →
     (looked ≤ n) ⊎ AreTouching (clause_literals refs) ws (xs ++ (variables_of ds ++ variables_of es)) c) →

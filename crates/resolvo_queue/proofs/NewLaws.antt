@@ -49,7 +49,7 @@ kept_new has q none lists empty names since = record {
 }
 
 pub stands_new : {N S A H : Type 0} (refs : References N S A) (q : Queue N H) → q.clauses ≡ [] → q.inside.clauses ≡ [] → q.inside.requirements ≡ [] →
-    q.inside.occurrences.listed ≡ [] → q.inside.occurrences.by_variable ≡ [] → q.witnesses.of ≡ [] → q.witnesses.looked ≡ 0 → StandsOn refs q
+    q.inside.occurrences.listed ≡ [] → q.inside.occurrences.by_variable ≡ [] → q.witnesses.of.entries ≡ [] → q.witnesses.looked ≡ 0 → StandsOn refs q
 stands_new refs q whole none records listed lists of looked = record {
   clauses = whole ∙ ap (map clause_of) (sym none);
   parts = subst (All (HasParts refs)) (sym whole) (All-nil (HasParts refs));

@@ -3,8 +3,9 @@ use Rattle.std.proofs.Common.{◌≡◌, ℕ, zero, suc, ◌+◌, ◌≤◌, Boo
 use Rattle.std.proofs.lemmas.List.Sums.{sum_by-append}
 use Rattle.providers.specs.Requirement.{same_requirement}
 use Rattle.providers.specs.declared.requirement.Requirement.{Requirement}
+use Rattle.resolvo_queue.specs.Occurrences.{times}
 use Rattle.resolvo_queue.specs.Tracked.{Tracked, IsPlaceOf, known_at, owed_of, updated_at, walk_of, walked}
-use Rattle.resolvo_queue.specs.WalkCounts.{WalksOnce, is_known, owed_in, record_of, times, walks_in, walks_of}
+use Rattle.resolvo_queue.specs.WalkCounts.{WalksOnce, is_known, owed_in, record_of, walks_in, walks_of}
 use Rattle.resolvo_queue.specs.declared.frontier.Frontier.{Frontier}
 use Rattle.resolvo_queue.proofs.OccurrenceLaws.{same_is, same_self}
 
@@ -32,8 +33,22 @@ walks_nothing ts log = record {
     none [] = refl
     none (x ∷ xs) = ap (λ l. x ∷ l) (none xs)
 
-times_both : (a b : List Requirement) (r : Requirement) → times (a ++ b) r ≡ times a r + times b r
+pub times_both : (a b : List Requirement) (r : Requirement) → times (a ++ b) r ≡ times a r + times b r
 times_both a b r = sum_by-append (λ x. cond (same_requirement r x) 1 0) a b
+
+pub alone : (r q : Requirement) (b : Bool) → same_requirement q r ≡ b → times (r ∷ []) q ≡ cond b 1 0
+alone r q b e = ap (λ x. 0 + cond x 1 0) e ∙ by b
+  where
+    by : (x : Bool) → ◌≡◌ {A = ℕ} (0 + cond x 1 0) (cond x 1 0)
+    by true = omega arith
+    by false = omega arith
+
+pub own_or_other : (r : Requirement) (P : Requirement → Type 0) → P r → ((q : Requirement) → same_requirement q r ≡ false → P q) → (q : Requirement) → P q
+own_or_other r P own other q = go (same_requirement q r) refl
+  where
+    go : (b : Bool) → same_requirement q r ≡ b → P q
+    go true e = subst P (sym (same_is q r e)) own
+    go false e = other q e
 
 none_or_some : (n : ℕ) → (n ≡ 0) ⊎ (1 ≤ n)
 none_or_some zero = inl refl
@@ -122,20 +137,6 @@ module _ (r : Requirement) (place : ℕ) (answer : Option Frontier) (ts : List T
   nothing : is_known ts r ≡ false
   nothing = ap (λ o. is_some (walk_of o)) (here.1 ∙ sym here.3) ∙ ap is_some unknown
 
-  own_or_other : (P : Requirement → Type 0) → P r → ((q : Requirement) → same_requirement q r ≡ false → P q) → (q : Requirement) → P q
-  own_or_other P own other q = go (same_requirement q r) refl
-    where
-      go : (b : Bool) → same_requirement q r ≡ b → P q
-      go true e = subst P (sym (same_is q r e)) own
-      go false e = other q e
-
-  alone : (q : Requirement) (b : Bool) → same_requirement q r ≡ b → times (r ∷ []) q ≡ cond b 1 0
-  alone q b e = ap (λ x. 0 + cond x 1 0) e ∙ by b
-    where
-      by : (x : Bool) → ◌≡◌ {A = ℕ} (0 + cond x 1 0) (cond x 1 0)
-      by true = omega arith
-      by false = omega arith
-
   owes : (t : Tracked) → is_some t.walk ≡ false → owed_of (Some (walked answer t)) ≡ owed_of (Some t)
   owes t e = let less : owed_of (Some t) ≡ t.walks + 1 = ap (λ b. t.walks + cond b 0 1) e in omega (arith, less)
 
@@ -143,19 +144,19 @@ module _ (r : Requirement) (place : ℕ) (answer : Option Frontier) (ts : List T
   walks_one = record {
     walked = r ∷ [];
     logged = refl;
-    once = own_or_other (λ q. times (r ∷ []) q ≤ 1) (let one = alone r true (same_self r) in omega (arith, one))
-        (λ q e. (let none = alone q false e in omega (arith, none)));
-    walks = own_or_other (λ q. walks_in now q ≡ walks_in ts q + times (r ∷ []) q)
-        (ap walks_of here.2 ∙ ap₂ (λ (n m : ℕ). n + m) (sym (ap walks_of here.1)) (sym (alone r true (same_self r))))
-        (λ q e. (let none = alone q false e in let same = ap walks_of (record_elsewhere (walked answer) (λ t. refl) ts place r q at e) in omega (arith, none, same)));
-    owed = own_or_other (λ q. owed_in now q ≡ owed_in ts q)
+    once = own_or_other r (λ q. times (r ∷ []) q ≤ 1) (let one = alone r r true (same_self r) in omega (arith, one))
+        (λ q e. (let none = alone r q false e in omega (arith, none)));
+    walks = own_or_other r (λ q. walks_in now q ≡ walks_in ts q + times (r ∷ []) q)
+        (ap walks_of here.2 ∙ ap₂ (λ (n m : ℕ). n + m) (sym (ap walks_of here.1)) (sym (alone r r true (same_self r))))
+        (λ q e. (let none = alone r q false e in let same = ap walks_of (record_elsewhere (walked answer) (λ t. refl) ts place r q at e) in omega (arith, none, same)));
+    owed = own_or_other r (λ q. owed_in now q ≡ owed_in ts q)
         (ap owed_of here.2 ∙ (owes here.0 (ap (λ o. is_some (walk_of o)) (sym here.1) ∙ nothing) ∙ sym (ap owed_of here.1)))
         (λ q e. ap owed_of (record_elsewhere (walked answer) (λ t. refl) ts place r q at e));
-    unknown = own_or_other (λ q. 1 ≤ times (r ∷ []) q → is_known ts q ≡ false) (λ h. nothing)
-        (λ q e h. absurd (let none = alone q false e in omega (arith, none, h)));
-    known = own_or_other (λ q. 1 ≤ times (r ∷ []) q → is_known now q ≡ true) (λ h. ap (λ o. is_some (walk_of o)) here.2)
-        (λ q e h. absurd (let none = alone q false e in omega (arith, none, h)));
-    others = own_or_other (λ q. times (r ∷ []) q ≡ 0 → record_of now q ≡ record_of ts q)
-        (λ h. absurd (let one = alone r true (same_self r) in omega (arith, one, h)))
+    unknown = own_or_other r (λ q. 1 ≤ times (r ∷ []) q → is_known ts q ≡ false) (λ h. nothing)
+        (λ q e h. absurd (let none = alone r q false e in omega (arith, none, h)));
+    known = own_or_other r (λ q. 1 ≤ times (r ∷ []) q → is_known now q ≡ true) (λ h. ap (λ o. is_some (walk_of o)) here.2)
+        (λ q e h. absurd (let none = alone r q false e in omega (arith, none, h)));
+    others = own_or_other r (λ q. times (r ∷ []) q ≡ 0 → record_of now q ≡ record_of ts q)
+        (λ h. absurd (let one = alone r r true (same_self r) in omega (arith, one, h)))
         (λ q e h. record_elsewhere (walked answer) (λ t. refl) ts place r q at e);
   }

@@ -25,7 +25,7 @@ use Rattle.resolvo_queue.specs.Rows.{Row, all_false, candidates, list_rows, list
 use Rattle.resolvo_queue.specs.Scan.{are_literals_false, first_falsified, is_falsified}
 use Rattle.resolvo_queue.specs.ScanOrder.{scan_of}
 use Rattle.resolvo_queue.specs.Synced.{is_among}
-use Rattle.resolvo_queue.specs.Witnesses.{AreCandidates, AreNewSettled, AreSettled, AreTouching, AreWitnessed, IsAsked, IsToLookAt, IsWitness, OnlyBetter, Touches, Witnessed, are_candidates_false, by_condition, by_parent, by_witness, witness}
+use Rattle.resolvo_queue.specs.Witnesses.{AreCandidates, AreNewSettled, AreSettled, AreTouching, AreWitnessed, Found, IsAsked, IsToLookAt, IsWitness, NoneFalsified, OnlyBetter, Touches, Witnessed, are_candidates_false, by_condition, by_parent, by_witness, witness}
 use Rattle.resolvo_queue.specs.declared.requires_clause.RequiresClause.{RequiresClause}
 use Rattle.resolvo_queue.specs.declared.tracked_clause.TrackedClause.{TrackedClause}
 use Rattle.resolvo_queue.proofs.EntryLaws.{earlier_or_last, looked_up}
@@ -36,36 +36,29 @@ use Rattle.resolvo_queue.proofs.RegisterLaws.{parent_of}
 use Rattle.resolvo_queue.proofs.RegisteredLaws.{stands_left}
 use Rattle.resolvo_queue.proofs.ScanLaws.{append_right, at_scanned, scan_is}
 use Rattle.resolvo_queue.proofs.ScannedLaws.{scan_tracked}
+use Rattle.resolvo_queue.proofs.SettleLaws.{better_open, still_witness}
 use Rattle.resolvo_queue.proofs.SyncLaws.{both_of, condition_routed}
 use Rattle.resolvo_queue.proofs.SyncedLaws.{among_stands, literal_among}
 
 -- ---- values that change, and clauses that come
 
 module _ (literals : TrackedClause → List Lit) where
-  touching_more : (ws : List (Requirement × ℕ)) (variables more : List ℕ) (c : TrackedClause) →
+  touching_more : (ws : Found) (variables more : List ℕ) (c : TrackedClause) →
       AreTouching literals ws variables c → AreTouching literals ws (variables ++ more) c
   touching_more ws variables more c t = (t.0, stands_left variables more t.0 t.1, t.2)
 
   -- a variable that finds a clause finds it still, unless its requirement has a witness that isn't false
-  touching_better : (val : Values) (ws ws' : List (Requirement × ℕ)) (variables : List ℕ) (c : TrackedClause) → OnlyBetter val ws ws' →
-      AreTouching literals ws variables c → IsWitness val (witness ws' c.required) ⊎ AreTouching literals ws' variables c
-  touching_better val ws ws' variables c better t = go t.2
+  touching_better : {A : Type 0} (lists : Lists A) (val : Values) (ws ws' : Found) (variables : List ℕ) (c : TrackedClause) → OnlyBetter lists val ws ws' →
+      are_candidates_false lists val c.required ≡ false → AreTouching literals ws variables c → IsWitness val (witness ws' c.required) ⊎ AreTouching literals ws' variables c
+  touching_better lists val ws ws' variables c better some t = go t.2
     where
       go : Touches literals ws t.0 c → IsWitness val (witness ws' c.required) ⊎ AreTouching literals ws' variables c
       go (by_parent e) = inr (t.0, t.1, by_parent e)
       go (by_condition l s e) = inr (t.0, t.1, by_condition l s e)
-      go (by_witness e) = elim (better c.required) [
+      go (by_witness e) = elim (better_open lists val ws ws' better c.required some) [
         | inl same ↦ inr (t.0, t.1, by_witness (same ∙ e))
         | inr is ↦ inl is
       ]
-
--- a witness that isn't false isn't replaced by one that is
-witness_better : (val : Values) (ws ws' : List (Requirement × ℕ)) (r : Requirement) → OnlyBetter val ws ws' →
-    IsWitness val (witness ws r) → IsWitness val (witness ws' r)
-witness_better val ws ws' r better o = elim (better r) [
-  | inl same ↦ (o.0, same ∙ o.1, o.2)
-  | inr is ↦ is
-]
 
 -- a variable that is true by a trail is one of its variables
 valued_stands : (ds : List Decision) (x : ℕ) → known_true (values_of ds x) ≡ true → Stands x (variables_of ds)
@@ -126,16 +119,25 @@ module _ (literals : TrackedClause → List Lit) (clauses : List TrackedClause) 
   ]
 
   -- refused while witnesses were looked for
-  pub witnessed_refused : (val : Values) (w w' : Witnessed) → OnlyBetter val w.of w'.of → w'.changed ≡ w.changed → w'.looked ≡ w.looked →
-      AreWitnessed literals clauses val w → AreWitnessed literals clauses val w'
-  witnessed_refused val w w' better changed looked old n c at asked =
+  pub witnessed_refused : {A : Type 0} (lists : Lists A) (val : Values) (w w' : Witnessed) → OnlyBetter lists val w.of w'.of → NoneFalsified lists clauses literals val →
+      w'.changed ≡ w.changed → w'.looked ≡ w.looked → AreWitnessed literals clauses val w → AreWitnessed literals clauses val w'
+  witnessed_refused lists val w w' better none changed looked old n c at asked =
       rw (changed, looked) (elim (old n c at asked) [
-        | inl o ↦ inl (witness_better val w.of w'.of c.required better o)
+        | inl o ↦ inl (still_witness lists val w.of w'.of better c.required o)
         | inr t ↦ elim t [
           | inl new ↦ inr (inl new)
-          | inr f ↦ elim (touching_better literals val w.of w'.of w.changed c better f) [ inl o ↦ inl o | inr g ↦ inr (inr g) ]
+          | inr f ↦ elim (touching_better literals lists val w.of w'.of w.changed c better (none n c at asked) f) [ inl o ↦ inl o | inr g ↦ inr (inr g) ]
         ]
       ])
+
+  -- witnesses were looked for, and no clause is falsified
+  pub witnessed_settled : {A : Type 0} (lists : Lists A) (val : Values) (w w' : Witnessed) → OnlyBetter lists val w.of w'.of → NoneFalsified lists clauses literals val →
+      AreSettled lists clauses literals val w.changed w.of w'.of → AreNewSettled lists clauses literals val w.looked w'.of →
+      AreWitnessed literals clauses val w → AreWitnessed literals clauses val w'
+  witnessed_settled lists val w w' better none settled new_settled old n c at asked = elim (old n c at asked) [
+    | inl o ↦ inl (still_witness lists val w.of w'.of better c.required o)
+    | inr t ↦ inl (elim t [ inl new ↦ new_settled n c new at asked (none n c at asked) | inr f ↦ settled n c at asked f (none n c at asked) ])
+  ]
 
 -- other clauses and literals, with the same parents, requirements and literals
 pub witnessed_same : (literals literals' : TrackedClause → List Lit) (clauses clauses' : List TrackedClause) (val : Values) (w : Witnessed) →
@@ -219,20 +221,13 @@ module _ {N S A : Type 0} (refs : References N S A) (clauses : List TrackedClaus
       differ : true ≡ false → ⊥
       differ h = cc
 
-  -- witnesses were looked for, and no clause is falsified
-  pub witnessed_settled : (w w' : Witnessed) → OnlyBetter val w.of w'.of → AreSettled refs.lists clauses (clause_literals refs) val w.changed w.of w'.of →
-      AreNewSettled refs.lists clauses (clause_literals refs) val w.looked w'.of →
-      ((n : ℕ) (c : TrackedClause) → slice_get clauses n ≡ Some c → is_falsified_in refs val c ≡ false) →
-      AreWitnessed (clause_literals refs) clauses val w → AreWitnessed (clause_literals refs) clauses val w'
-  witnessed_settled w w' better settled new_settled none old n c at asked =
-      let open_one : are_candidates_false refs.lists val c.required ≡ false =
+  -- no clause is falsified
+  none_asked : ((n : ℕ) (c : TrackedClause) → slice_get clauses n ≡ Some c → is_falsified_in refs val c ≡ false) →
+      NoneFalsified refs.lists clauses (clause_literals refs) val
+  none_asked none n c at asked =
       sym (by_candidates n c at
       ∙ (ap (λ p. p && (are_literals_false val (clause_literals refs c) && are_candidates_false refs.lists val c.required)) asked.parent
-      ∙ ap (λ l. l && are_candidates_false refs.lists val c.required) asked.condition)) ∙ none n c at in
-      elim (old n c at asked) [
-        | inl o ↦ inl (witness_better val w.of w'.of c.required better o)
-        | inr t ↦ inl (elim t [ inl new ↦ new_settled n c new at asked open_one | inr f ↦ settled n c at asked f open_one ])
-      ]
+      ∙ ap (λ l. l && are_candidates_false refs.lists val c.required) asked.condition)) ∙ none n c at
 
 -- ---- the scan
 
@@ -255,7 +250,7 @@ none_stands t (y ∷ ys) x (there s) e = none_stands t ys x s (rest (t y) e)
     rest false h = h
 
 -- no clause is falsified where the scan finds none
-pub none_falsified_in : {N S A : Type 0} (refs : References N S A) (val : Values) (clauses : List TrackedClause) →
+none_falsified_in : {N S A : Type 0} (refs : References N S A) (val : Values) (clauses : List TrackedClause) →
     first_falsified val (literals_in refs) (rows_in refs) (map clause_of clauses) ≡ None →
     (n : ℕ) (c : TrackedClause) → slice_get clauses n ≡ Some c → is_falsified_in refs val c ≡ false
 none_falsified_in refs val clauses none n c at =
@@ -267,11 +262,16 @@ none_falsified_in refs val clauses none n c at =
     test : RequiresClause → Bool
     test d = is_falsified val (literals_in refs) (rows_in refs) d
 
+-- so the candidates of a clause that is asked aren't all false
+pub none_asked_in : {N S A : Type 0} (refs : References N S A) (val : Values) (clauses : List TrackedClause) → AreAskable refs clauses →
+    first_falsified val (literals_in refs) (rows_in refs) (map clause_of clauses) ≡ None → NoneFalsified refs.lists clauses (clause_literals refs) val
+none_asked_in refs val clauses askable none = none_asked refs clauses askable val (none_falsified_in refs val clauses none)
+
 -- ---- lists of a requirement that had none
 
 -- they change no candidate of another
 pub candidates_with_lists : {A : Type 0} (lists : Lists A) (r : Requirement) (new : Vec (Vec ℕ A) A) → lookup (same_requirement r) lists ≡ None →
-    (o : Listed) (ws : List (Requirement × ℕ)) → AreCandidates lists o ws → AreCandidates (with_entry lists r new) o ws
+    (o : Listed) (ws : Found) → AreCandidates lists o ws → AreCandidates (with_entry lists r new) o ws
 candidates_with_lists {A} lists r new none o ws own q x e =
     ((own q x e).0, subst Has (sym (looked_up lists r new q)) (go (same_requirement q r) refl (own q x e).1))
   where

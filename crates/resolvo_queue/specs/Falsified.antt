@@ -2,7 +2,6 @@
 use Rattle.std.specs.Prelude.{◌≡◌, ℕ, ◌<◌, Bool, true, false, Option, None, Some, List, slice_get, IfSome, MatchOption}
 use Rattle.std.specs.Ordering.{is_lt}
 use Rattle.decisions.specs.Literals.{Values}
-use Rattle.providers.specs.declared.requirement.Requirement.{Requirement}
 use Rattle.resolvo_queue.specs.Inspection.{clause_of}
 use Rattle.resolvo_queue.specs.Listing.{IsListedWell}
 use Rattle.resolvo_queue.specs.Positions.{position_cmp, is_after}
@@ -11,7 +10,7 @@ use Rattle.resolvo_queue.specs.References.{References, literals_in, rows_in}
 use Rattle.resolvo_queue.specs.Scan.{is_falsified}
 use Rattle.resolvo_queue.specs.Synced.{FindsConditions}
 use Rattle.resolvo_queue.specs.Tracking.{IsInOrder, Tracking}
-use Rattle.resolvo_queue.specs.Witnesses.{AreCandidates}
+use Rattle.resolvo_queue.specs.Witnesses.{AreCandidates, Found}
 use Rattle.resolvo_queue.specs.declared.tracked_clause.TrackedClause.{TrackedClause}
 
 -- the clause stands before the other one in the scan, if there is one
@@ -55,7 +54,7 @@ module _ (clauses : List TrackedClause) (holds : TrackedClause → Bool) where
     pub seen : (n : ℕ) (c : TrackedClause) → slice_get clauses n ≡ Some c → holds c ≡ true → Seen n c → Covers new c
 
 -- what the code needs, to find clauses by variables
-pub record CanLook {N S A : Type 0} (refs : References N S A) (t : Tracking) (ws : List (Requirement × ℕ)) : Type 0 where
+pub record CanLook {N S A : Type 0} (refs : References N S A) (t : Tracking) (ws : Found) : Type 0 where
   pub order : IsInOrder t
   pub conditions : FindsConditions t.clauses (clause_literals refs) t.by_condition
   pub listed : IsListedWell refs.lists t.occurrences t.requirements

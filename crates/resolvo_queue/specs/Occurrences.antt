@@ -1,5 +1,5 @@
 -- Which requirements list a variable, and how reading a requirement's rows changes it.
-use Rattle.std.specs.Prelude.{◌≡◌, ◌⊎◌, ℕ, Bool, true, List, Contains}
+use Rattle.std.specs.Prelude.{◌≡◌, ◌⊎◌, ℕ, Bool, true, List, Contains, count_by}
 use Rattle.std.specs.List.{list_any}
 use Rattle.providers.specs.Requirement.{same_requirement}
 use Rattle.providers.specs.declared.requirement.Requirement.{Requirement}
@@ -10,6 +10,10 @@ use Rattle.resolvo_queue.specs.References.{Lists}
 pub record Reading (A : Type 0) : Type 0 where
   pub lists : Lists A
   pub walked : List Requirement
+
+-- how often a requirement stands in a log
+abbrev pub times : List Requirement → Requirement → ℕ
+times log r = count_by (same_requirement r) log
 
 -- the listed requirements, and by each variable requirements with it in a row
 pub record Listed : Type 0 where

@@ -13,7 +13,7 @@ use Rattle.resolvo_queue.specs.References.{References, HasParts, rows_in}
 use Rattle.resolvo_queue.specs.Synced.{FindsConditions}
 use Rattle.resolvo_queue.specs.Synced.{IsSynced as KeepsQueued}
 use Rattle.resolvo_queue.specs.Tracking.{IsInOrder, Tracking, tracking_of}
-use Rattle.resolvo_queue.specs.Witnesses.{AreCandidates, AreWitnessed, Witnessed, witnessed}
+use Rattle.resolvo_queue.specs.Witnesses.{AreCandidates, AreWitnessed, Witnessed}
 use Rattle.resolvo_queue.specs.declared.parent_value.ParentValue.{ParentValue}
 use Rattle.resolvo_queue.specs.declared.tracked_clauses.TrackedClauses.{TrackedClauses}
 use Rattle.resolvo_queue.specs.declared.witnesses.Witnesses.{Witnesses}
@@ -32,8 +32,11 @@ pub record Queue (N H : Type 0) : Type 0 where
   pub hot : H
   -- what is kept beside: calls tell of it only what `StandsOn` says, and how often requirements were walked
   pub inside : Tracking
-  -- who may be falsified
+  -- who may be falsified: calls tell of it what `StandsOn` says, and how often requirements were looked at
   pub witnesses : Witnessed
+
+abbrev pub witnessed : {A : Type 0} → Witnesses A → Witnessed
+witnessed w = record { of = w.of; changed = w.changed.items; looked = w.looked }
 
 -- a queue's value, by what it keeps
 abbrev pub queue_of : {N H A : Type 0} → TrackedClauses A → List (Vec N A) → H → List ParentValue → Witnesses A → Queue N H

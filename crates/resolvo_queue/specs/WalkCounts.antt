@@ -1,8 +1,10 @@
--- How often the rows of requirements were walked, and how often they may be walked before a variable changes.
-use Rattle.std.specs.Prelude.{◌≡◌, ◌⊎◌, ℕ, ◌+◌, ◌≤◌, Bool, true, false, is_some, List, ◌++◌, Option, None, Some, find, count_by, drop}
+-- How often the rows of requirements were walked, or looked at for a witness, and how often they may be walked before a
+-- variable changes.
+use Rattle.std.specs.Prelude.{◌≡◌, ◌⊎◌, ℕ, ◌+◌, ◌≤◌, Bool, true, false, is_some, List, ◌++◌, Option, None, Some, find, drop}
 use Rattle.decisions.specs.declared.decision.Decision.{Decision}
 use Rattle.providers.specs.Requirement.{same_requirement}
 use Rattle.providers.specs.declared.requirement.Requirement.{Requirement}
+use Rattle.resolvo_queue.specs.Occurrences.{times}
 use Rattle.resolvo_queue.specs.Order.{Stands}
 use Rattle.resolvo_queue.specs.Queue.{Queue}
 use Rattle.resolvo_queue.specs.Routing.{variables_of}
@@ -37,11 +39,11 @@ walks q r = walks_in q.inside.requirements r
 abbrev pub owed : {N H : Type 0} → Queue N H → Requirement → ℕ
 owed q r = owed_in q.inside.requirements r
 
--- ---- a question
+-- how often its rows were looked at for a witness
+abbrev pub looks : {N H : Type 0} → Queue N H → Requirement → ℕ
+looks q r = times q.witnesses.of.looks r
 
--- how often a requirement stands in a log
-abbrev pub times : List Requirement → Requirement → ℕ
-times log r = count_by (same_requirement r) log
+-- ---- a question
 
 -- requirements were walked, each once, and no others; the log has them, and each walk is owed no more
 pub record WalksOnce (old now : List Tracked) (log log' : List Requirement) : Type 0 where

@@ -1,7 +1,8 @@
 -- Which clauses may be falsified: a requirement isn't, as long as its witness, a variable of one of its rows, isn't false.
-use Rattle.std.specs.Prelude.{◌≡◌, ◌⊎◌, ◌<◌, ◌≤◌, ℕ, Bool, true, false, List, [], Option, Some, slice_get, length, Contains, IfSome, IsSome}
+use Rattle.std.specs.Prelude.{◌≡◌, ◌⊎◌, ◌+◌, ◌<◌, ◌≤◌, ℕ, Bool, true, false, if◌then◌else◌, List, [], Option, None, Some, slice_get, length, Contains, IfSome, IsSome}
 use Rattle.std.specs.List.{list_all}
 use Rattle.std.specs.Map.{lookup}
+use Rattle.std.specs.Option.{option_flatten}
 use Rattle.decisions.specs.Literals.{Lit, Values, variable_of, known_true, known_false}
 use Rattle.providers.specs.Requirement.{same_requirement}
 use Rattle.providers.specs.declared.requirement.Requirement.{Requirement}
@@ -9,45 +10,46 @@ use Rattle.clauses.specs.Clauses.{condition_literals}
 use Rattle.clauses.specs.Stored.{kept_in}
 use Rattle.clauses.specs.declared.disjunction.Disjunction.{Disjunction}
 use Rattle.resolvo_queue.specs.Listing.{IsListedWell}
-use Rattle.resolvo_queue.specs.Occurrences.{Listed, is_listed}
+use Rattle.resolvo_queue.specs.Occurrences.{Listed, is_listed, times}
 use Rattle.resolvo_queue.specs.Order.{Stands}
 use Rattle.resolvo_queue.specs.References.{Lists}
 use Rattle.resolvo_queue.specs.Rows.{candidates}
 use Rattle.resolvo_queue.specs.Scan.{are_literals_false}
 use Rattle.resolvo_queue.specs.Tracked.{Tracked}
 use Rattle.resolvo_queue.specs.declared.tracked_clause.TrackedClause.{TrackedClause}
-use Rattle.resolvo_queue.specs.declared.witnesses.Witnesses.{Witnesses}
+
+-- what looks for witnesses found, the last one for each requirement that was looked at; and the looks, oldest first
+pub record Found : Type 0 where
+  pub entries : List (Requirement × Option ℕ)
+  pub looks : List Requirement
 
 -- the witnesses of requirements; the variables that changed since they were last looked for, and how many clauses there were then
 pub record Witnessed : Type 0 where
-  pub of : List (Requirement × ℕ)
+  pub of : Found
   pub changed : List ℕ
   pub looked : ℕ
 
-abbrev pub witnessed : {A : Type 0} → Witnesses A → Witnessed
-witnessed w = record { of = w.of; changed = w.changed.items; looked = w.looked }
-
-abbrev pub witness : List (Requirement × ℕ) → Requirement → Option ℕ
-witness ws r = lookup (same_requirement r) ws
+abbrev pub witness : Found → Requirement → Option ℕ
+witness ws r = option_flatten (lookup (same_requirement r) ws.entries)
 
 -- there is a witness, and it isn't false
 abbrev pub IsWitness : Values → Option ℕ → Type 0
 IsWitness val o = (x : ℕ) × (o ≡ Some x) × (known_false (val x) ≡ false)
 
 -- a witness is a candidate of its requirement, which is listed
-abbrev pub AreCandidates : {A : Type 0} → Lists A → Listed → List (Requirement × ℕ) → Type 0
+abbrev pub AreCandidates : {A : Type 0} → Lists A → Listed → Found → Type 0
 AreCandidates lists o ws =
     (r : Requirement) (x : ℕ) → witness ws r ≡ Some x → (is_listed o r ≡ true) × Contains (candidates lists r) x
 
 module _ (literals : TrackedClause → List Lit) where
   -- the clause is found by a variable: it is the parent, stands in the condition, or is the requirement's witness
-  pub data Touches (ws : List (Requirement × ℕ)) (v : ℕ) (c : TrackedClause) : Type 0 where
+  pub data Touches (ws : Found) (v : ℕ) (c : TrackedClause) : Type 0 where
     by_parent : c.parent ≡ v → Touches ws v c
     by_condition : (l : Lit) → Stands l (literals c) → variable_of l ≡ v → Touches ws v c
     by_witness : witness ws c.required ≡ Some v → Touches ws v c
 
   -- one of the variables finds the clause
-  abbrev pub AreTouching : List (Requirement × ℕ) → List ℕ → TrackedClause → Type 0
+  abbrev pub AreTouching : Found → List ℕ → TrackedClause → Type 0
   AreTouching ws variables c = (v : ℕ) × Stands v variables × Touches ws v c
 
   -- the clause came since witnesses were last looked for, or a variable that changed finds it
@@ -71,23 +73,52 @@ are_candidates_false lists val r = list_all (λ x. known_false (val x)) (candida
 
 -- ---- how witnesses are looked for
 
--- a witness stays, or one that isn't false comes
-abbrev pub OnlyBetter : Values → (old new : List (Requirement × ℕ)) → Type 0
-OnlyBetter val old new = (r : Requirement) → (witness new r ≡ witness old r) ⊎ IsWitness val (witness new r)
+-- there was no witness or a false one, and there is none any more, as all candidates are false
+pub record IsGivenUp {A : Type 0} (lists : Lists A) (val : Values) (old new : Found) (r : Requirement) : Type 0 where
+  pub was : IsWitness val (witness old r) → ⊥
+  pub none : witness new r ≡ None
+  pub all : are_candidates_false lists val r ≡ true
+
+-- a witness stays, or one that isn't false comes, or it is given up
+abbrev pub OnlyBetter : {A : Type 0} → Lists A → Values → (old new : Found) → Type 0
+OnlyBetter lists val old new =
+    (r : Requirement) →
+    (witness new r ≡ witness old r) ⊎ (IsWitness val (witness new r) ⊎ IsGivenUp lists val old new r)
+
+-- by a witness, and whether all candidates are false
+abbrev pub owed_look : Values → Bool → Option ℕ → ℕ
+owed_look val all None = if all then 0 else 1
+owed_look val all (Some x) = if known_false (val x) then 1 else 0
+
+-- how many looks a requirement may cost while no value changes: one, but none if its witness isn't false, or if it has
+-- none and all its candidates are false
+abbrev pub owed_looks : {A : Type 0} → Lists A → Values → Found → Requirement → ℕ
+owed_looks lists val ws r = owed_look val (are_candidates_false lists val r) (witness ws r)
+
+-- each look was one that was owed
+abbrev pub OnlyOwed : {A : Type 0} → Lists A → Values → (old new : Found) → Type 0
+OnlyOwed lists val old new =
+    (r : Requirement) → times new.looks r + owed_looks lists val new r ≤ times old.looks r + owed_looks lists val old r
+
+-- no clause is falsified: each whose parent is true and whose condition is met has a candidate that isn't false
+abbrev pub NoneFalsified : {A : Type 0} → Lists A → List TrackedClause → (TrackedClause → List Lit) → Values → Type 0
+NoneFalsified lists clauses literals val =
+    (n : ℕ) (c : TrackedClause) → slice_get clauses n ≡ Some c → IsAsked literals val c →
+    are_candidates_false lists val c.required ≡ false
 
 -- where the requirement has a candidate that isn't false, it has a witness that isn't
-abbrev pub HasWitness : {A : Type 0} → Lists A → Values → List (Requirement × ℕ) → Requirement → Type 0
+abbrev pub HasWitness : {A : Type 0} → Lists A → Values → Found → Requirement → Type 0
 HasWitness lists val ws r = are_candidates_false lists val r ≡ false → IsWitness val (witness ws r)
 
 -- each clause that one of the variables finds, whose parent is true and whose condition is met, has a witness that isn't false
 -- where its requirement has a candidate that isn't
-abbrev pub AreSettled : {A : Type 0} → Lists A → List TrackedClause → (TrackedClause → List Lit) → Values → List ℕ → (old new : List (Requirement × ℕ)) → Type 0
+abbrev pub AreSettled : {A : Type 0} → Lists A → List TrackedClause → (TrackedClause → List Lit) → Values → List ℕ → (old new : Found) → Type 0
 AreSettled lists clauses literals val variables old new =
     (n : ℕ) (c : TrackedClause) → slice_get clauses n ≡ Some c → IsAsked literals val c → AreTouching literals old variables c →
     HasWitness lists val new c.required
 
 -- each clause from a number on, whose parent is true and whose condition is met, has one where its requirement has such a candidate
-abbrev pub AreNewSettled : {A : Type 0} → Lists A → List TrackedClause → (TrackedClause → List Lit) → Values → (looked : ℕ) → List (Requirement × ℕ) → Type 0
+abbrev pub AreNewSettled : {A : Type 0} → Lists A → List TrackedClause → (TrackedClause → List Lit) → Values → (looked : ℕ) → Found → Type 0
 AreNewSettled lists clauses literals val looked ws =
     (n : ℕ) (c : TrackedClause) → looked ≤ n → slice_get clauses n ≡ Some c → IsAsked literals val c → HasWitness lists val ws c.required
 
@@ -102,7 +133,8 @@ HaveEntries lists disjunctions clauses =
     IfSome c.condition (λ d. d < length disjunctions) × IsSome (lookup (same_requirement c.required) lists)
 
 -- witnesses are looked for, and for it requirements are listed
-pub record Settles {A : Type 0} (lists : Lists A) (val : Values) (o o' : Listed) (ws ws' : List (Requirement × ℕ)) : Type 0 where
-  pub better : OnlyBetter val ws ws'
+pub record Settles {A : Type 0} (lists : Lists A) (val : Values) (o o' : Listed) (ws ws' : Found) : Type 0 where
+  pub better : OnlyBetter lists val ws ws'
+  pub owed : OnlyOwed lists val ws ws'
   pub candidates : AreCandidates lists o ws → AreCandidates lists o' ws'
   pub listed : (ts : List Tracked) → IsListedWell lists o ts → IsListedWell lists o' ts

@@ -44,7 +44,7 @@
 //! A clause isn't falsified as long as one row of its requirement isn't false. So a requirement keeps a witness, a variable of
 //! such a row, and a clause is looked at only if it came since, or if a variable changed that is its parent, stands in its
 //! condition or is its requirement's witness ([`DecideQueue::falsified_since`]). The next decision then looks for other
-//! witnesses, in the same places.
+//! witnesses, in the same places, at the rows of each requirement at most once; each look is kept in a log.
 //!
 //! So the walks of a requirement can be counted. It owes those that were done, and one more while nothing is known of its
 //! rows. It owes the first as its first clause comes; a sync makes it owe at most one more, and only if a variable of its
@@ -70,8 +70,8 @@ ghost use Rattle.resolvo_queue.specs.Queue.{AgreesBelow, AreNamed, HasTrail, IsN
 ghost use Rattle.resolvo_queue.specs.References.{CanWalk, IsWalkable, Lists, References, literals_in, references, rows_in, score_in};
 ghost use Rattle.resolvo_queue.specs.Scan.{first_falsified, is_eligible, scan};
 ghost use Rattle.resolvo_queue.specs.Synced.{FindsConditions};
-ghost use Rattle.resolvo_queue.specs.WalkCounts.{HasNoneOf, WalksOnce, changed_from, owed, walks};
-ghost use Rattle.resolvo_queue.specs.Witnesses.{AreCandidates, HaveEntries, literals_by};
+ghost use Rattle.resolvo_queue.specs.WalkCounts.{HasNoneOf, WalksOnce, changed_from, looks, owed, walks};
+ghost use Rattle.resolvo_queue.specs.Witnesses.{AreCandidates, HaveEntries, NoneFalsified, literals_by};
 
 use crate::clauses_by_name::ClausesByName;
 use crate::condition::condition_of;
@@ -131,6 +131,7 @@ impl<D: DependencyProvider> DecideQueue<D> {
     pub fn new(alloc: D::Alloc) -> Self
         ensures new { IsNew D.NameId.Set.has result }
         ensures owed { (r : ARequirement) → owed result r ≡ 0 }
+        ensures looks { (r : ARequirement) → looks result r ≡ 0 }
         ensures stands { (refs : References D.NameId D.SolvableId D.Alloc) → StandsOn refs result }
     {
         DecideQueue {
@@ -173,6 +174,7 @@ impl<D: DependencyProvider> DecideQueue<D> {
         ensures unchanged { IsUnchanged self.old self.new D.NameId.Set.has }
         ensures walks { SameValues (walks self.old) (walks self.new) }
         ensures owed { SameValues (owed self.old) (owed self.new) }
+        ensures looks { SameValues (looks self.old) (looks self.new) }
         ensures stands { (refs : References D.NameId D.SolvableId D.Alloc) → StandsOn refs self.old → StandsOn refs self.new }
     {
         self.tracked.only_hot = standard;
@@ -200,9 +202,10 @@ impl<D: DependencyProvider> DecideQueue<D> {
         ensures full { (result ≡ Err TooManyClauses) ↔ (2 ^ 32 - 1 ≤ length self.old.clauses) }
         ensures memory { IfErr result (λ e. e ≢ TooManyClauses → e ≡ OutOfMemory) }
 
-        // Nothing is walked, whatever the result. One walk is owed of a requirement that is new; it may be owed also where
-        // the clause was refused, and then isn't owed twice.
+        // Nothing is walked or looked at, whatever the result. One walk is owed of a requirement that is new; it may be owed
+        // also where the clause was refused, and then isn't owed twice.
         ensures walks { SameValues (walks self.old) (walks self.new) }
+        ensures looks { SameValues (looks self.old) (looks self.new) }
         ensures owed { (r : ARequirement) → (owed self.new r ≡ owed self.old r) ⊎ ((r ≡ requirement) × (owed self.old r ≡ 0) × (owed self.new r ≡ 1)) }
         ensures owes_one { OnOk result (1 ≤ owed self.new requirement) }
 
@@ -249,6 +252,7 @@ impl<D: DependencyProvider> DecideQueue<D> {
         ensures too_large { IsTrue (D.NameId.Set.is_too_large name) → result ≡ Err IdSpace }
         ensures walks { SameValues (walks self.old) (walks self.new) }
         ensures owed { SameValues (owed self.old) (owed self.new) }
+        ensures looks { SameValues (looks self.old) (looks self.new) }
         ensures stands { (refs : References D.NameId D.SolvableId D.Alloc) → StandsOn refs self.old → StandsOn refs self.new }
     {
         self.heat(name)?;
@@ -264,6 +268,7 @@ impl<D: DependencyProvider> DecideQueue<D> {
         ensures synced { SameSync self.old self.new }
         ensures hot { self.new.hot ≡ self.old.hot }
         ensures records { self.new.inside.requirements ≡ self.old.inside.requirements }
+        ensures witnesses { self.new.witnesses ≡ self.old.witnesses }
         ensures memory { IfErr result (λ e. e ≡ OutOfMemory) }
         ensures fits { IsTrue (D.NameId.Set.is_too_large name) → IsOk result }
         ensures stands { (refs : References D.NameId D.SolvableId D.Alloc) → StandsOn refs self.old → StandsOn refs self.new }
@@ -295,9 +300,11 @@ impl<D: DependencyProvider> DecideQueue<D> {
         ensures memory { IfErr result (λ e. e ≡ OutOfMemory) }
         ensures stands { (refs : References D.NameId D.SolvableId D.Alloc) → StandsOn refs self.old → StandsOn refs self.new }
 
-        // Nothing is walked, whatever the result, and at most one walk more is owed of each requirement. Unless the last sync was
-        // refused, none more is owed where no row has the variable of a decision from the floor on, in either trail.
+        // Nothing is walked or looked at, whatever the result, and at most one walk more is owed of each requirement. Unless
+        // the last sync was refused, none more is owed where no row has the variable of a decision from the floor on, in
+        // either trail.
         ensures walks { SameValues (walks self.old) (walks self.new) }
+        ensures looks { SameValues (looks self.old) (looks self.new) }
         ensures owed { (r : ARequirement) → owed self.new r ≤ owed self.old r + 1 }
         ensures owed_still { self.old.must_start_anew ≡ false → (refs : References D.NameId D.SolvableId D.Alloc) → StandsOn refs self.old →
             (r : ARequirement) → IsWalkable refs.universe refs.lists r → HasNoneOf (changed_from floor trail.now self.old) (rows_in refs r) →
@@ -328,11 +335,13 @@ impl<D: DependencyProvider> DecideQueue<D> {
         requires conditions { FindsConditions self.old.inside.clauses (literals_by disjunctions.now) self.old.inside.by_condition }
         requires listed { IsListedWell reader.now.lists self.old.inside.occurrences self.old.inside.requirements }
         requires candidates { AreCandidates reader.now.lists self.old.inside.occurrences self.old.witnesses.of }
+        requires none_falsified { NoneFalsified reader.now.lists self.old.inside.clauses (literals_by disjunctions.now)
+            (values_in map.now) }
         ensures unchanged { IsUnchanged self.old self.new D.NameId.Set.has }
         ensures records { self.new.inside.requirements ≡ self.old.inside.requirements }
         ensures stands { (universe : Universe D.NameId D.SolvableId) → let refs = references universe reader.now.lists disjunctions.now in
-            StandsOn refs self.old → All (CanWalk refs) self.old.clauses → IsSynced (values_in map.now) self.old →
-            first_falsified (values_in map.now) (literals_in refs) (rows_in refs) self.old.clauses ≡ None → StandsOn refs self.new }
+            StandsOn refs self.old → IsSynced (values_in map.now) self.old → StandsOn refs self.new }
+        ensures looks { (r : ARequirement) → looks self.new r ≤ looks self.old r + 1 }
         ensures memory { IfErr result (λ e. e ≡ OutOfMemory) }
     {
         self.tracked
@@ -372,6 +381,7 @@ impl<D: DependencyProvider> DecideQueue<D> {
         // Whatever the result, the requirements that came to the reader's log were walked once each, and no walk more is owed.
         ensures walks { WalksOnce self.old.inside.requirements self.new.inside.requirements reader.old.walked reader.new.walked }
         ensures owed { SameValues (owed self.old) (owed self.new) }
+        ensures looks { SameValues (looks self.old) (looks self.new) }
     {
         let question = Question {
             map,
@@ -422,8 +432,10 @@ impl<D: DependencyProvider> DecideQueue<D> {
         ensures stands { StandsOn (references (D.universe provider.now) reader.old.lists disjunctions.now) self.new }
 
         // Whatever the result, the requirements that came to the reader's log were walked once each, and no walk more is owed.
+        // None is looked at more than once for a witness.
         ensures walks { WalksOnce self.old.inside.requirements self.new.inside.requirements reader.old.walked reader.new.walked }
         ensures owed { SameValues (owed self.old) (owed self.new) }
+        ensures looks { (r : ARequirement) → looks self.new r ≤ looks self.old r + 1 }
     {
         self.settle(map, reader, disjunctions)?;
         self.pick(map, reader, disjunctions, scores, largest, provider)

@@ -14,6 +14,7 @@ ghost use Rattle.resolvo_queue.specs.Witnesses.{AreTouching, Touches, witness};
 ghost use Rattle.resolvo_queue.specs.declared.tracked_clause.TrackedClause.{TrackedClause as ATrackedClause};
 
 use crate::falsification::{comes_first, falsified_clause, is_falsified_clause};
+use crate::row_reader::WitnessMap;
 use crate::tracked_clause::TrackedClause;
 use crate::tracked_clauses::TrackedClauses;
 use crate::witnesses::Witnesses;
@@ -101,14 +102,14 @@ fn look_at_new<I: Interner, A: Allocator + Copy>(
 
 /// Whether the variable is the requirement's witness.
 pub(crate) fn is_witness<A: Allocator + Copy>(
-    witnesses: &RequirementMap<VariableId, A>,
+    witnesses: &WitnessMap<A>,
     requirement: Requirement,
     variable: VariableId,
 ) -> bool
     ensures { IsTrue result ↔ (witness witnesses.now requirement ≡ Some variable) }
 {
     match witnesses.get(requirement) {
-        Some(witness) => *witness == variable,
+        Some(witness) => witness == variable,
         None => false,
     }
 }
@@ -145,7 +146,7 @@ impl<A: Allocator + Copy> TrackedClauses<A> {
     /// Looks at the clauses with a requirement, if the variable is its witness.
     fn look_at_requirement<I: Interner>(
         &self,
-        witnesses: &RequirementMap<VariableId, A>,
+        witnesses: &WitnessMap<A>,
         requirement: Requirement,
         variable: VariableId,
         first: Option<TrackedClause>,
@@ -168,7 +169,7 @@ impl<A: Allocator + Copy> TrackedClauses<A> {
     /// Looks at the clauses of the requirements whose witness the variable is.
     fn look_at_witnessed<I: Interner>(
         &self,
-        witnesses: &RequirementMap<VariableId, A>,
+        witnesses: &WitnessMap<A>,
         variable: VariableId,
         first: Option<TrackedClause>,
         map: &DecisionMap<A>,
@@ -200,7 +201,7 @@ impl<A: Allocator + Copy> TrackedClauses<A> {
     /// requirement.
     fn look_by<I: Interner>(
         &self,
-        witnesses: &RequirementMap<VariableId, A>,
+        witnesses: &WitnessMap<A>,
         variable: VariableId,
         first: Option<TrackedClause>,
         map: &DecisionMap<A>,
@@ -230,7 +231,7 @@ impl<A: Allocator + Copy> TrackedClauses<A> {
     /// Looks at the clauses that these variables find.
     fn look_by_variables<I: Interner>(
         &self,
-        witnesses: &RequirementMap<VariableId, A>,
+        witnesses: &WitnessMap<A>,
         variables: &[VariableId],
         first: Option<TrackedClause>,
         map: &DecisionMap<A>,
@@ -260,7 +261,7 @@ impl<A: Allocator + Copy> TrackedClauses<A> {
     /// Looks at the clauses that the variables of these decisions find.
     fn look_by_decisions<I: Interner>(
         &self,
-        witnesses: &RequirementMap<VariableId, A>,
+        witnesses: &WitnessMap<A>,
         decisions: &[Decision],
         first: Option<TrackedClause>,
         map: &DecisionMap<A>,

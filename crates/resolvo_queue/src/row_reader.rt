@@ -1,7 +1,8 @@
-//! The one way to the rows of requirements, and which requirements have a variable in a row.
+//! The one way to the rows of requirements, which requirements have a variable in a row, and a row of each that isn't false.
 //!
 //! A [`RowReader`] hands no row out: it answers a requirement's frontier, and puts the requirement to the variables of
-//! its rows. What a queue knows of rows it knows by these two calls.
+//! its rows. A [`WitnessMap`] asks it for a variable of a row that isn't false. What a question knows of rows it knows by
+//! these three calls: the first and the last put the requirement to a log, and the second is made once for each.
 ghost use Rattle.std.specs.Prelude.{◌≡◌, [], ◌∷◌, ◌++◌, true, false, if◌then◌else◌, flat_map, Contains, IsSome, IfSome, MatchOption, OnOk, OnErr, IfErr};
 ghost use Rattle.std.specs.List.{list_all};
 ghost use Rattle.std.specs.Map.{lookup, keys_of};
@@ -13,7 +14,7 @@ ghost use Rattle.decisions.specs.Literals.{known_false};
 ghost use Rattle.resolvo_queue.specs.Occurrences.{GrowsWith, HasAll, is_listed, listing};
 ghost use Rattle.resolvo_queue.specs.References.{IsWalkable};
 ghost use Rattle.resolvo_queue.specs.Rows.{candidates, frontier, loaded_rows};
-ghost use Rattle.resolvo_queue.specs.Witnesses.{are_candidates_false};
+ghost use Rattle.resolvo_queue.specs.Witnesses.{are_candidates_false, witness};
 
 use crate::frontier::Frontier;
 use crate::lists_by_variable::ListsByVariable;
@@ -73,11 +74,7 @@ impl<'l, A: Allocator + Copy> RowReader<'l, A> {
     }
 
     /// The variable of a row that isn't false, if there is one: which, is left open. Takes no memory.
-    pub(crate) fn not_false(
-        &self,
-        requirement: Requirement,
-        map: &DecisionMap<A>,
-    ) -> Option<VariableId>
+    fn not_false(&self, requirement: Requirement, map: &DecisionMap<A>) -> Option<VariableId>
         requires { IsSome (lookup (same_requirement requirement) self.now.lists) }
         ensures { MatchOption result (are_candidates_false self.now.lists (values_in map.now) requirement ≡ true)
             (λ x. Contains (candidates self.now.lists requirement) x × (known_false (values_in map.now x) ≡ false)) }
@@ -102,6 +99,68 @@ impl<'l, A: Allocator + Copy> RowReader<'l, A> {
     {
         add_lists(occurrences, requirement, &self.lists[requirement])?;
         occurrences.set_listed(requirement)
+    }
+}
+
+/// The witnesses of requirements, as the last look at the rows of each found one or none, and a log of the looks.
+#[derive(Drop)]
+pub(crate) struct WitnessMap<A: Allocator + Copy> {
+    entries: RequirementMap<Option<VariableId>, A>,
+    looks: WalkLog,
+}
+
+impl<A: Allocator + Copy> Model for WitnessMap<A> {
+    ghost use Rattle.resolvo_queue.specs.Witnesses.{Found};
+
+    ghost Value = { Found };
+
+    ghost view = { λ w. record { entries = w.entries; looks = w.looks.walked } };
+}
+
+impl<A: Allocator + Copy> WitnessMap<A> {
+    /// No requirement has a witness, and none was looked at. Takes no memory.
+    pub(crate) fn new(alloc: A) -> Self
+        ensures entries { result.entries ≡ [] }
+        ensures looks { result.looks ≡ [] }
+    {
+        WitnessMap {
+            entries: RequirementMap::new(alloc),
+            looks: WalkLog::new(),
+        }
+    }
+
+    /// The requirement's witness, if the last look found one.
+    pub(crate) fn get(&self, requirement: Requirement) -> Option<VariableId>
+        ensures { result ≡ witness self.now requirement }
+    {
+        match self.entries.get(requirement) {
+            Some(found) => *found,
+            None => None,
+        }
+    }
+
+    /// Looks for a variable of a row that isn't false, and keeps what it finds, be it nothing. Refused, it reads and
+    /// changes nothing.
+    pub(crate) fn look(
+        &mut self,
+        requirement: Requirement,
+        map: &DecisionMap<A>,
+        reader: &RowReader<'_, A>,
+    ) -> Result<(), StoreError>
+        requires { IsSome (lookup (same_requirement requirement) reader.now.lists) }
+        ensures found { OnOk result (MatchOption (witness self.new requirement)
+            (are_candidates_false reader.now.lists (values_in map.now) requirement ≡ true)
+            (λ x. Contains (candidates reader.now.lists requirement) x × (known_false (values_in map.now x) ≡ false))) }
+        ensures others { OnOk result ((r : ARequirement) → same_requirement r requirement ≡ false →
+            witness self.new r ≡ witness self.old r) }
+        ensures looks { OnOk result (self.new.looks ≡ self.old.looks ++ requirement ∷ []) }
+        ensures err { OnErr result (self.new ≡ self.old) }
+        ensures memory { IfErr result (λ e. e ≡ OutOfMemory) }
+    {
+        let witness = self.entries.get_or_insert_with(requirement, || None)?;
+        *witness = reader.not_false(requirement, map);
+        self.looks = self.looks.and(&requirement);
+        Ok(())
     }
 }
 

@@ -1,22 +1,23 @@
 //! What tells which clauses may be falsified.
 //!
 //! A clause isn't falsified as long as one candidate of its requirement isn't false. So a requirement keeps a witness: a
-//! candidate that wasn't false when one was last looked for. Where it has become false, where a clause's parent or a variable
-//! of its condition changed, or where a clause came, the clause is looked at again; all others can't be falsified.
+//! candidate that wasn't false when one was last looked for, if there was one. Where it has become false, where a
+//! clause's parent or a variable of its condition changed, or where a clause came, the clause is looked at again; all
+//! others can't be falsified.
 ghost use Rattle.std.specs.Prelude.{◌≡◌, ◌++◌, ◌≤◌, [], true, false, drop, length, OnOk, OnErr, IfErr};
 ghost use Rattle.typed_ids.specs.declared.error.StoreError.TheVariants.{OutOfMemory};
 ghost use Rattle.resolvo_queue.specs.Routing.{variables_of};
 
+use crate::row_reader::WitnessMap;
 use crate::tracked_clauses::TrackedClauses;
 use decisions::Decision;
-use providers::RequirementMap;
 use std::alloc::Allocator;
 use typed_ids::{StoreError, VariableId};
 
 /// Witnesses of requirements, and what changed since they were last looked for.
 #[derive(Drop)]
 pub(crate) struct Witnesses<A: Allocator + Copy> {
-    pub(crate) of: RequirementMap<VariableId, A>,
+    pub(crate) of: WitnessMap<A>,
     /// The variables whose values may have changed since.
     pub(crate) changed: Vec<VariableId, A>,
     /// How many clauses there were then.
@@ -26,12 +27,13 @@ pub(crate) struct Witnesses<A: Allocator + Copy> {
 impl<A: Allocator + Copy> Witnesses<A> {
     /// No requirement has a witness, and nothing changed. Takes no memory.
     pub(crate) fn new(alloc: A) -> Self
-        ensures of { result.of ≡ [] }
+        ensures of { result.of.entries ≡ [] }
+        ensures looks { result.of.looks ≡ [] }
         ensures changed { result.changed.items ≡ [] }
         ensures looked { result.looked ≡ 0 }
     {
         Witnesses {
-            of: RequirementMap::new(alloc),
+            of: WitnessMap::new(alloc),
             changed: Vec::new(alloc),
             looked: 0,
         }

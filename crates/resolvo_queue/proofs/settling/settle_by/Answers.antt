@@ -5,11 +5,17 @@ use Rattle.resolvo_queue.specs.Witnesses.{literals_by}
 use Rattle.resolvo_queue.proofs.SettleLaws.{listing_has_lists, settled_by, settles_both, slices_have, witness_listed, witnessed_settles}
 use Rattle.resolvo_queue.proofs.settling.settle_by.Goals as goal
 
-pub settle_clauses-requires : goal.settle_clauses-requires
-settle_clauses-requires g c = rw c.as_slice-clauses.ensures.value c.requires.entries
+pub settle_clauses-requires-clause-entries : goal.settle_clauses-requires-clause-entries
+settle_clauses-requires-clause-entries g c = rw c.as_slice-clauses.ensures.value c.requires.entries
 
-pub settle_clauses-requires-2 : goal.settle_clauses-requires-2
-settle_clauses-requires-2 g c = rw c.as_slice-clauses.ensures.value c.requires.entries
+pub settle_clauses-requires-clause-none_falsified : goal.settle_clauses-requires-clause-none_falsified
+settle_clauses-requires-clause-none_falsified g c = rw c.as_slice-clauses.ensures.value c.requires.none_falsified
+
+pub settle_clauses-requires-2-clause-entries : goal.settle_clauses-requires-2-clause-entries
+settle_clauses-requires-2-clause-entries g c = rw c.as_slice-clauses.ensures.value c.requires.entries
+
+pub settle_clauses-requires-2-clause-none_falsified : goal.settle_clauses-requires-2-clause-none_falsified
+settle_clauses-requires-2-clause-none_falsified g c = rw c.as_slice-clauses.ensures.value c.requires.none_falsified
 
 pub returns-in_err-settle_clauses-2-clause-settles : goal.returns-in_err-settle_clauses-2-clause-settles
 returns-in_err-settle_clauses-2-clause-settles g c =
@@ -28,7 +34,7 @@ returns-clause-settles g c =
     (settles_both c.args.reader.now.lists (values_in c.args.map.now) c.settle_clauses.new.occurrences c.settle_clauses-2.new.occurrences c.settle_clauses-2.new.occurrences
     c.settle_clauses.new.witnesses c.settle_clauses-2.new.witnesses c.settle_witnessed.new.witnesses c.settle_clauses-2.ensures.settles
     (witnessed_settles c.args.reader.now.lists (values_in c.args.map.now) c.args.variable c.settle_clauses-2.new.occurrences
-    c.settle_clauses-2.new.witnesses c.settle_witnessed.new.witnesses c.settle_witnessed.ensures.better c.settle_witnessed.ensures.new))
+    c.settle_clauses-2.new.witnesses c.settle_witnessed.new.witnesses c.settle_witnessed.ensures.better c.settle_witnessed.ensures.owed c.settle_witnessed.ensures.new))
 
 pub returns-clause-ok : goal.returns-clause-ok
 returns-clause-ok g c =

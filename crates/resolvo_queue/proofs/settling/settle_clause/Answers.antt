@@ -15,4 +15,4 @@ returns-clause-settles g c =
     c.list_once.ensures.grows c.args.witnesses.now c.list_once.ensures.lists)
     (looking_settles c.args.reader.now.lists (values_in c.args.map.now) c.args.clause.now.required c.list_once.new.occurrences
     c.in_ok-list_once.ensures.listed
-    c.args.witnesses.now c.settle_requirement.new.witnesses c.settle_requirement.ensures.better c.settle_requirement.ensures.new)
+    c.args.witnesses.now c.settle_requirement.new.witnesses c.settle_requirement.ensures.better c.settle_requirement.ensures.owed c.settle_requirement.ensures.new)

@@ -9,8 +9,14 @@ use Rattle.resolvo_queue.proofs.settling.settle_clauses.Goals.{in-Some+in_ok-set
 pub settle_clause-requires-clause-lists : goal.settle_clause-requires-clause-lists
 settle_clause-requires-clause-lists g c =
     let number = get_or c.args.numbers.now c.loop-number.number-index 0 in
-    (c.requires number c.in-Some.clause.now (read_at c.args.clauses.now number c.in-Some.clause.now
+    (c.requires.entries number c.in-Some.clause.now (read_at c.args.clauses.now number c.in-Some.clause.now
     (ltb-true number (length c.args.clauses.now) (sym c.in-Some.ensures.lookup.0)) c.in-Some.ensures.lookup.1)).1
+
+pub settle_clause-requires-clause-none_falsified : goal.settle_clause-requires-clause-none_falsified
+settle_clause-requires-clause-none_falsified g c =
+    let number = get_or c.args.numbers.now c.loop-number.number-index 0 in
+    c.requires.none_falsified number c.in-Some.clause.now (read_at c.args.clauses.now number c.in-Some.clause.now
+    (ltb-true number (length c.args.clauses.now) (sym c.in-Some.ensures.lookup.0)) c.in-Some.ensures.lookup.1)
 
 pub returns-in_err-settle_clause-clause-settles : goal.returns-in_err-settle_clause-clause-settles
 returns-in_err-settle_clause-clause-settles g c =
@@ -38,7 +44,7 @@ loop-number-preserved g c =
             settles = c.loop-number.invariant.settles;
             settled = next_number c.args.reader.now.lists (values_in c.args.map.now) c.args.clauses.now (literals_by c.args.disjunctions.now)
                 c.args.numbers.now c.loop-number.number-index c.loop-number-test.true c.loop-number.witnesses c.loop-number.witnesses
-                (better_self (values_in c.args.map.now) c.loop-number.witnesses) c.loop-number.invariant.settled
+                (better_self c.args.reader.now.lists (values_in c.args.map.now) c.loop-number.witnesses) c.loop-number.invariant.settled
                 (λ d e. (let bad : None ≡ Some d = none_past c.args.clauses.now number w.in_default.ensures.lookup.0 ∙ e in cc));
           })
     ]

@@ -11,8 +11,13 @@ use Rattle.resolvo_queue.proofs.settling.settle_new.Goals as goal
 
 pub settle_clause-requires-clause-lists : goal.settle_clause-requires-clause-lists
 settle_clause-requires-clause-lists g c =
-    (c.requires c.loop-number.number c.index-clauses-number.result
+    (c.requires.entries c.loop-number.number c.index-clauses-number.result
     (read_at c.args.clauses.now c.loop-number.number c.index-clauses-number.result c.loop-number-test.true c.index-clauses-number.is)).1
+
+pub settle_clause-requires-clause-none_falsified : goal.settle_clause-requires-clause-none_falsified
+settle_clause-requires-clause-none_falsified g c =
+    c.requires.none_falsified c.loop-number.number c.index-clauses-number.result
+    (read_at c.args.clauses.now c.loop-number.number c.index-clauses-number.result c.loop-number-test.true c.index-clauses-number.is)
 
 pub returns-in_err-settle_clause-clause-settles : goal.returns-in_err-settle_clause-clause-settles
 returns-in_err-settle_clause-clause-settles g c =
@@ -28,7 +33,7 @@ loop-number-preserved g c =
       settles = settles_both lists val c.args.occurrences.now c.loop-number.occurrences c.settle_clause.new.occurrences
           c.args.witnesses.now c.loop-number.witnesses c.settle_clause.new.witnesses c.loop-number.invariant.settles c.settle_clause.ensures.settles;
       settled = λ n d le lt is asked. elim (below_next n i lt) [
-        | inl before ↦ λ some. still_witness val c.loop-number.witnesses c.settle_clause.new.witnesses c.settle_clause.ensures.settles.better d.required
+        | inl before ↦ λ some. still_witness lists val c.loop-number.witnesses c.settle_clause.new.witnesses c.settle_clause.ensures.settles.better d.required
             (c.loop-number.invariant.settled n d le before is asked some)
         | inr same ↦ (let own : c.index-clauses-number.result ≡ d =
             same_some c.index-clauses-number.result d

@@ -39,3 +39,6 @@ returns-clause-fits g c = λ large. c.heat_clauses.ensures.none (c.at.ensures.to
 
 pub returns-clause-records : goal.returns-clause-records
 returns-clause-records g c = c.heat_clauses.ensures.heats.requirements ∙ ap (λ (q : Queue g.row.D-NameId.Denot g.row.D-NameId-Set.Denot). q.inside.requirements) c.self.view_is
+
+pub returns-clause-witnesses : goal.returns-clause-witnesses
+returns-clause-witnesses g c = ap (λ (q : Queue g.row.D-NameId.Denot g.row.D-NameId-Set.Denot). q.witnesses) c.self.view_is

@@ -1,6 +1,7 @@
 use Rattle.std.proofs.Common.{ap, map}
 use Rattle.resolvo_queue.specs.ByName.{numbers_under}
 use Rattle.resolvo_queue.specs.Inspection.{clause_of}
+use Rattle.resolvo_queue.specs.Occurrences.{times}
 use Rattle.resolvo_queue.specs.Queue.{Queue, queue_of}
 use Rattle.resolvo_queue.proofs.ByNameLaws.{entered_none}
 use Rattle.resolvo_queue.proofs.NewLaws.{kept_new, stands_new}
@@ -18,3 +19,6 @@ pub returns-clause-stands : goal.returns-clause-stands
 returns-clause-stands g c =
     let made : Queue g.row.D-NameId.Denot g.row.D-NameId-Set.Denot = queue_of c.new.result c.new-2.result.items c.new-4.result c.new-5.result.items c.new-6.result in
     λ refs. stands_new refs made (ap (map clause_of) c.new.ensures.clauses) c.new.ensures.clauses c.new.ensures.requirements c.new.ensures.listed c.new.ensures.by_variable c.new-6.ensures.of c.new-6.ensures.looked
+
+pub returns-clause-looks : goal.returns-clause-looks
+returns-clause-looks g c = λ r. ap (λ log. times log r) c.new-6.ensures.looks

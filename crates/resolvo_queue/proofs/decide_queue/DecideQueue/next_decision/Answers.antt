@@ -1,11 +1,11 @@
-use Rattle.std.proofs.Common.{◌≡◌, ◌∙◌, false, sym, ap, subst}
+use Rattle.std.proofs.Common.{◌≡◌, ◌∙◌, false, sym, ap, subst, arith}
 use Rattle.std.specs.Prelude.{All, IfOk, None, ◌↔◌, option_map}
 use Rattle.decisions.specs.Decisions.{values_in}
 use Rattle.resolvo_queue.specs.Pick.{DecidesUnbeaten, decided, eligible, pick}
 use Rattle.resolvo_queue.specs.References.{CanWalk, literals_in, references, rows_in, score_in}
 use Rattle.resolvo_queue.specs.Scan.{is_eligible, scan}
 use Rattle.resolvo_queue.specs.WalkCounts.{WalksOnce, owed_in}
-use Rattle.resolvo_queue.proofs.AfterLaws.{entries_in}
+use Rattle.resolvo_queue.proofs.AfterLaws.{entries_in, none_asked_by}
 use Rattle.resolvo_queue.proofs.UnchangedLaws.{hot_still, named_still, synced_still, unchanged_along}
 use Rattle.resolvo_queue.proofs.WalkCountLaws.{walks_nothing}
 use Rattle.resolvo_queue.proofs.decide_queue.DecideQueue.next_decision.Goals as goal
@@ -23,12 +23,17 @@ settle-requires-clause-listed g c = c.requires.stands.listed
 pub settle-requires-clause-candidates : goal.settle-requires-clause-candidates
 settle-requires-clause-candidates g c = c.requires.stands.falsified.candidates
 
+pub settle-requires-clause-none_falsified : goal.settle-requires-clause-none_falsified
+settle-requires-clause-none_falsified g c =
+    none_asked_by (references (g.D.Interner.universe c.args.provider.now) c.args.reader.now.lists c.args.disjunctions.now) c.args.self.now (values_in c.args.map.now)
+    c.requires.stands c.requires.walkable c.requires.none_falsified
+
 pub pick-requires-clause-synced : goal.pick-requires-clause-synced
 pick-requires-clause-synced g c = synced_still g.D.NameId.Set.IdSet.has c.args.self.now c.settle.new.self c.settle.ensures.unchanged (values_in c.args.map.now) c.requires.synced
 
 pub pick-requires-clause-stands : goal.pick-requires-clause-stands
 pick-requires-clause-stands g c =
-    c.settle.ensures.stands (g.D.Interner.universe c.args.provider.now) c.requires.stands c.requires.walkable c.requires.synced c.requires.none_falsified
+    c.settle.ensures.stands (g.D.Interner.universe c.args.provider.now) c.requires.stands c.requires.synced
 
 pub pick-requires-clause-walkable : goal.pick-requires-clause-walkable
 pick-requires-clause-walkable g c =
@@ -44,7 +49,7 @@ pick-requires-clause-hot g c =
 
 pub returns-in_err-settle-clause-stands : goal.returns-in_err-settle-clause-stands
 returns-in_err-settle-clause-stands g c =
-    c.settle.ensures.stands (g.D.Interner.universe c.args.provider.now) c.requires.stands c.requires.walkable c.requires.synced c.requires.none_falsified
+    c.settle.ensures.stands (g.D.Interner.universe c.args.provider.now) c.requires.stands c.requires.synced
 
 pub returns-in_err-settle-clause-walks : goal.returns-in_err-settle-clause-walks
 returns-in_err-settle-clause-walks g c =
@@ -81,3 +86,6 @@ returns-clause-walks g c =
 
 pub returns-clause-owed : goal.returns-clause-owed
 returns-clause-owed g c = λ r. c.pick.ensures.owed r ∙ ap (λ ts. owed_in ts r) c.settle.ensures.records
+
+pub returns-clause-looks : goal.returns-clause-looks
+returns-clause-looks g c = λ r. let same = c.pick.ensures.looks r in let once = c.settle.ensures.looks r in omega (arith, same, once)

@@ -7,7 +7,7 @@ use Rattle.resolvo_queue.specs.Pick.{decided, eligible, pick}
 use Rattle.resolvo_queue.specs.Queue.{AreNamed, IsSynced, OnlyHotScore, Queue, StandsOn, queue_of}
 use Rattle.resolvo_queue.specs.Question.{clause_literals}
 use Rattle.resolvo_queue.specs.References.{CanWalk, literals_in, references, rows_in, score_in}
-use Rattle.resolvo_queue.specs.WalkCounts.{WalksOnce, owed}
+use Rattle.resolvo_queue.specs.WalkCounts.{WalksOnce, looks, owed}
 use Rattle.resolvo_queue.proofs.AfterLaws.{kept_still, order_asked, ready_asked, stands_asked}
 use Rattle.resolvo_queue.proofs.AskableLaws.{askable_tracked, cold_sets, cold_without_score}
 use Rattle.resolvo_queue.proofs.AskingLaws.{ready_by}
@@ -141,6 +141,12 @@ returns-clause-walks g c =
 
 pub returns-clause-owed : goal.returns-clause-owed
 returns-clause-owed g c = λ r. c.next_offer.ensures.walks.once.owed r ∙ ap (λ (q : Queue g.row.D-NameId.Denot g.row.D-NameId-Set.Denot). owed q r) c.self.view_is
+
+pub returns-in_err-offer-clause-looks : goal.returns-in_err-offer-clause-looks
+returns-in_err-offer-clause-looks g c = λ r. ap (λ (q : Queue g.row.D-NameId.Denot g.row.D-NameId-Set.Denot). looks q r) c.self.view_is
+
+pub returns-clause-looks : goal.returns-clause-looks
+returns-clause-looks g c = λ r. ap (λ (q : Queue g.row.D-NameId.Denot g.row.D-NameId-Set.Denot). looks q r) c.self.view_is
 
 pub next_offer-requires-clause-largest : goal.next_offer-requires-clause-largest
 next_offer-requires-clause-largest g c = grind (arith, common_steps)

@@ -1,17 +1,16 @@
-use Rattle.std.proofs.Common.{◌≡◌, ◌∙◌, None, inl, map, sym, ap, refl, subst}
-use Rattle.std.specs.Prelude.{All}
+use Rattle.std.proofs.Common.{◌∙◌, ◌+◌, ◌≤◌, inl, map, sym, ap, refl, subst}
 use Rattle.decisions.specs.Decisions.{values_in}
 use Rattle.resolvo_queue.specs.Inspection.{clause_of}
 use Rattle.resolvo_queue.specs.Listing.{IsListedWell}
 use Rattle.resolvo_queue.specs.Queue.{IsSynced, Queue, StandsOn, queue_of}
-use Rattle.resolvo_queue.specs.References.{CanWalk, literals_in, references, rows_in}
-use Rattle.resolvo_queue.specs.Scan.{first_falsified}
+use Rattle.resolvo_queue.specs.References.{references}
+use Rattle.resolvo_queue.specs.Occurrences.{times}
 use Rattle.resolvo_queue.specs.Synced.{FindsConditions}
-use Rattle.resolvo_queue.specs.Witnesses.{AreCandidates, HaveEntries, literals_by}
+use Rattle.resolvo_queue.specs.WalkCounts.{looks}
+use Rattle.resolvo_queue.specs.Witnesses.{AreCandidates, HaveEntries, NoneFalsified, literals_by}
 use Rattle.resolvo_queue.proofs.AfterLaws.{kept_still, only_lists, order_listed, stands_listed}
-use Rattle.resolvo_queue.proofs.AskableLaws.{askable_tracked}
 use Rattle.resolvo_queue.proofs.FindingLaws.{finds_after}
-use Rattle.resolvo_queue.proofs.WitnessLaws.{none_falsified_in}
+use Rattle.resolvo_queue.proofs.SettleLaws.{looks_once}
 use Rattle.resolvo_queue.proofs.decide_queue.DecideQueue.settle.Goals as goal
 
 pub settle-requires-clause-entries : goal.settle-requires-clause-entries
@@ -31,6 +30,10 @@ settle-requires-clause-listed g c =
 pub settle-requires-clause-candidates : goal.settle-requires-clause-candidates
 settle-requires-clause-candidates g c =
     subst (λ (q : Queue g.row.D-NameId.Denot g.row.D-NameId-Set.Denot). AreCandidates c.args.reader.now.lists q.inside.occurrences q.witnesses.of) (sym c.self.view_is) c.requires.candidates
+
+pub settle-requires-clause-none_falsified : goal.settle-requires-clause-none_falsified
+settle-requires-clause-none_falsified g c =
+    subst (λ (q : Queue g.row.D-NameId.Denot g.row.D-NameId-Set.Denot). NoneFalsified c.args.reader.now.lists q.inside.clauses (literals_by c.args.disjunctions.now) (values_in c.args.map.now)) (sym c.self.view_is) c.requires.none_falsified
 
 pub invariant_of-self : goal.invariant_of-self
 invariant_of-self g c =
@@ -54,12 +57,16 @@ returns-clause-stands g c =
     let after : Queue g.row.D-NameId.Denot g.row.D-NameId-Set.Denot = queue_of c.settle.new.self inside.names.items inside.hot_names inside.since.items c.settle.new.witnesses in
     let same = c.settle.ensures.same in
     let val = values_in c.args.map.now in
-    λ universe s w synced none. (let refs = references universe c.args.reader.now.lists c.args.disjunctions.now in
+    λ universe s synced. (let refs = references universe c.args.reader.now.lists c.args.disjunctions.now in
     let stands : StandsOn refs before = subst (StandsOn refs) (sym c.self.view_is) s in
-    let askable = askable_tracked refs inside.tracked.index.clauses.items stands.parts (subst (λ (q : Queue g.row.D-NameId.Denot g.row.D-NameId-Set.Denot). All (CanWalk refs) q.clauses) (sym c.self.view_is) w) in
     let synced_before : IsSynced val before = subst (IsSynced val) (sym c.self.view_is) synced in
-    let none_before = subst (λ (q : Queue g.row.D-NameId.Denot g.row.D-NameId-Set.Denot). first_falsified val (literals_in refs) (rows_in refs) q.clauses ≡ None) (sym c.self.view_is) none in
+    let none = subst (λ (q : Queue g.row.D-NameId.Denot g.row.D-NameId-Set.Denot). NoneFalsified c.args.reader.now.lists q.inside.clauses (literals_by c.args.disjunctions.now) val) (sym c.self.view_is) c.requires.none_falsified in
     stands_listed refs before after stands (only_lists inside.tracked c.settle.new.self same.0 same.1 same.2) (ap (λ ix. map clause_of ix.clauses.items) same.0)
     (ap (λ t. t.items) same.4) refl same.5 (c.settle.ensures.settles.listed before.inside.requirements stands.listed)
-    (finds_after refs before after stands.falsified val synced_before.trail c.settle.ensures.settles (ap (λ ix. ix.clauses.items) same.0) (ap (λ t. t.items) same.4) same.5
-    c.settle.result c.settle.ensures.looked c.settle.ensures.settled c.settle.ensures.new_settled c.settle.ensures.err askable (none_falsified_in refs val inside.tracked.index.clauses.items none_before)))
+    (finds_after refs before after stands.falsified val synced_before.trail c.settle.ensures.settles (ap (λ ix. ix.clauses.items) same.0) (ap (λ t. t.items) same.4) same.5 none
+    c.settle.result c.settle.ensures.looked c.settle.ensures.settled c.settle.ensures.new_settled c.settle.ensures.err))
+
+pub returns-clause-looks : goal.returns-clause-looks
+returns-clause-looks g c = λ r.
+    subst (λ (q : Queue g.row.D-NameId.Denot g.row.D-NameId-Set.Denot). times c.settle.new.witnesses.of.looks r ≤ looks q r + 1) c.self.view_is
+    (looks_once c.args.reader.now.lists (values_in c.args.map.now) c.self.inside.witnesses.of c.settle.new.witnesses.of c.settle.ensures.settles.owed r)

@@ -2,9 +2,10 @@ use Rattle.std.proofs.lemmas.Grind.{common_steps}
 use Rattle.std.proofs.Common.{◌≡◌, ◌+◌, ◌≤◌, min, length, true, false, map, take, inl, inr, sym, ap, refl, subst, arith, ◌∙◌}
 use Rattle.std.proofs.lemmas.List.{take-take}
 use Rattle.resolvo_queue.specs.Inspection.{clause_of}
+use Rattle.resolvo_queue.specs.Occurrences.{times}
 use Rattle.resolvo_queue.specs.Queue.{AgreesBelow, Queue, StandsOn, queue_of}
 use Rattle.resolvo_queue.specs.References.{rows_in}
-use Rattle.resolvo_queue.specs.WalkCounts.{HasNoneOf, changed_from, owed, owed_in, walks}
+use Rattle.resolvo_queue.specs.WalkCounts.{HasNoneOf, changed_from, looks, owed, owed_in, walks}
 use Rattle.resolvo_queue.proofs.AfterLaws.{kept_still, order_after_sync, stands_behind, stands_synced}
 use Rattle.resolvo_queue.proofs.CountLaws.{own_number}
 use Rattle.resolvo_queue.proofs.OwedLaws.{owed_kept, owes_one_more}
@@ -118,6 +119,15 @@ returns-clause-owed_still g c =
     (subst (StandsOn refs) (sym c.self.view_is) s) c.sync.ensures.only (c.sync.ensures.others was) r walkable
     (subst (λ (q : Queue g.row.D-NameId.Denot g.row.D-NameId-Set.Denot). HasNoneOf (changed_from c.args.floor c.args.trail.now q) (rows_in refs r)) (sym c.self.view_is) none)
     ∙ ap (λ (q : Queue g.row.D-NameId.Denot g.row.D-NameId-Set.Denot). owed q r) c.self.view_is)
+
+pub returns-in_err-sync-clause-looks : goal.returns-in_err-sync-clause-looks
+returns-in_err-sync-clause-looks g c = λ r. ap (λ of. times of.looks r) c.note_changes.ensures.of ∙ ap (λ (q : Queue g.row.D-NameId.Denot g.row.D-NameId-Set.Denot). looks q r) c.self.view_is
+
+pub returns-clause-looks : goal.returns-clause-looks
+returns-clause-looks g c = λ r. ap (λ of. times of.looks r) c.note_changes.ensures.of ∙ ap (λ (q : Queue g.row.D-NameId.Denot g.row.D-NameId-Set.Denot). looks q r) c.self.view_is
+
+pub returns-in-Err-clause-looks : goal.returns-in-Err-clause-looks
+returns-in-Err-clause-looks g c = λ r. ap (λ of. times of.looks r) c.note_changes.ensures.of ∙ ap (λ (q : Queue g.row.D-NameId.Denot g.row.D-NameId-Set.Denot). looks q r) c.self.view_is
 
 pub returns-in-Err-clause-walks : goal.returns-in-Err-clause-walks
 returns-in-Err-clause-walks g c = grind (arith, common_steps)

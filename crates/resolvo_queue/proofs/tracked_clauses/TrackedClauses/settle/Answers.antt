@@ -4,8 +4,11 @@ use Rattle.resolvo_queue.specs.Witnesses.{AreNewSettled, AreSettled, literals_by
 use Rattle.resolvo_queue.proofs.SettleLaws.{settles_both, still_witness}
 use Rattle.resolvo_queue.proofs.tracked_clauses.TrackedClauses.settle.Goals as goal
 
-pub settle_new-requires : goal.settle_new-requires
-settle_new-requires g c = λ n d is. c.requires.entries n d (subst (λ cs. slice_get cs n ≡ Some d) c.as_slice-2.ensures.value is)
+pub settle_new-requires-clause-entries : goal.settle_new-requires-clause-entries
+settle_new-requires-clause-entries g c = λ n d is. c.requires.entries n d (subst (λ cs. slice_get cs n ≡ Some d) c.as_slice-2.ensures.value is)
+
+pub settle_new-requires-clause-none_falsified : goal.settle_new-requires-clause-none_falsified
+settle_new-requires-clause-none_falsified g c = λ n d is. c.requires.none_falsified n d (subst (λ cs. slice_get cs n ≡ Some d) c.as_slice-2.ensures.value is)
 
 pub returns-in_err-settle_new-clause-settles : goal.returns-in_err-settle_new-clause-settles
 returns-in_err-settle_new-clause-settles g c =
@@ -24,7 +27,7 @@ returns-clause-settled g c =
     let val = values_in c.args.map.now in
     let by_variables = subst (λ vs. AreSettled lists c.args.self.now.index.clauses.items (literals_by c.args.disjunctions.now) val vs
     c.args.witnesses.now.of c.settle_by_all.new.witnesses) c.as_slice.ensures.value c.in_ok-settle_by_all.ensures.ok in
-    λ n d is asked touches some. still_witness val c.settle_by_all.new.witnesses c.settle_new.new.witnesses c.settle_new.ensures.settles.better d.required
+    λ n d is asked touches some. still_witness lists val c.settle_by_all.new.witnesses c.settle_new.new.witnesses c.settle_new.ensures.settles.better d.required
     (by_variables n d is asked touches some)
 
 pub returns-clause-new_settled : goal.returns-clause-new_settled
