@@ -80,7 +80,8 @@ impl<D: DependencyProvider + Drop> ClauseStore<D> {
         ensures provider { self.new.provider ≡ self.old.provider }
         ensures memory { IfErr result (λ e. e ≡ OutOfMemory) }
 
-        // No requirement is walked twice, whatever the result; and the queue has this trail then, unless it was refused.
+        // No requirement is walked twice, or looked at twice for a witness, whatever the result; and the queue has this trail
+        // then, unless it was refused.
         ensures asked { AsksOnce (⟦<D as AbstractStore>⟧.store self.old) self.old.asked self.new.asked }
         ensures told { OnOk result (IsTold (⟦<D as AbstractStore>⟧.store self.old).trail self.new.asked) }
     {

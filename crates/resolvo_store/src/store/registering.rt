@@ -16,7 +16,7 @@ ghost use Rattle.clauses.specs.declared.clause.Clause.TheVariants as Kind;
 ghost use Rattle.watch_map.specs.Watching.{AreTwoOrNone, is_literal_in};
 ghost use Rattle.resolvo_queue.specs.Queue.{IsRegistered, IsUnchanged, StandsOn};
 ghost use Rattle.resolvo_queue.specs.References.{Lists, references};
-ghost use Rattle.resolvo_queue.specs.WalkCounts.{owed, walks};
+ghost use Rattle.resolvo_queue.specs.WalkCounts.{looks, owed, walks};
 ghost use Rattle.watch_map.specs.ClauseList.{contents, literals_watched, two_or_none, is_full, with_clause};
 ghost use Rattle.resolvo_store.specs.Command.{DisjunctionIs, ClauseIs, reply_of};
 ghost use Rattle.resolvo_store.specs.Lists.{lists_kept, disjunctions_kept, IsOneMore};
@@ -271,6 +271,7 @@ fn register<D: DependencyProvider + Drop>(
     ensures unadded { OnErr result (contents clauses.new ≡ contents clauses.old) }
     ensures unregistered { OnErr result (IsUnchanged queue.old queue.new D.NameId.Set.has) }
     ensures walks { SameValues (walks queue.old) (walks queue.new) }
+    ensures looks { SameValues (looks queue.old) (looks queue.new) }
     ensures owed { (r : ARequirement) → (owed queue.new r ≡ owed queue.old r)
         ⊎ ((r ≡ required.now.requirement) × (owed queue.old r ≡ 0) × (owed queue.new r ≡ 1)) }
     ensures stands { (lists : Lists D.Alloc) → IsSome (lookup (same_requirement required.now.requirement) lists) →

@@ -43,4 +43,4 @@ returns-then-not-knows_name-clause-asked g c = walks_no_more c.args.self.now.ask
 pub returns-clause-asked : goal.returns-clause-asked
 returns-clause-asked g c =
     subst (λ (k : Kept g.row.D.Denot g.row.D-NameId.Denot g.row.D-SolvableId.Denot g.row.D-NameId-Scores.Denot). WalksNothing k.asked (asked_of c.raise.new.queue c.self.inside.trail)) c.self.view_is
-    (walks_still c.self.inside.queue c.raise.new.queue c.self.inside.trail c.raise.ensures.synced c.raise.ensures.walks c.raise.ensures.owed)
+    (walks_still c.self.inside.queue c.raise.new.queue c.self.inside.trail c.raise.ensures.synced c.raise.ensures.walks c.raise.ensures.looks c.raise.ensures.owed)

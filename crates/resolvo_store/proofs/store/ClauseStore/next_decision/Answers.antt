@@ -130,7 +130,7 @@ returns-in_err-sync-clause-asked g c =
     subst (λ (k : Kept g.row.D.Denot g.row.D-NameId.Denot g.row.D-SolvableId.Denot g.row.D-NameId-Scores.Denot). AsksOnce (store_of (given g) g.D.NameId.Scores.IdMap.value_at k) k.asked (asked_of c.sync.new.self c.take_sync_floor-floor.new.self)) c.self.view_is
     (asks_told c.self.invariant refl refl refl c.take_sync_floor-floor.result c.assignments.result.now c.sync.new.self c.take_sync_floor-floor.new.self
     c.take_sync_floor-floor.ensures.floor (c.assignments.ensures.decisions ∙ ap (λ t. decisions_of t.entries) c.take_sync_floor-floor.ensures.trail)
-    c.sync.ensures.walks c.sync.ensures.owed c.sync.ensures.owed_still)
+    c.sync.ensures.walks c.sync.ensures.looks c.sync.ensures.owed c.sync.ensures.owed_still)
 
 pub returns-clause-asked : goal.returns-clause-asked
 returns-clause-asked g c =
@@ -139,8 +139,8 @@ returns-clause-asked g c =
     c.new-reader.result.walked c.next_decision.new.reader.walked
     (asks_told c.self.invariant refl refl refl c.take_sync_floor-floor.result c.assignments.result.now c.sync.new.self c.take_sync_floor-floor.new.self
     c.take_sync_floor-floor.ensures.floor (c.assignments.ensures.decisions ∙ ap (λ t. decisions_of t.entries) c.take_sync_floor-floor.ensures.trail)
-    c.sync.ensures.walks c.sync.ensures.owed c.sync.ensures.owed_still)
-    c.sync.ensures.walks c.next_decision.ensures.walks c.next_decision.ensures.owed)
+    c.sync.ensures.walks c.sync.ensures.looks c.sync.ensures.owed c.sync.ensures.owed_still)
+    c.sync.ensures.walks c.sync.ensures.looks c.next_decision.ensures.looks c.next_decision.ensures.walks c.next_decision.ensures.owed)
 
 pub returns-clause-told : goal.returns-clause-told
 returns-clause-told g c =

@@ -171,4 +171,4 @@ returns-clause-asked g c =
     subst (λ (k : Kept g.row.D.Denot g.row.D-NameId.Denot g.row.D-SolvableId.Denot g.row.D-NameId-Scores.Denot). OwesFirst c.args.requirement k.asked (asked_of c.register.new.queue inside.trail)) c.self.view_is
     (owes_registered inside.queue c.register.new.queue inside.trail g.D.NameId.Set.IdSet.has c.register.result one
     (map (g.D.Interner.universe c.provider-provider.result.now).set_name (sets_of (g.D.Interner.universe c.provider-provider.result.now) c.args.requirement)) c.assigned_value.result
-    c.register.ensures.registered c.register.ensures.unregistered c.register.ensures.walks c.register.ensures.owed)
+    c.register.ensures.registered c.register.ensures.unregistered c.register.ensures.walks c.register.ensures.looks c.register.ensures.owed)

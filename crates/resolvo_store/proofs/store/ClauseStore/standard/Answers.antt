@@ -17,4 +17,4 @@ pub returns-clause-asked : goal.returns-clause-asked
 returns-clause-asked g c =
     let call = c.set_standard_activity_params in
     subst (λ (k : Kept g.row.D.Denot g.row.D-NameId.Denot g.row.D-SolvableId.Denot g.row.D-NameId-Scores.Denot). WalksNothing k.asked (asked_of call.new.self c.self.inside.trail)) c.self.view_is
-    (walks_still c.self.inside.queue call.new.self c.self.inside.trail call.ensures.unchanged.synced call.ensures.walks call.ensures.owed)
+    (walks_still c.self.inside.queue call.new.self c.self.inside.trail call.ensures.unchanged.synced call.ensures.walks call.ensures.looks call.ensures.owed)
