@@ -1,12 +1,15 @@
 //! Tests of what the store stands on, by calls of the rooms.
 //!
-//! Of the ids and their storage: `arena`, `chosen`, `far`, `ids`, `id_texts`, `mapping`, `sets`, and where memory is refused
+//! Of the ids and their storage: `arena`, `chosen`, `far`, `ids`, `mapping`, `sets`, and where memory is refused
 //! `one_refusal`, `refused_defaults` and `refused_parts`. Of the pool, of requirements and of their maps: `pool`, `maps`, `noted`; of conditions:
-//! `condition_calls`; of texts: `catalogue`, `shown`, `texts`, those of helper variables among them (`variables_shown`).
+//! `condition_calls`; of texts: `catalogue`, `texts`, those of helper variables among them (`variables_shown`).
 //!
 //! Of clauses, and of what they are made of: `literals` and the `trail`; variables (`variable_keys`); the literals of clauses
 //! (`clause_literals`), and what new ones watch (`first_watches`); watch lists (`watch_lists`); and trackers of at most one variable
 //! (`trackers`).
+//!
+//! What derives write, of which no clause speaks: `Debug` texts (`debug_texts`), the texts of errors (`error_texts`), and hashes
+//! (`hashes`). The program `trials` has the `Debug` texts of commands and of replies.
 //!
 //! Calls that take no memory are made once more where each request would be refused (`free_calls`).
 //!
@@ -28,13 +31,17 @@ mod clause_literals;
 #[cfg(test)]
 mod condition_calls;
 #[cfg(test)]
+mod debug_texts;
+#[cfg(test)]
+mod error_texts;
+#[cfg(test)]
 mod far;
 #[cfg(test)]
 mod first_watches;
 #[cfg(test)]
 mod free_calls;
 #[cfg(test)]
-mod id_texts;
+mod hashes;
 #[cfg(test)]
 mod ids;
 #[cfg(test)]
@@ -57,8 +64,6 @@ mod refused_defaults;
 mod refused_parts;
 #[cfg(test)]
 mod sets;
-#[cfg(test)]
-mod shown;
 #[cfg(test)]
 mod texts;
 #[cfg(test)]

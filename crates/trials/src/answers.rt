@@ -118,7 +118,7 @@ fn push_literals<N, S, A: Allocator + Copy, T: Obeys<N, S, A>>(
     Ok(true)
 }
 
-/// Commands whose `Debug` texts are told, and then those of the clauses that a store has once it has obeyed them.
+/// Commands whose `Debug` texts are told, each with that of its reply, and then the texts of the clauses that a store has.
 #[derive(Drop)]
 struct Texts<'a, N, S, A: Allocator> {
     alloc: A,
@@ -132,9 +132,9 @@ impl<N: Debug, S: Debug, A: Allocator + Copy> Play<N, S, A> for Texts<'_, N, S, 
     fn play<T: Obeys<N, S, A>>(&self, store: &mut T) -> Result<String<A>, StoreError> {
         let mut told = String::new(self.alloc);
         for command in self.commands {
-            let line = format!(in self.alloc; "{command:?}\n")?;
-            told.push_str(line.as_str())?;
-            drop(store.obey(command));
+            let reply = store.obey(command);
+            let lines = format!(in self.alloc; "{command:?}\n{reply:?}\n")?;
+            told.push_str(lines.as_str())?;
         }
         for place in 0..1000 {
             match push_text(store, self.heap, ClauseId::from_index(place), &mut told) {

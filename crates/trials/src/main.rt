@@ -12,8 +12,8 @@
 //! | `each` | and once more for each request of each command, which is refused: beside a twin to which that command isn't given |
 //! | `over` | where `each` stands too: a command that was refused by steps isn't given again but passed over, once more for each request |
 //!
-//! A trial with the word `texts` prints the texts of its commands and of its clauses; one with the word `cache` has questions to a cache
-//! in place of commands (`cache`).
+//! A trial with the word `texts` prints the texts of its commands, of their replies and of its clauses; one with the word `cache` has
+//! questions to a cache in place of commands (`cache`).
 #![tactic(auto)]
 
 mod answers;
