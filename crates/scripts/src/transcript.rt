@@ -23,7 +23,7 @@ use typed_ids::DenseIndex;
 
 /// Reads a whole script, obeys its commands in turn, and writes a line for each reply. At the first unreadable line the
 /// line that names it is written, and nothing more is read. All that was to be written is written and flushed at every
-/// end but that of a writer that fails.
+/// end but that of a writer that fails, which isn't written to again.
 pub fn script<R: Read, W: Write>(
     alloc: Global,
     reader: &mut R,
@@ -35,6 +35,9 @@ pub fn script<R: Read, W: Write>(
     let input = read_whole(alloc, reader)?;
     let mut waiting = Vec::new(alloc);
     let ended = obey_text(alloc, &input, &mut waiting, writer);
+    if let Err(ScriptFault::Device) = ended {
+        return ended;
+    }
     let named = name_unreadable(&mut waiting, ended);
     write_rest(&mut waiting, writer)?;
     named
