@@ -6,7 +6,9 @@ mod of_clauses;
 mod of_pool;
 mod of_trail;
 
-use crate::free_calls::by_ids::{dense_and_sparse, in_frozen_map, in_mapping, in_requirements};
+use crate::free_calls::by_ids::{
+    dense_and_sparse, in_arena, in_frozen_map, in_mapping, in_requirements,
+};
 use crate::free_calls::of_clauses::{in_clauses, in_trackers, in_watch_lists};
 use crate::free_calls::of_pool::in_pool;
 use crate::free_calls::of_trail::{in_trail, in_values, in_variables};
@@ -20,15 +22,16 @@ fn calls_that_take_no_memory_ask_for_none(rt: HostRuntime) -> Result<(), Fail> {
     let heap = Refusing::new(rt.alloc());
     let seen = asked(&heap);
     drop(heap);
-    sees(seen, [false; 11])
+    sees(seen, [false; 12])
 }
 
 /// Of which parts a call asked for memory.
-fn asked<B: Allocator>(heap: &Refusing<B>) -> Result<[bool; 11], StoreError> {
+fn asked<B: Allocator>(heap: &Refusing<B>) -> Result<[bool; 12], StoreError> {
     let [dense, sparse] = dense_and_sparse(heap)?;
     Ok([
         dense,
         sparse,
+        in_arena(heap)?,
         in_mapping(heap)?,
         in_frozen_map(heap)?,
         in_requirements(heap)?,

@@ -1,9 +1,9 @@
-//! Of maps and sets by ids, of mappings, frozen maps, and maps by requirements.
+//! Of maps and sets by ids, of arenas, mappings, frozen maps, and maps by requirements.
 ghost use Rattle.std.specs.Prelude.{◌≡◌, ◌/◌};
 
 use crate::free_calls::is_asked;
 use id_maps::{IdMap, IdSet, SolverId};
-use id_storage::{FrozenCopyMap, Mapping};
+use id_storage::{Arena, FrozenCopyMap, Mapping};
 use providers::{
     Candidates, HintDependenciesAvailable, KnownDependencies, Requirement, RequirementMap,
 };
@@ -59,6 +59,24 @@ fn in_set<'h, K: Copy, B: Allocator, T: IdSet<K, &'h Refusing<B>>>(
     heap.arm(1);
     let _has = set.contains(key);
     Ok(is_asked(heap))
+}
+
+/// As many values as an arena was made for.
+pub(super) fn in_arena<B: Allocator>(heap: &Refusing<B>) -> Result<bool, StoreError> {
+    let mut arena: Arena<SolvableId, u16, &Refusing<B>> = Arena::with_capacity(heap, 3)?;
+    heap.arm(1);
+    let is_filled = is_filled(&mut arena);
+    let is_asked = is_asked(heap);
+    drop(arena);
+    Ok(is_asked || !is_filled)
+}
+
+fn is_filled<A: Allocator>(arena: &mut Arena<SolvableId, u16, A>) -> bool {
+    let mut is_filled = true;
+    for value in [9, 8, 7] {
+        is_filled = is_filled && arena.alloc(value).is_ok();
+    }
+    is_filled
 }
 
 pub(super) fn in_mapping<B: Allocator>(heap: &Refusing<B>) -> Result<bool, StoreError> {
