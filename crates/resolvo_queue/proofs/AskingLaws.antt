@@ -1,15 +1,13 @@
 -- What a question keeps, step by step.
 use Rattle.std.proofs.Common.{◌≡◌, ℕ, Bool, true, false, List, get_or, Option, None, Some, slice_get, refl, ◌∙◌, subst}
-use Rattle.typed_ids.specs.declared.version_set_id.VersionSetId.{VersionSetId}
 use Rattle.clauses.specs.declared.disjunction.Disjunction.{Disjunction}
 use Rattle.decisions.specs.Literals.{Values}
 use Rattle.providers.specs.Provider.{Universe}
 use Rattle.providers.specs.declared.requirement.Requirement.{Requirement}
 use Rattle.resolvo_queue.specs.Asking.{CanBeAsked, OnlyWalks}
-use Rattle.resolvo_queue.specs.Inspection.{Learns, eligible_frontier, may_be, offer_of, offer_with}
+use Rattle.resolvo_queue.specs.Inspection.{Learns, eligible_frontier, may_be}
 use Rattle.resolvo_queue.specs.Listing.{IsListedWell}
 use Rattle.resolvo_queue.specs.Occurrences.{Listed, Reading}
-use Rattle.resolvo_queue.specs.Pick.{Offer}
 use Rattle.resolvo_queue.specs.Positions.{has}
 use Rattle.resolvo_queue.specs.Question.{IsAskable, clause_literals}
 use Rattle.resolvo_queue.specs.Queued.{IsOfClause, LosesOnly, Queued, set_of}
@@ -21,7 +19,7 @@ use Rattle.resolvo_queue.specs.declared.frontier.Frontier.{Frontier}
 use Rattle.resolvo_queue.specs.declared.position.Position.{Position}
 use Rattle.resolvo_queue.specs.declared.tracked_clause.TrackedClause.{TrackedClause}
 use Rattle.resolvo_queue.specs.declared.tracked_clauses.TrackedClauses.{TrackedClauses}
-use Rattle.resolvo_queue.proofs.ReadyLaws.{dropped_ready, found_frontier, found_nothing, known_is_right, looked_ready, read_here}
+use Rattle.resolvo_queue.proofs.ReadyLaws.{dropped_ready, frontier_read, known_is_right, looked_ready, read_here}
 use Rattle.resolvo_queue.proofs.WalkCountLaws.{walks_along, walks_nothing}
 
 -- ---- what is kept
@@ -80,17 +78,11 @@ module _ {N S A : Type 0} (refs : References N S A) (val : Values) (t : TrackedC
   askable_here = asked.askable p.number c here
 
   pub right_here : (f : Option Frontier) → known_at t.requirements c.requirement ≡ Some f → f ≡ frontier val (rows_in refs c.required)
-  right_here = known_is_right t.index.clauses.items (clause_literals refs) (rows_in refs) val (λ v. 0) t.requirements t.queued asked.ready p.number c here
+  right_here = known_is_right t.index.clauses.items (clause_literals refs) (rows_in refs) val t.requirements t.queued asked.ready p.number c here
 
-  pub nothing_here : (score : VersionSetId → ℕ) (found : Option Frontier) → found ≡ None → found ≡ eligible_frontier val (clause_literals refs) (rows_in refs) c →
-      (d : TrackedClause) → slice_get t.index.clauses.items p.number ≡ Some d → ◌≡◌ {A = Option Offer} None (offer_of val (clause_literals refs) (rows_in refs) score d)
-  nothing_here score found none is =
-      found_nothing t.index.clauses.items (clause_literals refs) (rows_in refs) val score t.requirements t.queued asked.ready p.number c here found none is
-
-  pub offer_here : (score : VersionSetId → ℕ) (found : Option Frontier) (f : Frontier) → found ≡ Some f → found ≡ eligible_frontier val (clause_literals refs) (rows_in refs) c →
-      (d : TrackedClause) → slice_get t.index.clauses.items p.number ≡ Some d → ◌≡◌ {A = Option Offer} (Some (offer_with score c f)) (offer_of val (clause_literals refs) (rows_in refs) score d)
-  offer_here score found f some is =
-      found_frontier t.index.clauses.items (clause_literals refs) (rows_in refs) val score t.requirements t.queued asked.ready p.number c here found f (score f.set) some is refl
+  pub frontier_here : (found : Option Frontier) → found ≡ eligible_frontier val (clause_literals refs) (rows_in refs) c →
+      (d : TrackedClause) → slice_get t.index.clauses.items p.number ≡ Some d → found ≡ eligible_frontier val (clause_literals refs) (rows_in refs) d
+  frontier_here = frontier_read t.index.clauses.items (clause_literals refs) (rows_in refs) val t.requirements t.queued asked.ready p.number c here
 
   module _ (ts : List Tracked) (o : Listed) (listed : IsListedWell refs.lists o ts) (log log' : List Requirement)
       (learns : Learns c.required c.requirement (frontier val (rows_in refs c.required)) t.requirements ts log log') where
@@ -100,7 +92,7 @@ module _ {N S A : Type 0} (refs : References N S A) (val : Values) (t : TrackedC
       first = asked.first;
       askable = asked.askable;
       listed = listed;
-      ready = looked_ready t.index.clauses.items (clause_literals refs) (rows_in refs) val (λ v. 0) t.requirements t.queued asked.ready p.number c here ts log log' learns;
+      ready = looked_ready t.index.clauses.items (clause_literals refs) (rows_in refs) val t.requirements t.queued asked.ready p.number c here ts log log' learns;
     }
 
     pub dropped_asked : (q : Queued) → LosesOnly p t.queued q → may_be val (clause_literals refs) ts c ≡ false →
@@ -110,6 +102,6 @@ module _ {N S A : Type 0} (refs : References N S A) (val : Values) (t : TrackedC
       first = asked.first;
       askable = asked.askable;
       listed = listed;
-      ready = dropped_ready t.index.clauses.items (clause_literals refs) (rows_in refs) val (λ v. 0) t.requirements t.queued asked.ready p.number c here ts log log' learns
+      ready = dropped_ready t.index.clauses.items (clause_literals refs) (rows_in refs) val t.requirements t.queued asked.ready p.number c here ts log log' learns
           asked.located q p of refl loses not_possible;
     }

@@ -51,15 +51,12 @@ module _ (clauses : List TrackedClause) (literals : TrackedClause → List Lit) 
 
   -- the first queued position of the group offers
   pub first_found : (p : Position) → has_of group q.all p ≡ true → ((r : Position) → has_of group q.all r ≡ true → is_after p r ≡ false) →
-      (found : Option Candidate) (b : Candidate) → found ≡ Some b →
-      ((d : TrackedClause) → slice_get clauses p.number ≡ Some d → option_map (λ (x : Candidate). x.offer) found ≡ offers d) →
-      IfSome found (λ x. x.position ≡ p) →
+      (b : Candidate) → ((d : TrackedClause) → slice_get clauses p.number ≡ Some d → Some b.offer ≡ offers d) → b.position ≡ p →
       best_offer (offered clauses of_group) ≡ rest_picked clauses of_group b.offer b.position
-  first_found p here_it_is least found b is offered at =
+  first_found p here_it_is least b offered place =
       let both = of_both group q.all p here_it_is in
       let of = ready.all_of p both.1 in
-      let own : of_group of.0 ≡ Some b.offer = own_offer group offers of.0 p of.2 both.0 ∙ (sym (offered of.0 of.1) ∙ ap (option_map (λ (x : Candidate). x.offer)) is) in
-      let place : b.position ≡ p = subst (λ o. IfSome o (λ (x : Candidate). x.position ≡ p)) is at in
+      let own : of_group of.0 ≡ Some b.offer = own_offer group offers of.0 p of.2 both.0 ∙ sym (offered of.0 of.1) in
       first_counts clauses located of_group (has_of group q.all) nothing p of.0 b.offer of.1 of.2 own least
       ∙ ap (rest_picked clauses of_group b.offer) (sym place)
 

@@ -195,10 +195,10 @@ module _ (clauses : List TrackedClause) (literals : TrackedClause → List Lit) 
 
 -- ---- looking at one clause
 
-same_some : {X : Type 0} (x y : X) → Some x ≡ Some y → x ≡ y
+pub same_some : {X : Type 0} (x y : X) → Some x ≡ Some y → x ≡ y
 same_some x y e = cc
 
-module _ (clauses : List TrackedClause) (literals : TrackedClause → List Lit) (rows_of : Requirement → List Row) (val : Values) (score : VersionSetId → ℕ)
+module _ (clauses : List TrackedClause) (literals : TrackedClause → List Lit) (rows_of : Requirement → List Row) (val : Values)
     (ts : List Tracked) (q : Queued) (ready : IsReady clauses literals rows_of val ts q) (n : ℕ) (c : TrackedClause) (is : slice_get clauses n ≡ Some c) where
   pub known_is_right : (f : Option Frontier) → known_at ts c.requirement ≡ Some f → f ≡ frontier val (rows_of c.required)
   known_is_right f e =
@@ -206,19 +206,10 @@ module _ (clauses : List TrackedClause) (literals : TrackedClause → List Lit) 
       let rows_are : rows_at rows_of ts c.requirement ≡ rows_of c.required = ap (rows_in rows_of) place.1 ∙ ap rows_of place.2 in
       subst (λ k. IfSome k (λ g. g ≡ frontier val (rows_at rows_of ts c.requirement))) e (ready.synced.right c.requirement) ∙ ap (frontier val) rows_are
 
-  pub found_nothing : (found : Option Frontier) → found ≡ None → found ≡ eligible_frontier val literals rows_of c →
-      (d : TrackedClause) → slice_get clauses n ≡ Some d → ◌≡◌ {A = Option Offer} None (offer_of val literals rows_of score d)
-  found_nothing found e f d s =
-      let same : c ≡ d = same_some c d (sym is ∙ s) in
-      ap (option_map (offer_with score c)) (sym e ∙ f) ∙ ap (offer_of val literals rows_of score) same
-
-  pub found_frontier : (found : Option Frontier) (f : Frontier) (s : ℕ) → found ≡ Some f → found ≡ eligible_frontier val literals rows_of c → s ≡ score f.set →
-      (d : TrackedClause) → slice_get clauses n ≡ Some d →
-      ◌≡◌ {A = Option Offer} (Some (record { clause = clause_of c; frontier = f; score = s })) (offer_of val literals rows_of score d)
-  found_frontier found f s e g h d t =
-      let same : c ≡ d = same_some c d (sym is ∙ t) in
-      ap (λ (m : ℕ). Some (record { clause = clause_of c; frontier = f; score = m })) h
-      ∙ (ap (option_map (offer_with score c)) (sym e ∙ g) ∙ ap (offer_of val literals rows_of score) same)
+  -- what is told of the clause is told of whatever is read at its number
+  pub frontier_read : (found : Option Frontier) → found ≡ eligible_frontier val literals rows_of c →
+      (d : TrackedClause) → slice_get clauses n ≡ Some d → found ≡ eligible_frontier val literals rows_of d
+  frontier_read found e d s = e ∙ ap (eligible_frontier val literals rows_of) (same_some c d (sym is ∙ s))
 
   module _ (ts' : List Tracked) (log log' : List Requirement) (learns : Learns c.required c.requirement (frontier val (rows_of c.required)) ts ts' log log') where
     pub looked_ready : IsReady clauses literals rows_of val ts' q
@@ -249,3 +240,9 @@ match_some (Some y) x P Q e h = subst Q (inner y x e) h
 pub match_none : {T : Type 0} (o : Option T) (P : Type 0) (Q : T → Type 0) → o ≡ None → MatchOption o P Q → P
 match_none None P Q e h = h
 match_none (Some x) P Q e h = cc
+
+-- an eligible clause offers what goes with its frontier
+pub offer_found : (literals : TrackedClause → List Lit) (rows_of : Requirement → List Row) (val : Values) (score : VersionSetId → ℕ)
+    (found : Option Frontier) (f : Frontier) (o : Offer) (d : TrackedClause) → found ≡ Some f → found ≡ eligible_frontier val literals rows_of d →
+    o ≡ offer_with score d f → ◌≡◌ {A = Option Offer} (Some o) (offer_of val literals rows_of score d)
+offer_found literals rows_of val score found f o d is e with_it = ap Some with_it ∙ ap (option_map (offer_with score d)) (sym is ∙ e)

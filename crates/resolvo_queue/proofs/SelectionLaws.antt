@@ -1,5 +1,5 @@
 -- The best needs no more than the first offer and, behind it, the items that can beat the best so far.
-use Rattle.std.proofs.Common.{◌≡◌, ℕ, ◌≤◌, Bool, false, not, ◌&&◌, ◌||◌, cond, ltb, List, [], ◌∷◌, filter_map, fold, map, Option, Some, None, IfSome, sym, ap, refl, ◌∙◌, arith}
+use Rattle.std.proofs.Common.{◌≡◌, ℕ, ◌≤◌, Bool, false, not, ◌&&◌, ◌||◌, cond, ltb, List, [], ◌∷◌, filter_map, fold, map, Option, Some, None, IfSome, sym, ap, subst, refl, ◌∙◌, arith}
 use Rattle.std.specs.List.{cons_option, AllByRecursion}
 use Rattle.std.specs.List.Sorted.{IsStrictlySortedBy}
 use Rattle.std.specs.declared.cmp.Ordering.{Ordering}
@@ -14,8 +14,8 @@ use Rattle.resolvo_queue.specs.Selection.{behind, picked_behind, OffersNoBetter}
 -- ---- offers that can't beat the best
 
 -- over plain variables: scores s of the best and t of another, counts c and d, whether they are the root's
-by_count : (s t c d : ℕ) (x y : Bool) → c ≡ 1 → 1 ≤ d → (ltb s t && (ltb d c && (not x || y))) ≡ false
-by_count s t c d x y e h = grind (arith, nat_tests)
+by_count : (s t c d : ℕ) (x y : Bool) → c ≤ d → (ltb s t && (ltb d c && (not x || y))) ≡ false
+by_count s t c d x y h = grind (arith, nat_tests)
 
 by_largest : (s t c d m : ℕ) (x y : Bool) → s ≡ m → t ≤ m → (ltb s t && (ltb d c && (not x || y))) ≡ false
 by_largest s t c d m x y e h = grind (arith, nat_tests)
@@ -23,9 +23,13 @@ by_largest s t c d m x y e h = grind (arith, nat_tests)
 by_cold : (s t c d : ℕ) (x y : Bool) → t ≡ 0 → (ltb s t && (ltb d c && (not x || y))) ≡ false
 by_cold s t c d x y e = grind (arith, nat_tests)
 
+-- what has no fewer candidates isn't better
+pub no_fewer_unbeaten : (b e : Offer) → b.frontier.count ≤ e.frontier.count → beats e b ≡ false
+no_fewer_unbeaten b e h = by_count b.score e.score b.frontier.count e.frontier.count (is_of_root b) (is_of_root e) h
+
 -- a count of one can't be beaten
 pub one_unbeaten : (b e : Offer) → b.frontier.count ≡ 1 → 1 ≤ e.frontier.count → beats e b ≡ false
-one_unbeaten b e p h = by_count b.score e.score b.frontier.count e.frontier.count (is_of_root b) (is_of_root e) p h
+one_unbeaten b e p h = no_fewer_unbeaten b e (subst (λ n. n ≤ e.frontier.count) (sym p) h)
 
 -- nor can the largest score
 pub largest_unbeaten : (largest : ℕ) (b e : Offer) → b.score ≡ largest → e.score ≤ largest → beats e b ≡ false

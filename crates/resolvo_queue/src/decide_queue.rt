@@ -349,48 +349,47 @@ impl<D: DependencyProvider> DecideQueue<D> {
     }
 
     /// The decision of an eligible clause which no other one beats.
-    fn pick<'q>(
+    fn pick(
         &mut self,
-        map: &'q DecisionMap<D::Alloc>,
         reader: &mut RowReader<'_, D::Alloc>,
-        disjunctions: &'q Arena<DisjunctionId, Disjunction<D::Alloc>, D::Alloc>,
-        scores: &'q <D::NameId as SolverId<D::Alloc>>::Scores,
-        largest: u64,
-        provider: &'q D,
+        question: &Question<'_, D>,
     ) -> Result<Option<QueueDecision>, StoreError>
-        requires synced { IsSynced (values_in map.now) self.old }
-        requires stands { StandsOn (references (D.universe provider.now) reader.old.lists disjunctions.now) self.old }
-        requires walkable { All (CanWalk (references (D.universe provider.now) reader.old.lists disjunctions.now)) self.old.clauses }
-        requires named { AreNamed (D.universe provider.now) self.old }
-        requires hot { OnlyHotScore D.NameId.Set.has (D.NameId.Scores.value_at scores.now) self.old }
-        requires largest { IsLargest nat_cmp 0 (D.NameId.Scores.value_at scores.now) largest }
-        ensures picked { let refs = references (D.universe provider.now) reader.old.lists disjunctions.now in
-            IfOk result (λ decision. decision ≡ option_map decided (pick (eligible (values_in map.now) (literals_in refs) (rows_in refs)
-            (score_in refs (D.NameId.Scores.value_at scores.now)) self.old.clauses))) }
-        ensures none { let refs = references (D.universe provider.now) reader.old.lists disjunctions.now in
+        requires synced { IsSynced (values_in question.now.map.now) self.old }
+        requires stands { let refs = references (D.universe question.now.interner.now)
+            reader.old.lists question.now.disjunctions.now in
+            StandsOn refs self.old }
+        requires walkable { let refs = references (D.universe question.now.interner.now)
+            reader.old.lists question.now.disjunctions.now in
+            All (CanWalk refs) self.old.clauses }
+        requires named { AreNamed (D.universe question.now.interner.now) self.old }
+        requires hot { OnlyHotScore D.NameId.Set.has (D.NameId.Scores.value_at question.now.scores.now) self.old }
+        requires largest { IsLargest nat_cmp 0 (D.NameId.Scores.value_at question.now.scores.now)
+            question.now.largest }
+        ensures picked { let refs = references (D.universe question.now.interner.now)
+            reader.old.lists question.now.disjunctions.now in
+            IfOk result (λ decision. decision ≡ option_map decided (pick (eligible (values_in question.now.map.now) (literals_in refs) (rows_in refs)
+            (score_in refs (D.NameId.Scores.value_at question.now.scores.now)) self.old.clauses))) }
+        ensures none { let refs = references (D.universe question.now.interner.now)
+            reader.old.lists question.now.disjunctions.now in
             IfOk result (λ decision. (decision ≡ None)
-            ↔ All (λ c. is_eligible (values_in map.now) (literals_in refs) (rows_in refs) c ≡ false) (scan self.old.clauses)) }
-        ensures unbeaten { let refs = references (D.universe provider.now) reader.old.lists disjunctions.now in
-            IfOk result (DecidesUnbeaten (eligible (values_in map.now) (literals_in refs) (rows_in refs)
-            (score_in refs (D.NameId.Scores.value_at scores.now)) self.old.clauses)) }
+            ↔ All (λ c. is_eligible (values_in question.now.map.now) (literals_in refs) (rows_in refs) c ≡ false) (scan self.old.clauses)) }
+        ensures unbeaten { let refs = references (D.universe question.now.interner.now)
+            reader.old.lists question.now.disjunctions.now in
+            IfOk result (DecidesUnbeaten (eligible (values_in question.now.map.now) (literals_in refs) (rows_in refs)
+            (score_in refs (D.NameId.Scores.value_at question.now.scores.now)) self.old.clauses)) }
         ensures memory { IfErr result (λ e. e ≡ OutOfMemory) }
         ensures unchanged { IsUnchanged self.old self.new D.NameId.Set.has }
         ensures lists { reader.new.lists ≡ reader.old.lists }
-        ensures stands { StandsOn (references (D.universe provider.now) reader.old.lists disjunctions.now) self.new }
+        ensures stands { let refs = references (D.universe question.now.interner.now)
+            reader.old.lists question.now.disjunctions.now in
+            StandsOn refs self.new }
 
         // Whatever the result, the requirements that came to the reader's log were walked once each, and no walk more is owed.
         ensures walks { WalksOnce self.old.inside.requirements self.new.inside.requirements reader.old.walked reader.new.walked }
         ensures owed { SameValues (owed self.old) (owed self.new) }
         ensures looks { SameValues (looks self.old) (looks self.new) }
     {
-        let question = Question {
-            map,
-            disjunctions,
-            scores,
-            largest,
-            interner: provider,
-        };
-        let offer = next_offer(&mut self.tracked, reader, &question)?;
+        let offer = next_offer(&mut self.tracked, reader, question)?;
         Ok(decision_at(&offer))
     }
 
@@ -438,7 +437,14 @@ impl<D: DependencyProvider> DecideQueue<D> {
         ensures looks { (r : ARequirement) → looks self.new r ≤ looks self.old r + 1 }
     {
         self.settle(map, reader, disjunctions)?;
-        self.pick(map, reader, disjunctions, scores, largest, provider)
+        let question = Question {
+            map,
+            disjunctions,
+            scores,
+            largest,
+            interner: provider,
+        };
+        self.pick(reader, &question)
     }
 
     /// The first falsified clause of the scan, if there is one. Takes no memory; linear in all clauses, and in the rows of

@@ -1,20 +1,19 @@
 //! The decision along what is queued. First the root's clauses are gone through, which are decided before anything that
 //! follows from them; only where none of them is eligible, all that is queued, which the root's have left by then. Each
 //! time the first eligible clause is the best at first, and behind it what may be better is looked at.
-ghost use Rattle.std.specs.Prelude.{◌≡◌, ◌<◌, Some, None, true, false, length, filter, slice_get, option_map};
-ghost use Rattle.std.specs.Prelude.{IfSome, MatchOption, IfOk, IfErr};
+ghost use Rattle.std.specs.Prelude.{◌≡◌, ◌<◌, Some, None, true, false, length, filter, slice_get};
+ghost use Rattle.std.specs.Prelude.{IfSome, MatchOption, OnOk, IfOk, IfErr};
 ghost use Rattle.typed_ids.specs.declared.error.StoreError.TheVariants.{OutOfMemory};
 ghost use Rattle.decisions.specs.Decisions.{values_in};
 ghost use Rattle.resolvo_queue.specs.Asking.{CanBeAsked, OnlyWalks};
 ghost use Rattle.resolvo_queue.specs.Group.{group_at, has_of, is_in, offers_of};
-ghost use Rattle.resolvo_queue.specs.Inspection.{offer_with};
+ghost use Rattle.resolvo_queue.specs.Inspection.{eligible_frontier, offer_with};
 ghost use Rattle.resolvo_queue.specs.Pick.{best_offer, is_of_root, pick};
 ghost use Rattle.resolvo_queue.specs.Positions.{has, is_after, IsBefore};
 ghost use Rattle.resolvo_queue.specs.Queued.{IsOfClause, set_of};
 ghost use Rattle.resolvo_queue.specs.Question.{clause_literals, offers_in, AreUpTo};
 ghost use Rattle.resolvo_queue.specs.Ready.{IsDone, ColdHasNoScore, offered, rest_picked, improved};
 ghost use Rattle.resolvo_queue.specs.References.{references, rows_in, score_in};
-ghost use Rattle.resolvo_queue.specs.declared.candidate.Candidate.{Candidate as ACandidate};
 ghost use Rattle.resolvo_queue.specs.declared.position.Position.{Position as APosition};
 ghost use Rattle.resolvo_queue.specs.declared.tracked_clause.TrackedClause.{TrackedClause as ATrackedClause};
 ghost use Rattle.typed_ids.specs.declared.version_set_id.VersionSetId.{VersionSetId as AVersionSetId};
@@ -35,25 +34,23 @@ use providers::Interner;
 use std::alloc::Allocator;
 use typed_ids::{StoreError, VariableId, VersionSetId};
 
-/// What the clause at a position offers. One that isn't eligible leaves the queue.
+/// Where the clause at a position is eligible. One that isn't leaves the queue.
 fn look<I: Interner>(
     tracked: &mut TrackedClauses<I::Alloc>,
     position: Position,
     reader: &mut RowReader<'_, I::Alloc>,
     question: &Question<'_, I>,
-) -> Result<Option<Candidate>, StoreError>
+) -> Result<Option<Frontier>, StoreError>
     requires of { IsOfClause tracked.old.index.clauses.items position }
     requires asked { let refs = references (I.universe question.now.interner.now)
         reader.old.lists question.now.disjunctions.now in
         CanBeAsked refs (values_in question.now.map.now) tracked.old }
-    ensures offers { let refs = references (I.universe question.now.interner.now)
+    ensures frontier { let refs = references (I.universe question.now.interner.now)
         reader.old.lists question.now.disjunctions.now in
-        let score = I.NameId.Scores.value_at question.now.scores.now in
-        let offers = offers_in refs (values_in question.now.map.now) score in
-        IfOk result (λ o. (c : ATrackedClause) → slice_get tracked.old.index.clauses.items position.number ≡ Some c →
-        option_map (λ (b : ACandidate). b.offer) o ≡ offers c) }
-    ensures at { IfOk result (λ o. IfSome o (λ b. b.position ≡ position)) }
-    ensures fewer { IfOk result (λ o. o ≡ None → has tracked.old.queued.all position ≡ true →
+        IfOk result (λ f. (c : ATrackedClause) → slice_get tracked.old.index.clauses.items position.number ≡ Some c →
+        f ≡ eligible_frontier (values_in question.now.map.now) (clause_literals refs) (rows_in refs) c) }
+    ensures set { IfOk result (λ f. IfSome f (λ g. (I.universe question.now.interner.now).knows_set g.set ≡ true)) }
+    ensures fewer { IfOk result (λ f. f ≡ None → has tracked.old.queued.all position ≡ true →
         length tracked.new.queued.all < length tracked.old.queued.all) }
     ensures asked { let refs = references (I.universe question.now.interner.now)
         reader.old.lists question.now.disjunctions.now in
@@ -66,20 +63,15 @@ fn look<I: Interner>(
         &mut tracked.requirements,
         &mut tracked.occurrences,
         reader,
-        question.disjunctions,
         clause,
-        question.map,
-        question.interner,
+        question,
     )?;
     match found {
         None => {
             tracked.queued.remove(position);
             Ok(None)
         }
-        Some(frontier) => Ok(Some(Candidate {
-            position,
-            offer: offer_at(clause, frontier, question),
-        })),
+        Some(frontier) => Ok(Some(frontier)),
     }
 }
 
@@ -103,6 +95,28 @@ fn offer_at<I: Interner>(
         },
         frontier,
         score: score_of(frontier.set, question.scores, question.interner),
+    }
+}
+
+/// What the clause at a position offers, by its frontier.
+fn candidate_at<I: Interner>(
+    tracked: &TrackedClauses<I::Alloc>,
+    position: Position,
+    frontier: Frontier,
+    question: &Question<'_, I>,
+) -> Candidate
+    requires of { IsOfClause tracked.now.index.clauses.items position }
+    requires set { (I.universe question.now.interner.now).knows_set frontier.set ≡ true }
+    ensures offer { let universe = I.universe question.now.interner.now in
+        let score = λ (set : AVersionSetId). I.NameId.Scores.value_at question.now.scores.now (universe.set_name set) in
+        (c : ATrackedClause) → slice_get tracked.now.index.clauses.items position.number ≡ Some c →
+        result.offer ≡ offer_with score c frontier }
+    ensures at { result.position ≡ position }
+{
+    let clause = &tracked.index.clauses[position.number as usize];
+    Candidate {
+        position,
+        offer: offer_at(clause, frontier, question),
     }
 }
 
@@ -131,7 +145,7 @@ fn first_eligible<I: Interner>(
 {
     while let Some(position) = tracked.queued.first_of(group) {
         match look(tracked, position, reader, question)? {
-            Some(candidate) => return Ok(Some(candidate)),
+            Some(frontier) => return Ok(Some(candidate_at(tracked, position, frontier, question))),
             None => {}
         }
     }
@@ -163,14 +177,15 @@ fn next_rival<A: Allocator + Copy>(
     tracked.queued.first_behind(tracked.only_hot, group, cursor)
 }
 
-/// The better of the best so far and what the clause at a position behind it offers.
-fn better_of<I: Interner>(
+/// Makes the best so far what the clause at a position behind it offers, if that is better. Only where it has fewer
+/// candidates its score is asked for.
+fn improve<I: Interner>(
+    best: &mut Candidate,
     tracked: &mut TrackedClauses<I::Alloc>,
-    best: Candidate,
     position: Position,
     reader: &mut RowReader<'_, I::Alloc>,
     question: &Question<'_, I>,
-) -> Result<Candidate, StoreError>
+) -> Result<(), StoreError>
     requires of { IsOfClause tracked.old.index.clauses.items position }
     requires asked { let refs = references (I.universe question.now.interner.now)
         reader.old.lists question.now.disjunctions.now in
@@ -178,24 +193,26 @@ fn better_of<I: Interner>(
     ensures better { let refs = references (I.universe question.now.interner.now)
         reader.old.lists question.now.disjunctions.now in
         let score = I.NameId.Scores.value_at question.now.scores.now in
-        IfOk result (λ b. (c : ATrackedClause) → slice_get tracked.old.index.clauses.items position.number ≡ Some c →
-        b.offer ≡ improved best.offer (offers_in refs (values_in question.now.map.now) score c)) }
+        OnOk result ((c : ATrackedClause) → slice_get tracked.old.index.clauses.items position.number ≡ Some c →
+        best.new.offer ≡ improved best.old.offer (offers_in refs (values_in question.now.map.now) score c)) }
     ensures asked { let refs = references (I.universe question.now.interner.now)
         reader.old.lists question.now.disjunctions.now in
         CanBeAsked refs (values_in question.now.map.now) tracked.new }
     ensures walks { OnlyWalks tracked.old tracked.new reader.old reader.new }
     ensures memory { IfErr result (λ e. e ≡ OutOfMemory) }
 {
-    match look(tracked, position, reader, question)? {
-        Some(candidate) => {
-            if candidate.offer.beats(&best.offer) {
-                Ok(candidate)
-            } else {
-                Ok(best)
-            }
-        }
-        None => Ok(best),
+    let frontier = match look(tracked, position, reader, question)? {
+        Some(frontier) => frontier,
+        None => return Ok(()),
+    };
+    if best.offer.frontier.count <= frontier.count {
+        return Ok(());
     }
+    let rival = candidate_at(tracked, position, frontier, question);
+    if rival.offer.beats(&best.offer) {
+        *best = rival;
+    }
+    Ok(())
 }
 
 /// The best offer of the first clause of a group and of those behind it, in the order of the scan: the first, unless a
@@ -233,7 +250,7 @@ fn best_from<I: Interner>(
     let mut best = first;
     let mut cursor = best.position;
     while let Some(position) = next_rival(tracked, group, &best, cursor, question.largest) {
-        best = better_of(tracked, best, position, reader, question)?;
+        improve(&mut best, tracked, position, reader, question)?;
         cursor = position;
     }
     Ok(Some(best.offer))

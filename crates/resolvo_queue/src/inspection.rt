@@ -16,15 +16,13 @@ ghost use Rattle.resolvo_queue.specs.WalkCounts.{WalksOnce};
 
 use crate::condition::is_met;
 use crate::frontier::Frontier;
+use crate::question::Question;
 use crate::requirements::{Requirements, Walk};
 use crate::row_reader::{Occurrences, RowReader};
 use crate::tracked_clause::TrackedClause;
-use clauses::Disjunction;
-use decisions::DecisionMap;
-use id_storage::Arena;
 use providers::{Interner, Requirement};
 use std::alloc::Allocator;
-use typed_ids::{DisjunctionId, StoreError};
+use typed_ids::StoreError;
 
 /// Lists a requirement, unless it is listed. This is the one place where rows are read for that.
 pub(crate) fn list_once<A: Allocator + Copy>(
@@ -46,25 +44,28 @@ pub(crate) fn list_once<A: Allocator + Copy>(
     }
 }
 
-/// The frontier of a requirement, which is walked only if nothing is known of its rows. This is the one place where
-/// rows are walked.
-fn requirement_frontier<I: Interner, A: Allocator + Copy>(
-    requirements: &mut Requirements<A>,
-    occurrences: &mut Occurrences<A>,
-    reader: &mut RowReader<'_, A>,
-    requirement: Requirement,
-    place: usize,
-    map: &DecisionMap<A>,
-    interner: &I,
+/// The frontier of a clause's requirement, which is walked only if nothing is known of its rows. This is the one place
+/// where rows are walked.
+fn requirement_frontier<I: Interner>(
+    requirements: &mut Requirements<I::Alloc>,
+    occurrences: &mut Occurrences<I::Alloc>,
+    reader: &mut RowReader<'_, I::Alloc>,
+    clause: &TrackedClause,
+    question: &Question<'_, I>,
 ) -> Result<Option<Frontier>, StoreError>
-    requires place { IsPlaceOf requirements.old requirement place }
-    requires walkable { IsWalkable (I.universe interner.now) reader.old.lists requirement }
+    requires place { IsPlaceOf requirements.old clause.now.required clause.now.requirement }
+    requires walkable { IsWalkable (I.universe question.now.interner.now) reader.old.lists clause.now.required }
     requires listed { IsListedWell reader.old.lists occurrences.old requirements.old }
-    requires right { (f : _) → known_at requirements.old place ≡ Some f → f ≡ frontier (values_in map.now) (loaded_rows (I.universe interner.now) reader.old.lists requirement) }
-    ensures frontier { IfOk result (λ f. f ≡ frontier (values_in map.now) (loaded_rows (I.universe interner.now) reader.old.lists requirement)) }
-    ensures known { IfOk result (λ f. known_at requirements.new place ≡ Some f) }
+    requires right { let rows = loaded_rows (I.universe question.now.interner.now) reader.old.lists clause.now.required in
+        (f : _) → known_at requirements.old clause.now.requirement ≡ Some f →
+        f ≡ frontier (values_in question.now.map.now) rows }
+    ensures frontier { let rows = loaded_rows (I.universe question.now.interner.now) reader.old.lists clause.now.required in
+        IfOk result (λ f. f ≡ frontier (values_in question.now.map.now) rows) }
+    ensures known { IfOk result (λ f. known_at requirements.new clause.now.requirement ≡ Some f) }
     ensures once { WalksOnce requirements.old requirements.new reader.old.walked reader.new.walked }
-    ensures learns { Learns requirement place (frontier (values_in map.now) (loaded_rows (I.universe interner.now) reader.old.lists requirement)) requirements.old requirements.new reader.old.walked reader.new.walked }
+    ensures learns { let rows = loaded_rows (I.universe question.now.interner.now) reader.old.lists clause.now.required in
+        Learns clause.now.required clause.now.requirement (frontier (values_in question.now.map.now) rows)
+        requirements.old requirements.new reader.old.walked reader.new.walked }
     ensures rows { reader.new.lists ≡ reader.old.lists }
     ensures listed { IsListedWell reader.old.lists occurrences.new requirements.new }
     ensures keeps_listed { KeepsListed occurrences.old occurrences.new }
@@ -72,37 +73,45 @@ fn requirement_frontier<I: Interner, A: Allocator + Copy>(
     ensures found { SameFound requirements.old requirements.new }
     ensures memory { IfErr result (λ e. e ≡ OutOfMemory) }
 {
-    match requirements.walk(place) {
+    match requirements.walk(clause.requirement) {
         Walk::Known(frontier) => Ok(frontier),
         Walk::Unknown => {
-            list_once(occurrences, reader, requirement)?;
-            let frontier = reader.walk(requirement, map, interner);
-            requirements.keep(place, &frontier);
+            list_once(occurrences, reader, clause.required)?;
+            let frontier = reader.walk(clause.required, question.map, question.interner);
+            requirements.keep(clause.requirement, &frontier);
             Ok(frontier)
         }
     }
 }
 
 /// Where a clause is eligible; nothing if it isn't, and then it can't be by what is known afterwards.
-pub(crate) fn inspect<I: Interner, A: Allocator + Copy>(
-    requirements: &mut Requirements<A>,
-    occurrences: &mut Occurrences<A>,
-    reader: &mut RowReader<'_, A>,
-    disjunctions: &Arena<DisjunctionId, Disjunction<A>, A>,
+pub(crate) fn inspect<I: Interner>(
+    requirements: &mut Requirements<I::Alloc>,
+    occurrences: &mut Occurrences<I::Alloc>,
+    reader: &mut RowReader<'_, I::Alloc>,
     clause: &TrackedClause,
-    map: &DecisionMap<A>,
-    interner: &I,
+    question: &Question<'_, I>,
 ) -> Result<Option<Frontier>, StoreError>
     requires place { IsPlaceOf requirements.old clause.now.required clause.now.requirement }
-    requires condition { IfSome clause.now.condition (λ d. d < length disjunctions.now) }
-    requires walkable { IsWalkable (I.universe interner.now) reader.old.lists clause.now.required }
+    requires condition { IfSome clause.now.condition (λ d. d < length question.now.disjunctions.now) }
+    requires walkable { IsWalkable (I.universe question.now.interner.now) reader.old.lists clause.now.required }
     requires listed { IsListedWell reader.old.lists occurrences.old requirements.old }
-    requires right { (f : _) → known_at requirements.old clause.now.requirement ≡ Some f → f ≡ frontier (values_in map.now) (loaded_rows (I.universe interner.now) reader.old.lists clause.now.required) }
-    ensures eligible { IfOk result (λ f. f ≡ eligible_frontier (values_in map.now) (clause_literals (references (I.universe interner.now) reader.old.lists disjunctions.now)) (loaded_rows (I.universe interner.now) reader.old.lists) clause.now) }
-    ensures set { IfOk result (λ f. IfSome f (λ g. (I.universe interner.now).knows_set g.set ≡ true)) }
-    ensures possible { IfOk result (λ f. may_be (values_in map.now) (clause_literals (references (I.universe interner.now) reader.old.lists disjunctions.now)) requirements.new clause.now ≡ is_some f) }
+    requires right { let rows = loaded_rows (I.universe question.now.interner.now) reader.old.lists clause.now.required in
+        (f : _) → known_at requirements.old clause.now.requirement ≡ Some f →
+        f ≡ frontier (values_in question.now.map.now) rows }
+    ensures eligible { let refs = references (I.universe question.now.interner.now)
+        reader.old.lists question.now.disjunctions.now in
+        let rows = loaded_rows (I.universe question.now.interner.now) reader.old.lists in
+        IfOk result (λ f. f ≡ eligible_frontier (values_in question.now.map.now) (clause_literals refs) rows clause.now) }
+    ensures set { IfOk result (λ f. IfSome f (λ g. (I.universe question.now.interner.now).knows_set g.set ≡ true)) }
+    ensures possible { let refs = references (I.universe question.now.interner.now)
+        reader.old.lists question.now.disjunctions.now in
+        let val = values_in question.now.map.now in
+        IfOk result (λ f. may_be val (clause_literals refs) requirements.new clause.now ≡ is_some f) }
     ensures once { WalksOnce requirements.old requirements.new reader.old.walked reader.new.walked }
-    ensures learns { Learns clause.now.required clause.now.requirement (frontier (values_in map.now) (loaded_rows (I.universe interner.now) reader.old.lists clause.now.required)) requirements.old requirements.new reader.old.walked reader.new.walked }
+    ensures learns { let rows = loaded_rows (I.universe question.now.interner.now) reader.old.lists clause.now.required in
+        Learns clause.now.required clause.now.requirement (frontier (values_in question.now.map.now) rows)
+        requirements.old requirements.new reader.old.walked reader.new.walked }
     ensures rows { reader.new.lists ≡ reader.old.lists }
     ensures listed { IsListedWell reader.old.lists occurrences.new requirements.new }
     ensures keeps_listed { KeepsListed occurrences.old occurrences.new }
@@ -110,20 +119,12 @@ pub(crate) fn inspect<I: Interner, A: Allocator + Copy>(
     ensures found { SameFound requirements.old requirements.new }
     ensures memory { IfErr result (λ e. e ≡ OutOfMemory) }
 {
-    match map.value(clause.parent) {
+    match question.map.value(clause.parent) {
         Some(true) => {}
         _ => return Ok(None),
     }
-    if !is_met(clause.condition, disjunctions, map) {
+    if !is_met(clause.condition, question.disjunctions, question.map) {
         return Ok(None);
     }
-    requirement_frontier(
-        requirements,
-        occurrences,
-        reader,
-        clause.required,
-        clause.requirement,
-        map,
-        interner,
-    )
+    requirement_frontier(requirements, occurrences, reader, clause, question)
 }

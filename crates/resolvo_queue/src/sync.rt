@@ -34,7 +34,7 @@ fn copy_behind<A: Allocator>(
 
 impl<A: Allocator + Copy> TrackedClauses<A> {
     /// Routes what has changed since the last sync: the variables of the entries that were taken back, and of those that
-    /// are new. One that was both pushed and taken back in between has no effect.
+    /// are new. One that was both pushed and taken back in between has no effect. Where nothing has changed, nothing is done.
     fn route_changes(
         &mut self,
         floor: usize,
@@ -54,6 +54,9 @@ impl<A: Allocator + Copy> TrackedClauses<A> {
         ensures trail { OnOk result (self.new.trail.items ≡ take floor self.old.trail.items ++ drop floor trail.now) }
         ensures memory { IfErr result (λ e. e ≡ OutOfMemory) }
     {
+        if floor == self.trail.len() && floor == trail.len() {
+            return Ok(());
+        }
         route_all(
             &mut self.queued,
             &mut self.requirements,

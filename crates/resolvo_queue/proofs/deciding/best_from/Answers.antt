@@ -17,15 +17,15 @@ pub loop-position-init : goal.loop-position-init
 loop-position-init g c =
     record { picked = refl; of = c.requires.of; asked = c.requires.asked; walks = only_walks_none c.args.tracked.now c.args.reader.now }
 
-pub better_of-requires-clause-of : goal.better_of-requires-clause-of
-better_of-requires-clause-of g c =
+pub improve-requires-clause-of : goal.improve-requires-clause-of
+improve-requires-clause-of g c =
     let refs = (references (g.I.Interner.universe c.args.question.now.interner.now) c.args.reader.now.lists c.args.question.now.disjunctions.now) in
     let tracked = c.loop-position.tracked in
     of_clause refs (values_in c.args.question.now.map.now) tracked c.loop-position.invariant.asked tracked.only_hot c.in-Some.position
     (of_both c.args.group (set_of tracked.only_hot tracked.queued) c.in-Some.position c.in-Some.ensures.none).1
 
-pub better_of-requires-clause-asked : goal.better_of-requires-clause-asked
-better_of-requires-clause-asked g c =
+pub improve-requires-clause-asked : goal.improve-requires-clause-asked
+improve-requires-clause-asked g c =
     asked_by (g.I.Interner.universe c.args.question.now.interner.now) c.args.reader.now.lists c.loop-position.reader.lists c.args.question.now.disjunctions.now (values_in c.args.question.now.map.now) c.loop-position.tracked (sym c.loop-position.invariant.walks.lists) c.loop-position.invariant.asked
 
 pub loop-position-smaller : goal.loop-position-smaller
@@ -50,12 +50,12 @@ loop-position-preserved g c =
           tracked.requirements tracked.queued (ready_by refs val tracked c.args.tracked.now c.loop-position.invariant.walks.index c.loop-position.invariant.asked)
           c.requires.cold c.args.question.now.largest c.requires.largest tracked.only_hot c.loop-position.best.offer
           c.loop-position.cursor c.in-Some.position c.in-Some.ensures.none c.in-Some.ensures.behind c.in-Some.ensures.least
-          c.in_ok-best.best.offer
-          (λ d s. c.in_ok-best.ensures.better d (subst (λ ix. slice_get ix.clauses.items c.in-Some.position.number ≡ Some d) (sym c.loop-position.invariant.walks.index) s)
+          c.improve.new.best.offer
+          (λ d s. c.in_ok-improve.ensures.better d (subst (λ ix. slice_get ix.clauses.items c.in-Some.position.number ≡ Some d) (sym c.loop-position.invariant.walks.index) s)
           ∙ ap (λ ls. improved c.loop-position.best.offer (offer_of val (clause_literals refs) (loaded_rows (g.I.Interner.universe c.args.question.now.interner.now) ls) score d)) c.loop-position.invariant.walks.lists);
       of = (of_both c.args.group (set_of tracked.only_hot tracked.queued) c.in-Some.position c.in-Some.ensures.none).0;
-      asked = asked_by (g.I.Interner.universe c.args.question.now.interner.now) c.loop-position.reader.lists c.args.reader.now.lists c.args.question.now.disjunctions.now val c.better_of.new.tracked c.loop-position.invariant.walks.lists c.better_of.ensures.asked;
-      walks = only_walks_along c.args.tracked.now tracked c.better_of.new.tracked c.args.reader.now c.loop-position.reader c.better_of.new.reader c.loop-position.invariant.walks c.better_of.ensures.walks;
+      asked = asked_by (g.I.Interner.universe c.args.question.now.interner.now) c.loop-position.reader.lists c.args.reader.now.lists c.args.question.now.disjunctions.now val c.improve.new.tracked c.loop-position.invariant.walks.lists c.improve.ensures.asked;
+      walks = only_walks_along c.args.tracked.now tracked c.improve.new.tracked c.args.reader.now c.loop-position.reader c.improve.new.reader c.loop-position.invariant.walks c.improve.ensures.walks;
     }
 
 pub returns-clause-best : goal.returns-clause-best
@@ -70,13 +70,13 @@ returns-clause-best g c =
     c.requires.cold c.args.question.now.largest c.requires.largest tracked.only_hot c.loop-position.best.offer c.loop-position.cursor
     (match_none c.next_rival.result _ _ c.in_default.is c.next_rival.ensures.none))
 
-pub returns-in_err-best-clause-asked : goal.returns-in_err-best-clause-asked
-returns-in_err-best-clause-asked g c =
-    asked_by (g.I.Interner.universe c.args.question.now.interner.now) c.loop-position.reader.lists c.args.reader.now.lists c.args.question.now.disjunctions.now (values_in c.args.question.now.map.now) c.better_of.new.tracked c.loop-position.invariant.walks.lists c.better_of.ensures.asked
+pub returns-in_err-improve-clause-asked : goal.returns-in_err-improve-clause-asked
+returns-in_err-improve-clause-asked g c =
+    asked_by (g.I.Interner.universe c.args.question.now.interner.now) c.loop-position.reader.lists c.args.reader.now.lists c.args.question.now.disjunctions.now (values_in c.args.question.now.map.now) c.improve.new.tracked c.loop-position.invariant.walks.lists c.improve.ensures.asked
 
-pub returns-in_err-best-clause-walks : goal.returns-in_err-best-clause-walks
-returns-in_err-best-clause-walks g c =
-    only_walks_along c.args.tracked.now c.loop-position.tracked c.better_of.new.tracked c.args.reader.now c.loop-position.reader c.better_of.new.reader c.loop-position.invariant.walks c.better_of.ensures.walks
+pub returns-in_err-improve-clause-walks : goal.returns-in_err-improve-clause-walks
+returns-in_err-improve-clause-walks g c =
+    only_walks_along c.args.tracked.now c.loop-position.tracked c.improve.new.tracked c.args.reader.now c.loop-position.reader c.improve.new.reader c.loop-position.invariant.walks c.improve.ensures.walks
 
 pub returns-clause-asked : goal.returns-clause-asked
 returns-clause-asked g c = grind (arith, common_steps)

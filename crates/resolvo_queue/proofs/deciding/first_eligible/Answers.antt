@@ -1,15 +1,15 @@
-use Rattle.std.proofs.Common.{◌≡◌, Some, IfSome, slice_get, subst, sym, ap, ◌∙◌}
+use Rattle.std.proofs.Common.{◌≡◌, Some, slice_get, subst, sym, ap, ◌∙◌}
 use Rattle.decisions.specs.Decisions.{values_in}
 use Rattle.resolvo_queue.specs.Rows.{loaded_rows}
-use Rattle.resolvo_queue.specs.Inspection.{offer_of}
+use Rattle.resolvo_queue.specs.Inspection.{eligible_frontier}
 use Rattle.resolvo_queue.specs.Question.{clause_literals}
 use Rattle.resolvo_queue.specs.Group.{is_in}
+use Rattle.resolvo_queue.specs.Queued.{IsOfClause}
 use Rattle.resolvo_queue.specs.References.{references, rows_in, score_in}
-use Rattle.resolvo_queue.specs.declared.candidate.Candidate.{Candidate}
 use Rattle.resolvo_queue.proofs.AskingLaws.{asked_by, only_walks_along, only_walks_none, ready_by}
 use Rattle.resolvo_queue.proofs.DecisionLaws.{first_found, none_found}
 use Rattle.resolvo_queue.proofs.GroupLaws.{of_both}
-use Rattle.resolvo_queue.proofs.ReadyLaws.{match_none}
+use Rattle.resolvo_queue.proofs.ReadyLaws.{match_none, offer_found}
 use Rattle.resolvo_queue.proofs.deciding.first_eligible.Goals as goal
 
 pub look-requires-clause-of : goal.look-requires-clause-of
@@ -29,16 +29,23 @@ returns-in-Some-2-clause-picked g c =
     c.loop-position.tracked.requirements c.loop-position.tracked.queued
     (ready_by refs val c.loop-position.tracked c.args.tracked.now c.loop-position.invariant.walks.index c.loop-position.invariant.asked)
     c.in-Some.position c.in-Some.ensures.none c.in-Some.ensures.least
-    c.in_ok-candidate.field-0 c.in-Some-2.candidate c.in-Some-2.is
-    (λ d s. c.in_ok-candidate.ensures.offers d (subst (λ ix. slice_get ix.clauses.items c.in-Some.position.number ≡ Some d) (sym c.loop-position.invariant.walks.index) s)
-    ∙ ap (λ ls. offer_of val (clause_literals refs) (loaded_rows (g.I.Interner.universe c.args.question.now.interner.now) ls) score d) c.loop-position.invariant.walks.lists)
-    c.in_ok-candidate.ensures.at
+    c.candidate_at.result
+    (λ d s. let looked : slice_get c.loop-position.tracked.index.clauses.items c.in-Some.position.number ≡ Some d =
+        subst (λ ix. slice_get ix.clauses.items c.in-Some.position.number ≡ Some d) (sym c.loop-position.invariant.walks.index) s in
+    offer_found (clause_literals refs) (rows_in refs) val score c.in_ok-frontier.field-0 c.in-Some-2.frontier c.candidate_at.result.offer d c.in-Some-2.is
+    (c.in_ok-frontier.ensures.frontier d looked
+    ∙ ap (λ ls. eligible_frontier val (clause_literals refs) (loaded_rows (g.I.Interner.universe c.args.question.now.interner.now) ls) d) c.loop-position.invariant.walks.lists)
+    (c.candidate_at.ensures.offer d (subst (λ ix. slice_get ix.clauses.items c.in-Some.position.number ≡ Some d) (sym c.look.ensures.walks.index) looked)))
+    c.candidate_at.ensures.at
+
+pub candidate_at-requires-clause-of : goal.candidate_at-requires-clause-of
+candidate_at-requires-clause-of g c =
+    subst (λ ix. IsOfClause ix.clauses.items c.in-Some.position) (sym c.look.ensures.walks.index)
+    (c.loop-position.invariant.asked.ready.all_of c.in-Some.position (of_both c.args.group c.loop-position.tracked.queued.all c.in-Some.position c.in-Some.ensures.none).1)
 
 pub returns-in-Some-2-clause-of : goal.returns-in-Some-2-clause-of
 returns-in-Some-2-clause-of g c =
-    let place : c.in-Some-2.candidate.position ≡ c.in-Some.position =
-    subst (λ o. IfSome o (λ (x : Candidate). x.position ≡ c.in-Some.position)) c.in-Some-2.is c.in_ok-candidate.ensures.at in
-    ap (is_in c.args.group) place ∙ (of_both c.args.group c.loop-position.tracked.queued.all c.in-Some.position c.in-Some.ensures.none).0
+    ap (is_in c.args.group) c.candidate_at.ensures.at ∙ (of_both c.args.group c.loop-position.tracked.queued.all c.in-Some.position c.in-Some.ensures.none).0
 
 pub returns-clause-picked : goal.returns-clause-picked
 returns-clause-picked g c =
@@ -69,10 +76,10 @@ pub returns-in-Some-2-clause-walks : goal.returns-in-Some-2-clause-walks
 returns-in-Some-2-clause-walks g c =
     only_walks_along c.args.tracked.now c.loop-position.tracked c.look.new.tracked c.args.reader.now c.loop-position.reader c.look.new.reader c.loop-position.invariant.walks c.look.ensures.walks
 
-pub returns-in_err-candidate-clause-asked : goal.returns-in_err-candidate-clause-asked
-returns-in_err-candidate-clause-asked g c =
+pub returns-in_err-frontier-clause-asked : goal.returns-in_err-frontier-clause-asked
+returns-in_err-frontier-clause-asked g c =
     asked_by (g.I.Interner.universe c.args.question.now.interner.now) c.loop-position.reader.lists c.args.reader.now.lists c.args.question.now.disjunctions.now (values_in c.args.question.now.map.now) c.look.new.tracked c.loop-position.invariant.walks.lists c.look.ensures.asked
 
-pub returns-in_err-candidate-clause-walks : goal.returns-in_err-candidate-clause-walks
-returns-in_err-candidate-clause-walks g c =
+pub returns-in_err-frontier-clause-walks : goal.returns-in_err-frontier-clause-walks
+returns-in_err-frontier-clause-walks g c =
     only_walks_along c.args.tracked.now c.loop-position.tracked c.look.new.tracked c.args.reader.now c.loop-position.reader c.look.new.reader c.loop-position.invariant.walks c.look.ensures.walks

@@ -1,8 +1,8 @@
 use Rattle.std.proofs.lemmas.Grind.{common_steps}
-use Rattle.std.proofs.Common.{Some, ap, is_some, ◌∙◌, arith}
+use Rattle.std.proofs.Common.{ap, is_some, ◌∙◌, sym, arith}
 use Rattle.decisions.specs.Decisions.{values_in}
-use Rattle.resolvo_queue.specs.References.{references, score_in}
-use Rattle.resolvo_queue.proofs.AskingLaws.{askable_here, dropped_asked, looked_asked, nothing_here, offer_here, right_here}
+use Rattle.resolvo_queue.specs.References.{references}
+use Rattle.resolvo_queue.proofs.AskingLaws.{askable_here, dropped_asked, frontier_here, looked_asked, right_here}
 use Rattle.resolvo_queue.proofs.deciding.look.Goals as goal
 
 pub inspect-requires-clause-walkable : goal.inspect-requires-clause-walkable
@@ -21,11 +21,11 @@ returns-in_err-found-clause-asked g c =
     c.args.tracked.now c.requires.asked c.args.position c.requires.of c.index-clause.result.now c.index-clause.ensures
     c.inspect.new.requirements c.inspect.new.occurrences c.inspect.ensures.listed c.args.reader.now.walked c.inspect.new.reader.walked c.inspect.ensures.learns
 
-pub returns-in-None-clause-offers : goal.returns-in-None-clause-offers
-returns-in-None-clause-offers g c =
-    nothing_here (references (g.I.Interner.universe c.args.question.now.interner.now) c.args.reader.now.lists c.args.question.now.disjunctions.now) (values_in c.args.question.now.map.now)
+pub returns-in-None-clause-frontier : goal.returns-in-None-clause-frontier
+returns-in-None-clause-frontier g c =
+    frontier_here (references (g.I.Interner.universe c.args.question.now.interner.now) c.args.reader.now.lists c.args.question.now.disjunctions.now) (values_in c.args.question.now.map.now)
     c.args.tracked.now c.requires.asked c.args.position c.requires.of c.index-clause.result.now c.index-clause.ensures
-    (score_in (references (g.I.Interner.universe c.args.question.now.interner.now) c.args.reader.now.lists c.args.question.now.disjunctions.now) (g.I.NameId.Scores.IdMap.value_at c.args.question.now.scores.now)) c.in_ok-found.found c.in-None.is c.in_ok-found.ensures.eligible
+    _ (sym c.in-None.is ∙ c.in_ok-found.ensures.eligible)
 
 pub returns-in-None-clause-asked : goal.returns-in-None-clause-asked
 returns-in-None-clause-asked g c =
@@ -34,12 +34,11 @@ returns-in-None-clause-asked g c =
     c.inspect.new.requirements c.inspect.new.occurrences c.inspect.ensures.listed c.args.reader.now.walked c.inspect.new.reader.walked c.inspect.ensures.learns
     c.remove.new.self c.remove.ensures.loses (c.in_ok-found.ensures.possible ∙ ap is_some c.in-None.is)
 
-pub returns-in-Some-clause-offers : goal.returns-in-Some-clause-offers
-returns-in-Some-clause-offers g c =
-    λ d s. ap Some c.offer_at.ensures
-    ∙ offer_here (references (g.I.Interner.universe c.args.question.now.interner.now) c.args.reader.now.lists c.args.question.now.disjunctions.now) (values_in c.args.question.now.map.now)
+pub returns-in-Some-clause-frontier : goal.returns-in-Some-clause-frontier
+returns-in-Some-clause-frontier g c =
+    frontier_here (references (g.I.Interner.universe c.args.question.now.interner.now) c.args.reader.now.lists c.args.question.now.disjunctions.now) (values_in c.args.question.now.map.now)
     c.args.tracked.now c.requires.asked c.args.position c.requires.of c.index-clause.result.now c.index-clause.ensures
-    (score_in (references (g.I.Interner.universe c.args.question.now.interner.now) c.args.reader.now.lists c.args.question.now.disjunctions.now) (g.I.NameId.Scores.IdMap.value_at c.args.question.now.scores.now)) c.in_ok-found.found c.in-Some.frontier c.in-Some.is c.in_ok-found.ensures.eligible d s
+    _ (sym c.in-Some.is ∙ c.in_ok-found.ensures.eligible)
 
 pub returns-in-Some-clause-asked : goal.returns-in-Some-clause-asked
 returns-in-Some-clause-asked g c =

@@ -11,5 +11,5 @@ returns-then-not-is_met-clause-once g c = walks_nothing c.args.requirements.now 
 
 pub returns-clause-set : goal.returns-clause-set
 returns-clause-set g c =
-    frontier_set (g.I.Interner.universe c.args.interner.now) c.args.reader.now.lists (values_in c.args.map.now) c.args.clause.now.required
-    (g.met.I.Interner.union_sets_known c.args.interner.now) c.requires.walkable.known c.requirement_frontier.result c.requirement_frontier.ensures.frontier
+    frontier_set (g.I.Interner.universe c.args.question.now.interner.now) c.args.reader.now.lists (values_in c.args.question.now.map.now) c.args.clause.now.required
+    (g.met.I.Interner.union_sets_known c.args.question.now.interner.now) c.requires.walkable.known c.requirement_frontier.result c.requirement_frontier.ensures.frontier

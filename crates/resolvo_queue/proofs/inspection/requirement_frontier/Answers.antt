@@ -10,39 +10,39 @@ use Rattle.resolvo_queue.proofs.inspection.requirement_frontier.Goals as goal
 
 pub returns-in_ok-list_once-in-Unknown-clause-known : goal.returns-in_ok-list_once-in-Unknown-clause-known
 returns-in_ok-list_once-in-Unknown-clause-known g c =
-    ap (λ ts. known_at ts c.args.place) c.keep.ensures.walked
-    ∙ ap walk_of (is_at_place (walked c.walk-frontier.result) c.args.requirements.now c.args.place c.requires.place.0 c.requires.place.1)
+    ap (λ ts. known_at ts c.args.clause.now.requirement) c.keep.ensures.walked
+    ∙ ap walk_of (is_at_place (walked c.walk-frontier.result) c.args.requirements.now c.args.clause.now.requirement c.requires.place.0 c.requires.place.1)
 
 pub returns-in_ok-list_once-in-Unknown-clause-listed : goal.returns-in_ok-list_once-in-Unknown-clause-listed
 returns-in_ok-list_once-in-Unknown-clause-listed g c =
     subst (λ ts. IsListedWell c.args.reader.now.lists c.list_once.new.occurrences ts) (sym c.keep.ensures.walked)
-    (listed_walked c.args.reader.now.lists c.args.requirement c.list_once.new.occurrences c.args.requirements.now c.args.place c.walk-frontier.result
+    (listed_walked c.args.reader.now.lists c.args.clause.now.required c.list_once.new.occurrences c.args.requirements.now c.args.clause.now.requirement c.walk-frontier.result
     c.requires.place c.in_ok-list_once-in-Unknown.ensures.listed
-    (listed_more c.args.reader.now.lists c.args.requirement c.args.occurrences.now c.list_once.new.occurrences c.args.requirements.now c.requires.walkable.entry c.list_once.ensures.grows c.list_once.ensures.lists c.requires.listed))
+    (listed_more c.args.reader.now.lists c.args.clause.now.required c.args.occurrences.now c.list_once.new.occurrences c.args.requirements.now c.requires.walkable.entry c.list_once.ensures.grows c.list_once.ensures.lists c.requires.listed))
 
 pub returns-in_ok-list_once-in-Unknown-clause-owes : goal.returns-in_ok-list_once-in-Unknown-clause-owes
 returns-in_ok-list_once-in-Unknown-clause-owes g c =
     subst (λ ts. OwesSame c.args.requirements.now ts) (sym c.keep.ensures.walked)
-    (owes_walked c.args.requirements.now c.args.place c.walk-frontier.result (sym c.in-Unknown.ensures))
+    (owes_walked c.args.requirements.now c.args.clause.now.requirement c.walk-frontier.result (sym c.in-Unknown.ensures))
 
 pub keep-requires : goal.keep-requires
-keep-requires g c = place_within c.args.requirements.now c.args.requirement c.args.place c.requires.place
+keep-requires g c = place_within c.args.requirements.now c.args.clause.now.required c.args.clause.now.requirement c.requires.place
 
 pub returns-in_err-list_once-in-Unknown-clause-listed : goal.returns-in_err-list_once-in-Unknown-clause-listed
 returns-in_err-list_once-in-Unknown-clause-listed g c =
-    listed_more c.args.reader.now.lists c.args.requirement c.args.occurrences.now c.list_once.new.occurrences c.args.requirements.now c.requires.walkable.entry c.list_once.ensures.grows c.list_once.ensures.lists c.requires.listed
+    listed_more c.args.reader.now.lists c.args.clause.now.required c.args.occurrences.now c.list_once.new.occurrences c.args.requirements.now c.requires.walkable.entry c.list_once.ensures.grows c.list_once.ensures.lists c.requires.listed
 
 pub returns-in_ok-list_once-in-Unknown-clause-found : goal.returns-in_ok-list_once-in-Unknown-clause-found
 returns-in_ok-list_once-in-Unknown-clause-found g c =
     subst (λ ts. SameFound c.args.requirements.now ts) (sym c.keep.ensures.walked)
-    (found_walked c.args.requirements.now c.args.place c.walk-frontier.result)
+    (found_walked c.args.requirements.now c.args.clause.now.requirement c.walk-frontier.result)
 
 pub returns-in_ok-list_once-in-Unknown-clause-once : goal.returns-in_ok-list_once-in-Unknown-clause-once
 returns-in_ok-list_once-in-Unknown-clause-once g c =
     subst (λ ts. WalksOnce c.args.requirements.now ts c.args.reader.now.walked c.walk-frontier.new.self.walked) (sym c.keep.ensures.walked)
     (subst (WalksOnce c.args.requirements.now _ c.args.reader.now.walked) (sym c.walk-frontier.ensures.walked)
-    (walks_one c.args.requirement c.args.place c.walk-frontier.result c.args.requirements.now c.args.reader.now.walked c.requires.place
-    (λ k p. c.keep.ensures.only c.args.requirement k c.requires.place p) (sym c.in-Unknown.ensures)))
+    (walks_one c.args.clause.now.required c.args.clause.now.requirement c.walk-frontier.result c.args.requirements.now c.args.reader.now.walked c.requires.place
+    (λ k p. c.keep.ensures.only c.args.clause.now.required k c.requires.place p) (sym c.in-Unknown.ensures)))
 
 pub returns-in_err-list_once-in-Unknown-clause-once : goal.returns-in_err-list_once-in-Unknown-clause-once
 returns-in_err-list_once-in-Unknown-clause-once g c = walks_nothing c.args.requirements.now c.args.reader.now.walked
