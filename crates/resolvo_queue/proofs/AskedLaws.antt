@@ -1,41 +1,19 @@
 -- A question at the values of the last sync finds the queue synced at those.
-use Rattle.std.proofs.Common.{◌≡◌, ℕ, ◌≤◌, Bool, true, false, inl, List, [], None, Some, sym, refl, ◌∙◌, arith, nat_cmp, is_gt}
+use Rattle.std.proofs.Common.{◌≡◌, ℕ, ◌≤◌, Bool, true, false, List, [], sym, ◌∙◌, arith, nat_cmp, is_gt}
 use Rattle.std.proofs.lemmas.Bool.Decides.{nat_tests}
 use Rattle.typed_ids.specs.TotalMaps.{IsLargest}
 use Rattle.decisions.specs.Literals.{Lit, Values, known_true}
 use Rattle.providers.specs.declared.requirement.Requirement.{Requirement}
-use Rattle.resolvo_queue.specs.Index.{list_at}
-use Rattle.resolvo_queue.specs.Order.{Stands}
-use Rattle.resolvo_queue.specs.Possible.{Known}
 use Rattle.resolvo_queue.specs.Question.{AreUpTo}
-use Rattle.resolvo_queue.specs.Queued.{Queued, AreWoken, IsOfClause}
+use Rattle.resolvo_queue.specs.Queued.{Queued}
 use Rattle.resolvo_queue.specs.References.{References, score_in}
-use Rattle.resolvo_queue.specs.Routing.{Routes, AreUnknown}
+use Rattle.resolvo_queue.specs.Routing.{Ways}
 use Rattle.resolvo_queue.specs.Rows.{Row}
 use Rattle.resolvo_queue.specs.Synced.{FindsAll, IsRegistered, IsSynced, ListsKnown}
 use Rattle.resolvo_queue.specs.Tracked.{Tracked}
 use Rattle.resolvo_queue.specs.declared.tracked_clause.TrackedClause.{TrackedClause}
-use Rattle.resolvo_queue.proofs.QueuedLaws.{grows_none}
+use Rattle.resolvo_queue.proofs.RoutingLaws.{routes_none}
 use Rattle.resolvo_queue.proofs.SyncedLaws.{changes_sync}
-
-no_member : {X : Type 0} (P : Type 0) (x : X) → Stands x [] → P
-no_member P x s = elim s [ ]
-
--- where no variable is routed, all stays
-routes_none : (clauses : List TrackedClause) (val : Values) (by_parent by_condition : List (List ℕ)) (listing : ℕ → List Requirement) (ts : List Tracked) (q : Queued) →
-    Routes clauses val by_parent by_condition listing [] ts ts q q
-routes_none clauses val by_parent by_condition listing ts q = record {
-  grows = grows_none (IsOfClause clauses) q;
-  only = λ k. inl refl;
-  parents = λ v s. no_member (AreWoken clauses val (list_at by_parent v) q) v s;
-  conditions = λ v s. no_member (AreWoken clauses val (list_at by_condition v) q) v s;
-  unknown = λ v s. no_member (AreUnknown (listing v) ts) v s;
-  woken = λ k known unknown. absurd (differ (sym known ∙ unknown));
-  others = λ k t e n. e;
-}
-  where
-    differ : ◌≡◌ {A = Known} (Some None) None → ⊥
-    differ h = cc
 
 -- a queue that was synced is so at values that are the same, if each clause whose parent is true counted as such
 pub asked_synced : (clauses : List TrackedClause) (literals : TrackedClause → List Lit) (rows_of : Requirement → List Row) (by_parent by_condition : List (List ℕ))
@@ -44,8 +22,8 @@ pub asked_synced : (clauses : List TrackedClause) (literals : TrackedClause → 
     ((c : TrackedClause) → IsRegistered clauses literals c → counted c ≡ false → known_true (now c.parent) ≡ false) →
     IsSynced clauses literals rows_of before counted ts q → IsSynced clauses literals rows_of now (λ c. known_true (now c.parent)) ts q
 asked_synced clauses literals rows_of by_parent by_condition listing before now counted ts q finds knows same counts synced =
-    changes_sync clauses by_parent by_condition listing before now [] ts ts q q
-    (routes_none clauses now by_parent by_condition listing ts q) literals rows_of counted finds knows
+    let w : Ways = record { clauses = clauses; by_parent = by_parent; by_condition = by_condition; requirements = listing; val = now } in
+    changes_sync w before [] ts ts q q (routes_none w ts q) literals rows_of counted finds knows
     (λ e. ((λ x r. same x), (λ c reg out holds. absurd (differ (sym holds ∙ counts c reg out))), synced))
   where
     differ : true ≡ false → ⊥

@@ -17,8 +17,9 @@ use Rattle.resolvo_queue.specs.Queue.{FindsFalsified, Queue, values_of}
 use Rattle.resolvo_queue.specs.Question.{clause_literals}
 use Rattle.resolvo_queue.specs.References.{Lists, References, literals_in, references}
 use Rattle.resolvo_queue.specs.Routing.{variables_of}
+use Rattle.resolvo_queue.specs.Settling.{AreSettled, Basis, Settles}
 use Rattle.resolvo_queue.specs.Synced.{is_among}
-use Rattle.resolvo_queue.specs.Witnesses.{AreCandidates, AreNewSettled, AreSettled, AreWitnessed, Found, NoneFalsified, Settles, Witnessed, witness}
+use Rattle.resolvo_queue.specs.Witnesses.{AreCandidates, AreTouching, AreWitnessed, Found, NoneFalsified, Witnessed, witness}
 use Rattle.resolvo_queue.specs.declared.requires_clause.RequiresClause.{RequiresClause}
 use Rattle.resolvo_queue.specs.declared.tracked_clause.TrackedClause.{TrackedClause}
 use Rattle.resolvo_queue.proofs.Members.{at_mapped}
@@ -125,8 +126,19 @@ finds_with_disjunction refs q d same finds = record {
 
 -- ---- witnesses were looked for
 
+-- at the clauses of a queue
+abbrev pub basis_at : {A N H : Type 0} → Lists A → List (Disjunction A) → Queue N H → Values → Basis A
+basis_at lists disjunctions q val = record {
+  lists = lists;
+  disjunctions = disjunctions;
+  clauses = q.inside.clauses;
+  by_parent = q.inside.by_parent;
+  by_condition = q.inside.by_condition;
+  val = val;
+}
+
 module _ {N S A H : Type 0} (refs : References N S A) (q q' : Queue N H) (finds : FindsFalsified refs q) (val : Values) (values : SameValues (values_of q.trail) val)
-    (settles : Settles refs.lists val q.inside.occurrences q'.inside.occurrences q.witnesses.of q'.witnesses.of)
+    (settles : Settles (basis_at refs.lists refs.disjunctions q val) q.inside.occurrences q'.inside.occurrences q.witnesses.of q'.witnesses.of)
     (clauses : q'.inside.clauses ≡ q.inside.clauses) (trail : q'.trail ≡ q.trail) (anew : q'.must_start_anew ≡ q.must_start_anew) where
   at_trail : val ≡ values_of q'.trail
   at_trail = λ i x. (values x ∙ ap (λ ds. values_of ds x) (sym trail)) i
@@ -140,25 +152,25 @@ module _ {N S A H : Type 0} (refs : References N S A) (q q' : Queue N H) (finds 
   module _ (none : NoneFalsified refs.lists q.inside.clauses (clause_literals refs) val) where
     -- for all that changed
     pub finds_settled : q'.witnesses.looked ≡ length q.inside.clauses →
-        AreSettled refs.lists q.inside.clauses (clause_literals refs) val q.witnesses.changed q.witnesses.of q'.witnesses.of →
-        AreNewSettled refs.lists q.inside.clauses (clause_literals refs) val q.witnesses.looked q'.witnesses.of → FindsFalsified refs q'
-    finds_settled looked settled new_settled = record {
-      candidates = settles.candidates finds.candidates;
+        AreSettled (basis_at refs.lists refs.disjunctions q val) (λ n. AreTouching (clause_literals refs) q.witnesses.of q.witnesses.changed) q'.witnesses.of →
+        AreSettled (basis_at refs.lists refs.disjunctions q val) (λ n c. q.witnesses.looked ≤ n) q'.witnesses.of → FindsFalsified refs q'
+    finds_settled looked found came = record {
+      candidates = settles.witnesses finds.candidates;
       looked = subst (λ (x : ℕ × List TrackedClause). x.0 ≤ length x.1) (λ i. (sym looked i, sym clauses i)) (omega arith);
-      witnessed = λ accepted. with_witnesses (witnessed_settled (clause_literals refs) q.inside.clauses refs.lists val q.witnesses q'.witnesses settles.better none settled new_settled (was_witnessed accepted));
+      witnessed = λ accepted. with_witnesses (witnessed_settled (basis_at refs.lists refs.disjunctions q val) q.witnesses q'.witnesses settles.better none (was_witnessed accepted) found came);
     }
 
     -- or for some of it
     pub finds_refused : q'.witnesses.changed ≡ q.witnesses.changed → q'.witnesses.looked ≡ q.witnesses.looked → FindsFalsified refs q'
     finds_refused changed looked = record {
-      candidates = settles.candidates finds.candidates;
+      candidates = settles.witnesses finds.candidates;
       looked = subst (λ (x : ℕ × List TrackedClause). x.0 ≤ length x.1) (λ i. (sym looked i, sym clauses i)) finds.looked;
-      witnessed = λ accepted. with_witnesses (witnessed_refused (clause_literals refs) q.inside.clauses refs.lists val q.witnesses q'.witnesses settles.better none changed looked (was_witnessed accepted));
+      witnessed = λ accepted. with_witnesses (witnessed_refused (basis_at refs.lists refs.disjunctions q val) q.witnesses q'.witnesses settles.better none (was_witnessed accepted) changed looked);
     }
 
     pub finds_after : {R E : Type 0} (result : Result R E) → OnOk result (q'.witnesses.looked ≡ length q.inside.clauses) →
-        OnOk result (AreSettled refs.lists q.inside.clauses (clause_literals refs) val q.witnesses.changed q.witnesses.of q'.witnesses.of) →
-        OnOk result (AreNewSettled refs.lists q.inside.clauses (clause_literals refs) val q.witnesses.looked q'.witnesses.of) →
+        OnOk result (AreSettled (basis_at refs.lists refs.disjunctions q val) (λ n. AreTouching (clause_literals refs) q.witnesses.of q.witnesses.changed) q'.witnesses.of) →
+        OnOk result (AreSettled (basis_at refs.lists refs.disjunctions q val) (λ n c. q.witnesses.looked ≤ n) q'.witnesses.of) →
         OnErr result ((q'.witnesses.changed ≡ q.witnesses.changed) × (q'.witnesses.looked ≡ q.witnesses.looked)) → FindsFalsified refs q'
-    finds_after (Ok r) looked settled new_settled same = finds_settled looked settled new_settled
-    finds_after (Err e) looked settled new_settled same = finds_refused same.0 same.1
+    finds_after (Ok r) looked found came same = finds_settled looked found came
+    finds_after (Err e) looked found came same = finds_refused same.0 same.1

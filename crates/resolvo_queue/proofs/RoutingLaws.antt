@@ -2,7 +2,6 @@
 use Rattle.std.proofs.Common.{◌≡◌, ◌≢◌, ℕ, zero, suc, ◌+◌, ◌-◌, ◌<◌, drop, take_all, take-append-drop, length-drop, Bool, true, false, eqb, eqb-true, eq-eqb, ◌⊎◌, inl, inr, List, [], ◌∷◌, ◌++◌, take, length, get_or, Option, Some, None, option_map, map, slice_get, Result, Ok, Err, OnOk, sym, ap, refl, ◌∙◌, subst, arith}
 use Rattle.std.proofs.lemmas.List.{take_more, map-append}
 use Rattle.decisions.specs.declared.decision.Decision.{Decision}
-use Rattle.decisions.specs.Literals.{Values}
 use Rattle.providers.specs.Requirement.{same_requirement}
 use Rattle.providers.specs.declared.requirement.Requirement.{Requirement}
 use Rattle.resolvo_queue.specs.declared.frontier.Frontier.{Frontier}
@@ -11,8 +10,7 @@ use Rattle.resolvo_queue.specs.Order.{Stands, here, there}
 use Rattle.resolvo_queue.specs.Possible.{Known}
 use Rattle.resolvo_queue.specs.Queued.{Queued, GrowsBy, IsOfClause, AreWoken}
 use Rattle.resolvo_queue.specs.Tracked.{Tracked, walk_of, clauses_in, known_at, clauses_at, IsPlaceOf, HasNoPlace, updated_at, forgotten}
-use Rattle.resolvo_queue.specs.Routing.{OnlyForgets, ForgetsAmong, Unrouted, AreUnknown, WakesForgotten, Routes, variables_of}
-use Rattle.resolvo_queue.specs.declared.tracked_clause.TrackedClause.{TrackedClause}
+use Rattle.resolvo_queue.specs.Routing.{OnlyForgets, ForgetsAmong, Unrouted, AreUnknown, WakesForgotten, Routes, Ways, variables_of}
 use Rattle.resolvo_queue.proofs.OccurrenceLaws.{same_self}
 use Rattle.resolvo_queue.proofs.Members.{read_stands}
 use Rattle.resolvo_queue.proofs.QueuedLaws.{woken_stays, grows_none, grows_both}
@@ -72,7 +70,7 @@ not_there ts r none q s k place = only_one (λ x. IsPlaceOf ts x k → known_at 
         let other : same_requirement r n.0.requirement ≡ false = none k n.0 n.1 in
         cc
 
-module _ (clauses : List TrackedClause) (val : Values) (ts : List Tracked) (p : ℕ) (q : Queued) where
+module _ (w : Ways) (ts : List Tracked) (p : ℕ) (q : Queued) where
   only_there : (k : ℕ) → known_at ts k ≡ Some None → known_at (updated_at forgotten ts p) k ≡ None → k ≡ p
   only_there k was is = go (same_or_not k p)
     where
@@ -86,7 +84,7 @@ module _ (clauses : List TrackedClause) (val : Values) (ts : List Tracked) (p : 
           differ e = cc
 
   -- it had a frontier: no clause is woken
-  pub had_frontier : (f : Frontier) → known_at ts p ≡ Some (Some f) → WakesForgotten clauses val ts (updated_at forgotten ts p) q
+  pub had_frontier : (f : Frontier) → known_at ts p ≡ Some (Some f) → WakesForgotten w ts (updated_at forgotten ts p) q
   had_frontier f h k was is =
       let bad : Some None ≡ Some (Some f) = sym was ∙ (ap (known_at ts) (only_there k was is) ∙ h) in
       absurd (differ bad)
@@ -95,8 +93,8 @@ module _ (clauses : List TrackedClause) (val : Values) (ts : List Tracked) (p : 
       differ e = cc
 
   -- it had none: its clauses are
-  pub had_none : AreWoken clauses val (clauses_at ts p) q → WakesForgotten clauses val ts (updated_at forgotten ts p) q
-  had_none w k was is = subst (λ x. AreWoken clauses val (clauses_at ts x) q) (sym (only_there k was is)) w
+  pub had_none : AreWoken w.clauses w.val (clauses_at ts p) q → WakesForgotten w ts (updated_at forgotten ts p) q
+  had_none woken k was is = subst (λ x. AreWoken w.clauses w.val (clauses_at ts x) q) (sym (only_there k was is)) woken
 
 -- ---- one after another
 
@@ -148,9 +146,6 @@ pub unknown_stays : (rs : List Requirement) (a b : List Tracked) → OnlyForgets
 unknown_stays rs a b f u r s k place =
     elim (known_only_forgotten a b f k) [ inl e ↦ e ∙ u r s k (was_place a b f r k place) | inr e ↦ e ]
 
-pub unknown_none : (a : List Tracked) → AreUnknown [] a
-unknown_none a r s k place = elim s [ ]
-
 pub unknown_more : (rs : List Requirement) (q : Requirement) (a : List Tracked) → AreUnknown rs a → AreUnknown (q ∷ []) a → AreUnknown (rs ++ q ∷ []) a
 unknown_more rs q a u w r s k place = by rs s (λ t. u r t k place) (λ e. w r (subst (λ x. Stands x (q ∷ [])) (sym e) here) k place)
   where
@@ -163,19 +158,19 @@ unknown_more rs q a u w r s k place = by rs s (λ t. u r t k place) (λ e. w r (
         split (z ∷ zs) x y here f g = f here
         split (z ∷ zs) x y (there t) f g = split zs x y t (λ m. f (there m)) g
 
-module _ (clauses : List TrackedClause) (val : Values) where
-  pub wakes_none : (a : List Tracked) (q : Queued) → WakesForgotten clauses val a a q
+module _ (w : Ways) where
+  pub wakes_none : (a : List Tracked) (q : Queued) → WakesForgotten w a a q
   wakes_none a q k was is = absurd (differ (sym was ∙ is))
     where
       differ : ◌≡◌ {A = Known} (Some None) None → ⊥
       differ e = cc
 
-  pub wakes_both : (New : _) (a b c : List Tracked) (q p : Queued) → OnlyForgets a b → GrowsBy New q p →
-      WakesForgotten clauses val a b q → WakesForgotten clauses val b c p → WakesForgotten clauses val a c p
-  wakes_both New a b c q p f g v w k was is =
+  pub wakes_both : (a b c : List Tracked) (q p : Queued) → OnlyForgets a b → GrowsBy (IsOfClause w.clauses) q p →
+      WakesForgotten w a b q → WakesForgotten w b c p → WakesForgotten w a c p
+  wakes_both a b c q p f g first second k was is =
       elim (known_only_forgotten a b f k) [
-        | inl e ↦ subst (λ ns. AreWoken clauses val ns p) (clauses_stay a b f k) (w k (e ∙ was) is)
-        | inr e ↦ woken_stays clauses New val (clauses_at a k) q p g (v k was e)
+        | inl e ↦ subst (λ ns. AreWoken w.clauses w.val ns p) (clauses_stay a b f k) (second k (e ∙ was) is)
+        | inr e ↦ woken_stays w.clauses (IsOfClause w.clauses) w.val (clauses_at a k) q p g (first k was e)
       ]
 
 -- a loop's step
@@ -187,69 +182,67 @@ step_unknown listed i d within before now more u w =
 
 -- ---- routing variables
 
-module _ (clauses : List TrackedClause) (val : Values) (by_parent by_condition : List (List ℕ)) (listing : ℕ → List Requirement) where
-  abbrev Done : List ℕ → List Tracked → List Tracked → Queued → Queued → Type 0
-  Done vs ts ts' q q' = Routes clauses val by_parent by_condition listing vs ts ts' q q'
+pub in_first : (vs ws : List ℕ) (v : ℕ) → Stands v vs → Stands v (vs ++ ws)
+in_first [] ws v s = elim s [ ]
+in_first (x ∷ xs) ws v here = here
+in_first (x ∷ xs) ws v (there s) = there (in_first xs ws v s)
 
-  pub routes_none : (ts : List Tracked) (q : Queued) → Done [] ts ts q q
+pub in_second : (vs ws : List ℕ) (v : ℕ) → Stands v ws → Stands v (vs ++ ws)
+in_second [] ws v s = s
+in_second (x ∷ xs) ws v s = there (in_second xs ws v s)
+
+module _ (w : Ways) where
+  pub routes_none : (ts : List Tracked) (q : Queued) → Routes w [] ts ts q q
   routes_none ts q = record {
-    grows = grows_none (IsOfClause clauses) q;
+    grows = grows_none (IsOfClause w.clauses) q;
     only = forgets_none ts;
     parents = λ v s. elim s [ ];
     conditions = λ v s. elim s [ ];
     unknown = λ v s. elim s [ ];
-    woken = wakes_none clauses val ts q;
+    woken = wakes_none w ts q;
     others = λ k t e h. e;
   }
 
-  pub routes_both : (vs ws : List ℕ) (a b c : List Tracked) (q p r : Queued) → Done vs a b q p → Done ws b c p r → Done (vs ++ ws) a c q r
-  routes_both vs ws a b c q p r f g = record {
-    grows = grows_both (IsOfClause clauses) q p r f.grows g.grows;
+  pub routes_both : (vs us : List ℕ) (a b c : List Tracked) (q p r : Queued) → Routes w vs a b q p → Routes w us b c p r → Routes w (vs ++ us) a c q r
+  routes_both vs us a b c q p r f g = record {
+    grows = grows_both (IsOfClause w.clauses) q p r f.grows g.grows;
     only = forgets_both a b c f.only g.only;
     parents = λ v s. elim (which vs v s) [
-      | inl x ↦ woken_stays clauses (IsOfClause clauses) val (list_at by_parent v) p r g.grows (f.parents v x)
+      | inl x ↦ woken_stays w.clauses (IsOfClause w.clauses) w.val (list_at w.by_parent v) p r g.grows (f.parents v x)
       | inr y ↦ g.parents v y
     ];
     conditions = λ v s. elim (which vs v s) [
-      | inl x ↦ woken_stays clauses (IsOfClause clauses) val (list_at by_condition v) p r g.grows (f.conditions v x)
+      | inl x ↦ woken_stays w.clauses (IsOfClause w.clauses) w.val (list_at w.by_condition v) p r g.grows (f.conditions v x)
       | inr y ↦ g.conditions v y
     ];
     unknown = λ v s. elim (which vs v s) [
-      | inl x ↦ unknown_stays (listing v) b c g.only (f.unknown v x)
+      | inl x ↦ unknown_stays (w.requirements v) b c g.only (f.unknown v x)
       | inr y ↦ g.unknown v y
     ];
-    woken = wakes_both clauses val (IsOfClause clauses) a b c p r f.only g.grows f.woken g.woken;
-    others = λ k t e h. g.others k t (f.others k t e (λ v s. h v (first_part vs v s))) (λ v s. h v (second_part vs v s));
+    woken = wakes_both w a b c p r f.only g.grows f.woken g.woken;
+    others = λ k t e h. g.others k t (f.others k t e (λ v s. h v (in_first vs us v s))) (λ v s. h v (in_second vs us v s));
   }
     where
-      first_part : (xs : List ℕ) (v : ℕ) → Stands v xs → Stands v (xs ++ ws)
-      first_part [] v s = elim s [ ]
-      first_part (x ∷ xs) v here = here
-      first_part (x ∷ xs) v (there s) = there (first_part xs v s)
-
-      second_part : (xs : List ℕ) (v : ℕ) → Stands v ws → Stands v (xs ++ ws)
-      second_part [] v s = s
-      second_part (x ∷ xs) v s = there (second_part xs v s)
-
-      which : (xs : List ℕ) (v : ℕ) → Stands v (xs ++ ws) → Stands v xs ⊎ Stands v ws
+      which : (xs : List ℕ) (v : ℕ) → Stands v (xs ++ us) → Stands v xs ⊎ Stands v us
       which [] v s = inr s
       which (x ∷ xs) v here = inl here
       which (x ∷ xs) v (there s) = elim (which xs v s) [ inl t ↦ inl (there t) | inr t ↦ inr t ]
 
   -- one variable
-  pub routes_one : (v : ℕ) (ts ts' : List Tracked) (q0 q1 q2 q3 : Queued) →
-      GrowsBy (IsOfClause clauses) q0 q1 → AreWoken clauses val (list_at by_parent v) q1 →
-      GrowsBy (IsOfClause clauses) q1 q2 → AreWoken clauses val (list_at by_condition v) q2 →
-      GrowsBy (IsOfClause clauses) q2 q3 → OnlyForgets ts ts' → ForgetsAmong (listing v) ts ts' → AreUnknown (listing v) ts' → WakesForgotten clauses val ts ts' q3 →
-      Done (v ∷ []) ts ts' q0 q3
-  routes_one v ts ts' q0 q1 q2 q3 f w g x h o m u y = record {
-    grows = grows_both (IsOfClause clauses) q0 q2 q3 (grows_both (IsOfClause clauses) q0 q1 q2 f g) h;
+  pub routes_one : {T E : Type 0} (result : Result T E) (v : ℕ) (ts ts' : List Tracked) (q0 q1 q2 q3 : Queued) →
+      GrowsBy (IsOfClause w.clauses) q0 q1 → AreWoken w.clauses w.val (list_at w.by_parent v) q1 →
+      GrowsBy (IsOfClause w.clauses) q1 q2 → AreWoken w.clauses w.val (list_at w.by_condition v) q2 →
+      GrowsBy (IsOfClause w.clauses) q2 q3 → OnlyForgets ts ts' → ForgetsAmong (w.requirements v) ts ts' →
+      OnOk result (AreUnknown (w.requirements v) ts') → OnOk result (WakesForgotten w ts ts' q3) → OnOk result (Routes w (v ∷ []) ts ts' q0 q3)
+  routes_one (Err e) v ts ts' q0 q1 q2 q3 f by_p g by_c h o m u y = tt
+  routes_one (Ok x) v ts ts' q0 q1 q2 q3 f by_p g by_c h o m u y = record {
+    grows = grows_both (IsOfClause w.clauses) q0 q2 q3 (grows_both (IsOfClause w.clauses) q0 q1 q2 f g) h;
     only = o;
-    parents = λ a s. just (λ b. AreWoken clauses val (list_at by_parent b) q3) v a s
-        (woken_stays clauses (IsOfClause clauses) val (list_at by_parent v) q1 q3 (grows_both (IsOfClause clauses) q1 q2 q3 g h) w);
-    conditions = λ a s. just (λ b. AreWoken clauses val (list_at by_condition b) q3) v a s
-        (woken_stays clauses (IsOfClause clauses) val (list_at by_condition v) q2 q3 h x);
-    unknown = λ a s. just (λ b. AreUnknown (listing b) ts') v a s u;
+    parents = λ a s. just (λ b. AreWoken w.clauses w.val (list_at w.by_parent b) q3) v a s
+        (woken_stays w.clauses (IsOfClause w.clauses) w.val (list_at w.by_parent v) q1 q3 (grows_both (IsOfClause w.clauses) q1 q2 q3 g h) by_p);
+    conditions = λ a s. just (λ b. AreWoken w.clauses w.val (list_at w.by_condition b) q3) v a s
+        (woken_stays w.clauses (IsOfClause w.clauses) w.val (list_at w.by_condition v) q2 q3 h by_c);
+    unknown = λ a s. just (λ b. AreUnknown (w.requirements b) ts') v a s u;
     woken = y;
     others = λ k t e n. m k t e (n v here);
   }
@@ -258,28 +251,13 @@ module _ (clauses : List TrackedClause) (val : Values) (by_parent by_condition :
       just P x y here p = p
       just P x y (there s) p = elim s [ ]
 
-  pub on_ok_routes : {T E : Type 0} (res : Result T E) (v : ℕ) (ts ts' : List Tracked) (q0 q1 q2 q3 : Queued) →
-      GrowsBy (IsOfClause clauses) q0 q1 → AreWoken clauses val (list_at by_parent v) q1 →
-      GrowsBy (IsOfClause clauses) q1 q2 → AreWoken clauses val (list_at by_condition v) q2 →
-      GrowsBy (IsOfClause clauses) q2 q3 → OnlyForgets ts ts' → ForgetsAmong (listing v) ts ts' → OnOk res (AreUnknown (listing v) ts') → OnOk res (WakesForgotten clauses val ts ts' q3) →
-      OnOk res (Done (v ∷ []) ts ts' q0 q3)
-  on_ok_routes (Ok x) v ts ts' q0 q1 q2 q3 f w g y h o m u z = routes_one v ts ts' q0 q1 q2 q3 f w g y h o m u z
-  on_ok_routes (Err e) v ts ts' q0 q1 q2 q3 f w g y h o m u z = tt
-
--- a loop's step
-pub step_routes : (clauses : List TrackedClause) (val : Values) (by_parent by_condition : List (List ℕ)) (listing : ℕ → List Requirement) (ds : List Decision) (i : ℕ) (d : Decision) →
-    i < length ds → d ≡ get_or ds i d → (a b c : List Tracked) (q p r : Queued) →
-    Routes clauses val by_parent by_condition listing (variables_of (take i ds)) a b q p → Routes clauses val by_parent by_condition listing (d.variable ∷ []) b c p r →
-    Routes clauses val by_parent by_condition listing (variables_of (take (i + 1) ds)) a c q r
-step_routes clauses val by_parent by_condition listing ds i d within read a b c q p r f g =
-    subst (λ vs. Routes clauses val by_parent by_condition listing vs a c q r)
-    (sym (ap variables_of (take_more ds i d within ∙ ap (λ x. take i ds ++ x ∷ []) (sym read)) ∙ map-append (λ (x : Decision). x.variable) (take i ds) (d ∷ [])))
-    (routes_both clauses val by_parent by_condition listing (variables_of (take i ds)) (d.variable ∷ []) a b c q p r f g)
-
-pub forgets_map : (ts : List Tracked) → OnlyForgets ts (map forgotten ts)
-forgets_map [] k = inl refl
-forgets_map (t ∷ ts) zero = inr refl
-forgets_map (t ∷ ts) (suc k) = forgets_map ts k
+  -- a loop's step
+  pub step_routes : (ds : List Decision) (i : ℕ) (d : Decision) → i < length ds → d ≡ get_or ds i d → (a b c : List Tracked) (q p r : Queued) →
+      Routes w (variables_of (take i ds)) a b q p → Routes w (d.variable ∷ []) b c p r → Routes w (variables_of (take (i + 1) ds)) a c q r
+  step_routes ds i d within read a b c q p r f g =
+      subst (λ vs. Routes w vs a c q r)
+      (sym (ap variables_of (take_more ds i d within ∙ ap (λ x. take i ds ++ x ∷ []) (sym read)) ∙ map-append (λ (x : Decision). x.variable) (take i ds) (d ∷ [])))
+      (routes_both (variables_of (take i ds)) (d.variable ∷ []) a b c q p r f g)
 
 pub always_ok : {T E : Type 0} (P : Type 0) (res : Result T E) → P → OnOk res P
 always_ok P (Ok x) p = p
@@ -293,9 +271,6 @@ on_ok_at P (Ok x) v h = h v
 on_ok_at P (Err e) v h = tt
 
 -- ---- who stays
-
-pub among_none : (rs : List Requirement) (a : List Tracked) → ForgetsAmong rs a a
-among_none rs a k t e h = e
 
 -- the record at the place is that of the requirement
 pub among_one : (a : List Tracked) (r : Requirement) (p : ℕ) → IsPlaceOf a r p → ForgetsAmong (r ∷ []) a (updated_at forgotten a p)
@@ -326,15 +301,6 @@ unrouted_more listing vs ws within a b c f g k t e h = g k t (f k t e h) (λ v s
 
 pub unrouted_along : (listing : ℕ → List Requirement) (vs ws : List ℕ) → ((v : ℕ) → Stands v vs → Stands v ws) → (a b : List Tracked) → Unrouted listing vs a b → Unrouted listing ws a b
 unrouted_along listing vs ws within a b f k t e h = f k t e (λ v s. h v (within v s))
-
-pub in_first : (vs ws : List ℕ) (v : ℕ) → Stands v vs → Stands v (vs ++ ws)
-in_first [] ws v s = elim s [ ]
-in_first (x ∷ xs) ws v here = here
-in_first (x ∷ xs) ws v (there s) = there (in_first xs ws v s)
-
-pub in_second : (vs ws : List ℕ) (v : ℕ) → Stands v ws → Stands v (vs ++ ws)
-in_second [] ws v s = s
-in_second (x ∷ xs) ws v s = there (in_second xs ws v s)
 
 -- the variable of a decision that was read
 pub variable_read : (ds : List Decision) (i : ℕ) (d : Decision) → i < length ds → d ≡ get_or ds i d → (v : ℕ) → Stands v (d.variable ∷ []) → Stands v (variables_of ds)

@@ -12,7 +12,7 @@ use Rattle.resolvo_queue.specs.Positions.{has}
 use Rattle.resolvo_queue.specs.Possible.{Known, SameElsewhere, routes_condition, routes_rows, HoldsPossible, KnowsRight, WakesRouted, ForgetsRouted}
 use Rattle.resolvo_queue.specs.Queued.{Queued}
 use Rattle.resolvo_queue.specs.Tracked.{Tracked, walk_of, rows_in, known_at, rows_at, IsPlaceOf, forgotten}
-use Rattle.resolvo_queue.specs.Routing.{OnlyForgets, Routes, variables_of}
+use Rattle.resolvo_queue.specs.Routing.{OnlyForgets, Routes, Ways, variables_of}
 use Rattle.resolvo_queue.specs.Synced.{is_among, IsRegistered, IsHot, FindsAll, ListsKnown, IsSynced, SyncsTo, AllWoken}
 use Rattle.resolvo_queue.specs.declared.tracked_clause.TrackedClause.{TrackedClause}
 use Rattle.resolvo_queue.proofs.RoutingLaws.{known_only_forgotten}
@@ -59,10 +59,8 @@ rows_after rows_of o n (inl e) = ap (rows_in rows_of) e
 rows_after rows_of None n (inr e) = ap (rows_in rows_of) e
 rows_after rows_of (Some t) n (inr e) = ap (rows_in rows_of) e
 
-module _ (clauses : List TrackedClause) (literals : TrackedClause → List Lit) (rows_of : Requirement → List Row) (by_parent by_condition : List (List ℕ))
-    (listing : ℕ → List Requirement) (now : Values) (vs : List ℕ) (ts ts' : List Tracked) (q q' : Queued)
-    (finds : FindsAll clauses literals by_parent by_condition ts) (lists : ListsKnown clauses literals rows_of listing ts)
-    (routes : Routes clauses now by_parent by_condition listing vs ts ts' q q') where
+module _ (w : Ways) (literals : TrackedClause → List Lit) (rows_of : Requirement → List Row) (vs : List ℕ) (ts ts' : List Tracked) (q q' : Queued)
+    (finds : FindsAll w.clauses literals w.by_parent w.by_condition ts) (lists : ListsKnown w.clauses literals rows_of w.requirements ts) (routes : Routes w vs ts ts' q q') where
   abbrev rows : ℕ → List Row
   rows = rows_at rows_of ts
 
@@ -76,7 +74,7 @@ module _ (clauses : List TrackedClause) (literals : TrackedClause → List Lit) 
       by_record k None p e = cc
       by_record k (Some t) p e = by_walk (is_some t.walk) refl (known_only_forgotten ts ts' routes.only k)
         where
-          unknown : (w : Known) → is_some w ≡ false → w ≡ None
+          unknown : (known : Known) → is_some known ≡ false → known ≡ None
           unknown None h = refl
           unknown (Some f) h = cc
 
@@ -87,7 +85,7 @@ module _ (clauses : List TrackedClause) (literals : TrackedClause → List Lit) 
           by_walk false h (inl s) = s ∙ (ap walk_of p ∙ unknown t.walk h)
           by_walk false h (inr s) = s
 
-  wakes_all : WakesRouted (λ (c : TrackedClause). c.parent) literals (λ c. c.requirement) rows (IsRegistered clauses literals) now (is_among vs)
+  wakes_all : WakesRouted (λ (c : TrackedClause). c.parent) literals (λ c. c.requirement) rows (IsRegistered w.clauses literals) w.val (is_among vs)
       (known_at ts) (known_at ts') (λ c. has q.all c.position) (λ c. has q'.all c.position)
   wakes_all = record {
     kept = λ c h. routes.grows.all_kept c.position h;
@@ -97,7 +95,7 @@ module _ (clauses : List TrackedClause) (literals : TrackedClause → List Lit) 
     by_requirement = λ c reg t was is. (routes.woken c.requirement was is reg.0 c (finds.requirements reg.0 c reg.1) reg.1 t).all;
   }
 
-  wakes_hot : WakesRouted (λ (c : TrackedClause). c.parent) literals (λ c. c.requirement) rows (IsHot clauses literals) now (is_among vs)
+  wakes_hot : WakesRouted (λ (c : TrackedClause). c.parent) literals (λ c. c.requirement) rows (IsHot w.clauses literals) w.val (is_among vs)
       (known_at ts) (known_at ts') (λ c. has q.hot c.position) (λ c. has q'.hot c.position)
   wakes_hot = record {
     kept = λ c h. routes.grows.hot_kept c.position h;
@@ -112,28 +110,26 @@ module _ (clauses : List TrackedClause) (literals : TrackedClause → List Lit) 
   rows_same = λ i k. rows_after rows_of (slice_get ts k) (slice_get ts' k) (routes.only k) i
 
   -- a queue that was synced at the values of before is synced at those of now
-  pub routes_sync : (before : Values) (counted : TrackedClause → Bool) → SameElsewhere (is_among vs) before now →
-      ((c : TrackedClause) → IsRegistered clauses literals c → counted c ≡ false → known_true (now c.parent) ≡ true → is_among vs c.parent ≡ true) →
-      IsSynced clauses literals rows_of before counted ts q → IsSynced clauses literals rows_of now (λ c. known_true (now c.parent)) ts' q'
+  pub routes_sync : (before : Values) (counted : TrackedClause → Bool) → SameElsewhere (is_among vs) before w.val →
+      ((c : TrackedClause) → IsRegistered w.clauses literals c → counted c ≡ false → known_true (w.val c.parent) ≡ true → is_among vs c.parent ≡ true) →
+      IsSynced w.clauses literals rows_of before counted ts q → IsSynced w.clauses literals rows_of w.val (λ c. known_true (w.val c.parent)) ts' q'
   routes_sync before counted same parents old = record {
-    all = subst (λ r. HoldsPossible (λ (c : TrackedClause). c.parent) literals (λ c. c.requirement) r (IsRegistered clauses literals) (λ c. known_true (now c.parent)) now (known_at ts') (λ c. has q'.all c.position)) (sym rows_same)
-        (sync_holds (λ (c : TrackedClause). c.parent) literals (λ c. c.requirement) rows (IsRegistered clauses literals) counted before now (is_among vs) (known_at ts) (known_at ts')
+    all = subst (λ r. HoldsPossible (λ (c : TrackedClause). c.parent) literals (λ c. c.requirement) r (IsRegistered w.clauses literals) (λ c. known_true (w.val c.parent)) w.val (known_at ts') (λ c. has q'.all c.position)) (sym rows_same)
+        (sync_holds (λ (c : TrackedClause). c.parent) literals (λ c. c.requirement) rows (IsRegistered w.clauses literals) counted before w.val (is_among vs) (known_at ts) (known_at ts')
         (λ c. has q.all c.position) (λ c. has q'.all c.position) same parents forgets wakes_all old.all);
-    hot = subst (λ r. HoldsPossible (λ (c : TrackedClause). c.parent) literals (λ c. c.requirement) r (IsHot clauses literals) (λ c. known_true (now c.parent)) now (known_at ts') (λ c. has q'.hot c.position)) (sym rows_same)
-        (sync_holds (λ (c : TrackedClause). c.parent) literals (λ c. c.requirement) rows (IsHot clauses literals) counted before now (is_among vs) (known_at ts) (known_at ts')
+    hot = subst (λ r. HoldsPossible (λ (c : TrackedClause). c.parent) literals (λ c. c.requirement) r (IsHot w.clauses literals) (λ c. known_true (w.val c.parent)) w.val (known_at ts') (λ c. has q'.hot c.position)) (sym rows_same)
+        (sync_holds (λ (c : TrackedClause). c.parent) literals (λ c. c.requirement) rows (IsHot w.clauses literals) counted before w.val (is_among vs) (known_at ts) (known_at ts')
         (λ c. has q.hot c.position) (λ c. has q'.hot c.position) same (λ c reg. parents c reg.0) forgets wakes_hot old.hot);
-    right = subst (λ r. KnowsRight (λ (c : TrackedClause). c.parent) literals (λ c. c.requirement) r now (known_at ts')) (sym rows_same)
-        (sync_knows (λ (c : TrackedClause). c.parent) literals (λ c. c.requirement) rows before now (is_among vs) (known_at ts) (known_at ts') same forgets old.right);
+    right = subst (λ r. KnowsRight (λ (c : TrackedClause). c.parent) literals (λ c. c.requirement) r w.val (known_at ts')) (sym rows_same)
+        (sync_knows (λ (c : TrackedClause). c.parent) literals (λ c. c.requirement) rows before w.val (is_among vs) (known_at ts) (known_at ts') same forgets old.right);
   }
 
 -- ---- a whole sync
 
-pub changes_sync : (clauses : List TrackedClause) (by_parent by_condition : List (List ℕ)) (listing : ℕ → List Requirement) (before now : Values) (vs : List ℕ)
-    (ts ts' : List Tracked) (q q' : Queued) → Routes clauses now by_parent by_condition listing vs ts ts' q q' →
-    SyncsTo clauses by_parent by_condition listing false before now vs ts ts' q q'
-changes_sync clauses by_parent by_condition listing before now vs ts ts' q q' routes literals rows_of counted finds lists old =
-    let o = old refl in
-    routes_sync clauses literals rows_of by_parent by_condition listing now vs ts ts' q q' finds lists routes before counted o.0 o.1 o.2
+pub changes_sync : (w : Ways) (before : Values) (vs : List ℕ) (ts ts' : List Tracked) (q q' : Queued) → Routes w vs ts ts' q q' →
+    SyncsTo w.clauses w.by_parent w.by_condition w.requirements false before w.val vs ts ts' q q'
+changes_sync w before vs ts ts' q q' routes literals rows_of counted finds lists old =
+    let o = old refl in routes_sync w literals rows_of vs ts ts' q q' finds lists routes before counted o.0 o.1 o.2
 
 pub anew_sync : (clauses : List TrackedClause) (by_parent by_condition : List (List ℕ)) (listing : ℕ → List Requirement) (before now : Values) (vs : List ℕ)
     (ts : List Tracked) (q q' : Queued) → AllWoken clauses now q' →

@@ -24,8 +24,9 @@ use Rattle.resolvo_queue.specs.Routing.{variables_of}
 use Rattle.resolvo_queue.specs.Rows.{Row, all_false, candidates, list_rows, lists_loaded, lists_or_none, rows}
 use Rattle.resolvo_queue.specs.Scan.{are_literals_false, first_falsified, is_falsified}
 use Rattle.resolvo_queue.specs.ScanOrder.{scan_of}
+use Rattle.resolvo_queue.specs.Settling.{AreSettled, Basis, OnlyBetter}
 use Rattle.resolvo_queue.specs.Synced.{is_among}
-use Rattle.resolvo_queue.specs.Witnesses.{AreCandidates, AreNewSettled, AreSettled, AreTouching, AreWitnessed, Found, IsAsked, IsToLookAt, IsWitness, NoneFalsified, OnlyBetter, Touches, Witnessed, are_candidates_false, by_condition, by_parent, by_witness, witness}
+use Rattle.resolvo_queue.specs.Witnesses.{AreCandidates, AreTouching, AreWitnessed, Found, IsAsked, IsToLookAt, IsWitness, NoneFalsified, Touches, Witnessed, are_candidates_false, by_condition, by_parent, by_witness, literals_by, witness}
 use Rattle.resolvo_queue.specs.declared.requires_clause.RequiresClause.{RequiresClause}
 use Rattle.resolvo_queue.specs.declared.tracked_clause.TrackedClause.{TrackedClause}
 use Rattle.resolvo_queue.proofs.EntryLaws.{earlier_or_last, looked_up}
@@ -48,14 +49,14 @@ module _ (literals : TrackedClause → List Lit) where
   touching_more ws variables more c t = (t.0, stands_left variables more t.0 t.1, t.2)
 
   -- a variable that finds a clause finds it still, unless its requirement has a witness that isn't false
-  touching_better : {A : Type 0} (lists : Lists A) (val : Values) (ws ws' : Found) (variables : List ℕ) (c : TrackedClause) → OnlyBetter lists val ws ws' →
-      are_candidates_false lists val c.required ≡ false → AreTouching literals ws variables c → IsWitness val (witness ws' c.required) ⊎ AreTouching literals ws' variables c
-  touching_better lists val ws ws' variables c better some t = go t.2
+  touching_better : {A : Type 0} (b : Basis A) (ws ws' : Found) (variables : List ℕ) (c : TrackedClause) → OnlyBetter b ws ws' →
+      are_candidates_false b.lists b.val c.required ≡ false → AreTouching literals ws variables c → IsWitness b.val (witness ws' c.required) ⊎ AreTouching literals ws' variables c
+  touching_better b ws ws' variables c better some t = go t.2
     where
-      go : Touches literals ws t.0 c → IsWitness val (witness ws' c.required) ⊎ AreTouching literals ws' variables c
+      go : Touches literals ws t.0 c → IsWitness b.val (witness ws' c.required) ⊎ AreTouching literals ws' variables c
       go (by_parent e) = inr (t.0, t.1, by_parent e)
       go (by_condition l s e) = inr (t.0, t.1, by_condition l s e)
-      go (by_witness e) = elim (better_open lists val ws ws' better c.required some) [
+      go (by_witness e) = elim (better_open b ws ws' better c.required some) [
         | inl same ↦ inr (t.0, t.1, by_witness (same ∙ e))
         | inr is ↦ inl is
       ]
@@ -118,25 +119,25 @@ module _ (literals : TrackedClause → List Lit) (clauses : List TrackedClause) 
     | inr last ↦ inr (inl (subst (λ k. w.looked ≤ k) (sym last.1) looked))
   ]
 
+module _ {A : Type 0} (b : Basis A) (w w' : Witnessed) (better : OnlyBetter b w.of w'.of) (none : NoneFalsified b.lists b.clauses (literals_by b.disjunctions) b.val)
+    (old : AreWitnessed (literals_by b.disjunctions) b.clauses b.val w) where
   -- refused while witnesses were looked for
-  pub witnessed_refused : {A : Type 0} (lists : Lists A) (val : Values) (w w' : Witnessed) → OnlyBetter lists val w.of w'.of → NoneFalsified lists clauses literals val →
-      w'.changed ≡ w.changed → w'.looked ≡ w.looked → AreWitnessed literals clauses val w → AreWitnessed literals clauses val w'
-  witnessed_refused lists val w w' better none changed looked old n c at asked =
+  pub witnessed_refused : w'.changed ≡ w.changed → w'.looked ≡ w.looked → AreWitnessed (literals_by b.disjunctions) b.clauses b.val w'
+  witnessed_refused changed looked n c at asked =
       rw (changed, looked) (elim (old n c at asked) [
-        | inl o ↦ inl (still_witness lists val w.of w'.of better c.required o)
+        | inl o ↦ inl (still_witness b w.of w'.of better c.required o)
         | inr t ↦ elim t [
           | inl new ↦ inr (inl new)
-          | inr f ↦ elim (touching_better literals lists val w.of w'.of w.changed c better (none n c at asked) f) [ inl o ↦ inl o | inr g ↦ inr (inr g) ]
+          | inr f ↦ elim (touching_better (literals_by b.disjunctions) b w.of w'.of w.changed c better (none n c at asked) f) [ inl o ↦ inl o | inr g ↦ inr (inr g) ]
         ]
       ])
 
   -- witnesses were looked for, and no clause is falsified
-  pub witnessed_settled : {A : Type 0} (lists : Lists A) (val : Values) (w w' : Witnessed) → OnlyBetter lists val w.of w'.of → NoneFalsified lists clauses literals val →
-      AreSettled lists clauses literals val w.changed w.of w'.of → AreNewSettled lists clauses literals val w.looked w'.of →
-      AreWitnessed literals clauses val w → AreWitnessed literals clauses val w'
-  witnessed_settled lists val w w' better none settled new_settled old n c at asked = elim (old n c at asked) [
-    | inl o ↦ inl (still_witness lists val w.of w'.of better c.required o)
-    | inr t ↦ inl (elim t [ inl new ↦ new_settled n c new at asked (none n c at asked) | inr f ↦ settled n c at asked f (none n c at asked) ])
+  pub witnessed_settled : AreSettled b (λ n. AreTouching (literals_by b.disjunctions) w.of w.changed) w'.of → AreSettled b (λ n c. w.looked ≤ n) w'.of →
+      AreWitnessed (literals_by b.disjunctions) b.clauses b.val w'
+  witnessed_settled found came n c at asked = elim (old n c at asked) [
+    | inl o ↦ inl (still_witness b w.of w'.of better c.required o)
+    | inr t ↦ inl (elim t [ inl new ↦ came n c at asked new (none n c at asked) | inr f ↦ found n c at asked f (none n c at asked) ])
   ]
 
 -- other clauses and literals, with the same parents, requirements and literals

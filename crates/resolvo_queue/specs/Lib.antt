@@ -25,6 +25,7 @@ pub mod Rows
 pub mod Scan
 pub mod ScanOrder
 pub mod Selection
+pub mod Settling
 pub mod Synced
 pub mod Tracked
 pub mod Tracking

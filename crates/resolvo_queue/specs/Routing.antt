@@ -1,12 +1,16 @@
 -- What routing variables leaves: who is queued, and of which requirements nothing is known any more.
 use Rattle.std.specs.Prelude.{◌≡◌, ℕ, ◌⊎◌, List, Some, None, option_map, map, slice_get}
+use Rattle.decisions.specs.Decisions.{values_in}
 use Rattle.decisions.specs.Literals.{Values}
 use Rattle.decisions.specs.declared.decision.Decision.{Decision}
 use Rattle.providers.specs.declared.requirement.Requirement.{Requirement}
 use Rattle.resolvo_queue.specs.Index.{list_at}
+use Rattle.resolvo_queue.specs.Occurrences.{Listed, listing}
 use Rattle.resolvo_queue.specs.Order.{Stands}
 use Rattle.resolvo_queue.specs.Queued.{Queued, GrowsBy, IsOfClause, AreWoken}
 use Rattle.resolvo_queue.specs.Tracked.{Tracked, known_at, clauses_at, IsPlaceOf, forgotten}
+use Rattle.resolvo_queue.specs.declared.clause_index.ClauseIndex.{ClauseIndex}
+use Rattle.resolvo_queue.specs.declared.routing.Routing.{Routing}
 use Rattle.resolvo_queue.specs.declared.tracked_clause.TrackedClause.{TrackedClause}
 
 -- records stay, but that nothing may be known of their rows any more
@@ -26,23 +30,44 @@ ForgetsAmong rs old now =
 -- the records of requirements that list none of the variables stay
 abbrev pub Unrouted : (ℕ → List Requirement) → List ℕ → List Tracked → List Tracked → Type 0
 Unrouted listing variables old now =
-    (k : ℕ) (t : Tracked) → slice_get old k ≡ Some t → ((v : ℕ) → Stands v variables → Stands t.requirement (listing v) → ⊥) → slice_get now k ≡ Some t
+    (k : ℕ) (t : Tracked) → slice_get old k ≡ Some t →
+    ((v : ℕ) → Stands v variables → Stands t.requirement (listing v) → ⊥) → slice_get now k ≡ Some t
 
-module _ (clauses : List TrackedClause) (val : Values) where
+-- what variables are routed by: the clauses and who finds them, the requirements with a variable in a row, and values
+pub record Ways : Type 0 where
+  pub clauses : List TrackedClause
+  pub by_parent : List (List ℕ)
+  pub by_condition : List (List ℕ)
+  pub requirements : ℕ → List Requirement
+  pub val : Values
+
+abbrev pub ways_of : {A : Type 0} → ClauseIndex A → Listed → Values → Ways
+ways_of index occurrences val = record {
+  clauses = index.clauses.items;
+  by_parent = index.by_parent;
+  by_condition = index.by_condition;
+  requirements = listing occurrences;
+  val = val;
+}
+
+abbrev pub ways : {A : Type 0} → Routing A → Ways
+ways r = ways_of r.index.now r.occurrences.now (values_in r.map.now)
+
+module _ (w : Ways) where
   -- the clauses of a requirement that was known to have no frontier, and isn't any more, are queued
   abbrev pub WakesForgotten : List Tracked → List Tracked → Queued → Type 0
   WakesForgotten old now q =
-      (k : ℕ) → known_at old k ≡ Some None → known_at now k ≡ None → AreWoken clauses val (clauses_at old k) q
+      (k : ℕ) → known_at old k ≡ Some None → known_at now k ≡ None → AreWoken w.clauses w.val (clauses_at old k) q
 
   -- these variables were routed
-  pub record Routes (by_parent by_condition : List (List ℕ)) (listing : ℕ → List Requirement) (variables : List ℕ) (ts ts' : List Tracked) (q q' : Queued) : Type 0 where
-    pub grows : GrowsBy (IsOfClause clauses) q q'
+  pub record Routes (variables : List ℕ) (ts ts' : List Tracked) (q q' : Queued) : Type 0 where
+    pub grows : GrowsBy (IsOfClause w.clauses) q q'
     pub only : OnlyForgets ts ts'
-    pub parents : (v : ℕ) → Stands v variables → AreWoken clauses val (list_at by_parent v) q'
-    pub conditions : (v : ℕ) → Stands v variables → AreWoken clauses val (list_at by_condition v) q'
-    pub unknown : (v : ℕ) → Stands v variables → AreUnknown (listing v) ts'
+    pub parents : (v : ℕ) → Stands v variables → AreWoken w.clauses w.val (list_at w.by_parent v) q'
+    pub conditions : (v : ℕ) → Stands v variables → AreWoken w.clauses w.val (list_at w.by_condition v) q'
+    pub unknown : (v : ℕ) → Stands v variables → AreUnknown (w.requirements v) ts'
     pub woken : WakesForgotten ts ts' q'
-    pub others : Unrouted listing variables ts ts'
+    pub others : Unrouted w.requirements variables ts ts'
 
 -- the variables of decisions
 abbrev pub variables_of : List Decision → List ℕ

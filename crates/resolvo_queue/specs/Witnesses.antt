@@ -71,56 +71,11 @@ module _ (literals : TrackedClause → List Lit) where
 abbrev pub are_candidates_false : {A : Type 0} → Lists A → Values → Requirement → Bool
 are_candidates_false lists val r = list_all (λ x. known_false (val x)) (candidates lists r)
 
--- ---- how witnesses are looked for
-
--- there was no witness or a false one, and there is none any more, as all candidates are false
-pub record IsGivenUp {A : Type 0} (lists : Lists A) (val : Values) (old new : Found) (r : Requirement) : Type 0 where
-  pub was : IsWitness val (witness old r) → ⊥
-  pub none : witness new r ≡ None
-  pub all : are_candidates_false lists val r ≡ true
-
--- a witness stays, or one that isn't false comes, or it is given up
-abbrev pub OnlyBetter : {A : Type 0} → Lists A → Values → (old new : Found) → Type 0
-OnlyBetter lists val old new =
-    (r : Requirement) →
-    (witness new r ≡ witness old r) ⊎ (IsWitness val (witness new r) ⊎ IsGivenUp lists val old new r)
-
--- by a witness, and whether all candidates are false
-abbrev pub owed_look : Values → Bool → Option ℕ → ℕ
-owed_look val all None = if all then 0 else 1
-owed_look val all (Some x) = if known_false (val x) then 1 else 0
-
--- how many looks a requirement may cost while no value changes: one, but none if its witness isn't false, or if it has
--- none and all its candidates are false
-abbrev pub owed_looks : {A : Type 0} → Lists A → Values → Found → Requirement → ℕ
-owed_looks lists val ws r = owed_look val (are_candidates_false lists val r) (witness ws r)
-
--- each look was one that was owed
-abbrev pub OnlyOwed : {A : Type 0} → Lists A → Values → (old new : Found) → Type 0
-OnlyOwed lists val old new =
-    (r : Requirement) → times new.looks r + owed_looks lists val new r ≤ times old.looks r + owed_looks lists val old r
-
 -- no clause is falsified: each whose parent is true and whose condition is met has a candidate that isn't false
 abbrev pub NoneFalsified : {A : Type 0} → Lists A → List TrackedClause → (TrackedClause → List Lit) → Values → Type 0
 NoneFalsified lists clauses literals val =
     (n : ℕ) (c : TrackedClause) → slice_get clauses n ≡ Some c → IsAsked literals val c →
     are_candidates_false lists val c.required ≡ false
-
--- where the requirement has a candidate that isn't false, it has a witness that isn't
-abbrev pub HasWitness : {A : Type 0} → Lists A → Values → Found → Requirement → Type 0
-HasWitness lists val ws r = are_candidates_false lists val r ≡ false → IsWitness val (witness ws r)
-
--- each clause that one of the variables finds, whose parent is true and whose condition is met, has a witness that isn't false
--- where its requirement has a candidate that isn't
-abbrev pub AreSettled : {A : Type 0} → Lists A → List TrackedClause → (TrackedClause → List Lit) → Values → List ℕ → (old new : Found) → Type 0
-AreSettled lists clauses literals val variables old new =
-    (n : ℕ) (c : TrackedClause) → slice_get clauses n ≡ Some c → IsAsked literals val c → AreTouching literals old variables c →
-    HasWitness lists val new c.required
-
--- each clause from a number on, whose parent is true and whose condition is met, has one where its requirement has such a candidate
-abbrev pub AreNewSettled : {A : Type 0} → Lists A → List TrackedClause → (TrackedClause → List Lit) → Values → (looked : ℕ) → Found → Type 0
-AreNewSettled lists clauses literals val looked ws =
-    (n : ℕ) (c : TrackedClause) → looked ≤ n → slice_get clauses n ≡ Some c → IsAsked literals val c → HasWitness lists val ws c.required
 
 -- the literals of a clause's condition
 abbrev pub literals_by : {A : Type 0} → List (Disjunction A) → TrackedClause → List Lit
@@ -131,10 +86,3 @@ abbrev pub HaveEntries : {A : Type 0} → Lists A → List (Disjunction A) → L
 HaveEntries lists disjunctions clauses =
     (n : ℕ) (c : TrackedClause) → slice_get clauses n ≡ Some c →
     IfSome c.condition (λ d. d < length disjunctions) × IsSome (lookup (same_requirement c.required) lists)
-
--- witnesses are looked for, and for it requirements are listed
-pub record Settles {A : Type 0} (lists : Lists A) (val : Values) (o o' : Listed) (ws ws' : Found) : Type 0 where
-  pub better : OnlyBetter lists val ws ws'
-  pub owed : OnlyOwed lists val ws ws'
-  pub candidates : AreCandidates lists o ws → AreCandidates lists o' ws'
-  pub listed : (ts : List Tracked) → IsListedWell lists o ts → IsListedWell lists o' ts

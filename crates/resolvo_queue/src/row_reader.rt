@@ -3,7 +3,8 @@
 //! A [`RowReader`] hands no row out: it answers a requirement's frontier, and puts the requirement to the variables of
 //! its rows. A [`WitnessMap`] asks it for a variable of a row that isn't false. What a question knows of rows it knows by
 //! these three calls: the first and the last put the requirement to a log, and the second is made once for each.
-ghost use Rattle.std.specs.Prelude.{◌≡◌, [], ◌∷◌, ◌++◌, true, false, if◌then◌else◌, flat_map, Contains, IsSome, IfSome, MatchOption, OnOk, OnErr, IfErr};
+ghost use Rattle.std.specs.Prelude.{◌≡◌, ◌↔◌, ◌-◌, [], ◌∷◌, ◌++◌, true, false, if◌then◌else◌, flat_map, length};
+ghost use Rattle.std.specs.Prelude.{slice_get, Some, Contains, IsTrue, IsSome, IfSome, MatchOption, OnOk, OnErr, IfErr};
 ghost use Rattle.std.specs.List.{list_all};
 ghost use Rattle.std.specs.Map.{lookup, keys_of};
 ghost use Rattle.typed_ids.specs.declared.error.StoreError.TheVariants.{OutOfMemory};
@@ -193,8 +194,8 @@ impl<A: Allocator + Copy> Occurrences<A> {
         }
     }
 
-    /// All listed requirements that have the variable in a row, and none that hasn't. The order is open, repeats may
-    /// come, and so may a requirement whose listing was refused.
+    /// All listed requirements that have the variable in a row, and none that hasn't. The order is open; a requirement
+    /// whose listing was refused may come, and comes again once it is listed.
     pub fn listing(&self, variable: VariableId) -> &[Requirement]
         ensures { result.now ≡ listing self.now variable }
     {
@@ -208,13 +209,17 @@ impl<A: Allocator + Copy> Occurrences<A> {
         self.listed.get(requirement).is_some()
     }
 
-    /// Puts a requirement to those of a variable.
+    /// Puts a requirement to those of a variable, unless it is the last of them: a requirement that has a variable in
+    /// many rows comes once.
     fn add(&mut self, variable: VariableId, requirement: Requirement) -> Result<(), StoreError>
         ensures listed { self.new.listed ≡ self.old.listed }
         ensures grows { GrowsWith requirement (variable ∷ []) self.old self.new }
         ensures ok { OnOk result (HasAll requirement (variable ∷ []) self.new) }
         ensures memory { IfErr result (λ e. e ≡ OutOfMemory) }
     {
+        if is_last(self.by_variable.at(variable), requirement) {
+            return Ok(());
+        }
         self.by_variable.push(variable, requirement)
     }
 
@@ -230,6 +235,17 @@ impl<A: Allocator + Copy> Occurrences<A> {
             Ok(_) => Ok(()),
             Err(refused) => Err(refused.error),
         }
+    }
+}
+
+/// Whether a requirement is the last of some.
+fn is_last(requirements: &[Requirement], requirement: Requirement) -> bool
+    ensures { let last = slice_get requirements.now (length requirements.now - 1) in
+        IsTrue result ↔ (last ≡ Some requirement) }
+{
+    match requirements.last() {
+        Some(last) => *last == requirement,
+        None => false,
     }
 }
 

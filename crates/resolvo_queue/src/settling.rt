@@ -1,19 +1,15 @@
 //! Looking for witnesses of the requirements whose clauses changed variables find.
-ghost use Rattle.std.specs.Prelude.{◌≡◌, ◌↔◌, ◌⊎◌, ◌<◌, ℕ, List, None, Some, [], false, ◌∷◌, IsSome, IsTrue, IfErr, IfSome, OnErr, OnOk, Contains, length, slice_get};
+ghost use Rattle.std.specs.Prelude.{◌≡◌, ◌↔◌, ◌<◌, ◌≤◌, ℕ, List, None, Some, [], false, IsSome, IsTrue, IfErr, IfSome, OnErr, OnOk, length};
 ghost use Rattle.std.specs.Map.{lookup};
 ghost use Rattle.typed_ids.specs.declared.error.StoreError.TheVariants.{OutOfMemory};
 ghost use Rattle.decisions.specs.Decisions.{values_in};
 ghost use Rattle.providers.specs.Requirement.{same_requirement};
 ghost use Rattle.providers.specs.declared.requirement.Requirement.{Requirement as ARequirement};
-ghost use Rattle.resolvo_queue.specs.Index.{list_at};
 ghost use Rattle.resolvo_queue.specs.Listing.{IsListedWell};
 ghost use Rattle.resolvo_queue.specs.Order.{Stands};
-ghost use Rattle.resolvo_queue.specs.Rows.{candidates};
-ghost use Rattle.resolvo_queue.specs.Synced.{FindsConditions};
 ghost use Rattle.resolvo_queue.specs.Tracked.{Tracked};
-ghost use Rattle.resolvo_queue.specs.Tracking.{IsInOrder, tracking_of};
-ghost use Rattle.resolvo_queue.specs.Witnesses.{AreCandidates, AreNewSettled, AreSettled, HasWitness, HaveEntries, IsAsked, IsWitness, NoneFalsified, OnlyBetter, OnlyOwed, Settles, are_candidates_false, literals_by, witness};
-ghost use Rattle.resolvo_queue.specs.declared.tracked_clause.TrackedClause.{TrackedClause as ATrackedClause};
+ghost use Rattle.resolvo_queue.specs.Settling.{AreFound, AreSettled, CanSettle, HasWitness, LooksAmong, Settles, basis, basis_of};
+ghost use Rattle.resolvo_queue.specs.Witnesses.{AreCandidates, AreTouching, IsAsked, IsWitness, Touches, are_candidates_false, literals_by, witness};
 
 use crate::clause_index::ClauseIndex;
 use crate::condition::is_met;
@@ -29,6 +25,16 @@ use id_storage::Arena;
 use providers::Requirement;
 use std::alloc::Allocator;
 use typed_ids::{DisjunctionId, StoreError, VariableId};
+
+/// What witnesses are looked for by: the clauses and who finds them, the values of variables, the literals of
+/// conditions, and the rows of requirements.
+#[derive(Drop)]
+struct Settling<'s, A: Allocator + Copy> {
+    index: &'s ClauseIndex<A>,
+    map: &'s DecisionMap<A>,
+    disjunctions: &'s Arena<DisjunctionId, Disjunction<A>, A>,
+    reader: &'s RowReader<'s, A>,
+}
 
 /// Whether the requirement has a witness that isn't false.
 fn has_witness<A: Allocator + Copy>(
@@ -49,196 +55,91 @@ fn has_witness<A: Allocator + Copy>(
 fn settle_requirement<A: Allocator + Copy>(
     witnesses: &mut WitnessMap<A>,
     requirement: Requirement,
-    map: &DecisionMap<A>,
-    reader: &RowReader<'_, A>,
+    settling: &Settling<'_, A>,
 ) -> Result<(), StoreError>
-    requires lists { IsSome (lookup (same_requirement requirement) reader.now.lists) }
-    requires owed { witness witnesses.old requirement ≡ None →
-        are_candidates_false reader.now.lists (values_in map.now) requirement ≡ false }
-    ensures better { OnlyBetter reader.now.lists (values_in map.now) witnesses.old witnesses.new }
-    ensures owed { OnlyOwed reader.now.lists (values_in map.now) witnesses.old witnesses.new }
-    ensures new { (r : ARequirement) (x : ℕ) → witness witnesses.new r ≡ Some x → (witness witnesses.old r ≡ Some x) ⊎ ((r ≡ requirement) × Contains (candidates reader.now.lists requirement) x) }
-    ensures ok { OnOk result (HasWitness reader.now.lists (values_in map.now) witnesses.new requirement) }
+    requires lists { IsSome (lookup (same_requirement requirement) settling.now.reader.now.lists) }
+    requires owed { let lists = settling.now.reader.now.lists in let val = values_in settling.now.map.now in
+        witness witnesses.old requirement ≡ None → are_candidates_false lists val requirement ≡ false }
+    ensures looks { LooksAmong (basis settling.now) (λ r. r ≡ requirement) witnesses.old witnesses.new }
+    ensures ok { OnOk result (HasWitness (basis settling.now) witnesses.new requirement) }
     ensures memory { IfErr result (λ e. e ≡ OutOfMemory) }
 {
-    if has_witness(witnesses, requirement, map) {
+    if has_witness(witnesses, requirement, settling.map) {
         return Ok(());
     }
-    witnesses.look(requirement, map, reader)
+    witnesses.look(requirement, settling.map, settling.reader)
 }
 
 /// Whether a clause's parent is true and its condition is met.
-fn is_asked<A: Allocator + Copy>(
-    clause: &TrackedClause,
-    map: &DecisionMap<A>,
-    disjunctions: &Arena<DisjunctionId, Disjunction<A>, A>,
-) -> bool
-    requires { IfSome clause.now.condition (λ d. d < length disjunctions.now) }
-    ensures { IsTrue result ↔ IsAsked (literals_by disjunctions.now) (values_in map.now) clause.now }
+fn is_asked<A: Allocator + Copy>(clause: &TrackedClause, settling: &Settling<'_, A>) -> bool
+    requires { IfSome clause.now.condition (λ d. d < length settling.now.disjunctions.now) }
+    ensures { let literals = literals_by settling.now.disjunctions.now in
+        IsTrue result ↔ IsAsked literals (values_in settling.now.map.now) clause.now }
 {
-    match map.value(clause.parent) {
-        Some(true) => is_met(clause.condition, disjunctions, map),
+    match settling.map.value(clause.parent) {
+        Some(true) => is_met(clause.condition, settling.disjunctions, settling.map),
         _ => false,
     }
 }
 
-/// Gives a clause's requirement a witness, if the clause's parent is true and its condition is met. For that the requirement
-/// is listed, so that the witness finds it.
+/// Gives a clause's requirement a witness, if the clause's parent is true and its condition is met. For that the
+/// requirement is listed, so that the witness finds it.
 fn settle_clause<A: Allocator + Copy>(
     witnesses: &mut WitnessMap<A>,
     occurrences: &mut Occurrences<A>,
     clause: &TrackedClause,
-    map: &DecisionMap<A>,
-    reader: &RowReader<'_, A>,
-    disjunctions: &Arena<DisjunctionId, Disjunction<A>, A>,
+    settling: &Settling<'_, A>,
 ) -> Result<(), StoreError>
-    requires condition { IfSome clause.now.condition (λ d. d < length disjunctions.now) }
-    requires lists { IsSome (lookup (same_requirement clause.now.required) reader.now.lists) }
-    requires none_falsified { IsAsked (literals_by disjunctions.now) (values_in map.now) clause.now →
-        are_candidates_false reader.now.lists (values_in map.now) clause.now.required ≡ false }
-    ensures settles { Settles reader.now.lists (values_in map.now) occurrences.old occurrences.new witnesses.old witnesses.new }
-    ensures ok { OnOk result (IsAsked (literals_by disjunctions.now) (values_in map.now) clause.now → HasWitness reader.now.lists (values_in map.now) witnesses.new clause.now.required) }
+    requires condition { IfSome clause.now.condition (λ d. d < length settling.now.disjunctions.now) }
+    requires lists { IsSome (lookup (same_requirement clause.now.required) settling.now.reader.now.lists) }
+    requires none_falsified { let lists = settling.now.reader.now.lists in let val = values_in settling.now.map.now in
+        IsAsked (literals_by settling.now.disjunctions.now) val clause.now →
+        are_candidates_false lists val clause.now.required ≡ false }
+    ensures settles { Settles (basis settling.now) occurrences.old occurrences.new witnesses.old witnesses.new }
+    ensures ok { let literals = literals_by settling.now.disjunctions.now in
+        OnOk result (IsAsked literals (values_in settling.now.map.now) clause.now →
+        HasWitness (basis settling.now) witnesses.new clause.now.required) }
     ensures memory { IfErr result (λ e. e ≡ OutOfMemory) }
 {
-    if !is_asked(clause, map, disjunctions) {
+    if !is_asked(clause, settling) {
         return Ok(());
     }
-    list_once(occurrences, reader, clause.required)?;
-    settle_requirement(witnesses, clause.required, map, reader)
+    list_once(occurrences, settling.reader, clause.required)?;
+    settle_requirement(witnesses, clause.required, settling)
+}
+
+/// Gives the requirement of the clause with a number a witness. A number past the end stands for no clause.
+fn settle_number<A: Allocator + Copy>(
+    witnesses: &mut WitnessMap<A>,
+    occurrences: &mut Occurrences<A>,
+    number: usize,
+    settling: &Settling<'_, A>,
+) -> Result<(), StoreError>
+    requires { CanSettle (basis settling.now) }
+    ensures settles { Settles (basis settling.now) occurrences.old occurrences.new witnesses.old witnesses.new }
+    ensures ok { OnOk result (AreSettled (basis settling.now) (λ n c. n ≡ number) witnesses.new) }
+    ensures memory { IfErr result (λ e. e ≡ OutOfMemory) }
+{
+    match settling.index.clauses.as_slice().get(number) {
+        Some(clause) => settle_clause(witnesses, occurrences, clause, settling),
+        None => Ok(()),
+    }
 }
 
 /// Gives the numbered clauses' requirements witnesses.
-fn settle_clauses<A: Allocator + Copy>(
+fn settle_numbers<A: Allocator + Copy>(
     witnesses: &mut WitnessMap<A>,
     occurrences: &mut Occurrences<A>,
-    clauses: &[TrackedClause],
     numbers: &[u32],
-    map: &DecisionMap<A>,
-    reader: &RowReader<'_, A>,
-    disjunctions: &Arena<DisjunctionId, Disjunction<A>, A>,
+    settling: &Settling<'_, A>,
 ) -> Result<(), StoreError>
-    requires entries { HaveEntries reader.now.lists disjunctions.now clauses.now }
-    requires none_falsified { NoneFalsified reader.now.lists clauses.now (literals_by disjunctions.now)
-        (values_in map.now) }
-    ensures settles { Settles reader.now.lists (values_in map.now) occurrences.old occurrences.new witnesses.old witnesses.new }
-    ensures ok { OnOk result ((n : ℕ) (c : ATrackedClause) → Stands n numbers.now → slice_get clauses.now n ≡ Some c →
-        IsAsked (literals_by disjunctions.now) (values_in map.now) c → HasWitness reader.now.lists (values_in map.now) witnesses.new c.required) }
+    requires { CanSettle (basis settling.now) }
+    ensures settles { Settles (basis settling.now) occurrences.old occurrences.new witnesses.old witnesses.new }
+    ensures ok { OnOk result (AreSettled (basis settling.now) (λ n c. Stands n numbers.now) witnesses.new) }
     ensures memory { IfErr result (λ e. e ≡ OutOfMemory) }
 {
     for number in numbers {
-        if let Some(clause) = clauses.get(*number as usize) {
-            settle_clause(witnesses, occurrences, clause, map, reader, disjunctions)?;
-        }
-    }
-    Ok(())
-}
-
-/// Gives the requirements another witness whose witness the variable is, unless it isn't false.
-fn settle_witnessed<A: Allocator + Copy>(
-    witnesses: &mut WitnessMap<A>,
-    listed: &[Requirement],
-    variable: VariableId,
-    map: &DecisionMap<A>,
-    reader: &RowReader<'_, A>,
-) -> Result<(), StoreError>
-    requires { (r : ARequirement) → Stands r listed.now → IsSome (lookup (same_requirement r) reader.now.lists) }
-    ensures better { OnlyBetter reader.now.lists (values_in map.now) witnesses.old witnesses.new }
-    ensures owed { OnlyOwed reader.now.lists (values_in map.now) witnesses.old witnesses.new }
-    ensures new { (r : ARequirement) (x : ℕ) → witness witnesses.new r ≡ Some x →
-        (witness witnesses.old r ≡ Some x) ⊎ ((witness witnesses.old r ≡ Some variable) × Contains (candidates reader.now.lists r) x) }
-    ensures ok { OnOk result ((r : ARequirement) → Stands r listed.now → witness witnesses.old r ≡ Some variable → HasWitness reader.now.lists (values_in map.now) witnesses.new r) }
-    ensures memory { IfErr result (λ e. e ≡ OutOfMemory) }
-{
-    for requirement in listed {
-        if is_witness(witnesses, *requirement, variable) {
-            settle_requirement(witnesses, *requirement, map, reader)?;
-        }
-    }
-    Ok(())
-}
-
-/// Gives the requirements witnesses whose clauses a variable finds: as their parent, in their condition, or as the witness.
-fn settle_by<A: Allocator + Copy>(
-    witnesses: &mut WitnessMap<A>,
-    occurrences: &mut Occurrences<A>,
-    index: &ClauseIndex<A>,
-    variable: VariableId,
-    map: &DecisionMap<A>,
-    reader: &RowReader<'_, A>,
-    disjunctions: &Arena<DisjunctionId, Disjunction<A>, A>,
-) -> Result<(), StoreError>
-    requires entries { HaveEntries reader.now.lists disjunctions.now index.now.clauses.items }
-    requires parents { (n : ℕ) (c : ATrackedClause) → slice_get index.now.clauses.items n ≡ Some c → Stands n (list_at index.now.by_parent c.parent) }
-    requires conditions { FindsConditions index.now.clauses.items (literals_by disjunctions.now) index.now.by_condition }
-    requires listed { (ts : List Tracked) × IsListedWell reader.now.lists occurrences.old ts }
-    requires candidates { AreCandidates reader.now.lists occurrences.old witnesses.old }
-    requires none_falsified { NoneFalsified reader.now.lists index.now.clauses.items (literals_by disjunctions.now)
-        (values_in map.now) }
-    ensures settles { Settles reader.now.lists (values_in map.now) occurrences.old occurrences.new witnesses.old witnesses.new }
-    ensures ok { OnOk result (AreSettled reader.now.lists index.now.clauses.items (literals_by disjunctions.now) (values_in map.now) (variable ∷ []) witnesses.old witnesses.new) }
-    ensures memory { IfErr result (λ e. e ≡ OutOfMemory) }
-{
-    let clauses = index.clauses.as_slice();
-    let of_parent = index.by_parent.at(variable);
-    settle_clauses(
-        witnesses,
-        occurrences,
-        clauses,
-        of_parent,
-        map,
-        reader,
-        disjunctions,
-    )?;
-    let of_condition = index.by_condition.at(variable);
-    settle_clauses(
-        witnesses,
-        occurrences,
-        clauses,
-        of_condition,
-        map,
-        reader,
-        disjunctions,
-    )?;
-    settle_witnessed(
-        witnesses,
-        occurrences.listing(variable),
-        variable,
-        map,
-        reader,
-    )
-}
-
-/// Gives the requirements witnesses whose clauses these variables find.
-fn settle_by_all<A: Allocator + Copy>(
-    witnesses: &mut WitnessMap<A>,
-    occurrences: &mut Occurrences<A>,
-    index: &ClauseIndex<A>,
-    variables: &[VariableId],
-    map: &DecisionMap<A>,
-    reader: &RowReader<'_, A>,
-    disjunctions: &Arena<DisjunctionId, Disjunction<A>, A>,
-) -> Result<(), StoreError>
-    requires entries { HaveEntries reader.now.lists disjunctions.now index.now.clauses.items }
-    requires parents { (n : ℕ) (c : ATrackedClause) → slice_get index.now.clauses.items n ≡ Some c → Stands n (list_at index.now.by_parent c.parent) }
-    requires conditions { FindsConditions index.now.clauses.items (literals_by disjunctions.now) index.now.by_condition }
-    requires listed { (ts : List Tracked) × IsListedWell reader.now.lists occurrences.old ts }
-    requires candidates { AreCandidates reader.now.lists occurrences.old witnesses.old }
-    requires none_falsified { NoneFalsified reader.now.lists index.now.clauses.items (literals_by disjunctions.now)
-        (values_in map.now) }
-    ensures settles { Settles reader.now.lists (values_in map.now) occurrences.old occurrences.new witnesses.old witnesses.new }
-    ensures ok { OnOk result (AreSettled reader.now.lists index.now.clauses.items (literals_by disjunctions.now) (values_in map.now) variables.now witnesses.old witnesses.new) }
-    ensures memory { IfErr result (λ e. e ≡ OutOfMemory) }
-{
-    for variable in variables {
-        settle_by(
-            witnesses,
-            occurrences,
-            index,
-            *variable,
-            map,
-            reader,
-            disjunctions,
-        )?;
+        settle_number(witnesses, occurrences, *number as usize, settling)?;
     }
     Ok(())
 }
@@ -247,35 +148,117 @@ fn settle_by_all<A: Allocator + Copy>(
 fn settle_new<A: Allocator + Copy>(
     witnesses: &mut WitnessMap<A>,
     occurrences: &mut Occurrences<A>,
-    clauses: &[TrackedClause],
     looked: usize,
-    map: &DecisionMap<A>,
-    reader: &RowReader<'_, A>,
-    disjunctions: &Arena<DisjunctionId, Disjunction<A>, A>,
+    settling: &Settling<'_, A>,
 ) -> Result<(), StoreError>
-    requires entries { HaveEntries reader.now.lists disjunctions.now clauses.now }
-    requires none_falsified { NoneFalsified reader.now.lists clauses.now (literals_by disjunctions.now)
-        (values_in map.now) }
-    ensures settles { Settles reader.now.lists (values_in map.now) occurrences.old occurrences.new witnesses.old witnesses.new }
-    ensures ok { OnOk result (AreNewSettled reader.now.lists clauses.now (literals_by disjunctions.now) (values_in map.now) looked witnesses.new) }
+    requires { CanSettle (basis settling.now) }
+    ensures settles { Settles (basis settling.now) occurrences.old occurrences.new witnesses.old witnesses.new }
+    ensures ok { OnOk result (AreSettled (basis settling.now) (λ n c. looked ≤ n) witnesses.new) }
     ensures memory { IfErr result (λ e. e ≡ OutOfMemory) }
 {
-    for number in looked..clauses.len() {
-        settle_clause(
-            witnesses,
-            occurrences,
-            &clauses[number],
-            map,
-            reader,
-            disjunctions,
-        )?;
+    for number in looked..settling.index.clauses.len() {
+        settle_number(witnesses, occurrences, number, settling)?;
+    }
+    Ok(())
+}
+
+/// Gives the requirement another witness if the variable is its witness, unless it isn't false.
+fn settle_if_witness<A: Allocator + Copy>(
+    witnesses: &mut WitnessMap<A>,
+    requirement: Requirement,
+    variable: VariableId,
+    settling: &Settling<'_, A>,
+) -> Result<(), StoreError>
+    requires { IsSome (lookup (same_requirement requirement) settling.now.reader.now.lists) }
+    ensures looks { let is_own = λ (r : ARequirement). witness witnesses.old r ≡ Some variable in
+        LooksAmong (basis settling.now) is_own witnesses.old witnesses.new }
+    ensures ok { OnOk result (witness witnesses.old requirement ≡ Some variable →
+        HasWitness (basis settling.now) witnesses.new requirement) }
+    ensures memory { IfErr result (λ e. e ≡ OutOfMemory) }
+{
+    if is_witness(witnesses, requirement, variable) {
+        settle_requirement(witnesses, requirement, settling)
+    } else {
+        Ok(())
+    }
+}
+
+/// Gives the requirements another witness whose witness the variable is, unless it isn't false.
+fn settle_witnessed<A: Allocator + Copy>(
+    witnesses: &mut WitnessMap<A>,
+    occurrences: &Occurrences<A>,
+    variable: VariableId,
+    settling: &Settling<'_, A>,
+) -> Result<(), StoreError>
+    requires listed { (ts : List Tracked) × IsListedWell settling.now.reader.now.lists occurrences.now ts }
+    requires candidates { AreCandidates settling.now.reader.now.lists occurrences.now witnesses.old }
+    ensures looks { let is_own = λ (r : ARequirement). witness witnesses.old r ≡ Some variable in
+        LooksAmong (basis settling.now) is_own witnesses.old witnesses.new }
+    ensures ok { OnOk result ((r : ARequirement) → witness witnesses.old r ≡ Some variable →
+        HasWitness (basis settling.now) witnesses.new r) }
+    ensures memory { IfErr result (λ e. e ≡ OutOfMemory) }
+{
+    for requirement in occurrences.listing(variable) {
+        settle_if_witness(witnesses, *requirement, variable, settling)?;
+    }
+    Ok(())
+}
+
+/// Gives the requirements witnesses whose clauses a variable finds: as their parent, in their condition, or as the
+/// witness.
+fn settle_by<A: Allocator + Copy>(
+    witnesses: &mut WitnessMap<A>,
+    occurrences: &mut Occurrences<A>,
+    variable: VariableId,
+    settling: &Settling<'_, A>,
+) -> Result<(), StoreError>
+    requires can { CanSettle (basis settling.now) }
+    requires found { AreFound (basis settling.now) occurrences.old witnesses.old }
+    ensures settles { Settles (basis settling.now) occurrences.old occurrences.new witnesses.old witnesses.new }
+    ensures ok { let literals = literals_by settling.now.disjunctions.now in
+        OnOk result (AreSettled (basis settling.now) (λ n. Touches literals witnesses.old variable) witnesses.new) }
+    ensures memory { IfErr result (λ e. e ≡ OutOfMemory) }
+{
+    let index = settling.index;
+    settle_numbers(
+        witnesses,
+        occurrences,
+        index.by_parent.at(variable),
+        settling,
+    )?;
+    settle_numbers(
+        witnesses,
+        occurrences,
+        index.by_condition.at(variable),
+        settling,
+    )?;
+    settle_witnessed(witnesses, occurrences, variable, settling)
+}
+
+/// Gives the requirements witnesses whose clauses these variables find.
+fn settle_by_all<A: Allocator + Copy>(
+    witnesses: &mut WitnessMap<A>,
+    occurrences: &mut Occurrences<A>,
+    variables: &[VariableId],
+    settling: &Settling<'_, A>,
+) -> Result<(), StoreError>
+    requires can { CanSettle (basis settling.now) }
+    requires found { AreFound (basis settling.now) occurrences.old witnesses.old }
+    ensures settles { Settles (basis settling.now) occurrences.old occurrences.new witnesses.old witnesses.new }
+    ensures ok { let literals = literals_by settling.now.disjunctions.now in
+        let found = λ (n : ℕ). AreTouching literals witnesses.old variables.now in
+        OnOk result (AreSettled (basis settling.now) found witnesses.new) }
+    ensures memory { IfErr result (λ e. e ≡ OutOfMemory) }
+{
+    for variable in variables {
+        settle_by(witnesses, occurrences, *variable, settling)?;
     }
     Ok(())
 }
 
 impl<A: Allocator + Copy> TrackedClauses<A> {
-    /// Gives the requirements witnesses whose clauses were found by what changed, or came since; nothing is left then to be
-    /// looked at. Refused, all of it is.
+    /// Gives the requirements witnesses whose clauses were found by what changed, or came since; nothing is left then
+    /// to be looked at. Refused, all of it is.
     pub(crate) fn settle(
         &mut self,
         witnesses: &mut Witnesses<A>,
@@ -283,40 +266,39 @@ impl<A: Allocator + Copy> TrackedClauses<A> {
         reader: &RowReader<'_, A>,
         disjunctions: &Arena<DisjunctionId, Disjunction<A>, A>,
     ) -> Result<(), StoreError>
-        requires entries { HaveEntries reader.now.lists disjunctions.now self.old.index.clauses.items }
-        requires order { IsInOrder (tracking_of self.old) }
-        requires conditions { FindsConditions self.old.index.clauses.items (literals_by disjunctions.now) self.old.index.by_condition }
-        requires listed { IsListedWell reader.now.lists self.old.occurrences self.old.requirements }
-        requires candidates { AreCandidates reader.now.lists self.old.occurrences witnesses.old.of }
-        requires none_falsified { NoneFalsified reader.now.lists self.old.index.clauses.items (literals_by disjunctions.now)
-            (values_in map.now) }
-        ensures same { (self.new.index ≡ self.old.index) × (self.new.queued ≡ self.old.queued) × (self.new.requirements ≡ self.old.requirements)
-            × (self.new.only_hot ≡ self.old.only_hot) × (self.new.trail ≡ self.old.trail) × (self.new.must_start_anew ≡ self.old.must_start_anew) }
-        ensures settles { Settles reader.now.lists (values_in map.now) self.old.occurrences self.new.occurrences witnesses.old.of witnesses.new.of }
+        requires can { CanSettle (basis_of reader.now.lists disjunctions.now self.old.index (values_in map.now)) }
+        requires found { let basis = basis_of reader.now.lists disjunctions.now self.old.index (values_in map.now) in
+            AreFound basis self.old.occurrences witnesses.old.of }
+        ensures same { (self.new.index ≡ self.old.index) × (self.new.queued ≡ self.old.queued)
+            × (self.new.requirements ≡ self.old.requirements) × (self.new.only_hot ≡ self.old.only_hot)
+            × (self.new.trail ≡ self.old.trail) × (self.new.must_start_anew ≡ self.old.must_start_anew) }
+        ensures settles { let basis = basis_of reader.now.lists disjunctions.now self.old.index (values_in map.now) in
+            Settles basis self.old.occurrences self.new.occurrences witnesses.old.of witnesses.new.of }
         ensures changed { OnOk result (witnesses.new.changed.items ≡ []) }
         ensures looked { OnOk result (witnesses.new.looked ≡ length self.old.index.clauses.items) }
-        ensures settled { OnOk result (AreSettled reader.now.lists self.old.index.clauses.items (literals_by disjunctions.now) (values_in map.now) witnesses.old.changed.items witnesses.old.of witnesses.new.of) }
-        ensures new_settled { OnOk result (AreNewSettled reader.now.lists self.old.index.clauses.items (literals_by disjunctions.now) (values_in map.now) witnesses.old.looked witnesses.new.of) }
-        ensures err { OnErr result ((witnesses.new.changed.items ≡ witnesses.old.changed.items) × (witnesses.new.looked ≡ witnesses.old.looked)) }
+        ensures settled { let basis = basis_of reader.now.lists disjunctions.now self.old.index (values_in map.now) in
+            let literals = literals_by disjunctions.now in
+            let found = λ (n : ℕ). AreTouching literals witnesses.old.of witnesses.old.changed.items in
+            OnOk result (AreSettled basis found witnesses.new.of) }
+        ensures came { let basis = basis_of reader.now.lists disjunctions.now self.old.index (values_in map.now) in
+            OnOk result (AreSettled basis (λ n c. witnesses.old.looked ≤ n) witnesses.new.of) }
+        ensures err { OnErr result ((witnesses.new.changed.items ≡ witnesses.old.changed.items)
+            × (witnesses.new.looked ≡ witnesses.old.looked)) }
         ensures memory { IfErr result (λ e. e ≡ OutOfMemory) }
     {
-        settle_by_all(
-            &mut witnesses.of,
-            &mut self.occurrences,
-            &self.index,
-            witnesses.changed.as_slice(),
+        let settling = Settling {
+            index: &self.index,
             map,
-            reader,
             disjunctions,
-        )?;
+            reader,
+        };
+        let changed = witnesses.changed.as_slice();
+        settle_by_all(&mut witnesses.of, &mut self.occurrences, changed, &settling)?;
         settle_new(
             &mut witnesses.of,
             &mut self.occurrences,
-            self.index.clauses.as_slice(),
             witnesses.looked,
-            map,
-            reader,
-            disjunctions,
+            &settling,
         )?;
         witnesses.changed.clear();
         witnesses.looked = self.index.clauses.len();

@@ -8,7 +8,7 @@ ghost use Rattle.resolvo_queue.specs.Routing.{OnlyForgets, Unrouted, variables_o
 ghost use Rattle.resolvo_queue.specs.Synced.{SyncsTo};
 ghost use Rattle.resolvo_queue.specs.Trails.{decided_value};
 
-use crate::routing::route_all;
+use crate::routing::{Routing, route_all};
 use crate::tracked_clauses::TrackedClauses;
 use crate::waking::wake_all;
 use decisions::{Decision, DecisionMap};
@@ -54,25 +54,18 @@ impl<A: Allocator + Copy> TrackedClauses<A> {
         ensures trail { OnOk result (self.new.trail.items ≡ take floor self.old.trail.items ++ drop floor trail.now) }
         ensures memory { IfErr result (λ e. e ≡ OutOfMemory) }
     {
-        if floor == self.trail.len() && floor == trail.len() {
+if floor == self.trail.len() && floor == trail.len() {
             return Ok(());
         }
-        route_all(
-            &mut self.queued,
-            &mut self.requirements,
-            &self.index,
-            &self.occurrences,
-            &self.trail[floor..],
+        let routing = Routing {
+            index: &self.index,
+            occurrences: &self.occurrences,
             map,
-        )?;
-        route_all(
-            &mut self.queued,
-            &mut self.requirements,
-            &self.index,
-            &self.occurrences,
-            &trail[floor..],
-            map,
-        )?;
+        };
+        let before = &self.trail[floor..];
+        route_all(&mut self.queued, &mut self.requirements, before, &routing)?;
+        let now = &trail[floor..];
+        route_all(&mut self.queued, &mut self.requirements, now, &routing)?;
         copy_behind(&mut self.trail, floor, trail)
     }
 

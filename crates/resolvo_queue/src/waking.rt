@@ -7,6 +7,7 @@ ghost use Rattle.resolvo_queue.specs.Positions.{same_position};
 ghost use Rattle.resolvo_queue.specs.Queued.{AreWoken, IsQueued, IsWoken, GrowsBy, HaveNumbers, IsOfClause};
 ghost use Rattle.resolvo_queue.specs.Synced.{AllWoken};
 
+use crate::clause_index::ClauseIndex;
 use crate::queued_clauses::QueuedClauses;
 use crate::tracked_clause::TrackedClause;
 use decisions::DecisionMap;
@@ -20,7 +21,8 @@ fn wake<A: Allocator + Copy>(
     map: &DecisionMap<A>,
 ) -> Result<(), StoreError>
     ensures grows { GrowsBy (λ p. same_position clause.now.position p ≡ true) queued.old queued.new }
-    ensures woken { OnOk result (known_true (values_in map.now clause.now.parent) ≡ true → IsQueued queued.new clause.now) }
+    ensures woken { OnOk result (known_true (values_in map.now clause.now.parent) ≡ true →
+        IsQueued queued.new clause.now) }
     ensures memory { IfErr result (λ e. e ≡ OutOfMemory) }
 {
     match map.value(clause.parent) {
@@ -32,16 +34,16 @@ fn wake<A: Allocator + Copy>(
 /// Queues the clause with a number if its parent is true. A number past the end stands for no clause.
 fn wake_number<A: Allocator + Copy>(
     queued: &mut QueuedClauses<A>,
-    clauses: &[TrackedClause],
+    index: &ClauseIndex<A>,
     number: u32,
     map: &DecisionMap<A>,
 ) -> Result<(), StoreError>
-    requires { HaveNumbers clauses.now }
-    ensures grows { GrowsBy (IsOfClause clauses.now) queued.old queued.new }
-    ensures woken { OnOk result (IsWoken clauses.now (values_in map.now) number queued.new) }
+    requires { HaveNumbers index.now.clauses.items }
+    ensures grows { GrowsBy (IsOfClause index.now.clauses.items) queued.old queued.new }
+    ensures woken { OnOk result (IsWoken index.now.clauses.items (values_in map.now) number queued.new) }
     ensures memory { IfErr result (λ e. e ≡ OutOfMemory) }
 {
-    match clauses.get(number as usize) {
+    match index.clauses.as_slice().get(number as usize) {
         Some(clause) => wake(queued, clause, map),
         None => Ok(()),
     }
@@ -50,17 +52,17 @@ fn wake_number<A: Allocator + Copy>(
 /// Queues those of the numbered clauses whose parent is true.
 pub(crate) fn wake_clauses<A: Allocator + Copy>(
     queued: &mut QueuedClauses<A>,
-    clauses: &[TrackedClause],
+    index: &ClauseIndex<A>,
     numbers: &[u32],
     map: &DecisionMap<A>,
 ) -> Result<(), StoreError>
-    requires { HaveNumbers clauses.now }
-    ensures grows { GrowsBy (IsOfClause clauses.now) queued.old queued.new }
-    ensures woken { OnOk result (AreWoken clauses.now (values_in map.now) numbers.now queued.new) }
+    requires { HaveNumbers index.now.clauses.items }
+    ensures grows { GrowsBy (IsOfClause index.now.clauses.items) queued.old queued.new }
+    ensures woken { OnOk result (AreWoken index.now.clauses.items (values_in map.now) numbers.now queued.new) }
     ensures memory { IfErr result (λ e. e ≡ OutOfMemory) }
 {
     for number in numbers {
-        wake_number(queued, clauses, *number, map)?;
+        wake_number(queued, index, *number, map)?;
     }
     Ok(())
 }

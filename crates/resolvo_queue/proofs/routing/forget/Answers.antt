@@ -1,6 +1,7 @@
 use Rattle.std.proofs.Common.{Some, sym, ap, ◌∙◌, subst}
 use Rattle.decisions.specs.Decisions.{values_in}
 use Rattle.resolvo_queue.specs.Queued.{AreWoken}
+use Rattle.resolvo_queue.specs.Routing.{ways}
 use Rattle.resolvo_queue.proofs.RoutingLaws.{place_within, forgets_only, forgotten_unknown, still_unknown, not_there, had_frontier, had_none, among_one}
 use Rattle.resolvo_queue.proofs.routing.forget.Goals as goal
 
@@ -32,7 +33,7 @@ returns-in-Known-Some-clause-unknown g c =
 
 pub returns-in-Known-Some-clause-woken : goal.returns-in-Known-Some-clause-woken
 returns-in-Known-Some-clause-woken g c =
-    rw c.forget.ensures (had_frontier c.args.clauses.now (values_in c.args.map.now) c.args.requirements.now c.in-Some.place c.args.queued.now c.in-Known-Some.field-0-0
+    rw c.forget.ensures (had_frontier (ways c.args.routing.now) c.args.requirements.now c.in-Some.place c.args.queued.now c.in-Known-Some.field-0-0
     (sym c.in-Known-Some.ensures ∙ ap Some c.in-Known-Some.field-0-is))
 
 pub returns-in_ok-wake_clauses-in-Known-None-clause-only : goal.returns-in_ok-wake_clauses-in-Known-None-clause-only
@@ -44,8 +45,8 @@ returns-in_ok-wake_clauses-in-Known-None-clause-unknown g c =
 
 pub returns-in_ok-wake_clauses-in-Known-None-clause-woken : goal.returns-in_ok-wake_clauses-in-Known-None-clause-woken
 returns-in_ok-wake_clauses-in-Known-None-clause-woken g c =
-    rw c.forget-in-Known-None.ensures (had_none c.args.clauses.now (values_in c.args.map.now) c.args.requirements.now c.in-Some.place c.wake_clauses.new.queued
-    (subst (λ ns. AreWoken c.args.clauses.now (values_in c.args.map.now) ns c.wake_clauses.new.queued) c.clauses.ensures c.in_ok-wake_clauses-in-Known-None.ensures.woken))
+    rw c.forget-in-Known-None.ensures (had_none (ways c.args.routing.now) c.args.requirements.now c.in-Some.place c.wake_clauses.new.queued
+    (subst (λ ns. AreWoken c.args.routing.now.index.now.clauses.items (values_in c.args.routing.now.map.now) ns c.wake_clauses.new.queued) c.clauses.ensures c.in_ok-wake_clauses-in-Known-None.ensures.woken))
 
 pub returns-in-Known-Some-clause-others : goal.returns-in-Known-Some-clause-others
 returns-in-Known-Some-clause-others g c =

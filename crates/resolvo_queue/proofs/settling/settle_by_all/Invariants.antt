@@ -1,10 +1,10 @@
 use Rattle.std.proofs.Common.{take}
-use Rattle.decisions.specs.Decisions.{values_in}
-use Rattle.resolvo_queue.specs.Witnesses.{AreSettled, Settles, literals_by}
+use Rattle.resolvo_queue.specs.Settling.{AreSettled, Settles, basis}
+use Rattle.resolvo_queue.specs.Witnesses.{AreTouching, literals_by}
 use Rattle.resolvo_queue.proofs.settling.settle_by_all.Given as goal
 
 abbrev pub invariant-loop-variable : goal.invariant-loop-variable
 invariant-loop-variable g l = record {
-  settles : Settles l.reader.lists (values_in l.map) l.initial.occurrences l.occurrences l.initial.witnesses l.witnesses;
-  settled : AreSettled l.reader.lists l.index.clauses.items (literals_by l.disjunctions) (values_in l.map) (take l.variable-index l.variables) l.initial.witnesses l.witnesses;
+  settles : Settles (basis l.settling) l.initial.occurrences l.occurrences l.initial.witnesses l.witnesses;
+  settled : AreSettled (basis l.settling) (λ n. AreTouching (literals_by l.settling.disjunctions.now) l.initial.witnesses (take l.variable-index l.variables)) l.witnesses;
 }

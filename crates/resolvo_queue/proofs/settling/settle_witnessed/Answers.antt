@@ -1,51 +1,35 @@
-use Rattle.std.proofs.Common.{◌≡◌, ◌∙◌, None, Some, true, false, get_or, sym}
-use Rattle.decisions.specs.Decisions.{values_in}
+use Rattle.std.proofs.Common.{◌∙◌, get_or, subst, sym, take_all}
 use Rattle.providers.specs.declared.requirement.Requirement.TheVariants.{Single}
+use Rattle.resolvo_queue.specs.Order.{Stands}
+use Rattle.resolvo_queue.specs.Settling.{basis}
 use Rattle.resolvo_queue.proofs.Members.{read_stands}
-use Rattle.resolvo_queue.proofs.SettleLaws.{better_both, looked_new, looked_settled, owed_both, passed_settled}
+use Rattle.resolvo_queue.proofs.SettleLaws.{listing_has_lists, looks_both, looks_none, next_requirement, witness_listed}
 use Rattle.resolvo_queue.proofs.settling.settle_witnessed.Goals as goal
-use Rattle.resolvo_queue.proofs.settling.settle_witnessed.Goals.{then-is_witness+in_ok-settle_requirement, else-is_witness}
 
-pub settle_requirement-requires-clause-lists : goal.settle_requirement-requires-clause-lists
-settle_requirement-requires-clause-lists g c =
+pub loop-requirement-init : goal.loop-requirement-init
+loop-requirement-init g c = record { looks = looks_none; settled = λ r s. elim s [ ] }
+
+pub settle_if_witness-requires : goal.settle_if_witness-requires
+settle_if_witness-requires g c =
+    let listed = c.listing-requirement-items.result.now in
     let nothing = Single (record { 0 = 0 }) in
-    c.requires (get_or c.args.listed.now c.loop-requirement.requirement-index nothing)
-    (read_stands c.args.listed.now c.loop-requirement.requirement-index nothing c.loop-requirement-test.true)
+    let i = c.loop-requirement.requirement-index in
+    listing_has_lists (basis c.args.settling.now) c.args.occurrences.now c.requires.listed c.args.variable (get_or listed i nothing)
+    (subst (Stands (get_or listed i nothing)) c.listing-requirement-items.ensures (read_stands listed i nothing c.loop-requirement-test.true))
 
--- it has a witness
-pub settle_requirement-requires-clause-owed : goal.settle_requirement-requires-clause-owed
-settle_requirement-requires-clause-owed g c = λ none. (let bad : None ≡ Some c.args.variable = sym none ∙ c.is_witness.ensures.0 c.if-is_witness.true in cc)
-
-pub returns-in_err-settle_requirement-clause-new : goal.returns-in_err-settle_requirement-clause-new
-returns-in_err-settle_requirement-clause-new g c =
-    looked_new c.args.reader.now.lists (values_in c.args.map.now) c.args.variable (get_or c.args.listed.now c.loop-requirement.requirement-index (Single (record { 0 = 0 })))
-    c.args.witnesses.now c.loop-requirement.witnesses c.settle_requirement.new.witnesses c.loop-requirement.invariant.new
-    (c.is_witness.ensures.0 c.if-is_witness.true) c.settle_requirement.ensures.new
+pub returns-in_err-settle_if_witness-clause-looks : goal.returns-in_err-settle_if_witness-clause-looks
+returns-in_err-settle_if_witness-clause-looks g c = looks_both c.args.variable c.loop-requirement.invariant.looks c.settle_if_witness.ensures.looks
 
 pub loop-requirement-preserved : goal.loop-requirement-preserved
-loop-requirement-preserved g c =
-    let nothing = Single (record { 0 = 0 }) in
-    elim c.if-is_witness.branch [
-      | then-is_witness+in_ok-settle_requirement w ↦
-          rw w.witnesses-is (record {
-            better = better_both c.args.reader.now.lists (values_in c.args.map.now) c.args.witnesses.now c.loop-requirement.witnesses w.settle_requirement.new.witnesses
-                c.loop-requirement.invariant.better w.settle_requirement.ensures.better;
-            owed = owed_both c.args.reader.now.lists (values_in c.args.map.now) c.args.witnesses.now c.loop-requirement.witnesses w.settle_requirement.new.witnesses
-                c.loop-requirement.invariant.owed w.settle_requirement.ensures.owed;
-            new = looked_new c.args.reader.now.lists (values_in c.args.map.now) c.args.variable (get_or c.args.listed.now c.loop-requirement.requirement-index nothing)
-                c.args.witnesses.now c.loop-requirement.witnesses w.settle_requirement.new.witnesses c.loop-requirement.invariant.new
-                (c.is_witness.ensures.0 w.if-is_witness.true) w.settle_requirement.ensures.new;
-            settled = looked_settled c.args.reader.now.lists (values_in c.args.map.now) c.args.variable c.args.listed.now c.loop-requirement.requirement-index nothing
-                c.loop-requirement-test.true c.args.witnesses.now c.loop-requirement.witnesses c.loop-requirement.invariant.settled
-                w.settle_requirement.new.witnesses w.settle_requirement.ensures.better w.in_ok-settle_requirement.ensures.ok;
-          })
-      | else-is_witness w ↦
-          rw w.witnesses-is (record {
-            better = c.loop-requirement.invariant.better;
-            owed = c.loop-requirement.invariant.owed;
-            new = c.loop-requirement.invariant.new;
-            settled = passed_settled c.args.reader.now.lists (values_in c.args.map.now) c.args.variable c.args.listed.now c.loop-requirement.requirement-index nothing
-                c.loop-requirement-test.true c.args.witnesses.now c.loop-requirement.witnesses c.loop-requirement.invariant.settled
-                c.loop-requirement.invariant.better (λ e. (let bad : true ≡ false = sym (c.is_witness.ensures.1 e) ∙ w.if-is_witness.false in cc));
-          })
-    ]
+loop-requirement-preserved g c = record {
+  looks = looks_both c.args.variable c.loop-requirement.invariant.looks c.settle_if_witness.ensures.looks;
+  settled = next_requirement (basis c.args.settling.now) c.args.variable c.listing-requirement-items.result.now c.loop-requirement.requirement-index (Single (record { 0 = 0 }))
+      c.loop-requirement-test.true c.args.witnesses.now c.loop-requirement.witnesses c.settle_if_witness.new.witnesses
+      c.loop-requirement.invariant.looks.better c.settle_if_witness.ensures.looks.better c.loop-requirement.invariant.settled c.in_ok-settle_if_witness.ensures.ok;
+}
+
+pub returns-clause-ok : goal.returns-clause-ok
+returns-clause-ok g c = λ r is. c.loop-requirement.invariant.settled r
+    (subst (Stands r)
+    (sym (take_all c.loop-requirement.requirement-index c.listing-requirement-items.result.now c.loop-requirement-test.false ∙ c.listing-requirement-items.ensures))
+    (witness_listed (basis c.args.settling.now) c.args.occurrences.now c.requires.listed c.args.witnesses.now c.requires.candidates c.args.variable r is)) is

@@ -1,39 +1,32 @@
 use Rattle.std.proofs.Common.{◌∙◌, ◌+◌, ◌≤◌, inl, map, sym, ap, refl, subst}
 use Rattle.decisions.specs.Decisions.{values_in}
 use Rattle.resolvo_queue.specs.Inspection.{clause_of}
-use Rattle.resolvo_queue.specs.Listing.{IsListedWell}
 use Rattle.resolvo_queue.specs.Queue.{IsSynced, Queue, StandsOn, queue_of}
 use Rattle.resolvo_queue.specs.References.{references}
 use Rattle.resolvo_queue.specs.Occurrences.{times}
-use Rattle.resolvo_queue.specs.Synced.{FindsConditions}
+use Rattle.resolvo_queue.specs.Settling.{AreFound, CanSettle, basis_of}
+use Rattle.resolvo_queue.specs.Tracking.{IsInOrder}
 use Rattle.resolvo_queue.specs.WalkCounts.{looks}
-use Rattle.resolvo_queue.specs.Witnesses.{AreCandidates, HaveEntries, NoneFalsified, literals_by}
+use Rattle.resolvo_queue.specs.Witnesses.{NoneFalsified, literals_by}
 use Rattle.resolvo_queue.proofs.AfterLaws.{kept_still, only_lists, order_listed, stands_listed}
-use Rattle.resolvo_queue.proofs.FindingLaws.{finds_after}
+use Rattle.resolvo_queue.proofs.FindingLaws.{basis_at, finds_after}
 use Rattle.resolvo_queue.proofs.SettleLaws.{looks_once}
 use Rattle.resolvo_queue.proofs.decide_queue.DecideQueue.settle.Goals as goal
 
-pub settle-requires-clause-entries : goal.settle-requires-clause-entries
-settle-requires-clause-entries g c = subst (λ (q : Queue g.row.D-NameId.Denot g.row.D-NameId-Set.Denot). HaveEntries c.args.reader.now.lists c.args.disjunctions.now q.inside.clauses) (sym c.self.view_is) c.requires.entries
+pub settle-requires-clause-can : goal.settle-requires-clause-can
+settle-requires-clause-can g c =
+    subst (λ (q : Queue g.row.D-NameId.Denot g.row.D-NameId-Set.Denot). CanSettle (basis_at c.args.reader.now.lists c.args.disjunctions.now q (values_in c.args.map.now))) (sym c.self.view_is)
+    (record { entries = c.requires.entries; none_falsified = c.requires.none_falsified })
 
-pub settle-requires-clause-order : goal.settle-requires-clause-order
-settle-requires-clause-order g c = c.self.invariant.0.order
-
-pub settle-requires-clause-conditions : goal.settle-requires-clause-conditions
-settle-requires-clause-conditions g c =
-    subst (λ (q : Queue g.row.D-NameId.Denot g.row.D-NameId-Set.Denot). FindsConditions q.inside.clauses (literals_by c.args.disjunctions.now) q.inside.by_condition) (sym c.self.view_is) c.requires.conditions
-
-pub settle-requires-clause-listed : goal.settle-requires-clause-listed
-settle-requires-clause-listed g c =
-    subst (λ (q : Queue g.row.D-NameId.Denot g.row.D-NameId-Set.Denot). IsListedWell c.args.reader.now.lists q.inside.occurrences q.inside.requirements) (sym c.self.view_is) c.requires.listed
-
-pub settle-requires-clause-candidates : goal.settle-requires-clause-candidates
-settle-requires-clause-candidates g c =
-    subst (λ (q : Queue g.row.D-NameId.Denot g.row.D-NameId-Set.Denot). AreCandidates c.args.reader.now.lists q.inside.occurrences q.witnesses.of) (sym c.self.view_is) c.requires.candidates
-
-pub settle-requires-clause-none_falsified : goal.settle-requires-clause-none_falsified
-settle-requires-clause-none_falsified g c =
-    subst (λ (q : Queue g.row.D-NameId.Denot g.row.D-NameId-Set.Denot). NoneFalsified c.args.reader.now.lists q.inside.clauses (literals_by c.args.disjunctions.now) (values_in c.args.map.now)) (sym c.self.view_is) c.requires.none_falsified
+pub settle-requires-clause-found : goal.settle-requires-clause-found
+settle-requires-clause-found g c =
+    subst (λ (q : Queue g.row.D-NameId.Denot g.row.D-NameId-Set.Denot). AreFound (basis_at c.args.reader.now.lists c.args.disjunctions.now q (values_in c.args.map.now)) q.inside.occurrences q.witnesses.of)
+    (sym c.self.view_is) (record {
+      parents = (subst (λ (q : Queue g.row.D-NameId.Denot g.row.D-NameId-Set.Denot). IsInOrder q.inside) c.self.view_is c.self.invariant.0.order).parents;
+      conditions = c.requires.conditions;
+      listed = (_, c.requires.listed);
+      witnesses = c.requires.candidates;
+    })
 
 pub invariant_of-self : goal.invariant_of-self
 invariant_of-self g c =
@@ -64,9 +57,9 @@ returns-clause-stands g c =
     stands_listed refs before after stands (only_lists inside.tracked c.settle.new.self same.0 same.1 same.2) (ap (λ ix. map clause_of ix.clauses.items) same.0)
     (ap (λ t. t.items) same.4) refl same.5 (c.settle.ensures.settles.listed before.inside.requirements stands.listed)
     (finds_after refs before after stands.falsified val synced_before.trail c.settle.ensures.settles (ap (λ ix. ix.clauses.items) same.0) (ap (λ t. t.items) same.4) same.5 none
-    c.settle.result c.settle.ensures.looked c.settle.ensures.settled c.settle.ensures.new_settled c.settle.ensures.err))
+    c.settle.result c.settle.ensures.looked c.settle.ensures.settled c.settle.ensures.came c.settle.ensures.err))
 
 pub returns-clause-looks : goal.returns-clause-looks
 returns-clause-looks g c = λ r.
     subst (λ (q : Queue g.row.D-NameId.Denot g.row.D-NameId-Set.Denot). times c.settle.new.witnesses.of.looks r ≤ looks q r + 1) c.self.view_is
-    (looks_once c.args.reader.now.lists (values_in c.args.map.now) c.self.inside.witnesses.of c.settle.new.witnesses.of c.settle.ensures.settles.owed r)
+    (looks_once (basis_of c.args.reader.now.lists c.args.disjunctions.now c.self.inside.tracked.index (values_in c.args.map.now)) c.self.inside.witnesses.of c.settle.new.witnesses.of c.settle.ensures.settles.owed r)

@@ -1,7 +1,7 @@
 use Rattle.std.proofs.Common.{drop, ◌++◌, ap, subst, ◌∙◌}
 use Rattle.decisions.specs.Decisions.{values_in}
 use Rattle.resolvo_queue.specs.Occurrences.{listing}
-use Rattle.resolvo_queue.specs.Routing.{Routes, Unrouted, variables_of}
+use Rattle.resolvo_queue.specs.Routing.{Routes, Unrouted, variables_of, ways_of}
 use Rattle.resolvo_queue.specs.Trails.{decided_value}
 use Rattle.resolvo_queue.proofs.RoutingLaws.{always_ok, routes_both, take_rest, unrouted_along, unrouted_more, in_first, in_second}
 use Rattle.resolvo_queue.proofs.SyncedLaws.{changes_sync}
@@ -9,21 +9,19 @@ use Rattle.resolvo_queue.proofs.tracked_clauses.TrackedClauses.route_changes.Goa
 
 pub returns-clause-synced : goal.returns-clause-synced
 returns-clause-synced g c =
-    let ix = c.args.self.now.index in
-    let now = values_in c.args.map.now in
-    let lists = listing c.args.self.now.occurrences in
+    let w = ways_of c.args.self.now.index c.args.self.now.occurrences (values_in c.args.map.now) in
     let before = drop c.args.floor c.args.self.now.trail.items in
     let new = drop c.args.floor c.args.trail.now in
-    let first : Routes ix.clauses.items now ix.by_parent ix.by_condition lists (variables_of before) c.args.self.now.requirements c.route_all.new.requirements c.args.self.now.queued c.route_all.new.queued =
-    subst (λ ds. Routes ix.clauses.items now ix.by_parent ix.by_condition lists (variables_of ds) c.args.self.now.requirements c.route_all.new.requirements c.args.self.now.queued c.route_all.new.queued)
+    let first : Routes w (variables_of before) c.args.self.now.requirements c.route_all.new.requirements c.args.self.now.queued c.route_all.new.queued =
+    subst (λ ds. Routes w (variables_of ds) c.args.self.now.requirements c.route_all.new.requirements c.args.self.now.queued c.route_all.new.queued)
     (take_rest c.args.floor c.deref.result.now ∙ ap (drop c.args.floor) c.deref.ensures.value) c.in_ok-route_all.ensures.ok in
-    let second : Routes ix.clauses.items now ix.by_parent ix.by_condition lists (variables_of new) c.route_all.new.requirements c.route_all-2.new.requirements c.route_all.new.queued c.route_all-2.new.queued =
-    subst (λ ds. Routes ix.clauses.items now ix.by_parent ix.by_condition lists (variables_of ds) c.route_all.new.requirements c.route_all-2.new.requirements c.route_all.new.queued c.route_all-2.new.queued)
+    let second : Routes w (variables_of new) c.route_all.new.requirements c.route_all-2.new.requirements c.route_all.new.queued c.route_all-2.new.queued =
+    subst (λ ds. Routes w (variables_of ds) c.route_all.new.requirements c.route_all-2.new.requirements c.route_all.new.queued c.route_all-2.new.queued)
     (take_rest c.args.floor c.args.trail.now) c.in_ok-route_all-2.ensures.ok in
     always_ok _ c.copy_behind.result
-    (changes_sync ix.clauses.items ix.by_parent ix.by_condition lists (decided_value c.args.self.now.trail.items) now (variables_of before ++ variables_of new)
+    (changes_sync w (decided_value c.args.self.now.trail.items) (variables_of before ++ variables_of new)
     c.args.self.now.requirements c.route_all-2.new.requirements c.args.self.now.queued c.route_all-2.new.queued
-    (routes_both ix.clauses.items now ix.by_parent ix.by_condition lists (variables_of before) (variables_of new) c.args.self.now.requirements c.route_all.new.requirements c.route_all-2.new.requirements
+    (routes_both w (variables_of before) (variables_of new) c.args.self.now.requirements c.route_all.new.requirements c.route_all-2.new.requirements
     c.args.self.now.queued c.route_all.new.queued c.route_all-2.new.queued first second))
 
 pub returns-in_err-route_all-clause-others : goal.returns-in_err-route_all-clause-others
