@@ -1,5 +1,5 @@
 -- What forgetting and routing leave.
-use Rattle.std.proofs.Common.{◌≡◌, ◌≢◌, ℕ, zero, suc, ◌+◌, ◌-◌, ◌<◌, drop, take_all, take-append-drop, length-drop, Bool, true, false, eqb, eqb-true, eq-eqb, ◌⊎◌, inl, inr, List, [], ◌∷◌, ◌++◌, take, length, get_or, Option, Some, None, option_map, map, slice_get, Result, Ok, Err, OnOk, sym, ap, refl, ◌∙◌, subst, arith}
+use Rattle.std.proofs.Common.{◌≡◌, ◌≢◌, ℕ, zero, suc, ◌+◌, ◌-◌, ◌<◌, drop, drop-length, take_all, take-append-drop, length-drop, Bool, true, false, eqb, eqb-true, eq-eqb, ◌⊎◌, inl, inr, List, [], ◌∷◌, ◌++◌, take, length, get_or, Option, Some, None, option_map, map, slice_get, Result, Ok, Err, OnOk, sym, ap, refl, ◌∙◌, subst, arith}
 use Rattle.std.proofs.lemmas.List.{take_more, map-append}
 use Rattle.decisions.specs.declared.decision.Decision.{Decision}
 use Rattle.providers.specs.Requirement.{same_requirement}
@@ -265,6 +265,14 @@ always_ok P (Err e) p = tt
 
 pub take_rest : {X : Type 0} (n : ℕ) (xs : List X) → take (length xs - n) (drop n xs) ≡ drop n xs
 take_rest n xs = take_all (length xs - n) (drop n xs) (let e : length (drop n xs) ≡ length xs - n = length-drop n xs in omega arith)
+
+pub none_from : {X : Type 0} (n : ℕ) (xs : List X) → n ≡ length xs → drop n xs ≡ []
+none_from n xs e = ap (λ m. drop m xs) e ∙ drop-length xs
+
+-- what ends where another list does stays
+pub whole_at : {X : Type 0} (n : ℕ) (xs ys : List X) → n ≡ length xs → n ≡ length ys → xs ≡ take n xs ++ drop n ys
+whole_at n xs ys e f =
+    sym (ap (λ zs. take n xs ++ zs) (none_from n ys f ∙ sym (none_from n xs e)) ∙ take-append-drop n xs)
 
 pub on_ok_at : {T E V : Type 0} (P : V → Type 0) (res : Result T E) (v : V) → OnOk res ((x : V) → P x) → OnOk res (P v)
 on_ok_at P (Ok x) v h = h v

@@ -1,5 +1,5 @@
 //! Bringing a queue up to date with a trail.
-ghost use Rattle.std.specs.Prelude.{◌≡◌, ℕ, List, ◌≤◌, ◌++◌, true, false, length, take, drop, map, OnOk, OnErr, IfErr};
+ghost use Rattle.std.specs.Prelude.{◌≡◌, ℕ, List, ◌≤◌, ◌++◌, ◌↔◌, true, false, length, take, drop, map, IsTrue, OnOk, OnErr, IfErr};
 ghost use Rattle.typed_ids.specs.declared.error.StoreError.TheVariants.{OutOfMemory};
 ghost use Rattle.decisions.specs.Decisions.{values_in};
 ghost use Rattle.resolvo_queue.specs.Occurrences.{listing};
@@ -33,6 +33,13 @@ fn copy_behind<A: Allocator>(
 }
 
 impl<A: Allocator + Copy> TrackedClauses<A> {
+    /// Whether the trail of the last sync ends at the floor, and so does this one.
+    fn is_whole_at(&self, floor: usize, trail: &[Decision]) -> bool
+        ensures { IsTrue result ↔ ((floor ≡ length self.now.trail.items) × (floor ≡ length trail.now)) }
+    {
+        floor == self.trail.len() && floor == trail.len()
+    }
+
     /// Routes what has changed since the last sync: the variables of the entries that were taken back, and of those that
     /// are new. One that was both pushed and taken back in between has no effect. Where nothing has changed, nothing is done.
     fn route_changes(
@@ -54,7 +61,7 @@ impl<A: Allocator + Copy> TrackedClauses<A> {
         ensures trail { OnOk result (self.new.trail.items ≡ take floor self.old.trail.items ++ drop floor trail.now) }
         ensures memory { IfErr result (λ e. e ≡ OutOfMemory) }
     {
-if floor == self.trail.len() && floor == trail.len() {
+        if self.is_whole_at(floor, trail) {
             return Ok(());
         }
         let routing = Routing {

@@ -31,7 +31,7 @@ returns-in-Some-2-clause-picked g c =
     c.in-Some.position c.in-Some.ensures.none c.in-Some.ensures.least
     c.candidate_at.result
     (λ d s. let looked : slice_get c.loop-position.tracked.index.clauses.items c.in-Some.position.number ≡ Some d =
-        subst (λ ix. slice_get ix.clauses.items c.in-Some.position.number ≡ Some d) (sym c.loop-position.invariant.walks.index) s in
+    subst (λ ix. slice_get ix.clauses.items c.in-Some.position.number ≡ Some d) (sym c.loop-position.invariant.walks.index) s in
     offer_found (clause_literals refs) (rows_in refs) val score c.in_ok-frontier.field-0 c.in-Some-2.frontier c.candidate_at.result.offer d c.in-Some-2.is
     (c.in_ok-frontier.ensures.frontier d looked
     ∙ ap (λ ls. eligible_frontier val (clause_literals refs) (loaded_rows (g.I.Interner.universe c.args.question.now.interner.now) ls) d) c.loop-position.invariant.walks.lists)

@@ -1,11 +1,30 @@
-use Rattle.std.proofs.Common.{drop, ◌++◌, ap, subst, ◌∙◌}
+use Rattle.std.proofs.Common.{◌≡◌, ℕ, List, [], drop, ◌++◌, false, ap, sym, subst, ◌∙◌}
 use Rattle.decisions.specs.Decisions.{values_in}
 use Rattle.resolvo_queue.specs.Occurrences.{listing}
 use Rattle.resolvo_queue.specs.Routing.{Routes, Unrouted, variables_of, ways_of}
+use Rattle.resolvo_queue.specs.Synced.{SyncsTo}
 use Rattle.resolvo_queue.specs.Trails.{decided_value}
-use Rattle.resolvo_queue.proofs.RoutingLaws.{always_ok, routes_both, take_rest, unrouted_along, unrouted_more, in_first, in_second}
+use Rattle.resolvo_queue.proofs.RoutingLaws.{always_ok, none_from, routes_both, routes_none, take_rest, whole_at, unrouted_along, unrouted_more, in_first, in_second}
 use Rattle.resolvo_queue.proofs.SyncedLaws.{changes_sync}
 use Rattle.resolvo_queue.proofs.tracked_clauses.TrackedClauses.route_changes.Goals as goal
+
+pub returns-then-is_whole_at-clause-synced : goal.returns-then-is_whole_at-clause-synced
+returns-then-is_whole_at-clause-synced g c =
+    let w = ways_of c.args.self.now.index c.args.self.now.occurrences (values_in c.args.map.now) in
+    let before = c.args.self.now.trail.items in
+    let ends = c.is_whole_at.ensures.0 c.if-is_whole_at.true in
+    let none : ◌≡◌ {A = List ℕ} [] (variables_of (drop c.args.floor before) ++ variables_of (drop c.args.floor c.args.trail.now)) =
+        sym (ap (λ ds. variables_of ds ++ variables_of (drop c.args.floor c.args.trail.now)) (none_from c.args.floor before ends.0)
+        ∙ ap variables_of (none_from c.args.floor c.args.trail.now ends.1)) in
+    subst (λ vs. SyncsTo w.clauses w.by_parent w.by_condition w.requirements false (decided_value before) w.val vs
+    c.args.self.now.requirements c.args.self.now.requirements c.args.self.now.queued c.args.self.now.queued) none
+    (changes_sync w (decided_value before) [] c.args.self.now.requirements c.args.self.now.requirements c.args.self.now.queued c.args.self.now.queued
+    (routes_none w c.args.self.now.requirements c.args.self.now.queued))
+
+pub returns-then-is_whole_at-clause-trail : goal.returns-then-is_whole_at-clause-trail
+returns-then-is_whole_at-clause-trail g c =
+    let ends = c.is_whole_at.ensures.0 c.if-is_whole_at.true in
+    whole_at c.args.floor c.args.self.now.trail.items c.args.trail.now ends.0 ends.1
 
 pub returns-clause-synced : goal.returns-clause-synced
 returns-clause-synced g c =
