@@ -1,5 +1,6 @@
 //! Clauses found by the names of their packages.
-ghost use Rattle.std.specs.Prelude.{◌≡◌, ◌↔◌, ◌-◌, true, [], Ok, Some, None, length, slice_get, IsTrue, OnOk, IfOk, IfErr};
+ghost use Rattle.std.specs.Prelude.{◌≡◌, ◌↔◌, ◌-◌, true, [], Ok, Some, None, length, slice_get, IsTrue, OnOk, IfOk};
+ghost use Rattle.std.specs.Prelude.{IfErr};
 ghost use Rattle.typed_ids.specs.declared.error.StoreError.TheVariants.{OutOfMemory};
 ghost use Rattle.typed_ids.specs.TotalMaps.{SameValues};
 ghost use Rattle.resolvo_queue.specs.ByName.{IsEntered, KeepsNumbers, numbers_under};
@@ -54,7 +55,8 @@ impl<N: SolverId<A>, A: Allocator + Copy> ClausesByName<N, A> {
     /// Puts a number under each of some names: one look-up for each. Refused, it may stand under some of them.
     pub(crate) fn enter(&mut self, names: &[N], number: u32) -> Result<(), StoreError>
         ensures kept { KeepsNumbers (numbers_under N.Slots.value_at self.old) (numbers_under N.Slots.value_at self.new) }
-        ensures entered { OnOk result ((name : N) → Stands name names.now → IsEntered N.Slots.is_too_large (numbers_under N.Slots.value_at self.new) number name) }
+        ensures entered { OnOk result ((name : N) → Stands name names.now →
+            IsEntered N.Slots.is_too_large (numbers_under N.Slots.value_at self.new) number name) }
         ensures memory { IfErr result (λ e. e ≡ OutOfMemory) }
     {
         for name in names {
@@ -66,7 +68,8 @@ impl<N: SolverId<A>, A: Allocator + Copy> ClausesByName<N, A> {
     /// Puts a number under a name, unless it is the last there: a clause may have a name more than once.
     fn put(&mut self, name: N, number: u32) -> Result<(), StoreError>
         ensures kept { KeepsNumbers (numbers_under N.Slots.value_at self.old) (numbers_under N.Slots.value_at self.new) }
-        ensures entered { OnOk result (IsEntered N.Slots.is_too_large (numbers_under N.Slots.value_at self.new) number name) }
+        ensures entered { OnOk result (IsEntered N.Slots.is_too_large (numbers_under N.Slots.value_at self.new) number
+            name) }
         ensures memory { IfErr result (λ e. e ≡ OutOfMemory) }
     {
         let place = match self.reach(name)? {

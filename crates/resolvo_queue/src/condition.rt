@@ -32,7 +32,8 @@ pub(crate) fn is_met<A: Allocator + Copy>(
     map: &DecisionMap<A>,
 ) -> bool
     requires { IfSome condition (λ d. d < length disjunctions.now) }
-    ensures { result ≡ are_literals_false (values_in map.now) (condition_literals (kept_in [] [] disjunctions.now) condition) }
+    ensures { result ≡ are_literals_false (values_in map.now)
+        (condition_literals (kept_in [] [] disjunctions.now) condition) }
 {
     are_false(condition_of(&condition, disjunctions), map)
 }

@@ -13,9 +13,11 @@ impl<A: Allocator + Copy> TrackedClauses<A> {
     /// Makes the numbered clauses hot. Refused, some of them may be, which harms nothing.
     pub(crate) fn heat_clauses(&mut self, numbers: &[u32]) -> Result<(), StoreError>
         ensures heats { Heats (tracking_of self.old) (tracking_of self.new) }
-        ensures hot { OnOk result ((n : ℕ) (c : ATrackedClause) → Stands n numbers.now → slice_get self.new.index.clauses.items n ≡ Some c → c.is_hot ≡ true) }
+        ensures hot { OnOk result ((n : ℕ) (c : ATrackedClause) → Stands n numbers.now →
+            slice_get self.new.index.clauses.items n ≡ Some c → c.is_hot ≡ true) }
         ensures none { numbers.now ≡ [] → IsOk result }
-        ensures same { (self.new.only_hot ≡ self.old.only_hot) × (self.new.trail ≡ self.old.trail) × (self.new.must_start_anew ≡ self.old.must_start_anew) }
+        ensures same { (self.new.only_hot ≡ self.old.only_hot) × (self.new.trail ≡ self.old.trail)
+            × (self.new.must_start_anew ≡ self.old.must_start_anew) }
         ensures memory { IfErr result (λ e. e ≡ OutOfMemory) }
     {
         for number in numbers {
@@ -27,8 +29,10 @@ impl<A: Allocator + Copy> TrackedClauses<A> {
     /// Makes the clause with a number hot. A number past the end stands for no clause.
     fn heat_number(&mut self, number: u32) -> Result<(), StoreError>
         ensures heats { Heats (tracking_of self.old) (tracking_of self.new) }
-        ensures hot { OnOk result ((c : ATrackedClause) → slice_get self.new.index.clauses.items number ≡ Some c → c.is_hot ≡ true) }
-        ensures same { (self.new.only_hot ≡ self.old.only_hot) × (self.new.trail ≡ self.old.trail) × (self.new.must_start_anew ≡ self.old.must_start_anew) }
+        ensures hot { OnOk result ((c : ATrackedClause) → slice_get self.new.index.clauses.items number ≡ Some c →
+            c.is_hot ≡ true) }
+        ensures same { (self.new.only_hot ≡ self.old.only_hot) × (self.new.trail ≡ self.old.trail)
+            × (self.new.must_start_anew ≡ self.old.must_start_anew) }
         ensures memory { IfErr result (λ e. e ≡ OutOfMemory) }
     {
         let place = number as usize;

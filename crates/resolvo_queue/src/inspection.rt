@@ -56,14 +56,17 @@ fn requirement_frontier<I: Interner>(
     requires place { IsPlaceOf requirements.old clause.now.required clause.now.requirement }
     requires walkable { IsWalkable (I.universe question.now.interner.now) reader.old.lists clause.now.required }
     requires listed { IsListedWell reader.old.lists occurrences.old requirements.old }
-    requires right { let rows = loaded_rows (I.universe question.now.interner.now) reader.old.lists clause.now.required in
+    requires right { let universe = I.universe question.now.interner.now in
+        let rows = loaded_rows universe reader.old.lists clause.now.required in
         (f : _) → known_at requirements.old clause.now.requirement ≡ Some f →
         f ≡ frontier (values_in question.now.map.now) rows }
-    ensures frontier { let rows = loaded_rows (I.universe question.now.interner.now) reader.old.lists clause.now.required in
+    ensures frontier { let universe = I.universe question.now.interner.now in
+        let rows = loaded_rows universe reader.old.lists clause.now.required in
         IfOk result (λ f. f ≡ frontier (values_in question.now.map.now) rows) }
     ensures known { IfOk result (λ f. known_at requirements.new clause.now.requirement ≡ Some f) }
     ensures once { WalksOnce requirements.old requirements.new reader.old.walked reader.new.walked }
-    ensures learns { let rows = loaded_rows (I.universe question.now.interner.now) reader.old.lists clause.now.required in
+    ensures learns { let universe = I.universe question.now.interner.now in
+        let rows = loaded_rows universe reader.old.lists clause.now.required in
         Learns clause.now.required clause.now.requirement (frontier (values_in question.now.map.now) rows)
         requirements.old requirements.new reader.old.walked reader.new.walked }
     ensures rows { reader.new.lists ≡ reader.old.lists }
@@ -96,7 +99,8 @@ pub(crate) fn inspect<I: Interner>(
     requires condition { IfSome clause.now.condition (λ d. d < length question.now.disjunctions.now) }
     requires walkable { IsWalkable (I.universe question.now.interner.now) reader.old.lists clause.now.required }
     requires listed { IsListedWell reader.old.lists occurrences.old requirements.old }
-    requires right { let rows = loaded_rows (I.universe question.now.interner.now) reader.old.lists clause.now.required in
+    requires right { let universe = I.universe question.now.interner.now in
+        let rows = loaded_rows universe reader.old.lists clause.now.required in
         (f : _) → known_at requirements.old clause.now.requirement ≡ Some f →
         f ≡ frontier (values_in question.now.map.now) rows }
     ensures eligible { let refs = references (I.universe question.now.interner.now)
@@ -109,7 +113,8 @@ pub(crate) fn inspect<I: Interner>(
         let val = values_in question.now.map.now in
         IfOk result (λ f. may_be val (clause_literals refs) requirements.new clause.now ≡ is_some f) }
     ensures once { WalksOnce requirements.old requirements.new reader.old.walked reader.new.walked }
-    ensures learns { let rows = loaded_rows (I.universe question.now.interner.now) reader.old.lists clause.now.required in
+    ensures learns { let universe = I.universe question.now.interner.now in
+        let rows = loaded_rows universe reader.old.lists clause.now.required in
         Learns clause.now.required clause.now.requirement (frontier (values_in question.now.map.now) rows)
         requirements.old requirements.new reader.old.walked reader.new.walked }
     ensures rows { reader.new.lists ≡ reader.old.lists }

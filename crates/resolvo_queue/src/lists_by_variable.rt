@@ -44,7 +44,8 @@ impl<T: Copy + Drop, A: Allocator + Copy> ListsByVariable<T, A> {
 
     /// Puts an item at the end of the variable's list.
     pub(crate) fn push(&mut self, variable: VariableId, item: T) -> Result<(), StoreError>
-        ensures ok { OnOk result (IsUpdate (list_at self.old) variable (list_at self.old variable ++ item ∷ []) (list_at self.new)) }
+        ensures ok { OnOk result (IsUpdate (list_at self.old) variable (list_at self.old variable ++ item ∷ [])
+            (list_at self.new)) }
         ensures err { OnErr result (SameValues (list_at self.old) (list_at self.new)) }
         ensures memory { IfErr result (λ e. e ≡ OutOfMemory) }
     {
@@ -62,7 +63,8 @@ fn reach<T: Drop, A: Allocator + Copy>(
     lists: &mut Vec<Vec<T, A>, A>,
     index: usize,
 ) -> Result<(), StoreError>
-    ensures same { SameValues (list_at (map (λ list. list.items) lists.old.items)) (list_at (map (λ list. list.items) lists.new.items)) }
+    ensures same { SameValues (list_at (map (λ list. list.items) lists.old.items))
+        (list_at (map (λ list. list.items) lists.new.items)) }
     ensures reached { OnOk result (index < vec_len lists.new) }
     ensures memory { IfErr result (λ e. e ≡ OutOfMemory) }
 {

@@ -23,8 +23,8 @@ impl Offer {
         self.clause.parent.is_root()
     }
 
-    /// Whether it replaces the best so far: it has a higher score and fewer candidates. No clause of another parent replaces
-    /// one of the root.
+    /// Whether it replaces the best so far: it has a higher score and fewer candidates. No clause of another parent
+    /// replaces one of the root.
     pub(crate) fn beats(&self, best: &Offer) -> bool
         ensures { result ≡ beats self.now best.now }
     {

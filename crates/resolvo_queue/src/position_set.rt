@@ -1,5 +1,6 @@
 //! Sets of positions, in the order of the scan.
-ghost use Rattle.std.specs.Prelude.{◌≡◌, ◌<◌, false, true, length, if◌then◌else◌, Some, None, MatchOption, IfSome, OnOk, OnErr, IfErr};
+ghost use Rattle.std.specs.Prelude.{◌≡◌, ◌<◌, false, true, length, if◌then◌else◌, Some, None, MatchOption, IfSome};
+ghost use Rattle.std.specs.Prelude.{OnOk, OnErr, IfErr};
 ghost use Rattle.typed_ids.specs.declared.error.StoreError.TheVariants.{OutOfMemory};
 
 use crate::position::Position;
@@ -47,7 +48,8 @@ impl<A: Allocator + Copy> PositionSet<A> {
 
     /// Adds a position. One that is there already takes no memory.
     pub(crate) fn insert(&mut self, position: Position) -> Result<(), StoreError>
-        ensures ok { OnOk result ((p : Position) → has self.new p ≡ (if same_position position p then true else has self.old p)) }
+        ensures ok { OnOk result ((p : Position) →
+            has self.new p ≡ (if same_position position p then true else has self.old p)) }
         ensures err { OnErr result ((p : Position) → has self.new p ≡ has self.old p) }
         ensures memory { IfErr result (λ e. e ≡ OutOfMemory) }
     {
@@ -95,9 +97,11 @@ impl<A: Allocator + Copy> PositionSet<A> {
 
     /// The first position behind another one.
     pub(crate) fn first_behind(&self, position: Position) -> Option<Position>
-        ensures none { MatchOption result ((p : Position) → IsBefore position p → has self.now p ≡ false) (λ f. has self.now f ≡ true) }
+        ensures none { MatchOption result ((p : Position) → IsBefore position p → has self.now p ≡ false)
+            (λ f. has self.now f ≡ true) }
         ensures behind { IfSome result (λ f. IsBefore position f) }
-        ensures least { IfSome result (λ f. (p : Position) → has self.now p ≡ true → IsBefore position p → is_after f p ≡ false) }
+        ensures least { IfSome result (λ f. (p : Position) → has self.now p ≡ true → IsBefore position p →
+            is_after f p ≡ false) }
     {
         let mut behind = self
             .positions

@@ -1,5 +1,6 @@
 //! The clauses that may be eligible, and those of them that may replace a first eligible one.
-ghost use Rattle.std.specs.Prelude.{◌≡◌, ◌<◌, true, false, if◌then◌else◌, length, All, IfSome, MatchOption, OnOk, OnErr, IfErr};
+ghost use Rattle.std.specs.Prelude.{◌≡◌, ◌<◌, true, false, if◌then◌else◌, length, All, IfSome, MatchOption, OnOk};
+ghost use Rattle.std.specs.Prelude.{OnErr, IfErr};
 ghost use Rattle.typed_ids.specs.declared.error.StoreError.TheVariants.{OutOfMemory};
 ghost use Rattle.decisions.specs.Decisions.{values_in};
 
@@ -12,7 +13,8 @@ use std::alloc::Allocator;
 use std::marker::Model;
 use typed_ids::StoreError;
 
-/// Positions of clauses: of each that may be eligible, and again of each of those that is hot. More may stand in either.
+/// Positions of clauses: of each that may be eligible, and again of each of those that is hot. More may stand in
+/// either.
 #[derive(Drop)]
 pub(crate) struct QueuedClauses<A: Allocator + Copy> {
     all: PositionSet<A>,
@@ -69,7 +71,8 @@ impl<A: Allocator + Copy> QueuedClauses<A> {
     pub(crate) fn first_of(&self, group: Group) -> Option<Position>
         ensures none { MatchOption result ((p : Position) → has_of group self.now.all p ≡ false)
             (λ f. has_of group self.now.all f ≡ true) }
-        ensures least { IfSome result (λ f. (p : Position) → has_of group self.now.all p ≡ true → is_after f p ≡ false) }
+        ensures least { IfSome result (λ f. (p : Position) → has_of group self.now.all p ≡ true →
+            is_after f p ≡ false) }
     {
         let start = group.start();
         match self.all.first() {
@@ -82,7 +85,8 @@ impl<A: Allocator + Copy> QueuedClauses<A> {
     fn search(&self, group: Group) -> Option<Position>
         ensures none { MatchOption result ((p : Position) → has_of group self.now.all p ≡ false)
             (λ f. has_of group self.now.all f ≡ true) }
-        ensures least { IfSome result (λ f. (p : Position) → has_of group self.now.all p ≡ true → is_after f p ≡ false) }
+        ensures least { IfSome result (λ f. (p : Position) → has_of group self.now.all p ≡ true →
+            is_after f p ≡ false) }
     {
         group.only(self.all.first_from(group.start()))
     }
@@ -96,10 +100,12 @@ impl<A: Allocator + Copy> QueuedClauses<A> {
     ) -> Option<Position>
         requires of { is_in group position ≡ true }
         ensures none { let set = set_of only_hot self.now in
-            MatchOption result ((p : Position) → IsBefore position p → has_of group set p ≡ false) (λ f. has_of group set f ≡ true) }
+            MatchOption result ((p : Position) → IsBefore position p → has_of group set p ≡ false)
+            (λ f. has_of group set f ≡ true) }
         ensures behind { IfSome result (λ f. IsBefore position f) }
         ensures least { let set = set_of only_hot self.now in
-            IfSome result (λ f. (p : Position) → has_of group set p ≡ true → IsBefore position p → is_after f p ≡ false) }
+            IfSome result (λ f. (p : Position) → has_of group set p ≡ true → IsBefore position p →
+            is_after f p ≡ false) }
     {
         if only_hot {
             group.only(self.hot.first_behind(position))
@@ -111,7 +117,8 @@ impl<A: Allocator + Copy> QueuedClauses<A> {
     /// Makes a clause hot: it stands among the hot ones from now on, if it is queued. Refused, it isn't hot.
     pub(crate) fn heat(&mut self, clause: &mut TrackedClause) -> Result<(), StoreError>
         ensures grows { GrowsBy (λ p. same_position clause.old.position p ≡ true) self.old self.new }
-        ensures into { OnOk result (has self.old.all clause.old.position ≡ true → has self.new.hot clause.old.position ≡ true) }
+        ensures into { OnOk result (has self.old.all clause.old.position ≡ true →
+            has self.new.hot clause.old.position ≡ true) }
         ensures ok { OnOk result (clause.new ≡ heated clause.old) }
         ensures err { OnErr result (clause.new ≡ clause.old) }
         ensures memory { IfErr result (λ e. e ≡ OutOfMemory) }

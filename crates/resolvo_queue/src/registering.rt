@@ -18,8 +18,8 @@ use decisions::Literal;
 use std::alloc::Allocator;
 use typed_ids::StoreError;
 
-/// Queues a clause that comes, if its parent counts as true, and puts its number to those of its parent. Refused, it may
-/// be queued.
+/// Queues a clause that comes, if its parent counts as true, and puts its number to those of its parent. Refused, it
+/// may be queued.
 fn queue_and_find<A: Allocator + Copy>(
     queued: &mut QueuedClauses<A>,
     by_parent: &mut ListsByVariable<u32, A>,
@@ -28,7 +28,9 @@ fn queue_and_find<A: Allocator + Copy>(
 ) -> Result<(), StoreError>
     ensures grows { GrowsBy (λ p. same_position clause.now.position p ≡ true) queued.old queued.new }
     ensures counted { OnOk result (counts ≡ true → IsQueued queued.new clause.now) }
-    ensures found { OnOk result (IsUpdate (list_at by_parent.old) clause.now.parent (list_at by_parent.old clause.now.parent ++ clause.now.position.number ∷ []) (list_at by_parent.new)) }
+    ensures found { OnOk result
+        (IsUpdate (list_at by_parent.old) clause.now.parent
+        (list_at by_parent.old clause.now.parent ++ clause.now.position.number ∷ []) (list_at by_parent.new)) }
     ensures err { OnErr result (SameValues (list_at by_parent.old) (list_at by_parent.new)) }
     ensures memory { IfErr result (λ e. e ≡ OutOfMemory) }
 {
@@ -38,7 +40,8 @@ fn queue_and_find<A: Allocator + Copy>(
     by_parent.push(clause.parent, clause.position.number)
 }
 
-/// Queues a clause that comes, if its parent counts as true, and puts its number to those of its parent. Refused, neither.
+/// Queues a clause that comes, if its parent counts as true, and puts its number to those of its parent. Refused,
+/// neither.
 fn enqueue<A: Allocator + Copy>(
     queued: &mut QueuedClauses<A>,
     by_parent: &mut ListsByVariable<u32, A>,
@@ -48,7 +51,9 @@ fn enqueue<A: Allocator + Copy>(
     requires new { (has queued.old.all clause.now.position ≡ false) × (has queued.old.hot clause.now.position ≡ false) }
     ensures grows { GrowsBy (λ p. same_position clause.now.position p ≡ true) queued.old queued.new }
     ensures counted { OnOk result (counts ≡ true → IsQueued queued.new clause.now) }
-    ensures found { OnOk result (IsUpdate (list_at by_parent.old) clause.now.parent (list_at by_parent.old clause.now.parent ++ clause.now.position.number ∷ []) (list_at by_parent.new)) }
+    ensures found { OnOk result
+        (IsUpdate (list_at by_parent.old) clause.now.parent
+        (list_at by_parent.old clause.now.parent ++ clause.now.position.number ∷ []) (list_at by_parent.new)) }
     ensures err { OnErr result (SameValues (list_at by_parent.old) (list_at by_parent.new)) }
     ensures back { OnErr result (GrowsBy (λ p. ⊥) queued.old queued.new) }
     ensures memory { IfErr result (λ e. e ≡ OutOfMemory) }
@@ -72,11 +77,13 @@ impl<A: Allocator + Copy> TrackedClauses<A> {
     ) -> Result<(), StoreError>
         requires order { IsInOrder (tracking_of self.old) }
         requires few { length self.old.index.clauses.items < 2 ^ 32 - 1 }
-        ensures ok { OnOk result (Registers clause.now is_hot counts literals.now (tracking_of self.old) (tracking_of self.new)) }
+        ensures ok { OnOk result (Registers clause.now is_hot counts literals.now (tracking_of self.old)
+            (tracking_of self.new)) }
         ensures err { OnErr result (IsAsBefore (tracking_of self.old) (tracking_of self.new)) }
         ensures owes { OwesFirst clause.now.requirement self.old.requirements self.new.requirements }
         ensures owes_one { OnOk result (1 ≤ owed_in self.new.requirements clause.now.requirement) }
-        ensures same { (self.new.only_hot ≡ self.old.only_hot) × (self.new.trail ≡ self.old.trail) × (self.new.must_start_anew ≡ self.old.must_start_anew) }
+        ensures same { (self.new.only_hot ≡ self.old.only_hot) × (self.new.trail ≡ self.old.trail)
+            × (self.new.must_start_anew ≡ self.old.must_start_anew) }
         ensures memory { IfErr result (λ e. e ≡ OutOfMemory) }
     {
         let number = self.index.clauses.len() as u32;

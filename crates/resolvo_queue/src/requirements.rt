@@ -1,5 +1,6 @@
 //! What a queue knows of each requirement of its clauses.
-ghost use Rattle.std.specs.Prelude.{◌≡◌, ◌<◌, ◌≤◌, ◌+◌, [], ◌∷◌, ◌++◌, map, Some, None, length, IfSome, MatchOption, IfOk, OnOk, OnErr, IfErr};
+ghost use Rattle.std.specs.Prelude.{◌≡◌, ◌<◌, ◌≤◌, ◌+◌, [], ◌∷◌, ◌++◌, map, Some, None, length, IfSome, MatchOption};
+ghost use Rattle.std.specs.Prelude.{IfOk, OnOk, OnErr, IfErr};
 ghost use Rattle.std.specs.Option.{option_copied};
 ghost use Rattle.typed_ids.specs.declared.error.StoreError.TheVariants.{OutOfMemory};
 ghost use Rattle.providers.specs.declared.requirement.Requirement.{Requirement as ARequirement};
@@ -54,7 +55,8 @@ impl<A: Allocator + Copy> Model for Requirements<A> {
 
 impl<A: Allocator + Copy> Requirements<A> {
     ghost use Rattle.std.specs.Prelude.{ℕ, slice_get};
-    ghost use Rattle.resolvo_queue.specs.Tracked.{known_at, updated_at, forgotten, fresh, walked, with_clause, clauses_at, IsPlaceOf, HasNoPlace, GainsRecord};
+    ghost use Rattle.resolvo_queue.specs.Tracked.{known_at, updated_at, forgotten, fresh, walked, with_clause};
+    ghost use Rattle.resolvo_queue.specs.Tracked.{clauses_at, IsPlaceOf, HasNoPlace, GainsRecord};
     ghost use Rattle.resolvo_queue.specs.Records.{known_of};
     ghost use Rattle.resolvo_queue.specs.Order.{Stands};
     ghost use Rattle.resolvo_queue.specs.Tracking.{GainsClauses};
@@ -114,7 +116,8 @@ impl<A: Allocator + Copy> Requirements<A> {
         Ok(place)
     }
 
-    /// Puts a clause to those with a requirement, whose record comes if there was none. Refused, the record may be there.
+    /// Puts a clause to those with a requirement, whose record comes if there was none. Refused, the record may be
+    /// there.
     pub(crate) fn enter_clause(
         &mut self,
         requirement: Requirement,
@@ -174,7 +177,8 @@ impl<A: Allocator + Copy> Requirements<A> {
     pub(crate) fn keep(&mut self, place: usize, frontier: &Option<Frontier>)
         requires { place < length self.old }
         ensures walked { self.new ≡ updated_at (walked frontier.now) self.old place }
-        ensures only { (requirement : ARequirement) (k : ℕ) → IsPlaceOf self.old requirement place → IsPlaceOf self.old requirement k → k ≡ place }
+        ensures only { (requirement : ARequirement) (k : ℕ) → IsPlaceOf self.old requirement place →
+            IsPlaceOf self.old requirement k → k ≡ place }
     {
         let record = &mut self.records[place];
         record.walk = Walk::Known(*frontier);

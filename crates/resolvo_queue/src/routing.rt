@@ -3,7 +3,8 @@ ghost use Rattle.std.specs.Prelude.{◌≡◌, ℕ, [], ◌∷◌, OnOk, IfErr};
 ghost use Rattle.typed_ids.specs.declared.error.StoreError.TheVariants.{OutOfMemory};
 ghost use Rattle.resolvo_queue.specs.Occurrences.{listing};
 ghost use Rattle.resolvo_queue.specs.Queued.{GrowsBy, HaveNumbers, IsOfClause};
-ghost use Rattle.resolvo_queue.specs.Routing.{AreUnknown, ForgetsAmong, OnlyForgets, Routes, Unrouted, WakesForgotten, variables_of, ways};
+ghost use Rattle.resolvo_queue.specs.Routing.{AreUnknown, ForgetsAmong, OnlyForgets, Routes, Unrouted, WakesForgotten};
+ghost use Rattle.resolvo_queue.specs.Routing.{variables_of, ways};
 
 use crate::clause_index::ClauseIndex;
 use crate::queued_clauses::QueuedClauses;

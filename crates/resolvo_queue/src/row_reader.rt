@@ -1,8 +1,9 @@
-//! The one way to the rows of requirements, which requirements have a variable in a row, and a row of each that isn't false.
+//! The one way to the rows of requirements, which requirements have a variable in a row, and a row of each that isn't
+//! false.
 //!
 //! A [`RowReader`] hands no row out: it answers a requirement's frontier, and puts the requirement to the variables of
-//! its rows. A [`WitnessMap`] asks it for a variable of a row that isn't false. What a question knows of rows it knows by
-//! these three calls: the first and the last put the requirement to a log, and the second is made once for each.
+//! its rows. A [`WitnessMap`] asks it for a variable of a row that isn't false. What a question knows of rows it knows
+//! by these three calls: the first and the last put the requirement to a log, and the second is made once for each.
 ghost use Rattle.std.specs.Prelude.{◌≡◌, ◌↔◌, ◌-◌, [], ◌∷◌, ◌++◌, true, false, if◌then◌else◌, flat_map, length};
 ghost use Rattle.std.specs.Prelude.{slice_get, Some, Contains, IsTrue, IsSome, IfSome, MatchOption, OnOk, OnErr, IfErr};
 ghost use Rattle.std.specs.List.{list_all};
@@ -43,7 +44,8 @@ impl<'l, A: Allocator + Copy> Model for RowReader<'l, A> {
 }
 
 impl<'l, A: Allocator + Copy> RowReader<'l, A> {
-    /// A reader of these lists, one list for each version set of a requirement, that has walked nothing. Takes no memory.
+    /// A reader of these lists, one list for each version set of a requirement, that has walked nothing. Takes no
+    /// memory.
     pub fn new(lists: &'l RequirementMap<Vec<Vec<VariableId, A>, A>, A>) -> Self
         ensures lists { result.lists ≡ lists.now }
         ensures walked { result.walked ≡ [] }
@@ -62,7 +64,8 @@ impl<'l, A: Allocator + Copy> RowReader<'l, A> {
         interner: &I,
     ) -> Option<Frontier>
         requires { IsWalkable (I.universe interner.now) self.old.lists requirement }
-        ensures frontier { result ≡ frontier (values_in map.now) (loaded_rows (I.universe interner.now) self.old.lists requirement) }
+        ensures frontier { result ≡ frontier (values_in map.now)
+            (loaded_rows (I.universe interner.now) self.old.lists requirement) }
         ensures set { IfSome result (λ f. (I.universe interner.now).knows_set f.set ≡ true) }
         ensures lists { self.new.lists ≡ self.old.lists }
         ensures walked { self.new.walked ≡ self.old.walked ++ requirement ∷ [] }
@@ -288,7 +291,8 @@ fn not_false_in<A: Allocator + Copy>(
     lists: &[Vec<VariableId, A>],
     map: &DecisionMap<A>,
 ) -> Option<VariableId>
-    ensures { MatchOption result (list_all (λ x. known_false (values_in map.now x)) (flat_map (λ l. l.items) lists.now) ≡ true)
+    ensures { MatchOption result
+        (list_all (λ x. known_false (values_in map.now x)) (flat_map (λ l. l.items) lists.now) ≡ true)
         (λ x. Contains (flat_map (λ l. l.items) lists.now) x × (known_false (values_in map.now x) ≡ false)) }
 {
     for list in lists {

@@ -1,5 +1,6 @@
 //! Looking for witnesses of the requirements whose clauses changed variables find.
-ghost use Rattle.std.specs.Prelude.{◌≡◌, ◌↔◌, ◌<◌, ◌≤◌, ℕ, List, None, Some, [], false, IsSome, IsTrue, IfErr, IfSome, OnErr, OnOk, length};
+ghost use Rattle.std.specs.Prelude.{◌≡◌, ◌↔◌, ◌<◌, ◌≤◌, ℕ, List, None, Some, [], false, IsSome, IsTrue, IfErr, IfSome};
+ghost use Rattle.std.specs.Prelude.{OnErr, OnOk, length};
 ghost use Rattle.std.specs.Map.{lookup};
 ghost use Rattle.typed_ids.specs.declared.error.StoreError.TheVariants.{OutOfMemory};
 ghost use Rattle.decisions.specs.Decisions.{values_in};
@@ -8,8 +9,10 @@ ghost use Rattle.providers.specs.declared.requirement.Requirement.{Requirement a
 ghost use Rattle.resolvo_queue.specs.Listing.{IsListedWell};
 ghost use Rattle.resolvo_queue.specs.Order.{Stands};
 ghost use Rattle.resolvo_queue.specs.Tracked.{Tracked};
-ghost use Rattle.resolvo_queue.specs.Settling.{AreFound, AreSettled, CanSettle, HasWitness, LooksAmong, Settles, basis, basis_of};
-ghost use Rattle.resolvo_queue.specs.Witnesses.{AreCandidates, AreTouching, IsAsked, IsWitness, Touches, are_candidates_false, literals_by, witness};
+ghost use Rattle.resolvo_queue.specs.Settling.{AreFound, AreSettled, CanSettle, HasWitness, LooksAmong, Settles, basis};
+ghost use Rattle.resolvo_queue.specs.Settling.{basis_of};
+ghost use Rattle.resolvo_queue.specs.Witnesses.{AreCandidates, AreTouching, IsAsked, IsWitness, Touches};
+ghost use Rattle.resolvo_queue.specs.Witnesses.{are_candidates_false, literals_by, witness};
 
 use crate::clause_index::ClauseIndex;
 use crate::condition::is_met;

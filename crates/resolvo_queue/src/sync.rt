@@ -1,5 +1,6 @@
 //! Bringing a queue up to date with a trail.
-ghost use Rattle.std.specs.Prelude.{◌≡◌, ℕ, List, ◌≤◌, ◌++◌, ◌↔◌, true, false, length, take, drop, map, IsTrue, OnOk, OnErr, IfErr};
+ghost use Rattle.std.specs.Prelude.{◌≡◌, ℕ, List, ◌≤◌, ◌++◌, ◌↔◌, true, false, length, take, drop, map, IsTrue, OnOk};
+ghost use Rattle.std.specs.Prelude.{OnErr, IfErr};
 ghost use Rattle.typed_ids.specs.declared.error.StoreError.TheVariants.{OutOfMemory};
 ghost use Rattle.decisions.specs.Decisions.{values_in};
 ghost use Rattle.resolvo_queue.specs.Occurrences.{listing};
@@ -40,8 +41,9 @@ impl<A: Allocator + Copy> TrackedClauses<A> {
         floor == self.trail.len() && floor == trail.len()
     }
 
-    /// Routes what has changed since the last sync: the variables of the entries that were taken back, and of those that
-    /// are new. One that was both pushed and taken back in between has no effect. Where nothing has changed, nothing is done.
+    /// Routes what has changed since the last sync: the variables of the entries that were taken back, and of those
+    /// that are new. One that was both pushed and taken back in between has no effect. Where nothing has changed,
+    /// nothing is done.
     fn route_changes(
         &mut self,
         floor: usize,
@@ -51,12 +53,18 @@ impl<A: Allocator + Copy> TrackedClauses<A> {
         requires numbers { HaveNumbers self.old.index.clauses.items }
         requires floor { floor ≤ length trail.now }
         requires old_floor { floor ≤ length self.old.trail.items }
-        ensures same { (self.new.index ≡ self.old.index) × (self.new.occurrences ≡ self.old.occurrences) × (self.new.only_hot ≡ self.old.only_hot) × (self.new.must_start_anew ≡ self.old.must_start_anew) }
+        ensures same { (self.new.index ≡ self.old.index) × (self.new.occurrences ≡ self.old.occurrences)
+            × (self.new.only_hot ≡ self.old.only_hot) × (self.new.must_start_anew ≡ self.old.must_start_anew) }
         ensures only { OnlyForgets self.old.requirements self.new.requirements }
-        ensures others { Unrouted (listing self.old.occurrences) (variables_of (drop floor self.old.trail.items) ++ variables_of (drop floor trail.now)) self.old.requirements self.new.requirements }
+        ensures others { Unrouted (listing self.old.occurrences)
+            (variables_of (drop floor self.old.trail.items) ++ variables_of (drop floor trail.now))
+            self.old.requirements self.new.requirements }
         ensures grows { GrowsBy (IsOfClause self.old.index.clauses.items) self.old.queued self.new.queued }
-        ensures synced { OnOk result (SyncsTo self.old.index.clauses.items self.old.index.by_parent self.old.index.by_condition (listing self.old.occurrences) false
-            (decided_value self.old.trail.items) (values_in map.now) (variables_of (drop floor self.old.trail.items) ++ variables_of (drop floor trail.now))
+        ensures synced { OnOk result
+            (SyncsTo self.old.index.clauses.items self.old.index.by_parent self.old.index.by_condition
+            (listing self.old.occurrences) false
+            (decided_value self.old.trail.items) (values_in map.now)
+            (variables_of (drop floor self.old.trail.items) ++ variables_of (drop floor trail.now))
             self.old.requirements self.new.requirements self.old.queued self.new.queued) }
         ensures trail { OnOk result (self.new.trail.items ≡ take floor self.old.trail.items ++ drop floor trail.now) }
         ensures memory { IfErr result (λ e. e ≡ OutOfMemory) }
@@ -79,10 +87,13 @@ impl<A: Allocator + Copy> TrackedClauses<A> {
     /// Forgets all that is known, and queues all clauses whose parent is true.
     fn start_anew(&mut self, trail: &[Decision], map: &DecisionMap<A>) -> Result<(), StoreError>
         requires numbers { HaveNumbers self.old.index.clauses.items }
-        ensures same { (self.new.index ≡ self.old.index) × (self.new.occurrences ≡ self.old.occurrences) × (self.new.only_hot ≡ self.old.only_hot) × (self.new.must_start_anew ≡ self.old.must_start_anew) }
+        ensures same { (self.new.index ≡ self.old.index) × (self.new.occurrences ≡ self.old.occurrences)
+            × (self.new.only_hot ≡ self.old.only_hot) × (self.new.must_start_anew ≡ self.old.must_start_anew) }
         ensures only { OnlyForgets self.old.requirements self.new.requirements }
         ensures grows { GrowsBy (IsOfClause self.old.index.clauses.items) self.old.queued self.new.queued }
-        ensures synced { OnOk result ((routed : List ℕ) → SyncsTo self.old.index.clauses.items self.old.index.by_parent self.old.index.by_condition (listing self.old.occurrences) true
+        ensures synced { OnOk result ((routed : List ℕ) →
+            SyncsTo self.old.index.clauses.items self.old.index.by_parent self.old.index.by_condition
+            (listing self.old.occurrences) true
             (decided_value self.old.trail.items) (values_in map.now) routed
             self.old.requirements self.new.requirements self.old.queued self.new.queued) }
         ensures trail { OnOk result (self.new.trail.items ≡ trail.now) }
@@ -105,12 +116,19 @@ impl<A: Allocator + Copy> TrackedClauses<A> {
         requires floor { floor ≤ length trail.now }
         requires old_floor { floor ≤ length self.old.trail.items }
         requires agrees { self.old.must_start_anew ≡ false → take floor self.old.trail.items ≡ take floor trail.now }
-        ensures same { (self.new.index ≡ self.old.index) × (self.new.occurrences ≡ self.old.occurrences) × (self.new.only_hot ≡ self.old.only_hot) }
+        ensures same { (self.new.index ≡ self.old.index) × (self.new.occurrences ≡ self.old.occurrences)
+            × (self.new.only_hot ≡ self.old.only_hot) }
         ensures only { OnlyForgets self.old.requirements self.new.requirements }
-        ensures others { self.old.must_start_anew ≡ false → Unrouted (listing self.old.occurrences) (variables_of (drop floor self.old.trail.items) ++ variables_of (drop floor trail.now)) self.old.requirements self.new.requirements }
+        ensures others { self.old.must_start_anew ≡ false →
+            Unrouted (listing self.old.occurrences)
+            (variables_of (drop floor self.old.trail.items) ++ variables_of (drop floor trail.now))
+            self.old.requirements self.new.requirements }
         ensures grows { GrowsBy (IsOfClause self.old.index.clauses.items) self.old.queued self.new.queued }
-        ensures synced { OnOk result (SyncsTo self.old.index.clauses.items self.old.index.by_parent self.old.index.by_condition (listing self.old.occurrences) self.old.must_start_anew
-            (decided_value self.old.trail.items) (values_in map.now) (variables_of (drop floor self.old.trail.items) ++ variables_of (drop floor trail.now))
+        ensures synced { OnOk result
+            (SyncsTo self.old.index.clauses.items self.old.index.by_parent self.old.index.by_condition
+            (listing self.old.occurrences) self.old.must_start_anew
+            (decided_value self.old.trail.items) (values_in map.now)
+            (variables_of (drop floor self.old.trail.items) ++ variables_of (drop floor trail.now))
             self.old.requirements self.new.requirements self.old.queued self.new.queued) }
         ensures trail { OnOk result (self.new.trail.items ≡ trail.now) }
         ensures debt { OnOk result (self.new.must_start_anew ≡ false) }

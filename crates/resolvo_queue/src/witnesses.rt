@@ -1,7 +1,7 @@
 //! What tells which clauses may be falsified.
 //!
-//! A clause isn't falsified as long as one candidate of its requirement isn't false. So a requirement keeps a witness: a
-//! candidate that wasn't false when one was last looked for, if there was one. Where it has become false, where a
+//! A clause isn't falsified as long as one candidate of its requirement isn't false. So a requirement keeps a witness:
+//! a candidate that wasn't false when one was last looked for, if there was one. Where it has become false, where a
 //! clause's parent or a variable of its condition changed, or where a clause came, the clause is looked at again; all
 //! others can't be falsified.
 ghost use Rattle.std.specs.Prelude.{◌≡◌, ◌++◌, ◌≤◌, [], true, false, drop, length, OnOk, OnErr, IfErr};
@@ -54,8 +54,8 @@ impl<A: Allocator + Copy> Witnesses<A> {
         Ok(())
     }
 
-    /// Notes the variables that a sync routes: those of the decisions from the floor on, in the trail of the last sync and in this
-    /// one; where the last sync was refused, all of this one.
+    /// Notes the variables that a sync routes: those of the decisions from the floor on, in the trail of the last sync
+    /// and in this one; where the last sync was refused, all of this one.
     pub(crate) fn note_changes(
         &mut self,
         tracked: &TrackedClauses<A>,
@@ -66,7 +66,8 @@ impl<A: Allocator + Copy> Witnesses<A> {
         requires old_floor { floor ≤ length tracked.now.trail.items }
         ensures of { self.new.of ≡ self.old.of }
         ensures looked { self.new.looked ≡ self.old.looked }
-        ensures anew { OnOk result (tracked.now.must_start_anew ≡ true → self.new.changed.items ≡ self.old.changed.items ++ variables_of trail.now) }
+        ensures anew { OnOk result (tracked.now.must_start_anew ≡ true →
+            self.new.changed.items ≡ self.old.changed.items ++ variables_of trail.now) }
         ensures ok { OnOk result (tracked.now.must_start_anew ≡ false → self.new.changed.items ≡ self.old.changed.items
             ++ (variables_of (drop floor tracked.now.trail.items) ++ variables_of (drop floor trail.now))) }
         ensures memory { IfErr result (λ e. e ≡ OutOfMemory) }

@@ -14,8 +14,8 @@ returns-then-is_whole_at-clause-synced g c =
     let before = c.args.self.now.trail.items in
     let ends = c.is_whole_at.ensures.0 c.if-is_whole_at.true in
     let none : ◌≡◌ {A = List ℕ} [] (variables_of (drop c.args.floor before) ++ variables_of (drop c.args.floor c.args.trail.now)) =
-        sym (ap (λ ds. variables_of ds ++ variables_of (drop c.args.floor c.args.trail.now)) (none_from c.args.floor before ends.0)
-        ∙ ap variables_of (none_from c.args.floor c.args.trail.now ends.1)) in
+    sym (ap (λ ds. variables_of ds ++ variables_of (drop c.args.floor c.args.trail.now)) (none_from c.args.floor before ends.0)
+    ∙ ap variables_of (none_from c.args.floor c.args.trail.now ends.1)) in
     subst (λ vs. SyncsTo w.clauses w.by_parent w.by_condition w.requirements false (decided_value before) w.val vs
     c.args.self.now.requirements c.args.self.now.requirements c.args.self.now.queued c.args.self.now.queued) none
     (changes_sync w (decided_value before) [] c.args.self.now.requirements c.args.self.now.requirements c.args.self.now.queued c.args.self.now.queued
