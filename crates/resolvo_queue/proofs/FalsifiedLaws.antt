@@ -1,5 +1,5 @@
--- The first falsified clause: what one loop over the clauses keeps is, once all are gone through, what the scan finds.
-use Rattle.std.proofs.Common.{◌≡◌, ℕ, ◌+◌, ◌<◌, ◌≤◌, Bool, true, false, not, ◌&&◌, cond, ltb, ltb-true, ltb-false, ◌⊎◌, inl, inr, List, [], ◌∷◌, length, map, find, get_or, Option, Some, None, option_map, slice_get, sym, ap, refl, ◌∙◌, subst, arith, is_gt}
+-- The first falsified clause: what stands before all others that are falsified is what the scan finds.
+use Rattle.std.proofs.Common.{◌≡◌, ℕ, Bool, true, false, not, ◌&&◌, cond, List, [], ◌∷◌, map, find, Option, Some, None, option_map, slice_get, sym, ap, refl, ◌∙◌, subst, is_gt}
 use Rattle.std.specs.Prelude.{is_none}
 use Rattle.std.specs.List.{AllByRecursion}
 use Rattle.std.specs.List.Sorted.{IsStrictlySortedBy}
@@ -8,7 +8,7 @@ use Rattle.std.specs.declared.cmp.Ordering.{Ordering}
 use Rattle.std.specs.declared.cmp.Ordering.TheVariants.{Less, Equal, Greater}
 use Rattle.decisions.specs.Literals.{Lit, Values, known_true}
 use Rattle.providers.specs.declared.requirement.Requirement.{Requirement}
-use Rattle.resolvo_queue.specs.Falsified.{comes_first, IsLeastOf}
+use Rattle.resolvo_queue.specs.Falsified.{Covers, IsFound}
 use Rattle.resolvo_queue.specs.Inspection.{clause_of}
 use Rattle.resolvo_queue.specs.Order.{Stands, here, there, Ascends}
 use Rattle.resolvo_queue.specs.Positions.{position_cmp, is_after}
@@ -19,7 +19,6 @@ use Rattle.resolvo_queue.specs.ScanOrder.{position_in}
 use Rattle.resolvo_queue.specs.declared.position.Position.{Position}
 use Rattle.resolvo_queue.specs.declared.requires_clause.RequiresClause.{RequiresClause}
 use Rattle.resolvo_queue.specs.declared.tracked_clause.TrackedClause.{TrackedClause}
-use Rattle.resolvo_queue.proofs.QueuedLaws.{read_at, within_clauses}
 use Rattle.resolvo_queue.proofs.QueuedLaws.{position_order}
 use Rattle.resolvo_queue.proofs.RowLaws.{falsified-rows}
 use Rattle.resolvo_queue.proofs.ScanLaws.{scan_ascends, scan_is, scanned_at, at_scanned}
@@ -95,91 +94,8 @@ before_all p q r e f =
 pub not_before_is_after : (p q : Position) → is_lt (position_cmp p q) ≡ false → is_after q p ≡ false
 not_before_is_after p q e = no_or_yes (is_after q p) (λ h. not_both (is_lt (position_cmp p q)) (ap is_lt (after_is_behind q p h)) e)
 
--- ---- the loop
-
 pub same_some : {X : Type 0} (x y : X) → Some x ≡ Some y → x ≡ y
 same_some x y e = cc
-
-earlier_or_last : (n i : ℕ) → n < i + 1 → (n < i) ⊎ (n ≡ i)
-earlier_or_last n i h = go (ltb n i) refl
-  where
-    go : (b : Bool) → ltb n i ≡ b → (n < i) ⊎ (n ≡ i)
-    go true e = inl (ltb-true n i e)
-    go false e = inr (let f = ltb-false n i e in omega (arith, f, h))
-
-module _ (clauses : List TrackedClause) (holds : TrackedClause → Bool) where
-  pub least_none : IsLeastOf clauses holds 0 None
-  least_none n d less is = absurd (omega arith)
-
-  module _ (i : ℕ) (c : TrackedClause) (within : i < length clauses) (read : c ≡ get_or clauses i c) where
-    it_is : slice_get clauses i ≡ Some c
-    it_is = read_at clauses i c within read
-
-    the_same : (n : ℕ) (d : TrackedClause) → n ≡ i → slice_get clauses n ≡ Some d → c ≡ d
-    the_same n d e is = same_some c d (sym it_is ∙ (ap (slice_get clauses) (sym e) ∙ is))
-
-    -- the clause holds, and stands before the first so far
-    pub least_taken : (first : Option TrackedClause) → comes_first c first ≡ true → holds c ≡ true → IsLeastOf clauses holds i first → IsLeastOf clauses holds (i + 1) (Some c)
-    least_taken first e h old = record {
-      number = i;
-      within = omega arith;
-      at = it_is;
-      held = h;
-      least = λ n d less is held. elim (earlier_or_last n i less) [
-        | inl b ↦ earlier first e old n d b is held
-        | inr l ↦ subst (λ (x : TrackedClause). is_after c.position x.position ≡ false) (the_same n d l is) (not_after_itself c.position)
-      ];
-    }
-      where
-        earlier : (o : Option TrackedClause) → comes_first c o ≡ true → IsLeastOf clauses holds i o →
-            (n : ℕ) (d : TrackedClause) → n < i → slice_get clauses n ≡ Some d → holds d ≡ true → is_after c.position d.position ≡ false
-        earlier None f none n d less is held = absurd (not_both (holds d) held (none n d less is))
-        earlier (Some b) f l n d less is held = before_all c.position b.position d.position f (l.least n d less is held)
-
-    -- the first so far stands before the clause
-    pub least_first : (first : Option TrackedClause) → comes_first c first ≡ false → IsLeastOf clauses holds i first → IsLeastOf clauses holds (i + 1) first
-    least_first None e old = let bad : true ≡ false = e in cc
-    least_first (Some b) e old = record {
-      number = old.number;
-      within = omega (arith, old.within);
-      at = old.at;
-      held = old.held;
-      least = λ n d less is held. elim (earlier_or_last n i less) [
-        | inl f ↦ old.least n d f is held
-        | inr l ↦ subst (λ (x : TrackedClause). is_after b.position x.position ≡ false) (the_same n d l is) (not_before_is_after c.position b.position e)
-      ];
-    }
-
-    -- the clause doesn't hold
-    pub least_kept : (first : Option TrackedClause) → holds c ≡ false → IsLeastOf clauses holds i first → IsLeastOf clauses holds (i + 1) first
-    least_kept None e old = λ n d less is. elim (earlier_or_last n i less) [
-      | inl b ↦ old n d b is
-      | inr l ↦ subst (λ x. holds x ≡ false) (the_same n d l is) e
-    ]
-    least_kept (Some b) e old = record {
-      number = old.number;
-      within = omega (arith, old.within);
-      at = old.at;
-      held = old.held;
-      least = λ n d less is held. elim (earlier_or_last n i less) [
-        | inl f ↦ old.least n d f is held
-        | inr l ↦ absurd (not_both (holds d) held (subst (λ x. holds x ≡ false) (the_same n d l is) e))
-      ];
-    }
-
-    -- the loop's step, by what the tests said
-    pub step_taken : (first next : Option TrackedClause) (a b : Bool) → next ≡ Some c → a ≡ comes_first c first → a ≡ true → b ≡ holds c → b ≡ true →
-        IsLeastOf clauses holds i first → IsLeastOf clauses holds (i + 1) next
-    step_taken first next a b n p e q f old =
-        subst (IsLeastOf clauses holds (i + 1)) (sym n) (least_taken first (sym p ∙ e) (sym q ∙ f) old)
-
-    pub step_first : (first next : Option TrackedClause) (a : Bool) → next ≡ first → a ≡ comes_first c first → a ≡ false →
-        IsLeastOf clauses holds i first → IsLeastOf clauses holds (i + 1) next
-    step_first first next a n p e old = subst (IsLeastOf clauses holds (i + 1)) (sym n) (least_first first (sym p ∙ e) old)
-
-    pub step_kept : (first next : Option TrackedClause) (b : Bool) → next ≡ first → b ≡ holds c → b ≡ false →
-        IsLeastOf clauses holds i first → IsLeastOf clauses holds (i + 1) next
-    step_kept first next b n q f old = subst (IsLeastOf clauses holds (i + 1)) (sym n) (least_kept first (sym q ∙ f) old)
 
 -- ---- a search along the order
 
@@ -224,42 +140,49 @@ module _ (clauses : List TrackedClause) (test : RequiresClause → Bool) (locate
   item_at : (x : ℕ × TrackedClause) → Stands x (scanned clauses) → slice_get clauses x.0 ≡ Some x.1
   item_at x s = scanned_at (λ (c : TrackedClause). c.parent) clauses x s
 
-  item_within : (i : ℕ) → length clauses ≤ i → (x : ℕ × TrackedClause) → Stands x (scanned clauses) → x.0 < i
-  item_within i past x s = let h : x.0 < length clauses = within_clauses clauses x.0 x.1 (item_at x s) in omega (arith, h, past)
+  -- no clause that holds stands before this one
+  abbrev CoversAll : Option TrackedClause → Type 0
+  CoversAll first = (n : ℕ) (c : TrackedClause) → slice_get clauses n ≡ Some c → holds c ≡ true → Covers first c
 
-  in_scan : (i : ℕ) → length clauses ≤ i → (first : Option TrackedClause) → IsLeastOf clauses holds i first →
+  in_scan : (first : Option TrackedClause) → IsFound clauses holds first → CoversAll first →
       option_map (λ (x : ℕ × TrackedClause). x.1) (find (λ (x : ℕ × TrackedClause). holds x.1) (scanned clauses)) ≡ first
-  in_scan i past None none =
+  in_scan None found covers =
       ap (option_map (λ (x : ℕ × TrackedClause). x.1))
       (found_nowhere position_cmp place (λ (x : ℕ × TrackedClause). holds x.1) (scanned clauses)
-      (λ y s. none y.0 y.1 (item_within i past y s) (item_at y s)))
-  in_scan i past (Some c) l =
+      (λ y s. no_or_yes (holds y.1) (λ held. nothing y.1 (covers y.0 y.1 (item_at y s) held))))
+    where
+      nothing : (c : TrackedClause) → Covers None c → ⊥
+      nothing c k = let none = k.1 in cc
+  in_scan (Some c) found covers =
       ap (option_map (λ (x : ℕ × TrackedClause). x.1))
       (found_first position_cmp place (λ (x : ℕ × TrackedClause). holds x.1) (scanned clauses)
       (scan_ascends (λ (d : TrackedClause). d.parent) position_cmp at_position (λ a b c d. refl) clauses)
-      (l.number, c) (at_scanned (λ (d : TrackedClause). d.parent) clauses l.number c l.at) l.held before)
+      (found.0, c) (at_scanned (λ (d : TrackedClause). d.parent) clauses found.0 c found.1) found.2 before)
     where
-      before : (y : ℕ × TrackedClause) → Stands y (scanned clauses) → position_cmp (place y) (place (l.number, c)) ≡ Less → holds y.1 ≡ false
+      before : (y : ℕ × TrackedClause) → Stands y (scanned clauses) → position_cmp (place y) (place (found.0, c)) ≡ Less → holds y.1 ≡ false
       before y s less =
           let is : slice_get clauses y.0 ≡ Some y.1 = item_at y s in
-          let mine : position_cmp y.1.position (place (l.number, c)) ≡ Less = subst (λ p. position_cmp p (place (l.number, c)) ≡ Less) (sym (located y.0 y.1 is)) less in
-          let both : position_cmp y.1.position c.position ≡ Less = subst (λ p. position_cmp y.1.position p ≡ Less) (sym (located l.number c l.at)) mine in
-          no_or_yes (holds y.1) (λ held. not_both (is_after c.position y.1.position) (behind_is_after c.position y.1.position both) (l.least y.0 y.1 (item_within i past y s) is held))
+          let mine : position_cmp y.1.position (place (found.0, c)) ≡ Less = subst (λ p. position_cmp p (place (found.0, c)) ≡ Less) (sym (located y.0 y.1 is)) less in
+          let both : position_cmp y.1.position c.position ≡ Less = subst (λ p. position_cmp y.1.position p ≡ Less) (sym (located found.0 c found.1)) mine in
+          no_or_yes (holds y.1) (λ held. not_both (is_after c.position y.1.position) (behind_is_after c.position y.1.position both) (earliest y.1 (covers y.0 y.1 is held)))
+        where
+          earliest : (d : TrackedClause) → Covers (Some c) d → is_after c.position d.position ≡ false
+          earliest d k = subst (λ (x : TrackedClause). is_after x.position d.position ≡ false) (sym (same_some c k.0 k.1)) k.2
 
-  -- of all clauses, the least that holds is the first that holds in the scan
-  pub least_is_first : (i : ℕ) → length clauses ≤ i → (first : Option TrackedClause) → IsLeastOf clauses holds i first →
+  -- it is the first of the scan that holds
+  first_in_scan : (first : Option TrackedClause) → IsFound clauses holds first → CoversAll first →
       find test (scan (map clause_of clauses)) ≡ option_map clause_of first
-  least_is_first i past first l =
+  first_in_scan first found covers =
       ap (find test) (scan_tracked clauses)
       ∙ (find_mapped clause_of test _
       ∙ (ap (λ cs. option_map clause_of (find holds cs)) (sym (scan_is (λ (c : TrackedClause). c.parent) clauses))
       ∙ (ap (option_map clause_of) (find_mapped (λ (x : ℕ × TrackedClause). x.1) holds (scanned clauses))
-      ∙ ap (option_map clause_of) (in_scan i past first l))))
+      ∙ ap (option_map clause_of) (in_scan first found covers))))
 
   -- so its id is that of the scan's
-  pub least_id : (i : ℕ) → length clauses ≤ i → (first o : Option TrackedClause) → first ≡ o → IsLeastOf clauses holds i first →
-      option_map (λ (c : TrackedClause). c.clause_id) o ≡ option_map (λ (r : RequiresClause). r.clause_id) (find test (scan (map clause_of clauses)))
-  least_id i past first o is l = own o ∙ sym (ap (option_map (λ (r : RequiresClause). r.clause_id)) (least_is_first i past first l ∙ ap (option_map clause_of) is))
+  pub first_id : (first : Option TrackedClause) → IsFound clauses holds first → CoversAll first →
+      option_map (λ (c : TrackedClause). c.clause_id) first ≡ option_map (λ (r : RequiresClause). r.clause_id) (find test (scan (map clause_of clauses)))
+  first_id first found covers = own first ∙ sym (ap (option_map (λ (r : RequiresClause). r.clause_id)) (first_in_scan first found covers))
     where
       own : (p : Option TrackedClause) → option_map (λ (c : TrackedClause). c.clause_id) p ≡ option_map (λ (r : RequiresClause). r.clause_id) (option_map clause_of p)
       own None = refl

@@ -6,6 +6,7 @@ pub mod Index
 pub mod Inspection
 pub mod Laws
 pub mod Listing
+pub mod Looking
 pub mod Names
 pub mod Occurrences
 pub mod Order

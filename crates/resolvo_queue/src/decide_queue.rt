@@ -73,10 +73,12 @@ ghost use Rattle.resolvo_queue.specs.Synced.{FindsConditions};
 ghost use Rattle.resolvo_queue.specs.WalkCounts.{HasNoneOf, WalksOnce, changed_from, looks, owed, walks};
 ghost use Rattle.resolvo_queue.specs.Witnesses.{AreCandidates, HaveEntries, NoneFalsified, literals_by};
 
+use crate::asked::Asked;
 use crate::clauses_by_name::ClausesByName;
 use crate::condition::condition_of;
 use crate::deciding::next_offer;
 use crate::falsification::falsified_clause;
+use crate::looking::Look;
 use crate::names::{copied, has_hot_name};
 use crate::offer::decision_at;
 use crate::parent_value::{ParentValue, is_true};
@@ -449,39 +451,39 @@ impl<D: DependencyProvider> DecideQueue<D> {
 
     /// The first falsified clause of the scan, if there is one. Takes no memory; linear in all clauses, and in the rows of
     /// those whose parents are true, of each up to the first row that isn't false.
-    pub fn falsified(
+    pub fn falsified<'q>(
         &self,
-        map: &DecisionMap<D::Alloc>,
-        lists: &RequirementMap<Vec<Vec<VariableId, D::Alloc>, D::Alloc>, D::Alloc>,
-        disjunctions: &Arena<DisjunctionId, Disjunction<D::Alloc>, D::Alloc>,
-        provider: &D,
+        map: &'q DecisionMap<D::Alloc>,
+        lists: &'q RequirementMap<Vec<Vec<VariableId, D::Alloc>, D::Alloc>, D::Alloc>,
+        disjunctions: &'q Arena<DisjunctionId, Disjunction<D::Alloc>, D::Alloc>,
+        provider: &'q D,
     ) -> Option<ClauseId>
         requires stands { StandsOn (references (D.universe provider.now) lists.now disjunctions.now) self.now }
         requires walkable { All (CanWalk (references (D.universe provider.now) lists.now disjunctions.now)) self.now.clauses }
         ensures { let refs = references (D.universe provider.now) lists.now disjunctions.now in
             result ≡ option_map (λ c. c.clause_id) (first_falsified (values_in map.now) (literals_in refs) (rows_in refs) self.now.clauses) }
     {
-        falsified_clause(
-            self.tracked.index.clauses.as_slice(),
+        let asked = Asked {
             map,
             lists,
             disjunctions,
-            provider,
-        )
+            interner: provider,
+        };
+        falsified_clause(self.tracked.index.clauses.as_slice(), &asked)
     }
 
     /// What [`DecideQueue::falsified`] answers. The trail's values are the map's, and the trail is that of the last accepted sync
     /// below the floor. Takes no memory, and changes nothing; linear in what changed since the last decision or the last
     /// accepted sync, in the clauses that this finds, and in their candidates up to the first that isn't false; after a
     /// refused sync as `falsified`.
-    pub fn falsified_since(
-        &self,
+    pub fn falsified_since<'q>(
+        &'q self,
         floor: usize,
         trail: &[Decision],
-        map: &DecisionMap<D::Alloc>,
-        lists: &RequirementMap<Vec<Vec<VariableId, D::Alloc>, D::Alloc>, D::Alloc>,
-        disjunctions: &Arena<DisjunctionId, Disjunction<D::Alloc>, D::Alloc>,
-        provider: &D,
+        map: &'q DecisionMap<D::Alloc>,
+        lists: &'q RequirementMap<Vec<Vec<VariableId, D::Alloc>, D::Alloc>, D::Alloc>,
+        disjunctions: &'q Arena<DisjunctionId, Disjunction<D::Alloc>, D::Alloc>,
+        provider: &'q D,
     ) -> Option<ClauseId>
         requires values { SameValues (values_of trail.now) (values_in map.now) }
         requires agrees { self.now.must_start_anew ≡ false → AgreesBelow floor trail.now self.now }
@@ -494,14 +496,17 @@ impl<D: DependencyProvider> DecideQueue<D> {
             return self.falsified(map, lists, disjunctions, provider);
         }
         let floor = floor.min(trail.len()).min(self.tracked.trail.len());
-        self.tracked.first_found(
-            &self.witnesses,
-            floor,
-            trail,
+        let asked = Asked {
             map,
             lists,
             disjunctions,
-            provider,
-        )
+            interner: provider,
+        };
+        let look = Look {
+            tracked: &self.tracked,
+            witnesses: &self.witnesses,
+            asked,
+        };
+        look.first_found(floor, trail)
     }
 }

@@ -9,10 +9,11 @@
 //! clauses, in the order of the scan by their `position`, and what may be eligible of them; `registering`, `heating`,
 //! `sync` and `deciding` are what is done with it. `clauses_by_name` finds clauses by the names of their packages.
 //! `witnesses` keeps what tells which of them may be falsified; `settling` looks for witnesses, and `looking` for a
-//! falsified clause; `falsification` goes through all clauses for it. `inspection`, `row_state` and `condition` look at
-//! one clause.
+//! falsified clause; `falsification` goes through all clauses for it. `asked`, `inspection`, `row_state` and `condition`
+//! look at one clause.
 #![tactic(auto)]
 
+mod asked;
 mod candidate;
 mod clause_index;
 mod clauses_by_name;

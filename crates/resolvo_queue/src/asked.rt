@@ -1,0 +1,41 @@
+//! What tells whether a clause is falsified.
+ghost use Rattle.std.specs.Prelude.{◌≡◌, ◌<◌, length, IfSome};
+ghost use Rattle.decisions.specs.Decisions.{values_in};
+ghost use Rattle.resolvo_queue.specs.Falsified.{is_falsified_in, refs_of};
+ghost use Rattle.resolvo_queue.specs.References.{IsWalkable};
+
+use crate::condition::is_met;
+use crate::row_state::are_all_false;
+use crate::tracked_clause::TrackedClause;
+use clauses::Disjunction;
+use decisions::DecisionMap;
+use id_storage::Arena;
+use providers::{Interner, RequirementMap};
+use std::alloc::Allocator;
+use typed_ids::{DisjunctionId, VariableId};
+
+/// The values of variables, the lists of candidates, the literals of conditions, and who knows what belongs together.
+#[derive(Drop)]
+pub(crate) struct Asked<'a, I, A: Allocator + Copy> {
+    pub(crate) map: &'a DecisionMap<A>,
+    pub(crate) lists: &'a RequirementMap<Vec<Vec<VariableId, A>, A>, A>,
+    pub(crate) disjunctions: &'a Arena<DisjunctionId, Disjunction<A>, A>,
+    pub(crate) interner: &'a I,
+}
+
+impl<'a, I: Interner, A: Allocator + Copy> Asked<'a, I, A> {
+    /// Whether a clause is falsified.
+    pub(crate) fn is_falsified(&self, clause: &TrackedClause) -> bool
+        requires condition { IfSome clause.now.condition (λ d. d < length self.now.disjunctions.now) }
+        requires walkable { IsWalkable (I.universe self.now.interner.now) self.now.lists.now clause.now.required }
+        ensures { result ≡ is_falsified_in (refs_of I.universe self.now) (values_in self.now.map.now) clause.now }
+    {
+        match self.map.value(clause.parent) {
+            Some(true) => {
+                is_met(clause.condition, self.disjunctions, self.map)
+                    && are_all_false(self.map, self.lists, clause.required, self.interner)
+            }
+            _ => false,
+        }
+    }
+}
