@@ -54,7 +54,8 @@ impl<N: SolverId<A>, A: Allocator + Copy> ClausesByName<N, A> {
 
     /// Puts a number under each of some names: one look-up for each. Refused, it may stand under some of them.
     pub(crate) fn enter(&mut self, names: &[N], number: u32) -> Result<(), StoreError>
-        ensures kept { KeepsNumbers (numbers_under N.Slots.value_at self.old) (numbers_under N.Slots.value_at self.new) }
+        ensures kept { KeepsNumbers (numbers_under N.Slots.value_at self.old)
+            (numbers_under N.Slots.value_at self.new) }
         ensures entered { OnOk result ((name : N) → Stands name names.now →
             IsEntered N.Slots.is_too_large (numbers_under N.Slots.value_at self.new) number name) }
         ensures memory { IfErr result (λ e. e ≡ OutOfMemory) }
@@ -67,7 +68,8 @@ impl<N: SolverId<A>, A: Allocator + Copy> ClausesByName<N, A> {
 
     /// Puts a number under a name, unless it is the last there: a clause may have a name more than once.
     fn put(&mut self, name: N, number: u32) -> Result<(), StoreError>
-        ensures kept { KeepsNumbers (numbers_under N.Slots.value_at self.old) (numbers_under N.Slots.value_at self.new) }
+        ensures kept { KeepsNumbers (numbers_under N.Slots.value_at self.old)
+            (numbers_under N.Slots.value_at self.new) }
         ensures entered { OnOk result (IsEntered N.Slots.is_too_large (numbers_under N.Slots.value_at self.new) number
             name) }
         ensures memory { IfErr result (λ e. e ≡ OutOfMemory) }

@@ -11,16 +11,16 @@
 //! rows, it is eligible: the first of them is its frontier, the candidate to try. Where it has none, all its rows are
 //! false, and it is falsified.
 //!
-//! What the user asked for is decided before anything that follows from it: where clauses of the root are eligible, one of
-//! them is picked, and only where none is, one of another parent. Among those it is the first of the scan, unless a later one
-//! beats the best so far: one whose frontier's package has a higher score, and whose version set has fewer undecided
-//! candidates left.
+//! What the user asked for is decided before anything that follows from it: where clauses of the root are eligible, one
+//! of them is picked, and only where none is, one of another parent. Among those it is the first of the scan, unless a
+//! later one beats the best so far: one whose frontier's package has a higher score, and whose version set has fewer
+//! undecided candidates left.
 //!
 //! A search asks after every propagation, with many clauses registered and a handful of variables changed since. So the
-//! queue remembers which clauses may be eligible, and what the last walk of each requirement's rows told. A search tells
-//! it of each clause ([`DecideQueue::register_clause`]) and of each package that gets a score
-//! ([`DecideQueue::mark_name_hot`]), and brings it up to date with its trail ([`DecideQueue::sync`]) before it asks for a
-//! decision. A sync routes the variables of the decisions that are new, and of those that were taken back:
+//! queue remembers which clauses may be eligible, and what the last walk of each requirement's rows told. A search
+//! tells it of each clause ([`DecideQueue::register_clause`]) and of each package that gets a score
+//! ([`DecideQueue::mark_name_hot`]), and brings it up to date with its trail ([`DecideQueue::sync`]) before it asks for
+//! a decision. A sync routes the variables of the decisions that are new, and of those that were taken back:
 //!
 //! ```text
 //!                 its parent's clauses                      queued, if their parent is true
@@ -31,29 +31,32 @@
 //!                                                           known to have no frontier, their clauses are queued
 //! ```
 //!
-//! By what is known a clause may be eligible if its parent is true, its condition is met, and its requirement isn't known to
-//! have no frontier. All of those are queued, by their position in the scan; some that can't be eligible any more may be
-//! queued too. A question ([`DecideQueue::next_decision`]) takes the queued clauses of the root from the front, which lie side
-//! by side there; only where none of them is eligible, it takes all. It walks a requirement's rows only if nothing is known of
-//! them, and after they were listed, so that a later sync finds them. What isn't eligible leaves the queue; so nothing is
-//! looked at twice. The first clause that is eligible is the best so far. Behind it only a clause with a higher score is better,
-//! so while scores are raised by the standard parameters only those are looked at that have a package that ever got one: the
-//! hot ones, which are queued a second time. A name finds its clauses when it gets its first score. Nothing is better than a
-//! frontier with one candidate, or with the largest score.
+//! By what is known a clause may be eligible if its parent is true, its condition is met, and its requirement isn't
+//! known to have no frontier. All of those are queued, by their position in the scan; some that can't be eligible any
+//! more may be queued too. A question ([`DecideQueue::next_decision`]) takes the queued clauses of the root from the
+//! front, which lie side by side there; only where none of them is eligible, it takes all. It walks a requirement's
+//! rows only if nothing is known of them, and after they were listed, so that a later sync finds them. What isn't
+//! eligible leaves the queue; so nothing is looked at twice. The first clause that is eligible is the best so far.
+//! Behind it only a clause with a higher score is better, so while scores are raised by the standard parameters only
+//! those are looked at that have a package that ever got one: the hot ones, which are queued a second time. A name
+//! finds its clauses when it gets its first score. Nothing is better than a frontier with one candidate, or with the
+//! largest score.
 //!
-//! A clause isn't falsified as long as one row of its requirement isn't false. So a requirement keeps a witness, a variable of
-//! such a row, and a clause is looked at only if it came since, or if a variable changed that is its parent, stands in its
-//! condition or is its requirement's witness ([`DecideQueue::falsified_since`]). The next decision then looks for other
-//! witnesses, in the same places, at the rows of each requirement at most once; each look is kept in a log.
+//! A clause isn't falsified as long as one row of its requirement isn't false. So a requirement keeps a witness, a
+//! variable of such a row, and a clause is looked at only if it came since, or if a variable changed that is its
+//! parent, stands in its condition or is its requirement's witness ([`DecideQueue::falsified_since`]). The next
+//! decision then looks for other witnesses, in the same places, at the rows of each requirement at most once; each look
+//! is kept in a log.
 //!
-//! So the walks of a requirement can be counted. It owes those that were done, and one more while nothing is known of its
-//! rows. It owes the first as its first clause comes; a sync makes it owe at most one more, and only if a variable of its
-//! rows was routed, or the last sync was refused; and a question walks it at most once, by what it owes already.
+//! So the walks of a requirement can be counted. It owes those that were done, and one more while nothing is known of
+//! its rows. It owes the first as its first clause comes; a sync makes it owe at most one more, and only if a variable
+//! of its rows was routed, or the last sync was refused; and a question walks it at most once, by what it owes already.
 //!
 //! A sync that is refused is remembered: the next one forgets all that is known and queues all clauses whose parent is
-//! true, whatever was done before. A registration that is refused may leave a number in a list that belongs to no clause yet, which
-//! wakes one clause too many later, or makes it hot.
-ghost use Rattle.std.specs.Prelude.{◌≡◌, ◌⊎◌, ◌+◌, ◌-◌, ◌<◌, ◌≤◌, ◌^◌, ◌↔◌, ◌≢◌, [], length, take, All, IsTrue, IsOk, IsSome, IfSome, true, false, option_map, OnOk, OnErr, IfOk, IfErr};
+//! true, whatever was done before. A registration that is refused may leave a number in a list that belongs to no
+//! clause yet, which wakes one clause too many later, or makes it hot.
+ghost use Rattle.std.specs.Prelude.{◌≡◌, ◌⊎◌, ◌+◌, ◌-◌, ◌<◌, ◌≤◌, ◌^◌, ◌↔◌, ◌≢◌, [], length, take, All, IsTrue, IsOk};
+ghost use Rattle.std.specs.Prelude.{IsSome, IfSome, true, false, option_map, OnOk, OnErr, IfOk, IfErr};
 ghost use Rattle.std.specs.Map.{lookup};
 ghost use Rattle.std.specs.Ordering.{nat_cmp};
 ghost use Rattle.typed_ids.specs.Refusals.{IsGrowthRefusal};
@@ -66,8 +69,10 @@ ghost use Rattle.decisions.specs.Decisions.{values_in};
 ghost use Rattle.resolvo_queue.specs.Listing.{IsListedWell};
 ghost use Rattle.resolvo_queue.specs.Names.{ColdLack};
 ghost use Rattle.resolvo_queue.specs.Pick.{eligible, pick, decided, DecidesUnbeaten};
-ghost use Rattle.resolvo_queue.specs.Queue.{AgreesBelow, AreNamed, HasTrail, IsNew, IsRegistered, IsSynced, IsUnchanged, OnlyHotScore, SameClauses, SameSync, StandsOn, values_of};
-ghost use Rattle.resolvo_queue.specs.References.{CanWalk, IsWalkable, Lists, References, literals_in, references, rows_in, score_in};
+ghost use Rattle.resolvo_queue.specs.Queue.{AgreesBelow, AreNamed, HasTrail, IsNew, IsRegistered, IsSynced};
+ghost use Rattle.resolvo_queue.specs.Queue.{IsUnchanged, OnlyHotScore, SameClauses, SameSync, StandsOn, values_of};
+ghost use Rattle.resolvo_queue.specs.References.{CanWalk, IsWalkable, Lists, References, literals_in, references};
+ghost use Rattle.resolvo_queue.specs.References.{rows_in, score_in};
 ghost use Rattle.resolvo_queue.specs.Scan.{first_falsified, is_eligible, scan};
 ghost use Rattle.resolvo_queue.specs.Synced.{FindsConditions};
 ghost use Rattle.resolvo_queue.specs.WalkCounts.{HasNoneOf, WalksOnce, changed_from, looks, owed, walks};
@@ -124,8 +129,10 @@ impl<D: DependencyProvider> Model for DecideQueue<D> {
 
     ghost view = { λ q. queue_of q.tracked q.names.items q.hot_names q.since.items q.witnesses };
 
-    ghost invariant = { λ q. IsKept D.NameId.Set.has (queue_of q.tracked q.names.items q.hot_names q.since.items q.witnesses)
-        × AreEntered D.NameId.Slots.is_too_large (numbers_under D.NameId.Slots.value_at q.by_name) (map (λ own. own.items) q.names.items) };
+    ghost invariant = { λ q. IsKept D.NameId.Set.has
+        (queue_of q.tracked q.names.items q.hot_names q.since.items q.witnesses)
+        × AreEntered D.NameId.Slots.is_too_large (numbers_under D.NameId.Slots.value_at q.by_name)
+        (map (λ own. own.items) q.names.items) };
 }
 
 impl<D: DependencyProvider> DecideQueue<D> {
@@ -177,7 +184,8 @@ impl<D: DependencyProvider> DecideQueue<D> {
         ensures walks { SameValues (walks self.old) (walks self.new) }
         ensures owed { SameValues (owed self.old) (owed self.new) }
         ensures looks { SameValues (looks self.old) (looks self.new) }
-        ensures stands { (refs : References D.NameId D.SolvableId D.Alloc) → StandsOn refs self.old → StandsOn refs self.new }
+        ensures stands { (refs : References D.NameId D.SolvableId D.Alloc) → StandsOn refs self.old →
+            StandsOn refs self.new }
     {
         self.tracked.only_hot = standard;
     }
@@ -204,11 +212,12 @@ impl<D: DependencyProvider> DecideQueue<D> {
         ensures full { (result ≡ Err TooManyClauses) ↔ (2 ^ 32 - 1 ≤ length self.old.clauses) }
         ensures memory { IfErr result (λ e. e ≢ TooManyClauses → e ≡ OutOfMemory) }
 
-        // Nothing is walked or looked at, whatever the result. One walk is owed of a requirement that is new; it may be owed
-        // also where the clause was refused, and then isn't owed twice.
+        // Nothing is walked or looked at, whatever the result. One walk is owed of a requirement that is new; it may be
+        // owed also where the clause was refused, and then isn't owed twice.
         ensures walks { SameValues (walks self.old) (walks self.new) }
         ensures looks { SameValues (looks self.old) (looks self.new) }
-        ensures owed { (r : ARequirement) → (owed self.new r ≡ owed self.old r) ⊎ ((r ≡ requirement) × (owed self.old r ≡ 0) × (owed self.new r ≡ 1)) }
+        ensures owed { (r : ARequirement) → (owed self.new r ≡ owed self.old r)
+            ⊎ ((r ≡ requirement) × (owed self.old r ≡ 0) × (owed self.new r ≡ 1)) }
         ensures owes_one { OnOk result (1 ≤ owed self.new requirement) }
 
         // What the queue's clauses name is there as before, where the requirement has lists.
@@ -243,8 +252,8 @@ impl<D: DependencyProvider> DecideQueue<D> {
         Ok(())
     }
 
-    /// Tells that a package has a score. A name stays hot. Refused, it changes nothing that an answer can show. The first time
-    /// for a name it is linear in the clauses that have it.
+    /// Tells that a package has a score. A name stays hot. Refused, it changes nothing that an answer can show. The
+    /// first time for a name it is linear in the clauses that have it.
     pub fn mark_name_hot(&mut self, name: D::NameId) -> Result<(), StoreError>
         ensures ok { OnOk result (IsUpdate (D.NameId.Set.has self.old.hot) name true (D.NameId.Set.has self.new.hot)) }
         ensures err { OnErr result (SameValues (D.NameId.Set.has self.old.hot) (D.NameId.Set.has self.new.hot)) }
@@ -255,17 +264,19 @@ impl<D: DependencyProvider> DecideQueue<D> {
         ensures walks { SameValues (walks self.old) (walks self.new) }
         ensures owed { SameValues (owed self.old) (owed self.new) }
         ensures looks { SameValues (looks self.old) (looks self.new) }
-        ensures stands { (refs : References D.NameId D.SolvableId D.Alloc) → StandsOn refs self.old → StandsOn refs self.new }
+        ensures stands { (refs : References D.NameId D.SolvableId D.Alloc) → StandsOn refs self.old →
+            StandsOn refs self.new }
     {
         self.heat(name)?;
         self.hot_names.insert(name)?;
         Ok(())
     }
 
-    /// Makes the clauses hot that have the name, unless it is hot already. A name that no set can hold isn't refused here: no
-    /// clause is found by it.
+    /// Makes the clauses hot that have the name, unless it is hot already. A name that no set can hold isn't refused
+    /// here: no clause is found by it.
     fn heat(&mut self, name: D::NameId) -> Result<(), StoreError>
-        ensures lacks { OnOk result (D.NameId.Set.is_too_large name ≡ false → ColdLack name self.new.names self.new.inside.clauses) }
+        ensures lacks { OnOk result (D.NameId.Set.is_too_large name ≡ false →
+            ColdLack name self.new.names self.new.inside.clauses) }
         ensures clauses { SameClauses self.old self.new }
         ensures synced { SameSync self.old self.new }
         ensures hot { self.new.hot ≡ self.old.hot }
@@ -273,7 +284,8 @@ impl<D: DependencyProvider> DecideQueue<D> {
         ensures witnesses { self.new.witnesses ≡ self.old.witnesses }
         ensures memory { IfErr result (λ e. e ≡ OutOfMemory) }
         ensures fits { IsTrue (D.NameId.Set.is_too_large name) → IsOk result }
-        ensures stands { (refs : References D.NameId D.SolvableId D.Alloc) → StandsOn refs self.old → StandsOn refs self.new }
+        ensures stands { (refs : References D.NameId D.SolvableId D.Alloc) → StandsOn refs self.old →
+            StandsOn refs self.new }
     {
         if self.hot_names.contains(name) {
             return Ok(());
@@ -284,9 +296,9 @@ impl<D: DependencyProvider> DecideQueue<D> {
     /// Brings the queue up to date with a trail, whose values the map has. The trail is that of the last accepted call
     /// below the floor; after a refused call the floor may be any.
     ///
-    /// A refusal is remembered: no decision may be asked for until a later call is accepted. Linear in the decisions from the
-    /// floor on, in both trails, and in the clauses and requirements that have their variables; after a refused call in all
-    /// clauses.
+    /// A refusal is remembered: no decision may be asked for until a later call is accepted. Linear in the decisions
+    /// from the floor on, in both trails, and in the clauses and requirements that have their variables; after a
+    /// refused call in all clauses.
     pub fn sync(
         &mut self,
         floor: usize,
@@ -300,16 +312,19 @@ impl<D: DependencyProvider> DecideQueue<D> {
         ensures clauses { SameClauses self.old self.new }
         ensures hot { SameValues (D.NameId.Set.has self.old.hot) (D.NameId.Set.has self.new.hot) }
         ensures memory { IfErr result (λ e. e ≡ OutOfMemory) }
-        ensures stands { (refs : References D.NameId D.SolvableId D.Alloc) → StandsOn refs self.old → StandsOn refs self.new }
+        ensures stands { (refs : References D.NameId D.SolvableId D.Alloc) → StandsOn refs self.old →
+            StandsOn refs self.new }
 
-        // Nothing is walked or looked at, whatever the result, and at most one walk more is owed of each requirement. Unless
-        // the last sync was refused, none more is owed where no row has the variable of a decision from the floor on, in
-        // either trail.
+        // Nothing is walked or looked at, whatever the result, and at most one walk more is owed of each requirement.
+        // Unless the last sync was refused, none more is owed where no row has the variable of a decision from the
+        // floor on, in either trail.
         ensures walks { SameValues (walks self.old) (walks self.new) }
         ensures looks { SameValues (looks self.old) (looks self.new) }
         ensures owed { (r : ARequirement) → owed self.new r ≤ owed self.old r + 1 }
-        ensures owed_still { self.old.must_start_anew ≡ false → (refs : References D.NameId D.SolvableId D.Alloc) → StandsOn refs self.old →
-            (r : ARequirement) → IsWalkable refs.universe refs.lists r → HasNoneOf (changed_from floor trail.now self.old) (rows_in refs r) →
+        ensures owed_still { self.old.must_start_anew ≡ false → (refs : References D.NameId D.SolvableId D.Alloc) →
+            StandsOn refs self.old →
+            (r : ARequirement) → IsWalkable refs.universe refs.lists r →
+            HasNoneOf (changed_from floor trail.now self.old) (rows_in refs r) →
             owed self.new r ≡ owed self.old r }
     {
         let floor = floor.min(trail.len()).min(self.tracked.trail.len());
@@ -325,8 +340,8 @@ impl<D: DependencyProvider> DecideQueue<D> {
         Ok(())
     }
 
-    /// Looks for a witness of each requirement whose clauses may be falsified, where none is. Refused, the changes are kept for
-    /// which it is to be done.
+    /// Looks for a witness of each requirement whose clauses may be falsified, where none is. Refused, the changes are
+    /// kept for which it is to be done.
     fn settle(
         &mut self,
         map: &DecisionMap<D::Alloc>,
@@ -334,14 +349,16 @@ impl<D: DependencyProvider> DecideQueue<D> {
         disjunctions: &Arena<DisjunctionId, Disjunction<D::Alloc>, D::Alloc>,
     ) -> Result<(), StoreError>
         requires entries { HaveEntries reader.now.lists disjunctions.now self.old.inside.clauses }
-        requires conditions { FindsConditions self.old.inside.clauses (literals_by disjunctions.now) self.old.inside.by_condition }
+        requires conditions { FindsConditions self.old.inside.clauses (literals_by disjunctions.now)
+            self.old.inside.by_condition }
         requires listed { IsListedWell reader.now.lists self.old.inside.occurrences self.old.inside.requirements }
         requires candidates { AreCandidates reader.now.lists self.old.inside.occurrences self.old.witnesses.of }
         requires none_falsified { NoneFalsified reader.now.lists self.old.inside.clauses (literals_by disjunctions.now)
             (values_in map.now) }
         ensures unchanged { IsUnchanged self.old self.new D.NameId.Set.has }
         ensures records { self.new.inside.requirements ≡ self.old.inside.requirements }
-        ensures stands { (universe : Universe D.NameId D.SolvableId) → let refs = references universe reader.now.lists disjunctions.now in
+        ensures stands { (universe : Universe D.NameId D.SolvableId) →
+            let refs = references universe reader.now.lists disjunctions.now in
             StandsOn refs self.old → IsSynced (values_in map.now) self.old → StandsOn refs self.new }
         ensures looks { (r : ARequirement) → looks self.new r ≤ looks self.old r + 1 }
         ensures memory { IfErr result (λ e. e ≡ OutOfMemory) }
@@ -369,12 +386,14 @@ impl<D: DependencyProvider> DecideQueue<D> {
             question.now.largest }
         ensures picked { let refs = references (D.universe question.now.interner.now)
             reader.old.lists question.now.disjunctions.now in
-            IfOk result (λ decision. decision ≡ option_map decided (pick (eligible (values_in question.now.map.now) (literals_in refs) (rows_in refs)
+            IfOk result (λ decision. decision ≡ option_map decided
+            (pick (eligible (values_in question.now.map.now) (literals_in refs) (rows_in refs)
             (score_in refs (D.NameId.Scores.value_at question.now.scores.now)) self.old.clauses))) }
         ensures none { let refs = references (D.universe question.now.interner.now)
             reader.old.lists question.now.disjunctions.now in
             IfOk result (λ decision. (decision ≡ None)
-            ↔ All (λ c. is_eligible (values_in question.now.map.now) (literals_in refs) (rows_in refs) c ≡ false) (scan self.old.clauses)) }
+            ↔ All (λ c. is_eligible (values_in question.now.map.now) (literals_in refs) (rows_in refs) c ≡ false)
+            (scan self.old.clauses)) }
         ensures unbeaten { let refs = references (D.universe question.now.interner.now)
             reader.old.lists question.now.disjunctions.now in
             IfOk result (DecidesUnbeaten (eligible (values_in question.now.map.now) (literals_in refs) (rows_in refs)
@@ -386,8 +405,10 @@ impl<D: DependencyProvider> DecideQueue<D> {
             reader.old.lists question.now.disjunctions.now in
             StandsOn refs self.new }
 
-        // Whatever the result, the requirements that came to the reader's log were walked once each, and no walk more is owed.
-        ensures walks { WalksOnce self.old.inside.requirements self.new.inside.requirements reader.old.walked reader.new.walked }
+        // Whatever the result, the requirements that came to the reader's log were walked once each, and no walk more
+        // is owed.
+        ensures walks { WalksOnce self.old.inside.requirements self.new.inside.requirements reader.old.walked
+            reader.new.walked }
         ensures owed { SameValues (owed self.old) (owed self.new) }
         ensures looks { SameValues (looks self.old) (looks self.new) }
     {
@@ -398,9 +419,10 @@ impl<D: DependencyProvider> DecideQueue<D> {
     /// The decision to take where no clause is falsified, which [`DecideQueue::falsified`] tells: that of an eligible
     /// clause which no other one beats. The scores are the packages', and the largest of them is handed in.
     ///
-    /// A refusal leaves the clauses, the trail and the hot names as they were, and the reader its walks. Linear in the clauses
-    /// that changed variables find, in the queued clauses that turn out not to be eligible, which leave the queue, in the hot
-    /// ones behind the first that is, and in the rows of their requirements of which nothing was known.
+    /// A refusal leaves the clauses, the trail and the hot names as they were, and the reader its walks. Linear in the
+    /// clauses that changed variables find, in the queued clauses that turn out not to be eligible, which leave the
+    /// queue, in the hot ones behind the first that is, and in the rows of their requirements of which nothing was
+    /// known.
     pub fn next_decision<'q>(
         &mut self,
         map: &'q DecisionMap<D::Alloc>,
@@ -412,18 +434,21 @@ impl<D: DependencyProvider> DecideQueue<D> {
     ) -> Result<Option<QueueDecision>, StoreError>
         requires synced { IsSynced (values_in map.now) self.old }
         requires stands { StandsOn (references (D.universe provider.now) reader.old.lists disjunctions.now) self.old }
-        requires walkable { All (CanWalk (references (D.universe provider.now) reader.old.lists disjunctions.now)) self.old.clauses }
+        requires walkable { All (CanWalk (references (D.universe provider.now) reader.old.lists disjunctions.now))
+            self.old.clauses }
         requires named { AreNamed (D.universe provider.now) self.old }
         requires hot { OnlyHotScore D.NameId.Set.has (D.NameId.Scores.value_at scores.now) self.old }
         requires largest { IsLargest nat_cmp 0 (D.NameId.Scores.value_at scores.now) largest }
         requires none_falsified { let refs = references (D.universe provider.now) reader.old.lists disjunctions.now in
             first_falsified (values_in map.now) (literals_in refs) (rows_in refs) self.old.clauses ≡ None }
         ensures picked { let refs = references (D.universe provider.now) reader.old.lists disjunctions.now in
-            IfOk result (λ decision. decision ≡ option_map decided (pick (eligible (values_in map.now) (literals_in refs) (rows_in refs)
+            IfOk result (λ decision. decision ≡ option_map decided
+            (pick (eligible (values_in map.now) (literals_in refs) (rows_in refs)
             (score_in refs (D.NameId.Scores.value_at scores.now)) self.old.clauses))) }
         ensures none { let refs = references (D.universe provider.now) reader.old.lists disjunctions.now in
             IfOk result (λ decision. (decision ≡ None)
-            ↔ All (λ c. is_eligible (values_in map.now) (literals_in refs) (rows_in refs) c ≡ false) (scan self.old.clauses)) }
+            ↔ All (λ c. is_eligible (values_in map.now) (literals_in refs) (rows_in refs) c ≡ false)
+            (scan self.old.clauses)) }
         ensures unbeaten { let refs = references (D.universe provider.now) reader.old.lists disjunctions.now in
             IfOk result (DecidesUnbeaten (eligible (values_in map.now) (literals_in refs) (rows_in refs)
             (score_in refs (D.NameId.Scores.value_at scores.now)) self.old.clauses)) }
@@ -432,9 +457,10 @@ impl<D: DependencyProvider> DecideQueue<D> {
         ensures lists { reader.new.lists ≡ reader.old.lists }
         ensures stands { StandsOn (references (D.universe provider.now) reader.old.lists disjunctions.now) self.new }
 
-        // Whatever the result, the requirements that came to the reader's log were walked once each, and no walk more is owed.
-        // None is looked at more than once for a witness.
-        ensures walks { WalksOnce self.old.inside.requirements self.new.inside.requirements reader.old.walked reader.new.walked }
+        // Whatever the result, the requirements that came to the reader's log were walked once each, and no walk more
+        // is owed. None is looked at more than once for a witness.
+        ensures walks { WalksOnce self.old.inside.requirements self.new.inside.requirements reader.old.walked
+            reader.new.walked }
         ensures owed { SameValues (owed self.old) (owed self.new) }
         ensures looks { (r : ARequirement) → looks self.new r ≤ looks self.old r + 1 }
     {
@@ -449,8 +475,8 @@ impl<D: DependencyProvider> DecideQueue<D> {
         self.pick(reader, &question)
     }
 
-    /// The first falsified clause of the scan, if there is one. Takes no memory; linear in all clauses, and in the rows of
-    /// those whose parents are true, of each up to the first row that isn't false.
+    /// The first falsified clause of the scan, if there is one. Takes no memory; linear in all clauses, and in the rows
+    /// of those whose parents are true, of each up to the first row that isn't false.
     pub fn falsified<'q>(
         &self,
         map: &'q DecisionMap<D::Alloc>,
@@ -459,9 +485,11 @@ impl<D: DependencyProvider> DecideQueue<D> {
         provider: &'q D,
     ) -> Option<ClauseId>
         requires stands { StandsOn (references (D.universe provider.now) lists.now disjunctions.now) self.now }
-        requires walkable { All (CanWalk (references (D.universe provider.now) lists.now disjunctions.now)) self.now.clauses }
+        requires walkable { All (CanWalk (references (D.universe provider.now) lists.now disjunctions.now))
+            self.now.clauses }
         ensures { let refs = references (D.universe provider.now) lists.now disjunctions.now in
-            result ≡ option_map (λ c. c.clause_id) (first_falsified (values_in map.now) (literals_in refs) (rows_in refs) self.now.clauses) }
+            result ≡ option_map (λ c. c.clause_id)
+            (first_falsified (values_in map.now) (literals_in refs) (rows_in refs) self.now.clauses) }
     {
         let asked = Asked {
             map,
@@ -472,10 +500,10 @@ impl<D: DependencyProvider> DecideQueue<D> {
         falsified_clause(self.tracked.index.clauses.as_slice(), &asked)
     }
 
-    /// What [`DecideQueue::falsified`] answers. The trail's values are the map's, and the trail is that of the last accepted sync
-    /// below the floor. Takes no memory, and changes nothing; linear in what changed since the last decision or the last
-    /// accepted sync, in the clauses that this finds, and in their candidates up to the first that isn't false; after a
-    /// refused sync as `falsified`.
+    /// What [`DecideQueue::falsified`] answers. The trail's values are the map's, and the trail is that of the last
+    /// accepted sync below the floor. Takes no memory, and changes nothing; linear in what changed since the last
+    /// decision or the last accepted sync, in the clauses that this finds, and in their candidates up to the first that
+    /// isn't false; after a refused sync as `falsified`.
     pub fn falsified_since<'q>(
         &'q self,
         floor: usize,
@@ -488,9 +516,11 @@ impl<D: DependencyProvider> DecideQueue<D> {
         requires values { SameValues (values_of trail.now) (values_in map.now) }
         requires agrees { self.now.must_start_anew ≡ false → AgreesBelow floor trail.now self.now }
         requires stands { StandsOn (references (D.universe provider.now) lists.now disjunctions.now) self.now }
-        requires walkable { All (CanWalk (references (D.universe provider.now) lists.now disjunctions.now)) self.now.clauses }
+        requires walkable { All (CanWalk (references (D.universe provider.now) lists.now disjunctions.now))
+            self.now.clauses }
         ensures { let refs = references (D.universe provider.now) lists.now disjunctions.now in
-            result ≡ option_map (λ c. c.clause_id) (first_falsified (values_in map.now) (literals_in refs) (rows_in refs) self.now.clauses) }
+            result ≡ option_map (λ c. c.clause_id)
+            (first_falsified (values_in map.now) (literals_in refs) (rows_in refs) self.now.clauses) }
     {
         if self.tracked.must_start_anew {
             return self.falsified(map, lists, disjunctions, provider);

@@ -106,7 +106,8 @@ pub(crate) fn inspect<I: Interner>(
     ensures eligible { let refs = references (I.universe question.now.interner.now)
         reader.old.lists question.now.disjunctions.now in
         let rows = loaded_rows (I.universe question.now.interner.now) reader.old.lists in
-        IfOk result (λ f. f ≡ eligible_frontier (values_in question.now.map.now) (clause_literals refs) rows clause.now) }
+        let val = values_in question.now.map.now in
+        IfOk result (λ f. f ≡ eligible_frontier val (clause_literals refs) rows clause.now) }
     ensures set { IfOk result (λ f. IfSome f (λ g. (I.universe question.now.interner.now).knows_set g.set ≡ true)) }
     ensures possible { let refs = references (I.universe question.now.interner.now)
         reader.old.lists question.now.disjunctions.now in

@@ -1,7 +1,7 @@
 //! The queue of requires clauses, and the decision that it picks.
 //!
-//! A requires clause says: if its parent is installed, and its condition is met, then so is one of the candidates of its
-//! requirement. The queue goes through the clauses whose parent is true, parent by parent in the order in which the
+//! A requires clause says: if its parent is installed, and its condition is met, then so is one of the candidates of
+//! its requirement. The queue goes through the clauses whose parent is true, parent by parent in the order in which the
 //! parents came, and tells the first clause that nothing can meet any more; where there is none, it tells the candidate
 //! to try next.
 //!
@@ -9,8 +9,8 @@
 //! clauses, in the order of the scan by their `position`, and what may be eligible of them; `registering`, `heating`,
 //! `sync` and `deciding` are what is done with it. `clauses_by_name` finds clauses by the names of their packages.
 //! `witnesses` keeps what tells which of them may be falsified; `settling` looks for witnesses, and `looking` for a
-//! falsified clause; `falsification` goes through all clauses for it. `asked`, `inspection`, `row_state` and `condition`
-//! look at one clause.
+//! falsified clause; `falsification` goes through all clauses for it. `asked`, `inspection`, `row_state` and
+//! `condition` look at one clause.
 #![tactic(auto)]
 
 mod asked;

@@ -101,7 +101,8 @@ pub(crate) fn requirement_state<I: Interner, A: Allocator + Copy>(
 ) -> RowState
     requires known { knows_requirement (I.universe interner.now) requirement ≡ true }
     requires few { length (candidates lists.now requirement) < 2 ^ 40 }
-    ensures { result ≡ state_of (values_in decisions.now) (loaded_rows (I.universe interner.now) lists.now requirement) }
+    ensures { result ≡ state_of (values_in decisions.now)
+        (loaded_rows (I.universe interner.now) lists.now requirement) }
 {
     let sets = requirement.version_sets(interner);
     match lists.get(requirement) {
@@ -119,7 +120,8 @@ pub(crate) fn are_all_false<I: Interner, A: Allocator + Copy>(
     interner: &I,
 ) -> bool
     requires { knows_requirement (I.universe interner.now) requirement ≡ true }
-    ensures { result ≡ all_false (values_in decisions.now) (loaded_rows (I.universe interner.now) lists.now requirement) }
+    ensures { result ≡ all_false (values_in decisions.now)
+        (loaded_rows (I.universe interner.now) lists.now requirement) }
 {
     let sets = requirement.version_sets(interner);
     match lists.get(requirement) {
