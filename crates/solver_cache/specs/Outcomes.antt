@@ -1,6 +1,6 @@
--- The outcomes of each question to a cache: a word for where it is answered, and one for where it is refused. Of an answer it says
--- where the cache keeps it, and of both what is left. D are the providers, N the names, S the solvables, A the allocators,
--- H the sets of solvables.
+-- The outcomes of each question to a cache: a word for where it is answered, and one for where it is refused. Of an
+-- answer it says where the cache keeps it, and of both what is left. D are the providers, N the names, S the solvables,
+-- A the allocators, H the sets of solvables.
 use Rattle.std.specs.Prelude.{◌≡◌, ◌⊎◌, ℕ, Bool, true, false, List, map, slice_get, Some, All}
 use Rattle.std.specs.List.{list_any}
 use Rattle.std.specs.Map.{lookup}
@@ -10,20 +10,24 @@ use Rattle.providers.specs.Provider.{matching, non_matching, sets_of}
 use Rattle.providers.specs.declared.candidates.Candidates.{Candidates}
 use Rattle.providers.specs.declared.dependencies.Dependencies.{Dependencies}
 use Rattle.providers.specs.declared.requirement.Requirement.{Requirement}
-use Rattle.solver_cache.specs.Cache.{Cache, IsAnswer, AreListed, is_asked, is_set_asked, is_fetched, list_at, sorted_of_set, sorted_of}
+use Rattle.solver_cache.specs.Cache.{Cache, IsAnswer, AreListed, is_asked, is_set_asked, is_fetched, list_at}
+use Rattle.solver_cache.specs.Cache.{sorted_of_set, sorted_of}
 use Rattle.solver_cache.specs.Functions.{Provider, MayAnswer}
-use Rattle.solver_cache.specs.Questions.{IsLater, IsAsked, IsFetched, IsMatched, IsUnmatched, IsSorted, AreSorted, IsRequirementSorted}
+use Rattle.solver_cache.specs.Questions.{IsLater, IsAsked, IsFetched, IsMatched, IsUnmatched}
+use Rattle.solver_cache.specs.Questions.{IsSorted, AreSorted, IsRequirementSorted}
 use Rattle.solver_cache.specs.Questions.{IsRefusedOf, IsRefusedOfSets, lacks_candidates, lacks_dependencies}
 use Rattle.solver_cache.specs.Unanswered.{IsUnasked, IsUnfiltered, IsUnsorted, AreLeft}
 use Rattle.solver_cache.specs.declared.error.CacheError.{CacheError}
 use Rattle.solver_cache.specs.declared.list_id.ListKind.{ListKind}
 
-module _ {D N S A H : Type 0} (p : Provider N S) (may : MayAnswer N S A) (has : H → S → Bool) (old : Cache D N S A H) where
+module _ {D N S A H : Type 0} (p : Provider N S) (may : MayAnswer N S A) (has : H → S → Bool)
+    (old : Cache D N S A H) where
   -- a package's candidates are answered, by the place of the provider's answer
   pub record AnswersCandidates (n : N) (place : ℕ) (new : Cache D N S A H) : Type 0 where
     pub asked : IsAsked p may has old n new
     pub own : slice_get (map (λ e. e.1) new.candidates) place ≡ lookup (p.same_name n) new.candidates
-    pub answer : (answer : Candidates S A) × (slice_get (map (λ e. e.1) new.candidates) place ≡ Some answer) × IsAnswer p may n answer
+    pub answer : (answer : Candidates S A) ×
+        (slice_get (map (λ e. e.1) new.candidates) place ≡ Some answer) × IsAnswer p may n answer
     pub later : IsLater has old new
     pub asked_now : is_asked p new n ≡ true
 
@@ -81,7 +85,7 @@ module _ {D N S A H : Type 0} (p : Provider N S) (may : MayAnswer N S A) (has : 
     pub asked : All (λ v. is_set_asked p new v ≡ true) (sets_of p.universe r)
     pub fit : list_any (λ v. p.is_large_name (p.universe.set_name v)) (sets_of p.universe r) ≡ false
 
-  -- a requirement's candidates are refused, whose version sets these are
+  -- the candidates of a requirement with these version sets are refused
   pub record RefusesSets {C : Type 0} (vs : List VersionSetId) (e : CacheError C) (new : Cache D N S A H) : Type 0 where
     pub reason : IsRefusedOfSets p vs old e new
     pub left : AreLeft p may has vs old e new
@@ -111,7 +115,8 @@ module _ {D N S A H : Type 0} (p : Provider N S) (old : Cache D N S A H) where
   -- what a solvable needs is answered, by the place of the provider's answer
   pub record AnswersDependencies (s : S) (place : ℕ) (new : Cache D N S A H) : Type 0 where
     pub fetched : IsFetched p old s new
-    pub answer : (answer : Dependencies A) × (slice_get (map (λ e. e.1) new.dependencies) place ≡ Some answer) × (needs_of answer ≡ p.answers.needs s)
+    pub answer : (answer : Dependencies A) ×
+        (slice_get (map (λ e. e.1) new.dependencies) place ≡ Some answer) × (needs_of answer ≡ p.answers.needs s)
 
   -- what it needs is refused, and nothing changed
   pub record RefusesDependencies {C : Type 0} (s : S) (e : CacheError C) (new : Cache D N S A H) : Type 0 where

@@ -14,8 +14,10 @@ pub(crate) fn mark_hints<S: SolverId<A>, A: Allocator + Copy>(
     hinted: &mut S::Set,
     answer: &Candidates<S, A>,
 ) -> Result<(), StoreError>
-    ensures ok { OnOk result (AreMarked S.eq S.Set.is_too_large (λ s. S.Set.has hinted.old s) (hints_of answer.now) (λ s. S.Set.has hinted.new s)) }
-    ensures err { OnErr result (AreMarkedInPart S.eq S.Set.is_too_large (λ s. S.Set.has hinted.old s) (hints_of answer.now) (λ s. S.Set.has hinted.new s)) }
+    ensures ok { OnOk result (AreMarked S.eq S.Set.is_too_large
+        (λ s. S.Set.has hinted.old s) (hints_of answer.now) (λ s. S.Set.has hinted.new s)) }
+    ensures err { OnErr result (AreMarkedInPart S.eq S.Set.is_too_large
+        (λ s. S.Set.has hinted.old s) (hints_of answer.now) (λ s. S.Set.has hinted.new s)) }
     ensures memory { IfErr result (λ e. e ≡ OutOfMemory) }
 {
     match &answer.hint_dependencies_available {
@@ -30,8 +32,10 @@ fn mark_all<S: SolverId<A>, A: Allocator + Copy>(
     hinted: &mut S::Set,
     solvables: &[S],
 ) -> Result<(), StoreError>
-    ensures ok { OnOk result (AreMarked S.eq S.Set.is_too_large (λ s. S.Set.has hinted.old s) solvables.now (λ s. S.Set.has hinted.new s)) }
-    ensures err { OnErr result (AreMarkedInPart S.eq S.Set.is_too_large (λ s. S.Set.has hinted.old s) solvables.now (λ s. S.Set.has hinted.new s)) }
+    ensures ok { OnOk result (AreMarked S.eq S.Set.is_too_large
+        (λ s. S.Set.has hinted.old s) solvables.now (λ s. S.Set.has hinted.new s)) }
+    ensures err { OnErr result (AreMarkedInPart S.eq S.Set.is_too_large
+        (λ s. S.Set.has hinted.old s) solvables.now (λ s. S.Set.has hinted.new s)) }
     ensures memory { IfErr result (λ e. e ≡ OutOfMemory) }
 {
     for solvable in solvables {
@@ -45,7 +49,8 @@ fn mark<S: SolverId<A>, A: Allocator + Copy>(
     hinted: &mut S::Set,
     solvable: S,
 ) -> Result<(), StoreError>
-    ensures ok { OnOk result (AreMarked S.eq S.Set.is_too_large (λ s. S.Set.has hinted.old s) (solvable ∷ []) (λ s. S.Set.has hinted.new s)) }
+    ensures ok { OnOk result (AreMarked S.eq S.Set.is_too_large
+        (λ s. S.Set.has hinted.old s) (solvable ∷ []) (λ s. S.Set.has hinted.new s)) }
     ensures err { OnErr result (SameValues (λ s. S.Set.has hinted.old s) (λ s. S.Set.has hinted.new s)) }
     ensures memory { IfErr result (λ e. e ≡ OutOfMemory) }
 {

@@ -12,18 +12,21 @@ use typed_ids::{CandidatesId, DependenciesId};
 
 impl<D: DependencyProvider + Drop> SolverCache<D> {
     ghost use Rattle.solver_cache.specs.Cache.{is_asked, is_fetched};
-    ghost use Rattle.solver_cache.specs.Outcomes.{AnswersCandidates, RefusesCandidates, AnswersDependencies, RefusesDependencies};
+    ghost use Rattle.solver_cache.specs.Outcomes.{AnswersCandidates, RefusesCandidates};
+    ghost use Rattle.solver_cache.specs.Outcomes.{AnswersDependencies, RefusesDependencies};
 
     /// The candidates of a package. A package that there isn't has none.
     pub fn get_or_cache_candidates(
         &mut self,
         name: D::NameId,
     ) -> Result<CandidatesId, CacheError<D::Cancel>>
-        ensures answered { IfOk result (λ id. AnswersCandidates (⟦<D as ProviderFunctions>⟧.functions self.old.provider)
-            (D.may_answer self.old.provider) D.SolvableId.Set.has self.old name id self.new) }
+        ensures answered { IfOk result (λ id. AnswersCandidates
+            (⟦<D as ProviderFunctions>⟧.functions self.old.provider) (D.may_answer self.old.provider)
+            D.SolvableId.Set.has self.old name id self.new) }
         ensures kept { is_asked (⟦<D as ProviderFunctions>⟧.functions self.old.provider) self.old name ≡ true → IsOk result }
-        ensures refused { IfErr result (λ e. RefusesCandidates (⟦<D as ProviderFunctions>⟧.functions self.old.provider)
-            (D.may_answer self.old.provider) D.SolvableId.Set.has self.old name e self.new) }
+        ensures refused { IfErr result (λ e. RefusesCandidates
+            (⟦<D as ProviderFunctions>⟧.functions self.old.provider) (D.may_answer self.old.provider)
+            D.SolvableId.Set.has self.old name e self.new) }
     {
         match self.candidates.find(name) {
             Some(id) => Ok(id),
@@ -34,10 +37,12 @@ impl<D: DependencyProvider + Drop> SolverCache<D> {
     /// Asks the provider for a package's candidates, unless it wants to stop.
     fn ask_for(&mut self, name: D::NameId) -> Result<CandidatesId, CacheError<D::Cancel>>
         requires { is_asked (⟦<D as ProviderFunctions>⟧.functions self.old.provider) self.old name ≡ false }
-        ensures answered { IfOk result (λ id. AnswersCandidates (⟦<D as ProviderFunctions>⟧.functions self.old.provider)
-            (D.may_answer self.old.provider) D.SolvableId.Set.has self.old name id self.new) }
-        ensures refused { IfErr result (λ e. RefusesCandidates (⟦<D as ProviderFunctions>⟧.functions self.old.provider)
-            (D.may_answer self.old.provider) D.SolvableId.Set.has self.old name e self.new) }
+        ensures answered { IfOk result (λ id. AnswersCandidates
+            (⟦<D as ProviderFunctions>⟧.functions self.old.provider) (D.may_answer self.old.provider)
+            D.SolvableId.Set.has self.old name id self.new) }
+        ensures refused { IfErr result (λ e. RefusesCandidates
+            (⟦<D as ProviderFunctions>⟧.functions self.old.provider) (D.may_answer self.old.provider)
+            D.SolvableId.Set.has self.old name e self.new) }
     {
         if let Some(reason) = self.provider.should_cancel_with_value() {
             return Err(CacheError::Cancelled(reason));
@@ -53,11 +58,11 @@ impl<D: DependencyProvider + Drop> SolverCache<D> {
         solvable: D::SolvableId,
     ) -> Result<DependenciesId, CacheError<D::Cancel>>
         requires { (D.universe self.old.provider).knows_solvable solvable ≡ true }
-        ensures answered { IfOk result (λ id. AnswersDependencies (⟦<D as ProviderFunctions>⟧.functions self.old.provider)
-            self.old solvable id self.new) }
+        ensures answered { IfOk result (λ id. AnswersDependencies
+            (⟦<D as ProviderFunctions>⟧.functions self.old.provider) self.old solvable id self.new) }
         ensures kept { is_fetched (⟦<D as ProviderFunctions>⟧.functions self.old.provider) self.old solvable ≡ true → IsOk result }
-        ensures refused { IfErr result (λ e. RefusesDependencies (⟦<D as ProviderFunctions>⟧.functions self.old.provider)
-            self.old solvable e self.new) }
+        ensures refused { IfErr result (λ e. RefusesDependencies
+            (⟦<D as ProviderFunctions>⟧.functions self.old.provider) self.old solvable e self.new) }
     {
         match self.dependencies.find(solvable) {
             Some(id) => Ok(id),
@@ -69,10 +74,10 @@ impl<D: DependencyProvider + Drop> SolverCache<D> {
     fn fetch(&mut self, solvable: D::SolvableId) -> Result<DependenciesId, CacheError<D::Cancel>>
         requires known { (D.universe self.old.provider).knows_solvable solvable ≡ true }
         requires new { is_fetched (⟦<D as ProviderFunctions>⟧.functions self.old.provider) self.old solvable ≡ false }
-        ensures answered { IfOk result (λ id. AnswersDependencies (⟦<D as ProviderFunctions>⟧.functions self.old.provider)
-            self.old solvable id self.new) }
-        ensures refused { IfErr result (λ e. RefusesDependencies (⟦<D as ProviderFunctions>⟧.functions self.old.provider)
-            self.old solvable e self.new) }
+        ensures answered { IfOk result (λ id. AnswersDependencies
+            (⟦<D as ProviderFunctions>⟧.functions self.old.provider) self.old solvable id self.new) }
+        ensures refused { IfErr result (λ e. RefusesDependencies
+            (⟦<D as ProviderFunctions>⟧.functions self.old.provider) self.old solvable e self.new) }
     {
         if let Some(reason) = self.provider.should_cancel_with_value() {
             return Err(CacheError::Cancelled(reason));

@@ -20,11 +20,13 @@ impl<D: DependencyProvider + Drop> SolverCache<D> {
         set: VersionSetId,
     ) -> Result<ListId, CacheError<D::Cancel>>
         requires { (D.universe self.old.provider).knows_set set ≡ true }
-        ensures answered { IfOk result (λ id. AnswersMatching (⟦<D as ProviderFunctions>⟧.functions self.old.provider)
-            (D.may_answer self.old.provider) D.SolvableId.Set.has self.old set id self.new) }
+        ensures answered { IfOk result (λ id. AnswersMatching
+            (⟦<D as ProviderFunctions>⟧.functions self.old.provider) (D.may_answer self.old.provider)
+            D.SolvableId.Set.has self.old set id self.new) }
         ensures kept { is_kept (same_set set) self.old.matching ≡ true → IsOk result }
-        ensures refused { IfErr result (λ e. RefusesFiltered (⟦<D as ProviderFunctions>⟧.functions self.old.provider)
-            (D.may_answer self.old.provider) D.SolvableId.Set.has self.old set e self.new) }
+        ensures refused { IfErr result (λ e. RefusesFiltered
+            (⟦<D as ProviderFunctions>⟧.functions self.old.provider) (D.may_answer self.old.provider)
+            D.SolvableId.Set.has self.old set e self.new) }
     {
         match self.matching.find(set) {
             Some(place) => Ok(ListId {
@@ -48,11 +50,13 @@ impl<D: DependencyProvider + Drop> SolverCache<D> {
         set: VersionSetId,
     ) -> Result<ListId, CacheError<D::Cancel>>
         requires { (D.universe self.old.provider).knows_set set ≡ true }
-        ensures answered { IfOk result (λ id. AnswersNonMatching (⟦<D as ProviderFunctions>⟧.functions self.old.provider)
-            (D.may_answer self.old.provider) D.SolvableId.Set.has self.old set id self.new) }
+        ensures answered { IfOk result (λ id. AnswersNonMatching
+            (⟦<D as ProviderFunctions>⟧.functions self.old.provider) (D.may_answer self.old.provider)
+            D.SolvableId.Set.has self.old set id self.new) }
         ensures kept { is_kept (same_set set) self.old.non_matching ≡ true → IsOk result }
-        ensures refused { IfErr result (λ e. RefusesFiltered (⟦<D as ProviderFunctions>⟧.functions self.old.provider)
-            (D.may_answer self.old.provider) D.SolvableId.Set.has self.old set e self.new) }
+        ensures refused { IfErr result (λ e. RefusesFiltered
+            (⟦<D as ProviderFunctions>⟧.functions self.old.provider) (D.may_answer self.old.provider)
+            D.SolvableId.Set.has self.old set e self.new) }
     {
         match self.non_matching.find(set) {
             Some(place) => Ok(ListId {
@@ -77,12 +81,14 @@ impl<D: DependencyProvider + Drop> SolverCache<D> {
         inverse: bool,
     ) -> Result<Vec<D::SolvableId, D::Alloc>, CacheError<D::Cancel>>
         requires { (D.universe self.old.provider).knows_set set ≡ true }
-        ensures package { OnOk result (AsksPackage (⟦<D as ProviderFunctions>⟧.functions self.old.provider)
-            (D.may_answer self.old.provider) D.SolvableId.Set.has self.old set self.new) }
+        ensures package { OnOk result (AsksPackage
+            (⟦<D as ProviderFunctions>⟧.functions self.old.provider) (D.may_answer self.old.provider)
+            D.SolvableId.Set.has self.old set self.new) }
         ensures list { IfOk result (λ list. list.items ≡ filtered ((D.answers self.old.provider).matches set) inverse
             ((D.answers self.old.provider).candidates ((D.universe self.old.provider).set_name set))) }
-        ensures refused { IfErr result (λ e. RefusesFiltered (⟦<D as ProviderFunctions>⟧.functions self.old.provider)
-            (D.may_answer self.old.provider) D.SolvableId.Set.has self.old set e self.new) }
+        ensures refused { IfErr result (λ e. RefusesFiltered
+            (⟦<D as ProviderFunctions>⟧.functions self.old.provider) (D.may_answer self.old.provider)
+            D.SolvableId.Set.has self.old set e self.new) }
     {
         let name = self.provider.version_set_name(set);
         let id = self.get_or_cache_candidates(name)?;

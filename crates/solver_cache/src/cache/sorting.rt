@@ -19,8 +19,8 @@ impl<D: DependencyProvider + Drop> SolverCache<D> {
     ghost use Rattle.providers.specs.declared.requirement.Requirement.TheVariants.{Single, Union};
     ghost use Rattle.solver_cache.specs.Cache.{is_set_asked, is_kept, list_at, listed, sorted_of, AreListed};
     ghost use Rattle.solver_cache.specs.declared.list_id.ListKind.{ListKind};
-    ghost use Rattle.solver_cache.specs.Outcomes.{AnswersSorted, RefusesSorted, AnswersRequirement, AnswersLists, RefusesSets};
-    ghost use Rattle.solver_cache.specs.Outcomes.{SortsSets, RefusesNext};
+    ghost use Rattle.solver_cache.specs.Outcomes.{AnswersSorted, AnswersRequirement, AnswersLists, SortsSets};
+    ghost use Rattle.solver_cache.specs.Outcomes.{RefusesSorted, RefusesSets, RefusesNext};
 
     /// The candidates of a requirement: of each of its version sets, one after the other, those that it holds, best first.
     /// The first refusal ends the call.
@@ -29,11 +29,13 @@ impl<D: DependencyProvider + Drop> SolverCache<D> {
         requirement: Requirement,
     ) -> Result<ListId, CacheError<D::Cancel>>
         requires { knows_requirement (D.universe self.old.provider) requirement ≡ true }
-        ensures answered { IfOk result (λ id. AnswersRequirement (⟦<D as ProviderFunctions>⟧.functions self.old.provider)
-            (D.may_answer self.old.provider) D.SolvableId.Set.has self.old requirement id self.new) }
+        ensures answered { IfOk result (λ id. AnswersRequirement
+            (⟦<D as ProviderFunctions>⟧.functions self.old.provider) (D.may_answer self.old.provider)
+            D.SolvableId.Set.has self.old requirement id self.new) }
         ensures kept { is_kept (same_requirement requirement) self.old.sorted ≡ true → IsOk result }
-        ensures refused { IfErr result (λ e. RefusesSets (⟦<D as ProviderFunctions>⟧.functions self.old.provider)
-            (D.may_answer self.old.provider) D.SolvableId.Set.has self.old
+        ensures refused { IfErr result (λ e. RefusesSets
+            (⟦<D as ProviderFunctions>⟧.functions self.old.provider) (D.may_answer self.old.provider)
+            D.SolvableId.Set.has self.old
             (sets_of (D.universe self.old.provider) requirement) e self.new) }
     {
         match requirement {
@@ -49,11 +51,13 @@ impl<D: DependencyProvider + Drop> SolverCache<D> {
         set: VersionSetId,
     ) -> Result<ListId, CacheError<D::Cancel>>
         requires { (D.universe self.old.provider).knows_set set ≡ true }
-        ensures answered { IfOk result (λ id. AnswersSorted (⟦<D as ProviderFunctions>⟧.functions self.old.provider)
-            (D.may_answer self.old.provider) D.SolvableId.Set.has self.old set id self.new) }
+        ensures answered { IfOk result (λ id. AnswersSorted
+            (⟦<D as ProviderFunctions>⟧.functions self.old.provider) (D.may_answer self.old.provider)
+            D.SolvableId.Set.has self.old set id self.new) }
         ensures kept { is_kept (same_requirement (Single set)) self.old.sorted ≡ true → IsOk result }
-        ensures refused { IfErr result (λ e. RefusesSorted (⟦<D as ProviderFunctions>⟧.functions self.old.provider)
-            (D.may_answer self.old.provider) D.SolvableId.Set.has self.old set e self.new) }
+        ensures refused { IfErr result (λ e. RefusesSorted
+            (⟦<D as ProviderFunctions>⟧.functions self.old.provider) (D.may_answer self.old.provider)
+            D.SolvableId.Set.has self.old set e self.new) }
     {
         match self.sorted.find(Requirement::Single(set)) {
             Some(place) => Ok(ListId {
@@ -81,11 +85,13 @@ impl<D: DependencyProvider + Drop> SolverCache<D> {
     /// The candidates of a union.
     fn sorted_union(&mut self, union: VersionSetUnionId) -> Result<ListId, CacheError<D::Cancel>>
         requires { (D.universe self.old.provider).knows_union union ≡ true }
-        ensures answered { IfOk result (λ id. AnswersRequirement (⟦<D as ProviderFunctions>⟧.functions self.old.provider)
-            (D.may_answer self.old.provider) D.SolvableId.Set.has self.old (Union union) id self.new) }
+        ensures answered { IfOk result (λ id. AnswersRequirement
+            (⟦<D as ProviderFunctions>⟧.functions self.old.provider) (D.may_answer self.old.provider)
+            D.SolvableId.Set.has self.old (Union union) id self.new) }
         ensures kept { is_kept (same_requirement (Union union)) self.old.sorted ≡ true → IsOk result }
-        ensures refused { IfErr result (λ e. RefusesSets (⟦<D as ProviderFunctions>⟧.functions self.old.provider)
-            (D.may_answer self.old.provider) D.SolvableId.Set.has self.old
+        ensures refused { IfErr result (λ e. RefusesSets
+            (⟦<D as ProviderFunctions>⟧.functions self.old.provider) (D.may_answer self.old.provider)
+            D.SolvableId.Set.has self.old
             ((D.universe self.old.provider).union_sets union) e self.new) }
     {
         match self.sorted.find(Requirement::Union(union)) {
@@ -110,12 +116,14 @@ impl<D: DependencyProvider + Drop> SolverCache<D> {
         union: VersionSetUnionId,
     ) -> Result<Vec<D::SolvableId, D::Alloc>, CacheError<D::Cancel>>
         requires { (D.universe self.old.provider).knows_union union ≡ true }
-        ensures sorted { OnOk result (SortsSets (⟦<D as ProviderFunctions>⟧.functions self.old.provider)
-            (D.may_answer self.old.provider) D.SolvableId.Set.has self.old
+        ensures sorted { OnOk result (SortsSets
+            (⟦<D as ProviderFunctions>⟧.functions self.old.provider) (D.may_answer self.old.provider)
+            D.SolvableId.Set.has self.old
             ((D.universe self.old.provider).union_sets union) self.new) }
         ensures list { IfOk result (λ list. list.items ≡ sorted_of (⟦<D as ProviderFunctions>⟧.functions self.old.provider) (Union union)) }
-        ensures refused { IfErr result (λ e. RefusesSets (⟦<D as ProviderFunctions>⟧.functions self.old.provider)
-            (D.may_answer self.old.provider) D.SolvableId.Set.has self.old
+        ensures refused { IfErr result (λ e. RefusesSets
+            (⟦<D as ProviderFunctions>⟧.functions self.old.provider) (D.may_answer self.old.provider)
+            D.SolvableId.Set.has self.old
             ((D.universe self.old.provider).union_sets union) e self.new) }
     {
         let ids = self.get_or_cache_sorted_lists(Requirement::Union(union))?;
@@ -129,10 +137,12 @@ impl<D: DependencyProvider + Drop> SolverCache<D> {
         requirement: Requirement,
     ) -> Result<Vec<ListId, D::Alloc>, CacheError<D::Cancel>>
         requires { knows_requirement (D.universe self.old.provider) requirement ≡ true }
-        ensures answered { IfOk result (λ ids. AnswersLists (⟦<D as ProviderFunctions>⟧.functions self.old.provider)
-            (D.may_answer self.old.provider) D.SolvableId.Set.has self.old requirement ids.items self.new) }
-        ensures refused { IfErr result (λ e. RefusesSets (⟦<D as ProviderFunctions>⟧.functions self.old.provider)
-            (D.may_answer self.old.provider) D.SolvableId.Set.has self.old
+        ensures answered { IfOk result (λ ids. AnswersLists
+            (⟦<D as ProviderFunctions>⟧.functions self.old.provider) (D.may_answer self.old.provider)
+            D.SolvableId.Set.has self.old requirement ids.items self.new) }
+        ensures refused { IfErr result (λ e. RefusesSets
+            (⟦<D as ProviderFunctions>⟧.functions self.old.provider) (D.may_answer self.old.provider)
+            D.SolvableId.Set.has self.old
             (sets_of (D.universe self.old.provider) requirement) e self.new) }
     {
         let sets = Vec::from_slice(
@@ -154,11 +164,13 @@ impl<D: DependencyProvider + Drop> SolverCache<D> {
     ) -> Result<(), CacheError<D::Cancel>>
         requires known { All (λ v. (D.universe self.old.provider).knows_set v ≡ true) sets.now }
         requires empty { ids.old.items ≡ [] }
-        ensures sorted { OnOk result (SortsSets (⟦<D as ProviderFunctions>⟧.functions self.old.provider)
-            (D.may_answer self.old.provider) D.SolvableId.Set.has self.old sets.now self.new) }
+        ensures sorted { OnOk result (SortsSets
+            (⟦<D as ProviderFunctions>⟧.functions self.old.provider) (D.may_answer self.old.provider)
+            D.SolvableId.Set.has self.old sets.now self.new) }
         ensures lists { OnOk result (AreListed (⟦<D as ProviderFunctions>⟧.functions self.old.provider) self.new ids.new.items sets.now) }
-        ensures refused { IfErr result (λ e. RefusesSets (⟦<D as ProviderFunctions>⟧.functions self.old.provider)
-            (D.may_answer self.old.provider) D.SolvableId.Set.has self.old sets.now e self.new) }
+        ensures refused { IfErr result (λ e. RefusesSets
+            (⟦<D as ProviderFunctions>⟧.functions self.old.provider) (D.may_answer self.old.provider)
+            D.SolvableId.Set.has self.old sets.now e self.new) }
     {
         for set in sets {
             self.sort_next(*set, ids)?;
@@ -174,10 +186,11 @@ impl<D: DependencyProvider + Drop> SolverCache<D> {
     ) -> Result<(), CacheError<D::Cancel>>
         requires { (D.universe self.old.provider).knows_set set ≡ true }
         ensures noted { OnOk result ((id : ListKind × ℕ) × (ids.new.items ≡ ids.old.items ++ id ∷ []) ×
-            AnswersSorted (⟦<D as ProviderFunctions>⟧.functions self.old.provider)
-            (D.may_answer self.old.provider) D.SolvableId.Set.has self.old set id self.new) }
-        ensures refused { IfErr result (λ e. RefusesNext (⟦<D as ProviderFunctions>⟧.functions self.old.provider)
-            (D.may_answer self.old.provider) D.SolvableId.Set.has self.old set e self.new) }
+            AnswersSorted (⟦<D as ProviderFunctions>⟧.functions self.old.provider) (D.may_answer self.old.provider)
+            D.SolvableId.Set.has self.old set id self.new) }
+        ensures refused { IfErr result (λ e. RefusesNext
+            (⟦<D as ProviderFunctions>⟧.functions self.old.provider) (D.may_answer self.old.provider)
+            D.SolvableId.Set.has self.old set e self.new) }
     {
         let id = self.get_or_cache_sorted_candidates_for_version_set(set)?;
         Ok(ids.push(id)?)

@@ -1,5 +1,4 @@
-use Rattle.std.proofs.lemmas.Grind.{common_steps}
-use Rattle.std.proofs.Common.{sym, arith}
+use Rattle.std.proofs.Common.{sym}
 use Rattle.solver_cache.specs.Cache.{IsAnswer}
 use Rattle.solver_cache.specs.Functions.{gathered}
 use Rattle.solver_cache.proofs.CacheLemmas.{kept_answer, later_same, once_kept}
