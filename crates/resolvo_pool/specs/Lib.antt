@@ -18,4 +18,5 @@ pub use Rattle.package_pool.specs.PoolView
 pub use Rattle.solver_cache.specs.Cache
 pub use Rattle.solver_cache.specs.Functions
 pub use Rattle.solver_cache.specs.Hints
+pub use Rattle.solver_cache.specs.Outcomes
 pub use Rattle.solver_cache.specs.Questions

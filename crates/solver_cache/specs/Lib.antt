@@ -1,5 +1,6 @@
 pub mod Cache
 pub mod Functions
 pub mod Hints
+pub mod Outcomes
 pub mod Questions
 pub mod Unanswered

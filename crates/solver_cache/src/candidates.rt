@@ -1,11 +1,11 @@
 //! The candidates of packages, asked of the provider.
-ghost use Rattle.std.specs.Prelude.{◌≡◌, Option, IfOk, IfErr};
+ghost use Rattle.std.specs.Prelude.{◌≡◌, IfOk, IfErr};
 ghost use Rattle.typed_ids.specs.declared.error.StoreError.TheVariants.{OutOfMemory};
 ghost use Rattle.providers.specs.Provider.{favored_of};
 ghost use Rattle.providers.specs.Provider.{candidates_of as answered_candidates};
-ghost use Rattle.providers.specs.declared.candidates.Candidates.{Candidates};
-ghost use Rattle.solver_cache.specs.Cache.{IsWhole};
+ghost use Rattle.solver_cache.specs.Cache.{IsAnswer, IsWhole};
 
+use crate::provider_functions::ProviderFunctions;
 use providers::{Candidates, DependencyProvider, Interner};
 use std::alloc::Allocator;
 use typed_ids::StoreError;
@@ -28,10 +28,8 @@ pub(crate) fn candidates_of<D: DependencyProvider>(
     alloc: D::Alloc,
     name: D::NameId,
 ) -> Result<Candidates<D::SolvableId, D::Alloc>, StoreError>
-    ensures candidates { IfOk result (λ found. found.candidates.items ≡ (D.answers provider.now).candidates name) }
-    ensures favored { IfOk result (λ found. found.favored ≡ (D.answers provider.now).favored name) }
-    ensures told { IfOk result (λ answer. (found : Option (Candidates D.SolvableId D.Alloc)) ×
-        D.may_answer provider.now name found × IsWhole found answer) }
+    ensures ok { IfOk result (λ answer. IsAnswer (⟦<D as ProviderFunctions>⟧.functions provider.now)
+        (D.may_answer provider.now) name answer) }
     ensures err { IfErr result (λ e. e ≡ OutOfMemory) }
 {
     let found = provider.get_candidates(alloc, name)?;

@@ -1,8 +1,8 @@
 //! Which solvables were said to have their dependencies at hand.
-ghost use Rattle.std.specs.Prelude.{◌≡◌, [], ◌∷◌, true, OnOk, OnErr, IfErr};
+ghost use Rattle.std.specs.Prelude.{◌≡◌, [], ◌∷◌, OnOk, OnErr, IfErr};
 ghost use Rattle.typed_ids.specs.declared.error.StoreError.TheVariants.{OutOfMemory};
 ghost use Rattle.typed_ids.specs.TotalMaps.{SameValues};
-ghost use Rattle.solver_cache.specs.Hints.{hints_of, with_hints};
+ghost use Rattle.solver_cache.specs.Hints.{hints_of, AreMarked, AreMarkedInPart};
 
 use id_maps::{IdSet, SolverId};
 use providers::{Candidates, HintDependenciesAvailable};
@@ -14,10 +14,10 @@ pub(crate) fn mark_hints<S: SolverId<A>, A: Allocator + Copy>(
     hinted: &mut S::Set,
     answer: &Candidates<S, A>,
 ) -> Result<(), StoreError>
-    ensures ok { OnOk result ((s : S) → S.Set.has hinted.new s ≡ with_hints S.eq S.Set.is_too_large (λ t. S.Set.has hinted.old t) (hints_of answer.now) s) }
-    ensures err { OnErr result ((s : S) → S.Set.has hinted.old s ≡ true → S.Set.has hinted.new s ≡ true) }
-    ensures err_hints { OnErr result ((s : S) → S.Set.has hinted.new s ≡ true →
-        with_hints S.eq S.Set.is_too_large (λ t. S.Set.has hinted.old t) (hints_of answer.now) s ≡ true) }
+    ensures ok { OnOk result (AreMarked S.eq S.Set.is_too_large
+        (λ s. S.Set.has hinted.old s) (hints_of answer.now) (λ s. S.Set.has hinted.new s)) }
+    ensures err { OnErr result (AreMarkedInPart S.eq S.Set.is_too_large
+        (λ s. S.Set.has hinted.old s) (hints_of answer.now) (λ s. S.Set.has hinted.new s)) }
     ensures memory { IfErr result (λ e. e ≡ OutOfMemory) }
 {
     match &answer.hint_dependencies_available {
@@ -32,10 +32,10 @@ fn mark_all<S: SolverId<A>, A: Allocator + Copy>(
     hinted: &mut S::Set,
     solvables: &[S],
 ) -> Result<(), StoreError>
-    ensures ok { OnOk result ((s : S) → S.Set.has hinted.new s ≡ with_hints S.eq S.Set.is_too_large (λ t. S.Set.has hinted.old t) solvables.now s) }
-    ensures err { OnErr result ((s : S) → S.Set.has hinted.old s ≡ true → S.Set.has hinted.new s ≡ true) }
-    ensures err_hints { OnErr result ((s : S) → S.Set.has hinted.new s ≡ true →
-        with_hints S.eq S.Set.is_too_large (λ t. S.Set.has hinted.old t) solvables.now s ≡ true) }
+    ensures ok { OnOk result (AreMarked S.eq S.Set.is_too_large
+        (λ s. S.Set.has hinted.old s) solvables.now (λ s. S.Set.has hinted.new s)) }
+    ensures err { OnErr result (AreMarkedInPart S.eq S.Set.is_too_large
+        (λ s. S.Set.has hinted.old s) solvables.now (λ s. S.Set.has hinted.new s)) }
     ensures memory { IfErr result (λ e. e ≡ OutOfMemory) }
 {
     for solvable in solvables {
@@ -49,7 +49,8 @@ fn mark<S: SolverId<A>, A: Allocator + Copy>(
     hinted: &mut S::Set,
     solvable: S,
 ) -> Result<(), StoreError>
-    ensures ok { OnOk result ((s : S) → S.Set.has hinted.new s ≡ with_hints S.eq S.Set.is_too_large (λ t. S.Set.has hinted.old t) (solvable ∷ []) s) }
+    ensures ok { OnOk result (AreMarked S.eq S.Set.is_too_large
+        (λ s. S.Set.has hinted.old s) (solvable ∷ []) (λ s. S.Set.has hinted.new s)) }
     ensures err { OnErr result (SameValues (λ s. S.Set.has hinted.old s) (λ s. S.Set.has hinted.new s)) }
     ensures memory { IfErr result (λ e. e ≡ OutOfMemory) }
 {

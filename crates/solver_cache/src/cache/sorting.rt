@@ -1,7 +1,6 @@
 //! The questions about requirements: their candidates, best first.
-ghost use Rattle.std.specs.Prelude.{◌≡◌, ◌⊎◌, ℕ, [], ◌∷◌, ◌++◌, true, false, All, flat_map};
-ghost use Rattle.std.specs.Prelude.{Some, IsOk, IfOk, OnOk, OnErr, IfErr};
-ghost use Rattle.std.specs.List.{list_any};
+ghost use Rattle.std.specs.Prelude.{◌≡◌, ℕ, [], ◌∷◌, ◌++◌, true, All, flat_map};
+ghost use Rattle.std.specs.Prelude.{Some, IsOk, IfOk, OnOk, IfErr};
 ghost use Rattle.typed_ids.specs.declared.error.StoreError.TheVariants.{OutOfMemory};
 ghost use Rattle.providers.specs.Provider.{favored_first};
 
@@ -15,13 +14,13 @@ use providers::{DependencyProvider, Interner, Requirement};
 use typed_ids::{StoreError, VersionSetId, VersionSetUnionId};
 
 impl<D: DependencyProvider + Drop> SolverCache<D> {
-    ghost use Rattle.providers.specs.Provider.{matching, sorted, sets_of, knows_requirement};
+    ghost use Rattle.providers.specs.Provider.{matching, sets_of, knows_requirement};
     ghost use Rattle.providers.specs.Requirement.{same_requirement};
     ghost use Rattle.providers.specs.declared.requirement.Requirement.TheVariants.{Single, Union};
     ghost use Rattle.solver_cache.specs.Cache.{is_set_asked, is_kept, list_at, listed, sorted_of, AreListed};
     ghost use Rattle.solver_cache.specs.declared.list_id.ListKind.{ListKind};
-    ghost use Rattle.solver_cache.specs.Questions.{IsLater, IsSorted, AreSorted, IsRequirementSorted, IsRefusedOf, IsRefusedOfSets, lacks_candidates};
-    ghost use Rattle.solver_cache.specs.Unanswered.{IsUnsorted, AreLeft};
+    ghost use Rattle.solver_cache.specs.Outcomes.{AnswersSorted, AnswersRequirement, AnswersLists, SortsSets};
+    ghost use Rattle.solver_cache.specs.Outcomes.{RefusesSorted, RefusesSets, RefusesNext};
 
     /// The candidates of a requirement: of each of its version sets, one after the other, those that it holds, best first.
     /// The first refusal ends the call.
@@ -30,18 +29,14 @@ impl<D: DependencyProvider + Drop> SolverCache<D> {
         requirement: Requirement,
     ) -> Result<ListId, CacheError<D::Cancel>>
         requires { knows_requirement (D.universe self.old.provider) requirement ≡ true }
-        ensures sorted { OnOk result (IsRequirementSorted (⟦<D as ProviderFunctions>⟧.functions self.old.provider)
-            (D.may_answer self.old.provider) D.SolvableId.Set.has self.old requirement self.new) }
-        ensures list { IfOk result (λ id. list_at self.new id ≡ Some (sorted_of (⟦<D as ProviderFunctions>⟧.functions self.old.provider) requirement)) }
+        ensures answered { IfOk result (λ id. AnswersRequirement
+            (⟦<D as ProviderFunctions>⟧.functions self.old.provider) (D.may_answer self.old.provider)
+            D.SolvableId.Set.has self.old requirement id self.new) }
         ensures kept { is_kept (same_requirement requirement) self.old.sorted ≡ true → IsOk result }
-        ensures refused { IfErr result (λ e. IsRefusedOfSets (⟦<D as ProviderFunctions>⟧.functions self.old.provider)
-            (sets_of (D.universe self.old.provider) requirement) self.old e self.new) }
-        ensures refused_leaves { IfErr result (λ e. AreLeft (⟦<D as ProviderFunctions>⟧.functions self.old.provider)
-            (D.may_answer self.old.provider) D.SolvableId.Set.has
-            (sets_of (D.universe self.old.provider) requirement) self.old e self.new) }
-        ensures later { IsLater D.SolvableId.Set.has self.old self.new }
-        ensures asked { OnOk result (All (λ v. is_set_asked (⟦<D as ProviderFunctions>⟧.functions self.old.provider) self.new v ≡ true)
-            (sets_of (D.universe self.old.provider) requirement)) }
+        ensures refused { IfErr result (λ e. RefusesSets
+            (⟦<D as ProviderFunctions>⟧.functions self.old.provider) (D.may_answer self.old.provider)
+            D.SolvableId.Set.has self.old
+            (sets_of (D.universe self.old.provider) requirement) e self.new) }
     {
         match requirement {
             Requirement::Single(set) => self.get_or_cache_sorted_candidates_for_version_set(set),
@@ -56,16 +51,13 @@ impl<D: DependencyProvider + Drop> SolverCache<D> {
         set: VersionSetId,
     ) -> Result<ListId, CacheError<D::Cancel>>
         requires { (D.universe self.old.provider).knows_set set ≡ true }
-        ensures sorted { OnOk result (IsSorted (⟦<D as ProviderFunctions>⟧.functions self.old.provider)
-            (D.may_answer self.old.provider) D.SolvableId.Set.has self.old set self.new) }
-        ensures list { IfOk result (λ id. list_at self.new id ≡ Some (sorted (D.universe self.old.provider) (D.answers self.old.provider) D.SolvableId.eq set)) }
+        ensures answered { IfOk result (λ id. AnswersSorted
+            (⟦<D as ProviderFunctions>⟧.functions self.old.provider) (D.may_answer self.old.provider)
+            D.SolvableId.Set.has self.old set id self.new) }
         ensures kept { is_kept (same_requirement (Single set)) self.old.sorted ≡ true → IsOk result }
-        ensures refused { IfErr result (λ e. let p = ⟦<D as ProviderFunctions>⟧.functions self.old.provider in
-            IsRefusedOf (is_set_asked p self.old set) (lacks_candidates p self.new (p.universe.set_name set)) self.old e self.new) }
-        ensures refused_leaves { OnErr result (IsUnsorted (⟦<D as ProviderFunctions>⟧.functions self.old.provider)
-            (D.may_answer self.old.provider) D.SolvableId.Set.has self.old set self.new) }
-        ensures later { IsLater D.SolvableId.Set.has self.old self.new }
-        ensures asked { OnOk result (is_set_asked (⟦<D as ProviderFunctions>⟧.functions self.old.provider) self.new set ≡ true) }
+        ensures refused { IfErr result (λ e. RefusesSorted
+            (⟦<D as ProviderFunctions>⟧.functions self.old.provider) (D.may_answer self.old.provider)
+            D.SolvableId.Set.has self.old set e self.new) }
     {
         match self.sorted.find(Requirement::Single(set)) {
             Some(place) => Ok(ListId {
@@ -93,18 +85,14 @@ impl<D: DependencyProvider + Drop> SolverCache<D> {
     /// The candidates of a union.
     fn sorted_union(&mut self, union: VersionSetUnionId) -> Result<ListId, CacheError<D::Cancel>>
         requires { (D.universe self.old.provider).knows_union union ≡ true }
-        ensures sorted { OnOk result (IsRequirementSorted (⟦<D as ProviderFunctions>⟧.functions self.old.provider)
-            (D.may_answer self.old.provider) D.SolvableId.Set.has self.old (Union union) self.new) }
-        ensures list { IfOk result (λ id. list_at self.new id ≡ Some (sorted_of (⟦<D as ProviderFunctions>⟧.functions self.old.provider) (Union union))) }
+        ensures answered { IfOk result (λ id. AnswersRequirement
+            (⟦<D as ProviderFunctions>⟧.functions self.old.provider) (D.may_answer self.old.provider)
+            D.SolvableId.Set.has self.old (Union union) id self.new) }
         ensures kept { is_kept (same_requirement (Union union)) self.old.sorted ≡ true → IsOk result }
-        ensures refused { IfErr result (λ e. IsRefusedOfSets (⟦<D as ProviderFunctions>⟧.functions self.old.provider)
-            ((D.universe self.old.provider).union_sets union) self.old e self.new) }
-        ensures refused_leaves { IfErr result (λ e. AreLeft (⟦<D as ProviderFunctions>⟧.functions self.old.provider)
-            (D.may_answer self.old.provider) D.SolvableId.Set.has
-            ((D.universe self.old.provider).union_sets union) self.old e self.new) }
-        ensures later { IsLater D.SolvableId.Set.has self.old self.new }
-        ensures asked { OnOk result (All (λ v. is_set_asked (⟦<D as ProviderFunctions>⟧.functions self.old.provider) self.new v ≡ true)
-            ((D.universe self.old.provider).union_sets union)) }
+        ensures refused { IfErr result (λ e. RefusesSets
+            (⟦<D as ProviderFunctions>⟧.functions self.old.provider) (D.may_answer self.old.provider)
+            D.SolvableId.Set.has self.old
+            ((D.universe self.old.provider).union_sets union) e self.new) }
     {
         match self.sorted.find(Requirement::Union(union)) {
             Some(place) => Ok(ListId {
@@ -128,18 +116,15 @@ impl<D: DependencyProvider + Drop> SolverCache<D> {
         union: VersionSetUnionId,
     ) -> Result<Vec<D::SolvableId, D::Alloc>, CacheError<D::Cancel>>
         requires { (D.universe self.old.provider).knows_union union ≡ true }
-        ensures sorted { OnOk result (AreSorted (⟦<D as ProviderFunctions>⟧.functions self.old.provider)
-            (D.may_answer self.old.provider) D.SolvableId.Set.has self.old
+        ensures sorted { OnOk result (SortsSets
+            (⟦<D as ProviderFunctions>⟧.functions self.old.provider) (D.may_answer self.old.provider)
+            D.SolvableId.Set.has self.old
             ((D.universe self.old.provider).union_sets union) self.new) }
         ensures list { IfOk result (λ list. list.items ≡ sorted_of (⟦<D as ProviderFunctions>⟧.functions self.old.provider) (Union union)) }
-        ensures refused { IfErr result (λ e. IsRefusedOfSets (⟦<D as ProviderFunctions>⟧.functions self.old.provider)
-            ((D.universe self.old.provider).union_sets union) self.old e self.new) }
-        ensures refused_leaves { IfErr result (λ e. AreLeft (⟦<D as ProviderFunctions>⟧.functions self.old.provider)
-            (D.may_answer self.old.provider) D.SolvableId.Set.has
-            ((D.universe self.old.provider).union_sets union) self.old e self.new) }
-        ensures later { IsLater D.SolvableId.Set.has self.old self.new }
-        ensures asked { OnOk result (All (λ v. is_set_asked (⟦<D as ProviderFunctions>⟧.functions self.old.provider) self.new v ≡ true)
-            ((D.universe self.old.provider).union_sets union)) }
+        ensures refused { IfErr result (λ e. RefusesSets
+            (⟦<D as ProviderFunctions>⟧.functions self.old.provider) (D.may_answer self.old.provider)
+            D.SolvableId.Set.has self.old
+            ((D.universe self.old.provider).union_sets union) e self.new) }
     {
         let ids = self.get_or_cache_sorted_lists(Requirement::Union(union))?;
         Ok(self.concatenated(&ids)?)
@@ -152,21 +137,13 @@ impl<D: DependencyProvider + Drop> SolverCache<D> {
         requirement: Requirement,
     ) -> Result<Vec<ListId, D::Alloc>, CacheError<D::Cancel>>
         requires { knows_requirement (D.universe self.old.provider) requirement ≡ true }
-        ensures sorted { OnOk result (AreSorted (⟦<D as ProviderFunctions>⟧.functions self.old.provider)
-            (D.may_answer self.old.provider) D.SolvableId.Set.has self.old
-            (sets_of (D.universe self.old.provider) requirement) self.new) }
-        ensures lists { IfOk result (λ ids. AreListed (⟦<D as ProviderFunctions>⟧.functions self.old.provider) self.new ids.items
-            (sets_of (D.universe self.old.provider) requirement)) }
-        ensures refused { IfErr result (λ e. IsRefusedOfSets (⟦<D as ProviderFunctions>⟧.functions self.old.provider)
-            (sets_of (D.universe self.old.provider) requirement) self.old e self.new) }
-        ensures refused_leaves { IfErr result (λ e. AreLeft (⟦<D as ProviderFunctions>⟧.functions self.old.provider)
-            (D.may_answer self.old.provider) D.SolvableId.Set.has
-            (sets_of (D.universe self.old.provider) requirement) self.old e self.new) }
-        ensures later { IsLater D.SolvableId.Set.has self.old self.new }
-        ensures asked { OnOk result (All (λ v. is_set_asked (⟦<D as ProviderFunctions>⟧.functions self.old.provider) self.new v ≡ true)
-            (sets_of (D.universe self.old.provider) requirement)) }
-        ensures fit { OnOk result (let p = ⟦<D as ProviderFunctions>⟧.functions self.old.provider in
-            list_any (λ v. p.is_large_name (p.universe.set_name v)) (sets_of p.universe requirement) ≡ false) }
+        ensures answered { IfOk result (λ ids. AnswersLists
+            (⟦<D as ProviderFunctions>⟧.functions self.old.provider) (D.may_answer self.old.provider)
+            D.SolvableId.Set.has self.old requirement ids.items self.new) }
+        ensures refused { IfErr result (λ e. RefusesSets
+            (⟦<D as ProviderFunctions>⟧.functions self.old.provider) (D.may_answer self.old.provider)
+            D.SolvableId.Set.has self.old
+            (sets_of (D.universe self.old.provider) requirement) e self.new) }
     {
         let sets = Vec::from_slice(
             self.alloc,
@@ -187,14 +164,13 @@ impl<D: DependencyProvider + Drop> SolverCache<D> {
     ) -> Result<(), CacheError<D::Cancel>>
         requires known { All (λ v. (D.universe self.old.provider).knows_set v ≡ true) sets.now }
         requires empty { ids.old.items ≡ [] }
-        ensures sorted { OnOk result (AreSorted (⟦<D as ProviderFunctions>⟧.functions self.old.provider)
-            (D.may_answer self.old.provider) D.SolvableId.Set.has self.old sets.now self.new) }
+        ensures sorted { OnOk result (SortsSets
+            (⟦<D as ProviderFunctions>⟧.functions self.old.provider) (D.may_answer self.old.provider)
+            D.SolvableId.Set.has self.old sets.now self.new) }
         ensures lists { OnOk result (AreListed (⟦<D as ProviderFunctions>⟧.functions self.old.provider) self.new ids.new.items sets.now) }
-        ensures refused { IfErr result (λ e. IsRefusedOfSets (⟦<D as ProviderFunctions>⟧.functions self.old.provider) sets.now self.old e self.new) }
-        ensures refused_leaves { IfErr result (λ e. AreLeft (⟦<D as ProviderFunctions>⟧.functions self.old.provider)
-            (D.may_answer self.old.provider) D.SolvableId.Set.has sets.now self.old e self.new) }
-        ensures later { IsLater D.SolvableId.Set.has self.old self.new }
-        ensures asked { OnOk result (All (λ v. is_set_asked (⟦<D as ProviderFunctions>⟧.functions self.old.provider) self.new v ≡ true) sets.now) }
+        ensures refused { IfErr result (λ e. RefusesSets
+            (⟦<D as ProviderFunctions>⟧.functions self.old.provider) (D.may_answer self.old.provider)
+            D.SolvableId.Set.has self.old sets.now e self.new) }
     {
         for set in sets {
             self.sort_next(*set, ids)?;
@@ -209,17 +185,12 @@ impl<D: DependencyProvider + Drop> SolverCache<D> {
         ids: &mut Vec<ListId, D::Alloc>,
     ) -> Result<(), CacheError<D::Cancel>>
         requires { (D.universe self.old.provider).knows_set set ≡ true }
-        ensures sorted { OnOk result (IsSorted (⟦<D as ProviderFunctions>⟧.functions self.old.provider)
-            (D.may_answer self.old.provider) D.SolvableId.Set.has self.old set self.new) }
-        ensures noted { OnOk result ((id : ListKind × ℕ) × (ids.new.items ≡ ids.old.items ++ id ∷ [])
-            × (list_at self.new id ≡ Some (sorted (D.universe self.old.provider) (D.answers self.old.provider) D.SolvableId.eq set))) }
-        ensures refused { IfErr result (λ e. let p = ⟦<D as ProviderFunctions>⟧.functions self.old.provider in
-            IsRefusedOf (is_set_asked p self.old set) (lacks_candidates p self.new (p.universe.set_name set)) self.old e self.new) }
-        ensures refused_leaves { OnErr result (let p = ⟦<D as ProviderFunctions>⟧.functions self.old.provider in
-            let may = D.may_answer self.old.provider in let has = D.SolvableId.Set.has in
-            IsUnsorted p may has self.old set self.new ⊎ IsSorted p may has self.old set self.new) }
-        ensures later { IsLater D.SolvableId.Set.has self.old self.new }
-        ensures asked { OnOk result (is_set_asked (⟦<D as ProviderFunctions>⟧.functions self.old.provider) self.new set ≡ true) }
+        ensures noted { OnOk result ((id : ListKind × ℕ) × (ids.new.items ≡ ids.old.items ++ id ∷ []) ×
+            AnswersSorted (⟦<D as ProviderFunctions>⟧.functions self.old.provider) (D.may_answer self.old.provider)
+            D.SolvableId.Set.has self.old set id self.new) }
+        ensures refused { IfErr result (λ e. RefusesNext
+            (⟦<D as ProviderFunctions>⟧.functions self.old.provider) (D.may_answer self.old.provider)
+            D.SolvableId.Set.has self.old set e self.new) }
     {
         let id = self.get_or_cache_sorted_candidates_for_version_set(set)?;
         Ok(ids.push(id)?)

@@ -24,17 +24,13 @@ returns-clause-ok g c =
 
 pub returns-in_err-mark-clause-err : goal.returns-in_err-mark-clause-err
 returns-in_err-mark-clause-err g c =
-    let has = g.S.Set.IdSet.has in
-    on_err _ c.from_residual.result (λ s h.
-    c.in_err-mark.ensures.err s ∙ c.loop-solvable.invariant s ∙ still_marked g.S.PartialEq.eq g.S.Set.IdSet.is_too_large (has c.args.hinted.now) _ s h)
-
-pub returns-in_err-mark-clause-err_hints : goal.returns-in_err-mark-clause-err_hints
-returns-in_err-mark-clause-err_hints g c =
     let same = g.S.PartialEq.eq in
     let is_large = g.S.Set.IdSet.is_too_large in
     let old = g.S.Set.IdSet.has c.args.hinted.now in
     let ss = c.args.solvables.now in
     let i = c.loop-solvable.solvable-index in
-    on_err _ c.from_residual.result (λ s h.
-    subst (λ l. with_hints same is_large old l s ≡ true) (take-append-drop i ss)
-    (more_hints same is_large old (take i ss) (drop i ss) s (sym (c.loop-solvable.invariant s) ∙ sym (c.in_err-mark.ensures.err s) ∙ h)))
+    on_err _ c.from_residual.result (record {
+      kept = λ s h. c.in_err-mark.ensures.err s ∙ c.loop-solvable.invariant s ∙ still_marked same is_large old _ s h;
+      within = λ s h. subst (λ l. with_hints same is_large old l s ≡ true) (take-append-drop i ss)
+          (more_hints same is_large old (take i ss) (drop i ss) s (sym (c.loop-solvable.invariant s) ∙ sym (c.in_err-mark.ensures.err s) ∙ h));
+    })

@@ -1,9 +1,11 @@
-use Rattle.std.proofs.Common.{◌≡◌, ◌∙◌, ap, subst, inl, inr}
+use Rattle.std.proofs.lemmas.Grind.{common_steps}
+use Rattle.std.proofs.Common.{◌≡◌, ◌∙◌, ap, subst, sym, inl, inr, arith}
 use Rattle.providers.specs.Provider.{filtered}
 use Rattle.solver_cache.specs.Functions.{Provider, gathered}
 use Rattle.solver_cache.specs.Questions.{IsAsked}
 use Rattle.solver_cache.specs.Unanswered.{IsUnasked}
-use Rattle.solver_cache.proofs.CacheLemmas.{on_err, same_answer}
+use Rattle.solver_cache.specs.declared.error.CacheError.TheVariants.{Store}
+use Rattle.solver_cache.proofs.CacheLemmas.{handed_on, same_answer}
 use Rattle.solver_cache.proofs.cache.SolverCache.filtered.Given.{Over}
 use Rattle.solver_cache.proofs.cache.SolverCache.filtered.Goals as goal
 
@@ -14,19 +16,34 @@ provided g = gathered g.D.NameId.PartialEq.eq g.D.SolvableId.PartialEq.eq g.D.Na
 
 pub filter_candidates-requires-clause-known : goal.filter_candidates-requires-clause-known
 filter_candidates-requires-clause-known g c =
-    let found = c.in_ok-id.ensures.answer in
+    let answered = c.in_ok-id.ensures.answered in
+    let found = answered.answer in
     let same : c.index.result.now ≡ found.0 = same_answer _ _ c.in_ok-id.id _ _ (ap (λ v. v.candidates) c.self-2.view_is) c.index.ensures found.1 in
-    let provider : c.self-2.inside.provider ≡ c.args.self.now.provider = ap (λ v. v.provider) c.self-2.view_is ∙ c.in_ok-id.ensures.later.provider in
+    let provider : c.self-2.inside.provider ≡ c.args.self.now.provider = ap (λ v. v.provider) c.self-2.view_is ∙ answered.later.provider in
     let list : c.deref.result.now ≡ (g.D.DependencyProvider.answers c.args.self.now.provider).candidates c.version_set_name-name.result =
     c.deref.ensures.value ∙ ap (λ a. a.candidates.items) same ∙ found.2.candidates in
     rw (provider, list) (g.met.D.DependencyProvider.candidates_known c.args.self.now.provider c.version_set_name-name.result)
 
+pub returns-clause-package : goal.returns-clause-package
+returns-clause-package g c =
+    let old = c.args.self.now in
+    let p = provided g old.provider in
+    let name : c.version_set_name-name.result ≡ p.universe.set_name c.args.set =
+    c.version_set_name-name.ensures ∙ ap (λ v. (g.D.Interner.universe v.provider).set_name c.args.set) c.self.view_is in
+    record {
+      asked = subst (λ n. IsAsked p (g.D.DependencyProvider.may_answer old.provider) g.D.SolvableId.Set.IdSet.has old n
+          c.get_or_cache_candidates.new.self) name c.in_ok-id.ensures.answered.asked;
+      later = c.in_ok-id.ensures.answered.later;
+      asked_now = grind (arith, common_steps);
+    }
+
 pub returns-clause-list : goal.returns-clause-list
 returns-clause-list g c =
     let answers = g.D.DependencyProvider.answers in
-    let found = c.in_ok-id.ensures.answer in
+    let answered = c.in_ok-id.ensures.answered in
+    let found = answered.answer in
     let same : c.index.result.now ≡ found.0 = same_answer _ _ c.in_ok-id.id _ _ (ap (λ v. v.candidates) c.self-2.view_is) c.index.ensures found.1 in
-    let provider : c.self-2.inside.provider ≡ c.args.self.now.provider = ap (λ v. v.provider) c.self-2.view_is ∙ c.in_ok-id.ensures.later.provider in
+    let provider : c.self-2.inside.provider ≡ c.args.self.now.provider = ap (λ v. v.provider) c.self-2.view_is ∙ answered.later.provider in
     let name : c.version_set_name-name.result ≡ (g.D.Interner.universe c.args.self.now.provider).set_name c.args.set =
     c.version_set_name-name.ensures ∙ ap (λ v. (g.D.Interner.universe v.provider).set_name c.args.set) c.self.view_is in
     let list : c.deref.result.now ≡ (answers c.args.self.now.provider).candidates ((g.D.Interner.universe c.args.self.now.provider).set_name c.args.set) =
@@ -34,20 +51,30 @@ returns-clause-list g c =
     c.in_ok-filter_candidates.ensures.ok ∙ ap (λ q. filtered ((answers q).matches c.args.set) c.args.inverse c.deref.result.now) provider
     ∙ ap (filtered ((answers c.args.self.now.provider).matches c.args.set) c.args.inverse) list
 
-pub returns-in_err-id-clause-refused_leaves : goal.returns-in_err-id-clause-refused_leaves
-returns-in_err-id-clause-refused_leaves g c =
+pub returns-in_err-id-clause-refused : goal.returns-in_err-id-clause-refused
+returns-in_err-id-clause-refused g c =
     let old = c.args.self.now in
     let p = provided g old.provider in
+    let refused = c.in_err-id.ensures.refused in
     let name : c.version_set_name-name.result ≡ p.universe.set_name c.args.set =
     c.version_set_name-name.ensures ∙ ap (λ v. (g.D.Interner.universe v.provider).set_name c.args.set) c.self.view_is in
-    on_err _ c.from_residual.result (inl (subst (λ n. IsUnasked p (g.D.DependencyProvider.may_answer old.provider) g.D.SolvableId.Set.IdSet.has old n
-    c.get_or_cache_candidates.new.self) name c.in_err-id.ensures.refused_hints))
+    handed_on _ c.from_residual.result c.in_err-id.field-0.0 c.from_residual.ensures.1 (record {
+      reason = rw (sym name) refused.reason;
+      left = inl (subst (λ n. IsUnasked p (g.D.DependencyProvider.may_answer old.provider) g.D.SolvableId.Set.IdSet.has old n
+          c.get_or_cache_candidates.new.self) name refused.left);
+      later = refused.later;
+    })
 
-pub returns-in_err-filter_candidates-clause-refused_leaves : goal.returns-in_err-filter_candidates-clause-refused_leaves
-returns-in_err-filter_candidates-clause-refused_leaves g c =
+pub returns-in_err-filter_candidates-clause-refused : goal.returns-in_err-filter_candidates-clause-refused
+returns-in_err-filter_candidates-clause-refused g c =
     let old = c.args.self.now in
     let p = provided g old.provider in
+    let answered = c.in_ok-id.ensures.answered in
     let name : c.version_set_name-name.result ≡ p.universe.set_name c.args.set =
     c.version_set_name-name.ensures ∙ ap (λ v. (g.D.Interner.universe v.provider).set_name c.args.set) c.self.view_is in
-    on_err _ c.from_residual-in_err-filter_candidates.result (inr (subst (λ n. IsAsked p (g.D.DependencyProvider.may_answer old.provider) g.D.SolvableId.Set.IdSet.has old n
-    c.get_or_cache_candidates.new.self) name c.in_ok-id.ensures.asked))
+    handed_on _ c.from_residual-in_err-filter_candidates.result (Store c.in_err-filter_candidates.field-0.0) c.from_residual-in_err-filter_candidates.ensures.1 (record {
+      reason = grind (arith, common_steps);
+      left = inr (subst (λ n. IsAsked p (g.D.DependencyProvider.may_answer old.provider) g.D.SolvableId.Set.IdSet.has old n
+          c.get_or_cache_candidates.new.self) name answered.asked);
+      later = answered.later;
+    })

@@ -4,6 +4,7 @@ use Rattle.solver_cache.specs.Cache.{listed}
 use Rattle.solver_cache.specs.Functions.{Provider, gathered}
 use Rattle.solver_cache.specs.declared.error.CacheError.TheVariants.{Store}
 use Rattle.solver_cache.proofs.CacheLemmas.{handed_on}
+use Rattle.solver_cache.proofs.FilteringLemmas.{memory_refused}
 use Rattle.solver_cache.proofs.ListedLemmas.{listed_joined}
 use Rattle.solver_cache.proofs.UnansweredLemmas.{all_sorted}
 use Rattle.solver_cache.proofs.cache.SolverCache.joined.Given.{Over}
@@ -19,12 +20,16 @@ returns-clause-list g c =
     let p = provided g c.args.self.now.provider in
     let new = c.get_or_cache_sorted_lists.new.self in
     c.in_ok-concatenated.ensures.ok ∙ ap (flat_map (listed new)) c.deref.ensures.value
-    ∙ listed_joined p new c.in_ok-ids.ids.items (p.universe.union_sets c.args.union) c.in_ok-ids.ensures.lists
+    ∙ listed_joined p new c.in_ok-ids.ids.items (p.universe.union_sets c.args.union) c.in_ok-ids.ensures.answered.lists
 
-pub returns-in_err-concatenated-clause-refused_leaves : goal.returns-in_err-concatenated-clause-refused_leaves
-returns-in_err-concatenated-clause-refused_leaves g c =
+pub returns-in_err-concatenated-clause-refused : goal.returns-in_err-concatenated-clause-refused
+returns-in_err-concatenated-clause-refused g c =
     let old = c.args.self.now in
     let p = provided g old.provider in
-    handed_on _ c.from_residual-in_err-concatenated.result (Store c.in_err-concatenated.field-0.0) c.from_residual-in_err-concatenated.ensures.1
-    (all_sorted p (g.D.DependencyProvider.may_answer old.provider) g.D.SolvableId.Set.IdSet.has (p.universe.union_sets c.args.union) old
-    c.get_or_cache_sorted_lists.new.self c.in_ok-ids.ensures.sorted)
+    let may = g.D.DependencyProvider.may_answer old.provider in
+    let answered = c.in_ok-ids.ensures.answered in
+    handed_on _ c.from_residual-in_err-concatenated.result (Store c.in_err-concatenated.field-0.0) c.from_residual-in_err-concatenated.ensures.1 (record {
+      reason = memory_refused _ c.in_err-concatenated.field-0.0 c.in_err-concatenated.ensures.memory;
+      left = all_sorted p may g.D.SolvableId.Set.IdSet.has (p.universe.union_sets c.args.union) old c.get_or_cache_sorted_lists.new.self answered.sorted;
+      later = answered.later;
+    })

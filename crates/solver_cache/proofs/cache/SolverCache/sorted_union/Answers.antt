@@ -9,7 +9,8 @@ use Rattle.solver_cache.specs.Functions.{Provider, gathered}
 use Rattle.solver_cache.specs.Questions.{IsLater}
 use Rattle.solver_cache.specs.Unanswered.{AreUnsorted}
 use Rattle.solver_cache.specs.declared.error.CacheError.TheVariants.{Store}
-use Rattle.solver_cache.proofs.CacheLemmas.{found_sorted, handed_on, more_list, more_sorted, none_of, once_new, right_sorted, same_is, union_still_new, value_last}
+use Rattle.solver_cache.proofs.CacheLemmas.{found_sorted, handed_on, later_same, more_list, more_sorted, none_of, once_kept, once_new, right_sorted, same_is, union_still_new, value_last}
+use Rattle.solver_cache.proofs.FilteringLemmas.{memory_refused}
 use Rattle.solver_cache.proofs.SortingLemmas.{later_sorted, not_kept}
 use Rattle.solver_cache.proofs.UnansweredLemmas.{all_sorted}
 use Rattle.solver_cache.proofs.cache.SolverCache.sorted_union.Given.{Over}
@@ -22,19 +23,19 @@ provided g = gathered g.D.NameId.PartialEq.eq g.D.SolvableId.PartialEq.eq g.D.Na
 
 -- what is kept
 
-pub returns-in-Some-clause-list : goal.returns-in-Some-clause-list
-returns-in-Some-clause-list g c =
+pub returns-in-Some-clause-answered : goal.returns-in-Some-clause-answered
+returns-in-Some-clause-answered g c =
+    let r = Union c.args.union in
     let kept = c.self.inside.sorted in
-    let alike = same_is (Union c.args.union) in
-    rw (sym c.self.view_is) ((found_sorted _ _ c.self.invariant (Union c.args.union) c.in-Some.place
-    (ap (λ t. is_kept t kept) (sym alike) ∙ sym c.in-Some.ensures.found) (c.in-Some.ensures.list ∙ ap (λ t. lookup t kept) alike)).0)
-
-pub returns-in-Some-clause-asked : goal.returns-in-Some-clause-asked
-returns-in-Some-clause-asked g c =
-    let kept = c.self.inside.sorted in
-    let alike = same_is (Union c.args.union) in
-    rw (sym c.self.view_is) ((found_sorted _ _ c.self.invariant (Union c.args.union) c.in-Some.place
-    (ap (λ t. is_kept t kept) (sym alike) ∙ sym c.in-Some.ensures.found) (c.in-Some.ensures.list ∙ ap (λ t. lookup t kept) alike)).1)
+    let alike = same_is r in
+    let is_there : is_kept (same_requirement r) kept ≡ true = ap (λ t. is_kept t kept) (sym alike) ∙ sym c.in-Some.ensures.found in
+    let found = found_sorted _ _ c.self.invariant r c.in-Some.place is_there (c.in-Some.ensures.list ∙ ap (λ t. lookup t kept) alike) in
+    rw (sym c.self.view_is) (record {
+      sorted = once_kept _ _ _ is_there;
+      list = found.0;
+      later = later_same _ _;
+      asked = found.1;
+    })
 
 -- only what isn't kept is refused
 
@@ -46,18 +47,22 @@ pub returns-in_err-place-in-None-clause-kept : goal.returns-in_err-place-in-None
 returns-in_err-place-in-None-clause-kept g c = λ kept.
     absurd (true≢false (sym kept ∙ rw (sym c.self.view_is) (not_kept (Union c.args.union) c.self.inside.sorted c.in-None.ensures.found)))
 
--- what a refusal leaves
+-- where the list can't be kept
 
-pub returns-in_err-place-in-None-clause-refused_leaves : goal.returns-in_err-place-in-None-clause-refused_leaves
-returns-in_err-place-in-None-clause-refused_leaves g c =
+pub returns-in_err-place-in-None-clause-refused : goal.returns-in_err-place-in-None-clause-refused
+returns-in_err-place-in-None-clause-refused g c =
     let old = c.args.self.now in
     let p = provided g old.provider in
     let may = g.D.DependencyProvider.may_answer old.provider in
     let has = g.D.SolvableId.Set.IdSet.has in
     let sets = p.universe.union_sets c.args.union in
-    handed_on _ c.from_residual-in_err-place-in-None.result (Store c.in_err-place-in-None.field-0.0) c.from_residual-in_err-place-in-None.ensures.1
-    (rw c.in_err-place-in-None.ensures.err (subst (λ v. AreUnsorted p may has old sets v) (sym c.self-in-None.view_is)
-    (all_sorted p may has sets old c.joined.new.self c.in_ok-list-in-None.ensures.sorted)))
+    let done = c.in_ok-list-in-None.ensures.sorted in
+    handed_on _ c.from_residual-in_err-place-in-None.result (Store c.in_err-place-in-None.field-0.0) c.from_residual-in_err-place-in-None.ensures.1 (record {
+      reason = memory_refused _ c.in_err-place-in-None.field-0.0 c.in_err-place-in-None.ensures.memory;
+      left = rw c.in_err-place-in-None.ensures.err (subst (λ v. AreUnsorted p may has old sets v) (sym c.self-in-None.view_is)
+          (all_sorted p may has sets old c.joined.new.self done.sorted));
+      later = rw c.in_err-place-in-None.ensures.err (subst (λ v. IsLater has old v) (sym c.self-in-None.view_is) done.later);
+    })
 
 -- where the list is kept
 
@@ -70,7 +75,7 @@ insert-requires g c =
     let p = provided g old.provider in
     let new : is_kept (same_requirement r) old.sorted ≡ false = rw (sym c.self.view_is) (not_kept r c.self.inside.sorted c.in-None.ensures.found) in
     let still : is_kept (same_requirement r) mid.sorted ≡ false =
-    union_still_new g.D.SolvableId.Set.IdSet.has p (g.D.DependencyProvider.may_answer old.provider) u (p.universe.union_sets u) old mid c.in_ok-list-in-None.ensures.sorted new in
+    union_still_new g.D.SolvableId.Set.IdSet.has p (g.D.DependencyProvider.may_answer old.provider) u (p.universe.union_sets u) old mid c.in_ok-list-in-None.ensures.sorted.sorted new in
     none_of _ (ap (λ t. is_kept t c.self-in-None.inside.sorted) (same_is r) ∙ ap (λ v. is_kept (same_requirement r) v.sorted) c.self-in-None.view_is ∙ still)
 
 pub invariant_of-self-in-None : goal.invariant_of-self-in-None
@@ -80,51 +85,33 @@ invariant_of-self-in-None g c =
     let old = c.args.self.now in
     let mid = c.joined.new.self in
     let q = c.self-in-None.inside.provider in
-    let same : q ≡ old.provider = ap (λ v. v.provider) c.self-in-None.view_is ∙ c.in_ok-list-in-None.ensures.later.provider in
+    let same : q ≡ old.provider = ap (λ v. v.provider) c.self-in-None.view_is ∙ c.in_ok-list-in-None.ensures.sorted.later.provider in
     rw c.in_ok-place-in-None.ensures.ok (right_sorted _ _ c.self-in-None.invariant r c.in_ok-list-in-None.list.items
     (c.in_ok-list-in-None.ensures.list ∙ ap (λ q. sorted_of (provided g q) r) (sym same))
     (subst (λ st. All (λ v. is_set_asked (provided g q) st v ≡ true) ((provided g q).universe.union_sets u)) (sym c.self-in-None.view_is)
-    (subst (λ q. All (λ v. is_set_asked (provided g q) mid v ≡ true) ((provided g q).universe.union_sets u)) (sym same) c.in_ok-list-in-None.ensures.asked)))
+    (subst (λ q. All (λ v. is_set_asked (provided g q) mid v ≡ true) ((provided g q).universe.union_sets u)) (sym same) c.in_ok-list-in-None.ensures.sorted.asked)))
 
-pub returns-in_ok-place-in-None-clause-sorted : goal.returns-in_ok-place-in-None-clause-sorted
-returns-in_ok-place-in-None-clause-sorted g c =
+pub returns-in_ok-place-in-None-clause-answered : goal.returns-in_ok-place-in-None-clause-answered
+returns-in_ok-place-in-None-clause-answered g c =
     let r = Union c.args.union in
-    let mid = c.joined.new.self in
-    let new : is_kept (same_requirement r) c.args.self.now.sorted ≡ false = rw (sym c.self.view_is) (not_kept r c.self.inside.sorted c.in-None.ensures.found) in
-    once_new _ _ _ _ new (
-      mid,
-      c.in_ok-list-in-None.ensures.sorted,
-      rw c.in_ok-place-in-None.ensures.ok (more_sorted _ _ c.self-in-None.view_is r c.in_ok-list-in-None.list.items ∙ more_list mid r _ _ c.in_ok-list-in-None.ensures.list),
-    )
-
-pub returns-in_ok-place-in-None-clause-list : goal.returns-in_ok-place-in-None-clause-list
-returns-in_ok-place-in-None-clause-list g c =
-    rw (c.in_ok-place-in-None.ensures.ok, c.in_ok-place-in-None.ensures.place)
-    (value_last c.self-in-None.inside.sorted (Union c.args.union) c.in_ok-list-in-None.list.items ∙ ap Some c.in_ok-list-in-None.ensures.list)
-
-pub returns-in_ok-place-in-None-clause-asked : goal.returns-in_ok-place-in-None-clause-asked
-returns-in_ok-place-in-None-clause-asked g c =
-    let p = provided g c.args.self.now.provider in
-    subst (λ st. All (λ v. is_set_asked p st v ≡ true) (p.universe.union_sets c.args.union)) (sym c.self-in-None.view_is) c.in_ok-list-in-None.ensures.asked
-
-pub returns-in_ok-place-in-None-clause-later : goal.returns-in_ok-place-in-None-clause-later
-returns-in_ok-place-in-None-clause-later g c =
     let has = g.D.SolvableId.Set.IdSet.has in
     let old = c.args.self.now in
-    rw c.in_ok-place-in-None.ensures.ok (later_sorted has old _ (Union c.args.union) c.in_ok-list-in-None.list.items
-    (subst (λ v. IsLater has old v) (sym c.self-in-None.view_is) c.in_ok-list-in-None.ensures.later))
-
-pub returns-in_err-list-in-None-clause-list : goal.returns-in_err-list-in-None-clause-list
-returns-in_err-list-in-None-clause-list g c = grind (arith, common_steps)
-
-pub returns-in_err-list-in-None-clause-asked : goal.returns-in_err-list-in-None-clause-asked
-returns-in_err-list-in-None-clause-asked g c = grind (arith, common_steps)
+    let mid = c.joined.new.self in
+    let p = provided g old.provider in
+    let list = c.in_ok-list-in-None.list.items in
+    let done = c.in_ok-list-in-None.ensures.sorted in
+    let new : is_kept (same_requirement r) old.sorted ≡ false = rw (sym c.self.view_is) (not_kept r c.self.inside.sorted c.in-None.ensures.found) in
+    record {
+      sorted = once_new _ _ _ _ new (
+        mid,
+        done.sorted,
+        rw c.in_ok-place-in-None.ensures.ok (more_sorted _ _ c.self-in-None.view_is r list ∙ more_list mid r _ _ c.in_ok-list-in-None.ensures.list),
+      );
+      list = rw (c.in_ok-place-in-None.ensures.ok, c.in_ok-place-in-None.ensures.place)
+          (value_last c.self-in-None.inside.sorted r list ∙ ap Some c.in_ok-list-in-None.ensures.list);
+      later = rw c.in_ok-place-in-None.ensures.ok (later_sorted has old _ r list (subst (λ v. IsLater has old v) (sym c.self-in-None.view_is) done.later));
+      asked = subst (λ st. All (λ v. is_set_asked p st v ≡ true) (p.universe.union_sets c.args.union)) (sym c.self-in-None.view_is) done.asked;
+    }
 
 pub invariant_of-self : goal.invariant_of-self
 invariant_of-self g c = grind (arith, common_steps)
-
-pub returns-in-Some-clause-sorted : goal.returns-in-Some-clause-sorted
-returns-in-Some-clause-sorted g c = grind (arith, common_steps)
-
-pub returns-in-Some-clause-later : goal.returns-in-Some-clause-later
-returns-in-Some-clause-later g c = grind (arith, common_steps)
