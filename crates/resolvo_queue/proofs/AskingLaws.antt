@@ -1,5 +1,5 @@
 -- What a question keeps, step by step.
-use Rattle.std.proofs.Common.{◌≡◌, ℕ, Bool, true, false, List, get_or, Option, None, Some, slice_get, refl, ◌∙◌, subst}
+use Rattle.std.proofs.Common.{◌≡◌, Bool, true, false, List, get_or, Option, Some, slice_get, refl, ◌∙◌, subst}
 use Rattle.clauses.specs.declared.disjunction.Disjunction.{Disjunction}
 use Rattle.decisions.specs.Literals.{Values}
 use Rattle.providers.specs.Provider.{Universe}

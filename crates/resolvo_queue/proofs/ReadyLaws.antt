@@ -6,7 +6,7 @@ use Rattle.providers.specs.declared.requirement.Requirement.{Requirement}
 use Rattle.resolvo_queue.specs.declared.frontier.Frontier.{Frontier}
 use Rattle.resolvo_queue.specs.Pick.{Offer, beats}
 use Rattle.resolvo_queue.specs.Rows.{Row, frontier}
-use Rattle.resolvo_queue.specs.Inspection.{Learns, eligible_frontier, may_be, offer_with, clause_of, offer_of}
+use Rattle.resolvo_queue.specs.Inspection.{Learns, eligible_frontier, may_be, offer_with, offer_of}
 use Rattle.resolvo_queue.specs.Positions.{has, same_position}
 use Rattle.resolvo_queue.specs.Possible.{Known, may_have_frontier, may_be_eligible, HoldsPossible, KnowsRight}
 use Rattle.resolvo_queue.specs.Scan.{are_literals_false}

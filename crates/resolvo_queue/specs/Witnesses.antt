@@ -1,5 +1,5 @@
 -- Which clauses may be falsified: a requirement isn't, as long as its witness, a variable of one of its rows, isn't false.
-use Rattle.std.specs.Prelude.{◌≡◌, ◌⊎◌, ◌+◌, ◌<◌, ◌≤◌, ℕ, Bool, true, false, if◌then◌else◌, List, [], Option, None, Some, slice_get, length, Contains, IfSome, IsSome}
+use Rattle.std.specs.Prelude.{◌≡◌, ◌⊎◌, ◌<◌, ◌≤◌, ℕ, Bool, true, false, List, [], Option, Some, slice_get, length, Contains, IfSome, IsSome}
 use Rattle.std.specs.List.{list_all}
 use Rattle.std.specs.Map.{lookup}
 use Rattle.std.specs.Option.{option_flatten}
@@ -9,13 +9,11 @@ use Rattle.providers.specs.declared.requirement.Requirement.{Requirement}
 use Rattle.clauses.specs.Clauses.{condition_literals}
 use Rattle.clauses.specs.Stored.{kept_in}
 use Rattle.clauses.specs.declared.disjunction.Disjunction.{Disjunction}
-use Rattle.resolvo_queue.specs.Listing.{IsListedWell}
-use Rattle.resolvo_queue.specs.Occurrences.{Listed, is_listed, times}
+use Rattle.resolvo_queue.specs.Occurrences.{Listed, is_listed}
 use Rattle.resolvo_queue.specs.Order.{Stands}
 use Rattle.resolvo_queue.specs.References.{Lists}
 use Rattle.resolvo_queue.specs.Rows.{candidates}
 use Rattle.resolvo_queue.specs.Scan.{are_literals_false}
-use Rattle.resolvo_queue.specs.Tracked.{Tracked}
 use Rattle.resolvo_queue.specs.declared.tracked_clause.TrackedClause.{TrackedClause}
 
 -- what looks for witnesses found, the last one for each requirement that was looked at; and the looks, oldest first

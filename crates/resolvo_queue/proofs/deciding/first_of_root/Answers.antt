@@ -1,4 +1,4 @@
-use Rattle.std.proofs.Common.{◌≡◌, option_map, slice_get, subst, sym}
+use Rattle.std.proofs.Common.{◌≡◌, option_map, slice_get, subst}
 use Rattle.decisions.specs.Decisions.{values_in}
 use Rattle.resolvo_queue.specs.Index.{list_at}
 use Rattle.resolvo_queue.specs.Question.{clause_literals, offers_in}
