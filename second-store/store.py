@@ -2,7 +2,7 @@
 
 It obeys the lines of a script (docs/FORMAT.md) by lists and plain loops, and answers each as docs/BEHAVIOUR.md says: each list is
 read anew wherever it is asked for, nothing is indexed, and nothing is kept that could be reckoned. It has no line in common with
-the product, nor a language. It reads well-formed lines alone, and is never refused memory or ids.
+the product, nor a language. It reads well-formed lines alone (`reading.py` tells which are), and is never refused memory or ids.
 """
 
 MOST = 2**64 - 1
@@ -397,19 +397,3 @@ def operands(kind, words):
         "rewatch": ["clause", "literal", "literal"],
         "watchers": ["literal"],
     }.get(kind, [])
-
-
-def answers(script):
-    """The lines that answer a script."""
-    lines = [line for line in script.splitlines() if line.split() and not line.split()[0].startswith("#")]
-    packages = Packages()
-    store = None
-    told = []
-    for line in lines:
-        if store:
-            told.append(store.obey(line))
-        elif line.split()[0] == "begin":
-            store = Store(packages)
-        else:
-            packages.add(line.split()[0], line.split()[1:])
-    return told
