@@ -166,11 +166,17 @@ impl<D: DependencyProvider + Drop> Search<D> {
         Ok(())
     }
 
-    /// Says that the parent, if true, forbids the candidates that the version set doesn't hold.
+    /// Says that the parent, if true, forbids the candidates that the version set doesn't hold. A parent that is one of
+    /// them is false at level 1: its clause has one literal twice, and a clause watches two literals or none.
     fn constrain(&mut self, parent: VariableId, set: VersionSetId) -> Result<()> {
         for outside in &self.outside(set)? {
             if let Reply::Variable(outside) = self.obey(Command::Variable(*outside))? {
-                self.tell(Command::Constrains(parent, outside, set))?;
+                match self.obey(Command::Constrains(parent, outside, set))? {
+                    Reply::Clause(clause, _) if outside == parent => {
+                        self.assign(Literal::new(parent, true), clause)?;
+                    }
+                    _ => {}
+                }
             }
         }
         Ok(())
