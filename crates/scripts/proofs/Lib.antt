@@ -1,3 +1,5 @@
+pub mod Beginnings
+pub mod EndLemmas
 pub mod LiteralLemmas
 pub mod ScriptLemmas
 pub mod TranscriptLemmas

@@ -1,4 +1,5 @@
 pub mod Commands
+pub mod Ends
 pub mod Replies
 pub mod ScriptStore
 pub mod Scripts

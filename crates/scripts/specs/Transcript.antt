@@ -1,5 +1,6 @@
 -- What the commands of a script are answered.
-use Rattle.std.specs.Prelude.{◌≡◌, ℕ, ◌+◌, List, [], ◌∷◌, ◌++◌, Option, None, Some, IsSome, Result, Ok, Err, ⊤}
+use Rattle.std.specs.Prelude.{◌≡◌, ℕ, ◌+◌, List, [], ◌∷◌, ◌++◌, ◌⊎◌, Option, None, Some, IsSome, Result, Ok, Err, ⊤}
+use Rattle.std.specs.Io.{StartsWith}
 use Rattle.resolvo_store.specs.declared.command.Command.{Command as ProgramCommand}
 use Rattle.resolvo_store.specs.Command.{Command, Reply, command_of}
 use Rattle.resolvo_store.specs.Store.{Store}
@@ -19,11 +20,6 @@ IsRead given (Ok c) = given ≡ Some (command_of c)
 IsRead given (Err OfLine.Unreadable) = given ≡ None
 IsRead given (Err OfLine.Memory) = IsSome given
 
--- what a line says is a command
-abbrev pub IsCommand : {N S : Type 0} → Line (Command N S) → Type 0
-IsCommand (Says c) = ⊤
-IsCommand _ = ⊥
-
 -- a line says a command, or it is skipped and this holds of those after it
 abbrev pub BeginsCommand : {N S : Type 0} → Line (Command N S) → Type 0 → Type 0
 BeginsCommand Skipped after = after
@@ -31,11 +27,18 @@ BeginsCommand Unreadable after = ⊥
 BeginsCommand (Says c) after = ⊤
 
 module _ {N S : Type 0} where
+  -- memory was refused for the command that a line says, and the text stays; or for the reply's line, of which a beginning
+  -- is put after the text
+  abbrev pub RefusesLine : Store N S → Line (Command N S) → List ℕ → List ℕ → Store N S → Type 0
+  RefusesLine old (Says c) text text' new =
+      (text' ≡ text) ⊎ ((reply : Reply) × Step old c reply new × StartsWith (text ++ reply_text reply) text')
+  RefusesLine old _ text text' new = ⊥
+
   -- a line that says this is obeyed, and a text grows by the reply's line; or the line is unreadable; or memory was
   -- refused, which only a command can be
   abbrev pub ObeysLine : {T : Type 0} → Store N S → Line (Command N S) → List ℕ → Result T LineFault → List ℕ → Store N S
       → Type 0
-  ObeysLine old said text (Err OfLine.Memory) text' new = IsCommand said
+  ObeysLine old said text (Err OfLine.Memory) text' new = RefusesLine old said text text' new
   ObeysLine old said text (Err OfLine.Unreadable) text' new = (said ≡ Unreadable) × (text' ≡ text)
   ObeysLine old Skipped text (Ok _) text' new = (text' ≡ text) × (new ≡ old)
   ObeysLine old Unreadable text (Ok _) text' new = ⊥

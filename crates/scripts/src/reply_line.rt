@@ -1,8 +1,10 @@
 //! Reply lines.
-ghost use Rattle.std.specs.Prelude.{◌≡◌, ◌++◌, OnOk, codes, decimal, map, flat_map};
+#![tactic(auto, using(crate::proofs::Beginnings::begins_more, crate::proofs::Beginnings::begins_whole))]
+
+ghost use Rattle.std.specs.Prelude.{◌++◌, codes, decimal, map, flat_map};
 ghost use Rattle.resolvo_store.specs.Command.{reply_of};
 ghost use Rattle.resolvo_store.specs.ReplyTexts.{field, reply_words, list_text, others_text, lists_text, conflict_text, tracked_text, decision_text, undone_text, next_text, assignment_text, truth_text, words_text};
-ghost use Rattle.scripts.specs.Replies.{reply_text, unreadable_text};
+ghost use Rattle.scripts.specs.Replies.{Pushes, reply_text, unreadable_text};
 
 use decisions::Decision;
 use itoa::Buffer;
@@ -13,14 +15,14 @@ use typed_ids::{ClauseId, DenseIndex, VariableId};
 
 /// Puts the line of a reply after the text.
 pub fn push_reply<A: Allocator>(text: &mut Vec<u8>, reply: &Reply<A>) -> Result<(), AllocError>
-    ensures { OnOk result (text.new.items ≡ text.old.items ++ reply_text (reply_of reply.now)) }
+    ensures { Pushes result text.old.items text.new.items (reply_text (reply_of reply.now)) }
 {
     push_words(text, reply)?;
     text.extend_from_slice(b"\n")
 }
 
 fn push_words<A: Allocator>(text: &mut Vec<u8>, reply: &Reply<A>) -> Result<(), AllocError>
-    ensures { OnOk result (text.new.items ≡ text.old.items ++ reply_words (reply_of reply.now)) }
+    ensures { Pushes result text.old.items text.new.items (reply_words (reply_of reply.now)) }
 {
     match reply {
         Reply::Variable(variable) => push_field(text, b"variable ", variable.to_index()),
@@ -47,7 +49,7 @@ fn push_words<A: Allocator>(text: &mut Vec<u8>, reply: &Reply<A>) -> Result<(), 
 
 /// Puts the line that names an unreadable line after the text.
 pub fn push_unreadable(text: &mut Vec<u8>, number: u64) -> Result<(), AllocError>
-    ensures { OnOk result (text.new.items ≡ text.old.items ++ unreadable_text number) }
+    ensures { Pushes result text.old.items text.new.items (unreadable_text number) }
 {
     text.extend_from_slice(b"line ")?;
     push_number(text, number)?;
@@ -56,9 +58,9 @@ pub fn push_unreadable(text: &mut Vec<u8>, number: u64) -> Result<(), AllocError
 
 /// A number; one of a single digit, as most are, needs no buffer.
 #[inline(never)]
-#[tactic(auto, using(std::proofs::lemmas::Fmt::decimal_digit))]
+#[tactic(auto, using(std::proofs::lemmas::Fmt::decimal_digit, crate::proofs::Beginnings::begins_more, crate::proofs::Beginnings::begins_whole))]
 fn push_number(text: &mut Vec<u8>, number: u64) -> Result<(), AllocError>
-    ensures { OnOk result (text.new.items ≡ text.old.items ++ decimal number) }
+    ensures { Pushes result text.old.items text.new.items (decimal number) }
 {
     if number < 10 {
         text.extend_from_slice(&[b'0' + number as u8])
@@ -70,7 +72,7 @@ fn push_number(text: &mut Vec<u8>, number: u64) -> Result<(), AllocError>
 /// A number of any size.
 #[inline(never)]
 fn push_digits(text: &mut Vec<u8>, number: u64) -> Result<(), AllocError>
-    ensures { OnOk result (text.new.items ≡ text.old.items ++ decimal number) }
+    ensures { Pushes result text.old.items text.new.items (decimal number) }
 {
     let mut buffer = Buffer::new();
     text.extend_from_slice(buffer.format(number).as_bytes())
@@ -79,14 +81,14 @@ fn push_digits(text: &mut Vec<u8>, number: u64) -> Result<(), AllocError>
 /// A text, and a number directly after it.
 #[inline(always)]
 fn push_field(text: &mut Vec<u8>, name: &[u8], number: usize) -> Result<(), AllocError>
-    ensures { OnOk result (text.new.items ≡ text.old.items ++ (name.now ++ decimal number)) }
+    ensures { Pushes result text.old.items text.new.items (name.now ++ decimal number) }
 {
     text.extend_from_slice(name)?;
     push_number(text, number as u64)
 }
 
 fn push_clause(text: &mut Vec<u8>, clause: ClauseId, conflict: bool) -> Result<(), AllocError>
-    ensures { OnOk result (text.new.items ≡ text.old.items ++ (field (codes "clause ") clause ++ conflict_text conflict)) }
+    ensures { Pushes result text.old.items text.new.items (field (codes "clause ") clause ++ conflict_text conflict) }
 {
     push_field(text, b"clause ", clause.to_index())?;
     if conflict {
@@ -97,7 +99,7 @@ fn push_clause(text: &mut Vec<u8>, clause: ClauseId, conflict: bool) -> Result<(
 
 /// Whether a variable is new, and the number of clauses.
 fn push_tracked(text: &mut Vec<u8>, new: bool, clauses: usize) -> Result<(), AllocError>
-    ensures { OnOk result (text.new.items ≡ text.old.items ++ tracked_text new clauses) }
+    ensures { Pushes result text.old.items text.new.items (tracked_text new clauses) }
 {
     if new {
         push_field(text, b"tracked yes ", clauses)
@@ -107,7 +109,7 @@ fn push_tracked(text: &mut Vec<u8>, new: bool, clauses: usize) -> Result<(), All
 }
 
 fn push_truth(text: &mut Vec<u8>, value: bool) -> Result<(), AllocError>
-    ensures { OnOk result (text.new.items ≡ text.old.items ++ truth_text value) }
+    ensures { Pushes result text.old.items text.new.items (truth_text value) }
 {
     if value {
         text.extend_from_slice(b" true")
@@ -117,7 +119,7 @@ fn push_truth(text: &mut Vec<u8>, value: bool) -> Result<(), AllocError>
 }
 
 fn push_undone(text: &mut Vec<u8>, last: Option<(Decision, u32)>) -> Result<(), AllocError>
-    ensures { OnOk result (text.new.items ≡ text.old.items ++ undone_text last) }
+    ensures { Pushes result text.old.items text.new.items (undone_text last) }
 {
     text.extend_from_slice(b"undone")?;
     if let Some((decision, level)) = last {
@@ -128,7 +130,7 @@ fn push_undone(text: &mut Vec<u8>, last: Option<(Decision, u32)>) -> Result<(), 
 }
 
 fn push_next(text: &mut Vec<u8>, decision: Option<Decision>) -> Result<(), AllocError>
-    ensures { OnOk result (text.new.items ≡ text.old.items ++ next_text decision) }
+    ensures { Pushes result text.old.items text.new.items (next_text decision) }
 {
     match decision {
         None => text.extend_from_slice(b"next none"),
@@ -141,7 +143,7 @@ fn push_next(text: &mut Vec<u8>, decision: Option<Decision>) -> Result<(), Alloc
 
 /// A variable, its value, and the clause that gave it, each after a blank.
 fn push_assignment(text: &mut Vec<u8>, decision: Decision) -> Result<(), AllocError>
-    ensures { OnOk result (text.new.items ≡ text.old.items ++ assignment_text decision) }
+    ensures { Pushes result text.old.items text.new.items (assignment_text decision) }
 {
     push_field(text, b" ", decision.variable.to_index())?;
     push_truth(text, decision.value)?;
@@ -149,7 +151,7 @@ fn push_assignment(text: &mut Vec<u8>, decision: Decision) -> Result<(), AllocEr
 }
 
 fn push_decision(text: &mut Vec<u8>, decision: &QueueDecision) -> Result<(), AllocError>
-    ensures { OnOk result (text.new.items ≡ text.old.items ++ decision_text decision.now) }
+    ensures { Pushes result text.old.items text.new.items (decision_text decision.now) }
 {
     push_field(text, b"decided ", decision.candidate.to_index())?;
     push_field(text, b" by ", decision.required_by.to_index())?;
@@ -159,7 +161,7 @@ fn push_decision(text: &mut Vec<u8>, decision: &QueueDecision) -> Result<(), All
 
 /// What a decision is weighed by: its package's score, and the number of candidates.
 fn push_weight(text: &mut Vec<u8>, score: u64, count: usize) -> Result<(), AllocError>
-    ensures { OnOk result (text.new.items ≡ text.old.items ++ (field (codes " score ") score ++ field (codes " count ") count)) }
+    ensures { Pushes result text.old.items text.new.items (field (codes " score ") score ++ field (codes " count ") count) }
 {
     push_field(text, b" score ", score as usize)?;
     push_field(text, b" count ", count)
@@ -167,7 +169,7 @@ fn push_weight(text: &mut Vec<u8>, score: u64, count: usize) -> Result<(), Alloc
 
 /// `watchers`, and each clause after a blank, or `-` for none.
 fn push_watchers(text: &mut Vec<u8>, clauses: &[ClauseId]) -> Result<(), AllocError>
-    ensures { OnOk result (text.new.items ≡ text.old.items ++ (codes "watchers" ++ words_text clauses.now)) }
+    ensures { Pushes result text.old.items text.new.items (codes "watchers" ++ words_text clauses.now) }
 {
     text.extend_from_slice(b"watchers")?;
     match clauses {
@@ -178,7 +180,7 @@ fn push_watchers(text: &mut Vec<u8>, clauses: &[ClauseId]) -> Result<(), AllocEr
 
 /// Each clause after a blank.
 fn push_clauses(text: &mut Vec<u8>, clauses: &[ClauseId]) -> Result<(), AllocError>
-    ensures { OnOk result (text.new.items ≡ text.old.items ++ flat_map (field (codes " ")) clauses.now) }
+    ensures { Pushes result text.old.items text.new.items (flat_map (field (codes " ")) clauses.now) }
 {
     for clause in clauses {
         push_field(text, b" ", clause.to_index())?;
@@ -191,7 +193,7 @@ fn push_lists<A: Allocator>(
     text: &mut Vec<u8>,
     lists: &[Vec<VariableId, A>],
 ) -> Result<(), AllocError>
-    ensures { OnOk result (text.new.items ≡ text.old.items ++ (codes "loaded" ++ lists_text (map (λ l. l.items) lists.now))) }
+    ensures { Pushes result text.old.items text.new.items (codes "loaded" ++ lists_text (map (λ l. l.items) lists.now)) }
 {
     text.extend_from_slice(b"loaded")?;
     for list in lists {
@@ -202,7 +204,7 @@ fn push_lists<A: Allocator>(
 
 /// A blank, and the word of a list.
 fn push_word(text: &mut Vec<u8>, list: &[VariableId]) -> Result<(), AllocError>
-    ensures { OnOk result (text.new.items ≡ text.old.items ++ (codes " " ++ list_text list.now)) }
+    ensures { Pushes result text.old.items text.new.items (codes " " ++ list_text list.now) }
 {
     text.extend_from_slice(b" ")?;
     push_list(text, list)
@@ -210,7 +212,7 @@ fn push_word(text: &mut Vec<u8>, list: &[VariableId]) -> Result<(), AllocError>
 
 /// The variables of a list, joined by commas, or `-` for none.
 fn push_list(text: &mut Vec<u8>, list: &[VariableId]) -> Result<(), AllocError>
-    ensures { OnOk result (text.new.items ≡ text.old.items ++ list_text list.now) }
+    ensures { Pushes result text.old.items text.new.items (list_text list.now) }
 {
     match list {
         [] => text.extend_from_slice(b"-"),
@@ -223,7 +225,7 @@ fn push_list(text: &mut Vec<u8>, list: &[VariableId]) -> Result<(), AllocError>
 
 /// Each variable after a comma.
 fn push_others(text: &mut Vec<u8>, others: &[VariableId]) -> Result<(), AllocError>
-    ensures { OnOk result (text.new.items ≡ text.old.items ++ others_text others.now) }
+    ensures { Pushes result text.old.items text.new.items (others_text others.now) }
 {
     for variable in others {
         push_field(text, b",", variable.to_index())?;

@@ -1,10 +1,12 @@
 //! Scripts: a catalogue, and then commands, each of which is answered by a line.
-ghost use Rattle.std.specs.Prelude.{◌≡◌, ℕ, List, [], ◌++◌, ◌+◌, ◌^◌, ◌<◌, ◌⊎◌, length, IfSome, IfOk, IfErr};
+ghost use Rattle.std.specs.Prelude.{◌≡◌, ℕ, true, List, [], ◌++◌, ◌+◌, ◌^◌, ◌<◌, ◌⊎◌, length, IfSome, IfOk, IfErr};
 ghost use Rattle.script_text.specs.declared.fault.ScriptFault.TheVariants.{Device, Memory};
 ghost use Rattle.script_text.specs.Lines.{lines as lines_of};
+ghost use Rattle.std.specs.Io.{StartsWith};
 ghost use Rattle.script_text.specs.Output.{Writes};
 ghost use Rattle.scripts.specs.Commands.{ids_at, command_meant};
 ghost use Rattle.resolvo_store.specs.Store.{new_store};
+ghost use Rattle.scripts.specs.Ends.{HandsAnswer, named_text, TakesBeginning, WriterEnds, DevicesEnd};
 ghost use Rattle.scripts.specs.Scripts.{ScriptAnswered, faulty_text};
 ghost use Rattle.scripts.specs.Transcript.{ObeysLine, Answered, HasCommand, IfRead};
 
@@ -14,33 +16,43 @@ use providers::DependencyProvider;
 use resolvo_store::{AbstractStore, ClauseStore};
 use script_packages::read_catalogue;
 use script_text::{
-    Line, LineFault, ScriptFault, Statement, next_statement, read_whole, write_much, write_rest,
+    Line, LineFault, ScriptFault, Sink, Source, Statement, next_statement, read_whole, write_much,
+    write_rest,
 };
 use solver_cache::ProviderFunctions;
 use std::alloc::Global;
-use std::io::{Read, Write};
 use typed_ids::DenseIndex;
 
 /// Reads a whole script, obeys its commands in turn, and writes a line for each reply. At the first unreadable line the
 /// line that names it is written, and nothing more is read. All that was to be written is written and flushed at every
 /// end but that of a writer that fails, which isn't written to again.
-pub fn script<R: Read, W: Write>(
+pub fn script<R: Source, W: Sink>(
     alloc: Global,
     reader: &mut R,
     writer: &mut W,
 ) -> Result<(), ScriptFault>
-    ensures { IfSome (R.remaining reader.old) (λ input. IfRead result (λ faulty. (text : List ℕ) × ScriptAnswered (lines_of input) text faulty
+    ensures read { IfSome (R.remaining reader.old) (λ input. IfRead result (λ faulty. (text : List ℕ) × ScriptAnswered (lines_of input) text faulty
         × Writes (W.contents writer.old) [] (W.contents writer.new) [] (text ++ faulty_text faulty))) }
+    ensures cut { IfSome (R.remaining reader.old) (λ input. TakesBeginning (lines_of input) (W.contents writer.old) (W.contents writer.new)) }
+    ensures ends { DevicesEnd R.reads R.fails W.writes W.fails reader.old writer.old result reader.new writer.new }
 {
     let input = read_whole(alloc, reader)?;
     let mut waiting = Vec::new(alloc);
     let ended = obey_text(alloc, &input, &mut waiting, writer);
-    if let Err(ScriptFault::Device) = ended {
-        return ended;
+    if has_failed(&ended) {
+        return Err(ScriptFault::Device);
     }
     let named = name_unreadable(&mut waiting, ended);
     write_rest(&mut waiting, writer)?;
     named
+}
+
+/// Whether a device failed.
+fn has_failed(ended: &Result<(), ScriptFault>) -> bool
+    ensures failed { result ≡ true → ended.now ≡ Err Device }
+    ensures other { ended.now ≡ Err Device → result ≡ true }
+{
+    matches!(ended, Err(ScriptFault::Device))
 }
 
 /// How a script ended, once its unreadable line is named.
@@ -49,6 +61,7 @@ fn name_unreadable(waiting: &mut Vec<u8>, ended: Result<(), ScriptFault>) -> Res
     ensures device { ended ≡ Err Device → result ≡ Err Device }
     ensures memory { ended ≡ Err Memory → result ≡ Err Memory }
     ensures other { (result ≡ ended) ⊎ (result ≡ Err Memory) }
+    ensures cut { StartsWith (waiting.old.items ++ named_text ended) waiting.new.items }
 {
     if let Err(ScriptFault::Unreadable(number)) = ended {
         push_unreadable(waiting, number)?;
@@ -57,14 +70,14 @@ fn name_unreadable(waiting: &mut Vec<u8>, ended: Result<(), ScriptFault>) -> Res
 }
 
 /// Obeys a script's text.
-fn obey_text<W: Write>(
+fn obey_text<W: Sink>(
     alloc: Global,
     text: &[u8],
     waiting: &mut Vec<u8>,
     writer: &mut W,
 ) -> Result<(), ScriptFault>
-    ensures { IfRead result (λ faulty. (answer : List ℕ) × ScriptAnswered (lines_of text.now) answer faulty
-        × Writes (W.contents writer.old) waiting.old.items (W.contents writer.new) waiting.new.items answer) }
+    ensures answer { HandsAnswer ScriptAnswered (lines_of text.now) (W.contents writer.old) waiting.old.items result (W.contents writer.new) waiting.new.items }
+    ensures ends { WriterEnds W.writes W.fails writer.old result writer.new }
 {
     match read_catalogue(alloc, text) {
         Ok(None) => Ok(()),
@@ -81,10 +94,7 @@ fn obey_text<W: Write>(
 }
 
 /// Obeys the commands of these lines in turn, with so many before them, over the packages of the provider.
-fn obey_commands<
-    D: DependencyProvider<NameId: DenseIndex, SolvableId: DenseIndex> + Drop,
-    W: Write,
->(
+fn obey_commands<D: DependencyProvider<NameId: DenseIndex, SolvableId: DenseIndex> + Drop, W: Sink>(
     alloc: D::Alloc,
     provider: D,
     lines: &[u8],
@@ -93,9 +103,9 @@ fn obey_commands<
     writer: &mut W,
 ) -> Result<(), ScriptFault>
     requires { before + length lines.now < 2 ^ 64 }
-    ensures { IfRead result (λ faulty. (text : List ℕ)
-        × Answered (ids_at D.NameId.limit D.NameId.id_at D.SolvableId.limit D.SolvableId.id_at) (new_store (⟦<D as ProviderFunctions>⟧.functions provider)) before (lines_of lines.now) text faulty
-        × Writes (W.contents writer.old) waiting.old.items (W.contents writer.new) waiting.new.items text) }
+    ensures answer { HandsAnswer (Answered (ids_at D.NameId.limit D.NameId.id_at D.SolvableId.limit D.SolvableId.id_at) (new_store (⟦<D as ProviderFunctions>⟧.functions provider)) before)
+        (lines_of lines.now) (W.contents writer.old) waiting.old.items result (W.contents writer.new) waiting.new.items }
+    ensures ends { WriterEnds W.writes W.fails writer.old result writer.new }
 {
     let mut store = store_over(alloc, provider)?;
     let ended = obey_lines(alloc, &mut store, lines, before, waiting, writer);
@@ -115,7 +125,7 @@ fn store_over<D: DependencyProvider + Drop>(
 }
 
 /// Obeys the lines in turn, with so many before them.
-fn obey_lines<D: DependencyProvider<NameId: DenseIndex, SolvableId: DenseIndex> + Drop, W: Write>(
+fn obey_lines<D: DependencyProvider<NameId: DenseIndex, SolvableId: DenseIndex> + Drop, W: Sink>(
     alloc: D::Alloc,
     store: &mut ClauseStore<D>,
     lines: &[u8],
@@ -124,9 +134,9 @@ fn obey_lines<D: DependencyProvider<NameId: DenseIndex, SolvableId: DenseIndex> 
     writer: &mut W,
 ) -> Result<(), ScriptFault>
     requires { before + length lines.now < 2 ^ 64 }
-    ensures read { IfRead result (λ faulty. (text : List ℕ)
-        × Answered (ids_at D.NameId.limit D.NameId.id_at D.SolvableId.limit D.SolvableId.id_at) (⟦<D as AbstractStore>⟧.store store.old) before (lines_of lines.now) text faulty
-        × Writes (W.contents writer.old) waiting.old.items (W.contents writer.new) waiting.new.items text) }
+    ensures answer { HandsAnswer (Answered (ids_at D.NameId.limit D.NameId.id_at D.SolvableId.limit D.SolvableId.id_at) (⟦<D as AbstractStore>⟧.store store.old) before)
+        (lines_of lines.now) (W.contents writer.old) waiting.old.items result (W.contents writer.new) waiting.new.items }
+    ensures ends { WriterEnds W.writes W.fails writer.old result writer.new }
     ensures memory { result ≡ Err Memory → HasCommand (ids_at D.NameId.limit D.NameId.id_at D.SolvableId.limit D.SolvableId.id_at) (lines_of lines.now) }
 {
     let mut number = before;

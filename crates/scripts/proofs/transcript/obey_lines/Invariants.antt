@@ -3,6 +3,7 @@ use Rattle.resolvo_store.specs.Store.{Store, Kept, store_of, gathered}
 use Rattle.script_text.specs.Lines.{lines as lines_of}
 use Rattle.scripts.specs.Commands.{Ids, ids_at}
 use Rattle.scripts.specs.Transcript.{HasCommand}
+use Rattle.script_text.specs.Devices.{GoesWell}
 use Rattle.scripts.proofs.TranscriptLemmas.{SoFar}
 use Rattle.scripts.proofs.transcript.obey_lines.Given as goal
 
@@ -17,8 +18,9 @@ named g = ids_at g.D.NameId.DenseIndex.limit g.D.NameId.DenseIndex.id_at g.D.Sol
 abbrev pub invariant-loop-said : goal.invariant-loop-said
 invariant-loop-said g l = record {
   fits : l.number + length l.rest ≤ l.before + length l.lines;
-  so_far : SoFar (named g) (store g l.fn.store) l.before (lines_of l.lines) (g.W.Write.contents l.fn.writer) l.fn.waiting.items
-      (store g l.store) l.number (lines_of l.rest) (g.W.Write.contents l.writer) l.waiting.items;
+  so_far : SoFar (named g) (store g l.fn.store) l.before (lines_of l.lines) (g.W.Sink.contents l.fn.writer) l.fn.waiting.items
+      (store g l.store) l.number (lines_of l.rest) (g.W.Sink.contents l.writer) l.waiting.items;
+  writer : GoesWell g.W.Sink.writes g.W.Sink.fails l.fn.writer l.writer;
   command : HasCommand (named g) (lines_of l.rest) → HasCommand (named g) (lines_of l.lines);
 }
 
