@@ -4,9 +4,12 @@ ghost use Rattle.script_packages.specs.Ids.{truth_of};
 ghost use Rattle.script_text.specs.Words.{words};
 ghost use Rattle.resolvo_store.specs.Command.{command_of};
 ghost use Rattle.scripts.specs.Commands.{ids_at, only_word, pair_of, pair_and_set_of, helper_origin_of};
-ghost use Rattle.scripts.specs.Commands.{command_said, plain_command, package_command, seldom_command, between_command, bare_command};
-ghost use Rattle.scripts.specs.Commands.{variable_command, helper_command, load_command, disjunction_command, requires_command, assign_command};
-ghost use Rattle.scripts.specs.Commands.{undo_command, exclude_command, learnt_command, rewatch_command, watchers_command, saturate_command};
+ghost use Rattle.scripts.specs.Commands.{command_said, plain_command, package_command, seldom_command, between_command};
+ghost use Rattle.scripts.specs.Commands.{bare_command};
+ghost use Rattle.scripts.specs.Commands.{variable_command, helper_command, load_command, disjunction_command};
+ghost use Rattle.scripts.specs.Commands.{requires_command, assign_command};
+ghost use Rattle.scripts.specs.Commands.{undo_command, exclude_command, learnt_command, rewatch_command};
+ghost use Rattle.scripts.specs.Commands.{watchers_command, saturate_command};
 ghost use Rattle.scripts.specs.Commands.{at_most_once_command, bump_command, decay_command, standard_command};
 ghost use Rattle.scripts.specs.Transcript.{IsRead};
 
@@ -23,7 +26,8 @@ pub fn command<N: DenseIndex, S: DenseIndex, A: Allocator>(
     alloc: A,
     said: Statement<'_>,
 ) -> Result<Command<N, S, A>, LineFault>
-    ensures { IsRead (command_said (ids_at N.limit N.id_at S.limit S.id_at) said.entry.keyword.now (words said.entry.rest.now)) result }
+    ensures { IsRead (command_said (ids_at N.limit N.id_at S.limit S.id_at) said.entry.keyword.now
+        (words said.entry.rest.now)) result }
 {
     if is_word(said.keyword, b"learnt") {
         learnt(alloc, said.rest)

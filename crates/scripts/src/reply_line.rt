@@ -3,7 +3,9 @@
 
 ghost use Rattle.std.specs.Prelude.{◌++◌, codes, decimal, map, flat_map};
 ghost use Rattle.resolvo_store.specs.Command.{reply_of};
-ghost use Rattle.resolvo_store.specs.ReplyTexts.{field, reply_words, list_text, others_text, lists_text, conflict_text, tracked_text, decision_text, undone_text, next_text, assignment_text, truth_text, words_text};
+ghost use Rattle.resolvo_store.specs.ReplyTexts.{field, reply_words, list_text, others_text, lists_text, conflict_text};
+ghost use Rattle.resolvo_store.specs.ReplyTexts.{tracked_text, decision_text, undone_text, next_text, assignment_text};
+ghost use Rattle.resolvo_store.specs.ReplyTexts.{truth_text, words_text};
 ghost use Rattle.scripts.specs.Replies.{Pushes, reply_text, unreadable_text};
 
 use decisions::Decision;
@@ -161,7 +163,8 @@ fn push_decision(text: &mut Vec<u8>, decision: &QueueDecision) -> Result<(), All
 
 /// What a decision is weighed by: its package's score, and the number of candidates.
 fn push_weight(text: &mut Vec<u8>, score: u64, count: usize) -> Result<(), AllocError>
-    ensures { Pushes result text.old.items text.new.items (field (codes " score ") score ++ field (codes " count ") count) }
+    ensures { Pushes result text.old.items text.new.items
+        (field (codes " score ") score ++ field (codes " count ") count) }
 {
     push_field(text, b" score ", score as usize)?;
     push_field(text, b" count ", count)
@@ -193,7 +196,8 @@ fn push_lists<A: Allocator>(
     text: &mut Vec<u8>,
     lists: &[Vec<VariableId, A>],
 ) -> Result<(), AllocError>
-    ensures { Pushes result text.old.items text.new.items (codes "loaded" ++ lists_text (map (λ l. l.items) lists.now)) }
+    ensures { Pushes result text.old.items text.new.items
+        (codes "loaded" ++ lists_text (map (λ l. l.items) lists.now)) }
 {
     text.extend_from_slice(b"loaded")?;
     for list in lists {

@@ -31,9 +31,11 @@ pub fn script<R: Source, W: Sink>(
     reader: &mut R,
     writer: &mut W,
 ) -> Result<(), ScriptFault>
-    ensures read { IfSome (R.remaining reader.old) (λ input. IfRead result (λ faulty. (text : List ℕ) × ScriptAnswered (lines_of input) text faulty
+    ensures read { IfSome (R.remaining reader.old) (λ input. IfRead result (λ faulty. (text : List ℕ)
+        × ScriptAnswered (lines_of input) text faulty
         × Writes (W.contents writer.old) [] (W.contents writer.new) [] (text ++ faulty_text faulty))) }
-    ensures cut { IfSome (R.remaining reader.old) (λ input. TakesBeginning (lines_of input) (W.contents writer.old) (W.contents writer.new)) }
+    ensures cut { IfSome (R.remaining reader.old)
+        (λ input. TakesBeginning (lines_of input) (W.contents writer.old) (W.contents writer.new)) }
     ensures ends { DevicesEnd R.reads R.fails W.writes W.fails reader.old writer.old result reader.new writer.new }
 {
     let input = read_whole(alloc, reader)?;
@@ -57,7 +59,8 @@ fn has_failed(ended: &Result<(), ScriptFault>) -> bool
 
 /// How a script ended, once its unreadable line is named.
 fn name_unreadable(waiting: &mut Vec<u8>, ended: Result<(), ScriptFault>) -> Result<(), ScriptFault>
-    ensures read { IfRead result (λ faulty. IfRead ended (λ was. (faulty ≡ was) × (waiting.new.items ≡ waiting.old.items ++ faulty_text was))) }
+    ensures read { IfRead result (λ faulty. IfRead ended (λ was. (faulty ≡ was)
+        × (waiting.new.items ≡ waiting.old.items ++ faulty_text was))) }
     ensures device { ended ≡ Err Device → result ≡ Err Device }
     ensures memory { ended ≡ Err Memory → result ≡ Err Memory }
     ensures other { (result ≡ ended) ⊎ (result ≡ Err Memory) }
@@ -76,7 +79,8 @@ fn obey_text<W: Sink>(
     waiting: &mut Vec<u8>,
     writer: &mut W,
 ) -> Result<(), ScriptFault>
-    ensures answer { HandsAnswer ScriptAnswered (lines_of text.now) (W.contents writer.old) waiting.old.items result (W.contents writer.new) waiting.new.items }
+    ensures answer { HandsAnswer ScriptAnswered (lines_of text.now) (W.contents writer.old) waiting.old.items result
+        (W.contents writer.new) waiting.new.items }
     ensures ends { WriterEnds W.writes W.fails writer.old result writer.new }
 {
     match read_catalogue(alloc, text) {
@@ -103,8 +107,10 @@ fn obey_commands<D: DependencyProvider<NameId: DenseIndex, SolvableId: DenseInde
     writer: &mut W,
 ) -> Result<(), ScriptFault>
     requires { before + length lines.now < 2 ^ 64 }
-    ensures answer { HandsAnswer (Answered (ids_at D.NameId.limit D.NameId.id_at D.SolvableId.limit D.SolvableId.id_at) (new_store (⟦<D as ProviderFunctions>⟧.functions provider)) before)
-        (lines_of lines.now) (W.contents writer.old) waiting.old.items result (W.contents writer.new) waiting.new.items }
+    ensures answer { HandsAnswer (Answered (ids_at D.NameId.limit D.NameId.id_at D.SolvableId.limit D.SolvableId.id_at)
+        (new_store (⟦<D as ProviderFunctions>⟧.functions provider)) before)
+        (lines_of lines.now) (W.contents writer.old) waiting.old.items result (W.contents writer.new)
+        waiting.new.items }
     ensures ends { WriterEnds W.writes W.fails writer.old result writer.new }
 {
     let mut store = store_over(alloc, provider)?;
@@ -118,7 +124,8 @@ fn store_over<D: DependencyProvider + Drop>(
     alloc: D::Alloc,
     provider: D,
 ) -> Result<ClauseStore<D>, ScriptFault>
-    ensures ok { IfOk result (λ store. ⟦<D as AbstractStore>⟧.store store ≡ new_store (⟦<D as ProviderFunctions>⟧.functions provider)) }
+    ensures ok { IfOk result (λ store. ⟦<D as AbstractStore>⟧.store store ≡ new_store
+        (⟦<D as ProviderFunctions>⟧.functions provider)) }
     ensures err { IfErr result (λ e. e ≡ Memory) }
 {
     ClauseStore::new(alloc, provider).map_err(|_| ScriptFault::Memory)
@@ -134,10 +141,13 @@ fn obey_lines<D: DependencyProvider<NameId: DenseIndex, SolvableId: DenseIndex> 
     writer: &mut W,
 ) -> Result<(), ScriptFault>
     requires { before + length lines.now < 2 ^ 64 }
-    ensures answer { HandsAnswer (Answered (ids_at D.NameId.limit D.NameId.id_at D.SolvableId.limit D.SolvableId.id_at) (⟦<D as AbstractStore>⟧.store store.old) before)
-        (lines_of lines.now) (W.contents writer.old) waiting.old.items result (W.contents writer.new) waiting.new.items }
+    ensures answer { HandsAnswer (Answered (ids_at D.NameId.limit D.NameId.id_at D.SolvableId.limit D.SolvableId.id_at)
+        (⟦<D as AbstractStore>⟧.store store.old) before)
+        (lines_of lines.now) (W.contents writer.old) waiting.old.items result (W.contents writer.new)
+        waiting.new.items }
     ensures ends { WriterEnds W.writes W.fails writer.old result writer.new }
-    ensures memory { result ≡ Err Memory → HasCommand (ids_at D.NameId.limit D.NameId.id_at D.SolvableId.limit D.SolvableId.id_at) (lines_of lines.now) }
+    ensures memory { result ≡ Err Memory →
+        HasCommand (ids_at D.NameId.limit D.NameId.id_at D.SolvableId.limit D.SolvableId.id_at) (lines_of lines.now) }
 {
     let mut number = before;
     let mut rest = lines;
@@ -160,7 +170,8 @@ fn obey_line<D: DependencyProvider<NameId: DenseIndex, SolvableId: DenseIndex> +
     said: Line<Statement<'_>>,
     waiting: &mut Vec<u8>,
 ) -> Result<(), LineFault>
-    ensures { ObeysLine (⟦<D as AbstractStore>⟧.store store.old) (command_meant (ids_at D.NameId.limit D.NameId.id_at D.SolvableId.limit D.SolvableId.id_at) said.entry)
+    ensures { ObeysLine (⟦<D as AbstractStore>⟧.store store.old)
+        (command_meant (ids_at D.NameId.limit D.NameId.id_at D.SolvableId.limit D.SolvableId.id_at) said.entry)
         waiting.old.items result waiting.new.items (⟦<D as AbstractStore>⟧.store store.new) }
 {
     match said {
