@@ -89,7 +89,7 @@ def words(line):
     """The words of a line; none of a comment."""
     for byte in line:
         if not 32 <= byte <= 126:
-            raise Unreadable(f"the byte {byte} is no printed character of ASCII, nor a blank; a tab (byte 9) isn't either")
+            raise Unreadable(f"the byte {byte} is no printed character of ASCII, nor a blank; nor is a tab (byte 9)")
     cut = [word for word in line.decode("ascii").split(" ") if word]
     return [] if cut and cut[0].startswith("#") else cut
 
@@ -147,8 +147,9 @@ def read_line(line, is_command):
     fitting = [form for form in own if form.split()[0] == line[0]]
     if not fitting:
         if any(form.split()[0] == line[0] for form in others):
-            where = "a line of the catalogue, which `begin` has ended" if is_command else "a command, and no `begin` comes before"
-            raise Unreadable(f"`{line[0]}` is {where}")
+            if is_command:
+                raise Unreadable(f"`{line[0]}` is a line of the catalogue, which `begin` has ended")
+            raise Unreadable(f"`{line[0]}` is a command, and no `begin` comes before")
         raise Unreadable(f"unknown word `{line[0]}`")
     if len(fitting) > 1 and fitting[0].split()[1].islower():
         kinds = [form.split()[1] for form in fitting]
