@@ -43,7 +43,7 @@ module _ {W : Type 0} (writes fails : W → W → Type 0) (T : Type 0) where
   ends_unwritten w m w' ended named is other h on =
       subst (λ r. WriterEnds writes fails w r w') (sym is) (GivesUp-after writes fails w m w' (well_before w m ended other h) on)
 
--- what `?` hands on of a device's fault
-pub fails_so : {T : Type 0} (r : Result T ScriptFault) (e : ScriptFault) → IsErrAnd r (λ f. f ≡ e) → e ≡ Device → r ≡ Err Device
-fails_so (Ok t) e h is = absurd h
-fails_so (Err f) e h is = ap Err (h ∙ is)
+-- what `?` hands on of a fault
+pub fails_so : {T : Type 0} (r : Result T ScriptFault) (e fault : ScriptFault) → IsErrAnd r (λ f. f ≡ e) → e ≡ fault → r ≡ Err fault
+fails_so (Ok t) e fault h is = absurd h
+fails_so (Err f) e fault h is = ap Err (h ∙ is)

@@ -75,9 +75,9 @@ catalogue_faulty T Device lines held w h = absurd h
 catalogue_faulty T Memory lines held w h = ([], [], nothing_first lines, HandsOn-wait held w (w ++ []) [] refl)
 
 -- no line begins the commands
-pub never_begun : {T : Type 0} (t : T) (lines : List (List ℕ)) (held : Option (List ℕ)) (w : List ℕ) → NeverBegins nothing_listed lines
-    → HandsAnswer ScriptAnswered lines held w (Ok t) held w
-never_begun t lines held w h = ([], inl (h, refl), HandsOn-wait held w w [] (sym (append-nil w)))
+pub never_begun : (T : Type 0) (t : T) (lines : List (List ℕ)) (held : Option (List ℕ)) (w : List ℕ) → NeverBegins nothing_listed lines
+    → HandsAnswer ScriptAnswered {T = T} lines held w (Ok t) held w
+never_begun T t lines held w h = ([], inl (h, refl), HandsOn-wait held w w [] (sym (append-nil w)))
 
 -- nothing was written
 pub nothing_taken : (lines : List (List ℕ)) (held : Option (List ℕ)) → TakesBeginning lines held held

@@ -107,6 +107,12 @@ module _ {N S : Type 0} (ids : Ids N S) where
           sym (append-nil own) ∙ sym (append-nil (own ++ [])),
         )
 
+    -- memory was refused before any line
+    pub ended_before : (T : Type 0) (r : Result T ScriptFault) → r ≡ Err OfScript.Memory → HandsAnswer (Answered ids first before) all held w r held w
+    ended_before T r is =
+        subst (λ e. HandsAnswer (Answered ids first before) all held w e held w) (sym is)
+        ([], [], ([], all, [], None, refl, (refl, refl), refl), HandsOn-wait held w (w ++ []) [] refl)
+
     -- the end of the lines
     pub ended_well : (T : Type 0) (now : Store N S) (number : ℕ) (left : List (List ℕ)) (held' : Option (List ℕ)) (w' : List ℕ) (t : T)
         → left ≡ [] → SoFar first before all held w now number left held' w' → HandsAnswer (Answered ids first before) {T = T} all held w (Ok t) held' w'

@@ -15,8 +15,8 @@ module _ (answered : List (List ℕ) → List ℕ → Option ℕ → Type 0) whe
       (first left : List (List ℕ)) × (answer : List ℕ) × (faulty : Option ℕ) × (lines ≡ first ++ left) × answered first answer faulty
       × (text ≡ answer ++ faulty_text faulty)
 
-  -- what lines are answered was handed on, and waits where it isn't written: all of it; or, of an answer to the first of them, all but
-  -- what memory was refused for, or what a writer that failed took
+  -- what lines are answered was handed on, and waits where it isn't written: all of it; or, of an answer to the first
+  -- of them, all but what memory was refused for, or what a writer that failed took
   abbrev pub HandsAnswer : {T : Type 0} → List (List ℕ) → Option (List ℕ) → List ℕ → Result T ScriptFault → Option (List ℕ)
       → List ℕ → Type 0
   HandsAnswer lines held waiting (Ok _) held' waiting' =

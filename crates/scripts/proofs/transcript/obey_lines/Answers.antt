@@ -1,5 +1,6 @@
-use Rattle.std.proofs.Common.{◌≡◌, ◌+◌, arith, refl, sym, subst}
-use Rattle.script_text.specs.declared.fault.ScriptFault.TheVariants.{Memory}
+use Rattle.std.proofs.Common.{◌≡◌, ◌+◌, [], arith, refl, sym, subst}
+use Rattle.std.proofs.lemmas.Grind.{common_steps}
+use Rattle.script_text.specs.declared.fault.ScriptFault.TheVariants.{Device, Memory}
 use Rattle.script_text.specs.Lines.{lines as lines_of}
 use Rattle.script_text.proofs.Calls.{GoesWell-trans, GivesUp-after}
 use Rattle.scripts.proofs.EndLemmas.{ends_at_fault, fails_so}
@@ -34,14 +35,14 @@ returns-in-Err-clause-memory g c h =
 
 pub returns-in_err-write_much-clause-answer : goal.returns-in_err-write_much-clause-answer
 returns-in_err-write_much-clause-answer g c =
-    let fails = fails_so _ _ c.from_residual.ensures.1 c.in_err-write_much.ensures.err in
+    let fails = fails_so _ _ Device c.from_residual.ensures.1 c.in_err-write_much.ensures.err in
     ended_cut (named g) (store g c.args.store.now) c.args.before (lines_of c.args.lines.now) _ _ (Unit {0}) _ _ _ _ _ _ _ _ fails c.in_err-write_much.ensures.failed
     (so_far_more (named g) (store g c.args.store.now) _ _ c.args.before _ (lines_of c.args.lines.now) _ _ _ _ _ _ _ _ _ _
     c.in-Some.ensures.first.1 c.in-Some.ensures.first.2 c.in-Ok.ensures c.loop-said.invariant.so_far)
 
 pub returns-in_err-write_much-clause-ends : goal.returns-in_err-write_much-clause-ends
 returns-in_err-write_much-clause-ends g c =
-    let fails = fails_so _ _ c.from_residual.ensures.1 c.in_err-write_much.ensures.err in
+    let fails = fails_so _ _ Device c.from_residual.ensures.1 c.in_err-write_much.ensures.err in
     subst (λ r. WriterEnds g.W.Sink.writes g.W.Sink.fails {T = Unit {0}} c.args.writer.now r c.write_much.new.writer) (sym fails)
     (GivesUp-after g.W.Sink.writes g.W.Sink.fails c.args.writer.now c.loop-said.writer c.write_much.new.writer c.loop-said.invariant.writer c.in_err-write_much.ensures.ends)
 
@@ -57,4 +58,5 @@ loop-said-preserved g c = record {
 
 pub returns-clause-answer : goal.returns-clause-answer
 returns-clause-answer g c =
-    ended_well (named g) (store g c.args.store.now) c.args.before (lines_of c.args.lines.now) _ _ (Unit {0}) _ _ _ _ _ _ c.in-None.ensures.first c.loop-said.invariant.so_far
+    let none : lines_of c.loop-said.rest.now ≡ [] = grind (arith, common_steps) in
+    ended_well (named g) (store g c.args.store.now) c.args.before (lines_of c.args.lines.now) _ _ (Unit {0}) _ _ _ _ _ _ none c.loop-said.invariant.so_far

@@ -6,7 +6,7 @@ pub returns-in-Err-clause-answer : goal.returns-in-Err-clause-answer
 returns-in-Err-clause-answer g c = catalogue_faulty (Unit {0}) c.in-Err.fault (lines_of c.args.text.now) _ _ c.in-Err.ensures.err
 
 pub returns-in-Ok-None-clause-answer : goal.returns-in-Ok-None-clause-answer
-returns-in-Ok-None-clause-answer g c = never_begun _ (lines_of c.args.text.now) _ _ (rw c.in-Ok-None.field-0-is at c.in-Ok-None.ensures.ok)
+returns-in-Ok-None-clause-answer g c = never_begun (Unit {0}) tt (lines_of c.args.text.now) _ _ (rw c.in-Ok-None.field-0-is at c.in-Ok-None.ensures.ok)
 
 pub returns-in-Ok-Some-clause-answer : goal.returns-in-Ok-Some-clause-answer
 returns-in-Ok-Some-clause-answer g c =

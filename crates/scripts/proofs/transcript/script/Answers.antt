@@ -28,7 +28,7 @@ returns-in_err-write_rest-clause-ends g c =
     inr (
       c.in_ok-input.ensures.ends,
       ends_unwritten g.W.Sink.writes g.W.Sink.fails (Unit {0}) c.args.writer.now c.obey_text-ended.new.writer c.write_rest.new.writer c.obey_text-ended.result _
-          (fails_so _ _ c.from_residual-in_err-write_rest.ensures.1 c.in_err-write_rest.ensures.err) other c.obey_text-ended.ensures.ends c.in_err-write_rest.ensures.ends,
+          (fails_so _ _ Device c.from_residual-in_err-write_rest.ensures.1 c.in_err-write_rest.ensures.err) other c.obey_text-ended.ensures.ends c.in_err-write_rest.ensures.ends,
     )
 
 pub returns-then-has_failed-clause-cut : goal.returns-then-has_failed-clause-cut
