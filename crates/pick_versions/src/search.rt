@@ -1,11 +1,14 @@
 //! A resolver's search over the clause store, for any provider.
 //!
 //! [`Search`] looks for solvables that meet a list of requirements: with each what it needs, nothing that it forbids, and
-//! at most one version of a package. It encodes all that may be picked; then it decides, propagates, and goes back one
-//! level where a clause is false. To stay short it learns nothing, refuses a condition that joins others (`UnknownId`), and
-//! doesn't ask which candidates are locked or excluded.
+//! at most one version of a package. It encodes all that may be picked; then it saturates and decides in turn. Where a
+//! clause is false it learns which choices can't stand together, and goes back to where all of them but the last one
+//! stand. To stay short it refuses a condition that joins others (`UnknownId`), and doesn't ask which candidates are locked
+//! or excluded.
 use resolvo_clauses::{Decision, Literal, VariableOrigin};
-use resolvo_ids::{ClauseId, ConditionId, DenseIndex, StoreError, VariableId, VersionSetId};
+use resolvo_ids::{
+    ClauseId, ConditionId, DenseIndex, IndexedSet, StoreError, VariableId, VersionSetId,
+};
 use resolvo_pool::{Condition, ConditionalRequirement as Wanted, Dependencies, DependencyProvider};
 use resolvo_store::{ClauseStore, Command, Reply};
 use std::alloc::Allocator;
@@ -23,14 +26,32 @@ pub(crate) enum SearchEnd<S, A: Allocator> {
     StepsUsed,
 }
 
+/// What was chosen to be true at a level: at level 1 the root, and then candidates.
+#[derive(Clone, Copy)]
+struct Choice {
+    variable: VariableId,
+    /// How many assignments were made below its level.
+    below: usize,
+}
+
+/// An assignment, with its level.
+#[derive(Clone, Copy)]
+struct Assigned {
+    decision: Decision,
+    level: usize,
+    is_choice: bool,
+}
+
 /// A search, which owns its store.
 #[derive(Drop)]
 pub(crate) struct Search<D: DependencyProvider> {
     pub(crate) store: ClauseStore<D>,
     /// What may be picked.
     candidates: Vec<(VariableId, D::SolvableId), D::Alloc>,
-    /// What was chosen to be true, one variable a level: at level 1 the root, and then candidates.
-    choices: Vec<VariableId, D::Alloc>,
+    /// A choice for each level.
+    choices: Vec<Choice, D::Alloc>,
+    /// The trail as it was read last, oldest first.
+    trail: Vec<Assigned, D::Alloc>,
     alloc: D::Alloc,
 }
 
@@ -41,6 +62,7 @@ impl<D: DependencyProvider + Drop> Search<D> {
             store,
             candidates: Vec::new(alloc),
             choices: Vec::new(alloc),
+            trail: Vec::new(alloc),
             alloc,
         }
     }
@@ -62,8 +84,9 @@ impl<D: DependencyProvider + Drop> Search<D> {
         Ok(())
     }
 
-    /// Searches on. A step propagates an assignment, decides, or goes back, which rules a choice out while those before it
-    /// stand. So it ends, but perhaps after very many steps. After a refusal the search is of no use.
+    /// Searches on. A step makes what follows from the choices true, and then chooses, or learns which choices can't stand
+    /// together; these don't come together again. So it ends, but perhaps after very many steps. After a refusal the
+    /// search is of no use.
     pub(crate) fn run(&mut self, steps: u64) -> Result<SearchEnd<D::SolvableId, D::Alloc>> {
         for _ in 0..steps {
             if self.choices.is_empty() {
@@ -78,13 +101,13 @@ impl<D: DependencyProvider + Drop> Search<D> {
 
     /// Makes a step, and answers whether one was left.
     fn goes_on(&mut self) -> Result<bool> {
-        if let Reply::Next(Some(assigned)) = self.obey(Command::Unpropagated)? {
-            self.propagate(assigned)?;
+        if let Reply::Conflict(clause) = self.obey(Command::Saturate(self.level()))? {
+            self.learn(clause)?;
             return Ok(true);
         }
         match self.obey(Command::Decide)? {
             Reply::Decided(next) => self.choose(next.candidate, next.clause_id)?,
-            Reply::Falsified(clause) => self.backtrack(clause)?,
+            Reply::Falsified(clause) => self.learn(clause)?,
             _ => return Ok(false),
         }
         Ok(true)
@@ -195,49 +218,107 @@ impl<D: DependencyProvider + Drop> Search<D> {
     }
 
     /// Makes a candidate true at a new level.
-    fn choose(&mut self, candidate: VariableId, clause: ClauseId) -> Result<()> {
-        self.choices.push(candidate)?;
-        self.assign(Literal::new(candidate, false), clause)
+    fn choose(&mut self, variable: VariableId, clause: ClauseId) -> Result<()> {
+        self.read_trail()?;
+        let below = self.trail.len();
+        self.choices.push(Choice { variable, below })?;
+        self.assign(Literal::new(variable, false), clause)
     }
 
-    /// Assigns at the level of the last choice. What is above is taken back. The store refuses a level that is too high.
+    /// The level of the last choice. The store refuses one that is too high.
+    fn level(&self) -> u32 {
+        u32::try_from(self.choices.len()).unwrap_or(u32::MAX)
+    }
+
+    /// Assigns at the level of the last choice. What is above is taken back.
     fn assign(&mut self, literal: Literal, clause: ClauseId) -> Result<()> {
         let (variable, value) = (literal.variable(), literal.satisfying_value());
-        let level = u32::try_from(self.choices.len()).unwrap_or(u32::MAX);
+        let level = self.level();
         self.tell(Command::UndoUntil(level))?;
         self.tell(Command::Assign(variable, value, clause, level))
     }
 
-    /// Looks at the clauses that watch the literal which is false now. Those of more than two literals are left to `Decide`.
-    fn propagate(&mut self, assigned: Decision) -> Result<()> {
-        let falsified = Literal::new(assigned.variable, assigned.value);
-        for clause in &self.store.watchers(falsified)? {
-            match self.left(*clause)? {
-                [None, _] => return self.backtrack(*clause),
-                [Some(last), None] => self.assign(last, *clause)?,
-                _ => {}
+    /// Reads what was assigned since it was read last, all of it at the level of the last choice.
+    fn read_trail(&mut self) -> Result<()> {
+        for _ in 0..u32::MAX {
+            let Reply::Next(Some(decision)) = self.obey(Command::Unpropagated)? else {
+                break;
+            };
+            let is_choice = match self.choices.last() {
+                Some(choice) => choice.variable == decision.variable,
+                None => false,
+            };
+            self.trail.push(Assigned {
+                decision,
+                level: self.choices.len(),
+                is_choice,
+            })?;
+        }
+        Ok(())
+    }
+
+    /// Learns from a false clause that the choices which it follows from can't stand together. Goes back to where all of
+    /// them but the last one stand, and makes that one false there. Where the root alone is to blame, no choice is left.
+    fn learn(&mut self, conflict: ClauseId) -> Result<()> {
+        self.read_trail()?;
+        let blamed = self.blamed(conflict)?;
+        match blamed.as_slice() {
+            [] => self.choices.clear(),
+            [last] => {
+                self.go_back(1)?;
+                self.assign(Literal::new(last.decision.variable, true), conflict)?;
+            }
+            [last, next, ..] => {
+                self.go_back(next.level)?;
+                let mut literals = Vec::new(self.alloc);
+                for choice in &blamed {
+                    literals.push(Literal::new(choice.decision.variable, true))?;
+                }
+                if let Reply::Clause(learnt, _) = self.obey(Command::Learnt(literals))? {
+                    self.assign(Literal::new(last.decision.variable, true), learnt)?;
+                }
             }
         }
         Ok(())
     }
 
-    /// The last two literals of a clause that aren't false, the last one first.
-    fn left(&self, clause: ClauseId) -> Result<[Option<Literal>; 2]> {
-        let mut left = [None, None];
-        for literal in self.store.literals(clause)?.iter().flatten() {
-            if self.store.value(literal.variable()) != Some(!literal.satisfying_value()) {
-                left = [Some(*literal), left[0]];
+    /// The choices above the root that a false clause follows from, the last one first. The trail is walked backwards, since
+    /// what an assignment follows from was assigned before it.
+    fn blamed(&self, conflict: ClauseId) -> Result<Vec<Assigned, D::Alloc>> {
+        let mut met = IndexedSet::new(self.alloc);
+        self.meet(&mut met, conflict)?;
+        let mut blamed = Vec::new(self.alloc);
+        for assigned in self.trail.iter().rev() {
+            if assigned.level < 2 {
+                break;
+            }
+            if !met.contains(assigned.decision.variable) {
+                continue;
+            }
+            if assigned.is_choice {
+                blamed.push(*assigned)?;
+            } else {
+                self.meet(&mut met, assigned.decision.derived_from)?;
             }
         }
-        Ok(left)
+        Ok(blamed)
     }
 
-    /// Takes the last choice back, and rules it out at the level below. Where it was the root, no choice is left.
-    fn backtrack(&mut self, clause: ClauseId) -> Result<()> {
-        match (self.choices.pop(), self.choices.is_empty()) {
-            (Some(failed), false) => self.assign(Literal::new(failed, true), clause),
-            _ => Ok(()),
+    /// Adds the variables of a clause.
+    fn meet(&self, met: &mut IndexedSet<VariableId, D::Alloc>, clause: ClauseId) -> Result<()> {
+        for literal in self.store.literals(clause)?.iter().flatten() {
+            met.insert(literal.variable())?;
         }
+        Ok(())
+    }
+
+    /// Takes back what is above a level.
+    fn go_back(&mut self, level: usize) -> Result<()> {
+        if let Some(choice) = self.choices.get(level) {
+            self.trail.truncate(choice.below);
+        }
+        self.choices.truncate(level);
+        self.tell(Command::UndoUntil(self.level()))
     }
 
     /// The candidates that are true.
