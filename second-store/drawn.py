@@ -1,7 +1,7 @@
 """Lists of commands that a recurrence draws, each over small packages of its own.
 
-They mostly name what is there, with ids, levels and fractions a bit outside now and then, and are weighted so that decisions come
-about. A list follows from its number alone.
+They mostly name what is there, with ids, levels and fractions a bit outside now and then, and are weighted so that
+decisions come about. A list follows from its number alone.
 """
 import collections
 
@@ -35,8 +35,9 @@ class Recurrence:
 
 
 def catalogue(recurrence):
-    """Two or three packages of three to five versions each, up to six version sets, two unions, conditions and a string. A version set
-    may be empty, or of a package that has no version. Names are numbers, which are those that they get."""
+    """Two or three packages of three to five versions each, up to six version sets, two unions, conditions and a
+    string. A version set may be empty, or of a package that has no version. Names are numbers, which are those that
+    they get."""
     names, versions = recurrence.below(2) + 2, recurrence.below(3) + 3
     favored = recurrence.below(names * versions * 2)
     for name in range(names):
@@ -84,10 +85,10 @@ class List:
         self.commands.append(line)
 
     def begin(self):
-        """The root is true, a helper variable 1 false and another 2 true, and a disjunction is met. Then version sets are loaded and
-        required, packages get scores, and a decision is asked for."""
-        opening = "root;assign 0 true 0 1;helper any-of 0;assign 1 false 0 2;helper any-of 1;assign 2 true 0 2;disjunction 0 +1"
-        for line in opening.split(";"):
+        """The root is true, a helper variable 1 false and another 2 true, and a disjunction is met. Then version sets
+        are loaded and required, packages get scores, and a decision is asked for."""
+        helpers = "helper any-of 0;assign 1 false 0 2;helper any-of 1;assign 2 true 0 2"
+        for line in f"root;assign 0 true 0 1;{helpers};disjunction 0 +1".split(";"):
             self.give(line)
         self.give(self.standard())
         for _ in range(self.draw.below(4) + 1):
@@ -103,8 +104,8 @@ class List:
         return [f"trial {self.number}{ways}", *self.catalogue, "begin", *self.commands]
 
     def told(self, ways=""):
-        """The lines that are told of it: the answers, the literals of all clauses, the next decision, and how often the provider was
-        asked for candidates, and whether to stop: once for each package of what was loaded."""
+        """The lines that are told of it: the answers, the literals of all clauses, the next decision, and how often
+        the provider was asked for candidates, and whether to stop: once for each package of what was loaded."""
         decision = self.store.decide()
         literals = ["".join(map(written, clause)) for clause in self.store.clauses]
         sets = [number for requirement in self.store.loaded for number in self.packages.sets_of(requirement)]
@@ -259,7 +260,8 @@ def kinds(drawn):
             told = told[:2] if told[0] in ("refused", "tracked") else [told[0], str(len(told))]
             yield f"{kind}: {' '.join(told)}"
         elif kind == "requires":
-            yield f"requires{' under a condition' * (len(command.split()) > 3)}: clause{' conflict' * (told[-1] == 'conflict')}"
+            condition = " under a condition" * (len(command.split()) > 3)
+            yield f"requires{condition}: clause{' conflict' * (told[-1] == 'conflict')}"
         elif told[0] == "decided":
             score = {"0": "none", str(MOST): "the highest"}.get(told[7], "some")
             yield f"decide: of {'the root' if told[3] == '0' else 'another'}, score {score}"

@@ -1,8 +1,9 @@
 """A second clause store, naive on purpose, beside which the product's is tested.
 
-It obeys the lines of a script (docs/FORMAT.md) by lists and plain loops, and answers each as docs/BEHAVIOUR.md says: each list is
-read anew wherever it is asked for, nothing is indexed, and nothing is kept that could be reckoned. It has no line in common with
-the product, nor a language. It reads well-formed lines alone (`reading.py` tells which are), and is never refused memory or ids.
+It obeys the lines of a script (docs/FORMAT.md) by lists and plain loops, and answers each as docs/BEHAVIOUR.md says:
+each list is read anew wherever it is asked for, nothing is indexed, and nothing is kept that could be reckoned. It has
+no line in common with the product, nor a language. It reads well-formed lines alone (`reading.py` tells which are),
+and is never refused memory or ids.
 """
 
 MOST = 2**64 - 1

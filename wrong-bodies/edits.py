@@ -23,7 +23,7 @@ def words(edit):
 
 
 def pairs(edit):
-    """The texts that an edit replaces, in order: the file below the crate, the text there, and what comes in its place."""
+    """The texts that an edit replaces, in order: the file in the crate, the text there, and what replaces it."""
     file, old = None, None
     for word, text in words(edit):
         if word == "file":
