@@ -89,7 +89,8 @@ def words(line):
     """The words of a line; none of a comment."""
     for byte in line:
         if not 32 <= byte <= 126:
-            raise Unreadable(f"the byte {byte} is no printed character of ASCII, nor a blank; nor is a tab (byte 9)")
+            what = "a tab" if byte == 9 else f"the byte {byte}"
+            raise Unreadable(f"{what} is no printed character of ASCII, nor a blank")
     cut = [word for word in line.decode("ascii").split(" ") if word]
     return [] if cut and cut[0].startswith("#") else cut
 
