@@ -1,21 +1,31 @@
 //! An example: the provider of a small ecosystem, whose index is a text with one line a version.
 //!
+//!     # a comment
 //!     a 1 needs b 1..3
-//!     a 2 needs b 2..4 if c 1..2 needs d 1..9
+//!     a 2 needs b 2..4 if c 1..2 needs d 1..9 | e 1..9
 //!     b 2 limits c 1..2
 //!
-//! A line has a name and a version, and then what the version asks for: `needs NAME RANGE`, perhaps only `if` a version of
-//! another range is picked, and `limits NAME RANGE`, where nothing of that name outside the range may be picked with it.
-//! A range is from its first number to below its last one. Empty lines are skipped.
+//! A line has a name and a version, and then what the version asks for: `needs NAME RANGE`, perhaps `| NAME RANGE`
+//! behind it for what does as well, once or several times, and perhaps `if NAME RANGE`, where it is asked for only if a
+//! version of that range is picked; and `limits NAME RANGE`, where nothing of that name outside the range may be picked
+//! with it. A range is from its first number to below its last one; numbers are below 2^32. Words are what is between
+//! blanks, tabs and carriage returns. A line whose first word begins with `#` is skipped. A text may have several
+//! indexes, with lines without words between one and the next.
 //!
-//! [`read`] makes a [`SmallIndex`] of the text. `index` is the part to read: it has the two traits of a provider, and is
-//! proved to answer what `specs/Index` says of its value. What `read` makes of a text is tested by `pick_versions`.
+//! [`split`] cuts a text into the lines of its indexes, and [`read`] makes a [`SmallIndex`] of these. `index` is the
+//! part to read: it has the two traits of a provider, and is proved to answer what `specs/Index` says of its value. Of
+//! the reader it is proved that an index has a version for each of its lines, and that an unreadable line is one of
+//! them; what it makes of a line's words is tested by `pick_versions`.
 #![tactic(auto)]
 
+mod fault;
 mod index;
+mod line;
 mod range;
 mod reading;
 
+pub use fault::IndexFault;
 pub use index::SmallIndex;
+pub use line::{Line, split};
 pub use range::VersionRange;
-pub use reading::{IndexFault, read};
+pub use reading::read;

@@ -1,31 +1,27 @@
-//! The reader of an index.
+//! The reader of an index. What reads words of a line interns in the pool what they name.
+ghost use Rattle.std.specs.Prelude.{◌≡◌, ◌+◌, ◌<◌, ◌≤◌, IfOk, IfErr, OnOk, length};
+ghost use Rattle.small_index.specs.Reading.{IsOfLine, IsOfLines, IsFurther};
+
+use crate::fault::IndexFault;
 use crate::index::SmallIndex;
+use crate::line::{Line, Words};
 use crate::range::VersionRange;
-use resolvo_ids::StoreError;
-use resolvo_pool::{Condition, ConditionalRequirement, KnownDependencies, Pool};
+use resolvo_ids::{ConditionId, NameId, SolvableId, StoreError, VersionSetId};
+use resolvo_pool::{Condition, ConditionalRequirement, KnownDependencies, Pool, Requirement};
 use std::alloc::Global;
-use thiserror::Error;
 
-/// Why there is no index of a text.
-#[derive(Clone, Copy, Debug, PartialEq, Eq, Error)]
-pub enum IndexFault {
-    /// The line of this number, counted from 1, isn't in the format.
-    #[error("line {0} is unreadable")]
-    Unreadable(u64),
-    /// Memory was refused, or no id is left.
-    #[error("{0}")]
-    Refused(#[from] StoreError),
-}
-
-/// Reads an index.
-pub fn read(alloc: Global, text: &str) -> Result<SmallIndex, IndexFault> {
+/// Reads an index of its lines, each of which is a version.
+pub fn read(alloc: Global, lines: &[Line<'_>]) -> Result<SmallIndex, IndexFault>
+    ensures ok { IfOk result (λ index. length index.versions.items ≡ length lines.now) }
+    ensures err { IfErr result (IsOfLines lines.now) }
+{
     let mut index = SmallIndex {
         alloc,
         pool: Pool::new(alloc),
         versions: Vec::new(alloc),
         needs: Vec::new(alloc),
     };
-    match index.add_lines(text) {
+    match index.add_lines(lines) {
         Ok(()) => Ok(index),
         Err(fault) => {
             drop(index);
@@ -34,76 +30,177 @@ pub fn read(alloc: Global, text: &str) -> Result<SmallIndex, IndexFault> {
     }
 }
 
-// Where an `add_` call answers a bool, it tells whether what it was given is in the format.
 impl SmallIndex {
-    fn add_lines(&mut self, text: &str) -> Result<(), IndexFault> {
-        for (number, line) in (1..u64::MAX).zip(text.lines()) {
-            if !self.add_line(line)? {
-                return Err(IndexFault::Unreadable(number));
-            }
+    fn add_lines(&mut self, lines: &[Line<'_>]) -> Result<(), IndexFault>
+        ensures ok { OnOk result (length self.new.versions.items ≡ length self.old.versions.items + length lines.now) }
+        ensures err { IfErr result (IsOfLines lines.now) }
+    {
+        for line in lines {
+            self.add_line(*line)?;
         }
         Ok(())
     }
 
-    fn add_line(&mut self, line: &str) -> Result<bool, StoreError> {
-        let words: Vec<&str> = line.split_whitespace().collect(self.alloc)?;
-        match words.as_slice() {
-            [] => Ok(true),
-            [name, version, entries @ ..] => match version.parse() {
-                Ok(version) => self.add_version(name, version, entries),
-                Err(_) => Ok(false),
-            },
-            _ => Ok(false),
-        }
-    }
-
-    fn add_version(
-        &mut self,
-        name: &str,
-        version: u32,
-        entries: &[&str],
-    ) -> Result<bool, StoreError> {
-        let name = String::from_str(self.alloc, name)?;
-        let name = self.pool.intern_package_name(name)?;
-        let solvable = self.pool.intern_solvable(name, version)?;
-        let mut needs = KnownDependencies::new(self.alloc);
-        for entry in entries.chunks(3) {
-            if !self.add_entry(entry, &mut needs)? {
-                return Ok(false);
-            }
-        }
+    fn add_line(&mut self, line: Line<'_>) -> Result<(), IndexFault>
+        ensures ok { OnOk result (length self.new.versions.items ≡ length self.old.versions.items + 1) }
+        ensures err { IfErr result (IsOfLine line.entry.number) }
+    {
+        let words = line.words(self.alloc)?;
+        let mut words = Words {
+            number: line.number,
+            rest: &words,
+        };
+        let read = words.version(self.alloc, &mut self.pool);
+        self.pool.tell_sound();
+        let (solvable, needs) = read?;
         self.versions.push(solvable)?;
         self.needs.push(needs)?;
-        Ok(true)
+        Ok(())
+    }
+}
+
+impl Words<'_> {
+    /// `NAME VERSION`, and what the version asks for.
+    fn version(
+        &mut self,
+        alloc: Global,
+        pool: &mut Pool<VersionRange>,
+    ) -> Result<(SolvableId, KnownDependencies), IndexFault>
+        ensures { IfErr result (IsOfLine self.old.number) }
+    {
+        let name = self.name(alloc, pool)?;
+        let version = self.number()?;
+        let needs = self.needs(alloc, pool)?;
+        let solvable = pool
+            .intern_solvable(name, version)
+            .map_err(StoreError::from)?;
+        Ok((solvable, needs))
     }
 
-    /// Adds to what a version needs. An `if` is said of the last requirement before it; of two the later one counts.
-    fn add_entry(
+    /// What a version asks for: entries, up to the end of the line.
+    fn needs(
         &mut self,
-        entry: &[&str],
-        needs: &mut KnownDependencies,
-    ) -> Result<bool, StoreError> {
-        let [keyword, name, range] = *entry else {
-            return Ok(false);
-        };
-        let Some(range) = VersionRange::read(range) else {
-            return Ok(false);
-        };
-        let name = String::from_str(self.alloc, name)?;
-        let name = self.pool.intern_package_name(name)?;
-        let set = self.pool.intern_version_set(name, range)?;
-        match keyword {
-            "needs" => needs.requirements.push(ConditionalRequirement::from(set))?,
-            "limits" => needs.constrains.push(set)?,
-            "if" => {
-                let condition = self.pool.intern_condition(Condition::Requirement(set))?;
-                match needs.requirements.last_mut() {
-                    Some(last) => last.condition = Some(condition),
-                    None => return Ok(false),
-                }
-            }
-            _ => return Ok(false),
+        alloc: Global,
+        pool: &mut Pool<VersionRange>,
+    ) -> Result<KnownDependencies, IndexFault>
+        ensures names { length pool.old.names ≤ length pool.new.names }
+        ensures fault { IfErr result (IsOfLine self.old.number) }
+    {
+        let mut needs = KnownDependencies::new(alloc);
+        'entries: while !self.is_empty() {
+            self.entry(alloc, pool, &mut needs)?;
         }
-        Ok(true)
+        Ok(needs)
+    }
+
+    /// `needs REQUIREMENT`, perhaps with a condition, or `limits SET`.
+    fn entry(
+        &mut self,
+        alloc: Global,
+        pool: &mut Pool<VersionRange>,
+        needs: &mut KnownDependencies,
+    ) -> Result<(), IndexFault>
+        ensures further { IsFurther self.old self.new }
+        ensures shorter { OnOk result (length self.new.rest.now < length self.old.rest.now) }
+        ensures names { length pool.old.names ≤ length pool.new.names }
+        ensures fault { IfErr result (IsOfLine self.old.number) }
+    {
+        if self.take_if("limits") {
+            let set = self.version_set(alloc, pool)?;
+            needs.constrains.push(set)?;
+            return Ok(());
+        }
+        if self.take_if("needs") {
+            let requirement = self.requirement(alloc, pool)?;
+            let condition = self.condition(alloc, pool)?;
+            needs.requirements.push(ConditionalRequirement {
+                condition,
+                requirement,
+            })?;
+            return Ok(());
+        }
+        Err(self.unreadable())
+    }
+
+    /// `if SET`, or nothing.
+    fn condition(
+        &mut self,
+        alloc: Global,
+        pool: &mut Pool<VersionRange>,
+    ) -> Result<Option<ConditionId>, IndexFault>
+        ensures further { IsFurther self.old self.new }
+        ensures names { length pool.old.names ≤ length pool.new.names }
+        ensures fault { IfErr result (IsOfLine self.old.number) }
+    {
+        if !self.take_if("if") {
+            return Ok(None);
+        }
+        let set = self.version_set(alloc, pool)?;
+        Ok(Some(pool.intern_condition(Condition::Requirement(set))?))
+    }
+
+    /// `SET`, or several with `|` between them, of which one is enough.
+    fn requirement(
+        &mut self,
+        alloc: Global,
+        pool: &mut Pool<VersionRange>,
+    ) -> Result<Requirement, IndexFault>
+        ensures further { IsFurther self.old self.new }
+        ensures names { length pool.old.names ≤ length pool.new.names }
+        ensures fault { IfErr result (IsOfLine self.old.number) }
+    {
+        let first = self.version_set(alloc, pool)?;
+        let mut others = Vec::new(alloc);
+        'others: while self.take_if("|") {
+            let other = self.version_set(alloc, pool)?;
+            others.push(other)?;
+        }
+        if others.is_empty() {
+            return Ok(Requirement::Single(first));
+        }
+        Ok(Requirement::Union(pool.intern_version_set_union(first, &others)?))
+    }
+
+    /// `NAME LOW..HIGH`.
+    fn version_set(
+        &mut self,
+        alloc: Global,
+        pool: &mut Pool<VersionRange>,
+    ) -> Result<VersionSetId, IndexFault>
+        ensures further { IsFurther self.old self.new }
+        ensures here { IfOk result (λ set. set.0 < length pool.new.version_sets) }
+        ensures sets { length pool.old.version_sets ≤ length pool.new.version_sets }
+        ensures names { length pool.old.names ≤ length pool.new.names }
+        ensures fault { IfErr result (IsOfLine self.old.number) }
+    {
+        let name = self.name(alloc, pool)?;
+        let Some(range) = VersionRange::read(self.take()?) else {
+            return Err(self.unreadable());
+        };
+        Ok(
+            pool.intern_version_set(name, range)
+                .map_err(StoreError::from)?,
+        )
+    }
+
+    fn name(&mut self, alloc: Global, pool: &mut Pool<VersionRange>) -> Result<NameId, IndexFault>
+        ensures further { IsFurther self.old self.new }
+        ensures here { IfOk result (λ name. name < length pool.new.names) }
+        ensures names { length pool.old.names ≤ length pool.new.names }
+        ensures sets { pool.new.version_sets ≡ pool.old.version_sets }
+        ensures fault { IfErr result (IsOfLine self.old.number) }
+    {
+        let name = String::from_str(alloc, self.take()?)?;
+        Ok(pool.intern_package_name(name).map_err(StoreError::from)?)
+    }
+
+    fn number(&mut self) -> Result<u32, IndexFault>
+        ensures further { IsFurther self.old self.new }
+        ensures fault { IfErr result (IsOfLine self.old.number) }
+    {
+        match self.take()?.parse() {
+            Ok(number) => Ok(number),
+            Err(_) => Err(self.unreadable()),
+        }
     }
 }
