@@ -1,19 +1,28 @@
-//! An example: a program that picks versions, by a search over the clause store (`search`). It reads indexes from standard input, in
-//! the format of `small_index` and with an empty line between one and the next. For each it prints who asks, the name of its first
-//! line, and what that line asks for: a line for each version that is picked, or `none`; or which of its lines is unreadable. The
-//! first line's own version isn't picked.
+//! An example: a program that picks versions, by a search over the clause store (`search`).
+//!
+//! It reads indexes from standard input, in the format of `small_index`. For each it prints who asks, the name of its
+//! first line, and what that line asks for: a line for each version that is picked, or `none` where nothing serves.
+//! Where it gives up, or a line is unreadable, it says so, and goes on with the next index. The first line's own
+//! version isn't picked. The exit status tells what became of the worst index: [`Outcome`] has the numbers.
 #![tactic(auto)]
 
+ghost use Rattle.std.specs.Prelude.{◌≡◌};
+ghost use Rattle.std.specs.Process.{exit_status};
+ghost use Rattle.pick_versions.specs.Status.{status_of};
+
+mod outcome;
 mod search;
 
+use crate::outcome::{Outcome, worse};
 use crate::search::{Search, SearchEnd};
 use anyhow::Result;
-use resolvo_ids::{DenseIndex, SolvableId};
+use resolvo_ids::{DenseIndex, SolvableId, StoreError};
 use resolvo_pool::{ConditionalRequirement, Dependencies, DependencyProvider, Interner};
 use resolvo_store::ClauseStore;
-use small_index::IndexFault;
+use small_index::{IndexFault, Line};
 use std::alloc::Global;
-use std::io;
+use std::io::Read;
+use std::process::ExitCode;
 
 /// How many steps a search makes before it is asked whether it has ended.
 const STEPS: u64 = 16;
@@ -21,90 +30,132 @@ const STEPS: u64 = 16;
 /// How often it goes on.
 const TIMES: u64 = 1 << 16;
 
-fn main(rt: HostRuntime) -> Result<()> {
-    let text = io::read_to_string(rt.alloc(), rt.reader())?;
-    for (place, lines) in text.split("\n\n").enumerate() {
+fn main(rt: HostRuntime) -> ExitCode {
+    match answer_all(&rt, rt.alloc(), &mut rt.reader()) {
+        Ok(worst) => exit_code(worst),
+        Err(fault) => {
+            let _ = eprintln!(rt; "{fault}");
+            exit_code(Outcome::Failed)
+        }
+    }
+}
+
+/// The exit code of a program whose worst outcome is this one.
+fn exit_code(worst: Outcome) -> ExitCode
+    ensures { exit_status result ≡ status_of worst }
+{
+    ExitCode::from(worst as u8)
+}
+
+/// Answers each index of the input, with an empty line between one answer and the next. The worst outcome.
+fn answer_all(rt: &impl Print, alloc: Global, reader: &mut impl Read) -> Result<Outcome> {
+    let mut input = Vec::new(alloc);
+    reader.read_to_end(&mut input)?;
+    let mut worst = Outcome::Picked;
+    for (place, lines) in small_index::split(alloc, &input)?.iter().enumerate() {
         if place > 0 {
             println!(rt)?;
         }
-        answer(&rt, rt.alloc(), lines)?;
+        worst = worse(worst, answer(rt, alloc, lines)?);
     }
-    Ok(())
+    Ok(worst)
 }
 
-/// Prints what the first line of an index asks for. It owns the index, so that what is read and cut isn't dropped with it.
-fn answer(rt: &impl Print, alloc: Global, lines: &str) -> Result<()> {
-    match small_index::read(alloc, lines) {
-        Ok(index) => print_picked(rt, alloc, index, SolvableId::from_index(0)),
-        Err(IndexFault::Refused(refused)) => Err(refused.into()),
-        Err(unreadable) => Ok(println!(rt; "{unreadable}")?),
+/// Answers an index of these lines.
+fn answer(rt: &impl Print, alloc: Global, lines: &[Line<'_>]) -> Result<Outcome> {
+    let mut text = String::new(alloc);
+    match tell_index(alloc, lines, &mut text) {
+        Ok(outcome) => {
+            print!(rt; "{text}")?;
+            Ok(outcome)
+        }
+        Err(IndexFault::Unreadable(number)) => {
+            println!(rt; "line {number} unreadable")?;
+            Ok(Outcome::Unreadable)
+        }
+        Err(IndexFault::Refused(refused)) => {
+            println!(rt; "gave up: {refused}")?;
+            Ok(Outcome::GaveUp)
+        }
     }
 }
 
-/// Searches for what a solvable needs, and prints what comes of it.
-fn print_picked<D: DependencyProvider + Drop>(
-    rt: &impl Print,
+/// Reads an index, and appends what its first line is answered.
+fn tell_index(
+    alloc: Global,
+    lines: &[Line<'_>],
+    text: &mut String,
+) -> std::result::Result<Outcome, IndexFault> {
+    let index = small_index::read(alloc, lines)?;
+    Ok(tell(alloc, index, SolvableId::from_index(0), text)?)
+}
+
+/// Appends what comes of a search for what a solvable needs.
+fn tell<D: DependencyProvider + Drop>(
     alloc: D::Alloc,
     provider: D,
     asking: D::SolvableId,
-) -> Result<()> {
-    let wanted = wanted(rt, alloc, &provider, asking)?;
+    text: &mut String<D::Alloc>,
+) -> std::result::Result<Outcome, StoreError> {
+    let wanted = wanted(alloc, &provider, asking, text)?;
     let mut search = Search::new(alloc, ClauseStore::new(alloc, provider)?);
-    let printed = print_end(rt, alloc, &mut search, &wanted);
+    let told = tell_end(&mut search, &wanted, text);
     drop(search);
-    printed
+    told
 }
 
-/// What a solvable needs, below a line with the name of its package.
+/// What a solvable needs. Appends a line with the name of its package.
 fn wanted<D: DependencyProvider>(
-    rt: &impl Print,
     alloc: D::Alloc,
     provider: &D,
     asking: D::SolvableId,
-) -> Result<Vec<ConditionalRequirement, D::Alloc>> {
+    text: &mut String<D::Alloc>,
+) -> std::result::Result<Vec<ConditionalRequirement, D::Alloc>, StoreError> {
     if !provider.knows_solvable(asking) {
         return Ok(Vec::new(alloc));
     }
-    let mut name = String::new(alloc);
-    provider.display_solvable_name(asking, &mut name)?;
-    println!(rt; "{name}:")?;
+    provider.display_solvable_name(asking, text)?;
+    text.push_str(":\n")?;
     match provider.get_dependencies(alloc, asking)? {
         Dependencies::Known(needs) => Ok(needs.requirements),
         Dependencies::Unknown(_) => Ok(Vec::new(alloc)),
     }
 }
 
-fn print_end<D: DependencyProvider + Drop>(
-    rt: &impl Print,
-    alloc: D::Alloc,
+/// Searches, and appends how it ends.
+fn tell_end<D: DependencyProvider + Drop>(
     search: &mut Search<D>,
     wanted: &[ConditionalRequirement],
-) -> Result<()> {
+    text: &mut String<D::Alloc>,
+) -> std::result::Result<Outcome, StoreError> {
     search.begin(wanted)?;
     for _ in 0..TIMES {
         match search.run(STEPS)? {
             SearchEnd::Picked(solvables) => {
-                return print(rt, alloc, search.store.provider(), &solvables);
+                tell_picked(search.store.provider(), &solvables, text)?;
+                return Ok(Outcome::Picked);
             }
-            SearchEnd::Unsolvable => return Ok(println!(rt; "none")?),
+            SearchEnd::Unsolvable => {
+                text.push_str("none\n")?;
+                return Ok(Outcome::NoneServes);
+            }
             SearchEnd::StepsUsed => {}
         }
     }
-    Ok(println!(rt; "too many steps")?)
+    text.push_str("gave up: too many steps\n")?;
+    Ok(Outcome::GaveUp)
 }
 
-/// A line for each version.
-fn print<I: Interner>(
-    rt: &impl Print,
-    alloc: I::Alloc,
+/// Appends a line for each solvable.
+fn tell_picked<I: Interner>(
     interner: &I,
     solvables: &[I::SolvableId],
-) -> Result<()> {
+    text: &mut String<I::Alloc>,
+) -> std::result::Result<(), StoreError> {
     for solvable in solvables {
         if interner.knows_solvable(*solvable) {
-            let mut text = String::new(alloc);
-            interner.display_solvable(*solvable, &mut text)?;
-            println!(rt; "{text}")?;
+            interner.display_solvable(*solvable, text)?;
+            text.push_str("\n")?;
         }
     }
     Ok(())
