@@ -1,0 +1,3 @@
+pub mod DecisionLemmas
+pub mod MemberLemmas
+pub mod ServingLemmas
