@@ -1,25 +1,19 @@
-//! An example: a program that picks versions, by a search over the clause store (`search`). It reads indexes from standard input, in
+//! An example: a program that picks versions, by the search of `picking`. It reads indexes from standard input, in
 //! the format of `small_index` and with an empty line between one and the next. For each it prints who asks, the name of its first
 //! line, and what that line asks for: a line for each version that is picked, or `none`; or which of its lines is unreadable. The
 //! first line's own version isn't picked.
 #![tactic(auto)]
 
-mod search;
-
-use crate::search::{Search, SearchEnd};
 use anyhow::Result;
+use picking::{Answer, pick};
 use resolvo_ids::{DenseIndex, SolvableId};
 use resolvo_pool::{ConditionalRequirement, Dependencies, DependencyProvider, Interner};
-use resolvo_store::ClauseStore;
 use small_index::IndexFault;
 use std::alloc::Global;
 use std::io;
 
-/// How many steps a search makes before it is asked whether it has ended.
-const STEPS: u64 = 16;
-
-/// How often it goes on.
-const TIMES: u64 = 1 << 16;
+/// How many steps a search makes at most.
+const STEPS: u64 = 1 << 20;
 
 fn main(rt: HostRuntime) -> Result<()> {
     let text = io::read_to_string(rt.alloc(), rt.reader())?;
@@ -49,10 +43,12 @@ fn print_picked<D: DependencyProvider + Drop>(
     asking: D::SolvableId,
 ) -> Result<()> {
     let wanted = wanted(rt, alloc, &provider, asking)?;
-    let mut search = Search::new(alloc, ClauseStore::new(alloc, provider)?);
-    let printed = print_end(rt, alloc, &mut search, &wanted);
-    drop(search);
-    printed
+    match pick(alloc, &provider, &wanted, STEPS)? {
+        Answer::Picked(solvables) => print(rt, alloc, &provider, &solvables),
+        Answer::Unsolvable => Ok(println!(rt; "none")?),
+        Answer::StepsUsed => Ok(println!(rt; "too many steps")?),
+        Answer::Refuted => Ok(println!(rt; "refuted")?),
+    }
 }
 
 /// What a solvable needs, below a line with the name of its package.
@@ -72,25 +68,6 @@ fn wanted<D: DependencyProvider>(
         Dependencies::Known(needs) => Ok(needs.requirements),
         Dependencies::Unknown(_) => Ok(Vec::new(alloc)),
     }
-}
-
-fn print_end<D: DependencyProvider + Drop>(
-    rt: &impl Print,
-    alloc: D::Alloc,
-    search: &mut Search<D>,
-    wanted: &[ConditionalRequirement],
-) -> Result<()> {
-    search.begin(wanted)?;
-    for _ in 0..TIMES {
-        match search.run(STEPS)? {
-            SearchEnd::Picked(solvables) => {
-                return print(rt, alloc, search.store.provider(), &solvables);
-            }
-            SearchEnd::Unsolvable => return Ok(println!(rt; "none")?),
-            SearchEnd::StepsUsed => {}
-        }
-    }
-    Ok(println!(rt; "too many steps")?)
 }
 
 /// A line for each version.
