@@ -1,7 +1,7 @@
 -- What serves in a small ecosystem, and what doesn't. The solvable 0 is an app, 1 and 2 are versions of a library, 3 is a
 -- plugin. The app needs the library, and the plugin where version 2 of the library is picked; it allows no other version.
-use Rattle.std.proofs.Common.{◌≡◌, ℕ, Bool, true, false, List, [], ◌∷◌, refl, None, Some, if◌then◌else◌, ◌==◌, nat_eq, nat_lt, true≢false, sym}
-use Rattle.std.specs.List.{All, IsDistinct}
+use Rattle.std.proofs.Common.{◌≡◌, ℕ, true, false, List, [], ◌∷◌, refl, None, Some, if◌then◌else◌, ◌==◌, nat_eq, nat_lt, true≢false, sym}
+use Rattle.std.specs.List.{IsDistinct}
 use Rattle.std.proofs.lemmas.List.Elements.{All-nil, All-cons, All-head, All-tail}
 use Rattle.resolvo_ids.specs.Types.VersionSetId.{VersionSetId}
 use Rattle.resolvo_pool.specs.Conditions.{Leaf, leaf}

@@ -1,5 +1,5 @@
 -- Lists of ids, one more at a time: which ids are members, and whether the members differ.
-use Rattle.std.proofs.Common.{◌≡◌, ◌≢◌, ℕ, ◌+◌, ◌<◌, Bool, true, false, ◌||◌, List, [], ◌∷◌, ◌++◌, ◌∙◌, ap, refl, sym, subst, true≢false, length, map, take, drop, get_or, drop-cons}
+use Rattle.std.proofs.Common.{◌≡◌, ℕ, ◌+◌, ◌<◌, Bool, true, false, ◌||◌, List, [], ◌∷◌, ◌++◌, ◌∙◌, ap, refl, sym, subst, true≢false, length, map, take, drop, get_or, drop-cons}
 use Prim.Native.Nat.{suc}
 use Rattle.std.specs.List.{AllByRecursion, IsDistinct, list_any}
 use Rattle.std.proofs.lemmas.List.{map-append, take_more, take-append-drop}

@@ -1,5 +1,5 @@
 -- What the parts of a choice decide of the whole.
-use Rattle.std.proofs.Common.{◌≡◌, ◌∙◌, Bool, true, false, refl, sym, subst, List, map}
+use Rattle.std.proofs.Common.{◌≡◌, ◌∙◌, Bool, true, false, sym, subst, List, map}
 use Rattle.std.proofs.Math.Path.{fun_ext}
 use Rattle.std.specs.Bool.{Decides}
 use Rattle.std.specs.List.{All, IsDistinct, list_all}

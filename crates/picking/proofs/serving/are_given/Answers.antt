@@ -1,4 +1,4 @@
-use Rattle.std.proofs.Common.{◌≡◌, ◌∙◌, true, sym, rules}
+use Rattle.std.proofs.Common.{◌≡◌, true, rules}
 use Rattle.resolvo_pool.specs.Functions.{Provider, gathered}
 use Rattle.picking.specs.Serves.{IsGiven}
 use Rattle.picking.proofs.DecisionLemmas.{none_fails, next_holds}

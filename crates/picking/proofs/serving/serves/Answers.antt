@@ -1,8 +1,8 @@
-use Rattle.std.proofs.Common.{◌≡◌, Bool, true, false, List, sym, subst}
+use Rattle.std.proofs.Common.{subst}
 use Rattle.std.specs.Bool.{Decides}
 use Rattle.std.specs.List.{All}
 use Rattle.resolvo_pool.specs.Functions.{Provider, gathered}
-use Rattle.picking.specs.Serves.{IsContent, IsGiven, is_among}
+use Rattle.picking.specs.Serves.{IsContent, IsGiven}
 use Rattle.picking.proofs.DecisionLemmas.{answered}
 use Rattle.picking.proofs.ServingLemmas.{content_decides, given_fails}
 use Rattle.picking.proofs.serving.serves.Given.{Over}
