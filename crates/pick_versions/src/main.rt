@@ -1,4 +1,4 @@
-//! An example: a program that picks versions, by a search over the clause store (`search`).
+//! An example: a program that picks versions, by the search of `picking`.
 //!
 //! It reads indexes from standard input, in the format of `small_index`. For each it prints who asks, the name of its
 //! first line, and what that line asks for: a line for each version that is picked, or `none` where nothing serves.
@@ -11,24 +11,19 @@ ghost use Rattle.std.specs.Process.{exit_status};
 ghost use Rattle.pick_versions.specs.Status.{status_of};
 
 mod outcome;
-mod search;
 
 use crate::outcome::{Outcome, worse};
-use crate::search::{Search, SearchEnd};
 use anyhow::Result;
+use picking::{Answer, pick};
 use resolvo_ids::{DenseIndex, SolvableId, StoreError};
 use resolvo_pool::{ConditionalRequirement, Dependencies, DependencyProvider, Interner};
-use resolvo_store::ClauseStore;
 use small_index::{IndexFault, Line};
 use std::alloc::Global;
 use std::io::Read;
 use std::process::ExitCode;
 
-/// How many steps a search makes before it is asked whether it has ended.
-const STEPS: u64 = 16;
-
-/// How often it goes on.
-const TIMES: u64 = 1 << 16;
+/// How many steps a search makes at most.
+const STEPS: u64 = 1 << 20;
 
 fn main(rt: HostRuntime) -> ExitCode {
     match answer_all(&rt, rt.alloc(), &mut rt.reader()) {
@@ -98,10 +93,8 @@ fn tell<D: DependencyProvider + Drop>(
     text: &mut String<D::Alloc>,
 ) -> std::result::Result<Outcome, StoreError> {
     let wanted = wanted(alloc, &provider, asking, text)?;
-    let mut search = Search::new(alloc, ClauseStore::new(alloc, provider)?);
-    let told = tell_end(&mut search, &wanted, text);
-    drop(search);
-    told
+    let answer = pick(alloc, &provider, &wanted, STEPS)?;
+    tell_answer(&answer, &provider, text)
 }
 
 /// What a solvable needs. Appends a line with the name of its package.
@@ -122,28 +115,30 @@ fn wanted<D: DependencyProvider>(
     }
 }
 
-/// Searches, and appends how it ends.
-fn tell_end<D: DependencyProvider + Drop>(
-    search: &mut Search<D>,
-    wanted: &[ConditionalRequirement],
-    text: &mut String<D::Alloc>,
+/// Appends how a search ended.
+fn tell_answer<I: Interner>(
+    answer: &Answer<I::SolvableId, I::Alloc>,
+    interner: &I,
+    text: &mut String<I::Alloc>,
 ) -> std::result::Result<Outcome, StoreError> {
-    search.begin(wanted)?;
-    for _ in 0..TIMES {
-        match search.run(STEPS)? {
-            SearchEnd::Picked(solvables) => {
-                tell_picked(search.store.provider(), &solvables, text)?;
-                return Ok(Outcome::Picked);
-            }
-            SearchEnd::Unsolvable => {
-                text.push_str("none\n")?;
-                return Ok(Outcome::NoneServes);
-            }
-            SearchEnd::StepsUsed => {}
+    match answer {
+        Answer::Picked(solvables) => {
+            tell_picked(interner, solvables, text)?;
+            Ok(Outcome::Picked)
+        }
+        Answer::Unsolvable => {
+            text.push_str("none\n")?;
+            Ok(Outcome::NoneServes)
+        }
+        Answer::StepsUsed => {
+            text.push_str("gave up: too many steps\n")?;
+            Ok(Outcome::GaveUp)
+        }
+        Answer::Refuted => {
+            text.push_str("gave up: what was found doesn't serve\n")?;
+            Ok(Outcome::GaveUp)
         }
     }
-    text.push_str("gave up: too many steps\n")?;
-    Ok(Outcome::GaveUp)
 }
 
 /// Appends a line for each solvable.

@@ -1,0 +1,4 @@
+pub mod DecisionLemmas
+pub mod Examples
+pub mod MemberLemmas
+pub mod ServingLemmas

@@ -1,0 +1,250 @@
+//! A search over the clause store.
+//!
+//! It encodes all that may be picked (`encoding`); then it saturates and decides in turn. Where a clause is false it
+//! learns which choices can't stand together, and goes back to where all of them but the last one stand.
+use resolvo_clauses::{Decision, Literal};
+use resolvo_ids::{ClauseId, IndexedSet, Mapping, StoreError, VariableId, VersionSetId};
+use resolvo_pool::{ConditionalRequirement, DependencyProvider};
+use resolvo_store::{ClauseStore, Command, Reply};
+use std::alloc::Allocator;
+
+pub(crate) type Result<T> = std::result::Result<T, StoreError>;
+
+/// How a search ends.
+#[derive(Drop)]
+pub(crate) enum SearchEnd<S, A: Allocator> {
+    /// These solvables were found.
+    Picked(Vec<S, A>),
+    /// Nothing serves.
+    Unsolvable,
+    /// So many steps were too few.
+    StepsUsed,
+}
+
+/// What was chosen to be true at a level: at level 1 the root, and then candidates.
+#[derive(Clone, Copy)]
+struct Choice {
+    variable: VariableId,
+    /// How many assignments were made below its level.
+    below: usize,
+}
+
+/// An assignment, with its level.
+#[derive(Clone, Copy)]
+struct Assigned {
+    decision: Decision,
+    level: usize,
+    is_choice: bool,
+}
+
+/// A search, which owns its store.
+#[derive(Drop)]
+pub(crate) struct Search<D: DependencyProvider> {
+    pub(crate) store: ClauseStore<D>,
+    /// What may be picked.
+    pub(crate) candidates: Vec<(VariableId, D::SolvableId), D::Alloc>,
+    /// For each version set that a condition names the variable that is true where one of its candidates is.
+    pub(crate) gates: Mapping<VersionSetId, VariableId, D::Alloc>,
+    /// A choice for each level.
+    choices: Vec<Choice, D::Alloc>,
+    /// The trail as it was read last, oldest first.
+    trail: Vec<Assigned, D::Alloc>,
+    pub(crate) alloc: D::Alloc,
+}
+
+/// Searches for what meets the requirements, in so many steps at most.
+pub(crate) fn search_for<D: DependencyProvider + Drop>(
+    alloc: D::Alloc,
+    provider: D,
+    wanted: &[ConditionalRequirement],
+    steps: u64,
+) -> Result<SearchEnd<D::SolvableId, D::Alloc>> {
+    let mut search = Search {
+        store: ClauseStore::new(alloc, provider)?,
+        candidates: Vec::new(alloc),
+        gates: Mapping::new(alloc)?,
+        choices: Vec::new(alloc),
+        trail: Vec::new(alloc),
+        alloc,
+    };
+    let end = search.find(wanted, steps);
+    drop(search);
+    end
+}
+
+impl<D: DependencyProvider + Drop> Search<D> {
+    /// Encodes what is wanted, and runs.
+    fn find(
+        &mut self,
+        wanted: &[ConditionalRequirement],
+        steps: u64,
+    ) -> Result<SearchEnd<D::SolvableId, D::Alloc>> {
+        self.tell(Command::Root)?;
+        self.choose(VariableId::root(), ClauseId::install_root())?;
+        self.encode_all(wanted)?;
+        self.run(steps)
+    }
+
+    /// A step makes what follows from the choices true, and then chooses, or learns which choices can't stand together;
+    /// these don't come together again. So it ends, but perhaps after very many steps.
+    fn run(&mut self, steps: u64) -> Result<SearchEnd<D::SolvableId, D::Alloc>> {
+        for _ in 0..steps {
+            if self.choices.is_empty() {
+                return Ok(SearchEnd::Unsolvable);
+            }
+            if !self.goes_on()? {
+                return Ok(SearchEnd::Picked(self.picked()?));
+            }
+        }
+        Ok(SearchEnd::StepsUsed)
+    }
+
+    /// Makes a step, and answers whether one was left.
+    fn goes_on(&mut self) -> Result<bool> {
+        if let Reply::Conflict(clause) = self.obey(Command::Saturate(self.level()))? {
+            self.learn(clause)?;
+            return Ok(true);
+        }
+        match self.obey(Command::Decide)? {
+            Reply::Decided(next) => self.choose(next.candidate, next.clause_id)?,
+            Reply::Falsified(clause) => self.learn(clause)?,
+            _ => return Ok(false),
+        }
+        Ok(true)
+    }
+
+    /// Makes a candidate true at a new level.
+    fn choose(&mut self, variable: VariableId, clause: ClauseId) -> Result<()> {
+        self.read_trail()?;
+        let below = self.trail.len();
+        self.choices.push(Choice { variable, below })?;
+        self.assign(Literal::new(variable, false), clause)
+    }
+
+    /// The level of the last choice. The store refuses one that is too high.
+    fn level(&self) -> u32 {
+        u32::try_from(self.choices.len()).unwrap_or(u32::MAX)
+    }
+
+    /// Assigns at the level of the last choice. What is above is taken back.
+    pub(crate) fn assign(&mut self, literal: Literal, clause: ClauseId) -> Result<()> {
+        let (variable, value) = (literal.variable(), literal.satisfying_value());
+        let level = self.level();
+        self.tell(Command::UndoUntil(level))?;
+        self.tell(Command::Assign(variable, value, clause, level))
+    }
+
+    /// Reads what was assigned since it was read last, all of it at the level of the last choice.
+    fn read_trail(&mut self) -> Result<()> {
+        for _ in 0..u32::MAX {
+            let Reply::Next(Some(decision)) = self.obey(Command::Unpropagated)? else {
+                break;
+            };
+            let is_choice = match self.choices.last() {
+                Some(choice) => choice.variable == decision.variable,
+                None => false,
+            };
+            self.trail.push(Assigned {
+                decision,
+                level: self.choices.len(),
+                is_choice,
+            })?;
+        }
+        Ok(())
+    }
+
+    /// Learns from a false clause that the choices which it follows from can't stand together. Goes back to where all
+    /// of them but the last one stand, and makes that one false there. Where the root alone is to blame, no choice is
+    /// left.
+    fn learn(&mut self, conflict: ClauseId) -> Result<()> {
+        self.read_trail()?;
+        let blamed = self.blamed(conflict)?;
+        match blamed.as_slice() {
+            [] => self.choices.clear(),
+            [last] => {
+                self.go_back(1)?;
+                self.assign(Literal::new(last.decision.variable, true), conflict)?;
+            }
+            [last, next, ..] => {
+                self.go_back(next.level)?;
+                let mut literals = Vec::new(self.alloc);
+                for choice in &blamed {
+                    literals.push(Literal::new(choice.decision.variable, true))?;
+                }
+                if let Reply::Clause(learnt, _) = self.obey(Command::Learnt(literals))? {
+                    self.assign(Literal::new(last.decision.variable, true), learnt)?;
+                }
+            }
+        }
+        Ok(())
+    }
+
+    /// The choices above the root that a false clause follows from, the last one first. The trail is walked backwards,
+    /// since what an assignment follows from was assigned before it.
+    fn blamed(&self, conflict: ClauseId) -> Result<Vec<Assigned, D::Alloc>> {
+        let mut met = IndexedSet::new(self.alloc);
+        self.meet(&mut met, conflict)?;
+        let mut blamed = Vec::new(self.alloc);
+        for assigned in self.trail.iter().rev() {
+            if assigned.level < 2 {
+                break;
+            }
+            if !met.contains(assigned.decision.variable) {
+                continue;
+            }
+            if assigned.is_choice {
+                blamed.push(*assigned)?;
+            } else {
+                self.meet(&mut met, assigned.decision.derived_from)?;
+            }
+        }
+        Ok(blamed)
+    }
+
+    /// Adds the variables of a clause.
+    fn meet(&self, met: &mut IndexedSet<VariableId, D::Alloc>, clause: ClauseId) -> Result<()> {
+        for literal in self.store.literals(clause)?.iter().flatten() {
+            met.insert(literal.variable())?;
+        }
+        Ok(())
+    }
+
+    /// Takes back what is above a level.
+    fn go_back(&mut self, level: usize) -> Result<()> {
+        if let Some(choice) = self.choices.get(level) {
+            self.trail.truncate(choice.below);
+        }
+        self.choices.truncate(level);
+        self.tell(Command::UndoUntil(self.level()))
+    }
+
+    /// The candidates that are true.
+    fn picked(&self) -> Result<Vec<D::SolvableId, D::Alloc>> {
+        let mut picked = Vec::new(self.alloc);
+        for (variable, solvable) in &self.candidates {
+            if self.store.value(*variable) == Some(true) {
+                picked.push(*solvable)?;
+            }
+        }
+        Ok(picked)
+    }
+
+    /// Obeys a command whose reply isn't wanted.
+    pub(crate) fn tell(
+        &mut self,
+        command: Command<D::NameId, D::SolvableId, D::Alloc>,
+    ) -> Result<()> {
+        drop(self.obey(command)?);
+        Ok(())
+    }
+
+    /// Obeys a command, and lets it go.
+    pub(crate) fn obey(
+        &mut self,
+        command: Command<D::NameId, D::SolvableId, D::Alloc>,
+    ) -> Result<Reply<D::Alloc>> {
+        let reply = self.store.obey(&command);
+        drop(command);
+        reply
+    }
+}
