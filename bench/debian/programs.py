@@ -76,10 +76,11 @@ class PickVersions:
         return Answer([], lines[-1] if lines else "nothing", ran.seconds)
 
     def instructions(self, index):
-        """How many instructions it takes, as valgrind counts them."""
+        """How many instructions it takes, as valgrind counts them, or none where it can't."""
         words = ["valgrind", "--tool=callgrind", "--callgrind-out-file=/dev/null", self.path]
         said = subprocess.run(words, input=index.text(), capture_output=True, text=True).stderr
-        return int(re.search(r"Collected : (\d+)", said)[1])
+        counted = re.search(r"Collected : (\d+)", said)
+        return int(counted[1]) if counted else None
 
 
 def satisfy(index, runs=1):
