@@ -1,0 +1,111 @@
+"""The programs that resolve a request: pick_versions, cadical on the same clauses, and apt-get."""
+import os
+import re
+import resource
+import subprocess
+from dataclasses import dataclass
+
+from archive import Fault
+from index import word
+
+# What cadical ends with.
+SATISFIABLE, UNSATISFIABLE = 10, 20
+
+
+@dataclass
+class Ran:
+    """What a program wrote, how it ended, and the processor time that it took. One that was stopped has no status."""
+
+    text: str
+    status: int | None
+    seconds: float
+
+
+def run(words, text="", limit=None):
+    begun = processor_time()
+    try:
+        done = subprocess.run(words, input=text, capture_output=True, text=True, timeout=limit)
+    except subprocess.TimeoutExpired:
+        return Ran("", None, processor_time() - begun)
+    except OSError as fault:
+        raise Fault(f"{words[0]}: {fault.strerror}")
+    return Ran(done.stdout, done.returncode, processor_time() - begun)
+
+
+def processor_time():
+    used = resource.getrusage(resource.RUSAGE_CHILDREN)
+    return used.ru_utime + used.ru_stime
+
+
+def least(runs, words, text, limit):
+    """The fastest of so many runs."""
+    return min((run(words, text, limit) for _ in range(runs)), key=lambda ran: ran.seconds)
+
+
+@dataclass
+class Answer:
+    """What pick_versions makes of a request: the name and the version of each package that it picks, or what it says
+    where it picks none.
+    """
+
+    picked: list
+    said: str
+    seconds: float
+
+    def lines(self):
+        return [" ".join(version) for version in self.picked] or [self.said]
+
+
+class PickVersions:
+    """A built pick_versions. It is stopped after so many seconds."""
+
+    def __init__(self, path, limit):
+        if not os.path.isfile(path) or not os.access(path, os.X_OK):
+            where = "`rt run < stdin` in crates/pick_versions proves and builds it"
+            raise Fault(f"{path} is no program: {where}; or name another one")
+        self.path, self.limit = path, limit
+
+    def answer(self, index, runs=1):
+        ran = least(runs, [self.path], index.text(), self.limit)
+        if ran.status is None:
+            return Answer([], f"stopped after {self.limit} seconds", ran.seconds)
+        solvables = {f"{word(it.name)} {it.rank}": it for it in index.solvables}
+        lines = ran.text.splitlines()[1:]
+        if lines and all(line in solvables for line in lines):
+            return Answer([(solvables[line].name, solvables[line].version) for line in lines], "", ran.seconds)
+        return Answer([], lines[-1] if lines else "nothing", ran.seconds)
+
+    def instructions(self, index):
+        """How many instructions it takes, as valgrind counts them, or none where it can't."""
+        words = ["valgrind", "--tool=callgrind", "--callgrind-out-file=/dev/null", self.path]
+        said = subprocess.run(words, input=index.text(), capture_output=True, text=True).stderr
+        counted = re.search(r"Collected : (\d+)", said)
+        return int(counted[1]) if counted else None
+
+
+def satisfy(index, runs=1):
+    """Whether the clauses of a request can be met, as cadical finds, and its seconds."""
+    ran = least(runs, ["cadical", "-q", "-n"], index.dimacs(), None)
+    if ran.status not in (SATISFIABLE, UNSATISFIABLE):
+        raise Fault(f"cadical ended with {ran.status} for {index.request}")
+    return ran.status == SATISFIABLE, ran.seconds
+
+
+class AptGet:
+    """apt-get with its own lists, for which nothing is installed. Its cache is in a folder, and filled first."""
+
+    def __init__(self, folder):
+        os.makedirs(f"{folder}/archives/partial")
+        open(f"{folder}/status", "w").close()
+        options = [f"Dir::State::status={folder}/status", f"Dir::Cache={folder}"]
+        options += [f"Dir::Cache::{name}={name}.bin" for name in ("pkgcache", "srcpkgcache")]
+        self.words = ["apt-get", "-s", "install", "-qq", "--no-install-recommends"]
+        self.words += [word for option in options for word in ("-o", option)]
+        self.install(["dpkg"])
+
+    def install(self, names):
+        """The name and the version of each package that it would install, which are none where it refuses, and its
+        seconds.
+        """
+        ran = run([*self.words, *names])
+        return re.findall(r"^Inst (\S+) \((\S+)", ran.text, re.MULTILINE), ran.seconds
