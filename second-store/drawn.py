@@ -77,6 +77,8 @@ class List:
             self.begin()
         for _ in range(COMMANDS):
             self.give(self.command())
+        if self.draw.happens(40):
+            self.meet_together()
 
     def give(self, line):
         if line == "decide":
@@ -97,6 +99,29 @@ class List:
             self.give(f"load s{number}")
             self.give(f"requires {parent} s{number}{' 0' * self.draw.happens(30)}")
             self.give(f"bump {self.name()} {self.draw.below(4)}")
+        self.give("decide")
+
+    def meet_together(self):
+        """A disjunction of nine to eleven literals of up to three variables, and a clause or two under it, where there
+        may be some. Their variables become false together, and a decision is asked for, and another one where they are
+        taken back."""
+        trail, loaded = self.store.trail, list(self.store.loaded)
+        decided = [variable for variable, *_ in trail]
+        parents = [variable for variable, is_true, *_ in trail if is_true]
+        free = [variable for variable in range(len(self.store.origins)) if variable not in decided]
+        if not (parents and free and loaded):
+            return
+        variables = [self.draw.one_of(free) for _ in range(3)]
+        literals = " ".join(f"+{self.draw.one_of(variables)}" for _ in range(9 + self.draw.below(3)))
+        self.give(f"disjunction 0 {literals}")
+        condition, level = len(self.store.disjunctions) - 1, trail[-1][3]
+        for _ in range(self.draw.below(2) + 1):
+            self.give(f"requires {self.draw.one_of(parents)} {self.draw.one_of(loaded)} {condition}")
+        for variable in sorted(set(variables)):
+            self.give(f"assign {variable} false 0 {level}")
+        self.give("decide")
+        for _ in set(variables):
+            self.give("undo-last")
         self.give("decide")
 
     def trial(self, ways=""):

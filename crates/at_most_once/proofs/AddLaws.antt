@@ -1,5 +1,8 @@
--- What holds after any additions: no variable stands twice and none is a helper, there are as many helpers as are needed, and the clauses are counted.
-use Rattle.std.proofs.Common.{◌≡◌, ℕ, suc, ◌+◌, ◌-◌, ◌*◌, ◌^◌, ◌<◌, ◌≤◌, Bool, true, false, ◌&&◌, ◌||◌, ltb, List, [], ◌∷◌, ◌++◌, Option, Some, None, ◌⊎◌, inl, inr, sym, ap, refl, subst, ◌∙◌, arith, length, length-append}
+-- What holds after any additions: no variable stands twice and none is a helper, there are as many helpers as are
+-- needed, and the clauses are counted.
+use Rattle.std.proofs.Common.{◌≡◌, ℕ, suc, ◌+◌, ◌-◌, ◌*◌, ◌^◌, ◌<◌, ◌≤◌, Bool, true, false}
+use Rattle.std.proofs.Common.{◌&&◌, ◌||◌, ltb, List, [], ◌∷◌, ◌++◌, Option, Some, None, ◌⊎◌}
+use Rattle.std.proofs.Common.{inl, inr, sym, ap, refl, subst, ◌∙◌, arith, length, length-append}
 use Rattle.std.specs.Prelude.{map, IfSome, is_some}
 use Rattle.std.specs.List.{enumerate_from, list_any}
 use Rattle.std.proofs.lemmas.Bool.Decides.{nat_tests}
@@ -9,7 +12,9 @@ use Rattle.std.proofs.Math.Nat.{pow-suc}
 use Rattle.std.proofs.Math.Numerals.{add-one}
 use Rattle.std.proofs.Math.Pow.{pow_mono}
 use Rattle.std.specs.Cmp.{IsEquivalence}
-use Rattle.at_most_once.specs.AtMostOne.{Tracker, BitClause, Adds, none, more, with_new, with_helper, new_clauses, given_clauses, variable_clauses, is_full, has_bit, IsFresh, IsLeastPower, ClausesAreCounted}
+use Rattle.at_most_once.specs.AtMostOne.{Tracker, BitClause, Adds, none, more, with_new}
+use Rattle.at_most_once.specs.AtMostOne.{with_helper, new_clauses, given_clauses, variable_clauses}
+use Rattle.at_most_once.specs.AtMostOne.{is_full, has_bit, IsFresh, IsLeastPower, ClausesAreCounted}
 use Rattle.at_most_once.proofs.Places.{At, here, there, at_within, at_cases}
 
 -- ---- no variable stands twice, and none is a helper
@@ -37,7 +42,8 @@ once_pushed : {V : Type 0} (same : V → V → Bool) (xs : List V) (v : V) → O
 once_pushed {V} same xs v o out i j x y l m n =
     elim (at_cases xs v m) [
       | inl m' ↦ elim (at_cases xs v n) [ inl n' ↦ o i j x y l m' n' | inr e ↦ subst (λ z. same z x ≡ false) (sym e.1) (none_same (same v) xs out m') ]
-      | inr e ↦ absurd (let k : j < length (xs ++ v ∷ []) = at_within n in let q : length (xs ++ v ∷ []) ≡ length xs + 1 = length-append xs (v ∷ []) in let f = e.0 in omega arith)
+      | inr e ↦ absurd (let k : j < length (xs ++ v ∷ []) = at_within n in
+          let q : length (xs ++ v ∷ []) ≡ length xs + 1 = length-append xs (v ∷ []) in let f = e.0 in omega arith)
     ]
 
 turned : {V : Type 0} (same : V → V → Bool) → IsEquivalence same → (x y : V) → same x y ≡ false → same y x ≡ false
@@ -108,7 +114,8 @@ power_more n k e =
     above j h (inr l) = l
     above j h (inl l) = let within : j ≤ k = omega arith in let m : 2 ^ j ≤ 2 ^ k = pow_mono within in absurd (omega arith)
 
-pub has_enough : {V : Type 0} {same : V → V → Bool} {t : Tracker V} {cs : List (BitClause V)} → Adds same t cs → IsLeastPower (length t.helpers) (length t.variables)
+pub has_enough : {V : Type 0} {same : V → V → Bool} {t : Tracker V} {cs : List (BitClause V)} → Adds same t cs →
+    IsLeastPower (length t.helpers) (length t.variables)
 has_enough none = record { enough = omega arith; least = λ j h. omega arith }
 has_enough {V} (more {t = t} {cs = cs} h v adds asked) = with_given h asked.needed (has_enough adds)
   where
@@ -119,7 +126,9 @@ has_enough {V} (more {t = t} {cs = cs} h v adds asked) = with_given h asked.need
       least = λ j l. before.least j (omega arith);
     })
     with_given (Some x) e before = rw (length-pushed t.variables v, length-pushed t.helpers x)
-        (power_more (length t.variables) (length t.helpers) (is_full_now (length t.variables) (2 ^ length t.helpers) (pow_pos (length t.helpers)) before.enough (sym e)))
+        (power_more (length t.variables) (length t.helpers)
+        (is_full_now (length t.variables) (2 ^ length t.helpers)
+        (pow_pos (length t.helpers)) before.enough (sym e)))
 
 -- ---- how many clauses
 

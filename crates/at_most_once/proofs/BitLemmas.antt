@@ -1,5 +1,6 @@
 -- Bits of numbers below 2 ^ 64, and clauses of one member more.
-use Rattle.std.proofs.Common.{◌≡◌, ℕ, suc, ◌+◌, ◌-◌, ◌^◌, ◌/◌, ◌<◌, ◌≤◌, Bool, true, false, ◌&&◌, nat_eq, nat_lt, List, [], ◌∷◌, ◌++◌, Some, length, take, get_or, sym, ap, refl, ◌∙◌, arith}
+use Rattle.std.proofs.Common.{◌≡◌, ℕ, suc, ◌+◌, ◌-◌, ◌^◌, ◌/◌, ◌<◌, ◌≤◌, Bool, true, false, ◌&&◌, nat_eq, nat_lt}
+use Rattle.std.proofs.Common.{List, [], ◌∷◌, ◌++◌, Some, length, take, get_or, sym, ap, refl, ◌∙◌, arith}
 use Rattle.std.specs.Prelude.{map}
 use Rattle.std.specs.List.{enumerate_from}
 use Rattle.std.proofs.lemmas.Bool.Decides.{nat_tests}
@@ -50,7 +51,9 @@ pub goes_on : {V A : Type 0} (f : ℕ × V → A) (before items items' : List A)
     n < length xs → x ≡ get_or xs n x → items ≡ before ++ map f (enumerate_from 0 (take n xs)) → items' ≡ items ++ a ∷ [] → a ≡ f (n, x) →
     items' ≡ before ++ map f (enumerate_from 0 (take (n + 1) xs))
 goes_on {V} f before items items' xs n x a within read made pushed next =
-    pushed ∙ (ap (λ ys. ys ++ a ∷ []) made ∙ (append_assoc before _ (a ∷ []) ∙ ap (λ zs. before ++ zs) (ap (λ b. map f (enumerate_from 0 (take n xs)) ++ b ∷ []) next ∙ sym one_more)))
+    pushed ∙ (ap (λ ys. ys ++ a ∷ []) made ∙
+    (append_assoc before _ (a ∷ []) ∙ ap (λ zs. before ++ zs)
+    (ap (λ b. map f (enumerate_from 0 (take n xs)) ++ b ∷ []) next ∙ sym one_more)))
   where
     longer : take (n + 1) xs ≡ take n xs ++ x ∷ []
     longer = let e : n + 1 ≡ suc n = omega arith in
@@ -60,7 +63,8 @@ goes_on {V} f before items items' xs n x a within read made pushed next =
     short = length-take-le n xs (omega arith)
 
     one_more : map f (enumerate_from 0 (take (n + 1) xs)) ≡ map f (enumerate_from 0 (take n xs)) ++ f (n, x) ∷ []
-    one_more = ap (λ ys. map f (enumerate_from 0 ys)) longer ∙ (made_more f (take n xs) x ∙ ap (λ k. map f (enumerate_from 0 (take n xs)) ++ f (k, x) ∷ []) short)
+    one_more = ap (λ ys. map f (enumerate_from 0 ys)) longer ∙
+        (made_more f (take n xs) x ∙ ap (λ k. map f (enumerate_from 0 (take n xs)) ++ f (k, x) ∷ []) short)
 
 module _ {V : Type 0} (t : Tracker V) (h v : V) where
   abbrev given : List (BitClause V)
@@ -76,11 +80,13 @@ module _ {V : Type 0} (t : Tracker V) (h v : V) where
   joined before = append_assoc (before ++ given) own last ∙ (append_assoc before given (own ++ last)
       ∙ ap (λ xs. before ++ (given ++ xs)) (sym (made_more (λ (x : ℕ × V). (v, x.1, has_bit (length t.variables) x.0)) t.helpers h)))
 
-  -- the clauses of a variable that comes with a helper, as they are appended: the helper's, those with the helpers before, and the one with the new helper
+  -- the clauses of a variable that comes with a helper, as they are appended: the helper's, those with the helpers
+  -- before, and the one with the new helper
   pub given_appended : (before reserved items items' items'' : List (BitClause V)) (variables helpers : List V) (number bits : ℕ) (b : Bool) →
       reserved ≡ before → variables ≡ t.variables → helpers ≡ t.helpers → b ≡ has_bit number bits → number ≡ length t.variables → bits ≡ length t.helpers →
       items ≡ reserved ++ helper_clauses bits h variables → items' ≡ items ++ variable_clauses number v helpers → items'' ≡ items' ++ (v, h, b) ∷ [] →
       items'' ≡ before ++ new_clauses t (Some h) v
-  given_appended before reserved items items' items'' variables helpers number bits b of_reserved of_variables of_helpers of_bit of_number of_bits first second third =
+  given_appended before reserved items items' items'' variables helpers number bits b of_reserved of_variables
+      of_helpers of_bit of_number of_bits first second third =
       third ∙ (ap (λ xs. xs ++ (v, h, b) ∷ []) (second ∙ ap (λ xs. xs ++ variable_clauses number v helpers) first)
       ∙ rw (of_reserved, of_variables, of_helpers, of_bit, of_number, of_bits) (joined before))

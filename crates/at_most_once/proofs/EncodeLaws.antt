@@ -1,5 +1,6 @@
 -- The helpers encode "at most one": they spell the number of each true variable.
-use Rattle.std.proofs.Common.{◌≡◌, ℕ, zero, suc, ◌+◌, ◌^◌, ◌<◌, ◌≤◌, Bool, true, false, not, ◌||◌, cond, List, [], ◌∷◌, ◌⊎◌, inl, inr, sym, ap, refl, subst, ◌∙◌, arith, length, add-zero}
+use Rattle.std.proofs.Common.{◌≡◌, ℕ, zero, suc, ◌+◌, ◌^◌, ◌<◌, ◌≤◌, Bool, true, false, not, ◌||◌, cond, List}
+use Rattle.std.proofs.Common.{[], ◌∷◌, ◌⊎◌, inl, inr, sym, ap, refl, subst, ◌∙◌, arith, length, add-zero}
 use Rattle.std.specs.Bool.{beq}
 use Rattle.std.specs.Int.{bit_at}
 use Rattle.std.proofs.lemmas.Bool.Decides.{nat_tests}
@@ -49,7 +50,8 @@ module _ {V : Type 0} (same : V → V → Bool) (laws : IsEquivalence same) (x :
   spelled_helper n (y ∷ ys) (suc b) h (there m) o =
       other (same h y) refl (spelled_helper (n + 1) ys b h m (once_rest y ys o))
     where
-      other : (t : Bool) → same h y ≡ t → spelled same x i (n + 1) ys h ≡ has_bit i ((n + 1) + b) → cond t (has_bit i n) (spelled same x i (n + 1) ys h) ≡ has_bit i (n + suc b)
+      other : (t : Bool) → same h y ≡ t → spelled same x i (n + 1) ys h ≡ has_bit i ((n + 1) + b) →
+          cond t (has_bit i n) (spelled same x i (n + 1) ys h) ≡ has_bit i (n + suc b)
       other true e q = absurd (let z : true ≡ false = sym e ∙ o 0 (suc b) y h (omega arith) here (there m) in cc)
       other false e q = q ∙ (let k : (n + 1) + b ≡ n + suc b = omega arith in ap (has_bit i) k)
 
@@ -97,7 +99,8 @@ module _ {V : Type 0} (same : V → V → Bool) (laws : IsEquivalence same) (t :
 
   choice-helper : (i b : ℕ) (h : V) → At t.helpers b h → choice i h ≡ has_bit i b
   unfolding choice
-  choice-helper i b h n = spelled_helper same laws x i 0 t.helpers b h n (apart same laws adds).helpers_once ∙ (let e : 0 + b ≡ b = omega arith in ap (has_bit i) e)
+  choice-helper i b h n = spelled_helper same laws x i 0 t.helpers b h n (apart same laws adds).helpers_once ∙
+      (let e : 0 + b ≡ b = omega arith in ap (has_bit i) e)
 
   choice-meets : (i : ℕ) → ((j : ℕ) (v : V) → At t.variables j v → (x v ≡ false) ⊎ (j ≡ i)) → CanBeMet x t.variables cs
   choice-meets i only = (
@@ -119,13 +122,16 @@ module _ {V : Type 0} (same : V → V → Bool) (laws : IsEquivalence same) (t :
     where
       decided : (j : ℕ) (v : V) → At t.variables j v → (b : Bool) → x v ≡ b → (i : ℕ) (w : V) → At t.variables i w → x w ≡ true → (x v ≡ false) ⊎ (j ≡ i)
       decided j v m false e i w n p = inl e
-      decided j v m true e i w n p = inr (one_place same laws t.variables (apart same laws adds).tracked_once j i v m (subst (At t.variables i) (sym (one v w (contains_at m) (contains_at n) e p)) n))
+      decided j v m true e i w n p =
+          inr (one_place same laws t.variables (apart same laws adds).tracked_once j i v m
+          (subst (At t.variables i) (sym (one v w (contains_at m) (contains_at n) e p)) n))
 
   at_most_one : CanBeMet x t.variables cs → AtMostOne x t.variables
   at_most_one met v w c d p q =
       let m = at_contained t.variables v c in
       let n = at_contained t.variables w d in
-      let e : m.0 ≡ n.0 = one_number met.0 t.variables t.helpers (has_enough adds).enough (grid_from_met same met.0 adds met.2) m.0 n.0 v w m.1 n.1 (met.1 v c ∙ p) (met.1 w d ∙ q) in
+      let e : m.0 ≡ n.0 = one_number met.0 t.variables t.helpers (has_enough adds).enough
+      (grid_from_met same met.0 adds met.2) m.0 n.0 v w m.1 n.1 (met.1 v c ∙ p) (met.1 w d ∙ q) in
       at_one (subst (λ k. At t.variables k v) e m.1) n.1
 
 pub helpers_encode : {V : Type 0} (same : V → V → Bool) → HelpersEncode same

@@ -1,6 +1,7 @@
 -- The clauses of any additions are met exactly if each variable meets its clause with each helper.
 use Rattle.std.proofs.Common.{◌≡◌, ℕ, ◌+◌, Bool, true, List, [], ◌∷◌, Option, Some, None, inl, inr, sym, subst, arith, length}
-use Rattle.at_most_once.specs.AtMostOne.{Tracker, BitClause, Adds, none, more, with_helper, new_clauses, given_clauses, variable_clauses, is_met, AreMet, has_bit}
+use Rattle.at_most_once.specs.AtMostOne.{Tracker, BitClause, Adds, none, more, with_helper, new_clauses}
+use Rattle.at_most_once.specs.AtMostOne.{given_clauses, variable_clauses, is_met, AreMet, has_bit}
 use Rattle.at_most_once.proofs.Places.{At, at_left, at_last, at_cases, all-append, all-parts, at_enumerated, all_enumerated}
 
 -- each tracked variable is tied to each helper

@@ -1,5 +1,6 @@
 -- What changes of kept trackers make of the function from names to trackers.
-use Rattle.std.proofs.Common.{◌≡◌, ℕ, ◌<◌, ◌^◌, ◌||◌, Bool, true, false, cond, List, [], ◌∷◌, ◌++◌, is_some, Option, None, Some, refl, sym, ◌∙◌, ap, subst, arith, true≢false}
+use Rattle.std.proofs.Common.{◌≡◌, ℕ, ◌<◌, ◌^◌, ◌||◌, Bool, true, false, cond, List, [], ◌∷◌, ◌++◌}
+use Rattle.std.proofs.Common.{is_some, Option, None, Some, refl, sym, ◌∙◌, ap, subst, arith, true≢false}
 use Rattle.std.specs.Prelude.{nat_eq, nat_le, ◌&&◌, min, IsTrue, MatchOption}
 use Rattle.std.proofs.Math.Path.{fun_ext}
 use Rattle.std.specs.Option.{option_map, unwrap_or}
@@ -9,7 +10,9 @@ use Rattle.std.proofs.lemmas.Bool.Decides.{nat_tests}
 use Rattle.std.proofs.lemmas.Map.{lookup-set_value}
 use Rattle.typed_ids.specs.Refusals.{IsGrowthRefusal}
 use Rattle.typed_ids.specs.declared.error.StoreError.{StoreError}
-use Rattle.typed_ids.specs.declared.error.StoreError.TheVariants.{OutOfMemory, IdSpace, UnknownId, LevelOutOfRange, NotLoaded, NegatesParent, BadWatch, BadLearnt, EmptyTrail, BadFraction, TooManyClauses, Cancelled}
+use Rattle.typed_ids.specs.declared.error.StoreError.TheVariants.{OutOfMemory, IdSpace, UnknownId, LevelOutOfRange}
+use Rattle.typed_ids.specs.declared.error.StoreError.TheVariants.{NotLoaded, NegatesParent, BadWatch, BadLearnt}
+use Rattle.typed_ids.specs.declared.error.StoreError.TheVariants.{EmptyTrail, BadFraction, TooManyClauses, Cancelled}
 use Rattle.id_storage.specs.KeptAnswers.{lacks_answer}
 use Rattle.at_most_once.specs.AtMostOne.{Tracker, Kept, HasRoom, KeepsRoom, empty, with_variable}
 use Rattle.at_most_once.specs.NameTrackers.{tracker_of, with_tracked, KeepsRoomFor, lacks_tracker}
@@ -41,7 +44,8 @@ module _ {N : Type 0} (same : N → N → Bool) where
   found_at_end [] name t other e =
       elim (same other name) as (λ b. tracker_in (cond b (Some t) None) ≡ empty) [ true ↦ e | false ↦ refl ]
   found_at_end (k ∷ kept) name t other e =
-      elim (same other k.0) as (λ b. tracker_in (cond b (Some k.1) (lookup (same other) (kept ++ (name, t) ∷ []))) ≡ tracker_in (cond b (Some k.1) (lookup (same other) kept)))
+      elim (same other k.0) as (λ b. tracker_in (cond b (Some k.1) (lookup (same other) (kept ++ (name, t) ∷ []))) ≡
+      tracker_in (cond b (Some k.1) (lookup (same other) kept)))
       [ true ↦ refl | false ↦ found_at_end kept name t other e ]
 
   -- an empty tracker more changes nothing
@@ -84,7 +88,8 @@ module _ {N : Type 0} (same : N → N → Bool) (laws : IsEquivalence same) wher
   found_exchanged kept name between after other some =
       found_put (set_value (same name) kept between) name after other (ap is_some (still_found kept name between some))
       ∙ ap (cond (same other name) (Some after)) (found_put kept name between other some)
-      ∙ (elim (same other name) as (λ b. cond b (Some after) (cond b (Some between) (lookup (same other) kept)) ≡ cond b (Some after) (lookup (same other) kept))
+      ∙ (elim (same other name) as (λ b. cond b (Some after) (cond b (Some between) (lookup (same other) kept)) ≡
+      cond b (Some after) (lookup (same other) kept))
       [ true ↦ refl | false ↦ refl ])
 
   -- the tracker that came last is found
@@ -93,7 +98,8 @@ module _ {N : Type 0} (same : N → N → Bool) (laws : IsEquivalence same) wher
   last_found kept name between after some =
       still_found (set_value (same name) kept between) name after (ap is_some (still_found kept name between some))
 
-  module _ (is_sameness : (a b : N) → same a b ≡ true → a ≡ b) (kept : List (N × Kept ℕ)) (name : N) (earlier between after : Kept ℕ) (is : lookup (same name) kept ≡ Some earlier) where
+  module _ (is_sameness : (a b : N) → same a b ≡ true → a ≡ b) (kept : List (N × Kept ℕ)) (name : N)
+      (earlier between after : Kept ℕ) (is : lookup (same name) kept ≡ Some earlier) where
     -- a tracker that tracks the same
     pub tracker_kept : after.tracker ≡ earlier.tracker
         → tracker_of same (set_value (same name) (set_value (same name) kept between) after) ≡ tracker_of same kept
@@ -128,7 +134,8 @@ module _ {N : Type 0} (same : N → N → Bool) (laws : IsEquivalence same) wher
     pub variable_tracked : (variable : ℕ) (helper : Option ℕ) → after.tracker ≡ with_variable nat_eq earlier.tracker helper variable
         → tracker_of same (set_value (same name) (set_value (same name) kept between) after) ≡ with_tracked same name variable helper (tracker_of same kept)
     unfolding tracker_of
-    variable_tracked variable helper e = fun_ext (λ other. ap tracker_in (found_exchanged kept name between after other (ap is_some is)) ∙ by other (same other name))
+    variable_tracked variable helper e = fun_ext (λ other.
+        ap tracker_in (found_exchanged kept name between after other (ap is_some is)) ∙ by other (same other name))
       where
         by : (other : N) (b : Bool) → tracker_in (cond b (Some after) (lookup (same other) kept))
             ≡ cond b (with_variable nat_eq (tracker_in (lookup (same name) kept)) helper variable) (tracker_in (lookup (same other) kept))
@@ -151,7 +158,8 @@ lacking is_large many count name few lacks =
     by true e false h = ap (λ m. m && true) (counts_out many count few e)
     by false e false h = absurd (true≢false (sym h))
 
-pub tracker_refused : {N : Type 0} (is_large : N → Bool) (many : Bool) (count : ℕ) (name : N) (t : Tracker ℕ) (e : StoreError) → (many ≡ false → count < 2 ^ 32) → t ≡ empty
+pub tracker_refused : {N : Type 0} (is_large : N → Bool) (many : Bool) (count : ℕ) (name : N) (t : Tracker ℕ)
+    (e : StoreError) → (many ≡ false → count < 2 ^ 32) → t ≡ empty
     → IsGrowthRefusal (lacks_answer (2 ^ 32) is_large count name) e → IsGrowthRefusal (lacks_tracker (is_large name) many t) e
 tracker_refused is_large many count name t OutOfMemory few none h = tt
 tracker_refused is_large many count name t IdSpace few none h =
@@ -167,7 +175,8 @@ tracker_refused is_large many count name t BadFraction few none h = h
 tracker_refused is_large many count name t TooManyClauses few none h = h
 tracker_refused is_large many count name t Cancelled few none h = h
 
-pub large_is_lacking : {N : Type 0} (limit : ℕ) (is_large : N → Bool) (count : ℕ) (name : N) → IsTrue (is_large name) → IsTrue (lacks_answer limit is_large count name)
+pub large_is_lacking : {N : Type 0} (limit : ℕ) (is_large : N → Bool) (count : ℕ) (name : N) → IsTrue (is_large name) →
+    IsTrue (lacks_answer limit is_large count name)
 large_is_lacking limit is_large count name large = by (nat_le (min limit (2 ^ 32)) count)
   where
     by : (b : Bool) → IsTrue (b || is_large name)

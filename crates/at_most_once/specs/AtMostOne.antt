@@ -1,5 +1,7 @@
 -- At most one of a list of variables: clauses that tie each variable to each helper by a bit of the variable's number.
-use Rattle.std.specs.Prelude.{◌≡◌, ◌↔◌, ℕ, ◌-◌, ◌*◌, ◌^◌, ◌<◌, ◌≤◌, Bool, true, false, not, ◌&&◌, ◌||◌, nat_eq, nat_lt, List, [], ◌∷◌, ◌++◌, map, length, Option, Some, None, is_some, IsTrue, Contains, IfSome, if◌then◌else◌}
+use Rattle.std.specs.Prelude.{◌≡◌, ◌↔◌, ℕ, ◌-◌, ◌*◌, ◌^◌, ◌<◌, ◌≤◌, Bool, true, false, not, ◌&&◌}
+use Rattle.std.specs.Prelude.{◌||◌, nat_eq, nat_lt, List, [], ◌∷◌, ◌++◌, map, length, Option}
+use Rattle.std.specs.Prelude.{Some, None, is_some, IsTrue, Contains, IfSome, if◌then◌else◌}
 use Rattle.std.specs.List.{list_any, AllByRecursion, enumerate_from}
 use Rattle.std.specs.Bool.{beq}
 use Rattle.std.specs.Int.{bit_at}
@@ -27,7 +29,8 @@ pub record HasRoom {V : Type 0} (kept : Kept V) (with_helper : Bool) : Type 0 wh
 abbrev pub KeepsRoom : {V : Type 0} → Kept V → Kept V → Type 0
 KeepsRoom old new = (with_helper : Bool) → HasRoom old with_helper → HasRoom new with_helper
 
--- a clause of a variable x and a helper h: "not x or h" where the third part is true, "not x or not h" where it is false
+-- a clause of a variable x and a helper h: "not x or h" where the third part is true, "not x or not h" where it is
+-- false
 abbrev pub BitClause : Type 0 → Type 0
 BitClause V = V × V × Bool
 
@@ -90,17 +93,19 @@ with_variable same t h v = if is_tracked same t v then t else with_new t h v
 abbrev pub IsFresh : {V : Type 0} → (V → V → Bool) → Tracker V → V → Type 0
 IsFresh same t v = (is_tracked same t v ≡ false) × (list_any (same v) t.helpers ≡ false)
 
--- what an addition of a new variable asks: it is no helper, and a helper is given exactly where one is needed, and is fresh
+-- what an addition of a new variable asks: it is no helper, and a helper is given exactly where one is needed, and is
+-- fresh
 pub record IsAllowed {V : Type 0} (same : V → V → Bool) (t : Tracker V) (h : Option V) (v : V) : Type 0 where
   pub new : IsFresh same t v
   pub needed : is_some h ≡ is_full t
   pub fresh : IfSome h (λ x. IsFresh same t x × (same x v ≡ false))
 
--- from an empty tracker a list of additions leads to this one, and appends these clauses; those of tracked variables change
--- nothing, and don't count
+-- from an empty tracker a list of additions leads to this one, and appends these clauses; those of tracked variables
+-- change nothing, and don't count
 pub data Adds {V : Type 0} (same : V → V → Bool) : Tracker V → List (BitClause V) → Type 0 where
   none : Adds same empty []
-  more : {t : Tracker V} {cs : List (BitClause V)} (h : Option V) (v : V) → Adds same t cs → IsAllowed same t h v → Adds same (with_new t h v) (cs ++ new_clauses t h v)
+  more : {t : Tracker V} {cs : List (BitClause V)} (h : Option V) (v : V) → Adds same t cs → IsAllowed same t h v →
+      Adds same (with_new t h v) (cs ++ new_clauses t h v)
 
 -- ---- what the clauses say
 
@@ -121,7 +126,8 @@ CanBeMet {V} x vs cs = (a : V → Bool) × ((v : V) → Contains vs v → a v �
 
 -- the clauses can be met by choosing helpers exactly when at most one tracked variable is true
 abbrev pub HelpersEncode : {V : Type 0} → (V → V → Bool) → Type 0
-HelpersEncode {V} same = IsEquivalence same → (t : Tracker V) (cs : List (BitClause V)) → Adds same t cs → (x : V → Bool) → CanBeMet x t.variables cs ↔ AtMostOne x t.variables
+HelpersEncode {V} same = IsEquivalence same → (t : Tracker V) (cs : List (BitClause V)) → Adds same t cs →
+    (x : V → Bool) → CanBeMet x t.variables cs ↔ AtMostOne x t.variables
 
 -- k is the least number with n ≤ 2 ^ k
 pub record IsLeastPower (k n : ℕ) : Type 0 where

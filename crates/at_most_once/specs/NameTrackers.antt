@@ -1,5 +1,6 @@
 -- For each name a tracker: the variables of which at most one may be true, with their helpers. N are the names.
-use Rattle.std.specs.Prelude.{ℕ, Bool, ◌&&◌, ◌||◌, ◌==◌, nat_eq, if◌then◌else◌, List, length, Option, option_map, unwrap_or, MatchOption}
+use Rattle.std.specs.Prelude.{ℕ, Bool, ◌&&◌, ◌||◌, ◌==◌, nat_eq, if◌then◌else◌, List}
+use Rattle.std.specs.Prelude.{length, Option, option_map, unwrap_or, MatchOption}
 use Rattle.std.specs.Map.{lookup}
 use Rattle.at_most_once.specs.AtMostOne.{Tracker, Kept, HasRoom, empty, with_variable}
 
@@ -21,7 +22,7 @@ module _ {N : Type 0} (same : N → N → Bool) where
   abbrev pub KeepsRoomFor : N → List (N × Kept ℕ) → List (N × Kept ℕ) → Type 0
   KeepsRoomFor name old new = (with_helper : Bool) → HasRoomFor old name with_helper → HasRoomFor new name with_helper
 
--- nothing can be tracked under a name: it is too large for a map; or nothing is yet, and there may be more than 2^32 names,
--- each with a tracker
+-- nothing can be tracked under a name: it is too large for a map; or nothing is yet, and there may be more than 2^32
+-- names, each with a tracker
 abbrev pub lacks_tracker : (is_large are_many : Bool) → Tracker ℕ → Bool
 lacks_tracker is_large are_many t = is_large || (are_many && (length t.variables == 0))

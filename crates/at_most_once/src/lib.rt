@@ -1,9 +1,9 @@
 //! At most one of several variables, said by clauses with two literals each.
 //!
-//! To forbid each pair of n variables would take n * (n - 1) / 2 clauses. Here each variable has a number, in the order in
-//! which they came, and helper variables stand for the bits of a number: where a variable is true, the helpers spell its
-//! number. Two variables have different numbers, which the helpers can't both spell; so at most one is true. n variables
-//! need k helpers, the least number with n <= 2^k, and n * k clauses.
+//! To forbid each pair of n variables would take n * (n - 1) / 2 clauses. Here each variable has a number, in the order
+//! in which they came, and helper variables stand for the bits of a number: where a variable is true, the helpers spell
+//! its number. Two variables have different numbers, which the helpers can't both spell; so at most one is true. n
+//! variables need k helpers, the least number with n <= 2^k, and n * k clauses.
 //!
 //! Of four variables and two helpers, `h0` for bit 0 and `h1` for bit 1:
 //!
@@ -16,14 +16,14 @@
 //!      3   !x3 or  h0    !x3 or  h1
 //! ```
 //!
-//! Variables come one by one. One that fills the numbers which the helpers can spell comes with a helper more, and then each
-//! earlier variable gets a clause with that helper; no clause that was made is ever changed.
+//! Variables come one by one. One that fills the numbers which the helpers can spell comes with a helper more, and then
+//! each earlier variable gets a clause with that helper; no clause that was made is ever changed.
 //!
-//! The definitions are in `specs/AtMostOne`: what an addition appends, and, by `HelpersEncode` and `ClausesAreCounted`, what
-//! all clauses say together and how many they are.
+//! The definitions are in `specs/AtMostOne`: what an addition appends, and, by `HelpersEncode` and `ClausesAreCounted`,
+//! what all clauses say together and how many they are.
 //!
-//! `tracker` is one tracker, and `name_trackers` has one for each name of a package. The words of the latter's contracts are in
-//! `specs/NameTrackers`: what is tracked is a function from names to trackers.
+//! `tracker` is one tracker, and `name_trackers` has one for each name of a package. The words of the latter's
+//! contracts are in `specs/NameTrackers`: what is tracked is a function from names to trackers.
 #![tactic(auto)]
 
 mod name_trackers;

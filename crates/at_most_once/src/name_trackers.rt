@@ -1,5 +1,6 @@
 //! Trackers, each found by the name of a package.
-ghost use Rattle.std.specs.Prelude.{◌≡◌, ◌++◌, is_some, nat_eq, true, false, IfSome, IfNone, IsTrue, IsOk, OnOk, OnErr, IfErr, Err};
+ghost use Rattle.std.specs.Prelude.{◌≡◌, ◌++◌, is_some, nat_eq, true, false, IfSome};
+ghost use Rattle.std.specs.Prelude.{IfNone, IsTrue, IsOk, OnOk, OnErr, IfErr, Err};
 ghost use Rattle.std.specs.Map.{lookup};
 ghost use Rattle.typed_ids.specs.Refusals.{IsGrowthRefusal};
 ghost use Rattle.typed_ids.specs.declared.error.StoreError.TheVariants.{IdSpace, OutOfMemory};
@@ -63,8 +64,8 @@ impl<N: SolverId<A>, A: Allocator + Copy> NameTrackers<N, A> {
         }
     }
 
-    /// Appends the clauses of the variable's addition under the name, with the helper that is given with it: none of one
-    /// that is tracked. Takes time and memory for these alone.
+    /// Appends the clauses of the variable's addition under the name, with the helper that is given with it: none of
+    /// one that is tracked. Takes time and memory for these alone.
     pub fn clauses_for(
         &self,
         name: N,
@@ -72,7 +73,8 @@ impl<N: SolverId<A>, A: Allocator + Copy> NameTrackers<N, A> {
         helper: Option<VariableId>,
         clauses: &mut Vec<(VariableId, VariableId, bool), A>,
     ) -> Result<(), StoreError>
-        ensures ok { OnOk result (clauses.new.items ≡ clauses.old.items ++ clauses_for nat_eq (tracker_of N.eq self.now name) helper variable) }
+        ensures ok { OnOk result (clauses.new.items ≡
+            clauses.old.items ++ clauses_for nat_eq (tracker_of N.eq self.now name) helper variable) }
         ensures err { OnErr result (clauses.new.items ≡ clauses.old.items) }
         ensures memory { IfErr result (λ e. e ≡ OutOfMemory) }
     {
@@ -89,7 +91,8 @@ impl<N: SolverId<A>, A: Allocator + Copy> NameTrackers<N, A> {
         ensures room { OnOk result (HasRoomFor N.eq self.new name with_helper) }
         ensures succeeds { HasRoomFor N.eq self.old name with_helper → IsOk result }
         ensures keeps { (other : N) → KeepsRoomFor N.eq other self.old self.new }
-        ensures refused { IfErr result (IsGrowthRefusal (lacks_tracker (N.Slots.is_too_large name) N.are_many (tracker_of N.eq self.old name))) }
+        ensures refused { IfErr result
+            (IsGrowthRefusal (lacks_tracker (N.Slots.is_too_large name) N.are_many (tracker_of N.eq self.old name))) }
         ensures too_large { IsTrue (N.Slots.is_too_large name) → result ≡ Err IdSpace }
     {
         self.start(name)?;
@@ -101,8 +104,8 @@ impl<N: SolverId<A>, A: Allocator + Copy> NameTrackers<N, A> {
         made
     }
 
-    /// Tracks a variable under the name, for which there is room, with the helper that is given with it. One that is tracked
-    /// changes nothing. Takes no memory.
+    /// Tracks a variable under the name, for which there is room, with the helper that is given with it. One that is
+    /// tracked changes nothing. Takes no memory.
     pub fn add_reserved(&mut self, name: N, variable: VariableId, helper: Option<VariableId>)
         requires { HasRoomFor N.eq self.old name (is_some helper) }
         ensures added { tracker_of N.eq self.new ≡ with_tracked N.eq name variable helper (tracker_of N.eq self.old) }
@@ -121,7 +124,8 @@ impl<N: SolverId<A>, A: Allocator + Copy> NameTrackers<N, A> {
         ensures there { OnOk result (is_some (lookup (N.eq name) self.new) ≡ true) }
         ensures known { is_some (lookup (N.eq name) self.old) ≡ true → IsOk result }
         ensures keeps { (other : N) → KeepsRoomFor N.eq other self.old self.new }
-        ensures refused { IfErr result (IsGrowthRefusal (lacks_tracker (N.Slots.is_too_large name) N.are_many (tracker_of N.eq self.old name))) }
+        ensures refused { IfErr result
+            (IsGrowthRefusal (lacks_tracker (N.Slots.is_too_large name) N.are_many (tracker_of N.eq self.old name))) }
         ensures too_large { IsTrue (N.Slots.is_too_large name) → result ≡ Err IdSpace }
     {
         if self.trackers.find(name).is_some() {

@@ -1,7 +1,9 @@
 //! The variables of which at most one may be true, and their helpers.
-ghost use Rattle.std.specs.Prelude.{◌≡◌, ◌≤◌, ◌+◌, ◌-◌, ◌^◌, ◌++◌, ◌&&◌, not, nat_lt, length, vec_len, vec_capacity, is_some, IsTrue, IsOk, IfOk, OnOk, IfErr, OnErr};
+ghost use Rattle.std.specs.Prelude.{◌≡◌, ◌≤◌, ◌+◌, ◌-◌, ◌^◌, ◌++◌, ◌&&◌, not, nat_lt, length, vec_len};
+ghost use Rattle.std.specs.Prelude.{vec_capacity, is_some, IsTrue, IsOk, IfOk, OnOk, IfErr, OnErr};
 ghost use Rattle.typed_ids.specs.declared.error.StoreError.TheVariants.{OutOfMemory};
-ghost use Rattle.at_most_once.specs.AtMostOne.{empty, HasRoom, KeepsRoom, is_tracked, needs_helper, clauses_for, with_variable, new_clauses, helper_clauses, variable_clauses};
+ghost use Rattle.at_most_once.specs.AtMostOne.{empty, HasRoom, KeepsRoom, is_tracked, needs_helper, clauses_for};
+ghost use Rattle.at_most_once.specs.AtMostOne.{with_variable, new_clauses, helper_clauses, variable_clauses};
 ghost use Rattle.at_most_once.specs.AtMostOne as def;
 
 use indexmap::IndexSet;
@@ -15,8 +17,8 @@ const WORD_BITS: usize = 64;
 
 /// Variables of which at most one may be true, and the helpers that spell their numbers.
 ///
-/// It hands out clauses and keeps none. A clause is written `(x, h, true)` for "not x or h", and `(x, h, false)` for "not x
-/// or not h".
+/// It hands out clauses and keeps none. A clause is written `(x, h, true)` for "not x or h", and `(x, h, false)` for
+/// "not x or not h".
 #[derive(Drop)]
 pub struct AtMostOnceTracker<V: Eq + Hash + Copy, A: Allocator = Global> {
     variables: IndexSet<V, BuildHasherDefault<FoldHasher>, A>,
@@ -65,7 +67,8 @@ impl<V: Eq + Hash + Copy, A: Allocator + Copy> AtMostOnceTracker<V, A> {
         helper: Option<V>,
         clauses: &mut Vec<(V, V, bool), A>,
     ) -> Result<(), StoreError>
-        ensures ok { OnOk result (clauses.new.items ≡ clauses.old.items ++ clauses_for V.eq self.now.tracker helper variable.now) }
+        ensures ok { OnOk result (clauses.new.items ≡
+            clauses.old.items ++ clauses_for V.eq self.now.tracker helper variable.now) }
         ensures err { OnErr result (clauses.new.items ≡ clauses.old.items) }
         ensures memory { IfErr result (λ e. e ≡ OutOfMemory) }
     {
@@ -75,11 +78,13 @@ impl<V: Eq + Hash + Copy, A: Allocator + Copy> AtMostOnceTracker<V, A> {
         self.append_new(*variable, helper, clauses)
     }
 
-    /// Tracks a variable, and appends its clauses: first those of the helper that is given with it, if one is, with each
-    /// earlier variable, then its own with each helper. Answers whether it is new; one that is tracked changes nothing.
+    /// Tracks a variable, and appends its clauses: first those of the helper that is given with it, if one is, with
+    /// each earlier variable, then its own with each helper. Answers whether it is new; one that is tracked changes
+    /// nothing.
     ///
-    /// That at most one variable can be true holds where a helper is given exactly if [`AtMostOnceTracker::needs_helper`]
-    /// says so, and is itself neither tracked nor a helper before. Takes time for the clauses that it appends.
+    /// That at most one variable can be true holds where a helper is given exactly if
+    /// [`AtMostOnceTracker::needs_helper`] says so, and is itself neither tracked nor a helper before. Takes time for
+    /// the clauses that it appends.
     pub fn add(
         &mut self,
         variable: V,
@@ -88,7 +93,8 @@ impl<V: Eq + Hash + Copy, A: Allocator + Copy> AtMostOnceTracker<V, A> {
     ) -> Result<bool, StoreError>
         ensures added { IfOk result (λ added. added ≡ not (is_tracked V.eq self.old.tracker variable)) }
         ensures ok { OnOk result (self.new.tracker ≡ with_variable V.eq self.old.tracker helper variable) }
-        ensures ok_clauses { OnOk result (clauses.new.items ≡ clauses.old.items ++ clauses_for V.eq self.old.tracker helper variable) }
+        ensures ok_clauses { OnOk result (clauses.new.items ≡
+            clauses.old.items ++ clauses_for V.eq self.old.tracker helper variable) }
         ensures err { OnErr result (self.new.tracker ≡ self.old.tracker) }
         ensures err_clauses { OnErr result (clauses.new.items ≡ clauses.old.items) }
         ensures tracked { IsTrue (is_tracked V.eq self.old.tracker variable) → IsOk result }
@@ -103,8 +109,8 @@ impl<V: Eq + Hash + Copy, A: Allocator + Copy> AtMostOnceTracker<V, A> {
         Ok(true)
     }
 
-    /// Makes room for one more variable, and for a helper where one comes with it: then [`AtMostOnceTracker::add_reserved`]
-    /// may add them. Room that is there is kept.
+    /// Makes room for one more variable, and for a helper where one comes with it: then
+    /// [`AtMostOnceTracker::add_reserved`] may add them. Room that is there is kept.
     pub fn make_room(&mut self, with_helper: bool) -> Result<(), StoreError>
         ensures same { self.new.tracker ≡ self.old.tracker }
         ensures room { OnOk result (HasRoom self.new with_helper) }
@@ -142,7 +148,8 @@ impl<V: Eq + Hash + Copy, A: Allocator + Copy> AtMostOnceTracker<V, A> {
         helper: Option<V>,
         clauses: &mut Vec<(V, V, bool), A>,
     ) -> Result<(), StoreError>
-        ensures ok { OnOk result (clauses.new.items ≡ clauses.old.items ++ new_clauses self.now.tracker helper variable) }
+        ensures ok { OnOk result (clauses.new.items ≡
+            clauses.old.items ++ new_clauses self.now.tracker helper variable) }
         ensures err { OnErr result (clauses.new.items ≡ clauses.old.items) }
         ensures memory { IfErr result (λ e. e ≡ OutOfMemory) }
     {

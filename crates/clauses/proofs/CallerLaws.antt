@@ -5,7 +5,9 @@ use Rattle.std.proofs.lemmas.Bool.{eqb-false}
 use Rattle.std.proofs.lemmas.List.Elements.{Contains-push, Contains-append_left, Contains-append_right}
 use Rattle.std.proofs.lemmas.Option.{slice_get_within, get_or_from_slice_get, same_Some, none-some}
 use Rattle.decisions.specs.Literals.{Lit, Pos, Neg, Values, variable_of, is_false_literal}
-use Rattle.clauses.specs.declared.clause.Clause.TheVariants.{InstallRoot, Requires, ForbidMultipleInstances, Constrains, ConstrainsExcluded, ConstrainsParent, Lock, Learnt, Excluded, AnyOf}
+use Rattle.clauses.specs.declared.clause.Clause.TheVariants.{InstallRoot, Requires, ForbidMultipleInstances}
+use Rattle.clauses.specs.declared.clause.Clause.TheVariants.{Constrains, ConstrainsExcluded}
+use Rattle.clauses.specs.declared.clause.Clause.TheVariants.{ConstrainsParent, Lock, Learnt, Excluded, AnyOf}
 use Rattle.clauses.specs.Clauses.{other_literals, learnt_literals, same_literal, watch_pair, watch_beside, watch_ends, first_not_false}
 use Rattle.clauses.specs.Laws.{AreTwoOf, FirstWatchesAreTwo}
 

@@ -8,7 +8,9 @@ use Rattle.providers.specs.Texts.{Texts, requirement_text}
 use Rattle.variables.specs.declared.variable_origin.VariableOrigin.{VariableOrigin}
 use Rattle.variables.specs.VariableTexts.{knows_variable, variable_text}
 use Rattle.clauses.specs.declared.clause.Clause.{Clause}
-use Rattle.clauses.specs.declared.clause.Clause.TheVariants.{InstallRoot, Requires, ForbidMultipleInstances, Constrains, ConstrainsExcluded, ConstrainsParent, Lock, Learnt, Excluded, AnyOf}
+use Rattle.clauses.specs.declared.clause.Clause.TheVariants.{InstallRoot, Requires, ForbidMultipleInstances}
+use Rattle.clauses.specs.declared.clause.Clause.TheVariants.{Constrains, ConstrainsExcluded}
+use Rattle.clauses.specs.declared.clause.Clause.TheVariants.{ConstrainsParent, Lock, Learnt, Excluded, AnyOf}
 
 -- a kind, and in brackets two parts, or three
 abbrev pub of_two : List ℕ → List ℕ → List ℕ → List ℕ
@@ -43,20 +45,27 @@ module _ {N S : Type 0} (universe : Universe N S) (origins : List (VariableOrigi
 module _ {N S : Type 0} (universe : Universe N S) (texts : Texts N S) (origins : List (VariableOrigin N S)) where
   -- of a variable, with its id
   abbrev pub numbered_variable : ℕ → List ℕ
-  numbered_variable v = variable_text universe texts origins v ++ (codes "(VariableId(" ++ (decimal (v + 1) ++ codes "))"))
+  numbered_variable v = variable_text universe texts origins v ++
+      (codes "(VariableId(" ++ (decimal (v + 1) ++ codes "))"))
 
   -- of a literal: its variable's, with the literal
   abbrev pub numbered_literal : Lit → List ℕ
-  numbered_literal l = variable_text universe texts origins (variable_of l) ++ (codes "(Literal(" ++ (decimal (literal_index l + 1) ++ codes "))"))
+  numbered_literal l = variable_text universe texts origins (variable_of l) ++
+      (codes "(Literal(" ++ (decimal (literal_index l + 1) ++ codes "))"))
 
   -- of a clause
   abbrev pub clause_text : Clause N → List ℕ
   clause_text InstallRoot = codes "InstallRoot"
-  clause_text (Requires parent d r) = of_three (codes "Requires") (numbered_variable parent) (requirement_text universe texts r) (condition_text d)
-  clause_text (ForbidMultipleInstances a l n) = of_three (codes "ForbidMultipleInstances") (numbered_variable a) (numbered_literal l) (texts.name n)
-  clause_text (Constrains a b v) = of_three (codes "Constrains") (numbered_variable a) (numbered_variable b) (texts.version_set v)
-  clause_text (ConstrainsExcluded a aux v) = of_three (codes "ConstrainsExcluded") (numbered_variable a) (numbered_variable aux) (texts.version_set v)
-  clause_text (ConstrainsParent a aux v) = of_three (codes "ConstrainsParent") (numbered_variable a) (numbered_variable aux) (texts.version_set v)
+  clause_text (Requires parent d r) = of_three (codes "Requires") (numbered_variable parent)
+      (requirement_text universe texts r) (condition_text d)
+  clause_text (ForbidMultipleInstances a l n) =
+      of_three (codes "ForbidMultipleInstances") (numbered_variable a) (numbered_literal l) (texts.name n)
+  clause_text (Constrains a b v) = of_three (codes "Constrains") (numbered_variable a) (numbered_variable b)
+      (texts.version_set v)
+  clause_text (ConstrainsExcluded a aux v) =
+      of_three (codes "ConstrainsExcluded") (numbered_variable a) (numbered_variable aux) (texts.version_set v)
+  clause_text (ConstrainsParent a aux v) =
+      of_three (codes "ConstrainsParent") (numbered_variable a) (numbered_variable aux) (texts.version_set v)
   clause_text (Lock locked other) = of_two (codes "Lock") (numbered_variable locked) (numbered_variable other)
   clause_text (Learnt id) = codes "Learnt(LearntClauseId(" ++ (decimal id ++ codes "))")
   clause_text (Excluded a reason) = of_two (codes "Excluded") (numbered_variable a) (texts.string reason)

@@ -1,11 +1,14 @@
 -- The literals of each kind of clause, the two that a new one watches, and whether it is a conflict.
-use Rattle.std.specs.Prelude.{ℕ, ◌-◌, Bool, true, false, not, ◌&&◌, ◌==◌, if◌then◌else◌, List, [], ◌∷◌, ◌++◌, map, flat_map, find, length, slice_get, Option, Some, None, unwrap_or}
+use Rattle.std.specs.Prelude.{ℕ, ◌-◌, Bool, true, false, not, ◌&&◌, ◌==◌, if◌then◌else◌, List, [], ◌∷◌}
+use Rattle.std.specs.Prelude.{◌++◌, map, flat_map, find, length, slice_get, Option, Some, None, unwrap_or}
 use Rattle.std.specs.List.{list_all}
 use Rattle.std.specs.Option.{option_map_or}
 use Rattle.decisions.specs.Literals.{Lit, Pos, Neg, Values, known_true, known_false, is_false_literal}
 use Rattle.providers.specs.declared.requirement.Requirement.{Requirement}
 use Rattle.clauses.specs.declared.clause.Clause.{Clause}
-use Rattle.clauses.specs.declared.clause.Clause.TheVariants.{InstallRoot, Requires, ForbidMultipleInstances, Constrains, ConstrainsExcluded, ConstrainsParent, Lock, Learnt, Excluded, AnyOf}
+use Rattle.clauses.specs.declared.clause.Clause.TheVariants.{InstallRoot, Requires, ForbidMultipleInstances}
+use Rattle.clauses.specs.declared.clause.Clause.TheVariants.{Constrains, ConstrainsExcluded}
+use Rattle.clauses.specs.declared.clause.Clause.TheVariants.{ConstrainsParent, Lock, Learnt, Excluded, AnyOf}
 
 -- what clauses refer to by ids
 pub record Kept : Type 0 where
@@ -121,8 +124,9 @@ is_conflict k val _ = false
 abbrev pub is_other_watch : List Lit → ℕ → Lit → Bool
 is_other_watch watches index l = option_map_or (same_literal l) (slice_get watches (1 - index)) false
 
--- what a clause may watch in place of the watch at the index: its first literal that isn't the other watch and isn't false;
--- none for a binary clause
+-- what a clause may watch in place of the watch at the index: its first literal that isn't the other watch and isn't
+-- false; none for a binary clause
 abbrev pub next_unwatched : {N : Type 0} → Kept → Values → Clause N → List Lit → ℕ → Option Lit
 next_unwatched k val clause watches index =
-    if is_binary clause then None else find (λ l. not (is_other_watch watches index l) && not (is_false_literal val l)) (literals_of k clause)
+    if is_binary clause then None
+    else find (λ l. not (is_other_watch watches index l) && not (is_false_literal val l)) (literals_of k clause)

@@ -12,4 +12,5 @@ AreTwoOf literals (Some watches) =
 
 -- a new clause watches two different ones of its literals, or none
 abbrev pub FirstWatchesAreTwo : (N : Type 0) → Type 0
-FirstWatchesAreTwo N = (k : Kept) (now : Values) (clause : Clause N) → AreTwoOf (literals_of k clause) (first_watches k now clause)
+FirstWatchesAreTwo N = (k : Kept) (now : Values) (clause : Clause N) →
+    AreTwoOf (literals_of k clause) (first_watches k now clause)

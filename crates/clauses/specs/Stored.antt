@@ -14,7 +14,8 @@ lists_found None = []
 lists_found (Some lists) = map (λ list. list.items) lists.items
 
 -- what learnt clauses, lists of candidates and disjunctions keep
-abbrev pub kept_in : {A : Type 0} → List (Vec Lit A) → List (Requirement × Vec (Vec ℕ A) A) → List (Disjunction A) → Kept
+abbrev pub kept_in : {A : Type 0} → List (Vec Lit A) → List (Requirement × Vec (Vec ℕ A) A) →
+    List (Disjunction A) → Kept
 kept_in learnt lists disjunctions = record {
   learnt = map (λ clause. clause.items) learnt;
   lists = λ requirement. lists_found (lookup (same_requirement requirement) lists);

@@ -76,7 +76,8 @@ impl<N> Clause<N> {
         lists: &RequirementMap<Vec<Vec<VariableId, A>, A>, A>,
         disjunctions: &Arena<DisjunctionId, Disjunction<A>, A>,
     ) -> Result<Vec<Literal, A>, StoreError>
-        ensures ok { IfOk result (λ literals. literals.items ≡ literals_of (kept_in learnt.now lists.now disjunctions.now) self.now) }
+        ensures ok { IfOk result (λ literals. literals.items ≡
+            literals_of (kept_in learnt.now lists.now disjunctions.now) self.now) }
         ensures memory { IfErr result (λ e. e ≡ OutOfMemory) }
     {
         self.walk(learnt, lists, disjunctions).collect(alloc)
@@ -92,7 +93,8 @@ impl<N> Clause<N> {
         test: F,
     ) -> Option<Literal>
         requires { F.IsAlwaysCallable test }
-        ensures first { IsFirstTrue (λ l b. F.post test l b) (literals_of (kept_in learnt.now lists.now disjunctions.now) self.now) result }
+        ensures first { IsFirstTrue (λ l b. F.post test l b)
+            (literals_of (kept_in learnt.now lists.now disjunctions.now) self.now) result }
         ensures tested { (passes : Lit → Bool) → ((l : Lit) (b : Bool) → F.post test l b → b ≡ passes l) →
             result ≡ find passes (literals_of (kept_in learnt.now lists.now disjunctions.now) self.now) }
     {
@@ -120,7 +122,8 @@ impl<N> Clause<N> {
 
     /// The literals that the clause has itself.
     fn own_literals(&self) -> (Option<Literal>, Option<Literal>)
-        ensures { (k : Kept) → literals_of k self.now ≡ option_to_list result.0 ++ (option_to_list result.1 ++ asked_literals (stored_literals k self.now) (stored_lists k self.now)) }
+        ensures { (k : Kept) → literals_of k self.now ≡ option_to_list result.0 ++
+            (option_to_list result.1 ++ asked_literals (stored_literals k self.now) (stored_lists k self.now)) }
     {
         match self {
             Clause::InstallRoot => (Some(positive(VariableId::root())), None),
@@ -152,7 +155,8 @@ impl<N> Clause<N> {
         learnt: &'a Arena<LearntClauseId, Vec<Literal, A>, A>,
         disjunctions: &'a Arena<DisjunctionId, Disjunction<A>, A>,
     ) -> &'a [Literal]
-        ensures { (k : Kept) → k.learnt ≡ map (λ c. c.items) learnt.now → k.disjunctions ≡ map (λ d. d.literals.items) disjunctions.now →
+        ensures { (k : Kept) → k.learnt ≡ map (λ c. c.items) learnt.now →
+            k.disjunctions ≡ map (λ d. d.literals.items) disjunctions.now →
             result.now ≡ stored_literals k self.now }
     {
         match self {

@@ -7,7 +7,8 @@ ghost use Rattle.providers.specs.Provider.{knows_requirement};
 ghost use Rattle.providers.specs.Texts.{IsAppended, IsSameText};
 ghost use Rattle.variables.specs.VariableTexts.{knows_variable};
 ghost use Rattle.clauses.specs.declared.clause.Clause.TheVariants.{Requires, ForbidMultipleInstances, Excluded};
-ghost use Rattle.clauses.specs.ClauseTexts.{IsKnownClause, clause_text, numbered_variable, numbered_literal, condition_text, of_two, of_three};
+ghost use Rattle.clauses.specs.ClauseTexts.{IsKnownClause, clause_text, numbered_variable};
+ghost use Rattle.clauses.specs.ClauseTexts.{numbered_literal, condition_text, of_two, of_three};
 
 use crate::clause::Clause;
 use decisions::Literal;
@@ -29,7 +30,8 @@ impl<N> Clause<N> {
     where
         N: SolverId<I::Alloc>,
         requires { IsKnownClause (I.universe interner.now) variables.now self.now }
-        ensures ok { OnOk result (IsAppended out.old out.new (clause_text (I.universe interner.now) (I.texts interner.now) variables.now self.now)) }
+        ensures ok { OnOk result (IsAppended out.old out.new
+            (clause_text (I.universe interner.now) (I.texts interner.now) variables.now self.now)) }
         ensures err { OnErr result (IsSameText out.old out.new) }
         ensures memory { IfErr result (λ e. e ≡ OutOfMemory) }
     {
@@ -56,7 +58,8 @@ impl<I: Interner> Shown<'_, I> {
     /// The text of a clause.
     fn clause(&self, clause: Clause<I::NameId>) -> Result<String<I::Alloc>, StoreError>
         requires { IsKnownClause (I.universe self.now.interner.now) self.now.variables.now clause }
-        ensures ok { IfOk result (λ text. string_bytes text ≡ clause_text (I.universe self.now.interner.now) (I.texts self.now.interner.now) self.now.variables.now clause) }
+        ensures ok { IfOk result (λ text. string_bytes text ≡ clause_text (I.universe self.now.interner.now)
+            (I.texts self.now.interner.now) self.now.variables.now clause) }
         ensures err { IfErr result (λ e. e ≡ OutOfMemory) }
     {
         match clause {
@@ -94,7 +97,8 @@ impl<I: Interner> Shown<'_, I> {
     ) -> Result<String<I::Alloc>, StoreError>
         requires parent { knows_variable (I.universe self.now.interner.now) self.now.variables.now parent ≡ true }
         requires requirement { knows_requirement (I.universe self.now.interner.now) requirement ≡ true }
-        ensures ok { IfOk result (λ text. string_bytes text ≡ clause_text (I.universe self.now.interner.now) (I.texts self.now.interner.now) self.now.variables.now (Requires parent disjunction requirement)) }
+        ensures ok { IfOk result (λ text. string_bytes text ≡ clause_text (I.universe self.now.interner.now)
+            (I.texts self.now.interner.now) self.now.variables.now (Requires parent disjunction requirement)) }
         ensures err { IfErr result (λ e. e ≡ OutOfMemory) }
     {
         let parent = self.variable(parent)?;
@@ -111,9 +115,11 @@ impl<I: Interner> Shown<'_, I> {
         name: I::NameId,
     ) -> Result<String<I::Alloc>, StoreError>
         requires candidate { knows_variable (I.universe self.now.interner.now) self.now.variables.now candidate ≡ true }
-        requires literal { knows_variable (I.universe self.now.interner.now) self.now.variables.now (variable_of literal) ≡ true }
+        requires literal { knows_variable (I.universe self.now.interner.now) self.now.variables.now
+            (variable_of literal) ≡ true }
         requires name { (I.universe self.now.interner.now).knows_name name ≡ true }
-        ensures ok { IfOk result (λ text. string_bytes text ≡ clause_text (I.universe self.now.interner.now) (I.texts self.now.interner.now) self.now.variables.now (ForbidMultipleInstances candidate literal name)) }
+        ensures ok { IfOk result (λ text. string_bytes text ≡ clause_text (I.universe self.now.interner.now)
+            (I.texts self.now.interner.now) self.now.variables.now (ForbidMultipleInstances candidate literal name)) }
         ensures err { IfErr result (λ e. e ≡ OutOfMemory) }
     {
         let candidate = self.variable(candidate)?;
@@ -131,7 +137,8 @@ impl<I: Interner> Shown<'_, I> {
     ) -> Result<String<I::Alloc>, StoreError>
         requires candidate { knows_variable (I.universe self.now.interner.now) self.now.variables.now candidate ≡ true }
         requires reason { (I.universe self.now.interner.now).knows_string reason ≡ true }
-        ensures ok { IfOk result (λ text. string_bytes text ≡ clause_text (I.universe self.now.interner.now) (I.texts self.now.interner.now) self.now.variables.now (Excluded candidate reason)) }
+        ensures ok { IfOk result (λ text. string_bytes text ≡ clause_text (I.universe self.now.interner.now)
+            (I.texts self.now.interner.now) self.now.variables.now (Excluded candidate reason)) }
         ensures err { IfErr result (λ e. e ≡ OutOfMemory) }
     {
         let candidate = self.variable(candidate)?;
@@ -149,7 +156,8 @@ impl<I: Interner> Shown<'_, I> {
     ) -> Result<String<I::Alloc>, StoreError>
         requires first { knows_variable (I.universe self.now.interner.now) self.now.variables.now first ≡ true }
         requires second { knows_variable (I.universe self.now.interner.now) self.now.variables.now second ≡ true }
-        ensures ok { let shown = numbered_variable (I.universe self.now.interner.now) (I.texts self.now.interner.now) self.now.variables.now in
+        ensures ok { let shown = numbered_variable (I.universe self.now.interner.now)
+            (I.texts self.now.interner.now) self.now.variables.now in
             IfOk result (λ text. string_bytes text ≡ of_two kind.now (shown first) (shown second)) }
         ensures err { IfErr result (λ e. e ≡ OutOfMemory) }
     {
@@ -169,8 +177,10 @@ impl<I: Interner> Shown<'_, I> {
         requires first { knows_variable (I.universe self.now.interner.now) self.now.variables.now first ≡ true }
         requires second { knows_variable (I.universe self.now.interner.now) self.now.variables.now second ≡ true }
         requires set { (I.universe self.now.interner.now).knows_set set ≡ true }
-        ensures ok { let shown = numbered_variable (I.universe self.now.interner.now) (I.texts self.now.interner.now) self.now.variables.now in
-            IfOk result (λ text. string_bytes text ≡ of_three kind.now (shown first) (shown second) ((I.texts self.now.interner.now).version_set set)) }
+        ensures ok { let shown = numbered_variable (I.universe self.now.interner.now)
+            (I.texts self.now.interner.now) self.now.variables.now in
+            IfOk result (λ text. string_bytes text ≡
+            of_three kind.now (shown first) (shown second) ((I.texts self.now.interner.now).version_set set)) }
         ensures err { IfErr result (λ e. e ≡ OutOfMemory) }
     {
         let first = self.variable(first)?;
@@ -183,7 +193,8 @@ impl<I: Interner> Shown<'_, I> {
     /// The variable's text, and its id's.
     fn variable(&self, variable: VariableId) -> Result<String<I::Alloc>, StoreError>
         requires { knows_variable (I.universe self.now.interner.now) self.now.variables.now variable ≡ true }
-        ensures ok { IfOk result (λ text. string_bytes text ≡ numbered_variable (I.universe self.now.interner.now) (I.texts self.now.interner.now) self.now.variables.now variable) }
+        ensures ok { IfOk result (λ text. string_bytes text ≡ numbered_variable (I.universe self.now.interner.now)
+            (I.texts self.now.interner.now) self.now.variables.now variable) }
         ensures err { IfErr result (λ e. e ≡ OutOfMemory) }
     {
         let mut text = String::new(self.alloc);
@@ -194,8 +205,10 @@ impl<I: Interner> Shown<'_, I> {
 
     /// The text of the literal's variable, and the literal's.
     fn literal(&self, literal: Literal) -> Result<String<I::Alloc>, StoreError>
-        requires { knows_variable (I.universe self.now.interner.now) self.now.variables.now (variable_of literal) ≡ true }
-        ensures ok { IfOk result (λ text. string_bytes text ≡ numbered_literal (I.universe self.now.interner.now) (I.texts self.now.interner.now) self.now.variables.now literal) }
+        requires { knows_variable (I.universe self.now.interner.now) self.now.variables.now
+            (variable_of literal) ≡ true }
+        ensures ok { IfOk result (λ text. string_bytes text ≡ numbered_literal (I.universe self.now.interner.now)
+            (I.texts self.now.interner.now) self.now.variables.now literal) }
         ensures err { IfErr result (λ e. e ≡ OutOfMemory) }
     {
         let mut text = String::new(self.alloc);
@@ -227,7 +240,8 @@ fn of_three<A: Allocator + Copy>(
     second: String<A>,
     third: String<A>,
 ) -> Result<String<A>, StoreError>
-    ensures ok { IfOk result (λ text. string_bytes text ≡ of_three kind.now (string_bytes first) (string_bytes second) (string_bytes third)) }
+    ensures ok { IfOk result (λ text. string_bytes text ≡
+        of_three kind.now (string_bytes first) (string_bytes second) (string_bytes third)) }
     ensures err { IfErr result (λ e. e ≡ OutOfMemory) }
 {
     Ok(format!(in alloc; "{kind}({first}, {second}, {third})")?)

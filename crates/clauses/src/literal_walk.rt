@@ -24,7 +24,8 @@ impl<'a, A: Allocator> LiteralWalk<'a, A> {
     pub fn find<F: Fn(Literal) -> bool>(&self, test: F) -> Option<Literal>
         requires { F.IsAlwaysCallable test }
         ensures first { IsFirstTrue (λ l b. F.post test l b) (literals_in self.now) result }
-        ensures tested { (passes : Lit → Bool) → ((l : Lit) (b : Bool) → F.post test l b → b ≡ passes l) → result ≡ find passes (literals_in self.now) }
+        ensures tested { (passes : Lit → Bool) → ((l : Lit) (b : Bool) → F.post test l b → b ≡ passes l) →
+            result ≡ find passes (literals_in self.now) }
     {
         self.find_in_order(test)
     }
@@ -149,7 +150,8 @@ fn push_lists<A: Allocator>(
     literals: &mut Vec<Literal, A>,
     lists: &[Vec<VariableId, A>],
 ) -> Result<(), StoreError>
-    ensures ok { OnOk result (literals.new.items ≡ literals.old.items ++ flat_map (map Pos) (map (λ l. l.items) lists.now)) }
+    ensures ok { OnOk result (literals.new.items ≡
+        literals.old.items ++ flat_map (map Pos) (map (λ l. l.items) lists.now)) }
     ensures memory { IfErr result (λ e. e ≡ OutOfMemory) }
 {
     for list in lists {

@@ -79,7 +79,8 @@ impl<A: Allocator + Copy> DecisionMap<A> {
 
     /// Gives the variable a value, at a level.
     pub fn set(&mut self, variable: VariableId, value: bool, level: u32) -> Result<(), StoreError>
-        ensures ok { OnOk result (IsUpdate (decision_in self.old) variable (Some (value, level)) (decision_in self.new)) }
+        ensures ok { OnOk result
+            (IsUpdate (decision_in self.old) variable (Some (value, level)) (decision_in self.new)) }
         ensures err { OnErr result (SameValues (decision_in self.old) (decision_in self.new)) }
         ensures memory { IfErr result (λ e. e ≡ OutOfMemory) }
     {

@@ -8,8 +8,8 @@
 //! few entries there were at the least since the floor was last taken: a copy of the trail that was made then is still
 //! the same below the floor.
 //!
-//! The stack holds the decisions, the map has their levels. A contract sees them as a `Trail`: a list of entries, each a
-//! decision with its level, with the place and the floor. It speaks of it by the words of `specs/Trail`: `val`,
+//! The stack holds the decisions, the map has their levels. A contract sees them as a `Trail`: a list of entries, each
+//! a decision with its level, with the place and the floor. It speaks of it by the words of `specs/Trail`: `val`,
 //! `level_of` and `clause_of` read the entries, `AddsEntry` is what adding answers and leaves, and `undo_last`,
 //! `undo_until`, `propagated` and `floor_taken` are what the other calls leave. Every trail keeps to `IsTrail`: each
 //! variable at most once, and levels from 1 to below 2^31; and to `IsWithin`: neither number is above that of the
@@ -162,9 +162,9 @@ impl<A: Allocator + Copy> DecisionTracker<A> {
         }
     }
 
-    /// Takes back the newest decision, of which there must be one: [`DecisionTracker::assignments`] has it last. Answers
-    /// the decision, and the level of the one that is the newest then, 0 if none is left. Takes no memory, and constant
-    /// time.
+    /// Takes back the newest decision, of which there must be one: [`DecisionTracker::assignments`] has it last.
+    /// Answers the decision, and the level of the one that is the newest then, 0 if none is left. Takes no memory, and
+    /// constant time.
     pub fn undo_last(&mut self) -> (Decision, u32)
         requires { 0 < length self.old.entries }
         ensures decision { Some result.0 ≡ option_map (λ e. e.decision) (newest self.old.entries) }
@@ -187,8 +187,8 @@ impl<A: Allocator + Copy> DecisionTracker<A> {
         }
     }
 
-    /// The oldest decision that the search hasn't propagated yet, which counts as propagated from now on; none if it has
-    /// propagated all. Takes no memory.
+    /// The oldest decision that the search hasn't propagated yet, which counts as propagated from now on; none if it
+    /// has propagated all. Takes no memory.
     pub fn next_unpropagated(&mut self) -> Option<Decision>
         ensures decision { result ≡ option_map (λ e. e.decision) (next_entry self.old) }
         ensures trail { self.new ≡ propagated self.old }

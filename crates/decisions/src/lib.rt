@@ -1,8 +1,8 @@
 //! Literals, decisions, and the trail of decisions.
 //!
 //! `literal` has a variable or its negation (`specs/Literals`), `decision` a value of a variable and the clause that
-//! gave it. `decision_map` answers what is decided of one variable (`specs/Decisions`), and `decision_tracker` keeps the
-//! decisions in order and takes them back (`specs/Trail`).
+//! gave it. `decision_map` answers what is decided of one variable (`specs/Decisions`), and `decision_tracker` keeps
+//! the decisions in order and takes them back (`specs/Trail`).
 #![tactic(auto)]
 
 mod decision;

@@ -1,5 +1,6 @@
 -- What `largest` of a map goes through, one value after another.
-use Rattle.std.proofs.Common.{◌≡◌, true≢false, ℕ, zero, suc, ◌<◌, ◌^◌, Bool, true, false, cond, min, List, [], ◌∷◌, ◌⊎◌, inl, inr, length, get_or, Some, Contains, fold, refl, sym, ap, subst, ◌∙◌, arith}
+use Rattle.std.proofs.Common.{◌≡◌, true≢false, ℕ, zero, suc, ◌<◌, ◌^◌, Bool, true, false, cond, min, List, [], ◌∷◌}
+use Rattle.std.proofs.Common.{◌⊎◌, inl, inr, length, get_or, Some, Contains, fold, refl, sym, ap, subst, ◌∙◌, arith}
 use Rattle.std.specs.Cmp.{IsTotalOrder, upto, tied_itself}
 use Rattle.std.specs.List.{IsDistinct}
 use Rattle.std.specs.Map.{lookup, keys_of, values_of}
@@ -72,7 +73,9 @@ module _ {V : Type 0} {compare : V → V → Ordering} (order : IsTotalOrder com
   lookup_below test default [] first h = h
   lookup_below test default (e ∷ entries) first h =
       let next = ord_max compare first e.1 in
-      elim (test e.0) as (λ found. is_gt (compare (unwrap_or (cond found (Some e.1) (lookup test entries)) default) (walk compare next (values_of entries))) ≡ false) [
+      elim (test e.0) as (λ found.
+      is_gt (compare (unwrap_or (cond found (Some e.1) (lookup test entries)) default)
+      (walk compare next (values_of entries))) ≡ false) [
         | true ↦ walk_above e.1 next (values_of entries) (second_below first e.1)
         | false ↦ lookup_below test default entries next (upto order default first next h (first_below first e.1))
       ]
@@ -119,12 +122,19 @@ module _ {V : Type 0} {compare : V → V → Ordering} (order : IsTotalOrder com
   sparse_largest {K} {eq} laws default entries distinct = record {
     default_below = walk_above default default (values_of entries) (level default);
     values_below = λ key. lookup_below (eq key) default entries default (level default);
-    among = elim (walk_among default (values_of entries)) [ inl first ↦ inl first | inr there ↦ inr (at (Contains-from_values_of entries (walk compare default (values_of entries)) there)) ];
+    among = elim (walk_among default (values_of entries)) [
+      | inl first ↦ inl first
+      | inr there ↦ inr (at (Contains-from_values_of entries (walk compare default (values_of entries)) there))
+    ];
   }
     where
       at : ((key : K) × Contains entries (key, walk compare default (values_of entries))) →
           (key : K) × (walk compare default (values_of entries) ≡ unwrap_or (lookup (eq key) entries) default)
-      at found = (found.0, sym (ap (λ value. unwrap_or value default) (lookup-from_Contains laws found.0 (walk compare default (values_of entries)) entries distinct found.1)))
+      at found = (
+        found.0,
+        sym (ap (λ value. unwrap_or value default)
+            (lookup-from_Contains laws found.0 (walk compare default (values_of entries)) entries distinct found.1)),
+      )
 
   not_above : (r : Ordering) → is_gt r ≡ false → is_lt r ≡ false → r ≡ Equal
   not_above Less h k = absurd (true≢false k)

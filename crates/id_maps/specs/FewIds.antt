@@ -34,8 +34,10 @@ module _ {K : Type 0} (same : K → K → Bool) (reflexive : (x : K) → same x 
       → list_any (eqb index) (map index_of ids) ≡ true → index < limit
   below_limit limit [] all index h = absurd (true≢false (sym h))
   below_limit limit (id ∷ ids) all index h =
-      (elim (eqb index (index_of id)) as (λ b. eqb index (index_of id) ≡ b → (b || list_any (eqb index) (map index_of ids)) ≡ true → index < limit) [
-        | true ↦ λ is e. subst (λ i. i < limit) (sym (exact_unsigned_eq index (index_of id) is)) (All-head (λ id. index_of id < limit) id ids all)
+      (elim (eqb index (index_of id)) as (λ b. eqb index (index_of id) ≡ b →
+      (b || list_any (eqb index) (map index_of ids)) ≡ true → index < limit) [
+        | true ↦ λ is e. subst (λ i. i < limit) (sym (exact_unsigned_eq index (index_of id) is))
+            (All-head (λ id. index_of id < limit) id ids all)
         | false ↦ λ is e. below_limit limit ids (All-tail (λ id. index_of id < limit) id ids all) index e
       ]) refl h
 
@@ -44,6 +46,7 @@ module _ {K : Type 0} (same : K → K → Bool) (reflexive : (x : K) → same x 
       → IsDistinct same ids → length ids ≤ 2 ^ 32
   few_ids limit few ids all differ =
       let within : length (map index_of ids) ≤ limit =
-      length-le_from_distinct_below (map index_of ids) limit (distinct_indexes ids differ) (below_limit limit ids all) in
+      length-le_from_distinct_below (map index_of ids) limit (distinct_indexes ids differ)
+      (below_limit limit ids all) in
       let small : limit ≤ 2 ^ 32 = grind (arith, nat_tests, few) in
       omega (arith, length-map ids index_of)

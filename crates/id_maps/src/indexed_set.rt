@@ -1,5 +1,6 @@
 //! Sets of dense ids.
-ghost use Rattle.std.specs.Prelude.{◌≡◌, ℕ, ◌<◌, ◌≤◌, ◌+◌, ◌/◌, ◌^◌, max, length, vec_len, true, false, not, IsTrue, OnOk, OnErr, IfOk, IfErr};
+ghost use Rattle.std.specs.Prelude.{◌≡◌, ℕ, ◌<◌, ◌≤◌, ◌+◌, ◌/◌, ◌^◌, max, length, vec_len};
+ghost use Rattle.std.specs.Prelude.{true, false, not, IsTrue, OnOk, OnErr, IfOk, IfErr};
 ghost use Rattle.typed_ids.specs.declared.error.StoreError.TheVariants.{IdSpace};
 ghost use Rattle.id_maps.specs.IndexedSet.{has_bit};
 ghost use Rattle.typed_ids.specs.Refusals.{IsGrowthRefusal, is_too_dense};

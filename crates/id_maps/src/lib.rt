@@ -5,11 +5,11 @@
 //!
 //! `id_map` and `id_set` have the traits, and `solver_id` the choice. `dense_map` is the map of dense ids and
 //! `indexed_set` their set; `sparse_map` is the map of sparse ids, and their set is in `id_set`. `slot` is the value of
-//! maps to optional indexes. `with_root_set` adds the root to a set of solvables. `scores` has a score for each name, in the map that
-//! the name's id chooses, with the largest of them: how active a package was in a search.
+//! maps to optional indexes. `with_root_set` adds the root to a set of solvables. `scores` has a score for each name,
+//! in the map that the name's id chooses, with the largest of them: how active a package was in a search.
 //!
-//! The words of the contracts are those of `typed_ids`, `has_bit` in `specs/IndexedSet`, and `specs/Scores`, where scores are a
-//! function from names to numbers; `specs/FewIds` proves how many dense ids there can be.
+//! The words of the contracts are those of `typed_ids`, `has_bit` in `specs/IndexedSet`, and `specs/Scores`, where
+//! scores are a function from names to numbers; `specs/FewIds` proves how many dense ids there can be.
 #![tactic(auto)]
 
 mod dense_map;

@@ -96,7 +96,8 @@ impl<N: SolverId<A>, A: Allocator + Copy> Scores<N, A> {
     pub fn decay(&mut self, numerator: u64, denominator: u64)
         requires defined { 1 ≤ denominator }
         requires shrinks { numerator ≤ denominator }
-        ensures decayed { N.Scores.value_at self.new.map ≡ decayed numerator denominator (N.Scores.value_at self.old.map) }
+        ensures decayed { N.Scores.value_at self.new.map ≡
+            decayed numerator denominator (N.Scores.value_at self.old.map) }
         ensures keeps { (other : N) → N.Scores.has_room self.old.map other → N.Scores.has_room self.new.map other }
     {
         self.map.update_all(

@@ -39,7 +39,8 @@ pub trait SolverId<A: Allocator + Copy>: SameId {
     ghost few: { are_many ≡ false → (ids : List Self) → All is_id ids → IsDistinct Self.eq ids → length ids ≤ 2 ^ 32 };
 
     /// An id that one of the three can't hold, none of them can.
-    ghost hold_alike: { (id : Self) → (Self.Scores.is_too_large id ≡ Self.Slots.is_too_large id) × (Self.Set.is_too_large id ≡ Self.Slots.is_too_large id) };
+    ghost hold_alike: { (id : Self) → (Self.Scores.is_too_large id ≡ Self.Slots.is_too_large id) ×
+        (Self.Set.is_too_large id ≡ Self.Slots.is_too_large id) };
 }
 
 impl<Tag, Repr: DenseIndex + SameId, A: Allocator + Copy> SolverId<A> for DenseId<Tag, Repr> {

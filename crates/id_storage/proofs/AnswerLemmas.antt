@@ -1,5 +1,7 @@
 -- The places of questions, and the answers that stand there.
-use Rattle.std.proofs.Common.{◌≡◌, ◌≢◌, ℕ, suc, ◌+◌, ◌<◌, ◌≤◌, ◌^◌, ◌||◌, Bool, true, false, not, cond, ltb, min, leb, set, true≢false, List, [], ◌∷◌, ◌++◌, length, length-append, slice_get, is_some, Option, None, Some, refl, arith, sym, ◌∙◌, ap, subst}
+use Rattle.std.proofs.Common.{◌≡◌, ◌≢◌, ℕ, suc, ◌+◌, ◌<◌, ◌≤◌, ◌^◌, ◌||◌, Bool, true, false, not, cond}
+use Rattle.std.proofs.Common.{ltb, min, leb, set, true≢false, List, [], ◌∷◌, ◌++◌, length, length-append}
+use Rattle.std.proofs.Common.{slice_get, is_some, Option, None, Some, refl, arith, sym, ◌∙◌, ap, subst}
 use Rattle.std.specs.Option.{option_map, unwrap_or}
 use Rattle.std.specs.Cmp.{IsEquivalence}
 use Rattle.std.specs.List.{All, IsDistinct, position_from, position_or_len, list_any}
@@ -34,7 +36,8 @@ module _ {K V : Type 0} (test : K → Bool) where
   answer_in_place : (kept : List (K × V)) → lookup test kept ≡ slice_get (values_of kept) (position_or_len test (keys_of kept))
   answer_in_place [] = refl
   answer_in_place (e ∷ kept) =
-      elim (test e.0) as (λ b. cond b (Some e.1) (lookup test kept) ≡ slice_get (values_of (e ∷ kept)) (cond (not b) (1 + position_or_len test (keys_of kept)) 0)) [
+      elim (test e.0) as (λ b. cond b (Some e.1) (lookup test kept) ≡
+      slice_get (values_of (e ∷ kept)) (cond (not b) (1 + position_or_len test (keys_of kept)) 0)) [
         | true ↦ refl
         | false ↦
             let next : suc (position_or_len test (keys_of kept)) ≡ 1 + position_or_len test (keys_of kept) = omega arith in
@@ -194,7 +197,8 @@ answer_earlier same kept key p x at is =
     sym (answer_at same kept key p at) ∙ slice_get-map (λ e. e.1) kept p ∙ ap (option_map (λ e. e.1)) is
 
 -- the questions are the same
-pub AreKept-replaced : {K V : Type 0} (same : K → K → Bool) (IsId : K → Type 0) (limit : ℕ) (slots : K → Option ℕ) (kept : List (K × V)) (test : K → Bool) (value : V)
+pub AreKept-replaced : {K V : Type 0} (same : K → K → Bool) (IsId : K → Type 0) (limit : ℕ) (slots : K → Option ℕ)
+    (kept : List (K × V)) (test : K → Bool) (value : V)
     → AreKept same IsId limit slots kept → AreKept same IsId limit slots (set_value test kept value)
 AreKept-replaced same IsId limit slots kept test value are =
     let questions = sym (keys-set_value test kept value) in

@@ -1,10 +1,11 @@
--- Questions with their answers, the first one first, where each question has one answer. K are the questions, V the answers.
+-- Questions with their answers, the first one first, where each question has one answer. K are the questions, V the
+-- answers.
 use Rattle.std.specs.Prelude.{◌≡◌, ℕ, ◌≤◌, ◌^◌, Bool, ◌||◌, min, nat_le, List, length, Option}
 use Rattle.std.specs.List.{All, IsDistinct, position_from}
 use Rattle.std.specs.Map.{keys_of}
 
--- no further answer can be kept by the key after the first so many: answers are counted by ids, which end at the limit, and
--- by slots, whose numbers end at 2^32; or the key itself is too large
+-- no further answer can be kept by the key after the first so many: answers are counted by ids, which end at the limit,
+-- and by slots, whose numbers end at 2^32; or the key itself is too large
 abbrev pub lacks_answer : {K : Type 0} → ℕ → (K → Bool) → ℕ → K → Bool
 lacks_answer limit is_large count key = nat_le (min limit (2 ^ 32)) count || is_large key
 

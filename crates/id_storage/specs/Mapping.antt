@@ -1,5 +1,6 @@
 -- Maps from indexes to values, as their slots: what index i has is in slot i. Slots come in chunks of 128.
-use Rattle.std.specs.Prelude.{◌≡◌, ℕ, ◌+◌, ◌-◌, ◌*◌, ◌/◌, ◌%◌, ◌<◌, ◌≤◌, ◌^◌, List, [], ◌∷◌, ◌++◌, length, replicate, Option, Some, None, is_some, IsSome, count_by, slice_index_or, slice_set}
+use Rattle.std.specs.Prelude.{◌≡◌, ℕ, ◌+◌, ◌-◌, ◌*◌, ◌/◌, ◌%◌, ◌<◌, ◌≤◌, ◌^◌, List, [], ◌∷◌, ◌++◌, length}
+use Rattle.std.specs.Prelude.{replicate, Option, Some, None, is_some, IsSome, count_by, slice_index_or, slice_set}
 
 -- the number of slots in the chunks from the first to that of an index
 abbrev pub slots_for : ℕ → ℕ

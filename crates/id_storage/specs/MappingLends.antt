@@ -7,7 +7,8 @@ use Rattle.typed_ids.specs.declared.error.StoreError.{StoreError}
 use Rattle.id_storage.specs.Mapping.{with_value, with_slots, slots_for}
 use Rattle.id_storage.specs.contracts.mapping.Mapping.{the_row}
 
-module _ (K V A : RattleType) (ids : Ghosts K.Denot) (alloc : AllocatorGhosts A.Denot) (m : MutBor (List (Option V.Denot))) (index : ℕ) where
+module _ (K V A : RattleType) (ids : Ghosts K.Denot) (alloc : AllocatorGhosts A.Denot)
+    (m : MutBor (List (Option V.Denot))) (index : ℕ) where
   -- once the borrow r ends, the index has the value written last through r; at `None` the map stays as it is
   abbrev pub lends_get : Option (MutBor V.Denot) → Fml
   lends_get r = LendsIf (the_row K V A ids alloc) V m r (with_value m.now index) m.now

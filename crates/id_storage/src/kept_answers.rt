@@ -1,5 +1,6 @@
 //! Answers, each found by the id that its question is about.
-ghost use Rattle.std.specs.Prelude.{◌≡◌, ◌<◌, ◌^◌, false, [], ◌∷◌, ◌++◌, true, map, length, is_some, slice_get, Some, None, IfSome, IsTrue, IfOk, OnOk, OnErr, IfErr};
+ghost use Rattle.std.specs.Prelude.{◌≡◌, ◌<◌, ◌^◌, false, [], ◌∷◌, ◌++◌, true, map, length, is_some};
+ghost use Rattle.std.specs.Prelude.{slice_get, Some, None, IfSome, IsTrue, IfOk, OnOk, OnErr, IfErr};
 ghost use Rattle.std.specs.List.{IsDistinct};
 ghost use Rattle.std.specs.Map.{lookup, keys_of, set_value};
 ghost use Rattle.typed_ids.specs.Refusals.{IsGrowthRefusal};
@@ -13,8 +14,8 @@ use std::mem;
 use std::ops::Index;
 use typed_ids::{DenseIndex, StoreError};
 
-/// The answers to questions about ids `K`, each kept under an id `I` of its own. A contract sees the questions with their
-/// answers, the first one first.
+/// The answers to questions about ids `K`, each kept under an id `I` of its own. A contract sees the questions with
+/// their answers, the first one first.
 ///
 /// An answer stays where it is: none is taken out.
 #[derive(Drop)]
@@ -52,7 +53,8 @@ impl<I: DenseIndex, K: SolverId<A>, V, A: Allocator + Copy> KeptAnswers<I, K, V,
     pub fn find(&self, key: K) -> Option<I>
         ensures found { is_some result ≡ is_some (lookup (K.eq key) self.now) }
         ensures within { IfSome result (λ id. I.index_of id < length self.now) }
-        ensures answer { IfSome result (λ id. slice_get (map (λ e. e.1) self.now) (I.index_of id) ≡ lookup (K.eq key) self.now) }
+        ensures answer { IfSome result (λ id. slice_get (map (λ e. e.1) self.now) (I.index_of id) ≡
+            lookup (K.eq key) self.now) }
         ensures distinct { IsDistinct K.eq (keys_of self.now) }
         ensures fits { IfSome result (λ id. K.Slots.is_too_large key ≡ false) }
     {
@@ -62,8 +64,8 @@ impl<I: DenseIndex, K: SolverId<A>, V, A: Allocator + Copy> KeptAnswers<I, K, V,
         }
     }
 
-    /// Keeps the answer to a question that has none. A refused answer is dropped. Takes memory where the question has no
-    /// slot yet, or the answers no room.
+    /// Keeps the answer to a question that has none. A refused answer is dropped. Takes memory where the question has
+    /// no slot yet, or the answers no room.
     pub fn insert(&mut self, key: K, value: V) -> Result<I, StoreError>
     where
         V: Drop,
@@ -72,8 +74,10 @@ impl<I: DenseIndex, K: SolverId<A>, V, A: Allocator + Copy> KeptAnswers<I, K, V,
         ensures ok { OnOk result (self.new ≡ self.old ++ (key, value) ∷ []) }
         ensures err { OnErr result (self.new ≡ self.old) }
         ensures fits { OnOk result (lacks_answer I.limit K.Slots.is_too_large (length self.old) key ≡ false) }
-        ensures ids_out { IsTrue (lacks_answer I.limit K.Slots.is_too_large (length self.old) key) → result ≡ Err IdSpace }
-        ensures refused { IfErr result (IsGrowthRefusal (lacks_answer I.limit K.Slots.is_too_large (length self.old) key)) }
+        ensures ids_out { IsTrue (lacks_answer I.limit K.Slots.is_too_large (length self.old) key) →
+            result ≡ Err IdSpace }
+        ensures refused { IfErr result
+            (IsGrowthRefusal (lacks_answer I.limit K.Slots.is_too_large (length self.old) key)) }
         ensures few { K.are_many ≡ false → length self.old < 2 ^ 32 }
     {
         key.attest();
@@ -87,8 +91,8 @@ impl<I: DenseIndex, K: SolverId<A>, V, A: Allocator + Copy> KeptAnswers<I, K, V,
         Ok(id)
     }
 
-    /// Puts a value in the place of the answer to a question that has one, and hands out the earlier one: one look-up. Takes
-    /// no memory.
+    /// Puts a value in the place of the answer to a question that has one, and hands out the earlier one: one look-up.
+    /// Takes no memory.
     pub fn replace(&mut self, key: K, value: V) -> V
         requires { is_some (lookup (K.eq key) self.old) ≡ true }
         ensures earlier { lookup (K.eq key) self.old ≡ Some result }

@@ -2,12 +2,13 @@
 //! copies are handed out ([`FrozenCopyMap`]); and the answers to questions about ids ([`KeptAnswers`]).
 //!
 //! `arena` and `mapping` are for dense ids, and lie in vectors; the walks through them, [`ArenaIter`] and
-//! [`MappingIter`], are in files of their own. `frozen_copy_map` is for keys of any type, and is a hashed table. The words
-//! of their contracts are in `specs/Arena` and `specs/Mapping`; `specs/MappingLends` says what a map ends as where a
-//! `&mut` to a value of it was handed out.
+//! [`MappingIter`], are in files of their own. `frozen_copy_map` is for keys of any type, and is a hashed table. The
+//! words of their contracts are in `specs/Arena` and `specs/Mapping`; `specs/MappingLends` says what a map ends as
+//! where a `&mut` to a value of it was handed out.
 //!
-//! `kept_answers` is for ids of any kind: what a cache keeps of one kind of question, each of which is asked once. The words of its
-//! contracts are `lookup` and `keys_of` of std, and `lacks_answer` in `specs/KeptAnswers`, which says when no further answer can be kept.
+//! `kept_answers` is for ids of any kind: what a cache keeps of one kind of question, each of which is asked once. The
+//! words of its contracts are `lookup` and `keys_of` of std, and `lacks_answer` in `specs/KeptAnswers`, which says when
+//! no further answer can be kept.
 #![tactic(auto)]
 
 mod arena;

@@ -4,19 +4,21 @@
 //! to a vector, with no hash and no search. In return the map has a slot, filled or empty, for each index up to the
 //! largest that was written: it suits ids that are handed out one after another.
 //!
-//! Slots come in chunks of 128: index i is in chunk i / 128, at place i % 128 there ([`Mapping::chunk_and_offset`]). The
-//! chunks lie one after another in one vector. A map has one chunk from the start, grows by whole chunks, and gives none
-//! back. So room lasts: where an id once had a slot it has one from then on, also after its value was taken out. A change
-//! that must not be refused half way takes its room first, by [`Mapping::make_room`]; the [`Mapping::insert`] that
-//! follows then succeeds.
+//! Slots come in chunks of 128: index i is in chunk i / 128, at place i % 128 there ([`Mapping::chunk_and_offset`]).
+//! The chunks lie one after another in one vector. A map has one chunk from the start, grows by whole chunks, and gives
+//! none back. So room lasts: where an id once had a slot it has one from then on, also after its value was taken out. A
+//! change that must not be refused half way takes its room first, by [`Mapping::make_room`]; the [`Mapping::insert`]
+//! that follows then succeeds.
 //!
-//! A contract sees the list of slots, and speaks of it by few words of `specs/Mapping`: `value_at` is what an index has,
-//! `value_count` the number of values, `slots_for` the number of slots up to the end of an index's chunk, and `pairs` the
-//! ids with their values. `IsMapping` is what every map keeps to.
+//! A contract sees the list of slots, and speaks of it by few words of `specs/Mapping`: `value_at` is what an index
+//! has, `value_count` the number of values, `slots_for` the number of slots up to the end of an index's chunk, and
+//! `pairs` the ids with their values. `IsMapping` is what every map keeps to.
 //!
 //! A call for one id takes constant time where it makes no slots. To make slots, the vector grows to twice its room or
 //! more, so that n insertions in ascending order cost O(n) in all. A walk takes time with the slots, filled or not.
-ghost use Rattle.std.specs.Prelude.{◌≡◌, ℕ, ◌+◌, ◌-◌, ◌*◌, ◌/◌, ◌%◌, ◌<◌, ◌≤◌, ◌==◌, ◌++◌, if◌then◌else◌, length, max, replicate, Some, None, is_some, IsSome, IsTrue, All, IsOk, OnOk, OnErr, IfOk, IfErr, Err, option_copied, vec_len, vec_capacity};
+ghost use Rattle.std.specs.Prelude.{◌≡◌, ℕ, ◌+◌, ◌-◌, ◌*◌, ◌/◌, ◌%◌, ◌<◌, ◌≤◌, ◌==◌, ◌++◌, if◌then◌else◌};
+ghost use Rattle.std.specs.Prelude.{length, max, replicate, Some, None, is_some, IsSome, IsTrue, All, IsOk};
+ghost use Rattle.std.specs.Prelude.{OnOk, OnErr, IfOk, IfErr, Err, option_copied, vec_len, vec_capacity};
 ghost use Rattle.typed_ids.specs.declared.error.StoreError.TheVariants.{OutOfMemory, IdSpace};
 ghost use Rattle.id_storage.specs.Mapping.{slots_for, with_slots, value_at, value_count, pairs, AreEmpty, AreBelow};
 ghost use Rattle.typed_ids.specs.Refusals.{IsGrowthRefusal, is_too_dense};
@@ -180,12 +182,14 @@ impl<TId: DenseIndex, V, A: Allocator> Mapping<TId, V, A> {
     pub fn insert(&mut self, id: TId, value: V) -> Result<Option<V>, InsertError<V>>
         ensures earlier { IfOk result (λ earlier. earlier ≡ value_at self.old (TId.index_of id)) }
         ensures ok { OnOk result (IsUpdate (value_at self.old) (TId.index_of id) (Some value) (value_at self.new)) }
-        ensures count { IfOk result (λ earlier. value_count self.new + (if is_some earlier then 1 else 0) ≡ value_count self.old + 1) }
+        ensures count { IfOk result (λ earlier. value_count self.new + (if is_some earlier then 1 else 0) ≡
+            value_count self.old + 1) }
         ensures slots { OnOk result (length self.new ≡ max (length self.old) (slots_for (TId.index_of id))) }
         ensures err { IfErr result (λ refused. (refused.value ≡ value) × (self.new ≡ self.old)) }
         ensures room { TId.index_of id < length self.old → IsOk result × (length self.new ≡ length self.old) }
         ensures refused { IfErr result (λ refused. IsGrowthRefusal (is_too_dense (TId.index_of id)) refused.error) }
-        ensures too_dense { IsTrue (is_too_dense (TId.index_of id)) → result ≡ Err (record { error = IdSpace; value = value }) }
+        ensures too_dense { IsTrue (is_too_dense (TId.index_of id)) →
+            result ≡ Err (record { error = IdSpace; value = value }) }
     {
         if let Err(error) = self.make_room(id) {
             return Err(InsertError { error, value });
@@ -228,7 +232,8 @@ impl<TId: DenseIndex, V, A: Allocator> Mapping<TId, V, A> {
 
     /// The id's value, to be changed. Takes no memory.
     pub fn get_mut(&mut self, id: TId) -> Option<&mut V>
-        ensures* writes_back { sem 𝓛 (lends_get TId.row V.row A.row TId.DenseIndex A.Allocator self.entry (TId.index_of id) result) }
+        ensures* writes_back { sem 𝓛
+            (lends_get TId.row V.row A.row TId.DenseIndex A.Allocator self.entry (TId.index_of id) result) }
         ensures value { option_copied_mut result ≡ value_at self.old (TId.index_of id) }
     {
         if self.get(id).is_none() {
@@ -247,8 +252,10 @@ impl<TId: DenseIndex, V, A: Allocator> Mapping<TId, V, A> {
     where
         V: Drop,
         requires { ForNone (value_at self.old (TId.index_of id)) (F.pre default) }
-        ensures* writes_back { sem 𝓛 (lends_inserted TId.row V.row A.row TId.DenseIndex A.Allocator self.entry (TId.index_of id) result) }
-        ensures value { IfOk result (λ r. MatchOption (value_at self.old (TId.index_of id)) (F.post default r.now) (λ value. r.now ≡ value)) }
+        ensures* writes_back { sem 𝓛
+            (lends_inserted TId.row V.row A.row TId.DenseIndex A.Allocator self.entry (TId.index_of id) result) }
+        ensures value { IfOk result (λ r. MatchOption (value_at self.old (TId.index_of id))
+            (F.post default r.now) (λ value. r.now ≡ value)) }
         ensures room { TId.index_of id < length self.old → IsOk result }
         ensures refused { IfErr result (IsGrowthRefusal (is_too_dense (TId.index_of id))) }
         ensures too_dense { IsTrue (is_too_dense (TId.index_of id)) → IsErrAnd result (λ e. e ≡ IdSpace) }

@@ -1,5 +1,6 @@
 -- Lists in which equal values stand once, where their values are seen in another way.
-use Rattle.std.proofs.Common.{◌≡◌, ℕ, suc, Bool, true, false, not, cond, ◌||◌, List, [], ◌∷◌, ◌++◌, ◌+◌, map, Option, Some, refl, sym, ap, add_comm, add-one, ◌∙◌}
+use Rattle.std.proofs.Common.{◌≡◌, ℕ, suc, Bool, true, false, not, cond, ◌||◌, List, [], ◌∷◌}
+use Rattle.std.proofs.Common.{◌++◌, ◌+◌, map, Option, Some, refl, sym, ap, add_comm, add-one, ◌∙◌}
 use Rattle.std.specs.Prelude.{slice_get, unwrap_or}
 use Rattle.std.specs.List.{find}
 use Rattle.std.specs.Cmp.{IsPartialEquivalence, per_alike}
@@ -53,9 +54,12 @@ module _ {X : Type 0} (same : X → X → Bool) (x : X) where
   pub first_stands : (list : List X) → slice_get (interned same list x) (interned_place same list x) ≡ Some (first_same same list x)
   first_stands [] = refl
   first_stands (k ∷ ks) =
-      elim (same x k) as (λ b. slice_get (cond (b || has_same same ks x) (k ∷ ks) (k ∷ ks ++ x ∷ [])) (cond (not b) (1 + interned_place same ks x) 0) ≡ Some (unwrap_or (cond b (Some k) (find (same x) ks)) x)) [
+      elim (same x k) as (λ b. slice_get (cond (b || has_same same ks x) (k ∷ ks) (k ∷ ks ++ x ∷ []))
+      (cond (not b) (1 + interned_place same ks x) 0) ≡ Some (unwrap_or (cond b (Some k) (find (same x) ks)) x)) [
         | true ↦ refl
-        | false ↦ rw (add_comm 1 (interned_place same ks x), add-one) (stands_behind (has_same same ks x) k ks (interned_place same ks x) (Some (first_same same ks x)) (first_stands ks))
+        | false ↦ rw (add_comm 1 (interned_place same ks x), add-one)
+            (stands_behind (has_same same ks x) k ks (interned_place same ks x) (Some (first_same same ks x))
+            (first_stands ks))
       ]
 
   module _ (itself : same x x ≡ true) where

@@ -8,7 +8,8 @@ use Rattle.providers.specs.declared.condition.Condition.{Condition}
 use Rattle.providers.specs.declared.condition.Condition.TheVariants.{Binary, Requirement}
 use Rattle.package_pool.specs.declared.solvable.Solvable.{Solvable}
 use Rattle.package_pool.specs.Interned.{has_same, interned}
-use Rattle.package_pool.specs.Pool.{Lists, IsExtended, IsLater, IsMadeBelow, AreSetsHere, same_set, same_condition, with_string, with_name, with_solvable, with_version_set, with_union, with_condition}
+use Rattle.package_pool.specs.Pool.{Lists, IsExtended, IsLater, IsMadeBelow, AreSetsHere, same_set, same_condition}
+use Rattle.package_pool.specs.Pool.{with_string, with_name, with_solvable, with_version_set, with_union, with_condition}
 
 pub extended_itself : {X : Type 0} (xs : List X) → IsExtended xs xs
 extended_itself xs = ([], sym (append-nil xs))

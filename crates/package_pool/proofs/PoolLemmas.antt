@@ -1,5 +1,6 @@
 -- What comes into a pool leaves it made of what is in it.
-use Rattle.std.proofs.Common.{◌≡◌, ◌∙◌, ◌<◌, ◌≤◌, ℕ, zero, suc, true, false, Bool, cond, List, [], ◌∷◌, ◌++◌, length, get_or, map, Some, ap, refl, subst, arith, length-append}
+use Rattle.std.proofs.Common.{◌≡◌, ◌∙◌, ◌<◌, ◌≤◌, ℕ, zero, suc, true, false, Bool, cond, List, [], ◌∷◌}
+use Rattle.std.proofs.Common.{◌++◌, length, get_or, map, Some, ap, refl, subst, arith, length-append}
 use Rattle.std.proofs.lemmas.Option.{slice_get_read}
 use Rattle.std.proofs.lemmas.List.Elements.{All-weaker}
 use Rattle.std.specs.Prelude.{slice_get}
@@ -51,11 +52,13 @@ module _ {X : Type 0} (eq : X → X → Bool) (xs : List X) (x : X) where
   grown_and_placed P new (Err refusal) ok err old fresh = rw err ((let e : length xs ≤ length xs = omega arith in e), old)
 
 module _ {N VS V : Type 0} (p : Lists N VS V) (own : IsOfItself p) where
-  made_more : (sets : List (ℕ × VS)) → length p.version_sets ≤ length sets → (i : ℕ) (c : Condition) → IsMadeBelow p i c → IsMadeBelow (record p { version_sets = sets }) i c
+  made_more : (sets : List (ℕ × VS)) → length p.version_sets ≤ length sets → (i : ℕ) (c : Condition) →
+      IsMadeBelow p i c → IsMadeBelow (record p { version_sets = sets }) i c
   made_more sets more i (Binary operator left right) h = h
   made_more sets more i (Requirement v) h = omega arith
 
-  pub own_with_sets : (sets : List (ℕ × VS)) → length p.version_sets ≤ length sets → Placed (λ _ set. set.0 < length p.names) sets → IsOfItself (record p { version_sets = sets })
+  pub own_with_sets : (sets : List (ℕ × VS)) → length p.version_sets ≤ length sets →
+      Placed (λ _ set. set.0 < length p.names) sets → IsOfItself (record p { version_sets = sets })
   own_with_sets sets more named =
       record {
         solvables = own.solvables;

@@ -37,7 +37,8 @@ module _ {N VS V : Type 0} (p : Lists N VS V) where
   -- of a solvable the text of its name, a blank and that of its payload; of all else its own
   abbrev pub texts_in : (N → List ℕ) → (VS → List ℕ) → (V → List ℕ) → Texts ℕ ℕ
   texts_in of_name of_set of_payload = record {
-    solvable = λ s. text_at of_name p.names (solvable_name_in s) ++ (codes " " ++ text_at (λ (x : Solvable V). of_payload x.payload) p.solvables s);
+    solvable = λ s. text_at of_name p.names (solvable_name_in s) ++
+        (codes " " ++ text_at (λ (x : Solvable V). of_payload x.payload) p.solvables s);
     name = λ n. text_at of_name p.names n;
     version_set = λ v. text_at (λ (x : ℕ × VS). of_set x.1) p.version_sets v.0;
     string = λ t. unwrap_or (slice_get p.strings t.0) [];

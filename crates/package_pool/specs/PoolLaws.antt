@@ -1,11 +1,13 @@
 -- What is known in a pool that is made of itself is made of what is known.
-use Rattle.std.specs.Prelude.{◌≡◌, ℕ, ◌<◌, ◌∷◌, true, nat_lt, length, List, [], slice_get, unwrap_or, option_map, All, Option, Some}
+use Rattle.std.specs.Prelude.{◌≡◌, ℕ, ◌<◌, ◌∷◌, true, nat_lt, length, List, []}
+use Rattle.std.specs.Prelude.{slice_get, unwrap_or, option_map, All, Option, Some}
 use Rattle.std.proofs.Common.{arith, refl, zero, suc}
 use Rattle.std.proofs.lemmas.Bool.{lt-ltb, ltb-true}
 use Rattle.typed_ids.specs.declared.version_set_id.VersionSetId.{VersionSetId}
 use Rattle.providers.specs.declared.condition.Condition.{Condition}
 use Rattle.providers.specs.declared.condition.Condition.TheVariants.{Binary, Requirement}
-use Rattle.providers.specs.Provider.{AreSolvableNamesKnown, AreSetNamesKnown, AreUnionSetsKnown, AreOperandsKnown, IsMadeOfKnown}
+use Rattle.providers.specs.Provider.{AreSolvableNamesKnown, AreSetNamesKnown}
+use Rattle.providers.specs.Provider.{AreUnionSetsKnown, AreOperandsKnown, IsMadeOfKnown}
 use Rattle.package_pool.specs.declared.solvable.Solvable.{Solvable}
 use Rattle.package_pool.specs.Pool.{Lists, IsOfItself, IsMadeBelow}
 use Rattle.package_pool.specs.PoolIds.{universe_in}

@@ -1,19 +1,20 @@
 //! Where an ecosystem keeps what its ids stand for.
 //!
-//! A pool is six lists: strings, the names of packages, solvables, version sets, unions and conditions. An id is a place
-//! in its list, counted from 0: a `resolve_` call reads one entry, and a `knows_` call compares with the list's length.
+//! A pool is six lists: strings, the names of packages, solvables, version sets, unions and conditions. An id is a
+//! place in its list, counted from 0: a `resolve_` call reads one entry, and a `knows_` call compares with the list's
+//! length.
 //!
-//! Strings, names, version sets of one package and conditions are kept once. An equal one that comes later gets the id of
-//! the first, which alone is kept; so two of these ids are equal exactly if what they stand for is. Solvables and unions
-//! get a new id each time.
+//! Strings, names, version sets of one package and conditions are kept once. An equal one that comes later gets the id
+//! of the first, which alone is kept; so two of these ids are equal exactly if what they stand for is. Solvables and
+//! unions get a new id each time.
 //!
 //! Entries are added at the end, and none is changed or taken out: an id stands for the same as long as the pool lives.
 //! A call that adds one asks that its parts be there already, as the name of a version set or the operands of a
 //! condition. So the whole pool is made of what is in it, which each such call promises (`IsSound`).
 //!
 //! A refused call leaves the pool as it was, and hands back the string, name, payload or version set that it was given.
-//! It tells whether the list is full, at 2^32 entries (2^32 - 1 conditions), or memory was wanted. An equal value that is
-//! there is answered in any case, and takes no memory.
+//! It tells whether the list is full, at 2^32 entries (2^32 - 1 conditions), or memory was wanted. An equal value that
+//! is there is answered in any case, and takes no memory.
 //!
 //! What is kept once is found by its hash, which is made without a seed. A call hashes its value once, and compares it
 //! with those of the same hash. Room is taken as the lists grow, and given back when the pool is dropped.
@@ -25,7 +26,8 @@ ghost use Rattle.typed_ids.specs.declared.error.StoreError.TheVariants.{IdSpace,
 ghost use Rattle.typed_ids.specs.Refusals.{IsGrowthRefusal, are_ids_out};
 ghost use Rattle.package_pool.specs.Interned.{has_same, interned, interned_place};
 ghost use Rattle.package_pool.specs.Pool.{nothing, IsSound, IsMadeBelow, AreSetsHere, same_set, same_condition};
-ghost use Rattle.package_pool.specs.Pool.{with_string, with_name, with_solvable, with_version_set, with_union, with_condition};
+ghost use Rattle.package_pool.specs.Pool.{with_string, with_name, with_solvable, with_version_set, with_union};
+ghost use Rattle.package_pool.specs.Pool.{with_condition};
 
 use crate::interned::intern;
 use crate::solvable::Solvable;

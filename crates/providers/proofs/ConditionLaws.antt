@@ -92,5 +92,9 @@ form_keeps_truth holds (Leaf set) = one (holds set)
   where
     one : (a : Bool) → ((a && true) || false) ≡ a
     one a = grind arith
-form_keeps_truth holds (Either f g) = rw (list_any-append (list_all holds) (normal_form f) (normal_form g), form_keeps_truth holds f, form_keeps_truth holds g) refl
+form_keeps_truth holds (Either f g) = rw (
+  list_any-append (list_all holds) (normal_form f) (normal_form g),
+  form_keeps_truth holds f,
+  form_keeps_truth holds g,
+) refl
 form_keeps_truth holds (Both f g) = rw (crossed_holds holds (normal_form f) (normal_form g), form_keeps_truth holds f, form_keeps_truth holds g) refl

@@ -50,7 +50,8 @@ module _ {V : Type 0} (r : Requirement) where
   pub set_in_place : (es : List (Requirement × V)) (v w : V) → set_value_at (with_entry es r v) (place es) w ≡ with_entry es r w
   set_in_place [] v w = refl
   set_in_place (e ∷ es) v w =
-      elim (same_requirement r e.0) as (λ b. set_value_at (cond b ((e.0, v) ∷ es) (e ∷ with_entry es r v)) (cond (not b) (1 + place es) 0) w ≡ cond b ((e.0, w) ∷ es) (e ∷ with_entry es r w)) [
+      elim (same_requirement r e.0) as (λ b. set_value_at (cond b ((e.0, v) ∷ es) (e ∷ with_entry es r v))
+      (cond (not b) (1 + place es) 0) w ≡ cond b ((e.0, w) ∷ es) (e ∷ with_entry es r w)) [
         | true ↦ refl
         | false ↦
             let next : 1 + place es ≡ suc (place es) = omega arith in

@@ -18,7 +18,8 @@ use Rattle.providers.proofs.ConditionLaws.{one_formula, formula_at, formula_at-d
 
 crossed-append : {V : Type 0} (xs ys zs : List (List V)) → crossed (xs ++ ys) zs ≡ crossed xs zs ++ crossed ys zs
 crossed-append [] ys zs = refl
-crossed-append (x ∷ xs) ys zs = ap (λ r. map (λ z. x ++ z) zs ++ r) (crossed-append xs ys zs) ∙ sym (append_assoc (map (λ z. x ++ z) zs) (crossed xs zs) (crossed ys zs))
+crossed-append (x ∷ xs) ys zs = ap (λ r. map (λ z. x ++ z) zs ++ r) (crossed-append xs ys zs) ∙
+    sym (append_assoc (map (λ z. x ++ z) zs) (crossed xs zs) (crossed ys zs))
 
 -- a list before all of these, and another before that
 before_before : {V : Type 0} (x y : List V) (zs : List (List V)) → map (λ z. x ++ z) (map (λ z. y ++ z) zs) ≡ map (λ z. (x ++ y) ++ z) zs
@@ -83,7 +84,8 @@ module _ (formula : ℕ → Formula) where
   last_form : (pending : List ℕ) (i : ℕ) → forms (pending ++ i ∷ []) ≡ crossed (normal_form (formula i)) (forms pending)
   last_form pending i = fold-append (λ xs i. crossed (normal_form (formula i)) xs) ([] ∷ []) pending (i ∷ [])
 
-  last_two_forms : (pending : List ℕ) (i j : ℕ) → forms (pending ++ i ∷ j ∷ []) ≡ crossed (normal_form (formula j)) (crossed (normal_form (formula i)) (forms pending))
+  last_two_forms : (pending : List ℕ) (i j : ℕ) → forms (pending ++ i ∷ j ∷ []) ≡
+      crossed (normal_form (formula j)) (crossed (normal_form (formula i)) (forms pending))
   last_two_forms pending i j = fold-append (λ xs i. crossed (normal_form (formula i)) xs) ([] ∷ []) pending (i ∷ j ∷ [])
 
   last_cost : (pending : List ℕ) (i : ℕ) → steps_of (pending ++ i ∷ []) ≡ cost (formula i) (steps_of pending)
@@ -104,7 +106,8 @@ module _ (formula : ℕ → Formula) where
     front xs = map (λ y. sets ++ y) xs
 
     whole_lists : (f : Formula) → formula i ≡ f → lists_left (alts ++ whole ∷ []) ≡ front (crossed (normal_form f) (forms pending)) ++ lists_left alts
-    whole_lists f says = last_lists alts whole ∙ ap (λ xs. front xs ++ lists_left alts) (last_form pending i ∙ ap (λ f. crossed (normal_form f) (forms pending)) says)
+    whole_lists f says = last_lists alts whole ∙ ap (λ xs. front xs ++ lists_left alts)
+        (last_form pending i ∙ ap (λ f. crossed (normal_form f) (forms pending)) says)
 
     whole_steps : (f : Formula) → formula i ≡ f → steps_left (alts ++ whole ∷ []) ≡ cost f (steps_of pending) + steps_left alts
     whole_steps f says = last_steps alts whole ∙ ap (λ k. k + steps_left alts) (last_cost pending i ∙ ap (λ f. cost f (steps_of pending)) says)
@@ -113,7 +116,8 @@ module _ (formula : ℕ → Formula) where
     pub same_lists : (condition : Condition) → Says condition (formula i) → lists_left (alts ++ expanded rest condition) ≡ lists_left (alts ++ whole ∷ [])
     same_lists (Requirement set) says =
         last_lists alts (record { sets = sets ++ set ∷ []; pending = pending })
-        ∙ (ap (λ xs. xs ++ lists_left alts) (sym (before_before sets (set ∷ []) (forms pending)) ∙ ap front (sym (append-nil (map (λ y. set ∷ y) (forms pending)))))
+        ∙ (ap (λ xs. xs ++ lists_left alts) (sym (before_before sets (set ∷ []) (forms pending)) ∙
+        ap front (sym (append-nil (map (λ y. set ∷ y) (forms pending)))))
         ∙ sym (whole_lists (Leaf set) says))
     same_lists (Binary And left right) says =
         last_lists alts (record { sets = sets; pending = pending ++ right ∷ left ∷ [] })
@@ -122,7 +126,9 @@ module _ (formula : ℕ → Formula) where
         ∙ sym (whole_lists (Both (formula left) (formula right)) says))
     same_lists (Binary Or left right) says =
         last_two_lists alts (record { sets = sets; pending = pending ++ right ∷ [] }) (record { sets = sets; pending = pending ++ left ∷ [] })
-        ∙ (rw (last_form pending left, last_form pending right) (sym (append_assoc (front (crossed (normal_form (formula left)) (forms pending))) (front (crossed (normal_form (formula right)) (forms pending))) (lists_left alts)))
+        ∙ (rw (last_form pending left, last_form pending right)
+        (sym (append_assoc (front (crossed (normal_form (formula left)) (forms pending)))
+        (front (crossed (normal_form (formula right)) (forms pending))) (lists_left alts)))
         ∙ (ap (λ xs. xs ++ lists_left alts)
         (sym (map-append (λ y. sets ++ y) (crossed (normal_form (formula left)) (forms pending)) (crossed (normal_form (formula right)) (forms pending)))
         ∙ ap front (sym (crossed-append (normal_form (formula left)) (normal_form (formula right)) (forms pending))))
@@ -144,7 +150,8 @@ module _ (formula : ℕ → Formula) where
         let of_right = last_cost pending right in omega arith
 
   -- an alternative without conditions is a list
-  pub done_lists : (alts : List Alternative) (sets : List VersionSetId) → lists_left (alts ++ record { sets = sets; pending = [] } ∷ []) ≡ sets ∷ lists_left alts
+  pub done_lists : (alts : List Alternative) (sets : List VersionSetId) →
+      lists_left (alts ++ record { sets = sets; pending = [] } ∷ []) ≡ sets ∷ lists_left alts
   done_lists alts sets = last_lists alts (record { sets = sets; pending = [] }) ∙ ap (λ l. l ∷ lists_left alts) (append-nil sets)
 
   pub done_steps : (alts : List Alternative) (sets : List VersionSetId) → steps_left alts < steps_left (alts ++ record { sets = sets; pending = [] } ∷ [])
@@ -160,7 +167,8 @@ module _ {N S : Type 0} (c : Universe N S) (laws : AreOperandsKnown c) where
   abbrev pub are_known : List Alternative → Bool
   are_known alts = list_all (λ a. list_all c.knows_condition a.pending) alts
 
-  says : (i : ℕ) → c.knows_condition i ≡ true → (condition : Condition) → c.condition i ≡ condition → IsMadeOfKnown c i condition → Says formula_of condition (formula_of i)
+  says : (i : ℕ) → c.knows_condition i ≡ true → (condition : Condition) → c.condition i ≡ condition →
+      IsMadeOfKnown c i condition → Says formula_of condition (formula_of i)
   says i known (Requirement set) is made = one_formula c (formula_at-denotes c laws i known) (leaf set is)
   says i known (Binary o left right) is made =
       one_formula c (formula_at-denotes c laws i known)
@@ -191,16 +199,20 @@ module _ {N S : Type 0} (c : Universe N S) (laws : AreOperandsKnown c) where
   known_one : {X : Type 0} (p : X → Bool) (x : X) → p x ≡ true → list_all p (x ∷ []) ≡ true
   known_one p x h = both (p x) true h refl
 
-  expanded_known : (sets : List VersionSetId) (pending : List ℕ) (i : ℕ) (condition : Condition) → IsMadeOfKnown c i condition → list_all c.knows_condition pending ≡ true →
+  expanded_known : (sets : List VersionSetId) (pending : List ℕ) (i : ℕ) (condition : Condition) →
+      IsMadeOfKnown c i condition → list_all c.knows_condition pending ≡ true →
       are_known (expanded (record { sets = sets; pending = pending }) condition) ≡ true
   expanded_known sets pending i (Requirement set) made known = both (list_all c.knows_condition pending) true known refl
   expanded_known sets pending i (Binary And left right) made known =
       both (list_all c.knows_condition (pending ++ right ∷ left ∷ [])) true
-      (known_both c.knows_condition pending (right ∷ left ∷ []) known (both (c.knows_condition right) (c.knows_condition left && true) made.2 (known_one c.knows_condition left made.0))) refl
+      (known_both c.knows_condition pending (right ∷ left ∷ []) known
+      (both (c.knows_condition right) (c.knows_condition left && true) made.2
+      (known_one c.knows_condition left made.0))) refl
   expanded_known sets pending i (Binary Or left right) made known =
       both (list_all c.knows_condition (pending ++ right ∷ [])) (list_all c.knows_condition (pending ++ left ∷ []) && true)
       (known_both c.knows_condition pending (right ∷ []) known (known_one c.knows_condition right made.2))
-      (both (list_all c.knows_condition (pending ++ left ∷ [])) true (known_both c.knows_condition pending (left ∷ []) known (known_one c.knows_condition left made.0)) refl)
+      (both (list_all c.knows_condition (pending ++ left ∷ [])) true
+      (known_both c.knows_condition pending (left ∷ []) known (known_one c.knows_condition left made.0)) refl)
 
   -- ---- the loop's turns
 
@@ -210,21 +222,27 @@ module _ {N S : Type 0} (c : Universe N S) (laws : AreOperandsKnown c) where
     pub known : are_known alts ≡ true
 
   module _ (whole done : List (List VersionSetId)) (alts : List Alternative) (sets : List VersionSetId) where
-    pub next_known : (pending : List ℕ) (i : ℕ) → Goes whole done (alts ++ record { sets = sets; pending = pending ++ i ∷ [] } ∷ []) → c.knows_condition i ≡ true
+    pub next_known : (pending : List ℕ) (i : ℕ) →
+        Goes whole done (alts ++ record { sets = sets; pending = pending ++ i ∷ [] } ∷ []) → c.knows_condition i ≡ true
     next_known pending i goes =
         let last = known_parts (λ a. list_all c.knows_condition a.pending) alts (record { sets = sets; pending = pending ++ i ∷ [] } ∷ []) goes.known in
-        let inside = known_parts c.knows_condition pending (i ∷ []) (one_known {X = Alternative} (λ a. list_all c.knows_condition a.pending) (record { sets = sets; pending = pending ++ i ∷ [] }) last.1) in
+        let inside = known_parts c.knows_condition pending (i ∷ [])
+        (one_known {X = Alternative} (λ a. list_all c.knows_condition a.pending)
+        (record { sets = sets; pending = pending ++ i ∷ [] }) last.1) in
         one_known c.knows_condition i inside.1
 
     pub goes_on : (pending : List ℕ) (i : ℕ) → Goes whole done (alts ++ record { sets = sets; pending = pending ++ i ∷ [] } ∷ []) →
         Goes whole done (alts ++ expanded (record { sets = sets; pending = pending }) (c.condition i))
-        × (steps_left formula_of (alts ++ expanded (record { sets = sets; pending = pending }) (c.condition i)) < steps_left formula_of (alts ++ record { sets = sets; pending = pending ++ i ∷ [] } ∷ []))
+        × (steps_left formula_of (alts ++ expanded (record { sets = sets; pending = pending }) (c.condition i)) <
+        steps_left formula_of (alts ++ record { sets = sets; pending = pending ++ i ∷ [] } ∷ []))
     goes_on pending i goes =
         let known = next_known pending i goes in
         let made = laws i known in
         let as_said = says i known (c.condition i) refl made in
         let last = known_parts (λ a. list_all c.knows_condition a.pending) alts (record { sets = sets; pending = pending ++ i ∷ [] } ∷ []) goes.known in
-        let inside = known_parts c.knows_condition pending (i ∷ []) (one_known {X = Alternative} (λ a. list_all c.knows_condition a.pending) (record { sets = sets; pending = pending ++ i ∷ [] }) last.1) in (
+        let inside = known_parts c.knows_condition pending (i ∷ [])
+        (one_known {X = Alternative} (λ a. list_all c.knows_condition a.pending)
+        (record { sets = sets; pending = pending ++ i ∷ [] }) last.1) in (
           record {
             whole_is = goes.whole_is ∙ ap (λ xs. done ++ xs) (sym (same_lists formula_of alts sets pending i (c.condition i) as_said));
             known = known_both (λ a. list_all c.knows_condition a.pending) alts (expanded (record { sets = sets; pending = pending }) (c.condition i)) last.0
@@ -256,15 +274,18 @@ module _ {N S : Type 0} (c : Universe N S) (laws : AreOperandsKnown c) where
       ends (x ∷ xs) = rw (append-nil x, ends xs) refl
 
       alone : lists_left formula_of (record { sets = []; pending = i ∷ [] } ∷ []) ≡ normal_form (formula_of i)
-      alone = append-nil (map (λ y. [] ++ y) (crossed (normal_form (formula_of i)) ([] ∷ []))) ∙ (same (crossed (normal_form (formula_of i)) ([] ∷ [])) ∙ ends (normal_form (formula_of i)))
+      alone = append-nil (map (λ y. [] ++ y) (crossed (normal_form (formula_of i)) ([] ∷ []))) ∙
+          (same (crossed (normal_form (formula_of i)) ([] ∷ [])) ∙ ends (normal_form (formula_of i)))
 
-  pub ends : (i : ℕ) (done : List (List VersionSetId)) (f : Formula) → c.knows_condition i ≡ true → Goes (normal_form (formula_of i)) done [] → Denotes c i f → done ≡ normal_form f
+  pub ends : (i : ℕ) (done : List (List VersionSetId)) (f : Formula) → c.knows_condition i ≡ true →
+      Goes (normal_form (formula_of i)) done [] → Denotes c i f → done ≡ normal_form f
   ends i done f known goes d =
       sym (append-nil done) ∙ (sym goes.whole_is ∙ ap normal_form (one_formula c (formula_at-denotes c laws i known) d))
 
   -- a turn that takes the next condition of the next alternative
   pub turned : (whole : List (List VersionSetId)) (before between after : Expansion) (a rest : Alternative) (i : ℕ) (condition : Condition) →
-      before.alternatives ≡ between.alternatives ++ a ∷ [] → between.lists ≡ before.lists → rest.sets ≡ a.sets → a.pending ≡ rest.pending ++ i ∷ [] → condition ≡ c.condition i →
+      before.alternatives ≡ between.alternatives ++ a ∷ [] → between.lists ≡ before.lists → rest.sets ≡ a.sets →
+      a.pending ≡ rest.pending ++ i ∷ [] → condition ≡ c.condition i →
       after ≡ record { alternatives = between.alternatives ++ expanded rest condition; lists = between.lists } → Goes whole before.lists before.alternatives →
       Goes whole after.lists after.alternatives × (steps_left formula_of after.alternatives < steps_left formula_of before.alternatives)
   turned whole before between after a rest i condition taken same_done sets pending condition_is after_is goes =

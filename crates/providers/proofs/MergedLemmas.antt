@@ -1,5 +1,7 @@
 -- Texts in ascending order, each once.
-use Rattle.std.proofs.Common.{◌≡◌, ◌∙◌, ℕ, Bool, true, false, cond, List, [], ◌∷◌, Option, None, Some, ◌++◌, codes, append_assoc, map, nat_eq, string_bytes, Less, refl, sym, ap, inr, unwrap_or, is_some, slice_get, true≢false}
+use Rattle.std.proofs.Common.{◌≡◌, ◌∙◌, ℕ, Bool, true, false, cond, List, [], ◌∷◌, Option, None}
+use Rattle.std.proofs.Common.{Some, ◌++◌, codes, append_assoc, map, nat_eq, string_bytes, Less}
+use Rattle.std.proofs.Common.{refl, sym, ap, inr, unwrap_or, is_some, slice_get, true≢false}
 use Rattle.std.proofs.lemmas.List.Kept.{IsStrictlySortedBy-dedup, Contains-dedup, Contains-from_dedup}
 use Rattle.std.proofs.lemmas.List.Filters.{dedup_is}
 use Rattle.std.proofs.lemmas.List.Sorted.{IsPermutation-map, IsPermutation-sym, Contains-permutation}
@@ -29,7 +31,8 @@ module _ {Z : Type 0} where
   chosen_mapped true xs ys = refl
   chosen_mapped false xs ys = refl
 
-  dedup_from_mapped : (x : String Z) (xs : List (String Z)) → map string_bytes (dedup_from string_eq x xs) ≡ dedup_from (pointwise nat_eq) (string_bytes x) (map string_bytes xs)
+  dedup_from_mapped : (x : String Z) (xs : List (String Z)) → map string_bytes (dedup_from string_eq x xs) ≡
+      dedup_from (pointwise nat_eq) (string_bytes x) (map string_bytes xs)
   dedup_from_mapped x [] = refl
   dedup_from_mapped x (y ∷ ys) =
       rw (chosen_mapped (string_eq y x) (dedup_from string_eq x ys) (x ∷ dedup_from string_eq y ys), dedup_from_mapped x ys, dedup_from_mapped y ys) refl

@@ -10,12 +10,14 @@ pub record Alternative : Type 0 where
   pub sets : List VersionSetId
   pub pending : List ℕ
 
--- what an alternative becomes when its last condition, which is taken away, is this one; the last alternative comes first
+-- what an alternative becomes when its last condition, which is taken away, is this one; the last alternative comes
+-- first
 abbrev pub expanded : Alternative → Condition → List Alternative
 expanded a (Requirement set) = record { sets = a.sets ++ set ∷ []; pending = a.pending } ∷ []
 expanded a (Binary And left right) = record { sets = a.sets; pending = a.pending ++ right ∷ left ∷ [] } ∷ []
 expanded a (Binary Or left right) =
-    record { sets = a.sets; pending = a.pending ++ right ∷ [] } ∷ record { sets = a.sets; pending = a.pending ++ left ∷ [] } ∷ []
+    record { sets = a.sets; pending = a.pending ++ right ∷ [] } ∷
+    record { sets = a.sets; pending = a.pending ++ left ∷ [] } ∷ []
 
 -- alternatives, the last of which comes first, and the lists that are done
 pub record Expansion : Type 0 where

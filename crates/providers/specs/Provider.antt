@@ -1,5 +1,6 @@
 -- What a provider of packages says, and the candidate lists that come of it. N are the names, S the solvables.
-use Rattle.std.specs.Prelude.{◌≡◌, ◌<◌, ℕ, Bool, true, false, not, if◌then◌else◌, List, [], ◌∷◌, filter, All, Option, None, Some}
+use Rattle.std.specs.Prelude.{◌≡◌, ◌<◌, ℕ, Bool, true, false, not, if◌then◌else◌}
+use Rattle.std.specs.Prelude.{List, [], ◌∷◌, filter, All, Option, None, Some}
 use Rattle.std.specs.List.{position_from, remove}
 use Rattle.typed_ids.specs.declared.solvable_id_or_root.SolvableIdOrRoot.{SolvableIdOrRoot}
 use Rattle.typed_ids.specs.declared.solvable_id_or_root.SolvableIdOrRoot.TheVariants.{Root, Solvable}
@@ -37,7 +38,8 @@ module _ {N S : Type 0} (c : Universe N S) where
   AreSetNamesKnown = (v : VersionSetId) → c.knows_set v ≡ true → c.knows_name (c.set_name v) ≡ true
 
   abbrev pub AreUnionSetsKnown : Type 0
-  AreUnionSetsKnown = (u : VersionSetUnionId) → c.knows_union u ≡ true → All (λ v. c.knows_set v ≡ true) (c.union_sets u)
+  AreUnionSetsKnown = (u : VersionSetUnionId) → c.knows_union u ≡ true →
+      All (λ v. c.knows_set v ≡ true) (c.union_sets u)
 
   -- of the condition of this index; the conditions that it joins have smaller indexes
   abbrev pub IsMadeOfKnown : ℕ → Condition → Type 0

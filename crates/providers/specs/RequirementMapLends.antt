@@ -9,7 +9,8 @@ use Rattle.providers.specs.Requirement.{same_requirement}
 use Rattle.providers.specs.RequirementMap.{with_entry}
 use Rattle.providers.specs.contracts.requirement_map.RequirementMap.{the_row}
 
-module _ (V A : RattleType) (alloc : Ghosts A.Denot) (m : MutBor (List (Requirement × V.Denot))) (requirement : Requirement) where
+module _ (V A : RattleType) (alloc : Ghosts A.Denot) (m : MutBor (List (Requirement × V.Denot)))
+    (requirement : Requirement) where
   -- once the borrow r ends, the requirement's entry has the value written last through r; at `None` the map stays
   abbrev pub lends_value : Option (MutBor V.Denot) → Fml
   lends_value r =

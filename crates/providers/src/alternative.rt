@@ -38,7 +38,10 @@ impl<A: Allocator + Copy> Alternative<A> {
 
     /// The same lists, with this condition next.
     pub(crate) fn followed_by(&self, alloc: A, condition: &ConditionId) -> Result<Self, StoreError>
-        ensures ok { IfOk result (λ a. a ≡ record { sets = self.now.sets; pending = self.now.pending ++ condition.now ∷ [] }) }
+        ensures ok { IfOk result (λ a. a ≡ record {
+          sets = self.now.sets;
+          pending = self.now.pending ++ condition.now ∷ [];
+        }) }
         ensures memory { IfErr result (λ e. e ≡ OutOfMemory) }
     {
         let mut sets = Vec::new(alloc);
@@ -60,7 +63,8 @@ impl<A: Allocator + Copy> Alternative<A> {
 
     /// Puts a condition next.
     pub(crate) fn push_condition(&mut self, condition: &ConditionId) -> Result<(), StoreError>
-        ensures ok { OnOk result (self.new ≡ record { sets = self.old.sets; pending = self.old.pending ++ condition.now ∷ [] }) }
+        ensures ok { OnOk result
+            (self.new ≡ record { sets = self.old.sets; pending = self.old.pending ++ condition.now ∷ [] }) }
         ensures err { OnErr result (self.new ≡ self.old) }
         ensures memory { IfErr result (λ e. e ≡ OutOfMemory) }
     {
@@ -70,7 +74,8 @@ impl<A: Allocator + Copy> Alternative<A> {
 
     /// Puts a version set behind the others.
     pub(crate) fn push_set(&mut self, set: &VersionSetId) -> Result<(), StoreError>
-        ensures ok { OnOk result (self.new ≡ record { sets = self.old.sets ++ set.now ∷ []; pending = self.old.pending }) }
+        ensures ok { OnOk result
+            (self.new ≡ record { sets = self.old.sets ++ set.now ∷ []; pending = self.old.pending }) }
         ensures err { OnErr result (self.new ≡ self.old) }
         ensures memory { IfErr result (λ e. e ≡ OutOfMemory) }
     {

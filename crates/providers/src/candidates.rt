@@ -36,7 +36,8 @@ pub struct Candidates<S = SolvableId, A: Allocator = Global> {
     pub locked: Option<S>,
     /// For which solvables dependencies are told at little cost.
     pub hint_dependencies_available: HintDependenciesAvailable<S, A>,
-    /// Candidates that may not be picked, each with the reason. They are kept for the encoder, and read by nothing here.
+    /// Candidates that may not be picked, each with the reason. They are kept for the encoder, and read by nothing
+    /// here.
     pub excluded: Vec<(S, StringId), A>,
 }
 

@@ -61,8 +61,8 @@ pub struct DeferredRequirement<S = SolvableId, A: Allocator = Global> {
     pub disjunct: Vec<DeferredConjunct<S, A>, A>,
 }
 
-/// Whether each conjunct has a candidate with `true`. Asks of each up to its first one with `true`, and ends at the first
-/// conjunct that has none.
+/// Whether each conjunct has a candidate with `true`. Asks of each up to its first one with `true`, and ends at the
+/// first conjunct that has none.
 pub fn condition_disjunct_holds<S: Copy, A: Allocator, F: Fn(S) -> bool>(
     disjunct: &[DeferredConjunct<S, A>],
     is_positively_decided: F,

@@ -1,8 +1,10 @@
 //! The ids of an ecosystem: which are in use, how they belong together, and what texts stand for them.
 ghost use Rattle.std.specs.Prelude.{◌≡◌, ℕ, List, Option, None, true, All, OnOk, OnErr, IfErr};
 ghost use Rattle.typed_ids.specs.declared.error.StoreError.TheVariants.{OutOfMemory};
-ghost use Rattle.providers.specs.Provider.{Universe, AreSolvableNamesKnown, AreSetNamesKnown, AreUnionSetsKnown, AreOperandsKnown};
-ghost use Rattle.providers.specs.Texts.{Texts, IsAppended, IsContinuedBy, IsSameText, IsOwnOr, IsSolvableName, IsMergedByDefault};
+ghost use Rattle.providers.specs.Provider.{Universe, AreSolvableNamesKnown, AreSetNamesKnown};
+ghost use Rattle.providers.specs.Provider.{AreUnionSetsKnown, AreOperandsKnown};
+ghost use Rattle.providers.specs.Texts.{Texts, IsAppended, IsContinuedBy, IsSameText};
+ghost use Rattle.providers.specs.Texts.{IsOwnOr, IsSolvableName, IsMergedByDefault};
 
 use crate::condition::Condition;
 use crate::merged_text::MergedText;

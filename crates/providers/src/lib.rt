@@ -7,12 +7,13 @@
 //! is a map that is kept by requirements. The texts of requirements, of keys and of several solvables together are made
 //! in `requirement_text`, `root_text` and `merged_text`.
 //!
-//! A requirement may be asked for only under a condition, which joins version sets by "and" and "or". A solver wants it as a list of
-//! lists: the condition holds if, of one of the lists, each version set does. `normal_form` makes that list, each `alternative` of
-//! which is a list of which a part is known; and while the condition doesn't hold yet, the requirement may be put off with one of the
-//! lists and the candidates of its version sets (`deferred`). A condition may come from outside, and be nested to any depth. The
-//! conversion keeps what is left to do in a list of its own, and so takes memory, which may be refused, but no more of the stack than a
-//! flat one. What they make is said in `specs/Conditions` and `specs/Deferred`.
+//! A requirement may be asked for only under a condition, which joins version sets by "and" and "or". A solver wants it
+//! as a list of lists: the condition holds if, of one of the lists, each version set does. `normal_form` makes that
+//! list, each `alternative` of which is a list of which a part is known; and while the condition doesn't hold yet, the
+//! requirement may be put off with one of the lists and the candidates of its version sets (`deferred`). A condition
+//! may come from outside, and be nested to any depth. The conversion keeps what is left to do in a list of its own, and
+//! so takes memory, which may be refused, but no more of the stack than a flat one. What they make is said in
+//! `specs/Conditions` and `specs/Deferred`.
 #![tactic(auto)]
 
 mod alternative;

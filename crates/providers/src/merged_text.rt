@@ -38,7 +38,8 @@ impl<A: Allocator + Copy> MergedText<A> {
     /// Appends the name, a blank and the distinct texts in ascending order of their bytes, with ` | ` between them.
     /// After a refusal `out` is as it was.
     pub(crate) fn append_to(mut self, out: &mut String<A>) -> Result<(), StoreError>
-        ensures ok { OnOk result (IsContinuedBy out.old out.new (IsMerged (string_bytes self.name) (map string_bytes self.texts.items))) }
+        ensures ok { OnOk result
+            (IsContinuedBy out.old out.new (IsMerged (string_bytes self.name) (map string_bytes self.texts.items))) }
         ensures err { OnErr result (IsSameText out.old out.new) }
         ensures memory { IfErr result (λ e. e ≡ OutOfMemory) }
     {

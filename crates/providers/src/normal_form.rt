@@ -1,5 +1,6 @@
 //! The conversion of a condition into its normal form.
-ghost use Rattle.std.specs.Prelude.{◌≡◌, ◌++◌, ◌∷◌, [], true, map, option_to_list, IfNone, Bool, OnOk, OnErr, IfOk, IfErr};
+ghost use Rattle.std.specs.Prelude.{◌≡◌, ◌++◌, ◌∷◌, [], true, map, option_to_list};
+ghost use Rattle.std.specs.Prelude.{IfNone, Bool, OnOk, OnErr, IfOk, IfErr};
 ghost use Rattle.typed_ids.specs.declared.version_set_id.VersionSetId.{VersionSetId};
 ghost use Rattle.typed_ids.specs.declared.error.StoreError.TheVariants.{OutOfMemory};
 ghost use Rattle.providers.specs.Conditions.{Formula, Denotes, normal_form, form_holds, formula_holds};
@@ -12,13 +13,13 @@ use std::alloc::Allocator;
 use std::marker::Model;
 use typed_ids::{ConditionId, StoreError, VersionSetId};
 
-/// The disjunctive normal form of a condition, which is known: the condition holds where, of one of the lists, each version
-/// set does. A version set is one list of one; of two conditions that are joined by "or", the lists of the right one come
-/// behind those of the left one; of two that are joined by "and", each list of the left one is joined with each list of the
-/// right one, left outer.
+/// The disjunctive normal form of a condition, which is known: the condition holds where, of one of the lists, each
+/// version set does. A version set is one list of one; of two conditions that are joined by "or", the lists of the
+/// right one come behind those of the left one; of two that are joined by "and", each list of the left one is joined
+/// with each list of the right one, left outer.
 ///
-/// There may be very many lists, since "and" multiplies those of its two sides; time and memory follow what is answered. The
-/// stack doesn't grow with the depth.
+/// There may be very many lists, since "and" multiplies those of its two sides; time and memory follow what is
+/// answered. The stack doesn't grow with the depth.
 pub fn convert_conditions_to_dnf<I: Interner, A: Allocator + Copy>(
     alloc: A,
     condition: ConditionId,
@@ -26,7 +27,8 @@ pub fn convert_conditions_to_dnf<I: Interner, A: Allocator + Copy>(
 ) -> Result<Vec<Vec<VersionSetId, A>, A>, StoreError>
     requires { (I.universe interner.now).knows_condition condition ≡ true }
     ensures written { (f : Formula) × Denotes (I.universe interner.now) condition f }
-    ensures form { (f : Formula) → Denotes (I.universe interner.now) condition f → IfOk result (λ lists. map (λ l. l.items) lists.items ≡ normal_form f) }
+    ensures form { (f : Formula) → Denotes (I.universe interner.now) condition f →
+        IfOk result (λ lists. map (λ l. l.items) lists.items ≡ normal_form f) }
     ensures truth { (f : Formula) → Denotes (I.universe interner.now) condition f → (holds : VersionSetId → Bool) →
         IfOk result (λ lists. form_holds holds (map (λ l. l.items) lists.items) ≡ formula_holds holds f) }
     ensures memory { IfErr result (λ e. e ≡ OutOfMemory) }
@@ -49,7 +51,8 @@ fn expand_all<I: Interner, A: Allocator + Copy>(
 ) -> Result<(), StoreError>
     requires known { (I.universe interner.now).knows_condition condition ≡ true }
     requires empty { expansion.old ≡ record { alternatives = []; lists = [] } }
-    ensures form { (f : Formula) → Denotes (I.universe interner.now) condition f → OnOk result (expansion.new.lists ≡ normal_form f) }
+    ensures form { (f : Formula) → Denotes (I.universe interner.now) condition f →
+        OnOk result (expansion.new.lists ≡ normal_form f) }
     ensures memory { IfErr result (λ e. e ≡ OutOfMemory) }
 {
     expansion.begin(condition)?;
@@ -95,7 +98,12 @@ impl<A: Allocator + Copy> Expansion<A> {
 
     /// Begins with the lists of this condition.
     fn begin(&mut self, condition: ConditionId) -> Result<(), StoreError>
-        ensures ok { OnOk result (self.new ≡ record { alternatives = self.old.alternatives ++ record { sets = []; pending = condition ∷ [] } ∷ []; lists = self.old.lists }) }
+        ensures ok { OnOk result
+            (self.new ≡ record {
+              alternatives = self.old.alternatives ++
+                  record { sets = []; pending = condition ∷ [] } ∷ [];
+              lists = self.old.lists;
+            }) }
         ensures memory { IfErr result (λ e. e ≡ OutOfMemory) }
     {
         let first = Alternative::of_condition(self.alloc, condition)?;
@@ -114,7 +122,11 @@ impl<A: Allocator + Copy> Expansion<A> {
 
     /// Keeps the list of an alternative of which nothing is pending.
     fn finish(&mut self, alternative: Alternative<A>) -> Result<(), StoreError>
-        ensures ok { OnOk result (self.new ≡ record { alternatives = self.old.alternatives; lists = self.old.lists ++ alternative.sets ∷ [] }) }
+        ensures ok { OnOk result
+            (self.new ≡ record {
+              alternatives = self.old.alternatives;
+              lists = self.old.lists ++ alternative.sets ∷ [];
+            }) }
         ensures memory { IfErr result (λ e. e ≡ OutOfMemory) }
     {
         self.lists.push(alternative.into_sets())?;
@@ -127,7 +139,11 @@ impl<A: Allocator + Copy> Expansion<A> {
         mut alternative: Alternative<A>,
         condition: &Condition,
     ) -> Result<(), StoreError>
-        ensures ok { OnOk result (self.new ≡ record { alternatives = self.old.alternatives ++ expanded alternative condition.now; lists = self.old.lists }) }
+        ensures ok { OnOk result
+            (self.new ≡ record {
+              alternatives = self.old.alternatives ++ expanded alternative condition.now;
+              lists = self.old.lists;
+            }) }
         ensures memory { IfErr result (λ e. e ≡ OutOfMemory) }
     {
         match condition {

@@ -35,7 +35,8 @@ pub trait DependencyProvider: Interner {
     ) -> Result<Vec<Self::SolvableId, Self::Alloc>, StoreError>
         requires set { (Self.universe self.now).knows_set set ≡ true }
         requires known { All (λ s. (Self.universe self.now).knows_solvable s ≡ true) candidates.now }
-        ensures ok { IfOk result (λ found. found.items ≡ filtered ((answers self.now).matches set) inverse candidates.now) }
+        ensures ok { IfOk result (λ found. found.items ≡
+            filtered ((answers self.now).matches set) inverse candidates.now) }
         ensures err { IfErr result (λ e. e ≡ OutOfMemory) };
 
     /// The candidates of a package; none for a package that there isn't.
@@ -77,7 +78,8 @@ pub trait DependencyProvider: Interner {
     }
 
     /// Candidates are known solvables.
-    ghost candidates_known: { (p : Self) (n : Self.NameId) → All (λ s. (Self.universe p).knows_solvable s ≡ true) ((answers p).candidates n) };
+    ghost candidates_known: { (p : Self) (n : Self.NameId) →
+        All (λ s. (Self.universe p).knows_solvable s ≡ true) ((answers p).candidates n) };
 
     /// The order of a list is a permutation of it.
     ghost order_permutes: { (p : Self) (list : List Self.SolvableId) → IsPermutation list ((answers p).order list) };

@@ -91,9 +91,11 @@ impl<V: Drop, A: Allocator + Copy> RequirementMap<V, A> {
         default: F,
     ) -> Result<usize, StoreError>
         requires { ForNone (lookup (same_requirement requirement) self.old) (F.pre default) }
-        ensures place { IfOk result (λ place. place ≡ position_or_len (same_requirement requirement) (keys_of self.old)) }
+        ensures place { IfOk result (λ place. place ≡
+            position_or_len (same_requirement requirement) (keys_of self.old)) }
         ensures ok { OnOk result ((value : V) × (self.new ≡ with_entry self.old requirement value)
-            × MatchOption (lookup (same_requirement requirement) self.old) (F.post default value) (λ earlier. value ≡ earlier)) }
+            × MatchOption (lookup (same_requirement requirement) self.old)
+            (F.post default value) (λ earlier. value ≡ earlier)) }
         ensures err { OnErr result (self.new ≡ self.old) }
         ensures memory { IfErr result (λ e. e ≡ OutOfMemory) }
         ensures known { IsSome (lookup (same_requirement requirement) self.old) → IsOk result }

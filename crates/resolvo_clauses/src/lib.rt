@@ -3,10 +3,10 @@
 //! | room | what it holds |
 //! |---|---|
 //! | `decisions` | literals, decisions, and the trail of decisions |
-//! | `variables` | what each variable stands for, the variables of solvables; the literals of a variable, and its text |
+//! | `variables` | what each variable stands for, the variables of solvables; a variable's literals and text |
 //! | `clauses` | the kinds of clauses, and their literals |
 //! | `at_most_once` | clauses by which at most one of several variables is true |
-//! | `watch_map` | the two literals that a clause watches, for each literal the clauses that watch it, and a walk over them |
+//! | `watch_map` | the two literals that a clause watches, the clauses that watch a literal, and a walk over them |
 //!
 //! A clause names a definition of a room as `Rattle.resolvo_clauses.specs.TOPIC`, and a type with its variants as
 //! `Rattle.resolvo_clauses.specs.Types.NAME`.

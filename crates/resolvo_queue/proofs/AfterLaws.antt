@@ -118,7 +118,7 @@ stands_hot refs q hot stands = record {
   conditions = stands.conditions;
   listed = stands.listed;
   synced = stands.synced;
-  falsified = record { candidates = stands.falsified.candidates; looked = stands.falsified.looked; witnessed = stands.falsified.witnessed };
+  falsified = record { candidates = stands.falsified.candidates; looked = stands.falsified.looked; listed = stands.falsified.listed; witnessed = stands.falsified.witnessed };
 }
 
 -- ---- after a sync

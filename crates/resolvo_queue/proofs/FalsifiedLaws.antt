@@ -61,7 +61,7 @@ pub no_or_yes : (b : Bool) → (b ≡ true → ⊥) → b ≡ false
 no_or_yes true h = absurd (h refl)
 no_or_yes false h = refl
 
-less_by_test : (o : Ordering) → is_lt o ≡ true → o ≡ Less
+pub less_by_test : (o : Ordering) → is_lt o ≡ true → o ≡ Less
 less_by_test Less e = refl
 less_by_test Equal e = cc
 less_by_test Greater e = cc
@@ -82,7 +82,7 @@ not_after_itself p = own_reverse (position_cmp p p) (position_order.antisymm p p
 after_is_behind : (p q : Position) → is_after p q ≡ true → position_cmp q p ≡ Less
 after_is_behind p q e = position_order.antisymm q p ∙ ap ordering_reverse (greater_by_test (position_cmp p q) e)
 
-behind_is_after : (p q : Position) → position_cmp q p ≡ Less → is_after p q ≡ true
+pub behind_is_after : (p q : Position) → position_cmp q p ≡ Less → is_after p q ≡ true
 behind_is_after p q e = ap is_gt (position_order.antisymm p q ∙ ap ordering_reverse e)
 
 -- what stands before the least so far stands before all that it stands before

@@ -1,5 +1,5 @@
 -- What changed finds all clauses that may be falsified, after each call of a queue.
-use Rattle.std.proofs.Common.{◌≡◌, ◌≤◌, ℕ, length, length-append, arith, Bool, true, false, List, [], ◌∷◌, ◌++◌, map, None, Some, Result, Ok, Err, slice_get, sym, ap, refl, ◌∙◌, subst}
+use Rattle.std.proofs.Common.{◌≡◌, ◌<◌, ◌≤◌, ◌⊎◌, inl, inr, ℕ, length, length-append, arith, Bool, true, false, List, [], ◌∷◌, ◌++◌, map, None, Some, Result, Ok, Err, slice_get, sym, ap, refl, ◌∙◌, subst}
 use Rattle.std.specs.Prelude.{OnErr, OnOk}
 use Rattle.std.specs.Map.{lookup}
 use Rattle.std.specs.Option.{option_flatten}
@@ -11,7 +11,8 @@ use Rattle.providers.specs.Requirement.{same_requirement}
 use Rattle.providers.specs.declared.requirement.Requirement.{Requirement}
 use Rattle.clauses.specs.declared.disjunction.Disjunction.{Disjunction}
 use Rattle.resolvo_queue.specs.Inspection.{clause_of}
-use Rattle.resolvo_queue.specs.Occurrences.{KeepsListed, Listed}
+use Rattle.resolvo_queue.specs.Listing.{IsListedWell}
+use Rattle.resolvo_queue.specs.Occurrences.{KeepsListed, Listed, is_listed}
 use Rattle.resolvo_queue.specs.Possible.{SameElsewhere}
 use Rattle.resolvo_queue.specs.Queue.{FindsFalsified, Queue, values_of}
 use Rattle.resolvo_queue.specs.Question.{clause_literals}
@@ -19,9 +20,12 @@ use Rattle.resolvo_queue.specs.References.{Lists, References, literals_in, refer
 use Rattle.resolvo_queue.specs.Routing.{variables_of}
 use Rattle.resolvo_queue.specs.Settling.{AreSettled, Basis, Settles}
 use Rattle.resolvo_queue.specs.Synced.{is_among}
+use Rattle.resolvo_queue.specs.Tracked.{Tracked}
 use Rattle.resolvo_queue.specs.Witnesses.{AreCandidates, AreTouching, AreWitnessed, Found, NoneFalsified, Witnessed, witness}
 use Rattle.resolvo_queue.specs.declared.requires_clause.RequiresClause.{RequiresClause}
 use Rattle.resolvo_queue.specs.declared.tracked_clause.TrackedClause.{TrackedClause}
+use Rattle.resolvo_queue.proofs.EntryLaws.{earlier_or_last}
+use Rattle.resolvo_queue.proofs.ListedLaws.{below_or_from, keeps_settled}
 use Rattle.resolvo_queue.proofs.Members.{at_mapped}
 use Rattle.resolvo_queue.proofs.WitnessLaws.{witnessed_anew, witnessed_changed, witnessed_refused, witnessed_registered, witnessed_same, witnessed_settled}
 
@@ -44,6 +48,7 @@ pub finds_new : {N S A H : Type 0} (refs : References N S A) (q : Queue N H) →
 finds_new refs q none of looked = record {
   candidates = λ r x e. no_witness q.witnesses.of of r x e;
   looked = subst (λ k. k ≤ length q.inside.clauses) (sym looked) (omega arith);
+  listed = λ n c e below. no_clause q.inside.clauses none n c e;
   witnessed = λ accepted n c e. no_clause q.inside.clauses none n c e;
 }
 
@@ -55,11 +60,15 @@ module _ {N S A H : Type 0} (refs : References N S A) (q q' : Queue N H) (finds 
   looked_still : length q'.inside.clauses ≡ length q.inside.clauses → q'.witnesses.looked ≤ length q'.inside.clauses
   looked_still same = subst (λ (x : ℕ × ℕ). x.0 ≤ x.1) (λ i. (sym looked i, sym same i)) finds.looked
 
+  listed_still : (n : ℕ) (c : TrackedClause) → slice_get q.inside.clauses n ≡ Some c → n < q'.witnesses.looked → is_listed q'.inside.occurrences c.required ≡ true
+  listed_still n c at below = keeps c.required (finds.listed n c at (subst (λ k. n < k) looked below))
+
   -- after a refused sync only the witnesses are left
   pub finds_behind : q'.inside.clauses ≡ q.inside.clauses → q'.must_start_anew ≡ true → FindsFalsified refs q'
   finds_behind clauses anew = record {
     candidates = candidates_still;
     looked = looked_still (ap length clauses);
+    listed = λ n c at. listed_still n c (ap (λ cs. slice_get cs n) (sym clauses) ∙ at);
     witnessed = λ accepted. absurd (differ (sym anew ∙ accepted));
   }
     where
@@ -75,6 +84,11 @@ module _ {N S A H : Type 0} (refs : References N S A) (q q' : Queue N H) (finds 
     finds_registered new clauses = record {
       candidates = candidates_still;
       looked = subst (λ (x : ℕ × ℕ). x.0 ≤ x.1) (λ i. (sym looked i, sym (ap length clauses ∙ length-append q.inside.clauses (new ∷ [])) i)) (let le = finds.looked in omega (arith, le));
+      listed = λ n c at below. (let less : n < q.witnesses.looked = subst (λ k. n < k) looked below in
+          elim (earlier_or_last q.inside.clauses new n c (ap (λ cs. slice_get cs n) (sym clauses) ∙ at)) [
+            | inl before ↦ listed_still n c before below
+            | inr last ↦ absurd (let le = finds.looked in let at_end = last.1 in omega (arith, le, less, at_end))
+          ]);
       witnessed = λ accepted. subst (λ (x : List TrackedClause × (List Decision × Witnessed)). AreWitnessed (clause_literals refs) x.0 (values_of x.1.0) x.1.1) (λ i. (sym clauses i, (sym trail i, sym witnesses i)))
           (witnessed_registered (clause_literals refs) q.inside.clauses (values_of q.trail) new q.witnesses finds.looked (finds.witnessed (sym anew ∙ accepted)));
     }
@@ -84,6 +98,8 @@ module _ {N S A H : Type 0} (refs : References N S A) (q q' : Queue N H) (finds 
     finds_still clauses = record {
       candidates = candidates_still;
       looked = looked_still (sym (length-map q'.inside.clauses clause_of) ∙ (ap length clauses ∙ length-map q.inside.clauses clause_of));
+      listed = λ n c at below. (let was = at_mapped clause_of q.inside.clauses q'.inside.clauses n c (sym clauses) at in
+          subst (λ r. is_listed q'.inside.occurrences r ≡ true) (ap (λ (d : RequiresClause). d.requirement) was.2) (listed_still n was.0 was.1 below));
       witnessed = λ accepted. subst (λ (x : List Decision × Witnessed). AreWitnessed (clause_literals refs) q'.inside.clauses (values_of x.0) x.1) (λ i. (sym trail i, sym witnesses i))
           (witnessed_same (clause_literals refs) (clause_literals refs) q.inside.clauses q'.inside.clauses (values_of q.trail) q.witnesses
           (λ n c e. (let was = at_mapped clause_of q.inside.clauses q'.inside.clauses n c (sym clauses) e in
@@ -99,6 +115,7 @@ module _ {N S A H : Type 0} (refs : References N S A) (q q' : Queue N H) (finds 
   finds_synced routed entries now clauses trail values elsewhere anew changed = record {
     candidates = candidates_still;
     looked = looked_still (ap length clauses);
+    listed = λ n c at. listed_still n c (ap (λ cs. slice_get cs n) (sym clauses) ∙ at);
     witnessed = λ accepted. subst (λ (x : List TrackedClause × List Decision). AreWitnessed (clause_literals refs) x.0 (values_of x.1) q'.witnesses) (λ i. (sym clauses i, sym trail i)) (go q.must_start_anew refl);
   }
     where
@@ -120,6 +137,7 @@ pub finds_with_disjunction : {N S A H : Type 0} (refs : References N S A) (q : Q
 finds_with_disjunction refs q d same finds = record {
   candidates = finds.candidates;
   looked = finds.looked;
+  listed = finds.listed;
   witnessed = λ accepted. witnessed_same (clause_literals refs) (clause_literals (references refs.universe refs.lists (refs.disjunctions ++ d ∷ []))) q.inside.clauses q.inside.clauses (values_of q.trail) q.witnesses
       (λ n c e. (c, e, refl, refl, same n c e)) (finds.witnessed accepted);
 }
@@ -139,7 +157,14 @@ basis_at lists disjunctions q val = record {
 
 module _ {N S A H : Type 0} (refs : References N S A) (q q' : Queue N H) (finds : FindsFalsified refs q) (val : Values) (values : SameValues (values_of q.trail) val)
     (settles : Settles (basis_at refs.lists refs.disjunctions q val) q.inside.occurrences q'.inside.occurrences q.witnesses.of q'.witnesses.of)
-    (clauses : q'.inside.clauses ≡ q.inside.clauses) (trail : q'.trail ≡ q.trail) (anew : q'.must_start_anew ≡ q.must_start_anew) where
+    (clauses : q'.inside.clauses ≡ q.inside.clauses) (trail : q'.trail ≡ q.trail) (anew : q'.must_start_anew ≡ q.must_start_anew)
+    (ts : List Tracked) (well : IsListedWell refs.lists q.inside.occurrences ts) where
+  keeps : KeepsListed q.inside.occurrences q'.inside.occurrences
+  keeps = keeps_settled (basis_at refs.lists refs.disjunctions q val) q.inside.occurrences q'.inside.occurrences q.witnesses.of q'.witnesses.of settles ts well
+
+  was_at : (n : ℕ) (c : TrackedClause) → slice_get q'.inside.clauses n ≡ Some c → slice_get q.inside.clauses n ≡ Some c
+  was_at n c at = ap (λ cs. slice_get cs n) (sym clauses) ∙ at
+
   at_trail : val ≡ values_of q'.trail
   at_trail = λ i x. (values x ∙ ap (λ ds. values_of ds x) (sym trail)) i
 
@@ -152,11 +177,16 @@ module _ {N S A H : Type 0} (refs : References N S A) (q q' : Queue N H) (finds 
   module _ (none : NoneFalsified refs.lists q.inside.clauses (clause_literals refs) val) where
     -- for all that changed
     pub finds_settled : q'.witnesses.looked ≡ length q.inside.clauses →
+        ((n : ℕ) (c : TrackedClause) → slice_get q.inside.clauses n ≡ Some c → q.witnesses.looked ≤ n → is_listed q'.inside.occurrences c.required ≡ true) →
         AreSettled (basis_at refs.lists refs.disjunctions q val) (λ n. AreTouching (clause_literals refs) q.witnesses.of q.witnesses.changed) q'.witnesses.of →
         AreSettled (basis_at refs.lists refs.disjunctions q val) (λ n c. q.witnesses.looked ≤ n) q'.witnesses.of → FindsFalsified refs q'
-    finds_settled looked found came = record {
+    finds_settled looked new found came = record {
       candidates = settles.witnesses finds.candidates;
       looked = subst (λ (x : ℕ × List TrackedClause). x.0 ≤ length x.1) (λ i. (sym looked i, sym clauses i)) (omega arith);
+      listed = λ n c at below. elim (below_or_from n q.witnesses.looked) [
+        | inl less ↦ keeps c.required (finds.listed n c (was_at n c at) less)
+        | inr from ↦ new n c (was_at n c at) from
+      ];
       witnessed = λ accepted. with_witnesses (witnessed_settled (basis_at refs.lists refs.disjunctions q val) q.witnesses q'.witnesses settles.better none (was_witnessed accepted) found came);
     }
 
@@ -165,12 +195,14 @@ module _ {N S A H : Type 0} (refs : References N S A) (q q' : Queue N H) (finds 
     finds_refused changed looked = record {
       candidates = settles.witnesses finds.candidates;
       looked = subst (λ (x : ℕ × List TrackedClause). x.0 ≤ length x.1) (λ i. (sym looked i, sym clauses i)) finds.looked;
+      listed = λ n c at below. keeps c.required (finds.listed n c (was_at n c at) (subst (λ k. n < k) looked below));
       witnessed = λ accepted. with_witnesses (witnessed_refused (basis_at refs.lists refs.disjunctions q val) q.witnesses q'.witnesses settles.better none (was_witnessed accepted) changed looked);
     }
 
     pub finds_after : {R E : Type 0} (result : Result R E) → OnOk result (q'.witnesses.looked ≡ length q.inside.clauses) →
+        OnOk result ((n : ℕ) (c : TrackedClause) → slice_get q.inside.clauses n ≡ Some c → q.witnesses.looked ≤ n → is_listed q'.inside.occurrences c.required ≡ true) →
         OnOk result (AreSettled (basis_at refs.lists refs.disjunctions q val) (λ n. AreTouching (clause_literals refs) q.witnesses.of q.witnesses.changed) q'.witnesses.of) →
         OnOk result (AreSettled (basis_at refs.lists refs.disjunctions q val) (λ n c. q.witnesses.looked ≤ n) q'.witnesses.of) →
         OnErr result ((q'.witnesses.changed ≡ q.witnesses.changed) × (q'.witnesses.looked ≡ q.witnesses.looked)) → FindsFalsified refs q'
-    finds_after (Ok r) looked found came same = finds_settled looked found came
-    finds_after (Err e) looked found came same = finds_refused same.0 same.1
+    finds_after (Ok r) looked new found came same = finds_settled looked new found came
+    finds_after (Err e) looked new found came same = finds_refused same.0 same.1

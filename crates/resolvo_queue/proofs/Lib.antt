@@ -1,9 +1,12 @@
 pub mod AfterLaws
+pub mod AllowanceLaws
+pub mod AgainLaws
 pub mod AskableLaws
 pub mod AskedLaws
 pub mod AskingLaws
 pub mod ByNameLaws
 pub mod CallerLaws
+pub mod ClearLaws
 pub mod CountLaws
 pub mod DecisionLaws
 pub mod EntryLaws
@@ -17,6 +20,7 @@ pub mod HeatingLaws
 pub mod InOrderLaws
 pub mod IndexLaws
 pub mod KeptLaws
+pub mod ListedLaws
 pub mod ListingLaws
 pub mod LookLaws
 pub mod Members
@@ -31,6 +35,7 @@ pub mod ReadyLaws
 pub mod RecordLaws
 pub mod RegisterLaws
 pub mod RegisteredLaws
+pub mod RememberLaws
 pub mod RoutingLaws
 pub mod RowLaws
 pub mod ScanLaws

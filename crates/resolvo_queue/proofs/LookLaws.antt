@@ -42,7 +42,7 @@ below_next n i h = go (ltb n i) refl
     go false e = let le = ltb-false n i e in inr (omega (arith, h, le))
 
 -- what stands nowhere behind, in two steps
-not_after_both : (p q r : Position) → is_after p q ≡ false → is_after q r ≡ false → is_after p r ≡ false
+pub not_after_both : (p q r : Position) → is_after p q ≡ false → is_after q r ≡ false → is_after p r ≡ false
 not_after_both p q r e f = go (position_cmp p q) refl
   where
     go : (o : Ordering) → position_cmp p q ≡ o → is_after p r ≡ false
@@ -76,7 +76,7 @@ module _ {clauses : List TrackedClause} {holds : TrackedClause → Bool} where
   }
 
   -- what was seen in two steps
-  finds_both : {S T U : ℕ → TrackedClause → Type 0} {a b d : Option TrackedClause} →
+  pub finds_both : {S T U : ℕ → TrackedClause → Type 0} {a b d : Option TrackedClause} →
       ((n : ℕ) (c : TrackedClause) → slice_get clauses n ≡ Some c → U n c → S n c ⊎ T n c) →
       Finds clauses holds S a b → Finds clauses holds T b d → Finds clauses holds U a d
   finds_both {S} {T} {U} {a} {b} {d} split f g = record {
@@ -227,23 +227,8 @@ abbrev pub FindsBy : {N S I A : Type 0} → (I → Universe N S) → Look I A �
 FindsBy universe look vs = FindsFalsified universe look (λ n c. AreTouching (literals_of universe look) look.witnesses.now.of vs c)
 
 -- in two steps
-finds_either : {clauses : List TrackedClause} {holds : TrackedClause → Bool} (literals : TrackedClause → List Lit) (ws : Found) (xs ys : List ℕ) {a b d : Option TrackedClause} →
+pub finds_either : {clauses : List TrackedClause} {holds : TrackedClause → Bool} (literals : TrackedClause → List Lit) (ws : Found) (xs ys : List ℕ) {a b d : Option TrackedClause} →
     Finds clauses holds (λ n c. AreTouching literals ws xs c) a b → Finds clauses holds (λ n c. AreTouching literals ws ys c) b d →
     Finds clauses holds (λ n c. AreTouching literals ws (xs ++ ys) c) a d
 finds_either literals ws xs ys f g =
     finds_both (λ n c is t. elim (in_either xs ys t.0 t.1) [ inl s ↦ inl (t.0, s, t.2) | inr s ↦ inr (t.0, s, t.2) ]) f g
-
--- what came, then what variables that are noted find, and then those of decisions
-pub found_id : {N S I A : Type 0} (universe : I → Universe N S) (look : Look I A) → AreLocated (clauses_of look) → (changed : List ℕ) (before now : List Decision) →
-    AreToLookAt universe look (record { of = look.witnesses.now.of; changed = changed ++ (variables_of before ++ variables_of now); looked = look.witnesses.now.looked }) →
-    {xs : List ℕ} {bs ns : List Decision} → xs ≡ changed → bs ≡ before → ns ≡ now → {new a b : Option TrackedClause} (first : Option TrackedClause) →
-    FindsFalsified universe look (λ n c. look.witnesses.now.looked ≤ n) None new → FindsBy universe look xs new a →
-    FindsBy universe look (variables_of bs) a b → FindsBy universe look (variables_of ns) b first →
-    option_map (λ (c : TrackedClause). c.clause_id) first ≡ falsified_id (refs_of universe look.asked) (values_in look.asked.map.now) (clauses_of look)
-found_id universe look located changed before now all p q r {new} {a} {b} first start f g h =
-    let ws = look.witnesses.now.of in
-    let literals = literals_of universe look in
-    id_of_all (refs_of universe look.asked) (values_in look.asked.map.now) (clauses_of look) located first (finds_both (λ n c is t. t) start
-    (finds_either literals ws changed (variables_of before ++ variables_of now) (subst (λ vs. FindsBy universe look vs new a) p f)
-    (finds_either literals ws (variables_of before) (variables_of now)
-    (subst (λ ds. FindsBy universe look (variables_of ds) a b) q g) (subst (λ ds. FindsBy universe look (variables_of ds) b first) r h)))) all

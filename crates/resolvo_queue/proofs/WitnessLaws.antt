@@ -199,7 +199,7 @@ all_stand t (y ∷ ys) x (there s) e = all_stand t ys x s (both_of (t y) (list_a
 
 module _ {N S A : Type 0} (refs : References N S A) (clauses : List TrackedClause) (askable : AreAskable refs clauses) (val : Values) where
   -- falsified: the parent is true, the condition is met, and all candidates are false
-  by_candidates : (n : ℕ) (c : TrackedClause) → slice_get clauses n ≡ Some c → is_falsified_in refs val c
+  pub by_candidates : (n : ℕ) (c : TrackedClause) → slice_get clauses n ≡ Some c → is_falsified_in refs val c
       ≡ (known_true (val c.parent) && (are_literals_false val (clause_literals refs c) && are_candidates_false refs.lists val c.required))
   by_candidates n c at =
       falsified_by val (literals_in refs) (rows_in refs) (clause_of c)

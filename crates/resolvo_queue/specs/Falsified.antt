@@ -1,5 +1,5 @@
 -- Which clauses are falsified, and how the first of them in the scan is found.
-use Rattle.std.specs.Prelude.{◌≡◌, ℕ, Bool, true, false, Option, None, Some, List, map, option_map, slice_get, IfSome}
+use Rattle.std.specs.Prelude.{◌≡◌, ℕ, Bool, true, false, ⊤, Option, None, Some, List, map, option_map, slice_get, IfSome}
 use Rattle.std.specs.Ordering.{is_lt}
 use Rattle.decisions.specs.Literals.{Values}
 use Rattle.providers.specs.Provider.{Universe}
@@ -44,3 +44,7 @@ module _ (clauses : List TrackedClause) (holds : TrackedClause → Bool) where
     pub found : IsFound old → IsFound new
     pub kept : (c : TrackedClause) → old ≡ Some c → Covers new c
     pub seen : (n : ℕ) (c : TrackedClause) → slice_get clauses n ≡ Some c → holds c ≡ true → Seen n c → Covers new c
+
+  -- the first in the scan of all
+  abbrev pub FindsFirst : Option TrackedClause → Type 0
+  FindsFirst = Finds (λ n c. ⊤) None

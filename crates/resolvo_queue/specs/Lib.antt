@@ -1,5 +1,8 @@
+pub mod Allowance
 pub mod Asking
 pub mod ByName
+pub mod ConditionLooks
+pub mod Clear
 pub mod Falsified
 pub mod Group
 pub mod Index

@@ -1,10 +1,11 @@
 -- Looking for the first falsified clause, among those that variables find.
-use Rattle.std.specs.Prelude.{◌≡◌, ℕ, Bool, true, List, Option, Some, slice_get}
+use Rattle.std.specs.Prelude.{◌≡◌, ◌<◌, ℕ, Bool, true, List, Option, Some, slice_get}
 use Rattle.decisions.specs.Decisions.{values_in}
 use Rattle.decisions.specs.Literals.{Lit}
 use Rattle.providers.specs.Provider.{Universe}
 use Rattle.resolvo_queue.specs.Falsified.{Finds, is_falsified_in, refs_of}
 use Rattle.resolvo_queue.specs.Listing.{IsListedWell}
+use Rattle.resolvo_queue.specs.Occurrences.{is_listed}
 use Rattle.resolvo_queue.specs.Question.{AreAskable, clause_literals}
 use Rattle.resolvo_queue.specs.Synced.{FindsConditions}
 use Rattle.resolvo_queue.specs.Tracking.{IsInOrder, tracking_of}
@@ -14,6 +15,12 @@ use Rattle.resolvo_queue.specs.declared.tracked_clause.TrackedClause.{TrackedCla
 
 abbrev pub clauses_of : {I A : Type 0} → Look I A → List TrackedClause
 clauses_of look = look.tracked.now.index.clauses.items
+
+-- the clauses that were there when witnesses were last looked for have listed requirements
+abbrev pub AreListed : {I A : Type 0} → Look I A → Type 0
+AreListed look =
+    (n : ℕ) (c : TrackedClause) → slice_get (clauses_of look) n ≡ Some c → n < look.witnesses.now.looked →
+    is_listed look.tracked.now.occurrences c.required ≡ true
 
 module _ {N S I A : Type 0} (universe : I → Universe N S) (look : Look I A) where
   -- the literals of a clause's condition

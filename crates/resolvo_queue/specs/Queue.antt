@@ -1,5 +1,5 @@
 -- What contracts see of a queue, and how its calls change it. N are the names of packages, H the sets of them.
-use Rattle.std.specs.Prelude.{◌≡◌, ℕ, Bool, false, ◌==◌, ◌≤◌, if◌then◌else◌, List, [], ◌∷◌, ◌++◌, map, take, length, All, Option, Some, None}
+use Rattle.std.specs.Prelude.{◌≡◌, ℕ, Bool, true, false, ◌==◌, ◌<◌, ◌≤◌, if◌then◌else◌, List, [], ◌∷◌, ◌++◌, map, take, length, All, Option, Some, None, slice_get}
 use Rattle.std.specs.declared.vec.Vec.{Vec}
 use Rattle.typed_ids.specs.TotalMaps.{SameValues}
 use Rattle.providers.specs.Provider.{Universe, sets_of}
@@ -8,13 +8,16 @@ use Rattle.decisions.specs.declared.decision.Decision.{Decision}
 use Rattle.resolvo_queue.specs.Inspection.{clause_of}
 use Rattle.resolvo_queue.specs.Listing.{IsListedWell}
 use Rattle.resolvo_queue.specs.Names.{AreCold, AreLast, counts}
+use Rattle.resolvo_queue.specs.Occurrences.{is_listed}
 use Rattle.resolvo_queue.specs.Question.{clause_literals}
 use Rattle.resolvo_queue.specs.References.{References, HasParts, rows_in}
 use Rattle.resolvo_queue.specs.Synced.{FindsConditions}
 use Rattle.resolvo_queue.specs.Synced.{IsSynced as KeepsQueued}
 use Rattle.resolvo_queue.specs.Tracking.{IsInOrder, Tracking, tracking_of}
 use Rattle.resolvo_queue.specs.Witnesses.{AreCandidates, AreWitnessed, Witnessed}
+use Rattle.resolvo_queue.specs.declared.last_falsified.LastFalsified.{LastFalsified}
 use Rattle.resolvo_queue.specs.declared.parent_value.ParentValue.{ParentValue}
+use Rattle.resolvo_queue.specs.declared.tracked_clause.TrackedClause.{TrackedClause}
 use Rattle.resolvo_queue.specs.declared.tracked_clauses.TrackedClauses.{TrackedClauses}
 use Rattle.resolvo_queue.specs.declared.witnesses.Witnesses.{Witnesses}
 use Rattle.resolvo_queue.specs.declared.requires_clause.RequiresClause.{RequiresClause}
@@ -34,6 +37,8 @@ pub record Queue (N H : Type 0) : Type 0 where
   pub inside : Tracking
   -- who may be falsified: calls tell of it what `StandsOn` says, and how often requirements were looked at
   pub witnesses : Witnessed
+  -- the falsified clause that was answered last: calls tell of it what `RemembersWell` says
+  pub last : Option LastFalsified
 
 abbrev pub witnessed : {A : Type 0} → Witnesses A → Witnessed
 witnessed w = record { of = w.of; changed = w.changed.items; looked = w.looked }
@@ -49,6 +54,7 @@ queue_of tracked names hot since witnesses = record {
   hot = hot;
   inside = tracking_of tracked;
   witnesses = witnessed witnesses;
+  last = witnesses.last;
 }
 
 -- the value of each variable by a trail: that of its decision, undecided if there is none
@@ -121,11 +127,13 @@ AreNamed universe q = q.names ≡ map (λ c. map universe.set_name (sets_of univ
 abbrev pub OnlyHotScore : {N H : Type 0} → (H → N → Bool) → (N → ℕ) → Queue N H → Type 0
 OnlyHotScore {N} has scores q = (n : N) → has q.hot n ≡ false → scores n ≡ 0
 
--- witnesses are candidates of their requirements, and unless the last sync was refused, what changed finds all clauses that may
+-- witnesses are candidates of their requirements, the clauses that were there when they were last looked for have listed
+-- requirements, and unless the last sync was refused, what changed finds all clauses that may
 -- be falsified
 pub record FindsFalsified {N S A H : Type 0} (refs : References N S A) (q : Queue N H) : Type 0 where
   pub candidates : AreCandidates refs.lists q.inside.occurrences q.witnesses.of
   pub looked : q.witnesses.looked ≤ length q.inside.clauses
+  pub listed : (n : ℕ) (c : TrackedClause) → slice_get q.inside.clauses n ≡ Some c → n < q.witnesses.looked → is_listed q.inside.occurrences c.required ≡ true
   pub witnessed : q.must_start_anew ≡ false → AreWitnessed (clause_literals refs) q.inside.clauses (values_of q.trail) q.witnesses
 
 -- what the queue's clauses name is there, and as it was when they were registered: the variables of a condition find the

@@ -1,7 +1,9 @@
 -- Looking for witnesses: what it goes by, and what it reaches.
-use Rattle.std.specs.Prelude.{◌≡◌, ◌⊎◌, ◌+◌, ◌≤◌, ℕ, Bool, true, false, if◌then◌else◌, List, Option, None, Some, slice_get, Contains}
+use Rattle.std.specs.Prelude.{◌≡◌, ◌⊎◌, ◌+◌, ◌≤◌, ℕ, Bool, true, false, if◌then◌else◌, List, Option, None, Some, slice_get, Contains, IsSome}
+use Rattle.std.specs.Map.{lookup}
 use Rattle.decisions.specs.Decisions.{values_in}
 use Rattle.decisions.specs.Literals.{Values, known_false}
+use Rattle.providers.specs.Requirement.{same_requirement}
 use Rattle.providers.specs.declared.requirement.Requirement.{Requirement}
 use Rattle.clauses.specs.declared.disjunction.Disjunction.{Disjunction}
 use Rattle.resolvo_queue.specs.Index.{list_at}
@@ -38,6 +40,10 @@ basis_of lists disjunctions index val = record {
 
 abbrev pub basis : {A : Type 0} → Settling A → Basis A
 basis s = basis_of s.reader.now.lists s.disjunctions.now s.index.now (values_in s.map.now)
+
+-- each clause's requirement has lists
+abbrev pub HaveLists : {A : Type 0} → Lists A → List TrackedClause → Type 0
+HaveLists lists clauses = (c : TrackedClause) → Stands c clauses → IsSome (lookup (same_requirement c.required) lists)
 
 -- by a witness, and whether all candidates are false
 abbrev pub owed_look : Values → Bool → Option ℕ → ℕ

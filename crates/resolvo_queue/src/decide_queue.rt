@@ -56,7 +56,7 @@
 //! true, whatever was done before. A registration that is refused may leave a number in a list that belongs to no
 //! clause yet, which wakes one clause too many later, or makes it hot.
 ghost use Rattle.std.specs.Prelude.{◌≡◌, ◌⊎◌, ◌+◌, ◌-◌, ◌<◌, ◌≤◌, ◌^◌, ◌↔◌, ◌≢◌, [], length, take, All, IsTrue, IsOk};
-ghost use Rattle.std.specs.Prelude.{IsSome, IfSome, true, false, option_map, OnOk, OnErr, IfOk, IfErr};
+ghost use Rattle.std.specs.Prelude.{IsSome, IfSome, List, None, true, false, option_map, OnOk, OnErr, IfOk, IfErr};
 ghost use Rattle.std.specs.Map.{lookup};
 ghost use Rattle.std.specs.Ordering.{nat_cmp};
 ghost use Rattle.typed_ids.specs.Refusals.{IsGrowthRefusal};
@@ -66,6 +66,8 @@ ghost use Rattle.providers.specs.Provider.{Universe};
 ghost use Rattle.providers.specs.Requirement.{same_requirement};
 ghost use Rattle.providers.specs.declared.requirement.Requirement.{Requirement as ARequirement};
 ghost use Rattle.decisions.specs.Decisions.{values_in};
+ghost use Rattle.decisions.specs.declared.decision.Decision.{Decision as ADecision};
+ghost use Rattle.resolvo_queue.specs.Clear.{RemembersWell};
 ghost use Rattle.resolvo_queue.specs.Listing.{IsListedWell};
 ghost use Rattle.resolvo_queue.specs.Names.{ColdLack};
 ghost use Rattle.resolvo_queue.specs.Pick.{eligible, pick, decided, DecidesUnbeaten};
@@ -78,12 +80,13 @@ ghost use Rattle.resolvo_queue.specs.Synced.{FindsConditions};
 ghost use Rattle.resolvo_queue.specs.WalkCounts.{HasNoneOf, WalksOnce, changed_from, looks, owed, walks};
 ghost use Rattle.resolvo_queue.specs.Witnesses.{AreCandidates, HaveEntries, NoneFalsified, literals_by};
 
+mod finding;
+
 use crate::asked::Asked;
 use crate::clauses_by_name::ClausesByName;
 use crate::condition::condition_of;
 use crate::deciding::next_offer;
-use crate::falsification::falsified_clause;
-use crate::looking::Look;
+use crate::falsification::{falsified_clause, id_of};
 use crate::names::{copied, has_hot_name};
 use crate::offer::decision_at;
 use crate::parent_value::{ParentValue, is_true};
@@ -142,6 +145,7 @@ impl<D: DependencyProvider> DecideQueue<D> {
         ensures owed { (r : ARequirement) → owed result r ≡ 0 }
         ensures looks { (r : ARequirement) → looks result r ≡ 0 }
         ensures stands { (refs : References D.NameId D.SolvableId D.Alloc) → StandsOn refs result }
+        ensures last { result.last ≡ None }
     {
         DecideQueue {
             tracked: TrackedClauses::new(alloc),
@@ -186,6 +190,8 @@ impl<D: DependencyProvider> DecideQueue<D> {
         ensures looks { SameValues (looks self.old) (looks self.new) }
         ensures stands { (refs : References D.NameId D.SolvableId D.Alloc) → StandsOn refs self.old →
             StandsOn refs self.new }
+        ensures clear { (refs : References D.NameId D.SolvableId D.Alloc) (ds : List ADecision) →
+            RemembersWell refs ds self.old → RemembersWell refs ds self.new }
     {
         self.tracked.only_hot = standard;
     }
@@ -225,6 +231,8 @@ impl<D: DependencyProvider> DecideQueue<D> {
             IsSome (lookup (same_requirement requirement) lists) →
             StandsOn (references universe lists disjunctions.now) self.old →
             StandsOn (references universe lists disjunctions.now) self.new }
+        ensures clear { (refs : References D.NameId D.SolvableId D.Alloc) (ds : List ADecision) →
+            StandsOn refs self.old → RemembersWell refs ds self.old → RemembersWell refs ds self.new }
     {
         if self.is_full() {
             return Err(StoreError::TooManyClauses);
@@ -266,6 +274,8 @@ impl<D: DependencyProvider> DecideQueue<D> {
         ensures looks { SameValues (looks self.old) (looks self.new) }
         ensures stands { (refs : References D.NameId D.SolvableId D.Alloc) → StandsOn refs self.old →
             StandsOn refs self.new }
+        ensures clear { (refs : References D.NameId D.SolvableId D.Alloc) (ds : List ADecision) →
+            RemembersWell refs ds self.old → RemembersWell refs ds self.new }
     {
         self.heat(name)?;
         self.hot_names.insert(name)?;
@@ -286,6 +296,8 @@ impl<D: DependencyProvider> DecideQueue<D> {
         ensures fits { IsTrue (D.NameId.Set.is_too_large name) → IsOk result }
         ensures stands { (refs : References D.NameId D.SolvableId D.Alloc) → StandsOn refs self.old →
             StandsOn refs self.new }
+        ensures clear { (refs : References D.NameId D.SolvableId D.Alloc) (ds : List ADecision) →
+            RemembersWell refs ds self.old → RemembersWell refs ds self.new }
     {
         if self.hot_names.contains(name) {
             return Ok(());
@@ -314,6 +326,7 @@ impl<D: DependencyProvider> DecideQueue<D> {
         ensures memory { IfErr result (λ e. e ≡ OutOfMemory) }
         ensures stands { (refs : References D.NameId D.SolvableId D.Alloc) → StandsOn refs self.old →
             StandsOn refs self.new }
+        ensures last { self.new.last ≡ None }
 
         // Nothing is walked or looked at, whatever the result, and at most one walk more is owed of each requirement.
         // Unless the last sync was refused, none more is owed where no row has the variable of a decision from the
@@ -355,16 +368,18 @@ impl<D: DependencyProvider> DecideQueue<D> {
         requires candidates { AreCandidates reader.now.lists self.old.inside.occurrences self.old.witnesses.of }
         requires none_falsified { NoneFalsified reader.now.lists self.old.inside.clauses (literals_by disjunctions.now)
             (values_in map.now) }
+        requires looked { self.old.witnesses.looked ≤ length self.old.inside.clauses }
         ensures unchanged { IsUnchanged self.old self.new D.NameId.Set.has }
         ensures records { self.new.inside.requirements ≡ self.old.inside.requirements }
         ensures stands { (universe : Universe D.NameId D.SolvableId) →
             let refs = references universe reader.now.lists disjunctions.now in
             StandsOn refs self.old → IsSynced (values_in map.now) self.old → StandsOn refs self.new }
         ensures looks { (r : ARequirement) → looks self.new r ≤ looks self.old r + 1 }
+        ensures last { self.new.last ≡ self.old.last }
         ensures memory { IfErr result (λ e. e ≡ OutOfMemory) }
     {
         self.tracked
-            .settle(&mut self.witnesses, map, reader, disjunctions)
+            .list_and_settle(&mut self.witnesses, map, reader, disjunctions)
     }
 
     /// The decision of an eligible clause which no other one beats.
@@ -404,6 +419,7 @@ impl<D: DependencyProvider> DecideQueue<D> {
         ensures stands { let refs = references (D.universe question.now.interner.now)
             reader.old.lists question.now.disjunctions.now in
             StandsOn refs self.new }
+        ensures last { self.new.last ≡ self.old.last }
 
         // Whatever the result, the requirements that came to the reader's log were walked once each, and no walk more
         // is owed.
@@ -456,6 +472,7 @@ impl<D: DependencyProvider> DecideQueue<D> {
         ensures unchanged { IsUnchanged self.old self.new D.NameId.Set.has }
         ensures lists { reader.new.lists ≡ reader.old.lists }
         ensures stands { StandsOn (references (D.universe provider.now) reader.old.lists disjunctions.now) self.new }
+        ensures last { self.new.last ≡ self.old.last }
 
         // Whatever the result, the requirements that came to the reader's log were walked once each, and no walk more
         // is owed. None is looked at more than once for a witness.
@@ -497,13 +514,13 @@ impl<D: DependencyProvider> DecideQueue<D> {
             disjunctions,
             interner: provider,
         };
-        falsified_clause(self.tracked.index.clauses.as_slice(), &asked)
+        id_of(falsified_clause(self.tracked.index.clauses.as_slice(), &asked))
     }
 
     /// What [`DecideQueue::falsified`] answers. The trail's values are the map's, and the trail is that of the last
     /// accepted sync below the floor. Takes no memory, and changes nothing; linear in what changed since the last
     /// decision or the last accepted sync, in the clauses that this finds, and in their candidates up to the first that
-    /// isn't false; after a refused sync as `falsified`.
+    /// isn't false; after a refused sync, and where long conditions find their clauses again and again, as `falsified`.
     pub fn falsified_since<'q>(
         &'q self,
         floor: usize,
@@ -522,21 +539,14 @@ impl<D: DependencyProvider> DecideQueue<D> {
             result ≡ option_map (λ c. c.clause_id)
             (first_falsified (values_in map.now) (literals_in refs) (rows_in refs) self.now.clauses) }
     {
-        if self.tracked.must_start_anew {
-            return self.falsified(map, lists, disjunctions, provider);
-        }
-        let floor = floor.min(trail.len()).min(self.tracked.trail.len());
         let asked = Asked {
             map,
             lists,
             disjunctions,
             interner: provider,
         };
-        let look = Look {
-            tracked: &self.tracked,
-            witnesses: &self.witnesses,
-            asked,
-        };
-        look.first_found(floor, trail)
+        // What is true of each queue is true of this one: a look at a field tells it.
+        let _tracked = &self.tracked;
+        id_of(self.first_falsified(None, floor, trail, asked))
     }
 }

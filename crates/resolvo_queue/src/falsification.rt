@@ -1,9 +1,8 @@
 //! The scan for a clause that can't be met any more.
 ghost use Rattle.std.specs.Prelude.{◌≡◌, ◌<◌, ◌&&◌, length, option_map, IfSome};
 ghost use Rattle.decisions.specs.Decisions.{values_in};
-ghost use Rattle.resolvo_queue.specs.Falsified.{comes_first, falsified_id, is_falsified_in, refs_of};
+ghost use Rattle.resolvo_queue.specs.Falsified.{FindsFirst, comes_first, is_falsified_in, refs_of};
 ghost use Rattle.resolvo_queue.specs.Question.{AreAskable};
-ghost use Rattle.resolvo_queue.specs.Ready.{AreLocated};
 ghost use Rattle.resolvo_queue.specs.References.{IsWalkable};
 
 use crate::asked::Asked;
@@ -16,10 +15,10 @@ use typed_ids::ClauseId;
 pub(crate) fn falsified_clause<I: Interner, A: Allocator + Copy>(
     clauses: &[TrackedClause],
     asked: &Asked<'_, I, A>,
-) -> Option<ClauseId>
-    requires located { AreLocated clauses.now }
+) -> Option<TrackedClause>
     requires askable { AreAskable (refs_of I.universe asked.now) clauses.now }
-    ensures { result ≡ falsified_id (refs_of I.universe asked.now) (values_in asked.now.map.now) clauses.now }
+    ensures { let refs = refs_of I.universe asked.now in
+        FindsFirst clauses.now (is_falsified_in refs (values_in asked.now.map.now)) result }
 {
     let mut first: Option<TrackedClause> = None;
     for clause in clauses {
@@ -27,7 +26,7 @@ pub(crate) fn falsified_clause<I: Interner, A: Allocator + Copy>(
             first = Some(*clause);
         }
     }
-    id_of(first)
+    first
 }
 
 /// The id of a clause, if there is one.

@@ -8,16 +8,19 @@
 //! `decide_queue` has the queue, and `row_reader` the one way to the rows of requirements. `tracked_clauses` keeps the
 //! clauses, in the order of the scan by their `position`, and what may be eligible of them; `registering`, `heating`,
 //! `sync` and `deciding` are what is done with it. `clauses_by_name` finds clauses by the names of their packages.
-//! `witnesses` keeps what tells which of them may be falsified; `settling` looks for witnesses, and `looking` for a
-//! falsified clause; `falsification` goes through all clauses for it. `asked`, `inspection`, `row_state` and
-//! `condition` look at one clause.
+//! `witnesses` keeps what tells which of them may be falsified; `settling` looks for witnesses, after `listing` listed
+//! what came, and `looking` for a falsified clause; `looking_again` does where the one that was answered last, of which
+//! `last_falsified` tells, is falsified still; `falsification` goes through all clauses for it, and `condition_looks`
+//! tells where that reads less. `asked`, `inspection`, `row_state` and `condition` look at one clause.
 #![tactic(auto)]
 
+mod allowance;
 mod asked;
 mod candidate;
 mod clause_index;
 mod clauses_by_name;
 mod condition;
+mod condition_looks;
 mod decide_queue;
 mod deciding;
 mod falsification;
@@ -25,8 +28,11 @@ mod frontier;
 mod group;
 mod heating;
 mod inspection;
+mod last_falsified;
+mod listing;
 mod lists_by_variable;
 mod looking;
+mod looking_again;
 mod names;
 mod offer;
 mod parent_value;

@@ -1,8 +1,8 @@
 //! Looking for the first falsified clause among those that changed variables find.
-ghost use Rattle.std.specs.Prelude.{◌≡◌, ◌++◌, ◌↔◌, ◌≤◌, ℕ, None, Some, IsTrue, drop, length, slice_get};
-ghost use Rattle.decisions.specs.Decisions.{values_in};
-ghost use Rattle.resolvo_queue.specs.Falsified.{falsified_id, refs_of};
-ghost use Rattle.resolvo_queue.specs.Looking.{AreToLookAt, CanAsk, CanLook, FindsFalsified, clauses_of, literals_of};
+ghost use Rattle.std.specs.Prelude.{◌≡◌, ◌++◌, ◌↔◌, ◌≤◌, ℕ, Some, IsTrue, drop, false, length, slice_get};
+ghost use Rattle.resolvo_queue.specs.Falsified.{FindsFirst};
+ghost use Rattle.resolvo_queue.specs.Looking.{AreToLookAt, CanAsk, CanLook, FindsFalsified, clauses_of};
+ghost use Rattle.resolvo_queue.specs.Looking.{is_falsified_by, literals_of};
 ghost use Rattle.resolvo_queue.specs.Occurrences.{listing};
 ghost use Rattle.resolvo_queue.specs.Order.{Stands};
 ghost use Rattle.resolvo_queue.specs.Routing.{variables_of};
@@ -11,15 +11,16 @@ ghost use Rattle.resolvo_queue.specs.Witnesses.{AreTouching, Touches, witness};
 ghost use Rattle.resolvo_queue.specs.declared.tracked_clause.TrackedClause.{TrackedClause as ATrackedClause};
 
 use crate::asked::Asked;
-use crate::falsification::{id_of, is_earlier};
-use crate::row_reader::WitnessMap;
+use crate::condition_looks::ConditionLooks;
+use crate::falsification::is_earlier;
+use crate::row_reader::{RowReader, WitnessMap};
 use crate::tracked_clause::TrackedClause;
 use crate::tracked_clauses::TrackedClauses;
 use crate::witnesses::Witnesses;
 use decisions::Decision;
 use providers::{Interner, Requirement};
 use std::alloc::Allocator;
-use typed_ids::{ClauseId, VariableId};
+use typed_ids::VariableId;
 
 /// Whether the variable is the requirement's witness.
 pub(crate) fn is_witness<A: Allocator + Copy>(
@@ -37,7 +38,7 @@ pub(crate) fn is_witness<A: Allocator + Copy>(
 
 impl<A: Allocator + Copy> TrackedClauses<A> {
     /// The numbers of the clauses with a requirement.
-    fn clauses_with(&self, requirement: Requirement) -> &[u32]
+    pub(crate) fn clauses_with(&self, requirement: Requirement) -> &[u32]
         requires { IsInOrder (tracking_of self.now) }
         ensures { (n : ℕ) (c : ATrackedClause) → slice_get self.now.index.clauses.items n ≡ Some c →
             c.required ≡ requirement → Stands n result.now }
@@ -76,20 +77,28 @@ impl<'a, I: Interner, A: Allocator + Copy> Look<'a, I, A> {
         }
     }
 
-    /// Looks at the clauses that came since witnesses were last looked for.
-    fn look_at_new(&self) -> Option<TrackedClause>
+    /// Looks at the clauses from a number on.
+    pub(crate) fn look_from(
+        &self,
+        start: usize,
+        first: Option<TrackedClause>,
+    ) -> Option<TrackedClause>
         requires { CanAsk I.universe self.now }
-        ensures { FindsFalsified I.universe self.now (λ n c. self.now.witnesses.now.looked ≤ n) None result }
+        ensures { FindsFalsified I.universe self.now (λ n c. start ≤ n) first result }
     {
-        let mut first = None;
-        for number in self.witnesses.looked..self.tracked.index.clauses.len() {
-            first = self.look_at(number, first);
+        let mut found = first;
+        for number in start..self.tracked.index.clauses.len() {
+            found = self.look_at(number, found);
         }
-        first
+        found
     }
 
     /// Looks at the numbered clauses.
-    fn look_at_all(&self, numbers: &[u32], first: Option<TrackedClause>) -> Option<TrackedClause>
+    pub(crate) fn look_at_all(
+        &self,
+        numbers: &[u32],
+        first: Option<TrackedClause>,
+    ) -> Option<TrackedClause>
         requires { CanAsk I.universe self.now }
         ensures { FindsFalsified I.universe self.now (λ n c. Stands n numbers.now) first result }
     {
@@ -182,23 +191,66 @@ impl<'a, I: Interner, A: Allocator + Copy> Look<'a, I, A> {
         found
     }
 
+    /// The first falsified clause of the scan, by a look at every clause.
+    pub(crate) fn first_of_all(&self) -> Option<TrackedClause>
+        requires { CanAsk I.universe self.now }
+        ensures { FindsFirst (clauses_of self.now) (is_falsified_by I.universe self.now) result }
+    {
+        self.look_from(0, None)
+    }
+
+    /// Whether looks at the clauses that these variables, and those of the decisions in two trails, find by their
+    /// conditions may read more under long ones than there are clauses.
+    pub(crate) fn is_scan_shorter(
+        &self,
+        variables: &[VariableId],
+        before: &[Decision],
+        now: &[Decision],
+    ) -> bool
+        requires { CanAsk I.universe self.now }
+    {
+        let reader = RowReader::new(self.asked.lists);
+        let looks = ConditionLooks {
+            index: &self.tracked.index,
+            disjunctions: self.asked.disjunctions,
+            reader: &reader,
+        };
+        looks.are_more_than_clauses(variables, before, now)
+    }
+
+    /// Whether every clause is to be looked at: after a refused sync, and where looks by what changed may read more.
+    fn is_scan_due(&self, floor: usize, trail: &[Decision]) -> bool
+        requires can { CanAsk I.universe self.now }
+        requires floor { floor ≤ length trail.now }
+        requires old_floor { floor ≤ length self.now.tracked.now.trail.items }
+        ensures { result ≡ false → self.now.tracked.now.must_start_anew ≡ false }
+    {
+        if self.tracked.must_start_anew {
+            return true;
+        }
+        let noted = self.witnesses.changed.as_slice();
+        self.is_scan_shorter(noted, &self.tracked.trail[floor..], &trail[floor..])
+    }
+
     /// The first falsified clause of the scan, where each falsified one came since witnesses were last looked for, or
     /// is found by a variable that changed: one of those that are noted, or of a decision from the floor on, in the
-    /// trail of the last sync or in this one.
-    pub(crate) fn first_found(&self, floor: usize, trail: &[Decision]) -> Option<ClauseId>
+    /// trail of the last sync or in this one. Looks at all clauses after a refused sync, and where that reads less.
+    pub(crate) fn first_found(&self, floor: usize, trail: &[Decision]) -> Option<TrackedClause>
         requires look { CanLook I.universe self.now }
         requires floor { floor ≤ length trail.now }
         requires old_floor { floor ≤ length self.now.tracked.now.trail.items }
-        requires found { let was = self.now.witnesses.now in
+        requires found { self.now.tracked.now.must_start_anew ≡ false → let was = self.now.witnesses.now in
             let before = variables_of (drop floor self.now.tracked.now.trail.items) in
             let changed = was.changed.items ++ (before ++ variables_of (drop floor trail.now)) in
             AreToLookAt I.universe self.now (record { of = was.of; changed = changed; looked = was.looked }) }
-        ensures { let asked = self.now.asked in
-            result ≡ falsified_id (refs_of I.universe asked) (values_in asked.map.now) (clauses_of self.now) }
+        ensures { FindsFirst (clauses_of self.now) (is_falsified_by I.universe self.now) result }
     {
-        let found = self.look_at_new();
+        if self.is_scan_due(floor, trail) {
+            return self.first_of_all();
+        }
+        let found = self.look_from(self.witnesses.looked, None);
         let found = self.look_by_variables(self.witnesses.changed.as_slice(), found);
         let found = self.look_by_decisions(&self.tracked.trail[floor..], found);
-        id_of(self.look_by_decisions(&trail[floor..], found))
+        self.look_by_decisions(&trail[floor..], found)
     }
 }

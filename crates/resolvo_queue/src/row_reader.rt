@@ -3,7 +3,8 @@
 //!
 //! A [`RowReader`] hands no row out: it answers a requirement's frontier, and puts the requirement to the variables of
 //! its rows. A [`WitnessMap`] asks it for a variable of a row that isn't false. What a question knows of rows it knows
-//! by these three calls: the first and the last put the requirement to a log, and the second is made once for each.
+//! by these three calls, beside how many there are: the first and the last put the requirement to a log, and the second
+//! is made once for each.
 ghost use Rattle.std.specs.Prelude.{◌≡◌, ◌↔◌, ◌-◌, [], ◌∷◌, ◌++◌, true, false, if◌then◌else◌, flat_map, length};
 ghost use Rattle.std.specs.Prelude.{slice_get, Some, Contains, IsTrue, IsSome, IfSome, MatchOption, OnOk, OnErr, IfErr};
 ghost use Rattle.std.specs.List.{list_all};
@@ -13,11 +14,13 @@ ghost use Rattle.providers.specs.Requirement.{same_requirement};
 ghost use Rattle.providers.specs.declared.requirement.Requirement.{Requirement as ARequirement};
 ghost use Rattle.decisions.specs.Decisions.{values_in};
 ghost use Rattle.decisions.specs.Literals.{known_false};
+ghost use Rattle.resolvo_queue.specs.Allowance.{Leaves};
 ghost use Rattle.resolvo_queue.specs.Occurrences.{GrowsWith, HasAll, is_listed, listing};
 ghost use Rattle.resolvo_queue.specs.References.{IsWalkable};
 ghost use Rattle.resolvo_queue.specs.Rows.{candidates, frontier, loaded_rows};
 ghost use Rattle.resolvo_queue.specs.Witnesses.{are_candidates_false, witness};
 
+use crate::allowance::less;
 use crate::frontier::Frontier;
 use crate::lists_by_variable::ListsByVariable;
 use crate::row_state::{RowState, requirement_state};
@@ -84,6 +87,14 @@ impl<'l, A: Allocator + Copy> RowReader<'l, A> {
             (λ x. Contains (candidates self.now.lists requirement) x × (known_false (values_in map.now x) ≡ false)) }
     {
         not_false_in(&self.lists[requirement], map)
+    }
+
+    /// What remains of an allowance when the number of a requirement's rows is taken from it. Reads no row.
+    pub(crate) fn less_rows(&self, requirement: Requirement, allowance: usize) -> Option<usize>
+        requires { IsSome (lookup (same_requirement requirement) self.now.lists) }
+        ensures { Leaves allowance (length (candidates self.now.lists requirement)) result }
+    {
+        less_lengths(&self.lists[requirement], allowance)
     }
 
     /// Puts a requirement to the variables of its rows, and counts it as listed from then on. Refused, it doesn't count
@@ -284,6 +295,20 @@ fn add_list<A: Allocator + Copy>(
         occurrences.add(*variable, requirement)?;
     }
     Ok(())
+}
+
+/// What remains of an allowance when the lengths of these lists are taken from it.
+fn less_lengths<A: Allocator + Copy>(
+    lists: &[Vec<VariableId, A>],
+    allowance: usize,
+) -> Option<usize>
+    ensures { Leaves allowance (length (flat_map (λ l. l.items) lists.now)) result }
+{
+    let mut rest = allowance;
+    for list in lists {
+        rest = less(rest, list.len())?;
+    }
+    Some(rest)
 }
 
 /// A variable of these lists that isn't false.

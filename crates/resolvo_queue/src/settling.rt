@@ -16,6 +16,7 @@ ghost use Rattle.resolvo_queue.specs.Witnesses.{are_candidates_false, literals_b
 
 use crate::clause_index::ClauseIndex;
 use crate::condition::is_met;
+use crate::condition_looks::ConditionLooks;
 use crate::inspection::list_once;
 use crate::looking::is_witness;
 use crate::row_reader::{Occurrences, RowReader, WitnessMap};
@@ -259,6 +260,47 @@ fn settle_by_all<A: Allocator + Copy>(
     Ok(())
 }
 
+/// Whether looks at the clauses that these variables find by their conditions may read more under long ones than there
+/// are clauses.
+fn is_scan_shorter<A: Allocator + Copy>(
+    variables: &[VariableId],
+    settling: &Settling<'_, A>,
+) -> bool
+    requires { CanSettle (basis settling.now) }
+{
+    let looks = ConditionLooks {
+        index: settling.index,
+        disjunctions: settling.disjunctions,
+        reader: settling.reader,
+    };
+    looks.are_more_than_clauses(variables, &[], &[])
+}
+
+/// Gives the requirements witnesses whose clauses these variables find, or came from a number on: all clauses'
+/// requirements, where looks at the clauses that are found may read more under long conditions than there are clauses.
+fn settle_found<A: Allocator + Copy>(
+    witnesses: &mut WitnessMap<A>,
+    occurrences: &mut Occurrences<A>,
+    variables: &[VariableId],
+    looked: usize,
+    settling: &Settling<'_, A>,
+) -> Result<(), StoreError>
+    requires can { CanSettle (basis settling.now) }
+    requires found { AreFound (basis settling.now) occurrences.old witnesses.old }
+    ensures settles { Settles (basis settling.now) occurrences.old occurrences.new witnesses.old witnesses.new }
+    ensures ok { let literals = literals_by settling.now.disjunctions.now in
+        let found = λ (n : ℕ). AreTouching literals witnesses.old variables.now in
+        OnOk result (AreSettled (basis settling.now) found witnesses.new) }
+    ensures came { OnOk result (AreSettled (basis settling.now) (λ n c. looked ≤ n) witnesses.new) }
+    ensures memory { IfErr result (λ e. e ≡ OutOfMemory) }
+{
+    if is_scan_shorter(variables, settling) {
+        return settle_new(witnesses, occurrences, 0, settling);
+    }
+    settle_by_all(witnesses, occurrences, variables, settling)?;
+    settle_new(witnesses, occurrences, looked, settling)
+}
+
 impl<A: Allocator + Copy> TrackedClauses<A> {
     /// Gives the requirements witnesses whose clauses were found by what changed, or came since; nothing is left then
     /// to be looked at. Refused, all of it is.
@@ -277,6 +319,7 @@ impl<A: Allocator + Copy> TrackedClauses<A> {
             × (self.new.trail ≡ self.old.trail) × (self.new.must_start_anew ≡ self.old.must_start_anew) }
         ensures settles { let basis = basis_of reader.now.lists disjunctions.now self.old.index (values_in map.now) in
             Settles basis self.old.occurrences self.new.occurrences witnesses.old.of witnesses.new.of }
+        ensures last { witnesses.new.last ≡ witnesses.old.last }
         ensures changed { OnOk result (witnesses.new.changed.items ≡ []) }
         ensures looked { OnOk result (witnesses.new.looked ≡ length self.old.index.clauses.items) }
         ensures settled { let basis = basis_of reader.now.lists disjunctions.now self.old.index (values_in map.now) in
@@ -296,10 +339,10 @@ impl<A: Allocator + Copy> TrackedClauses<A> {
             reader,
         };
         let changed = witnesses.changed.as_slice();
-        settle_by_all(&mut witnesses.of, &mut self.occurrences, changed, &settling)?;
-        settle_new(
+        settle_found(
             &mut witnesses.of,
             &mut self.occurrences,
+            changed,
             witnesses.looked,
             &settling,
         )?;

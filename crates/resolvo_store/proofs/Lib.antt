@@ -8,7 +8,9 @@ pub mod KnownLemmas
 pub mod ListLemmas
 pub mod LiteralLaws
 pub mod LoadingLemmas
+pub mod MarkedLaws
 pub mod ModelLaws
+pub mod PartLaws
 pub mod RunLemmas
 pub mod SaturatedLaws
 pub mod SaturatingLemmas

@@ -25,7 +25,8 @@ use Rattle.resolvo_store.specs.Sound.{IsSound}
 use Rattle.resolvo_store.proofs.AddingLemmas.{first_of}
 use Rattle.resolvo_store.proofs.InvariantLemmas.{with_list}
 use Rattle.resolvo_store.proofs.SaturatedLaws.{IsSound-saturated}
-use Rattle.resolvo_store.proofs.SyncedLemmas.{in_step-forced}
+use Rattle.resolvo_queue.specs.References.{references}
+use Rattle.resolvo_store.proofs.SyncedLemmas.{clear-forced, in_step-forced}
 
 module _ {N S : Type 0} (st : Store N S) where
   -- a step at a level that isn't in range
@@ -77,7 +78,7 @@ module _ {N S : Type 0} (st : Store N S) where
     }
 
     -- what is true of the clauses' literals and their number is true of the new store's
-    still : (P : (ℕ → List Lit) → ℕ → Type 0) → P literals (length st.clauses) → P (clause_literals (with_forced cs after)) (length cs.clauses)
+    pub still : (P : (ℕ → List Lit) → ℕ → Type 0) → P literals (length st.clauses) → P (clause_literals (with_forced cs after)) (length cs.clauses)
     still P h =
         subst (λ x. P (clause_literals (record st { clauses = x; learnt = cs.learnt })) (length x)) (sym left.clauses)
         (subst (λ x. P (clause_literals (record st { learnt = x })) (length st.clauses)) (sym left.learnt) (subst (λ f. P f (length st.clauses)) left.literals_are h))
@@ -110,6 +111,7 @@ module _ {D N S A H Q : Type 0} {has : Q → N → Bool} {st : Store N S} {loade
     may_ask = record {
       in_step = in_step-forced trail after left.forced is.may_ask.in_step;
       stands = is.may_ask.stands;
+      clear = clear-forced (references st.provider.universe loaded disjunctions) queue trail after left.forced is.may_ask.clear;
       named = is.may_ask.named;
       hot = is.may_ask.hot;
     };

@@ -1,25 +1,21 @@
 -- What is true of a store, but for what is tracked, stays true where it has more in it, or less.
-use Rattle.std.proofs.Common.{◌≡◌, ℕ, ◌+◌, ◌<◌, ◌≤◌, Bool, true, false, cond, List, [], ◌∷◌, ◌++◌, length, length-append, map, Option, None, Some, IsSome, refl, arith, sym, ◌∙◌, ap, subst, zero, suc}
-use Rattle.std.specs.Prelude.{IfSome, ◌-◌, min, ◌==◌, nat_lt, take, slice_get, All, is_some, unwrap_or, flat_map, ◌||◌}
-use Rattle.std.specs.Cmp.{IsEquivalence}
-use Rattle.std.specs.List.{list_any, list_all, IsDistinct}
-use Rattle.std.specs.Map.{lookup}
-use Rattle.std.proofs.lemmas.Bool.Decides.{nat_tests}
-use Rattle.std.proofs.lemmas.Bool.{eqb-true}
+use Rattle.std.proofs.Common.{◌≡◌, ℕ, ◌+◌, ◌<◌, ◌≤◌, Bool, true, false, cond, List, [], ◌∷◌, ◌++◌, length}
+use Rattle.std.proofs.Common.{length-append, map, Option, None, Some, IsSome, refl, arith, sym, ◌∙◌, ap, subst}
+use Rattle.std.specs.Prelude.{IfSome, ◌-◌, min, take, slice_get, All, is_some, flat_map}
+use Rattle.std.specs.List.{IsDistinct}
 use Rattle.std.proofs.lemmas.List.{length-map, length-set, map-append, append-nil}
-use Rattle.std.proofs.lemmas.List.Elements.{All-nil, All-cons, All-head, All-tail, All-push, All-take, All-append, All-weaker, All-map}
+use Rattle.std.proofs.lemmas.List.Elements.{All-nil, All-cons, All-push, All-take, All-append, All-weaker, All-map}
 use Rattle.std.proofs.lemmas.Option.{slice_get_within}
 use Rattle.std.proofs.lemmas.Map.Keys.{IsDistinct-push}
 use Rattle.providers.specs.declared.requirement.Requirement.{Requirement}
-use Rattle.providers.specs.declared.requirement.Requirement.TheVariants.{Single, Union}
 use Rattle.providers.specs.Requirement.{same_requirement}
 use Rattle.providers.specs.Provider.{knows_requirement, sets_of}
 use Rattle.variables.specs.declared.variable_origin.VariableOrigin.{VariableOrigin}
 use Rattle.variables.specs.declared.variable_origin.VariableOrigin.TheVariants.{Solvable}
-use Rattle.variables.specs.Variables.{IsRootFirst, is_solvable, variable_of_solvable, interned_variable, with_variable, with_variables}
-use Rattle.variables.proofs.VariableLemmas.{or_else, position_within, position-append, root-append}
-use Rattle.variables.proofs.InterningLemmas.{variable-kept, kept-all, variable-with_variable, longer-all}
-use Rattle.decisions.specs.Trail.{Entry, val, propagated, kept_until, IsOnce, IsTrail, HasLevel}
+use Rattle.variables.specs.Variables.{IsRootFirst, variable_of_solvable, interned_variable, with_variable, with_variables}
+use Rattle.variables.proofs.VariableLemmas.{root-append}
+use Rattle.variables.proofs.InterningLemmas.{variable-kept, longer-all}
+use Rattle.decisions.specs.Trail.{Entry, propagated, kept_until, IsTrail, HasLevel}
 use Rattle.decisions.proofs.TrailLemmas.{IsTrail-push}
 use Rattle.resolvo_queue.specs.declared.requires_clause.RequiresClause.{RequiresClause}
 use Rattle.at_most_once.specs.AtMostOne.{Tracker}
@@ -35,183 +31,17 @@ use Rattle.clauses.specs.declared.clause.Clause.{Clause}
 use Rattle.clauses.specs.declared.clause.Clause.TheVariants as Kind
 use Rattle.resolvo_store.specs.Store.{Store, values, lists_of, kept_literals, clause_literals, watched_by}
 use Rattle.resolvo_store.specs.Refusals.{knows_helper}
-use Rattle.resolvo_store.specs.Outcome.{assigned, without_newest, helper_origin, cut_back, hands_next, adds_clause, with_disjunction, with_learnt, with_registered, with_rewatched}
+use Rattle.resolvo_store.specs.Outcome.{assigned, without_newest, helper_origin, cut_back, hands_next, adds_clause}
+use Rattle.resolvo_store.specs.Outcome.{with_disjunction, with_learnt, with_registered, with_rewatched}
 use Rattle.resolvo_store.specs.Sound.{IsSound, requires_from, HasOneVariableEach, WatchOwn, IsVariable, AreLiterals, IsLoaded, IsRegistered, IsAssigned}
 use Rattle.resolvo_store.proofs.TrackingLaws.{AreTracked}
 use Rattle.resolvo_store.proofs.KnownLemmas.{IsKnownOrigin, IsKnownSolvable, IsLawful, variable_known, clause_kept, known-with_variables}
-use Rattle.resolvo_store.proofs.WatchLaws.{first_watches_own, theirs_grown, theirs_pushed, theirs_rewatched, found_before, asked_before, lists_before, literals_learnt, literals_listed, literals_asked}
-
--- ---- lists
-
--- what stands in a list with one more stands in the list, or is the one at its end
-slice_get-push_cases : {X : Type 0} (P : Type 0) (xs : List X) (x : X) (i : ℕ) (y : X) → slice_get (xs ++ x ∷ []) i ≡ Some y
-    → (slice_get xs i ≡ Some y → P) → (i ≡ length xs → x ≡ y → P) → P
-slice_get-push_cases P [] x zero y e before last = last refl cc
-slice_get-push_cases {X} P [] x (suc i) y e before last = absurd (let no : ◌≡◌ {A = Option X} None (Some y) = e in cc)
-slice_get-push_cases P (z ∷ xs) x zero y e before last = before e
-slice_get-push_cases P (z ∷ xs) x (suc i) y e before last = slice_get-push_cases P xs x i y e before (λ k. last (omega (arith, k)))
-
--- what is true of the members of a list is true of its front, and of the rest
-All-split : {X : Type 0} (P : X → Type 0) (xs ys : List X) → All P (xs ++ ys) → All P xs × All P ys
-All-split P [] ys all = (All-nil P, all)
-All-split P (x ∷ xs) ys all =
-    let rest = All-split P xs ys (All-tail P x (xs ++ ys) all) in
-    (All-cons P x xs (All-head P x (xs ++ ys) all) rest.0, rest.1)
-
--- what is true of the members of each list is true of each list's members
-All-lists : {X Y : Type 0} (P : Y → Type 0) (f : X → List Y) (xs : List X) → All P (flat_map f xs) → All (λ x. All P (f x)) xs
-All-lists P f [] all = All-nil (λ x. All P (f x))
-All-lists P f (x ∷ xs) all =
-    let split = All-split P (f x) (flat_map f xs) all in
-    All-cons (λ z. All P (f z)) x xs split.0 (All-lists P f xs split.1)
-
--- ---- requirements
-
-same_requirement-equivalence : IsEquivalence same_requirement
-same_requirement-equivalence = record { refl = reflexive; symm = symmetric; congr = congruent }
-  where
-    reflexive : (r : Requirement) → same_requirement r r ≡ true
-    reflexive (Single v) = grind (arith, nat_tests)
-    reflexive (Union u) = grind (arith, nat_tests)
-
-    symmetric : (r s : Requirement) → same_requirement r s ≡ same_requirement s r
-    symmetric (Single v) (Single w) = grind (arith, nat_tests)
-    symmetric (Single v) (Union w) = refl
-    symmetric (Union v) (Single w) = refl
-    symmetric (Union v) (Union w) = grind (arith, nat_tests)
-
-    congruent : (r s t : Requirement) → same_requirement r s ≡ true → same_requirement r t ≡ same_requirement s t
-    congruent (Single v) (Single w) (Single x) h = let e = eqb-true v.0 w.0 h in rw e refl
-    congruent (Single v) (Single w) (Union x) h = refl
-    congruent (Union v) (Union w) (Union x) h = let e = eqb-true v.0 w.0 h in rw e refl
-    congruent (Union v) (Union w) (Single x) h = refl
-    congruent (Single v) (Union w) t h = let no : false ≡ true = h in cc
-    congruent (Union v) (Single w) t h = let no : false ≡ true = h in cc
-
-module _ {X : Type 0} where
-  -- a requirement that isn't found has no entry
-  not_among : (r : Requirement) (es : List (Requirement × X)) → lookup (same_requirement r) es ≡ None
-      → list_any (same_requirement r) (map (λ e. e.0) es) ≡ false
-  not_among r [] none = refl
-  not_among r (e ∷ es) none =
-      (elim (same_requirement r e.0) as (λ b. cond b (Some e.1) (lookup (same_requirement r) es) ≡ None → (b || list_any (same_requirement r) (map (λ x. x.0) es)) ≡ false)
-      [ true ↦ λ h. cc | false ↦ λ h. not_among r es h ]) none
-
-  -- what is found is found before one more entry too
-  found-push : (r : Requirement) (es : List (Requirement × X)) (e : Requirement × X) → IsSome (lookup (same_requirement r) es)
-      → IsSome (lookup (same_requirement r) (es ++ e ∷ []))
-  found-push r [] e h = let no : false ≡ true = h in cc
-  found-push r (f ∷ es) e h =
-      (elim (same_requirement r f.0) as (λ b. IsSome (cond b (Some f.1) (lookup (same_requirement r) es)) → IsSome (cond b (Some f.1) (lookup (same_requirement r) (es ++ e ∷ []))))
-      [ true ↦ λ k. k | false ↦ λ k. found-push r es e k ]) h
-
--- ---- clauses
-
--- the requires clauses among these and one more
-requires_from-push : {N : Type 0} (id last : ℕ) (cs : List (Clause N)) (c : Clause N) → last ≡ id + length cs
-    → requires_from id (cs ++ c ∷ []) ≡ requires_from id cs ++ requires_from last (c ∷ [])
-requires_from-push id last [] c e = ap (λ n. requires_from n (c ∷ [])) (let same : id ≡ last = omega (arith, e) in same)
-requires_from-push id last (Kind.Requires parent disjunction r ∷ cs) c e =
-    ap (λ rs. record { parent = parent; requirement = r; condition = disjunction; clause_id = id } ∷ rs) (requires_from-push (id + 1) last cs c (omega (arith, e)))
-requires_from-push id last (d ∷ cs) c e = requires_from-push (id + 1) last cs c (omega (arith, e))
-
--- ---- variables
-
-module _ {N S : Type 0} (same : S → S → Bool) where
-  -- each variable of a solvable is the one that is found for it
-  abbrev pub OneEach : List (VariableOrigin N S) → Type 0
-  OneEach os = (v : ℕ) (s : S) → slice_get os v ≡ Some (Solvable s) → variable_of_solvable same os s ≡ Some v
-
-  -- what is true of variables
-  pub record AreVariables (os : List (VariableOrigin N S)) : Type 0 where
-    pub root_first : IsRootFirst os
-    pub one_each : OneEach os
-
-  module _ (reflexive : (s : S) → same s s ≡ true) where
-    AreVariables-push : (os : List (VariableOrigin N S)) (s : S) → variable_of_solvable same os s ≡ None → AreVariables os → AreVariables (os ++ Solvable s ∷ [])
-    AreVariables-push os s new are = record {
-      root_first = root-append os (Solvable s) are.root_first;
-      one_each = λ v t e.
-          slice_get-push_cases (variable_of_solvable same (os ++ Solvable s ∷ []) t ≡ Some v) os (Solvable s) v (Solvable t) e
-          (λ k. variable-kept same t (Solvable s) v os (are.one_each v t k))
-          (λ k l. last v t k cc);
-    }
-      where
-        last : (v : ℕ) (t : S) → v ≡ length os → s ≡ t → variable_of_solvable same (os ++ Solvable s ∷ []) t ≡ Some v
-        last v t k l =
-            subst (λ x. variable_of_solvable same (os ++ Solvable s ∷ []) x ≡ Some v) l
-            (position-append (is_solvable same s) (Solvable s) 0 (length os) os (omega arith)
-            ∙ ap (λ p. or_else p (cond (same s s) (Some (length os)) None)) new
-            ∙ ap (λ b. cond b (Some (length os)) None) (reflexive s) ∙ ap Some (sym k))
-
-    AreVariables-with : (os : List (VariableOrigin N S)) (s : S) → AreVariables os → AreVariables (with_variable same os s)
-    AreVariables-with os s are = by_known (variable_of_solvable same os s) refl
-      where
-        by_known : (p : Option ℕ) → variable_of_solvable same os s ≡ p → AreVariables (cond (is_some p) os (os ++ Solvable s ∷ []))
-        by_known (Some v) h = are
-        by_known None h = AreVariables-push os s h are
-
-    AreVariables-with_all : (os : List (VariableOrigin N S)) (ss : List S) → AreVariables os → AreVariables (with_variables same os ss)
-    AreVariables-with_all os [] are = are
-    AreVariables-with_all os (s ∷ ss) are = AreVariables-with_all (with_variable same os s) ss (AreVariables-with os s are)
-
-    -- a solvable that has a variable is found below the length
-    interned_within : (os : List (VariableOrigin N S)) (s : S) (v : ℕ) → variable_of_solvable same os s ≡ Some v → interned_variable same os s < length os
-    interned_within os s v h =
-        subst (λ p. unwrap_or p (length os) < length os) (sym h) (omega (arith, position_within (is_solvable same s) 0 v os h))
-
-    -- solvables that got variables have them
-    interned_all : (os : List (VariableOrigin N S)) (ss : List S)
-        → All (λ s. interned_variable same (with_variables same os ss) s < length (with_variables same os ss)) ss
-    interned_all os [] = All-nil (λ s. interned_variable same os s < length os)
-    interned_all os (s ∷ ss) =
-        let after : List (VariableOrigin N S) = with_variables same (with_variable same os s) ss in
-        All-cons (λ t. interned_variable same after t < length after) s ss
-        (interned_within after s (interned_variable same os s)
-        (kept-all same s (interned_variable same os s) (with_variable same os s) ss (variable-with_variable same reflexive s os)))
-        (interned_all (with_variable same os s) ss)
-
--- ---- trails
-
--- a variable without an entry has none among those that are kept
-val-kept_until : (l : ℕ) (es : List Entry) (x : ℕ) → val es x ≡ None → val (kept_until l es) x ≡ None
-val-kept_until l [] x none = none
-val-kept_until l (e ∷ es) x none =
-    elim (list_all (λ f. nat_lt l f.level) (e ∷ es)) as (λ b. val (cond b [] (e ∷ kept_until l es)) x ≡ None) [
-      | true ↦ refl
-      | false ↦ (elim (e.decision.variable == x) as (λ t. cond t (Some e.decision.value) (val es x) ≡ None → cond t (Some e.decision.value) (val (kept_until l es) x) ≡ None)
-          [ true ↦ λ h. h | false ↦ λ h. val-kept_until l es x h ]) none
-    ]
-
--- what is true of each entry is true of each that is kept
-All-kept_until : (P : Entry → Type 0) (l : ℕ) (es : List Entry) → All P es → All P (kept_until l es)
-All-kept_until P l [] all = all
-All-kept_until P l (e ∷ es) all =
-    elim (list_all (λ f. nat_lt l f.level) (e ∷ es)) as (λ b. All P (cond b [] (e ∷ kept_until l es))) [
-      | true ↦ All-nil P
-      | false ↦ All-cons P e (kept_until l es) (All-head P e es all) (All-kept_until P l es (All-tail P e es all))
-    ]
-
-IsOnce-kept_until : (l : ℕ) (es : List Entry) → IsOnce es → IsOnce (kept_until l es)
-IsOnce-kept_until l [] once = tt
-IsOnce-kept_until l (e ∷ es) once =
-    elim (list_all (λ f. nat_lt l f.level) (e ∷ es)) as (λ b. IsOnce (cond b [] (e ∷ kept_until l es))) [
-      | true ↦ tt
-      | false ↦ (val-kept_until l es e.decision.variable once.0, IsOnce-kept_until l es once.1)
-    ]
-
--- the same of the first so many entries
-val-take : (n : ℕ) (es : List Entry) (x : ℕ) → val es x ≡ None → val (take n es) x ≡ None
-val-take zero es x none = refl
-val-take (suc n) [] x none = refl
-val-take (suc n) (e ∷ es) x none =
-    (elim (e.decision.variable == x) as (λ t. cond t (Some e.decision.value) (val es x) ≡ None → cond t (Some e.decision.value) (val (take n es) x) ≡ None)
-    [ true ↦ λ h. h | false ↦ λ h. val-take n es x h ]) none
-
-IsOnce-take : (n : ℕ) (es : List Entry) → IsOnce es → IsOnce (take n es)
-IsOnce-take zero es once = tt
-IsOnce-take (suc n) [] once = tt
-IsOnce-take (suc n) (e ∷ es) once = (val-take n es e.decision.variable once.0, IsOnce-take n es once.1)
+use Rattle.resolvo_store.proofs.WatchLaws.{first_watches_own, theirs_grown, theirs_pushed}
+use Rattle.resolvo_store.proofs.WatchLaws.{theirs_rewatched, found_before, asked_before, lists_before}
+use Rattle.resolvo_store.proofs.WatchLaws.{literals_learnt, literals_listed, literals_asked}
+use Rattle.resolvo_store.proofs.PartLaws.{slice_get-push_cases, All-lists, same_requirement-equivalence, not_among}
+use Rattle.resolvo_store.proofs.PartLaws.{found-push, requires_from-push, AreVariables, AreVariables-with_all}
+use Rattle.resolvo_store.proofs.PartLaws.{interned_all, All-kept_until, IsOnce-kept_until, IsOnce-take}
 
 -- ---- a store with more in it, or less
 
@@ -287,7 +117,9 @@ module _ {N S : Type 0} (st : Store N S) (sound : IsStored st) where
   IsStored-tracking ts os longer are known =
       let new : Store N S = record st { origins = os; trackers = ts } in
       let more : (v : ℕ) → IsVariable st v → IsVariable new v = λ v k. omega (arith, k, longer) in
-      let still : (ls : List Lit) → AreLiterals st ls → AreLiterals new ls = λ ls all. All-weaker (λ l. IsVariable st (variable_of l)) (λ l. IsVariable new (variable_of l)) (λ l. more (variable_of l)) ls all in
+      let still : (ls : List Lit) → AreLiterals st ls →
+      AreLiterals new ls = λ ls all. All-weaker (λ l. IsVariable st (variable_of l)) (λ l.
+      IsVariable new (variable_of l)) (λ l. more (variable_of l)) ls all in
       record {
         root_first = are.root_first;
         origins_known = known;
@@ -295,7 +127,8 @@ module _ {N S : Type 0} (st : Store N S) (sound : IsStored st) where
         clauses_known = All-weaker (IsKnownClause st.provider.universe st.origins) (IsKnownClause st.provider.universe os)
             (clause_kept st.provider.universe st.origins os longer known) st.clauses sound.clauses_known;
         learnt_known = All-weaker (AreLiterals st) (AreLiterals new) still st.learnt sound.learnt_known;
-        disjunctions_known = All-weaker (λ d. AreLiterals st d.literals) (λ d. AreLiterals new d.literals) (λ d k. still d.literals k) st.disjunctions sound.disjunctions_known;
+        disjunctions_known = All-weaker (λ d. AreLiterals st d.literals) (λ d. AreLiterals new d.literals) (λ d k.
+            still d.literals k) st.disjunctions sound.disjunctions_known;
         loaded_once = sound.loaded_once;
         loaded = All-weaker (IsLoaded st) (IsLoaded new) (λ e k. record {
           one_a_set = k.one_a_set;
@@ -305,10 +138,13 @@ module _ {N S : Type 0} (st : Store N S) (sound : IsStored st) where
         watched = sound.watched;
         own = sound.own;
         exact = sound.exact;
-        clauses = All-weaker (IsRegistered st) (IsRegistered new) (λ c k. record { parent = more c.parent k.parent; loaded = k.loaded; condition = k.condition }) st.requires sound.clauses;
+        clauses = All-weaker (IsRegistered st) (IsRegistered new) (λ c k.
+            record { parent = more c.parent k.parent; loaded = k.loaded; condition = k.condition })
+            st.requires sound.clauses;
         place = sound.place;
         trail = sound.trail;
-        assigned = All-weaker (IsAssigned st) (IsAssigned new) (λ e k. record { variable = more e.decision.variable k.variable; clause = k.clause }) st.trail sound.assigned;
+        assigned = All-weaker (IsAssigned st) (IsAssigned new) (λ e k.
+            record { variable = more e.decision.variable k.variable; clause = k.clause }) st.trail sound.assigned;
       }
 
   -- more variables
@@ -337,7 +173,11 @@ module _ {N S : Type 0} (st : Store N S) (sound : IsStored st) where
             (literals_listed (kept_literals st) (kept_literals new).lists (λ s l h. lists_before st.loaded (r, lists) s l h)) st.clauses st.watches sound.own;
         exact = sound.exact;
         clauses = All-weaker (IsRegistered st) (IsRegistered new)
-            (λ c k. record { parent = k.parent; loaded = found-push c.requirement st.loaded (r, lists) k.loaded; condition = k.condition }) st.requires sound.clauses;
+            (λ c k. record {
+              parent = k.parent;
+              loaded = found-push c.requirement st.loaded (r, lists) k.loaded;
+              condition = k.condition;
+            }) st.requires sound.clauses;
         place = sound.place;
         trail = sound.trail;
         assigned = All-weaker (IsAssigned st) (IsAssigned new) (λ e k. record { variable = k.variable; clause = k.clause }) st.trail sound.assigned;
@@ -353,23 +193,29 @@ module _ {N S : Type 0} (st : Store N S) (sound : IsStored st) where
         origins_known = sound.origins_known;
         clauses_known = sound.clauses_known;
         learnt_known = sound.learnt_known;
-        disjunctions_known = All-push (λ d. AreLiterals st d.literals) st.disjunctions (record { literals = ls; condition = condition }) sound.disjunctions_known known;
+        disjunctions_known = All-push (λ d. AreLiterals st d.literals) st.disjunctions
+            (record { literals = ls; condition = condition }) sound.disjunctions_known known;
         one_variable_each = sound.one_variable_each;
         loaded_once = sound.loaded_once;
         loaded = All-weaker (IsLoaded st) (IsLoaded new) (λ e k. record { one_a_set = k.one_a_set; variables = k.variables }) st.loaded sound.loaded;
         registered = sound.registered;
         watched = sound.watched;
         own = theirs_grown (literals_of (kept_literals st)) (literals_of (kept_literals new))
-            (λ c l h. subst (λ ds. is_literal_in l (literals_of (record (kept_literals st) { disjunctions = ds }) c) ≡ true) (sym (map-append (λ d. d.literals) st.disjunctions (record { literals = ls; condition = condition } ∷ [])))
+            (λ c l h. subst (λ ds. is_literal_in l (literals_of (record (kept_literals st) { disjunctions = ds }) c) ≡
+            true) (sym (map-append (λ d. d.literals) st.disjunctions
+            (record { literals = ls; condition = condition } ∷ [])))
             (literals_asked (kept_literals st) grown (asked_before (kept_literals st) (ls ∷ [])) c l h)) st.clauses st.watches sound.own;
         exact = sound.exact;
-        clauses = All-weaker (IsRegistered st) (IsRegistered new) (λ d k. record { parent = k.parent; loaded = k.loaded; condition = longer d.condition k.condition }) st.requires sound.clauses;
+        clauses = All-weaker (IsRegistered st) (IsRegistered new) (λ d k.
+            record { parent = k.parent; loaded = k.loaded; condition = longer d.condition k.condition })
+            st.requires sound.clauses;
         place = sound.place;
         trail = sound.trail;
         assigned = All-weaker (IsAssigned st) (IsAssigned new) (λ e k. record { variable = k.variable; clause = k.clause }) st.trail sound.assigned;
       }
     where
-      longer : (o : Option ℕ) → IfSome o (λ d. d < length st.disjunctions) → IfSome o (λ d. d < length (st.disjunctions ++ record { literals = ls; condition = condition } ∷ []))
+      longer : (o : Option ℕ) → IfSome o (λ d. d < length st.disjunctions) →
+          IfSome o (λ d. d < length (st.disjunctions ++ record { literals = ls; condition = condition } ∷ []))
       longer None k = tt
       longer (Some d) k = omega (arith, k, length-append st.disjunctions (record { literals = ls; condition = condition } ∷ []))
 
@@ -390,7 +236,8 @@ module _ {N S : Type 0} (st : Store N S) (sound : IsStored st) where
         watched = sound.watched;
         own = sound.own;
         exact = sound.exact;
-        clauses = All-weaker (IsRegistered st) (IsRegistered new) (λ d k. record { parent = k.parent; loaded = k.loaded; condition = k.condition }) st.requires sound.clauses;
+        clauses = All-weaker (IsRegistered st) (IsRegistered new) (λ d k.
+            record { parent = k.parent; loaded = k.loaded; condition = k.condition }) st.requires sound.clauses;
         place = sound.place;
         trail = sound.trail;
         assigned = All-weaker (IsAssigned st) (IsAssigned new) (λ e k. record { variable = k.variable; clause = k.clause }) st.trail sound.assigned;
@@ -402,15 +249,18 @@ module _ {N S : Type 0} (st : Store N S) (sound : IsStored st) where
 
   -- one clause more, with what it watches: registered, if it is a requires clause; learnt clauses keep their literals
   pub IsStored-clause : (c : Clause N) (learnt : List (List Lit)) (more : List RequiresClause)
-      → ((id : ℕ) (l : Lit) → is_literal_in l (learnt_literals (kept_literals st) id) ≡ true → is_literal_in l (learnt_literals (kept_literals (with_learnt_lists learnt)) id) ≡ true)
-      → All (AreLiterals st) learnt → IsKnownClause st.provider.universe st.origins c → more ≡ requires_from (length st.clauses) (c ∷ []) → All (IsRegistered st) more
+      → ((id : ℕ) (l : Lit) → is_literal_in l (learnt_literals (kept_literals st) id) ≡ true →
+      is_literal_in l (learnt_literals (kept_literals (with_learnt_lists learnt)) id) ≡ true)
+      → All (AreLiterals st) learnt → IsKnownClause st.provider.universe st.origins c →
+      more ≡ requires_from (length st.clauses) (c ∷ []) → All (IsRegistered st) more
       → IsStored (adds_clause (record st { learnt = learnt; requires = st.requires ++ more }) c).store
   IsStored-clause c learnt more keeps literals known are all =
       let kept = kept_literals (with_learnt_lists learnt) in
       let watch : List Lit = two_or_none (first_watches kept (values st) c) in
       let theirs = first_watches_own kept (values st) c in
       let new : Store N S = (adds_clause (record st { learnt = learnt; requires = st.requires ++ more }) c).store in
-      let same : (d : RequiresClause) → IsRegistered st d → IsRegistered new d = λ d k. record { parent = k.parent; loaded = k.loaded; condition = k.condition } in
+      let same : (d : RequiresClause) → IsRegistered st d →
+      IsRegistered new d = λ d k. record { parent = k.parent; loaded = k.loaded; condition = k.condition } in
       record {
         root_first = sound.root_first;
         origins_known = sound.origins_known;
@@ -420,10 +270,12 @@ module _ {N S : Type 0} (st : Store N S) (sound : IsStored st) where
         one_variable_each = sound.one_variable_each;
         loaded_once = sound.loaded_once;
         loaded = All-weaker (IsLoaded st) (IsLoaded new) (λ e k. record { one_a_set = k.one_a_set; variables = k.variables }) st.loaded sound.loaded;
-        registered = ap (λ rs. rs ++ more) sound.registered ∙ ap (λ rs. requires_from 0 st.clauses ++ rs) are ∙ sym (requires_from-push 0 (length st.clauses) st.clauses c (omega arith));
+        registered = ap (λ rs. rs ++ more) sound.registered ∙ ap (λ rs. requires_from 0 st.clauses ++ rs) are ∙
+            sym (requires_from-push 0 (length st.clauses) st.clauses c (omega arith));
         watched = length-append st.watches (watch ∷ []) ∙ ap (λ n. n + 1) sound.watched ∙ sym (length-append st.clauses (c ∷ []));
         own = theirs_pushed (literals_of kept) st.clauses st.watches c watch sound.watched theirs.own
-            (theirs_grown (literals_of (kept_literals st)) (literals_of kept) (literals_learnt (kept_literals st) learnt keeps) st.clauses st.watches sound.own);
+            (theirs_grown (literals_of (kept_literals st)) (literals_of kept)
+            (literals_learnt (kept_literals st) learnt keeps) st.clauses st.watches sound.own);
         exact = subst (λ n. IsExact (watched_at (st.watches ++ watch ∷ [])) (started n watch st.watchers)) sound.watched
             (exact_pushed st.watches st.watchers watch theirs.two sound.exact);
         clauses = All-append (IsRegistered new) st.requires more (All-weaker (IsRegistered st) (IsRegistered new) same st.requires sound.clauses)
@@ -436,8 +288,10 @@ module _ {N S : Type 0} (st : Store N S) (sound : IsStored st) where
 
   -- one that isn't
   IsStored-plain : (c : Clause N) (learnt : List (List Lit))
-      → ((id : ℕ) (l : Lit) → is_literal_in l (learnt_literals (kept_literals st) id) ≡ true → is_literal_in l (learnt_literals (kept_literals (with_learnt_lists learnt)) id) ≡ true)
-      → All (AreLiterals st) learnt → IsKnownClause st.provider.universe st.origins c → IsUnregistered c → IsStored (adds_clause (with_learnt_lists learnt) c).store
+      → ((id : ℕ) (l : Lit) → is_literal_in l (learnt_literals (kept_literals st) id) ≡ true →
+      is_literal_in l (learnt_literals (kept_literals (with_learnt_lists learnt)) id) ≡ true)
+      → All (AreLiterals st) learnt → IsKnownClause st.provider.universe st.origins c → IsUnregistered c →
+      IsStored (adds_clause (with_learnt_lists learnt) c).store
   IsStored-plain c learnt keeps literals known unregistered =
       subst (λ rs. IsStored (adds_clause (record st { learnt = learnt; requires = rs }) c).store) (append-nil st.requires)
       (IsStored-clause c learnt [] keeps literals known (sym (unregistered (length st.clauses))) (All-nil (IsRegistered st)))
@@ -478,7 +332,8 @@ module _ {N S : Type 0} (st : Store N S) (sound : IsStored st) where
         watched = length-set st.watches c (rewatched from to (watched_by st c)) ∙ sound.watched;
         own = theirs_rewatched (literals_of (kept_literals st)) st.clauses st.watches c from to (watching_within st.watches c from watches) has sound.own;
         exact = exact_rewatched st.watches st.watchers c from to watches other sound.exact;
-        clauses = All-weaker (IsRegistered st) (IsRegistered new) (λ d k. record { parent = k.parent; loaded = k.loaded; condition = k.condition }) st.requires sound.clauses;
+        clauses = All-weaker (IsRegistered st) (IsRegistered new) (λ d k.
+            record { parent = k.parent; loaded = k.loaded; condition = k.condition }) st.requires sound.clauses;
         place = sound.place;
         trail = sound.trail;
         assigned = All-weaker (IsAssigned st) (IsAssigned new) (λ e k. record { variable = k.variable; clause = k.clause }) st.trail sound.assigned;
@@ -502,7 +357,8 @@ module _ {N S : Type 0} (st : Store N S) (sound : IsStored st) where
         watched = sound.watched;
         own = sound.own;
         exact = sound.exact;
-        clauses = All-weaker (IsRegistered st) (IsRegistered new) (λ c k. record { parent = k.parent; loaded = k.loaded; condition = k.condition }) st.requires sound.clauses;
+        clauses = All-weaker (IsRegistered st) (IsRegistered new) (λ c k.
+            record { parent = k.parent; loaded = k.loaded; condition = k.condition }) st.requires sound.clauses;
         place = within;
         trail = trail;
         assigned = All-weaker (IsAssigned st) (IsAssigned new) (λ e k. record { variable = k.variable; clause = k.clause }) es all;
@@ -559,7 +415,8 @@ module _ {N S : Type 0} (st : Store N S) (sound : IsStored st) where
       by_entry (Some e) h = h
 
   -- one variable more that stands for no solvable, and other trackers
-  pub IsStored-origin : (ts : N → Tracker ℕ) (o : VariableOrigin N S) → ((t : S) → ◌≡◌ {A = VariableOrigin N S} o (Solvable t) → ⊥) → IsKnownOrigin st.provider.universe o
+  pub IsStored-origin : (ts : N → Tracker ℕ) (o : VariableOrigin N S) →
+      ((t : S) → ◌≡◌ {A = VariableOrigin N S} o (Solvable t) → ⊥) → IsKnownOrigin st.provider.universe o
       → IsStored (record st { origins = st.origins ++ o ∷ []; trackers = ts })
   IsStored-origin ts o none known =
       let same = st.provider.same_solvable in
@@ -597,7 +454,8 @@ module _ {N S : Type 0} (st : Store N S) (sound : IsStored st) (lawful : IsLawfu
       (AreVariables-with_all st.provider.same_solvable lawful.reflexive st.origins ss here)
       (known-with_variables st.provider.universe st.provider.same_solvable st.origins ss known sound.origins_known)
 
-  pub IsStored-with_variable : (s : S) → IsKnownSolvable st.provider.universe s → IsStored (record st { origins = with_variable st.provider.same_solvable st.origins s })
+  pub IsStored-with_variable : (s : S) → IsKnownSolvable st.provider.universe s →
+      IsStored (record st { origins = with_variable st.provider.same_solvable st.origins s })
   IsStored-with_variable s known =
       IsStored-with_variables (s ∷ []) (All-cons (IsKnownSolvable st.provider.universe) s [] known (All-nil (IsKnownSolvable st.provider.universe)))
 
@@ -606,7 +464,11 @@ module _ {N S : Type 0} (st : Store N S) (sound : IsStored st) (lawful : IsLawfu
       → lists_of st r ≡ None → length cs ≡ length (sets_of st.provider.universe r)
       → IsStored (record st {
         origins = with_variables st.provider.same_solvable st.origins (flat_map members cs);
-        loaded = st.loaded ++ (r, map (λ c. map (interned_variable st.provider.same_solvable (with_variables st.provider.same_solvable st.origins (flat_map members cs))) (members c)) cs) ∷ [];
+        loaded = st.loaded ++ (
+          r,
+          map (λ c. map (interned_variable st.provider.same_solvable
+              (with_variables st.provider.same_solvable st.origins (flat_map members cs))) (members c)) cs,
+        ) ∷ [];
       })
   IsStored-interned r members cs known fresh one_each =
       let same = st.provider.same_solvable in

@@ -57,11 +57,6 @@ two_if_first k now c watches = subst (λ w. AreTwoOrNone (two_or_none w)) (sym w
 
 -- ---- moved watches
 
--- a list has what is found in it
-pub found_any : {X : Type 0} (p : X → Bool) (xs : List X) → is_some (find p xs) ≡ list_any p xs
-found_any p [] = refl
-found_any p (x ∷ xs) = elim (p x) as (λ b. is_some (cond b (Some x) (find p xs)) ≡ (b || list_any p xs)) [ true ↦ refl | false ↦ found_any p xs ]
-
 or_later : (a b : Bool) → b ≡ true → (a || b) ≡ true
 or_later true b h = refl
 or_later false b h = h
@@ -97,13 +92,24 @@ module _ {X : Type 0} where
   WatchTheirs literals cs ws = (i : ℕ) (l : Lit) → is_literal_in l (slice_index_or ws i []) ≡ true → is_literal_in l (literals_at literals cs i) ≡ true
 
   -- where each has the literals that it had
-  pub theirs_grown : (f g : X → List Lit) → ((c : X) (l : Lit) → is_literal_in l (f c) ≡ true → is_literal_in l (g c) ≡ true)
-      → (cs : List X) (ws : List (List Lit)) → WatchTheirs f cs ws → WatchTheirs g cs ws
-  theirs_grown f g more cs ws own i l h = by_place (slice_get cs i) (own i l h)
+  pub at_grown : (f g : X → List Lit) → ((c : X) (l : Lit) → is_literal_in l (f c) ≡ true → is_literal_in l (g c) ≡ true)
+      → (cs : List X) (i : ℕ) (l : Lit) → is_literal_in l (literals_at f cs i) ≡ true → is_literal_in l (literals_at g cs i) ≡ true
+  at_grown f g more cs i l h = by_place (slice_get cs i) h
     where
       by_place : (o : Option X) → is_literal_in l (unwrap_or (option_map f o) []) ≡ true → is_literal_in l (unwrap_or (option_map g o) []) ≡ true
       by_place None k = k
       by_place (Some c) k = more c l k
+
+  -- and before others
+  pub at_before : (f : X → List Lit) (cs more : List X) (i : ℕ) (l : Lit) → is_literal_in l (literals_at f cs i) ≡ true
+      → is_literal_in l (literals_at f (cs ++ more) i) ≡ true
+  at_before f [] more i l h = (let no : false ≡ true = h in cc)
+  at_before f (c ∷ cs) more zero l h = h
+  at_before f (c ∷ cs) more (suc i) l h = at_before f cs more i l h
+
+  pub theirs_grown : (f g : X → List Lit) → ((c : X) (l : Lit) → is_literal_in l (f c) ≡ true → is_literal_in l (g c) ≡ true)
+      → (cs : List X) (ws : List (List Lit)) → WatchTheirs f cs ws → WatchTheirs g cs ws
+  theirs_grown f g more cs ws own i l h = at_grown f g more cs i l (own i l h)
 
   -- with one more
   pub theirs_pushed : (f : X → List Lit) (cs : List X) (ws : List (List Lit)) (c : X) (w : List Lit) → length ws ≡ length cs

@@ -3,7 +3,8 @@ use Rattle.std.specs.Prelude.{ℕ, Bool, true, false, ◌&&◌, nat_lt}
 use Rattle.providers.specs.Provider.{Universe}
 use Rattle.clauses.specs.declared.clause.Clause.{Clause}
 use Rattle.clauses.specs.declared.clause.Clause.TheVariants as Kind
-use Rattle.resolvo_store.specs.Command.{Command, Root, Constrains, ConstrainsExcluded, ConstrainsParent, Lock, Exclude, AnyOf, Decide}
+use Rattle.resolvo_store.specs.Command.{Command, Root, Constrains, ConstrainsExcluded}
+use Rattle.resolvo_store.specs.Command.{ConstrainsParent, Lock, Exclude, AnyOf, Decide}
 
 -- a command names all of the clause: it is neither registered for decisions, nor tracked, nor learnt
 abbrev pub is_direct : {N : Type 0} → Clause N → Bool
@@ -27,9 +28,12 @@ module _ {N S : Type 0} where
   -- whether all is known that it names, where there are so many variables
   abbrev pub names_known : Universe N S → ℕ → Clause N → Bool
   names_known universe variables Kind.InstallRoot = true
-  names_known universe variables (Kind.Constrains a b v) = (nat_lt a variables && nat_lt b variables) && universe.knows_set v
-  names_known universe variables (Kind.ConstrainsExcluded a aux v) = (nat_lt a variables && nat_lt aux variables) && universe.knows_set v
-  names_known universe variables (Kind.ConstrainsParent a aux v) = (nat_lt a variables && nat_lt aux variables) && universe.knows_set v
+  names_known universe variables (Kind.Constrains a b v) =
+      (nat_lt a variables && nat_lt b variables) && universe.knows_set v
+  names_known universe variables (Kind.ConstrainsExcluded a aux v) =
+      (nat_lt a variables && nat_lt aux variables) && universe.knows_set v
+  names_known universe variables (Kind.ConstrainsParent a aux v) =
+      (nat_lt a variables && nat_lt aux variables) && universe.knows_set v
   names_known universe variables (Kind.Lock locked other) = nat_lt locked variables && nat_lt other variables
   names_known universe variables (Kind.Excluded a reason) = nat_lt a variables && universe.knows_string reason
   names_known universe variables (Kind.AnyOf selected other) = nat_lt selected variables && nat_lt other variables

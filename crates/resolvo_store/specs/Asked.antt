@@ -1,5 +1,5 @@
--- What the queue of a store was told of the trail, and how often it read the rows of requirements. A Decide that is refused
--- keeps what it read, so this is no part of the abstract store.
+-- What the queue of a store was told of the trail, and how often it read the rows of requirements. A Decide that is
+-- refused keeps what it read, so this is no part of the abstract store.
 use Rattle.std.specs.Prelude.{ℕ, Bool, List}
 use Rattle.providers.specs.declared.requirement.Requirement.{Requirement}
 use Rattle.decisions.specs.Trail.{Trail}

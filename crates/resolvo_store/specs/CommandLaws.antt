@@ -45,23 +45,32 @@ module _ {N S A : Type 0} (eq : Command N S A → Command N S A → Bool) where
   by_kind variable_ _ _ _ _ _ _ _ _ _ _ _ _ _ _ _ _ _ _ _ _ _ _ _ _ (In.Variable s) = variable_ s
   by_kind _ helper_ _ _ _ _ _ _ _ _ _ _ _ _ _ _ _ _ _ _ _ _ _ _ _ (In.Helper origin) = helper_ origin
   by_kind _ _ load_ _ _ _ _ _ _ _ _ _ _ _ _ _ _ _ _ _ _ _ _ _ _ (In.Load r) = load_ r
-  by_kind _ _ _ disjunction_ _ _ _ _ _ _ _ _ _ _ _ _ _ _ _ _ _ _ _ _ _ (In.Disjunction literals condition) = disjunction_ literals condition
-  by_kind _ _ _ _ requires_ _ _ _ _ _ _ _ _ _ _ _ _ _ _ _ _ _ _ _ _ (In.Requires parent r disjunction) = requires_ parent r disjunction
+  by_kind _ _ _ disjunction_ _ _ _ _ _ _ _ _ _ _ _ _ _ _ _ _ _ _ _ _ _ (In.Disjunction literals condition) =
+      disjunction_ literals condition
+  by_kind _ _ _ _ requires_ _ _ _ _ _ _ _ _ _ _ _ _ _ _ _ _ _ _ _ _ (In.Requires parent r disjunction) =
+      requires_ parent r disjunction
   by_kind _ _ _ _ _ root_ _ _ _ _ _ _ _ _ _ _ _ _ _ _ _ _ _ _ _ In.Root = root_
-  by_kind _ _ _ _ _ _ constrains_ _ _ _ _ _ _ _ _ _ _ _ _ _ _ _ _ _ _ (In.Constrains parent forbidden set) = constrains_ parent forbidden set
-  by_kind _ _ _ _ _ _ _ constrainsExcluded_ _ _ _ _ _ _ _ _ _ _ _ _ _ _ _ _ _ (In.ConstrainsExcluded candidate aux set) = constrainsExcluded_ candidate aux set
-  by_kind _ _ _ _ _ _ _ _ constrainsParent_ _ _ _ _ _ _ _ _ _ _ _ _ _ _ _ _ (In.ConstrainsParent parent aux set) = constrainsParent_ parent aux set
+  by_kind _ _ _ _ _ _ constrains_ _ _ _ _ _ _ _ _ _ _ _ _ _ _ _ _ _ _ (In.Constrains parent forbidden set) =
+      constrains_ parent forbidden set
+  by_kind _ _ _ _ _ _ _ constrainsExcluded_ _ _ _ _ _ _ _ _ _ _ _ _ _ _ _ _ _
+      (In.ConstrainsExcluded candidate aux set) = constrainsExcluded_ candidate aux set
+  by_kind _ _ _ _ _ _ _ _ constrainsParent_ _ _ _ _ _ _ _ _ _ _ _ _ _ _ _ _ (In.ConstrainsParent parent aux set) =
+      constrainsParent_ parent aux set
   by_kind _ _ _ _ _ _ _ _ _ lock_ _ _ _ _ _ _ _ _ _ _ _ _ _ _ _ (In.Lock locked other) = lock_ locked other
-  by_kind _ _ _ _ _ _ _ _ _ _ exclude_ _ _ _ _ _ _ _ _ _ _ _ _ _ _ (In.Exclude variable reason) = exclude_ variable reason
+  by_kind _ _ _ _ _ _ _ _ _ _ exclude_ _ _ _ _ _ _ _ _ _ _ _ _ _ _ (In.Exclude variable reason) =
+      exclude_ variable reason
   by_kind _ _ _ _ _ _ _ _ _ _ _ anyOf_ _ _ _ _ _ _ _ _ _ _ _ _ _ (In.AnyOf selected other) = anyOf_ selected other
   by_kind _ _ _ _ _ _ _ _ _ _ _ _ learnt_ _ _ _ _ _ _ _ _ _ _ _ _ (In.Learnt literals) = learnt_ literals
-  by_kind _ _ _ _ _ _ _ _ _ _ _ _ _ atMostOnce_ _ _ _ _ _ _ _ _ _ _ _ (In.AtMostOnce name variable) = atMostOnce_ name variable
-  by_kind _ _ _ _ _ _ _ _ _ _ _ _ _ _ assign_ _ _ _ _ _ _ _ _ _ _ (In.Assign variable value clause level) = assign_ variable value clause level
+  by_kind _ _ _ _ _ _ _ _ _ _ _ _ _ atMostOnce_ _ _ _ _ _ _ _ _ _ _ _ (In.AtMostOnce name variable) =
+      atMostOnce_ name variable
+  by_kind _ _ _ _ _ _ _ _ _ _ _ _ _ _ assign_ _ _ _ _ _ _ _ _ _ _ (In.Assign variable value clause level) =
+      assign_ variable value clause level
   by_kind _ _ _ _ _ _ _ _ _ _ _ _ _ _ _ undoLast_ _ _ _ _ _ _ _ _ _ In.UndoLast = undoLast_
   by_kind _ _ _ _ _ _ _ _ _ _ _ _ _ _ _ _ undoUntil_ _ _ _ _ _ _ _ _ (In.UndoUntil level) = undoUntil_ level
   by_kind _ _ _ _ _ _ _ _ _ _ _ _ _ _ _ _ _ unpropagated_ _ _ _ _ _ _ _ In.Unpropagated = unpropagated_
   by_kind _ _ _ _ _ _ _ _ _ _ _ _ _ _ _ _ _ _ bump_ _ _ _ _ _ _ (In.Bump name amount) = bump_ name amount
-  by_kind _ _ _ _ _ _ _ _ _ _ _ _ _ _ _ _ _ _ _ decay_ _ _ _ _ _ (In.Decay numerator denominator) = decay_ numerator denominator
+  by_kind _ _ _ _ _ _ _ _ _ _ _ _ _ _ _ _ _ _ _ decay_ _ _ _ _ _ (In.Decay numerator denominator) =
+      decay_ numerator denominator
   by_kind _ _ _ _ _ _ _ _ _ _ _ _ _ _ _ _ _ _ _ _ standard_ _ _ _ _ (In.Standard standard) = standard_ standard
   by_kind _ _ _ _ _ _ _ _ _ _ _ _ _ _ _ _ _ _ _ _ _ rewatch_ _ _ _ (In.Rewatch clause from to) = rewatch_ clause from to
   by_kind _ _ _ _ _ _ _ _ _ _ _ _ _ _ _ _ _ _ _ _ _ _ watchers_ _ _ (In.Watchers literal) = watchers_ literal

@@ -27,11 +27,13 @@ module _ {N S : Type 0} (st : Store N S) where
   abbrev pub clauses_of_name : N → List (Clause N)
   clauses_of_name name = filter (is_forbidding (st.provider.same_name name)) st.clauses
 
-  -- some values of all other variables, the helpers among them, meet these clauses, where the tracked ones have these values
+  -- some values of all other variables, the helpers among them, meet these clauses, where the tracked ones have these
+  -- values
   abbrev pub CanBeMet : N → (ℕ → Bool) → Type 0
-  CanBeMet name x = (a : ℕ → Bool) × ((v : ℕ) → Contains (st.trackers name).variables v → a v ≡ x v) × AllByRecursion (λ c. is_met a c ≡ true) (clauses_of_name name)
+  CanBeMet name x = (a : ℕ → Bool) × ((v : ℕ) → Contains (st.trackers name).variables v → a v ≡ x v) ×
+      AllByRecursion (λ c. is_met a c ≡ true) (clauses_of_name name)
 
-  -- for each name and whatever values its tracked variables have: its clauses can be met by choosing helpers exactly when at
-  -- most one tracked variable is true
+  -- for each name and whatever values its tracked variables have: its clauses can be met by choosing helpers exactly
+  -- when at most one tracked variable is true
   abbrev pub ForbidsTwo : Type 0
   ForbidsTwo = (name : N) (x : ℕ → Bool) → CanBeMet name x ↔ AtMostOne x (st.trackers name).variables

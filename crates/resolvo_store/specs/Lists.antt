@@ -6,12 +6,14 @@ use Rattle.providers.specs.Provider.{Universe, knows_requirement, sets_of}
 use Rattle.clauses.specs.declared.disjunction.Disjunction.{Disjunction}
 use Rattle.resolvo_queue.specs.declared.requires_clause.RequiresClause.{RequiresClause}
 use Rattle.decisions.specs.Trail.{Trail}
+use Rattle.watch_map.specs.Marks.{AreMarks}
+use Rattle.watch_map.specs.declared.marks.Mark.{Mark}
 use Rattle.resolvo_queue.specs.Queue.{Queue}
 use Rattle.resolvo_queue.specs.References.{references}
 use Rattle.resolvo_queue.specs.Rows.{AreFew}
 use Rattle.resolvo_store.specs.Synced.{MayAsk}
 use Rattle.resolvo_store.specs.Sound.{IsSound}
-use Rattle.resolvo_store.specs.Store.{Store, Provider, KeptDisjunction}
+use Rattle.resolvo_store.specs.Store.{Store, Provider, KeptDisjunction, clause_literals, watched_by}
 use Rattle.solver_cache.specs.Cache.{Cache, is_set_asked}
 
 -- the requirements with the lists that are kept for them
@@ -32,16 +34,29 @@ abbrev pub AreKnown : {N S : Type 0} → Universe N S → List RequiresClause �
 AreKnown universe requires = All (λ c. knows_requirement universe c.requirement ≡ true) requires
 
 -- the packages of the version sets of loaded requirements were asked for
-abbrev pub AreAsked : {D N S A H : Type 0} → Provider N S → Cache D N S A H → List (Requirement × List (List ℕ)) → Type 0
+abbrev pub AreAsked : {D N S A H : Type 0} → Provider N S → Cache D N S A H →
+    List (Requirement × List (List ℕ)) → Type 0
 AreAsked p cache loaded = All (λ e. All (λ v. is_set_asked p cache v ≡ true) (sets_of p.universe e.0)) loaded
 
 -- what is kept is in order: it can be asked for decisions, with few rows for each requirement, and clauses of known
--- requirements alone; the store is one that commands can make; what was loaded came through the cache; and the queue may be
--- asked, whose clauses stand on these lists and disjunctions
-pub record IsConsistent {D N S A H Q : Type 0} (has : Q → N → Bool) (st : Store N S) (loaded : List (Requirement × Vec (Vec ℕ A) A)) (disjunctions : List (Disjunction A))
+-- requirements alone; the store is one that commands can make; what was loaded came through the cache; and the queue
+-- may be asked, whose clauses stand on these lists and disjunctions
+pub record IsConsistent {D N S A H Q : Type 0} (has : Q → N → Bool) (st : Store N S)
+    (loaded : List (Requirement × Vec (Vec ℕ A) A)) (disjunctions : List (Disjunction A))
     (cache : Cache D N S A H) (queue : Queue N Q) (trail : Trail) : Type 0 where
   pub few : AreFew loaded
   pub known : AreKnown st.provider.universe st.requires
   pub sound : IsSound st
   pub asked : AreAsked st.provider cache st.loaded
   pub may_ask : MayAsk has st.scores (references st.provider.universe loaded disjunctions) queue trail
+
+-- these are marks of the store's trail, over its clauses
+abbrev pub HasMarks : {N S : Type 0} → Store N S → List Mark → Type 0
+HasMarks st marks = AreMarks (clause_literals st) (watched_by st) st.trail marks
+
+-- what is kept is in order, the marks among it
+pub record IsInOrder {D N S A H Q : Type 0} (has : Q → N → Bool) (st : Store N S)
+    (loaded : List (Requirement × Vec (Vec ℕ A) A)) (disjunctions : List (Disjunction A)) (cache : Cache D N S A H)
+    (queue : Queue N Q) (trail : Trail) (marks : List Mark) : Type 0 where
+  pub consistent : IsConsistent has st loaded disjunctions cache queue trail
+  pub marked : HasMarks st marks

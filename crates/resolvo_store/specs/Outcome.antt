@@ -1,10 +1,12 @@
 -- What each command replies, and the store that it leaves, where nothing is refused.
-use Rattle.std.specs.Prelude.{ℕ, ◌+◌, ◌-◌, min, Bool, true, false, nat_eq, List, [], ◌∷◌, ◌++◌, map, fold, option_map, length, take, slice_get, slice_set, Option, Some, None, if◌then◌else◌}
+use Rattle.std.specs.Prelude.{ℕ, ◌+◌, ◌-◌, min, Bool, true, false, nat_eq, List, [], ◌∷◌, ◌++◌, map, fold}
+use Rattle.std.specs.Prelude.{option_map, length, take, slice_get, slice_set, Option, Some, None, if◌then◌else◌}
 use Rattle.std.specs.Bool.{beq}
 use Rattle.providers.specs.declared.requirement.Requirement.{Requirement}
 use Rattle.providers.specs.Provider.{sets_of}
 use Rattle.variables.specs.declared.variable_origin.VariableOrigin.{VariableOrigin}
-use Rattle.variables.specs.declared.variable_origin.VariableOrigin.TheVariants.{AtLeastOne, ConstrainsViolation, RequiresGate}
+use Rattle.variables.specs.declared.variable_origin.VariableOrigin.TheVariants.{AtLeastOne, ConstrainsViolation}
+use Rattle.variables.specs.declared.variable_origin.VariableOrigin.TheVariants.{RequiresGate}
 use Rattle.variables.specs.Variables.{with_variable, interned_variable, with_variables}
 use Rattle.decisions.specs.declared.decision.Decision.{Decision}
 use Rattle.decisions.specs.Literals.{Lit}
@@ -23,9 +25,15 @@ use Rattle.resolvo_queue.specs.declared.requires_clause.RequiresClause.{Requires
 use Rattle.resolvo_queue.specs.Scan.{first_falsified, is_eligible}
 use Rattle.resolvo_queue.specs.declared.offer.Offer.{Offer}
 use Rattle.resolvo_queue.specs.Pick.{eligible, pick, decided}
-use Rattle.resolvo_store.specs.Command.{Command, Variable, Helper, Load, Requires, Root, Constrains, ConstrainsExcluded, ConstrainsParent, Lock, Exclude, AnyOf, Learnt, Assign, UndoLast, UndoUntil, Unpropagated, Rewatch, Watchers, Saturate, Decide, Disjunction, AtMostOnce, Bump, Decay, Standard, Reply, VariableIs, LoadedAs, DisjunctionIs, ClauseIs, TrackedAs, Assigned, Already, Clash, Undone, Next, Done, WatchersAre, Decided, NoDecision, Falsified}
+use Rattle.resolvo_store.specs.Command.{Command, Variable, Helper, Load, Requires, Root, Constrains}
+use Rattle.resolvo_store.specs.Command.{ConstrainsExcluded, ConstrainsParent, Lock, Exclude, AnyOf, Learnt}
+use Rattle.resolvo_store.specs.Command.{Assign, UndoLast, UndoUntil, Unpropagated, Rewatch, Watchers, Saturate}
+use Rattle.resolvo_store.specs.Command.{Decide, Disjunction, AtMostOnce, Bump, Decay, Standard, Reply, VariableIs}
+use Rattle.resolvo_store.specs.Command.{LoadedAs, DisjunctionIs, ClauseIs, TrackedAs, Assigned, Already, Clash}
+use Rattle.resolvo_store.specs.Command.{Undone, Next, Done, WatchersAre, Decided, NoDecision, Falsified}
 use Rattle.resolvo_store.specs.Tracking.{forbidding, next_helper, origins_with}
-use Rattle.resolvo_store.specs.Store.{Store, values, lists_of, kept_literals, condition_of, watched_by, rows_of, score_of, candidates_of, all_candidates}
+use Rattle.resolvo_store.specs.Store.{Store, values, lists_of, kept_literals, condition_of}
+use Rattle.resolvo_store.specs.Store.{watched_by, rows_of, score_of, candidates_of, all_candidates}
 
 -- a reply, and the store after it
 pub record Outcome (N S : Type 0) : Type 0 where
@@ -110,7 +118,14 @@ module _ {N S : Type 0} where
   -- the store that has registered a requires clause under the next clause id
   abbrev pub with_registered : Store N S → ℕ → Requirement → Option ℕ → Store N S
   with_registered st parent r condition =
-      record st { requires = st.requires ++ record { parent = parent; requirement = r; condition = condition; clause_id = length st.clauses } ∷ [] }
+      record st {
+        requires = st.requires ++ record {
+          parent = parent;
+          requirement = r;
+          condition = condition;
+          clause_id = length st.clauses;
+        } ∷ [];
+      }
 
   -- the store that keeps the literals of one learnt clause more
   abbrev pub with_learnt : Store N S → List Lit → Store N S
@@ -118,7 +133,8 @@ module _ {N S : Type 0} where
 
   -- the store that keeps one disjunction more
   abbrev pub with_disjunction : Store N S → List Lit → ℕ → Store N S
-  with_disjunction st ls condition = record st { disjunctions = st.disjunctions ++ record { literals = ls; condition = condition } ∷ [] }
+  with_disjunction st ls condition =
+      record st { disjunctions = st.disjunctions ++ record { literals = ls; condition = condition } ∷ [] }
 
   -- the helper that one variable more needs under a name, if it needs one
   abbrev pub helper_for : Store N S → N → ℕ → Option ℕ
@@ -184,7 +200,8 @@ module _ {N S : Type 0} where
     store = record st { origins = st.origins ++ helper_origin origin ∷ [] };
   }
   outcome st (Load r) = load st r (lists_of st r)
-  outcome st (Requires parent r disjunction) = adds_clause (with_registered st parent r disjunction) (Kind.Requires parent disjunction r)
+  outcome st (Requires parent r disjunction) =
+      adds_clause (with_registered st parent r disjunction) (Kind.Requires parent disjunction r)
   outcome st Root = adds_clause st Kind.InstallRoot
   outcome st (Constrains parent forbidden v) = adds_clause st (Kind.Constrains parent forbidden v)
   outcome st (ConstrainsExcluded candidate aux v) = adds_clause st (Kind.ConstrainsExcluded candidate aux v)

@@ -1,16 +1,22 @@
 -- The refusals that a caller can foresee: for each command the tests, in order, with what each answers.
-use Rattle.std.specs.Prelude.{ℕ, ◌-◌, ◌^◌, ◌==◌, Bool, true, not, ◌&&◌, ◌||◌, nat_lt, nat_le, List, [], ◌∷◌, length, find, Option, None, Some, is_none, option_map}
+use Rattle.std.specs.Prelude.{ℕ, ◌-◌, ◌^◌, ◌==◌, Bool, true, not, ◌&&◌, ◌||◌, nat_lt, nat_le, List}
+use Rattle.std.specs.Prelude.{[], ◌∷◌, length, find, Option, None, Some, is_none, option_map}
 use Rattle.std.specs.List.{list_all}
 use Rattle.typed_ids.specs.Refusals.{are_ids_out}
 use Rattle.typed_ids.specs.declared.error.StoreError.{StoreError}
-use Rattle.typed_ids.specs.declared.error.StoreError.TheVariants.{IdSpace, UnknownId, LevelOutOfRange, NotLoaded, NegatesParent, BadWatch, BadLearnt, EmptyTrail, BadFraction, TooManyClauses}
+use Rattle.typed_ids.specs.declared.error.StoreError.TheVariants.{IdSpace, UnknownId, LevelOutOfRange}
+use Rattle.typed_ids.specs.declared.error.StoreError.TheVariants.{NotLoaded, NegatesParent, BadWatch, BadLearnt}
+use Rattle.typed_ids.specs.declared.error.StoreError.TheVariants.{EmptyTrail, BadFraction, TooManyClauses}
 use Rattle.providers.specs.Provider.{knows_requirement}
 use Rattle.variables.specs.Variables.{lacks_variable, are_variables_out}
 use Rattle.decisions.specs.Literals.{Lit, Neg, variable_of}
 use Rattle.clauses.specs.Clauses.{watch_ends}
 use Rattle.resolvo_store.specs.declared.helper_origin.HelperOrigin.{HelperOrigin}
 use Rattle.resolvo_store.specs.declared.helper_origin.HelperOrigin.TheVariants as Helps
-use Rattle.resolvo_store.specs.Command.{Command, Variable, Helper, Load, Requires, Root, Constrains, ConstrainsExcluded, ConstrainsParent, Lock, Exclude, AnyOf, Learnt, Assign, UndoLast, UndoUntil, Unpropagated, Rewatch, Watchers, Saturate, Decide, Disjunction, AtMostOnce, Bump, Decay, Standard}
+use Rattle.resolvo_store.specs.Command.{Command, Variable, Helper, Load, Requires, Root, Constrains}
+use Rattle.resolvo_store.specs.Command.{ConstrainsExcluded, ConstrainsParent, Lock, Exclude, AnyOf, Learnt}
+use Rattle.resolvo_store.specs.Command.{Assign, UndoLast, UndoUntil, Unpropagated, Rewatch, Watchers}
+use Rattle.resolvo_store.specs.Command.{Saturate, Decide, Disjunction, AtMostOnce, Bump, Decay, Standard}
 use Rattle.watch_map.specs.Watching.{is_literal_in}
 use Rattle.resolvo_store.specs.Store.{Store, lists_of, condition_of, clause_literals, watched_by}
 use Rattle.resolvo_store.specs.Tracking.{is_helper_among}
@@ -69,7 +75,8 @@ module _ {N S : Type 0} where
   -- the clause watches the one literal, doesn't watch the other, and has it
   abbrev pub may_rewatch : Store N S → ℕ → Lit → Lit → Bool
   may_rewatch st c from to =
-      is_literal_in from (watched_by st c) && (not (is_literal_in to (watched_by st c)) && is_literal_in to (clause_literals st c))
+      is_literal_in from (watched_by st c) &&
+      (not (is_literal_in to (watched_by st c)) && is_literal_in to (clause_literals st c))
 
   -- of a command that adds a clause, by whether all that it names is known
   abbrev pub clause_refusals : Store N S → Bool → List (Bool × StoreError)
@@ -83,16 +90,21 @@ module _ {N S : Type 0} where
   refusals st (Helper origin) =
       (not (knows_helper st origin), UnknownId) ∷ (are_variables_out (length st.origins), IdSpace) ∷ []
   refusals st (Load r) = (not (knows_requirement st.provider.universe r), UnknownId) ∷ []
-  refusals st (Requires parent r disjunction) =
-      (not (knows_variable st parent && (knows_requirement st.provider.universe r && knows_disjunction st disjunction)), UnknownId) ∷
+  refusals st (Requires parent r disjunction) = (
+    not (knows_variable st parent && (knows_requirement st.provider.universe r && knows_disjunction st disjunction)),
+    UnknownId,
+  ) ∷
       (is_none (lists_of st r), NotLoaded) ∷
       (negates_parent st parent disjunction, NegatesParent) ∷
       (nat_le (2 ^ 32 - 1) (length st.requires), TooManyClauses) ∷
       (are_clauses_out st, IdSpace) ∷ []
   refusals st Root = clause_refusals st true
-  refusals st (Constrains parent forbidden v) = clause_refusals st (knows_pair st parent forbidden && st.provider.universe.knows_set v)
-  refusals st (ConstrainsExcluded candidate aux v) = clause_refusals st (knows_pair st candidate aux && st.provider.universe.knows_set v)
-  refusals st (ConstrainsParent parent aux v) = clause_refusals st (knows_pair st parent aux && st.provider.universe.knows_set v)
+  refusals st (Constrains parent forbidden v) =
+      clause_refusals st (knows_pair st parent forbidden && st.provider.universe.knows_set v)
+  refusals st (ConstrainsExcluded candidate aux v) =
+      clause_refusals st (knows_pair st candidate aux && st.provider.universe.knows_set v)
+  refusals st (ConstrainsParent parent aux v) =
+      clause_refusals st (knows_pair st parent aux && st.provider.universe.knows_set v)
   refusals st (Lock locked other) = clause_refusals st (knows_pair st locked other)
   refusals st (Exclude v reason) = clause_refusals st (knows_variable st v && st.provider.universe.knows_string reason)
   refusals st (AnyOf selected other) = clause_refusals st (knows_pair st selected other)
@@ -115,8 +127,10 @@ module _ {N S : Type 0} where
   refusals st (Disjunction ls condition) =
       (not (list_all (knows_literal st) ls && st.provider.universe.knows_condition condition), UnknownId) ∷
       (are_disjunctions_out st, IdSpace) ∷ []
-  refusals st (AtMostOnce name v) =
-      (not (st.provider.universe.knows_name name && (knows_variable st v && not (is_helper_among st.origins v))), UnknownId) ∷ []
+  refusals st (AtMostOnce name v) = (
+    not (st.provider.universe.knows_name name && (knows_variable st v && not (is_helper_among st.origins v))),
+    UnknownId,
+  ) ∷ []
   refusals st (Bump name amount) =
       (not (st.provider.universe.knows_name name), UnknownId) ∷ (st.provider.is_large_name name, IdSpace) ∷ []
   refusals st (Decay numerator denominator) = (is_bad_fraction numerator denominator, BadFraction) ∷ []
@@ -124,4 +138,5 @@ module _ {N S : Type 0} where
 
   -- the first that applies
   abbrev pub first_refusal : Store N S → Command N S → Option StoreError
-  first_refusal st c = option_map (λ (r : Bool × StoreError). r.1) (find (λ (r : Bool × StoreError). r.0) (refusals st c))
+  first_refusal st c = option_map (λ (r : Bool × StoreError). r.1)
+      (find (λ (r : Bool × StoreError). r.0) (refusals st c))

@@ -23,7 +23,8 @@ equal = eq-value.it
 decides : (x y : ℕ) → (equal x y ≡ true → x ≡ y) × (x ≡ y → equal x y ≡ true)
 decides x y = (λ e. search rules, λ e. search rules)
 
-pub same_lists : {V : Type 0} (items : V → List ℕ) (a b : List V) → pointwise (λ x y. pointwise equal (items x) (items y)) a b ≡ true →
+pub same_lists : {V : Type 0} (items : V → List ℕ) (a b : List V) →
+    pointwise (λ x y. pointwise equal (items x) (items y)) a b ≡ true →
     map items a ≡ map items b
 same_lists items [] [] h = refl
 same_lists items [] (y ∷ b) h = absurd (true≢false (sym h))

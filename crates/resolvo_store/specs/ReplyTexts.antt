@@ -3,7 +3,9 @@ use Rattle.std.specs.Prelude.{ℕ, Bool, List, [], ◌∷◌, ◌++◌, flat_map
 use Rattle.typed_ids.specs.Refusals.{code_of}
 use Rattle.decisions.specs.declared.decision.Decision.{Decision}
 use Rattle.resolvo_queue.specs.declared.queue_decision.QueueDecision.{QueueDecision}
-use Rattle.resolvo_store.specs.Command.{Reply, VariableIs, LoadedAs, DisjunctionIs, ClauseIs, TrackedAs, Assigned, Already, Clash, Undone, Next, Done, WatchersAre, Decided, NoDecision, Falsified, Conflict, Refused}
+use Rattle.resolvo_store.specs.Command.{Reply, VariableIs, LoadedAs, DisjunctionIs, ClauseIs}
+use Rattle.resolvo_store.specs.Command.{TrackedAs, Assigned, Already, Clash, Undone, Next, Done}
+use Rattle.resolvo_store.specs.Command.{WatchersAre, Decided, NoDecision, Falsified, Conflict, Refused}
 
 -- a name, and a number directly after it
 abbrev pub field : List ℕ → ℕ → List ℕ
@@ -51,7 +53,8 @@ words_text (n ∷ ns) = flat_map (field (codes " ")) (n ∷ ns)
 
 abbrev pub decision_text : QueueDecision → List ℕ
 decision_text d =
-    field (codes "decided ") d.candidate ++ (field (codes " by ") d.required_by ++ (field (codes " clause ") d.clause_id ++
+    field (codes "decided ") d.candidate ++
+    (field (codes " by ") d.required_by ++ (field (codes " clause ") d.clause_id ++
     (field (codes " score ") d.package_activity ++ field (codes " count ") d.candidate_count)))
 
 -- the words of a reply

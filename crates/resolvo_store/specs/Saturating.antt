@@ -17,9 +17,9 @@ found_answer (Ok None) = Done
 found_answer (Err e) = Refused e
 
 module _ {N S : Type 0} where
-  -- entries were added at the trail's end, each at the level, and forced by its clause under those before it; and watches
-  -- may be others of their clauses' literals: each clause has as many as before, and the lists are exact. All else is as it
-  -- was
+  -- entries were added at the trail's end, each at the level, and forced by its clause under those before it; and
+  -- watches may be others of their clauses' literals: each clause has as many as before, and the lists are exact. All
+  -- else is as it was
   pub record IsSaturated (level : ℕ) (old new : Store N S) : Type 0 where
     pub added : List Entry
     pub forced : AreForced (clause_literals old) level old.trail added

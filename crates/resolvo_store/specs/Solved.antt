@@ -7,5 +7,6 @@ use Rattle.resolvo_store.specs.Store.{Store, values, condition_of, rows_of}
 
 -- each registered clause whose parent is true, and whose condition is met, has a candidate that is true
 abbrev pub IsSolved : {N S : Type 0} → Store N S → Type 0
-IsSolved st = All (λ c. known_true (values st c.parent) ≡ true → are_literals_false (values st) (condition_of st c.condition) ≡ true
+IsSolved st = All (λ c. known_true (values st c.parent) ≡ true →
+    are_literals_false (values st) (condition_of st c.condition) ≡ true
     → has_true_row (values st) (rows_of st c.requirement) ≡ true) st.requires

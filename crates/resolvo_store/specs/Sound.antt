@@ -1,5 +1,6 @@
 -- What is true of each store that commands can make of a new one. N are the names, S the solvables.
-use Rattle.std.specs.Prelude.{◌≡◌, ℕ, Bool, true, ◌+◌, ◌<◌, ◌≤◌, List, [], ◌∷◌, map, length, slice_get, All, IsSome, IfSome, Some}
+use Rattle.std.specs.Prelude.{◌≡◌, ℕ, Bool, true, ◌+◌, ◌<◌, ◌≤◌, List, [], ◌∷◌, map, length, slice_get, All, IsSome}
+use Rattle.std.specs.Prelude.{IfSome, Some}
 use Rattle.std.specs.List.{IsDistinct}
 use Rattle.providers.specs.declared.requirement.Requirement.{Requirement}
 use Rattle.providers.specs.Requirement.{same_requirement}
@@ -48,7 +49,8 @@ module _ {N S : Type 0} (st : Store N S) where
     pub one_a_set : length entry.1 ≡ length (sets_of st.provider.universe entry.0)
     pub variables : All (All IsVariable) entry.1
 
-  -- a registered clause: its parent is a variable, its requirement is loaded, and its disjunction, if it has one, is kept
+  -- a registered clause: its parent is a variable, its requirement is loaded, and its disjunction, if it has one, is
+  -- kept
   pub record IsRegistered (clause : RequiresClause) : Type 0 where
     pub parent : IsVariable clause.parent
     pub loaded : IsSome (lists_of st clause.requirement)
@@ -65,7 +67,9 @@ module _ {N S : Type 0} (st : Store N S) where
 
   -- what a clause watches is among its literals
   abbrev pub WatchOwn : Type 0
-  WatchOwn = (clause : ℕ) (l : Lit) → is_literal_in l (watched_by st clause) ≡ true → is_literal_in l (clause_literals st clause) ≡ true
+  WatchOwn =
+      (clause : ℕ) (l : Lit) → is_literal_in l (watched_by st clause) ≡ true →
+      is_literal_in l (clause_literals st clause) ≡ true
 
   pub record IsSound : Type 0 where
     pub root_first : IsRootFirst st.origins

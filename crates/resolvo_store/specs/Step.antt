@@ -1,5 +1,6 @@
 -- One step of the abstract store, and a run.
-use Rattle.std.specs.Prelude.{◌≡◌, ℕ, ◌^◌, nat_eq, ◌==◌, Bool, true, false, not, ◌&&◌, ◌||◌, nat_le, List, [], ◌∷◌, length, is_none, is_some, MatchOption, IsTrue}
+use Rattle.std.specs.Prelude.{◌≡◌, ℕ, ◌^◌, nat_eq, ◌==◌, Bool, true, false, not, ◌&&◌, ◌||◌}
+use Rattle.std.specs.Prelude.{nat_le, List, [], ◌∷◌, length, is_none, is_some, MatchOption, IsTrue}
 use Rattle.typed_ids.specs.declared.error.StoreError.{StoreError}
 use Rattle.typed_ids.specs.declared.error.StoreError.TheVariants.{OutOfMemory, IdSpace, Cancelled}
 use Rattle.std.specs.List.{list_any}
@@ -8,7 +9,8 @@ use Rattle.providers.specs.Provider.{sets_of}
 use Rattle.decisions.specs.Literals.{undecided}
 use Rattle.variables.specs.Variables.{variable_of_solvable, lacks_variables}
 use Rattle.at_most_once.specs.AtMostOne.{is_tracked}
-use Rattle.resolvo_store.specs.Command.{Command, Variable, Load, AtMostOnce, Decay, Standard, Assign, UndoLast, UndoUntil, Unpropagated, Saturate, Decide, Reply, Refused}
+use Rattle.resolvo_store.specs.Command.{Command, Variable, Load, AtMostOnce, Decay, Standard, Assign}
+use Rattle.resolvo_store.specs.Command.{UndoLast, UndoUntil, Unpropagated, Saturate, Decide, Reply, Refused}
 use Rattle.resolvo_store.specs.Store.{Store, values, lists_of, all_candidates}
 use Rattle.resolvo_store.specs.Refusals.{first_refusal}
 use Rattle.resolvo_store.specs.Tracking.{lacks_more}
@@ -19,11 +21,13 @@ module _ {N S : Type 0} where
   -- an accepted Load named the package: a loaded requirement has a version set of it
   abbrev pub is_named : Store N S → N → Bool
   is_named st name = list_any (λ (e : Requirement × List (List ℕ)).
-      list_any (λ v. st.provider.same_name name (st.provider.universe.set_name v)) (sets_of st.provider.universe e.0)) st.loaded
+      list_any (λ v. st.provider.same_name name (st.provider.universe.set_name v))
+      (sets_of st.provider.universe e.0)) st.loaded
 
   -- a Load names a package that no accepted Load named
   abbrev pub names_new_package : Store N S → Command N S → Bool
-  names_new_package st (Load r) = list_any (λ v. not (is_named st (st.provider.universe.set_name v))) (sets_of st.provider.universe r)
+  names_new_package st (Load r) = list_any (λ v. not (is_named st (st.provider.universe.set_name v)))
+      (sets_of st.provider.universe r)
   names_new_package st _ = false
 
   -- a Load needs more ids than there are: for its packages, for its rows, or for the variables of its candidates; or an
@@ -36,11 +40,12 @@ module _ {N S : Type 0} where
       lacks_variables st.provider.same_solvable st.provider.is_large_solvable st.origins (all_candidates st r)))
   lacks_ids st (AtMostOnce name v) =
       not (is_tracked nat_eq (st.trackers name) v) &&
-      (st.provider.is_large_name name || lacks_more st.origins (helper_for st name v) (length st.clauses) (length (tracking st name v)))
+      (st.provider.is_large_name name || lacks_more st.origins (helper_for st name v) (length st.clauses)
+      (length (tracking st name v)))
   lacks_ids st _ = false
 
-  -- more packages may have been asked for than answers have ids, or tracked than trackers have: that takes more than 2^32
-  -- names, and one more package
+  -- more packages may have been asked for than answers have ids, or tracked than trackers have: that takes more than
+  -- 2^32 names, and one more package
   abbrev pub may_use_up_answers : Store N S → Command N S → Bool
   may_use_up_answers st (Load r) = st.provider.are_names_many && names_new_package st (Load r)
   may_use_up_answers st (AtMostOnce name v) = st.provider.are_names_many && (length (st.trackers name).variables == 0)

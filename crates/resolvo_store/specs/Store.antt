@@ -120,7 +120,11 @@ module _ {N S : Type 0} (st : Store N S) where
 
   -- what the literals of its clauses are read from
   abbrev pub kept_literals : KeptLiterals
-  kept_literals = record { learnt = st.learnt; lists = λ r. unwrap_or (lists_of r) []; disjunctions = map (λ d. d.literals) st.disjunctions }
+  kept_literals = record {
+    learnt = st.learnt;
+    lists = λ r. unwrap_or (lists_of r) [];
+    disjunctions = map (λ d. d.literals) st.disjunctions;
+  }
 
   -- the literals of a clause, none of an unknown one
   abbrev pub clause_literals : ℕ → List Lit

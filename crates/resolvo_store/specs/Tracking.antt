@@ -1,5 +1,6 @@
 -- What is tracked under names, and the clauses of it. N are the names, S the solvables.
-use Rattle.std.specs.Prelude.{◌≡◌, ℕ, ◌+◌, ◌-◌, ◌^◌, ◌<◌, Bool, true, false, ◌&&◌, ◌||◌, nat_eq, nat_lt, if◌then◌else◌, List, [], ◌∷◌, ◌++◌, length, slice_get, Option, None, Some, is_some, All}
+use Rattle.std.specs.Prelude.{◌≡◌, ℕ, ◌+◌, ◌-◌, ◌^◌, ◌<◌, Bool, true, false, ◌&&◌, ◌||◌, nat_eq, nat_lt}
+use Rattle.std.specs.Prelude.{if◌then◌else◌, List, [], ◌∷◌, ◌++◌, length, slice_get, Option, None, Some, is_some, All}
 use Rattle.std.specs.Option.{option_map_or}
 use Rattle.variables.specs.declared.variable_origin.VariableOrigin.{VariableOrigin}
 use Rattle.variables.specs.declared.variable_origin.VariableOrigin.TheVariants.{ForbidMultiple}
@@ -36,14 +37,16 @@ origins_with os name (Some h) = os ++ ForbidMultiple name ∷ []
 abbrev pub lacks_more : {N S : Type 0} → List (VariableOrigin N S) → Option ℕ → ℕ → ℕ → Bool
 lacks_more os h clauses more = (is_some h && are_variables_out (length os)) || nat_lt (2 ^ 32 - 1) (clauses + more)
 
--- of a clause that tracking added under a name that passes the test: its variable, its helper, and whether that is to be true
+-- of a clause that tracking added under a name that passes the test: its variable, its helper, and whether that is to
+-- be true
 abbrev pub bits_of : {N : Type 0} → (N → Bool) → Clause N → List (BitClause ℕ)
 bits_of named (ForbidMultipleInstances x (Pos h) n) = if named n then (x, h, true) ∷ [] else []
 bits_of named (ForbidMultipleInstances x (Neg h) n) = if named n then (x, h, false) ∷ [] else []
 bits_of named _ = []
 
 -- a tracker among these variables, and its clauses: additions to an empty one make both; and its helpers are helpers
-pub record IsTracking {N S : Type 0} (os : List (VariableOrigin N S)) (t : Tracker ℕ) (cs : List (BitClause ℕ)) : Type 0 where
+pub record IsTracking {N S : Type 0} (os : List (VariableOrigin N S)) (t : Tracker ℕ)
+    (cs : List (BitClause ℕ)) : Type 0 where
   pub adds : Adds nat_eq t cs
   pub variables : All (λ v. v < length os) t.variables
   pub helpers : All (λ h. is_helper_among os h ≡ true) t.helpers

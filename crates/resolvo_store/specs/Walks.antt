@@ -6,7 +6,8 @@ use Rattle.decisions.specs.Trail.{Entry}
 use Rattle.resolvo_queue.specs.Routing.{variables_of}
 use Rattle.resolvo_queue.specs.WalkCounts.{HasNoneOf}
 use Rattle.resolvo_store.specs.Asked.{Asked, looks, owed, walks}
-use Rattle.resolvo_store.specs.Command.{Command, Requires, Bump, Standard, UndoLast, UndoUntil, Decide, Reply, Decided, NoDecision, Falsified}
+use Rattle.resolvo_store.specs.Command.{Command, Requires, Bump, Standard, UndoLast, UndoUntil, Decide, Reply, Decided}
+use Rattle.resolvo_store.specs.Command.{NoDecision, Falsified}
 use Rattle.resolvo_store.specs.Store.{Store, rows_of}
 use Rattle.resolvo_store.specs.Synced.{decisions_of}
 
@@ -43,17 +44,20 @@ pub record IsTold (entries : List Entry) (new : Asked) : Type 0 where
 module _ {N S : Type 0} (st : Store N S) where
   -- the variables of the entries from the floor on, in the trail that the queue was told of and in the store's
   abbrev pub changed_since : Asked → List ℕ
-  changed_since asked = variables_of (drop asked.floor asked.trail) ++ variables_of (drop asked.floor (decisions_of st.trail))
+  changed_since asked =
+      variables_of (drop asked.floor asked.trail) ++ variables_of (drop asked.floor (decisions_of st.trail))
 
-  -- a question walks no requirement twice, and none that owes no walk, and looks at none twice for a witness; it makes each
-  -- owe at most one walk more, and none whose rows have no variable that changed, unless the queue's last telling was refused
+  -- a question walks no requirement twice, and none that owes no walk, and looks at none twice for a witness; it makes
+  -- each owe at most one walk more, and none whose rows have no variable that changed, unless the queue's last telling
+  -- was refused
   pub record AsksOnce (old new : Asked) : Type 0 where
     pub once : (r : Requirement) → walks new r ≤ walks old r + 1
     pub looked_once : (r : Requirement) → looks new r ≤ looks old r + 1
     pub within : (r : Requirement) → walks new r ≤ owed new r
     pub one_more : (r : Requirement) → owed new r ≤ owed old r + 1
     pub owed_still : old.must_start_anew ≡ false →
-        All (λ c. HasNoneOf (changed_since old) (rows_of st c.requirement) → owed new c.requirement ≡ owed old c.requirement) st.requires
+        All (λ c. HasNoneOf (changed_since old) (rows_of st c.requirement) →
+        owed new c.requirement ≡ owed old c.requirement) st.requires
 
   -- what a command does to it, where it leaves these entries
   abbrev pub Asks : Command N S → Reply → List Entry → Asked → Asked → Type 0

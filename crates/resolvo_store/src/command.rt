@@ -12,8 +12,8 @@ use typed_ids::{
 /// A command. `N` are the provider's names, `S` its solvables; lists of literals are of the allocator `A`.
 ///
 /// A command that names an id which the store or its provider doesn't know is refused, and so is each command where the
-/// list of refusals in docs/BEHAVIOUR.md says so. A refused command changes nothing, but for a [`Command::Saturate`] that
-/// memory was refused: what it forced before stays.
+/// list of refusals in docs/BEHAVIOUR.md says so. A refused command changes nothing, but for a [`Command::Saturate`]
+/// that memory was refused: what it forced before stays.
 #[derive(Drop)]
 #[derive_where(Debug, PartialEq, Eq; N, S)]
 pub enum Command<N, S, A: Allocator> {
@@ -23,8 +23,8 @@ pub enum Command<N, S, A: Allocator> {
     Helper(HelperOrigin<N>),
     /// Loads the candidates of a requirement, best first, and gives each a variable. They are loaded once.
     Load(Requirement),
-    /// Keeps literals, all of which are false where this condition, or the part of it that they come of, holds. No literal
-    /// is needed.
+    /// Keeps literals, all of which are false where this condition, or the part of it that they come of, holds. No
+    /// literal is needed.
     Disjunction(Vec<Literal, A>, ConditionId),
     /// Adds the clause that the parent variable, if true, requires one of the requirement's candidates, under the
     /// condition that all literals of the disjunction are false.
@@ -36,8 +36,8 @@ pub enum Command<N, S, A: Allocator> {
     /// Adds the clause that the first variable, a candidate outside the version set, if true makes the second one true,
     /// which stands for all of them.
     ConstrainsExcluded(VariableId, VariableId, VersionSetId),
-    /// Adds the clause that the first variable, if true, forbids the second one, which stands for all candidates outside
-    /// the version set.
+    /// Adds the clause that the first variable, if true, forbids the second one, which stands for all candidates
+    /// outside the version set.
     ConstrainsParent(VariableId, VariableId, VersionSetId),
     /// Adds the clause that, the first variable being locked, the second one isn't true where the root is.
     Lock(VariableId, VariableId),
@@ -47,8 +47,8 @@ pub enum Command<N, S, A: Allocator> {
     AnyOf(VariableId, VariableId),
     /// Adds a learnt clause with these literals.
     Learnt(Vec<Literal, A>),
-    /// Tracks the variable under the name, and adds the clauses that keep more than one of the name's variables from being
-    /// true. A helper variable is made where one is needed.
+    /// Tracks the variable under the name, and adds the clauses that keep more than one of the name's variables from
+    /// being true. A helper variable is made where one is needed.
     AtMostOnce(N, VariableId),
     /// Gives a variable a value, derived from the clause, at the level.
     Assign(VariableId, bool, ClauseId, u32),
@@ -62,8 +62,8 @@ pub enum Command<N, S, A: Allocator> {
     Bump(N, u64),
     /// Multiplies each score by the first number, divides it by the second one, and rounds down.
     Decay(u64, u64),
-    /// Whether a decision may count on it that scores never fall below 0. Both settings answer alike; the first, `true`, is
-    /// the faster one.
+    /// Whether a decision may count on it that scores never fall below 0. Both settings answer alike; the first,
+    /// `true`, is the faster one.
     Standard(bool),
     /// Lets the clause watch the second literal in the place of the first one.
     Rewatch(ClauseId, Literal, Literal),
@@ -77,7 +77,8 @@ pub enum Command<N, S, A: Allocator> {
     Decide,
 }
 
-/// A command as the abstract store obeys it, of which `==` speaks: how much room its lists have tells none from another.
+/// A command as the abstract store obeys it, of which `==` speaks: how much room its lists have tells none from
+/// another.
 pub trait AbstractCommand: Eq {
     ghost use Rattle.resolvo_store.specs.Command.{Command};
 

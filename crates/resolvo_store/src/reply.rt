@@ -27,8 +27,8 @@ pub enum Reply<A: Allocator> {
     Already,
     /// The variable has the other value.
     Clash,
-    /// The assignments were taken back; of the newest alone, what it was, and the level of the one before it (0 if there
-    /// is none).
+    /// The assignments were taken back; of the newest alone, what it was, and the level of the one before it (0 if
+    /// there is none).
     Undone(Option<(Decision, u32)>),
     /// The next assignment to propagate, if there is one.
     Next(Option<Decision>),

@@ -1,7 +1,9 @@
 //! The texts of replies: what the program's lines have, without the line feed.
 ghost use Rattle.std.specs.Prelude.{◌≡◌, ◌++◌, codes, map, flat_map, Some};
 ghost use Rattle.std.specs.Fmt.{DisplaysOnOk};
-ghost use Rattle.resolvo_store.specs.ReplyTexts.{field, lists_text, list_text, others_text, conflict_text, tracked_text, truth_text, assignment_text, undone_text, next_text, words_text, decision_text};
+ghost use Rattle.resolvo_store.specs.ReplyTexts.{field, lists_text, list_text, others_text, conflict_text};
+ghost use Rattle.resolvo_store.specs.ReplyTexts.{tracked_text, truth_text, assignment_text, undone_text};
+ghost use Rattle.resolvo_store.specs.ReplyTexts.{next_text, words_text, decision_text};
 
 use crate::reply::Reply;
 use decisions::Decision;
@@ -54,7 +56,8 @@ fn write_clause<W: fmt::Write>(
     clause: ClauseId,
     conflict: bool,
 ) -> fmt::Result
-    ensures { DisplaysOnOk W.write_str_gives f.old result (Some (field (codes "clause ") clause ++ conflict_text conflict)) f.new }
+    ensures { DisplaysOnOk W.write_str_gives f.old result
+        (Some (field (codes "clause ") clause ++ conflict_text conflict)) f.new }
 {
     let flag = if conflict { " conflict" } else { "" };
     let clause = clause.to_index();
@@ -151,7 +154,8 @@ fn write_lists<W: fmt::Write, A: Allocator>(
     f: &mut fmt::Formatter<W>,
     lists: &[Vec<VariableId, A>],
 ) -> fmt::Result
-    ensures { DisplaysOnOk W.write_str_gives f.old result (Some (codes "loaded" ++ lists_text (map (λ l. l.items) lists.now))) f.new }
+    ensures { DisplaysOnOk W.write_str_gives f.old result
+        (Some (codes "loaded" ++ lists_text (map (λ l. l.items) lists.now))) f.new }
 {
     f.write_str("loaded")?;
     write_words(f, lists)

@@ -5,7 +5,8 @@
 //!
 //! - `store/loading.rt`: `Variable`, `Helper` and `Load`, which make variables and load requirements;
 //! - `store/adding.rt`: the commands that add clauses of the other kinds;
-//! - `store/registering.rt`: `Disjunction` and `Requires`, which keep a condition's literals, and add a clause and register
+//! - `store/registering.rt`: `Disjunction` and `Requires`, which keep a condition's literals, and add a clause and
+//! register
 //!   it for decisions;
 //! - `store/tracking.rt`: `AtMostOnce`, which tracks a variable and adds the clauses of that;
 //! - `store/scoring.rt`: `Bump`, `Decay` and `Standard`, which change scores and how the queue may look at them;
@@ -16,9 +17,9 @@
 //! - `store/reading.rt`: no commands, but what is read beside the replies;
 //! - `store/known.rt`: no commands, but tests of what they name.
 //!
-//! Each method's contract is the step of its command. So a method takes back what it changed before it was refused, as a
-//! `Load` gives up the variables that it made; or it makes room first, as a `Requires` does before it registers its clause.
-//! `Saturate` alone does neither: what it forced follows from the clauses, and stays.
+//! Each method's contract is the step of its command. So a method takes back what it changed before it was refused, as
+//! a `Load` gives up the variables that it made; or it makes room first, as a `Requires` does before it registers its
+//! clause. `Saturate` alone does neither: what it forced follows from the clauses, and stays.
 ghost use Rattle.std.specs.Prelude.{◌≡◌, map, length, vec_len, IfOk, IfErr, OnErr};
 ghost use Rattle.typed_ids.specs.declared.error.StoreError.TheVariants.{OutOfMemory};
 ghost use Rattle.decisions.specs.Trail.{val};
@@ -50,7 +51,7 @@ use solver_cache::SolverCache;
 use std::marker::Model;
 use typed_ids::{DisjunctionId, StoreError, VariableId};
 use variables::VariableMap;
-use watch_map::ClauseList;
+use watch_map::{ClauseList, Marks};
 
 /// A clause store over the packages of a provider.
 ///
@@ -69,6 +70,8 @@ pub struct ClauseStore<D: DependencyProvider> {
     clauses: ClauseList<D::NameId, D::Alloc>,
     queue: DecideQueue<D>,
     trail: DecisionTracker<D::Alloc>,
+    /// From where on the trail a `Saturate` goes on. No part of the abstract store.
+    marks: Marks<D::Alloc>,
     /// For each name the variables of which at most one may be true.
     trackers: NameTrackers<D::NameId, D::Alloc>,
     /// How active each package was. The queue knows each name with a score as hot.
@@ -79,7 +82,7 @@ pub struct ClauseStore<D: DependencyProvider> {
 impl<D: DependencyProvider> Model for ClauseStore<D> {
     ghost use Rattle.resolvo_store.specs.Asked.{asked_of};
     ghost use Rattle.resolvo_store.specs.Store.{Kept, store_of};
-    ghost use Rattle.resolvo_store.specs.Lists.{lists_kept, disjunctions_kept, IsConsistent};
+    ghost use Rattle.resolvo_store.specs.Lists.{lists_kept, disjunctions_kept, IsInOrder};
     ghost use Rattle.solver_cache.specs.Functions.{gathered};
 
     ghost Value = { Kept D D.NameId D.SolvableId D.NameId.Scores };
@@ -101,7 +104,8 @@ impl<D: DependencyProvider> Model for ClauseStore<D> {
       asked = asked_of a.queue a.trail;
     } };
 
-    ghost invariant = { λ a. IsConsistent D.NameId.Set.has (store_of (gathered D.NameId.eq D.SolvableId.eq D.NameId.Slots.is_too_large D.SolvableId.Slots.is_too_large
+    ghost invariant = { λ a. IsInOrder D.NameId.Set.has
+        (store_of (gathered D.NameId.eq D.SolvableId.eq D.NameId.Slots.is_too_large D.SolvableId.Slots.is_too_large
         D.SolvableId.Set.is_too_large D.NameId.are_many D.universe D.answers) D.NameId.Scores.value_at (record {
           provider = a.cache.provider;
           origins = a.variables;
@@ -117,7 +121,7 @@ impl<D: DependencyProvider> Model for ClauseStore<D> {
           trackers = a.trackers;
           scores = a.scores.map;
           asked = asked_of a.queue a.trail;
-        })) a.loaded a.disjunctions a.cache a.queue a.trail };
+        })) a.loaded a.disjunctions a.cache a.queue a.trail a.marks };
 }
 
 impl<D: DependencyProvider + Drop> ClauseStore<D> {
@@ -148,6 +152,7 @@ impl<D: DependencyProvider + Drop> ClauseStore<D> {
             clauses,
             queue: DecideQueue::new(alloc),
             trail: DecisionTracker::new(alloc),
+            marks: Marks::new(alloc),
             trackers: NameTrackers::new(alloc),
             scores: Scores::new(alloc),
             alloc,
@@ -255,9 +260,9 @@ impl<D: DependencyProvider + Drop> ClauseStore<D> {
         }
     }
 
-    /// Obeys commands in turn, and answers each. The room for the replies comes first: where that is refused, no command
-    /// was obeyed. Any later refusal is a reply, and the commands after it are obeyed. A refused command changes nothing,
-    /// but for a `Saturate`, which keeps what it forced.
+    /// Obeys commands in turn, and answers each. The room for the replies comes first: where that is refused, no
+    /// command was obeyed. Any later refusal is a reply, and the commands after it are obeyed. A refused command
+    /// changes nothing, but for a `Saturate`, which keeps what it forced.
     pub fn run(
         &mut self,
         commands: &[Command<D::NameId, D::SolvableId, D::Alloc>],

@@ -28,11 +28,13 @@ module _ (values : ℕ → Bool) where
       any_append (is_true values) (map Pos vs) (flat_map (map Pos) lists)
       ∙ ap (λ b. b || list_any (is_true values) (flat_map (map Pos) lists)) (any_positive vs) ∙ ap (λ b. list_any values vs || b) (any_listed lists)
 
-  requires_true : (k : Kept) (parent : ℕ) (d : Option ℕ) (r : Requirement) (N : Type 0) → (let c : Clause N = Requires parent d r in list_any (is_true values) (literals_of k c))
+  requires_true : (k : Kept) (parent : ℕ) (d : Option ℕ) (r : Requirement) (N : Type 0) →
+      (let c : Clause N = Requires parent d r in list_any (is_true values) (literals_of k c))
       ≡ (not (values parent) || (list_any (is_true values) (condition_literals k d) || list_any (list_any values) (k.lists r)))
   requires_true k parent d r N =
       ap (λ b. not (values parent) || b)
-      (any_append (is_true values) (condition_literals k d) (flat_map (map Pos) (k.lists r)) ∙ ap (λ b. list_any (is_true values) (condition_literals k d) || b) (any_listed (k.lists r)))
+      (any_append (is_true values) (condition_literals k d) (flat_map (map Pos) (k.lists r)) ∙
+      ap (λ b. list_any (is_true values) (condition_literals k d) || b) (any_listed (k.lists r)))
 
 -- its literals are those of the clause
 pub requires_says : {N : Type 0} (k : Kept) (clause : Clause N) → RequiresSays k clause (literals_of k clause)

@@ -23,7 +23,8 @@ staying-append : (choice : ℕ → Option Lit) (xs ys : List ℕ) → staying ch
 staying-append choice [] ys = refl
 staying-append choice (x ∷ xs) ys = go (choice x) (staying-append choice xs ys)
   where
-    go : (o : Option Lit) → staying choice (xs ++ ys) ≡ staying choice xs ++ staying choice ys → with_kept o x (staying choice (xs ++ ys)) ≡ with_kept o x (staying choice xs) ++ staying choice ys
+    go : (o : Option Lit) → staying choice (xs ++ ys) ≡ staying choice xs ++ staying choice ys →
+        with_kept o x (staying choice (xs ++ ys)) ≡ with_kept o x (staying choice xs) ++ staying choice ys
     go None ih = ap (λ zs. x ∷ zs) ih
     go (Some to) ih = ih
 
@@ -70,13 +71,15 @@ module _ (literal : Lit) (choice : ℕ → Option Lit) (map0 : WatchLists) (watc
       -- what the clause watches is what it watched at the start
       pub still : watched_by watches clause ≡ watched_by watches0 clause
       still =
-          let here : is_clause_in clause (remaining (Some at) map watches) ≡ true = ap (λ b. b || is_clause_in clause (rest at map watches)) (eqb_self clause) in
+          let here : is_clause_in clause (remaining (Some at) map watches) ≡ true =
+          ap (λ b. b || is_clause_in clause (rest at map watches)) (eqb_self clause) in
           w.unmet clause here
 
       pub is_beginning : IsBeginning met (met0 ++ watchers map0 watches0 literal)
       is_beginning = (
         clause ∷ rest at map watches,
-        ap (λ xs. met0 ++ xs) w.in_order ∙ (sym (append_assoc met0 w.visited (clause ∷ rest at map watches)) ∙ ap (λ xs. xs ++ clause ∷ rest at map watches) (sym w.written)),
+        ap (λ xs. met0 ++ xs) w.in_order ∙ (sym (append_assoc met0 w.visited (clause ∷ rest at map watches)) ∙
+            ap (λ xs. xs ++ clause ∷ rest at map watches) (sym w.written)),
       )
 
       module _ (met' : List ℕ) (pushed : met' ≡ met ++ clause ∷ []) where
@@ -89,7 +92,8 @@ module _ (literal : Lit) (choice : ℕ → Option Lit) (map0 : WatchLists) (watc
         pub is_beginning_after : IsBeginning met' (met0 ++ watchers map0 watches0 literal)
         is_beginning_after = (
           rest at map watches,
-          ap (λ xs. met0 ++ xs) in_order ∙ (sym (append_assoc met0 (w.visited ++ clause ∷ []) (rest at map watches)) ∙ ap (λ xs. xs ++ rest at map watches) (sym written)),
+          ap (λ xs. met0 ++ xs) in_order ∙ (sym (append_assoc met0 (w.visited ++ clause ∷ []) (rest at map watches)) ∙
+              ap (λ xs. xs ++ rest at map watches) (sym written)),
         )
 
         in_list : (c : ℕ) → is_clause_in c (rest at map watches) ≡ true → is_clause_in c (remaining (Some at) map watches) ≡ true
@@ -110,7 +114,8 @@ module _ (literal : Lit) (choice : ℕ → Option Lit) (map0 : WatchLists) (watc
           unmet = λ c h. w.unmet c (in_list c (subst (λ xs. is_clause_in c xs ≡ true) list h));
         }
 
-        pub moves : (next : Option Position) (to : Lit) (map' : WatchLists) (watches' : Watches) → choice clause ≡ Some to → Moves at to map watches map' watches' →
+        pub moves : (next : Option Position) (to : Lit) (map' : WatchLists) (watches' : Watches) →
+            choice clause ≡ Some to → Moves at to map watches map' watches' →
             remaining next map' watches' ≡ rest at map watches → IfSome next (StandsBehind (passed at map watches) (literal_of at) map' watches') →
             Walked literal choice map0 watches0 met0 next map' watches' met'
         moves next to map' watches' some moved list stands = record {

@@ -4,7 +4,8 @@ use Rattle.typed_ids.specs.declared.version_set_id.VersionSetId.{VersionSetId}
 use Rattle.providers.specs.declared.requirement.Requirement.TheVariants.{Single}
 use Rattle.decisions.specs.Literals.{Lit, Pos, Neg, Values}
 use Rattle.clauses.specs.declared.clause.Clause.{Clause}
-use Rattle.clauses.specs.declared.clause.Clause.TheVariants.{Requires, Constrains, ConstrainsExcluded, ConstrainsParent, Lock, Learnt}
+use Rattle.clauses.specs.declared.clause.Clause.TheVariants.{Requires, Constrains, ConstrainsExcluded}
+use Rattle.clauses.specs.declared.clause.Clause.TheVariants.{ConstrainsParent, Lock, Learnt}
 use Rattle.clauses.specs.Clauses.{Kept, literals_of, first_watches, is_conflict, next_unwatched}
 
 -- a learnt clause, lists of every requirement, and a disjunction
@@ -52,7 +53,10 @@ pub record Examples : Type 0 where
   pub lock_literals : literals_of {N = ℕ} shelf (Lock 1 2) ≡ Neg 2 ∷ Neg 0 ∷ []
   pub lock_watches : Is [] (Lock 1 2) (Some (Neg 0 ∷ Neg 2 ∷ [])) false
   pub learnt_watches : Is [] (Learnt 0) (Some (Pos 1 ∷ Pos 3 ∷ [])) false
-  pub first_replaced : next_unwatched {N = ℕ} shelf (given ((1, false) ∷ [])) (Learnt 0) (Pos 1 ∷ Neg 2 ∷ []) 0 ≡ Some (Pos 3)
-  pub second_replaced : next_unwatched {N = ℕ} shelf (given ((2, true) ∷ [])) (Learnt 0) (Pos 1 ∷ Neg 2 ∷ []) 1 ≡ Some (Pos 3)
-  pub none_left : next_unwatched {N = ℕ} shelf (given ((2, true) ∷ (3, false) ∷ [])) (Learnt 0) (Pos 1 ∷ Neg 2 ∷ []) 1 ≡ None
+  pub first_replaced : next_unwatched {N = ℕ} shelf (given ((1, false) ∷ [])) (Learnt 0)
+      (Pos 1 ∷ Neg 2 ∷ []) 0 ≡ Some (Pos 3)
+  pub second_replaced : next_unwatched {N = ℕ} shelf (given ((2, true) ∷ [])) (Learnt 0)
+      (Pos 1 ∷ Neg 2 ∷ []) 1 ≡ Some (Pos 3)
+  pub none_left : next_unwatched {N = ℕ} shelf (given ((2, true) ∷ (3, false) ∷ [])) (Learnt 0)
+      (Pos 1 ∷ Neg 2 ∷ []) 1 ≡ None
   pub binary_has_none : next_unwatched {N = ℕ} shelf (given []) (Constrains 1 2 set) (Neg 1 ∷ Neg 2 ∷ []) 0 ≡ None

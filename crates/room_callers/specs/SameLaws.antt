@@ -24,16 +24,20 @@ operators_symm And Or = refl
 operators_symm Or And = refl
 operators_symm Or Or = refl
 
-operators_trans : (o p q : LogicalOperator) → same_operator o p ≡ true → same_operator p q ≡ true → same_operator o q ≡ true
+operators_trans : (o p q : LogicalOperator) → same_operator o p ≡ true → same_operator p q ≡ true →
+    same_operator o q ≡ true
 operators_trans And And q h k = k
 operators_trans Or Or q h k = k
 operators_trans And Or q h k = absurd (false≢true h)
 operators_trans Or And q h k = absurd (false≢true h)
 
-same_parts : IsPartialEquivalence (λ (x y : LogicalOperator × (ℕ × ℕ)). same_operator x.0 y.0 && ((x.1.0 == y.1.0) && (x.1.1 == y.1.1)))
+same_parts : IsPartialEquivalence (λ (x y : LogicalOperator × (ℕ × ℕ)).
+    same_operator x.0 y.0 && ((x.1.0 == y.1.0) && (x.1.1 == y.1.1)))
 same_parts =
-    and_per (on_per (λ (x : LogicalOperator × (ℕ × ℕ)). x.0) (record { symm = operators_symm; trans = operators_trans }))
-    (and_per (on_per (λ (x : LogicalOperator × (ℕ × ℕ)). x.1.0) same_number) (on_per (λ (x : LogicalOperator × (ℕ × ℕ)). x.1.1) same_number))
+    and_per (on_per (λ (x : LogicalOperator × (ℕ × ℕ)). x.0)
+    (record { symm = operators_symm; trans = operators_trans }))
+    (and_per (on_per (λ (x : LogicalOperator × (ℕ × ℕ)). x.1.0) same_number)
+    (on_per (λ (x : LogicalOperator × (ℕ × ℕ)). x.1.1) same_number))
 
 conditions_symm : (a b : Condition) → same_condition a b ≡ same_condition b a
 conditions_symm (Requirement v) (Requirement w) = same_number.symm v.0 w.0
@@ -41,9 +45,11 @@ conditions_symm (Binary o a b) (Binary p c d) = same_parts.symm (o, (a, b)) (p, 
 conditions_symm (Requirement v) (Binary p c d) = refl
 conditions_symm (Binary o a b) (Requirement w) = refl
 
-conditions_trans : (a b c : Condition) → same_condition a b ≡ true → same_condition b c ≡ true → same_condition a c ≡ true
+conditions_trans : (a b c : Condition) → same_condition a b ≡ true → same_condition b c ≡ true →
+    same_condition a c ≡ true
 conditions_trans (Requirement u) (Requirement v) (Requirement w) h k = same_number.trans u.0 v.0 w.0 h k
-conditions_trans (Binary o a b) (Binary p c d) (Binary q e f) h k = same_parts.trans (o, (a, b)) (p, (c, d)) (q, (e, f)) h k
+conditions_trans (Binary o a b) (Binary p c d) (Binary q e f) h k =
+    same_parts.trans (o, (a, b)) (p, (c, d)) (q, (e, f)) h k
 conditions_trans (Requirement u) (Binary p c d) z h k = absurd (false≢true h)
 conditions_trans (Binary o a b) (Requirement v) z h k = absurd (false≢true h)
 conditions_trans (Requirement u) (Requirement v) (Binary q e f) h k = absurd (false≢true k)

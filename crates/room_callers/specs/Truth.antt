@@ -16,5 +16,6 @@ is_true values (Neg v) = not (values v)
 abbrev pub RequiresSays : {N : Type 0} → Kept → Clause N → List Lit → Type 0
 RequiresSays k (Requires parent d r) literals =
     (values : ℕ → Bool) → list_any (is_true values) literals
-    ≡ (not (values parent) || (list_any (is_true values) (condition_literals k d) || list_any (list_any values) (k.lists r)))
+    ≡ (not (values parent) ||
+    (list_any (is_true values) (condition_literals k d) || list_any (list_any values) (k.lists r)))
 RequiresSays k _ literals = ⊤

@@ -16,8 +16,8 @@ pub fn first_watches_are_two<N>()
     ensures { FirstWatchesAreTwo N }
 {}
 
-/// The literals of a clause. If it requires: whatever truth values the variables have, one of the literals is true exactly
-/// if the parent is false, a literal of the condition is true, or a candidate is true.
+/// The literals of a clause. If it requires: whatever truth values the variables have, one of the literals is true
+/// exactly if the parent is false, a literal of the condition is true, or a candidate is true.
 pub fn literals_of_required<N: Copy, A: Allocator + Copy>(
     clause: &Clause<N>,
     alloc: A,
@@ -25,7 +25,8 @@ pub fn literals_of_required<N: Copy, A: Allocator + Copy>(
     lists: &RequirementMap<Vec<Vec<VariableId, A>, A>, A>,
     disjunctions: &Arena<DisjunctionId, Disjunction<A>, A>,
 ) -> Result<Vec<Literal, A>, StoreError>
-    ensures { IfOk result (λ literals. RequiresSays (kept_in learnt.now lists.now disjunctions.now) clause.now literals.items) }
+    ensures { IfOk result (λ literals. RequiresSays
+        (kept_in learnt.now lists.now disjunctions.now) clause.now literals.items) }
 {
     clause.literals(alloc, learnt, lists, disjunctions)
 }

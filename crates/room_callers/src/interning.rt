@@ -55,8 +55,8 @@ where
 
 // Each call has a function of its own, since a proof spells out each goal with all that was called before it.
 
-/// The first value comes: its id stands for the first equal value, and is the one that the second will get. The others may
-/// still come.
+/// The first value comes: its id stands for the first equal value, and is the one that the second will get. The others
+/// may still come.
 fn first_comes<VS, N, A, K, L>(
     pool: &mut Pool<VS, N, A>,
     first: K::Value,

@@ -1,13 +1,14 @@
 //! Callers that know nothing but contracts, and are proved from these alone.
 //!
-//! Of the storage of ids (`any_set`, `arena_callers`, `few_names`, `mapping_callers`), generic in the ids; of a pool (`interning`,
-//! generic in what it keeps: `kinds`, `each_kind`), of maps by requirements (`map_callers`) and of conditions (`met`). `room_tests` runs
-//! those, and makes the pool's calls itself.
+//! Of the storage of ids (`any_set`, `arena_callers`, `few_names`, `mapping_callers`), generic in the ids; of a pool
+//! (`interning`, generic in what it keeps: `kinds`, `each_kind`), of maps by requirements (`map_callers`) and of
+//! conditions (`met`). `room_tests` runs those, and makes the pool's calls itself.
 //!
-//! Others conclude laws: of the trail's floor, from the definitions of its calls, which are the contracts of `DecisionTracker`
-//! (`trail_laws`); of what a clause that requires says, from the contract of `Clause::literals`, and of what a new clause watches
-//! (`clause_laws`); of watch lists, with a walk over one that stands however they are kept (`watch_laws`, `walks`); and of variables
-//! that are tracked together with all their clauses (`tracked`). `computed` is what the definitions compute.
+//! Others conclude laws: of the trail's floor, from the definitions of its calls, which are the contracts of
+//! `DecisionTracker` (`trail_laws`); of what a clause that requires says, from the contract of `Clause::literals`, and
+//! of what a new clause watches (`clause_laws`); of watch lists, with a walk over one that stands however they are kept
+//! (`watch_laws`, `walks`); and of variables that are tracked together with all their clauses (`tracked`). `computed`
+//! is what the definitions compute.
 #![tactic(auto)]
 
 mod any_set;

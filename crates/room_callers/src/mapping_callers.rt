@@ -1,5 +1,6 @@
 //! Callers of maps that know nothing of the ids but that they are dense, and nothing of the maps but their contracts.
-ghost use Rattle.std.specs.Prelude.{◌≡◌, ◌≢◌, ◌+◌, ◌<◌, ◌≤◌, ◌^◌, ◌-◌, ℕ, length, min, is_some, option_map, unwrap_or, Some, IfSome, IfNone, OnOk, OnErr, IsSomeAnd};
+ghost use Rattle.std.specs.Prelude.{◌≡◌, ◌≢◌, ◌+◌, ◌<◌, ◌≤◌, ◌^◌, ◌-◌, ℕ, length, min, is_some};
+ghost use Rattle.std.specs.Prelude.{option_map, unwrap_or, Some, IfSome, IfNone, OnOk, OnErr, IsSomeAnd};
 ghost use Rattle.std.specs.Option.{ForSome};
 ghost use Rattle.id_storage.specs.Mapping.{value_at};
 ghost use Rattle.typed_ids.specs.TotalMaps.{IsUpdate};
@@ -22,7 +23,8 @@ pub fn find_at_least<TId: DenseIndex>(mapping: &Mapping<TId, u32>, least: u32) -
 
 /// Puts zero in the place of an id's value, if it has one.
 pub fn clear<TId: DenseIndex>(mapping: &mut Mapping<TId, u32>, id: TId)
-    ensures { IsUpdate (value_at mapping.old) (TId.index_of id) (option_map (λ _. 0) (value_at mapping.old (TId.index_of id))) (value_at mapping.new) }
+    ensures { IsUpdate (value_at mapping.old) (TId.index_of id)
+        (option_map (λ _. 0) (value_at mapping.old (TId.index_of id))) (value_at mapping.new) }
 {
     if let Some(value) = mapping.get_mut(id) {
         *value = 0;
@@ -31,7 +33,8 @@ pub fn clear<TId: DenseIndex>(mapping: &mut Mapping<TId, u32>, id: TId)
 
 /// Counts an id once more, from 0 on.
 pub fn count_up<TId: DenseIndex>(mapping: &mut Mapping<TId, u32>, id: TId) -> Result<(), StoreError>
-    ensures ok { OnOk result (value_at mapping.new (TId.index_of id) ≡ Some (min (unwrap_or (value_at mapping.old (TId.index_of id)) 0 + 1) (2 ^ 32 - 1))) }
+    ensures ok { OnOk result (value_at mapping.new (TId.index_of id) ≡
+        Some (min (unwrap_or (value_at mapping.old (TId.index_of id)) 0 + 1) (2 ^ 32 - 1))) }
     ensures err { OnErr result (mapping.new ≡ mapping.old) }
 {
     let times = mapping.get_or_insert_with(

@@ -16,7 +16,8 @@ pub fn is_met<I: Interner, A: Allocator + Copy>(
     sets: &[bool],
 ) -> Result<bool, StoreError>
     requires { (I.universe interner.now).knows_condition condition ≡ true }
-    ensures { (f : Formula) → Denotes (I.universe interner.now) condition f → IfOk result (λ met. met ≡ formula_holds (holds_in sets.now) f) }
+    ensures { (f : Formula) → Denotes (I.universe interner.now) condition f →
+        IfOk result (λ met. met ≡ formula_holds (holds_in sets.now) f) }
 {
     let lists = convert_conditions_to_dnf(alloc, condition, interner)?;
     let is_met = form_holds(&lists, sets);

@@ -1,7 +1,8 @@
 //! Variables of which at most one may be true, with all clauses that say so.
 ghost use Rattle.std.specs.Prelude.{◌≡◌, ◌↔◌, ◌*◌, Bool, length, not, false, IfOk, OnOk, IfErr, OnErr};
 ghost use Rattle.typed_ids.specs.declared.error.StoreError.TheVariants.{OutOfMemory};
-ghost use Rattle.at_most_once.specs.AtMostOne.{empty, is_tracked, needs_helper, with_variable, IsAllowed, CanBeMet, AtMostOne, IsLeastPower};
+ghost use Rattle.at_most_once.specs.AtMostOne.{empty, is_tracked, needs_helper, with_variable};
+ghost use Rattle.at_most_once.specs.AtMostOne.{IsAllowed, CanBeMet, AtMostOne, IsLeastPower};
 
 use at_most_once::AtMostOnceTracker;
 use std::alloc::Allocator;
@@ -57,10 +58,11 @@ impl<V: Eq + Hash + Copy, A: Allocator + Copy> TrackedVariables<V, A> {
         self.tracker.add(variable, helper, &mut self.clauses)
     }
 
-    /// The clauses. They can be met by choosing helpers exactly when at most one variable is true; n variables have n * k
-    /// clauses, k the least number with n <= 2^k.
+    /// The clauses. They can be met by choosing helpers exactly when at most one variable is true; n variables have n *
+    /// k clauses, k the least number with n <= 2^k.
     pub fn clauses(&self) -> &[(V, V, bool)]
-        ensures encode { (x : V → Bool) → CanBeMet x self.now.0.variables result.now ↔ AtMostOne x self.now.0.variables }
+        ensures encode { (x : V → Bool) → CanBeMet x self.now.0.variables result.now ↔
+            AtMostOne x self.now.0.variables }
         ensures count { length result.now ≡ length self.now.0.variables * length self.now.0.helpers }
         ensures least { IsLeastPower (length self.now.0.helpers) (length self.now.0.variables) }
     {

@@ -22,9 +22,9 @@ pub trait Rewatch {
         ensures { result ≡ choice self.now clause_id };
 }
 
-/// Goes through the clauses that watch the literal, and lets each keep the watch or move it. Writes down the clauses that
-/// it meets: each that watched the literal at the start, once and in order. Refused for memory it stops where it is, and
-/// the lists are exact all the same.
+/// Goes through the clauses that watch the literal, and lets each keep the watch or move it. Writes down the clauses
+/// that it meets: each that watched the literal at the start, once and in order. Refused for memory it stops where it
+/// is, and the lists are exact all the same.
 pub fn walk<A: Allocator + Copy, R: Rewatch>(
     map: &mut WatchMap<A>,
     watches: &mut [Option<WatchedLiterals>],
@@ -33,10 +33,12 @@ pub fn walk<A: Allocator + Copy, R: Rewatch>(
     met: &mut Vec<ClauseId, A>,
 ) -> Result<(), StoreError>
     requires watched { AreWatched map.old watches.old }
-    requires others { (clause : ℕ) → ForSome (R.choice rewatch.now clause) (λ to. is_literal_in to (watched_by watches.old clause) ≡ false) }
+    requires others { (clause : ℕ) →
+        ForSome (R.choice rewatch.now clause) (λ to. is_literal_in to (watched_by watches.old clause) ≡ false) }
     ensures watched { AreWatched map.new watches.new }
     ensures met { OnOk result (met.new.items ≡ met.old.items ++ watchers map.old watches.old literal) }
-    ensures staying { OnOk result (watchers map.new watches.new literal ≡ staying (R.choice rewatch.now) (watchers map.old watches.old literal)) }
+    ensures staying { OnOk result (watchers map.new watches.new literal ≡
+        staying (R.choice rewatch.now) (watchers map.old watches.old literal)) }
     ensures err { OnErr result (IsBeginning met.new.items (met.old.items ++ watchers map.old watches.old literal)) }
     ensures memory { IfErr result (λ e. e ≡ OutOfMemory) }
 {

@@ -1,5 +1,6 @@
 //! The laws for callers of watch lists.
-ghost use Rattle.watch_map.specs.Laws.{SameRecordsBelong, RecordsGrow, NewClausesJoin, RecordsSkip, RoomIsForFewer, CursorsDivide, ClausesAreMetOnce, CursorsOutliveRoom};
+ghost use Rattle.watch_map.specs.Laws.{SameRecordsBelong, RecordsGrow, NewClausesJoin, RecordsSkip};
+ghost use Rattle.watch_map.specs.Laws.{RoomIsForFewer, CursorsDivide, ClausesAreMetOnce, CursorsOutliveRoom};
 
 /// Records of the same clauses show the same lists; the record of a new clause comes behind the others, whose lists it
 /// joins, and a clause without watches changes none.

@@ -12,9 +12,10 @@ fn values_are_kept_by_ids(rt: HostRuntime) -> Result<(), Fail> {
     sees(three_values::<SolvableId, Global>(rt.alloc()), wanted)
 }
 
-/// What is seen of an arena of three values, where each part is seen of what the one before it left: whether it was empty;
-/// whether the pairs are those of the values; how many there are, and their sum; the next one that is added, and the sum
-/// then; the sum once the second is replaced; and how many there are once the arena is cleared, and then given a value.
+/// What is seen of an arena of three values, where each part is seen of what the one before it left: whether it was
+/// empty; whether the pairs are those of the values; how many there are, and their sum; the next one that is added, and
+/// the sum then; the sum once the second is replaced; and how many there are once the arena is cleared, and then given
+/// a value.
 type ThreeValues = (
     bool,
     bool,

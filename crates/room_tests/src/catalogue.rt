@@ -1,5 +1,5 @@
-//! The packages of a catalogue: the normal forms of its conditions, and the texts of its requirements, of its solvables together, and of
-//! helper variables.
+//! The packages of a catalogue: the normal forms of its conditions, and the texts of its requirements, of its solvables
+//! together, and of helper variables.
 use crate::condition_calls::normal_forms::{FORMS, forms, met_by_each};
 use crate::condition_calls::refused::each_is_refused;
 use crate::texts::{shows_key, shows_requirements, shows_solvables};
@@ -11,10 +11,26 @@ use std::test::Fail;
 use test_support::sees;
 use typed_ids::{SolvableId, SolvableIdOrRoot, VersionSetId};
 
-/// The version sets `a`, `b` and `c`, a union of the first and the last, and conditions over them: 0 to 2 are the sets; 3 is
-/// `a and b`, 4 is `c and a`, 5 is `3 or 4`; 6 is `a or b`, 7 is `c or a`, 8 is `6 and 7`, 9 is `6 and c`.
-const CATALOGUE: &str =
-    "package a 1 2 3\nset a 1 2\nset a 2 3\nset a 3 4\nunion 0 2\ncondition set 0\ncondition set 1\ncondition set 2\ncondition and 0 1\ncondition and 2 0\ncondition or 3 4\ncondition or 0 1\ncondition or 2 0\ncondition and 6 7\ncondition and 6 2\nbegin\n";
+/// The version sets `a`, `b` and `c`, a union of the first and the last, and conditions over them: 0 to 2 are the sets;
+/// 3 is `a and b`, 4 is `c and a`, 5 is `3 or 4`; 6 is `a or b`, 7 is `c or a`, 8 is `6 and 7`, 9 is `6 and c`.
+const CATALOGUE: &str = "\
+package a 1 2 3
+set a 1 2
+set a 2 3
+set a 3 4
+union 0 2
+condition set 0
+condition set 1
+condition set 2
+condition and 0 1
+condition and 2 0
+condition or 3 4
+condition or 0 1
+condition or 2 0
+condition and 6 7
+condition and 6 2
+begin
+";
 
 #[test]
 fn conditions_have_normal_forms_and_requirements_texts(rt: HostRuntime) -> Result<(), Fail> {
@@ -28,8 +44,8 @@ fn conditions_have_normal_forms_and_requirements_texts(rt: HostRuntime) -> Resul
     }
 }
 
-/// The packages' conditions and requirements are as wanted, and so is the text of the second solvable, by itself and together with the
-/// first and itself.
+/// The packages' conditions and requirements are as wanted, and so is the text of the second solvable, by itself and
+/// together with the first and itself.
 fn have_texts(alloc: Global, packages: &Packages) -> Result<(), Fail> {
     are_wanted(alloc, alloc, packages)?;
     let (first, second) = (SolvableId::from_raw(0), SolvableId::from_raw(1));

@@ -1,5 +1,5 @@
-//! The maps and the sets that ids choose for themselves, and the answers that are kept by them: the same calls for each kind
-//! of ids, in ample memory.
+//! The maps and the sets that ids choose for themselves, and the answers that are kept by them: the same calls for each
+//! kind of ids, in ample memory.
 ghost use Rattle.std.specs.Prelude.{◌≡◌, ◌≢◌, ◌/◌};
 
 use id_maps::{IdMap, IdSet, Slot, SolverId};
@@ -10,8 +10,8 @@ use std::test::Fail;
 use test_support::sees;
 use typed_ids::{CandidatesId, NameId, NameTag, SparseId, StoreError};
 
-/// What a map to scores reads at three keys, and as the largest value: as it is made, once it is written at the first and
-/// the last of them, and once its values are halved.
+/// What a map to scores reads at three keys, and as the largest value: as it is made, once it is written at the first
+/// and the last of them, and once its values are halved.
 type Scores = [[u64; 4]; 3];
 
 const SCORES: Scores = [[0, 0, 0, 0], [9, 0, 4, 9], [4, 0, 2, 4]];
@@ -35,8 +35,8 @@ type Kept = [[Option<u16>; 2]; 3];
 
 const KEPT: Kept = [[None, None], [Some(30), None], [Some(30), Some(40)]];
 
-/// What the ids' map to scores answers at three of them, their map to slots at two, and their set of a key and another one;
-/// and the answers that are kept by these two.
+/// What the ids' map to scores answers at three of them, their map to slots at two, and their set of a key and another
+/// one; and the answers that are kept by these two.
 type Chosen = (Scores, Slots, SetAnswers, Kept);
 
 fn chosen<K: SolverId<A>, A: Allocator + Copy>(

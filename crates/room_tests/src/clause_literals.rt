@@ -23,8 +23,8 @@ fn first_other_of_new<A: Allocator + Copy>(alloc: A) -> Result<Option<usize>, St
     first
 }
 
-/// The first of these clauses that has other literals. Two have their own alone, two are learnt, of which the second isn't
-/// there, and two require under a condition, of which the second's requirement isn't loaded.
+/// The first of these clauses that has other literals. Two have their own alone, two are learnt, of which the second
+/// isn't there, and two require under a condition, of which the second's requirement isn't loaded.
 fn first_other_of<A: Allocator + Copy>(
     alloc: A,
     shelf: &mut Shelf<A>,

@@ -87,8 +87,8 @@ fn first_misplaced<A: Allocator + Copy>(
     Ok(None)
 }
 
-/// What a new map answers to a value, and what it then keeps at its key; and what a new set answers to the key, and whether
-/// it then has it.
+/// What a new map answers to a value, and what it then keeps at its key; and what a new set answers to the key, and
+/// whether it then has it.
 type Far = (
     (Result<(), StoreError>, u64),
     (Result<bool, StoreError>, bool),

@@ -1,4 +1,5 @@
-//! Calls that take no memory, of all parts: what they need is set up, then the next request is to be refused, and none may come.
+//! Calls that take no memory, of all parts: what they need is set up, then the next request is to be refused, and none
+//! may come.
 //!
 //! What has no allocator at hand isn't called. Of a queue and of a store it is the program `trials` that tells.
 mod by_ids;

@@ -1,21 +1,23 @@
 //! Tests of what the store stands on, by calls of the rooms.
 //!
 //! Of the ids and their storage: `arena`, `chosen`, `far`, `ids`, `mapping`, `sets`, and where memory is refused
-//! `one_refusal`, `refused_defaults` and `refused_parts`. Of the pool, of requirements and of their maps: `pool`, `maps`, `noted`; of conditions:
-//! `condition_calls`; of texts: `catalogue`, `texts`, those of helper variables among them (`variables_shown`).
+//! `one_refusal`, `refused_defaults` and `refused_parts`. Of the pool, of requirements and of their maps: `pool`,
+//! `maps`, `noted`; of conditions: `condition_calls`; of texts: `catalogue`, `texts`, those of helper variables among
+//! them (`variables_shown`).
 //!
-//! Of clauses, and of what they are made of: `literals` and the `trail`; variables (`variable_keys`); the literals of clauses
-//! (`clause_literals`), and what new ones watch (`first_watches`); watch lists (`watch_lists`); and trackers of at most one variable
-//! (`trackers`).
+//! Of clauses, and of what they are made of: `literals` and the `trail`; variables (`variable_keys`); the literals of
+//! clauses (`clause_literals`), and what new ones watch (`first_watches`); watch lists (`watch_lists`); and trackers of
+//! at most one variable (`trackers`).
 //!
-//! What derives write, of which no clause speaks: `Debug` texts (`debug_texts`), the texts of errors (`error_texts`), and hashes
-//! (`hashes`). The program `trials` has the `Debug` texts of commands and of replies.
+//! What derives write, of which no clause speaks: `Debug` texts (`debug_texts`), the texts of errors (`error_texts`),
+//! and hashes (`hashes`). The program `trials` has the `Debug` texts of commands and of replies.
 //!
 //! Calls that take no memory are made once more where each request would be refused (`free_calls`).
 //!
-//! What a call answers is proved, and so is what a refusal leaves. So each call that takes memory is made once where there is enough, and
-//! what takes none is read to see what those did. The program `trials` refuses each request of all that a store makes, and
-//! it makes the calls of a queue and helper variables, and shows the texts of clauses with those of their variables.
+//! What a call answers is proved, and so is what a refusal leaves. So each call that takes memory is made once where
+//! there is enough, and what takes none is read to see what those did. The program `trials` refuses each request of all
+//! that a store makes, and it makes the calls of a queue and helper variables, and shows the texts of clauses with
+//! those of their variables.
 //!
 //! The callers that are run here are in `room_callers`.
 #![tactic(auto)]

@@ -106,7 +106,8 @@ fn index_of<TId: DenseIndex>(id: Option<TId>) -> Option<usize> {
     }
 }
 
-/// A map's numbers of values and slots once it has room for an id; and what putting a value there and exchanging it answer.
+/// A map's numbers of values and slots once it has room for an id; and what putting a value there and exchanging it
+/// answer.
 type Room = ((usize, usize), Option<u32>, Option<u32>);
 
 const ROOM: Room = ((1, 384), None, Some(1));
@@ -123,8 +124,8 @@ fn room<TId: DenseIndex>(mapping: &mut Mapping<TId, u32>, id: TId) -> Result<Roo
     Ok((made, answer, exchanged))
 }
 
-/// What a map keeps of a default that is counted up; and which value is lent then in place of another default, and whether
-/// that one is asked for.
+/// What a map keeps of a default that is counted up; and which value is lent then in place of another default, and
+/// whether that one is asked for.
 type Lent = (Option<u32>, (Option<u32>, bool));
 
 const LENT: Lent = (Some(5), (Some(5), false));

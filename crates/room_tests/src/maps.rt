@@ -114,8 +114,8 @@ fn refused<B: Allocator>(
 /// How many version sets a map is given a default at, so that it grows more than once.
 const SETS: u32 = 40;
 
-/// What is seen of a new map that is given a default at each version set: how many calls were refused; whether one of these
-/// asked for its default, or left an entry; and how many version sets then have their default.
+/// What is seen of a new map that is given a default at each version set: how many calls were refused; whether one of
+/// these asked for its default, or left an entry; and how many version sets then have their default.
 type Growth = (u32, bool, u32);
 
 /// What is seen where the request of this number is refused.

@@ -11,8 +11,8 @@ fn refuses_the_second_request_alone(rt: HostRuntime) -> Result<(), Fail> {
     is_same(seen, ([false, true, false], [true, false, true]))
 }
 
-/// Whether a request is to be refused: at first, and once one and two requests of three were made, of which the second is to
-/// be refused; and which of the three were granted.
+/// Whether a request is to be refused: at first, and once one and two requests of three were made, of which the second
+/// is to be refused; and which of the three were granted.
 fn requests<B: Allocator>(heap: &Refusing<B>) -> ([bool; 3], [bool; 3]) {
     let at_first = heap.is_armed();
     heap.arm(2);

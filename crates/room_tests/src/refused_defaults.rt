@@ -25,8 +25,8 @@ fn a_refused_default_is_not_asked_for(rt: HostRuntime) -> Result<(), Fail> {
 const SOLVABLES: u32 = 20;
 
 /// What is seen of a new map that is given a default at each solvable, with so many slots between them that it grows
-/// more than once: how many calls were refused; whether one of these asked for its default, left a value, or made slots;
-/// and how many solvables then have their default.
+/// more than once: how many calls were refused; whether one of these asked for its default, left a value, or made
+/// slots; and how many solvables then have their default.
 type Growth = (u32, bool, u32);
 
 /// What is seen where the request of this number after the map is made is refused.

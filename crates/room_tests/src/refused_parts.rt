@@ -1,7 +1,7 @@
 //! Parts to which memory is refused: each hands back what it was given, and is as it was.
 //!
-//! Of maps by requirements and of defaults `maps` and `refused_defaults` tell, of normal forms `condition_calls`, of the texts of variables and
-//! clauses the program `trials`.
+//! Of maps by requirements and of defaults `maps` and `refused_defaults` tell, of normal forms `condition_calls`, of
+//! the texts of variables and clauses the program `trials`.
 mod of_texts;
 
 use crate::listed::{Listed, listed};
@@ -29,8 +29,8 @@ fn refused_parts_are_as_they_were(rt: HostRuntime) -> Result<(), Fail> {
     each_addition_is_refused(rt.alloc())
 }
 
-/// What an arena and a mapping answer to a value where the next request is refused, and what they have then; and what they answer
-/// where it is given once more.
+/// What an arena and a mapping answer to a value where the next request is refused, and what they have then; and what
+/// they answer where it is given once more.
 type HandedBack = (
     (
         Result<u16, InsertError<u32>>,
@@ -96,8 +96,8 @@ fn moved_in<'h, B: Allocator>(
     Ok((refused, [from, to], [left, moved]))
 }
 
-/// Each request of five additions, and of what is foretold of a sixth, is refused in turn. None changed anything where it was refused,
-/// and the clauses are as wanted.
+/// Each request of five additions, and of what is foretold of a sixth, is refused in turn. None changed anything where
+/// it was refused, and the clauses are as wanted.
 fn each_addition_is_refused(alloc: Global) -> Result<(), Fail> {
     for number in 1..100u64 {
         let heap = Refusing::new(alloc);

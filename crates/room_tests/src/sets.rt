@@ -1,5 +1,5 @@
-//! The sets that may have the root, and frozen maps, with ample memory: none of their calls is refused for want of it, and
-//! the answers are as wanted. `chosen` has the sets that ids choose for themselves.
+//! The sets that may have the root, and frozen maps, with ample memory: none of their calls is refused for want of it,
+//! and the answers are as wanted. `chosen` has the sets that ids choose for themselves.
 ghost use Rattle.std.specs.Prelude.{◌≢◌};
 
 use crate::chosen::SET;

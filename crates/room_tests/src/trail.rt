@@ -16,8 +16,8 @@ fn a_variable_has_one_value(rt: HostRuntime) -> Result<(), Fail> {
     is_same(added_to_new(rt.alloc()), wanted)
 }
 
-/// What a trail answers to a decision, to the same once more, and to its opposite; and the index of the clause that gave
-/// this variable its value, and of another's.
+/// What a trail answers to a decision, to the same once more, and to its opposite; and the index of the clause that
+/// gave this variable its value, and of another's.
 type Added = ([Result<bool, AddFault>; 3], [Option<usize>; 2]);
 
 fn added_to_new<A: Allocator + Copy>(heap: A) -> Added {

@@ -1,4 +1,5 @@
-//! Variables of the root and of solvables. The program `trials` makes those of helpers, as a store does, and shows the texts of all.
+//! Variables of the root and of solvables. The program `trials` makes those of helpers, as a store does, and shows the
+//! texts of all.
 use id_maps::SolverId;
 use std::alloc::{Allocator, Global};
 use std::test::Fail;

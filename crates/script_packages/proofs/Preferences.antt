@@ -19,5 +19,6 @@ preference_apart : (all : List (Solvable ℕ)) (s t : ℕ) → preference all s 
 preference_apart all s t e =
     ranked s t Equal (sym (second_ties (nat_cmp (version_at all t) (version_at all s)) (nat_cmp s t) e))
 
-pub sorted_is-best_first : (all : List (Solvable ℕ)) (list sorted : List ℕ) → IsPermutation list sorted → IsSorted (preference all) sorted → sorted ≡ best_first all list
+pub sorted_is-best_first : (all : List (Solvable ℕ)) (list sorted : List ℕ) → IsPermutation list sorted →
+    IsSorted (preference all) sorted → sorted ≡ best_first all list
 sorted_is-best_first all = sorted_is-sort_by (preference all) (preference_total all) (preference_apart all)

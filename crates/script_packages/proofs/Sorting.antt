@@ -1,5 +1,7 @@
 -- Where only equal members tie, a list has one sorted order, and `sort_by` gives it.
-use Rattle.std.proofs.Common.{◌≡◌, ℕ, suc, ◌+◌, Bool, true, false, cond, List, [], ◌∷◌, refl, sym, ap, ap₂, ◌∙◌, arith, add-one, true≢false, Ordering, Less, Equal, Greater, is_lt, is_gt, sum_by, IsPermutation, IsSorted}
+use Rattle.std.proofs.Common.{◌≡◌, ℕ, suc, ◌+◌, Bool, true, false, cond, List, [], ◌∷◌, refl}
+use Rattle.std.proofs.Common.{sym, ap, ap₂, ◌∙◌, arith, add-one, true≢false, Ordering, Less}
+use Rattle.std.proofs.Common.{Equal, Greater, is_lt, is_gt, sum_by, IsPermutation, IsSorted}
 use Rattle.std.specs.Prelude.{⊤, if◌then◌else◌}
 use Rattle.std.specs.List.{AllByRecursion}
 use Rattle.std.specs.Cmp.{IsTotalOrder, IsStrictWeakOrder}

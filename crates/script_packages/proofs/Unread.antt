@@ -6,7 +6,8 @@ use Rattle.typed_ids.specs.declared.version_set_id.VersionSetId.{VersionSetId}
 use Rattle.script_text.specs.Numbers.{below}
 use Rattle.script_packages.specs.Ids.{number_32}
 use Rattle.script_packages.specs.Versions.{version_of, favored_place, each_is_version, are_versions}
-use Rattle.script_packages.specs.Listing.{Listing, has_span, listed_versions, with_version, with_versions, with_span_from, listed_sets, are_sets, with_some_union}
+use Rattle.script_packages.specs.Listing.{Listing, has_span, listed_versions, with_version, with_versions}
+use Rattle.script_packages.specs.Listing.{with_span_from, listed_sets, are_sets, with_some_union}
 
 no_versions : (l : Listing) (name : ℕ) (words : List (List ℕ)) → each_is_version words ≡ false → listed_versions l name words ≡ None
 no_versions l name [] h = let no : true ≡ false = h in cc

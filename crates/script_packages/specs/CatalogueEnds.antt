@@ -5,7 +5,8 @@ use Rattle.script_text.specs.declared.fault.ScriptFault.TheVariants as OfScript
 use Rattle.script_packages.specs.declared.packages.Packages.{Packages}
 use Rattle.script_text.specs.declared.statement.Line.{Line}
 use Rattle.script_text.specs.declared.statement.Line.TheVariants.{Skipped, Unreadable, Says}
-use Rattle.script_packages.specs.CatalogueLines.{Said, Lists, Bounds, Unites, Conditions, Strings, Begins, catalogue_line_of}
+use Rattle.script_packages.specs.CatalogueLines.{Said, Lists, Bounds, Unites, Conditions}
+use Rattle.script_packages.specs.CatalogueLines.{Strings, Begins, catalogue_line_of}
 use Rattle.script_packages.specs.Catalogues.{listed, AreListed, CanBeListed}
 use Rattle.script_packages.specs.Listing.{Listing, nothing_listed}
 

@@ -12,7 +12,9 @@ use Rattle.script_text.specs.declared.statement.Line.{Line}
 use Rattle.script_text.specs.declared.statement.Statement.{Statement}
 use Rattle.script_text.specs.declared.statement.Line.TheVariants.{Skipped, Unreadable, Says}
 use Rattle.script_packages.specs.declared.catalogue_line.CatalogueLine.{CatalogueLine}
-use Rattle.script_packages.specs.declared.catalogue_line.CatalogueLine.TheVariants.{Package, Set, Union, Condition as OfCondition, String as OfString, Begin}
+use Rattle.script_packages.specs.declared.catalogue_line.CatalogueLine.TheVariants.{Package, Set, Union}
+use Rattle.script_packages.specs.declared.catalogue_line.CatalogueLine.TheVariants.{Condition as OfCondition}
+use Rattle.script_packages.specs.declared.catalogue_line.CatalogueLine.TheVariants.{String as OfString, Begin}
 
 -- what a line says, with lists where the program has slices
 pub data Said : Type 0 where
@@ -45,7 +47,8 @@ package_of (name ∷ version ∷ versions) = Some (Lists name (version ∷ versi
 package_of _ = None
 
 abbrev pub set_of : List (List ℕ) → Option Said
-set_of (name ∷ low ∷ high ∷ []) = option_and_then (λ l. option_map (λ h. Bounds name l h) (number_32 high)) (number_32 low)
+set_of (name ∷ low ∷ high ∷ []) =
+    option_and_then (λ l. option_map (λ h. Bounds name l h) (number_32 high)) (number_32 low)
 set_of _ = None
 
 abbrev pub union_of : List (List ℕ) → Option Said

@@ -4,17 +4,20 @@ use Rattle.script_packages.specs.declared.packages.Packages.{Packages}
 use Rattle.script_packages.specs.CatalogueLines.{Said, Lists, Bounds, Unites, Conditions, Strings, Begins}
 use Rattle.package_pool.specs.Pool.{with_string}
 use Rattle.script_packages.specs.Versions.{are_versions}
-use Rattle.script_packages.specs.Listing.{Listing, listing_of, with_pool, named, name_number, with_versions, with_set, listed_sets, with_some_union, with_listed_condition, are_sets, is_listed, is_made_of_listed}
+use Rattle.script_packages.specs.Listing.{Listing, listing_of, with_pool, named, name_number}
+use Rattle.script_packages.specs.Listing.{with_versions, with_set, listed_sets, with_some_union}
+use Rattle.script_packages.specs.Listing.{with_listed_condition, are_sets, is_listed, is_made_of_listed}
 
 -- the packages are those that are listed
 abbrev pub AreListed : Packages → Listing → Type 0
 AreListed packages l = listing_of packages ≡ l
 
--- what is listed after an entry, unless it is the second package line of a name, or has a word that is no version, or two
--- with a star, or an id of nothing that is listed
+-- what is listed after an entry, unless it is the second package line of a name, or has a word that is no version, or
+-- two with a star, or an id of nothing that is listed
 abbrev pub listed : Listing → Said → Option Listing
 listed l (Lists name words) = with_versions (named l name) (name_number l name) words
-listed l (Bounds name low high) = Some (with_set (named l name) (name_number l name) (record { low = low; high = high }))
+listed l (Bounds name low high) =
+    Some (with_set (named l name) (name_number l name) (record { low = low; high = high }))
 listed l (Unites words) = with_some_union l (listed_sets (length l.pool.version_sets) [] words)
 listed l (Conditions c) = with_listed_condition l c
 listed l (Strings text) = Some (with_pool l (with_string l.pool text))

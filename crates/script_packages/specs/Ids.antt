@@ -1,5 +1,6 @@
 -- What the words of commands stand for.
-use Rattle.std.specs.Prelude.{ℕ, ◌-◌, ◌^◌, ◌==◌, Bool, true, false, List, [], ◌∷◌, Option, None, Some, option_map, if◌then◌else◌, codes}
+use Rattle.std.specs.Prelude.{ℕ, ◌-◌, ◌^◌, ◌==◌, Bool, true, false, List, [], ◌∷◌}
+use Rattle.std.specs.Prelude.{Option, None, Some, option_map, if◌then◌else◌, codes}
 use Rattle.std.specs.Str.{bytes_eq}
 use Rattle.providers.specs.declared.requirement.Requirement.{Requirement}
 use Rattle.providers.specs.declared.requirement.Requirement.TheVariants.{Single, Union}
@@ -24,4 +25,5 @@ requirement_of (b ∷ number) =
     else None
 
 abbrev pub truth_of : List ℕ → Option Bool
-truth_of word = if bytes_eq word (codes "true") then Some true else if bytes_eq word (codes "false") then Some false else None
+truth_of word = if bytes_eq word (codes "true") then Some true else if bytes_eq word (codes "false")
+    then Some false else None

@@ -1,5 +1,6 @@
 -- What the lines of a catalogue make of the packages.
-use Rattle.std.specs.Prelude.{ℕ, Bool, ◌==◌, ◌&&◌, ◌-◌, nat_lt, length, List, [], ◌∷◌, ◌++◌, map, Option, None, Some, is_some, option_map, option_and_then, if◌then◌else◌}
+use Rattle.std.specs.Prelude.{ℕ, Bool, ◌==◌, ◌&&◌, ◌-◌, nat_lt, length, List, [], ◌∷◌, ◌++◌, map}
+use Rattle.std.specs.Prelude.{Option, None, Some, is_some, option_map, option_and_then, if◌then◌else◌}
 use Rattle.std.specs.List.{list_all}
 use Rattle.std.specs.Map.{lookup}
 use Rattle.std.specs.Str.{bytes_eq}
@@ -8,7 +9,8 @@ use Rattle.typed_ids.specs.declared.version_set_id.VersionSetId.{VersionSetId}
 use Rattle.providers.specs.declared.condition.Condition.{Condition}
 use Rattle.providers.specs.declared.condition.Condition.TheVariants.{Binary, Requirement}
 use Rattle.package_pool.specs.Interned.{interned_place}
-use Rattle.package_pool.specs.Pool.{Lists, nothing, with_name, with_solvable, with_version_set, with_union, with_condition}
+use Rattle.package_pool.specs.Pool.{Lists, nothing, with_name, with_solvable}
+use Rattle.package_pool.specs.Pool.{with_version_set, with_union, with_condition}
 use Rattle.script_packages.specs.declared.packages.Packages.{Packages}
 use Rattle.script_packages.specs.declared.packages.Span.{Span}
 use Rattle.script_packages.specs.declared.packages.VersionRange.{VersionRange}
@@ -80,11 +82,14 @@ listed_versions l name [] = Some l
 listed_versions l name (word ∷ words) =
     option_and_then (λ version. listed_versions (with_version l name version) name words) (version_of word)
 
--- with a span, whose first solvable has this number, whose last one is the last of all, and whose favored one is at this
--- place
+-- with a span, whose first solvable has this number, whose last one is the last of all, and whose favored one is at
+-- this place
 abbrev pub with_span_from : ℕ → ℕ → Option ℕ → Listing → Listing
 with_span_from name first favored l =
-    record l { spans = l.spans ++ (name, record { first = first; last = length l.pool.solvables - 1; favored = favored }) ∷ [] }
+    record l {
+      spans = l.spans ++
+          (name, record { first = first; last = length l.pool.solvables - 1; favored = favored }) ∷ [];
+    }
 
 -- with the versions of a name, where it has none yet, and each of the words, of which there are some, is a version, and
 -- at most one has a star

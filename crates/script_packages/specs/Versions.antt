@@ -1,5 +1,6 @@
 -- What the words of a package line say: versions, of which one may have a star directly behind it.
-use Rattle.std.specs.Prelude.{ℕ, ◌-◌, Bool, ◌&&◌, nat_lt, List, length, take, drop, filter, Option, None, Some, is_some, if◌then◌else◌, codes}
+use Rattle.std.specs.Prelude.{ℕ, ◌-◌, Bool, ◌&&◌, nat_lt, List, length, take, drop}
+use Rattle.std.specs.Prelude.{filter, Option, None, Some, is_some, if◌then◌else◌, codes}
 use Rattle.std.specs.List.{list_all, position_from}
 use Rattle.std.specs.Str.{bytes_eq}
 use Rattle.script_packages.specs.Ids.{number_32}

@@ -43,8 +43,8 @@ pub fn read_catalogue(alloc: Global, text: &[u8]) -> Result<Option<Catalogue<'_>
     }
 }
 
-/// Lists what the lines say, up to `begin`, in packages that list nothing yet. Answers how many lines that took, and the
-/// lines after them; none where no line begins the commands.
+/// Lists what the lines say, up to `begin`, in packages that list nothing yet. Answers how many lines that took, and
+/// the lines after them; none where no line begins the commands.
 fn list_packages<'a>(
     packages: &mut Packages,
     text: &'a [u8],

@@ -1,7 +1,8 @@
 //! The packages of a script, which are kept in a pool, and what the lines of a catalogue add to them.
 //!
 //! What they answer a store as its provider is in [`provider`](crate::provider).
-ghost use Rattle.std.specs.Prelude.{◌≡◌, ◌<◌, ◌-◌, false, true, [], All, length, Some, None, string_bytes, IfOk, OnOk, OnErr, IfErr};
+ghost use Rattle.std.specs.Prelude.{◌≡◌, ◌<◌, ◌-◌, false, true, [], All, length, Some};
+ghost use Rattle.std.specs.Prelude.{None, string_bytes, IfOk, OnOk, OnErr, IfErr};
 ghost use Rattle.package_pool.specs.Pool.{IsOfItself, with_string};
 ghost use Rattle.package_pool.specs.PoolProps.{pool_props};
 ghost use Rattle.script_text.specs.declared.fault.LineFault.TheVariants.{Memory, Unreadable};
@@ -58,9 +59,12 @@ impl Packages {
     ghost use Rattle.script_packages.specs.CatalogueLines.{plain_said};
     ghost use Rattle.script_packages.specs.Catalogues.{listed, CanBeListed};
     ghost use Rattle.script_packages.specs.Packages.{span_of};
-    ghost use Rattle.script_packages.specs.Listing.{listing_of, nothing_listed, named, name_number, has_span, with_pool};
-    ghost use Rattle.script_packages.specs.Listing.{with_version, with_span_from, with_set, with_versions, listed_versions};
-    ghost use Rattle.script_packages.specs.Listing.{listed_sets, with_some_union, is_made_of_listed, with_listed_condition};
+    ghost use Rattle.script_packages.specs.Listing.{listing_of, nothing_listed, named};
+    ghost use Rattle.script_packages.specs.Listing.{name_number, has_span, with_pool};
+    ghost use Rattle.script_packages.specs.Listing.{with_version, with_span_from, with_set};
+    ghost use Rattle.script_packages.specs.Listing.{with_versions, listed_versions};
+    ghost use Rattle.script_packages.specs.Listing.{listed_sets, with_some_union};
+    ghost use Rattle.script_packages.specs.Listing.{is_made_of_listed, with_listed_condition};
     ghost use Rattle.script_packages.specs.Listing.{are_sets, is_listed};
 
     /// No packages.
@@ -91,11 +95,12 @@ impl Packages {
         self.spans.get_copy(&name).is_some()
     }
 
-    /// Adds what a line says. Where memory is refused, the words that are left are read all the same, so that a line that
-    /// isn't in the format is found; so is a second line of a package whose name finds no room.
+    /// Adds what a line says. Where memory is refused, the words that are left are read all the same, so that a line
+    /// that isn't in the format is found; so is a second line of a package whose name finds no room.
     pub(crate) fn add(&mut self, line: &CatalogueLine<'_>) -> Result<(), LineFault>
         ensures ok { OnOk result (listed (listing_of self.old) (plain_said line.now) ≡ Some (listing_of self.new)) }
-        ensures unreadable { IfErr result (λ e. e ≡ Unreadable → listed (listing_of self.old) (plain_said line.now) ≡ None) }
+        ensures unreadable { IfErr result (λ e. e ≡ Unreadable →
+            listed (listing_of self.old) (plain_said line.now) ≡ None) }
         ensures memory { IfErr result (λ e. e ≡ Memory → CanBeListed (listing_of self.old) (plain_said line.now)) }
     {
         match line {
@@ -115,7 +120,8 @@ impl Packages {
     /// Adds a package line.
     #[tactic(auto, using(crate::proofs::Unread::no_package))]
     fn add_package(&mut self, name: &str, versions: &[u8]) -> Result<(), LineFault>
-        ensures ok { let l = listing_of self.old in OnOk result (with_versions (named l name.now) (name_number l name.now) (words versions.now)
+        ensures ok { let l = listing_of self.old in
+            OnOk result (with_versions (named l name.now) (name_number l name.now) (words versions.now)
             ≡ Some (listing_of self.new)) }
         ensures unreadable { let l = listing_of self.old in IfErr result (λ e. e ≡ Unreadable →
             with_versions (named l name.now) (name_number l name.now) (words versions.now) ≡ None) }
@@ -131,7 +137,8 @@ impl Packages {
     /// Lists a package, up to the first word that is no version, or to where memory is refused; nothing where two words
     /// have a star.
     fn list_package(&mut self, name: &str, versions: &[u8]) -> Result<(), LineFault>
-        ensures ok { let l = listing_of self.old in OnOk result (with_versions (named l name.now) (name_number l name.now) (words versions.now)
+        ensures ok { let l = listing_of self.old in
+            OnOk result (with_versions (named l name.now) (name_number l name.now) (words versions.now)
             ≡ Some (listing_of self.new)) }
         ensures unreadable { let l = listing_of self.old in IfErr result (λ e. e ≡ Unreadable →
             with_versions (named l name.now) (name_number l name.now) (words versions.now) ≡ None) }
@@ -175,8 +182,10 @@ impl Packages {
     /// Gives a name its versions, each of which is a solvable. A name is listed once.
     fn add_versions(&mut self, name: NameId, versions: &[u8]) -> Result<(), LineFault>
         requires { name < length self.old.pool.names }
-        ensures ok { OnOk result (with_versions (listing_of self.old) name (words versions.now) ≡ Some (listing_of self.new)) }
-        ensures unreadable { IfErr result (λ e. e ≡ Unreadable → with_versions (listing_of self.old) name (words versions.now) ≡ None) }
+        ensures ok { OnOk result (with_versions (listing_of self.old) name (words versions.now) ≡
+            Some (listing_of self.new)) }
+        ensures unreadable { IfErr result (λ e. e ≡ Unreadable →
+            with_versions (listing_of self.old) name (words versions.now) ≡ None) }
         ensures memory { IfErr result (λ e. e ≡ Memory → has_span (listing_of self.old) name ≡ false) }
     {
         if self.has_span(name) {
@@ -208,10 +217,12 @@ impl Packages {
     ) -> Result<SolvableId, LineFault>
         requires name { name < length self.old.pool.names }
         requires last { last ≡ length self.old.pool.solvables - 1 }
-        ensures ok { OnOk result (listed_versions (listing_of self.old) name (words text.now) ≡ Some (listing_of self.new)) }
+        ensures ok { OnOk result (listed_versions (listing_of self.old) name (words text.now) ≡
+            Some (listing_of self.new)) }
         ensures last { IfOk result (λ s. s ≡ length self.new.pool.solvables - 1) }
         ensures spans { self.new.spans ≡ self.old.spans }
-        ensures unreadable { IfErr result (λ e. e ≡ Unreadable → listed_versions (listing_of self.old) name (words text.now) ≡ None) }
+        ensures unreadable { IfErr result (λ e. e ≡ Unreadable →
+            listed_versions (listing_of self.old) name (words text.now) ≡ None) }
     {
         let mut rest = text;
         while let Some((word, others)) = next_word(rest) {
@@ -227,11 +238,14 @@ impl Packages {
     /// Adds a union of the version sets in the text, of which there is one at least.
     #[tactic(auto, using(crate::proofs::Unread::no_union))]
     fn add_union(&mut self, text: &[u8]) -> Result<(), LineFault>
-        ensures ok { OnOk result (with_some_union (listing_of self.old) (listed_sets (length self.old.pool.version_sets) [] (words text.now))
+        ensures ok { OnOk result (with_some_union (listing_of self.old)
+            (listed_sets (length self.old.pool.version_sets) [] (words text.now))
             ≡ Some (listing_of self.new)) }
         ensures unreadable { IfErr result (λ e. e ≡ Unreadable →
-            with_some_union (listing_of self.old) (listed_sets (length self.old.pool.version_sets) [] (words text.now)) ≡ None) }
-        ensures memory { IfErr result (λ e. e ≡ Memory → are_sets (length self.old.pool.version_sets) (words text.now) ≡ true) }
+            with_some_union (listing_of self.old)
+            (listed_sets (length self.old.pool.version_sets) [] (words text.now)) ≡ None) }
+        ensures memory { IfErr result (λ e. e ≡ Memory →
+            are_sets (length self.old.pool.version_sets) (words text.now) ≡ true) }
     {
         match self.unite(text) {
             Err(LineFault::Memory) if !self.are_sets(text) => Err(LineFault::Unreadable),
@@ -241,10 +255,12 @@ impl Packages {
 
     /// Adds a union, unless a word is no version set, or memory is refused.
     fn unite(&mut self, text: &[u8]) -> Result<(), LineFault>
-        ensures ok { OnOk result (with_some_union (listing_of self.old) (listed_sets (length self.old.pool.version_sets) [] (words text.now))
+        ensures ok { OnOk result (with_some_union (listing_of self.old)
+            (listed_sets (length self.old.pool.version_sets) [] (words text.now))
             ≡ Some (listing_of self.new)) }
         ensures unreadable { IfErr result (λ e. e ≡ Unreadable →
-            with_some_union (listing_of self.old) (listed_sets (length self.old.pool.version_sets) [] (words text.now)) ≡ None) }
+            with_some_union (listing_of self.old)
+            (listed_sets (length self.old.pool.version_sets) [] (words text.now)) ≡ None) }
         ensures kept { OnErr result (self.new.pool.version_sets ≡ self.old.pool.version_sets) }
     {
         let sets = self.sets(text)?;
@@ -259,9 +275,11 @@ impl Packages {
 
     /// The version sets in the text, each of which is there.
     fn sets(&self, text: &[u8]) -> Result<Vec<VersionSetId>, LineFault>
-        ensures ok { IfOk result (λ sets. listed_sets (length self.now.pool.version_sets) [] (words text.now) ≡ Some sets.items) }
+        ensures ok { IfOk result (λ sets. listed_sets (length self.now.pool.version_sets) [] (words text.now) ≡
+            Some sets.items) }
         ensures known { IfOk result (λ sets. All (λ v. v.0 < length self.now.pool.version_sets) sets.items) }
-        ensures unreadable { IfErr result (λ e. e ≡ Unreadable → listed_sets (length self.now.pool.version_sets) [] (words text.now) ≡ None) }
+        ensures unreadable { IfErr result (λ e. e ≡ Unreadable →
+            listed_sets (length self.now.pool.version_sets) [] (words text.now) ≡ None) }
     {
         let mut sets = Vec::new(self.alloc);
         let mut rest = text;
@@ -289,7 +307,8 @@ impl Packages {
     /// The version set that a word stands for.
     fn set(&self, word: &[u8]) -> Result<VersionSetId, LineFault>
         ensures ok { IfOk result (λ set. below (length self.now.pool.version_sets) (number_32 word.now) ≡ Some set.0) }
-        ensures unreadable { IfErr result (λ e. (e ≡ Unreadable) × (below (length self.now.pool.version_sets) (number_32 word.now) ≡ None)) }
+        ensures unreadable { IfErr result (λ e. (e ≡ Unreadable) ×
+            (below (length self.now.pool.version_sets) (number_32 word.now) ≡ None)) }
     {
         match id(word) {
             Some(index) if self.pool.knows_version_set(VersionSetId(index)) => Ok(VersionSetId(
@@ -314,7 +333,8 @@ impl Packages {
     /// Adds a condition, if it isn't there.
     fn add_condition(&mut self, condition: Condition) -> Result<(), LineFault>
         ensures ok { OnOk result (with_listed_condition (listing_of self.old) condition ≡ Some (listing_of self.new)) }
-        ensures unreadable { IfErr result (λ e. e ≡ Unreadable → with_listed_condition (listing_of self.old) condition ≡ None) }
+        ensures unreadable { IfErr result (λ e. e ≡ Unreadable →
+            with_listed_condition (listing_of self.old) condition ≡ None) }
         ensures memory { IfErr result (λ e. e ≡ Memory → is_made_of_listed (listing_of self.old) condition ≡ true) }
     {
         if !self.is_made_of_listed(&condition) {
@@ -330,7 +350,8 @@ impl Packages {
     fn add_span(&mut self, name: NameId, span: Span) -> Result<(), LineFault>
         requires new { has_span (listing_of self.old) name ≡ false }
         requires last { span.last ≡ length self.old.pool.solvables - 1 }
-        ensures ok { OnOk result (listing_of self.new ≡ with_span_from name span.first span.favored (listing_of self.old)) }
+        ensures ok { OnOk result (listing_of self.new ≡
+            with_span_from name span.first span.favored (listing_of self.old)) }
         ensures err { IfErr result (λ e. e ≡ Memory) }
     {
         self.spans
@@ -355,7 +376,8 @@ impl Packages {
 
     /// Adds a string, if it isn't there.
     fn add_string(&mut self, text: &str) -> Result<(), LineFault>
-        ensures ok { let l = listing_of self.old in OnOk result (listing_of self.new ≡ with_pool l (with_string l.pool text.now)) }
+        ensures ok { let l = listing_of self.old in
+            OnOk result (listing_of self.new ≡ with_pool l (with_string l.pool text.now)) }
         ensures err { IfErr result (λ e. e ≡ Memory) }
     {
         let text = String::from_str(self.alloc, text)?;

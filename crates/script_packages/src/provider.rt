@@ -1,5 +1,6 @@
 //! The provider of a script's packages.
-ghost use Rattle.std.specs.Prelude.{◌≡◌, ◌+◌, ◌-◌, [], IfSome, length, slice_get, option_and_then, IfOk, OnOk, OnErr, IfErr};
+ghost use Rattle.std.specs.Prelude.{◌≡◌, ◌+◌, ◌-◌, [], IfSome, length, slice_get};
+ghost use Rattle.std.specs.Prelude.{option_and_then, IfOk, OnOk, OnErr, IfErr};
 ghost use Rattle.typed_ids.specs.declared.error.StoreError.TheVariants.{OutOfMemory};
 ghost use Rattle.providers.specs.Provider.{candidates_of, favored_of, filtered};
 ghost use Rattle.providers.specs.declared.candidates.HintDependenciesAvailable.TheVariants as Hint;
@@ -226,7 +227,8 @@ fn within(
     range: VersionRange,
     inverse: bool,
 ) -> Result<Vec<SolvableId>, StoreError>
-    ensures ok { IfOk result (λ found. found.items ≡ filtered (λ s. is_within range (version_at pool.now.solvables s)) inverse candidates.now) }
+    ensures ok { IfOk result (λ found. found.items ≡
+        filtered (λ s. is_within range (version_at pool.now.solvables s)) inverse candidates.now) }
     ensures err { IfErr result (λ e. e ≡ OutOfMemory) }
 {
     let count = candidates

@@ -1,5 +1,5 @@
-//! The versions of a package line, as words of a text. One of them may have a star directly behind it: it is the favored
-//! one.
+//! The versions of a package line, as words of a text. One of them may have a star directly behind it: it is the
+//! favored one.
 ghost use Rattle.std.specs.Prelude.{◌≡◌, Some, None, IfOk, IfErr};
 ghost use Rattle.script_text.specs.Words.{words};
 ghost use Rattle.script_text.specs.declared.fault.LineFault.TheVariants.{Unreadable};

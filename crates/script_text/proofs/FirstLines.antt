@@ -1,5 +1,7 @@
 -- A line that is printed, and the line feed that ends it.
-use Rattle.std.proofs.Common.{◌≡◌, ℕ, ◌-◌, ◌<◌, ◌==◌, Bool, true, false, ◌&&◌, cond, List, [], ◌∷◌, ◌++◌, take, drop, length, slice_index_or, arith, refl, sym, ap, ◌∙◌, append_assoc, append-nil, ◌⊎◌, inl, inr}
+use Rattle.std.proofs.Common.{◌≡◌, ℕ, ◌-◌, ◌<◌, ◌==◌, Bool, true, false, ◌&&◌, cond, List}
+use Rattle.std.proofs.Common.{[], ◌∷◌, ◌++◌, take, drop, length, slice_index_or, arith}
+use Rattle.std.proofs.Common.{refl, sym, ap, ◌∙◌, append_assoc, append-nil, ◌⊎◌, inl, inr}
 use Rattle.std.specs.Prelude.{if◌then◌else◌}
 use Rattle.std.specs.List.{list_all, prefix_len, take_while}
 use Rattle.std.proofs.lemmas.Bool.Decides.{nat_tests}
@@ -17,7 +19,8 @@ line_goes_on : (begun xs rest : List ℕ) → IsPrinted xs → lines_from begun 
 line_goes_on begun [] rest h = ap (λ l. lines_from l rest) (sym (append-nil begun))
 line_goes_on begun (b ∷ xs) rest h =
     let parts = both (is_printed b) _ h in
-    ap (λ ends. if ends then without_return begun ∷ lines_from [] (xs ++ rest) else lines_from (begun ++ b ∷ []) (xs ++ rest)) (not_control b 10 (omega arith) parts.0)
+    ap (λ ends. if ends then without_return begun ∷ lines_from [] (xs ++ rest)
+    else lines_from (begun ++ b ∷ []) (xs ++ rest)) (not_control b 10 (omega arith) parts.0)
     ∙ line_goes_on (begun ++ b ∷ []) xs rest parts.1
     ∙ ap (λ l. lines_from l rest) (append_assoc begun (b ∷ []) xs)
 

@@ -1,5 +1,6 @@
 -- Sixteen bytes in the lanes of a vector: which of them are printed.
-use Rattle.std.proofs.Common.{◌≡◌, ℕ, ◌+◌, ◌-◌, ◌%◌, ◌^◌, ◌<◌, Bool, true, false, not, nat_lt, List, [], ◌∷◌, length, map, replicate, cond, arith, refl, sym, ap, ◌∙◌, Fits, w8, w64}
+use Rattle.std.proofs.Common.{◌≡◌, ℕ, ◌+◌, ◌-◌, ◌%◌, ◌^◌, ◌<◌, Bool, true, false, not, nat_lt, List, []}
+use Rattle.std.proofs.Common.{◌∷◌, length, map, replicate, cond, arith, refl, sym, ap, ◌∙◌, Fits, w8, w64}
 use Rattle.std.proofs.lemmas.Bool.Decides.{nat_tests}
 use Rattle.std.proofs.lemmas.List.{length-map}
 use Rattle.std.specs.List.{prefix_len}

@@ -17,7 +17,8 @@ module _ {S : Type 0} (goes fails : S → S → Type 0) where
   abbrev pub FailsWithin : ℕ → S → S → Type 0
   FailsWithin most s t = (n : ℕ) × (m : S) × (n < most) × Calls goes n s m × fails m t
 
-  -- how reading ends, in so many reads at most: none fails; or the last one does, or all are made, and then it is the device's fault
+  -- how reading ends, in so many reads at most: none fails; or the last one does, or all are made, and then it is the
+  -- device's fault
   abbrev pub ReadingEnds : {T : Type 0} → ℕ → S → Result T ScriptFault → S → Type 0
   ReadingEnds most s (Ok _) t = CallsWithin most s t
   ReadingEnds most s (Err (Unreadable number)) t = ⊥

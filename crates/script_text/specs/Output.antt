@@ -10,7 +10,8 @@ Writes (Some held) waiting (Some held') waiting' text = held' ++ waiting' ≡ (h
 
 -- what waited and a text behind it: the writer took a beginning, and what is left waits now
 abbrev pub HandsOn : Option (List ℕ) → List ℕ → Option (List ℕ) → List ℕ → List ℕ → Type 0
-HandsOn held waiting held' waiting' text = (front : List ℕ) × Appends held held' front × (front ++ waiting' ≡ waiting ++ text)
+HandsOn held waiting held' waiting' text = (front : List ℕ) × Appends held held' front ×
+    (front ++ waiting' ≡ waiting ++ text)
 
 -- the writer took a beginning of what waited
 abbrev pub TakesSome : Option (List ℕ) → List ℕ → Option (List ℕ) → Type 0

@@ -48,7 +48,8 @@ pub trait Sink {
     /// The bytes that it holds, where they are known.
     ghost contents: { Self → Option (List ℕ) };
 
-    /// A write or a flush that doesn't fail leads from the one state to the other. A write that is interrupted doesn't fail.
+    /// A write or a flush that doesn't fail leads from the one state to the other. A write that is interrupted doesn't
+    /// fail.
     ghost writes: { Self → Self → Type 0 };
 
     /// A write or a flush that fails leads from the one state to the other. A write that takes no byte of some fails.

@@ -81,7 +81,8 @@ impl<T: Drop> From<AllocFailed<T>> for ScriptFault {
     }
 }
 
-/// The exit status of a script: 0 to its end, 1 at an unreadable line, 2 where a read or a write failed, 3 for want of memory.
+/// The exit status of a script: 0 to its end, 1 at an unreadable line, 2 where a read or a write failed, 3 for want of
+/// memory.
 pub fn status(ended: &Result<(), ScriptFault>) -> u8
     ensures { result ≡ status_of ended.now }
 {

@@ -16,8 +16,8 @@ const MOST_READS: u64 = 1 << 32;
 /// So many bytes are read at once.
 const PIECE: usize = 65536;
 
-/// All bytes of the reader, to its end. A read that was interrupted is tried again. A reader that hasn't ended after 2^32
-/// reads counts as one that fails. A read that fails for want of memory is a device's failure.
+/// All bytes of the reader, to its end. A read that was interrupted is tried again. A reader that hasn't ended after
+/// 2^32 reads counts as one that fails. A read that fails for want of memory is a device's failure.
 pub fn read_whole<S: Source>(alloc: Global, reader: &mut S) -> Result<Vec<u8>, ScriptFault>
     ensures ok { IfOk result (λ input. IfSome (S.remaining reader.old) (λ bytes. input.items ≡ bytes)) }
     ensures err { IfErr result (λ e. (e ≡ Device) ⊎ (e ≡ Memory)) }
@@ -26,8 +26,8 @@ pub fn read_whole<S: Source>(alloc: Global, reader: &mut S) -> Result<Vec<u8>, S
     read_within(alloc, reader, MOST_READS)
 }
 
-/// All bytes of the reader, to its end, as [`read_whole`] reads them, but in so many reads at most. That which meets the
-/// end is one of them, and so is one that was interrupted.
+/// All bytes of the reader, to its end, as [`read_whole`] reads them, but in so many reads at most. That which meets
+/// the end is one of them, and so is one that was interrupted.
 pub fn read_within<S: Source>(
     alloc: Global,
     reader: &mut S,

@@ -14,7 +14,8 @@ pub(crate) struct FirstLine<'a> {
     pub(crate) rest: &'a [u8],
 }
 
-/// The first line of a text. Up to the first byte that isn't printed it is looked at once, and mostly that byte ends it.
+/// The first line of a text. Up to the first byte that isn't printed it is looked at once, and mostly that byte ends
+/// it.
 pub(crate) fn first_line(text: &[u8]) -> FirstLine<'_>
     requires { 0 < length text.now }
     ensures first { lines text.now ≡ result.line.now ∷ lines result.rest.now }

@@ -14,8 +14,10 @@ const PIECE: usize = 65536;
 
 /// Writes what waits, once that is much.
 pub fn write_much<W: Sink>(waiting: &mut Vec<u8>, writer: &mut W) -> Result<(), ScriptFault>
-    ensures ok { OnOk result (Writes (W.contents writer.old) waiting.old.items (W.contents writer.new) waiting.new.items []) }
-    ensures handed { OnOk result (HandsOn (W.contents writer.old) waiting.old.items (W.contents writer.new) waiting.new.items []) }
+    ensures ok { OnOk result
+        (Writes (W.contents writer.old) waiting.old.items (W.contents writer.new) waiting.new.items []) }
+    ensures handed { OnOk result
+        (HandsOn (W.contents writer.old) waiting.old.items (W.contents writer.new) waiting.new.items []) }
     ensures err { IfErr result (λ e. e ≡ Device) }
     ensures failed { OnErr result (TakesSome (W.contents writer.old) waiting.old.items (W.contents writer.new)) }
     ensures ends { WritingEnds W.writes W.fails writer.old result writer.new }
@@ -28,8 +30,10 @@ pub fn write_much<W: Sink>(waiting: &mut Vec<u8>, writer: &mut W) -> Result<(), 
 
 /// Writes what waits.
 fn write_waiting<W: Sink>(waiting: &mut Vec<u8>, writer: &mut W) -> Result<(), ScriptFault>
-    ensures ok { OnOk result (Writes (W.contents writer.old) waiting.old.items (W.contents writer.new) waiting.new.items []) }
-    ensures handed { OnOk result (HandsOn (W.contents writer.old) waiting.old.items (W.contents writer.new) waiting.new.items []) }
+    ensures ok { OnOk result
+        (Writes (W.contents writer.old) waiting.old.items (W.contents writer.new) waiting.new.items []) }
+    ensures handed { OnOk result
+        (HandsOn (W.contents writer.old) waiting.old.items (W.contents writer.new) waiting.new.items []) }
     ensures empty { OnOk result (waiting.new.items ≡ []) }
     ensures err { IfErr result (λ e. e ≡ Device) }
     ensures failed { OnErr result (TakesSome (W.contents writer.old) waiting.old.items (W.contents writer.new)) }
@@ -42,8 +46,10 @@ fn write_waiting<W: Sink>(waiting: &mut Vec<u8>, writer: &mut W) -> Result<(), S
 
 /// Writes all that waits, and flushes the writer.
 pub fn write_rest<W: Sink>(waiting: &mut Vec<u8>, writer: &mut W) -> Result<(), ScriptFault>
-    ensures ok { OnOk result (Writes (W.contents writer.old) waiting.old.items (W.contents writer.new) waiting.new.items []) }
-    ensures handed { OnOk result (HandsOn (W.contents writer.old) waiting.old.items (W.contents writer.new) waiting.new.items []) }
+    ensures ok { OnOk result
+        (Writes (W.contents writer.old) waiting.old.items (W.contents writer.new) waiting.new.items []) }
+    ensures handed { OnOk result
+        (HandsOn (W.contents writer.old) waiting.old.items (W.contents writer.new) waiting.new.items []) }
     ensures empty { OnOk result (waiting.new.items ≡ []) }
     ensures err { IfErr result (λ e. e ≡ Device) }
     ensures failed { OnErr result (TakesSome (W.contents writer.old) waiting.old.items (W.contents writer.new)) }

@@ -11,7 +11,8 @@ use Rattle.script_text.proofs.Calls.{GoesWell-trans, GivesUp-after}
 use Rattle.scripts.specs.Ends.{WriterEnds}
 
 module _ {W : Type 0} (writes fails : W → W → Type 0) (T : Type 0) where
-  pub ends_at_fault : (w w' : W) (number : ℕ) (fault : LineFault) → GoesWell writes fails w w' → WriterEnds writes fails {T = T} w (Err (fault_at number fault)) w'
+  pub ends_at_fault : (w w' : W) (number : ℕ) (fault : LineFault) → GoesWell writes fails w w' →
+      WriterEnds writes fails {T = T} w (Err (fault_at number fault)) w'
   ends_at_fault w w' number OfLine.Unreadable h = h
   ends_at_fault w w' number OfLine.Memory h = h
 

@@ -1,5 +1,6 @@
 -- From the parts of a script to the whole.
-use Rattle.std.proofs.Common.{◌≡◌, ℕ, ◌+◌, List, [], ◌∷◌, ◌++◌, ◌⊎◌, Option, None, Some, Result, Ok, Err, IfSome, length, drop, refl, sym, ap, subst, inl, inr, ◌∙◌, append_assoc, append-nil}
+use Rattle.std.proofs.Common.{◌≡◌, ℕ, ◌+◌, List, [], ◌∷◌, ◌++◌, ◌⊎◌, Option, None, Some, Result, Ok, Err, IfSome}
+use Rattle.std.proofs.Common.{length, drop, refl, sym, ap, subst, inl, inr, ◌∙◌, append_assoc, append-nil}
 use Rattle.std.specs.Io.{StartsWith}
 use Rattle.std.proofs.KnownBytes.{Appends-nil, starts_with_rest}
 use Rattle.resolvo_store.specs.Store.{new_store}
@@ -31,12 +32,14 @@ module _ (before : ℕ) (left first rest : List (List ℕ)) (packages : Packages
       let later = rec more h in (
         line ∷ later.0,
         ap (λ ls. line ∷ ls) later.1,
-        subst (λ f. OnEffect f (λ m. CommandsBegin m (n + 1) later.0 before first packages) ((before ≡ n + 1) × (first ≡ later.0) × AreListed packages l) ⊥) (sym e) later.2,
+        subst (λ f. OnEffect f (λ m. CommandsBegin m (n + 1) later.0 before first packages)
+            ((before ≡ n + 1) × (first ≡ later.0) × AreListed packages l) ⊥) (sym e) later.2,
       )
   begin_after l n line lines Ends e rec h = (
     line ∷ first,
     ap (λ ls. line ∷ ls) (sym h.1 ∙ is),
-    subst (λ f. OnEffect f (λ m. CommandsBegin m (n + 1) first before first packages) ((before ≡ n + 1) × (first ≡ first) × AreListed packages l) ⊥) (sym e) (h.0, refl, h.2),
+    subst (λ f. OnEffect f (λ m. CommandsBegin m (n + 1) first before first packages)
+        ((before ≡ n + 1) × (first ≡ first) × AreListed packages l) ⊥) (sym e) (h.0, refl, h.2),
   )
   begin_after l n line lines Faulty e rec h = absurd h
 
@@ -49,8 +52,10 @@ commands_of : (lines : List (List ℕ)) (text : List ℕ) (faulty : Option ℕ) 
 commands_of lines text None h = inr h
 commands_of lines text (Some number) h = inr h
 
-module _ (lines : List (List ℕ)) (packages : Packages) (before : ℕ) (left : List (List ℕ)) (begun : CommandsBegin nothing_listed 0 lines before left packages) where
-  first_commands : (text : List ℕ) → FirstAnswered (Answered numbers (new_store (provider_of packages)) before) left text → FirstAnswered ScriptAnswered lines text
+module _ (lines : List (List ℕ)) (packages : Packages) (before : ℕ) (left : List (List ℕ))
+    (begun : CommandsBegin nothing_listed 0 lines before left packages) where
+  first_commands : (text : List ℕ) → FirstAnswered
+      (Answered numbers (new_store (provider_of packages)) before) left text → FirstAnswered ScriptAnswered lines text
   first_commands text (first, rest, answer, faulty, is, answered, whole) =
       let front = begin_before before left first rest packages is nothing_listed 0 lines begun in
       (front.0, rest, answer, faulty, front.1, commands_of front.0 answer faulty (packages, before, first, front.2, answered), whole)
@@ -84,10 +89,12 @@ pub nothing_taken : (lines : List (List ℕ)) (held : Option (List ℕ)) → Tak
 nothing_taken lines held = ([], nothing_first lines, ([], [], Appends-nil held, refl))
 
 -- the writer failed
-pub failed_taken : {T : Type 0} (lines : List (List ℕ)) (held held' : Option (List ℕ)) (first w : List ℕ) (r : Result T ScriptFault) → r ≡ Err Device → first ≡ []
+pub failed_taken : {T : Type 0} (lines : List (List ℕ)) (held held' : Option (List ℕ)) (first w : List ℕ)
+    (r : Result T ScriptFault) → r ≡ Err Device → first ≡ []
     → HandsAnswer ScriptAnswered lines held first r held' w → TakesBeginning lines held held'
 failed_taken {T} lines held held' first w r is none h =
-    let cut : HandsAnswer ScriptAnswered {T = T} lines held first (Err Device) held' w = subst (λ e. HandsAnswer ScriptAnswered lines held first e held' w) is h in
+    let cut : HandsAnswer ScriptAnswered {T = T} lines held first (Err Device) held' w =
+    subst (λ e. HandsAnswer ScriptAnswered lines held first e held' w) is h in
     (cut.0, cut.1, subst (λ l. TakesSome held (l ++ cut.0) held') none cut.2)
 
 -- of a beginning of some text, and so of that text
@@ -120,7 +127,8 @@ module _ (lines : List (List ℕ)) (held held' held'' : Option (List ℕ)) where
 
   -- after what was answered was handed on, the writer takes a beginning
   pub beginning_taken : {T : Type 0} (first w w' : List ℕ) (ended : Result T ScriptFault) → (ended ≡ Err Device → ⊥) → first ≡ []
-      → StartsWith (w ++ named_text ended) w' → TakesSome held' w' held'' → HandsAnswer ScriptAnswered lines held first ended held' w → TakesBeginning lines held held''
+      → StartsWith (w ++ named_text ended) w' → TakesSome held' w' held'' →
+      HandsAnswer ScriptAnswered lines held first ended held' w → TakesBeginning lines held held''
   beginning_taken first w w' (Ok t) other none begins taken h =
       named_taken h.0 w w' None h.1 (subst (λ l. HandsOn held l held' w h.0) none h.2) begins taken
   beginning_taken first w w' (Err (Unreadable n)) other none begins taken h =
@@ -130,7 +138,8 @@ module _ (lines : List (List ℕ)) (held held' held'' : Option (List ℕ)) where
       let left = drop (length w') (w ++ []) in
       let kept : w ≡ w' ++ left = sym (append-nil w) ∙ starts_with_rest (w ++ []) w' begins in
       rest_taken answered.2 text w w' (left ++ lost) answered.3 answered.0 answered.1 answered.4 answered.5 answered.6
-      (subst (λ l. HandsOn held [] held' l text) (ap (λ l. l ++ lost) kept ∙ append_assoc w' left lost) (subst (λ l. HandsOn held l held' (w ++ lost) text) none handed)) taken
+      (subst (λ l. HandsOn held [] held' l text) (ap (λ l. l ++ lost) kept ∙ append_assoc w' left lost)
+      (subst (λ l. HandsOn held l held' (w ++ lost) text) none handed)) taken
 
 -- the whole text of a script, once its unreadable line is named and all is written
 whole : (lines : List (List ℕ)) (faulty was : Option ℕ) (held held' held'' : Option (List ℕ)) (w w' v : List ℕ) → faulty ≡ was → w' ≡ w ++ faulty_text was
@@ -177,7 +186,8 @@ module _ {T : Type 0} (lines : List (List ℕ)) (held held' held'' : Option (Lis
   all_named ended (Err Memory) device memory named rest empty h = tt
 
 -- a fact of the text that was read is one of the bytes that the reader had, where they are known
-pub of_known : (known : Option (List ℕ)) (input text : List ℕ) (P : List ℕ → Type 0) → IfSome known (λ bytes. input ≡ bytes) → text ≡ input → P text → IfSome known P
+pub of_known : (known : Option (List ℕ)) (input text : List ℕ) (P : List ℕ → Type 0) →
+    IfSome known (λ bytes. input ≡ bytes) → text ≡ input → P text → IfSome known P
 of_known None input text P same is h = tt
 of_known (Some bytes) input text P same is h = subst P (is ∙ same) h
 
@@ -187,12 +197,16 @@ of_any None P h = tt
 of_any (Some bytes) P h = h bytes
 
 -- a whole script, where it is known what the reader gives
-pub script_answered : {T : Type 0} (known : Option (List ℕ)) (input text : List ℕ) (held held' held'' : Option (List ℕ)) (first w w' v : List ℕ) (ended named : Result T ScriptFault)
+pub script_answered : {T : Type 0} (known : Option (List ℕ)) (input text : List ℕ) (held held' held'' : Option (List ℕ))
+    (first w w' v : List ℕ) (ended named : Result T ScriptFault)
     → IfSome known (λ bytes. input ≡ bytes) → text ≡ input → first ≡ [] → (ended ≡ Err Device → named ≡ Err Device) → (ended ≡ Err Memory → named ≡ Err Memory)
     → IfRead named (λ faulty. IfRead ended (λ was. (faulty ≡ was) × (w' ≡ w ++ faulty_text was))) → HandsOn held' w' held'' v [] → v ≡ []
     → HandsAnswer ScriptAnswered (lines_of text) held first ended held' w
-    → IfSome known (λ bytes. IfRead named (λ faulty. (answer : List ℕ) × ScriptAnswered (lines_of bytes) answer faulty × Writes held [] held'' [] (answer ++ faulty_text faulty)))
+    → IfSome known (λ bytes. IfRead named (λ faulty. (answer : List ℕ) × ScriptAnswered (lines_of bytes) answer faulty ×
+    Writes held [] held'' [] (answer ++ faulty_text faulty)))
 script_answered {T} known input text held held' held'' first w w' v ended named same is none device memory said rest empty h =
-    of_known known input text (λ bytes. IfRead named (λ faulty. (answer : List ℕ) × ScriptAnswered (lines_of bytes) answer faulty × Writes held [] held'' [] (answer ++ faulty_text faulty))) same is
+    of_known known input text (λ bytes. IfRead named (λ faulty. (answer : List ℕ) ×
+    ScriptAnswered (lines_of bytes) answer faulty ×
+    Writes held [] held'' [] (answer ++ faulty_text faulty))) same is
     (all_named (lines_of text) held held' held'' w w' v ended named device memory said rest empty
     (subst (λ l. HandsAnswer ScriptAnswered (lines_of text) held l ended held' w) none h))

@@ -1,5 +1,6 @@
 -- One line more of a transcript.
-use Rattle.std.proofs.Common.{◌≡◌, ℕ, ◌+◌, true, false, List, [], ◌∷◌, ◌++◌, ◌⊎◌, Option, None, Some, Result, Ok, Err, length, drop, refl, sym, ap, subst, inl, inr, ◌∙◌, append_assoc, append-nil}
+use Rattle.std.proofs.Common.{◌≡◌, ℕ, ◌+◌, true, false, List, [], ◌∷◌, ◌++◌, ◌⊎◌, Option, None, Some, Result, Ok}
+use Rattle.std.proofs.Common.{Err, length, drop, refl, sym, ap, subst, inl, inr, ◌∙◌, append_assoc, append-nil}
 use Rattle.std.proofs.KnownBytes.{starts_with_rest}
 use Rattle.resolvo_store.specs.Command.{Command}
 use Rattle.resolvo_store.specs.Store.{Store}
@@ -21,7 +22,8 @@ use Rattle.scripts.specs.Replies.{reply_text}
 use Rattle.scripts.specs.Ends.{FirstAnswered, HandsAnswer}
 use Rattle.scripts.specs.Transcript.{IsRead, BeginsCommand, HasCommand, RefusesLine, ObeysLine, LineAnswered, Answered}
 
-refused_begins : {N S : Type 0} (now new : Store N S) (said : Line (Command N S)) (w w' : List ℕ) (after : Type 0) → RefusesLine now said w w' new → BeginsCommand said after
+refused_begins : {N S : Type 0} (now new : Store N S) (said : Line (Command N S)) (w w' : List ℕ) (after : Type 0) →
+    RefusesLine now said w w' new → BeginsCommand said after
 refused_begins now new Skipped w w' after h = absurd h
 refused_begins now new Unreadable w w' after h = absurd h
 refused_begins now new (Says c) w w' after h = tt
@@ -47,7 +49,8 @@ module _ {N S : Type 0} (ids : Ids N S) where
   abbrev pub SoFar : Store N S → ℕ → List (List ℕ) → Option (List ℕ) → List ℕ → Store N S → ℕ → List (List ℕ) → Option (List ℕ) → List ℕ → Type 0
   SoFar first before lines held waiting now number left held' waiting' =
       (own : List ℕ) × (obeyed : List (List ℕ)) × (lines ≡ obeyed ++ left) × HandsOn held waiting held' waiting' own
-      × ((some : List (List ℕ)) (text : List ℕ) (faulty : Option ℕ) → Answered ids now number some text faulty → Answered ids first before (obeyed ++ some) (own ++ text) faulty)
+      × ((some : List (List ℕ)) (text : List ℕ) (faulty : Option ℕ) → Answered ids now number some text faulty →
+      Answered ids first before (obeyed ++ some) (own ++ text) faulty)
 
   -- at first no line was obeyed
   pub so_far_none : (first : Store N S) (before : ℕ) (lines : List (List ℕ)) (held : Option (List ℕ)) (waiting : List ℕ)
@@ -59,7 +62,8 @@ module _ {N S : Type 0} (ids : Ids N S) where
   line_obeyed : {T : Type 0} (old new : Store N S) (number : ℕ) (said : Line (Command N S)) (waiting waiting' : List ℕ) (t : T)
       → ObeysLine old said waiting (Ok t) waiting' new
       → (own : List ℕ) × (waiting' ≡ waiting ++ own)
-      × ((some : List (List ℕ)) (rest : List ℕ) (faulty : Option ℕ) → Answered ids new number some rest faulty → LineAnswered old number said (λ mid r. Answered ids mid number some r faulty) (own ++ rest) faulty)
+      × ((some : List (List ℕ)) (rest : List ℕ) (faulty : Option ℕ) → Answered ids new number some rest faulty →
+      LineAnswered old number said (λ mid r. Answered ids mid number some r faulty) (own ++ rest) faulty)
   line_obeyed old new number Skipped waiting waiting' t h =
       ([], h.0 ∙ sym (append-nil waiting), λ some rest faulty g. subst (λ st. Answered ids st number some rest faulty) h.1 g)
   line_obeyed old new number Unreadable waiting waiting' t h = absurd h
@@ -124,14 +128,16 @@ module _ {N S : Type 0} (ids : Ids N S) where
         )
 
     -- the writer failed
-    pub ended_cut : (T : Type 0) (now : Store N S) (number : ℕ) (left : List (List ℕ)) (held' held'' : Option (List ℕ)) (w' v : List ℕ) (r : Result T ScriptFault)
+    pub ended_cut : (T : Type 0) (now : Store N S) (number : ℕ) (left : List (List ℕ)) (held' held'' : Option (List ℕ))
+        (w' v : List ℕ) (r : Result T ScriptFault)
         → r ≡ Err OfScript.Device → TakesSome held' w' held'' → SoFar first before all held w now number left held' w'
         → HandsAnswer (Answered ids first before) all held w r held'' v
     ended_cut T now number left held' held'' w' v r is taken so_far =
         subst (λ e. HandsAnswer (Answered ids first before) all held w e held'' v) (sym is)
         (so_far.0, so_far_first now number left held' w' so_far, TakesSome-after held held' held'' w w' so_far.0 so_far.3 taken)
 
-    module _ (now new : Store N S) (number : ℕ) (left lines : List (List ℕ)) (line : List ℕ) (behind : left ≡ line ∷ lines) (held' : Option (List ℕ)) (w' w'' : List ℕ)
+    module _ (now new : Store N S) (number : ℕ) (left lines : List (List ℕ)) (line : List ℕ)
+        (behind : left ≡ line ∷ lines) (held' : Option (List ℕ)) (w' w'' : List ℕ)
         (so_far : SoFar first before all held w now number left held' w') where
       -- the line is answered by this text, and then no line is read
       abbrev LineLast : Line (Command N S) → List ℕ → Option ℕ → Type 0
@@ -178,16 +184,19 @@ module _ {N S : Type 0} (ids : Ids N S) where
       unreadable_here said goes_on e = subst (λ l. LineAnswered now (number + 1) l goes_on [] (Some (number + 1))) (sym e) (refl, refl)
 
       -- the end at a faulty line
-      pub ended_faulty : (T U : Type 0) (said : Line Statement) (fault : LineFault) → MeansWords line said → ObeysLine {T = T} now (command_meant ids said) w' (Err fault) w'' new
+      pub ended_faulty : (T U : Type 0) (said : Line Statement) (fault : LineFault) → MeansWords line said →
+          ObeysLine {T = T} now (command_meant ids said) w' (Err fault) w'' new
           → HandsAnswer (Answered ids first before) {T = U} all held w (Err (fault_at (number + 1) fault)) held' w''
       ended_faulty T U said OfLine.Memory means obeys =
-          ended_refused U (refused_line (command_line_of ids line) (subst (λ l. RefusesLine now l w' w'' new) (meant_by (command_said ids) line said means) obeys))
+          ended_refused U (refused_line (command_line_of ids line)
+          (subst (λ l. RefusesLine now l w' w'' new) (meant_by (command_said ids) line said means) obeys))
       ended_faulty T U said OfLine.Unreadable means obeys =
           let (own, obeyed, whole, handed, goes_on) = so_far in (
             own ++ [],
             subst (λ ls. Answered ids first before ls (own ++ []) (Some (number + 1))) (sym (whole ∙ ap (λ l. obeyed ++ l) behind))
                 (goes_on (line ∷ lines) [] (Some (number + 1))
-                (unreadable_here (command_line_of ids line) (λ mid r. Answered ids mid (number + 1) lines r (Some (number + 1))) (sym (meant_by (command_said ids) line said means) ∙ obeys.0))),
+                (unreadable_here (command_line_of ids line) (λ mid r. Answered ids mid (number + 1) lines r
+                (Some (number + 1))) (sym (meant_by (command_said ids) line said means) ∙ obeys.0))),
             HandsOn-trans held held' held' w w' w'' own [] handed (HandsOn-wait held' w' w'' [] (obeys.1 ∙ sym (append-nil w'))),
           )
 

@@ -1,13 +1,18 @@
 -- The commands that lines give.
-use Rattle.std.specs.Prelude.{ℕ, Bool, ◌==◌, List, [], ◌∷◌, ◌++◌, Option, None, Some, is_some, option_map, option_and_then, if◌then◌else◌, codes}
+use Rattle.std.specs.Prelude.{ℕ, Bool, ◌==◌, List, [], ◌∷◌, ◌++◌, Option, None, Some}
+use Rattle.std.specs.Prelude.{is_some, option_map, option_and_then, if◌then◌else◌, codes}
 use Rattle.std.specs.List.{list_all}
 use Rattle.std.specs.Str.{bytes_eq}
 use Rattle.typed_ids.specs.declared.string_id.StringId.{StringId}
 use Rattle.typed_ids.specs.declared.version_set_id.VersionSetId.{VersionSetId}
 use Rattle.decisions.specs.Literals.{Lit, Pos, Neg}
-use Rattle.resolvo_store.specs.Command.{Command, Variable, Helper, Load, Disjunction, Requires, Root, Constrains, ConstrainsExcluded, ConstrainsParent, Lock, Exclude, AnyOf, Learnt, AtMostOnce, Assign, UndoLast, UndoUntil, Unpropagated, Bump, Decay, Standard, Rewatch, Watchers, Saturate, Decide}
+use Rattle.resolvo_store.specs.Command.{Command, Variable, Helper, Load, Disjunction, Requires, Root}
+use Rattle.resolvo_store.specs.Command.{Constrains, ConstrainsExcluded, ConstrainsParent, Lock, Exclude}
+use Rattle.resolvo_store.specs.Command.{AnyOf, Learnt, AtMostOnce, Assign, UndoLast, UndoUntil, Unpropagated}
+use Rattle.resolvo_store.specs.Command.{Bump, Decay, Standard, Rewatch, Watchers, Saturate, Decide}
 use Rattle.resolvo_store.specs.declared.helper_origin.HelperOrigin.{HelperOrigin}
-use Rattle.resolvo_store.specs.declared.helper_origin.HelperOrigin.TheVariants.{AtLeastOne, ConstrainsViolation, RequiresGate}
+use Rattle.resolvo_store.specs.declared.helper_origin.HelperOrigin.TheVariants.{AtLeastOne, ConstrainsViolation}
+use Rattle.resolvo_store.specs.declared.helper_origin.HelperOrigin.TheVariants.{RequiresGate}
 use Rattle.script_packages.specs.Ids.{number_32, variable_of, clause_of, requirement_of, truth_of}
 use Rattle.script_text.specs.Numbers.{number_of, below}
 use Rattle.script_text.specs.Statements.{line_says, statement_says}
@@ -78,14 +83,17 @@ module _ {N S : Type 0} where
   -- a condition's number, and the literals that stand for it
   abbrev pub disjunction_command : List (List ℕ) → Option (Command N S)
   disjunction_command (c ∷ ws) =
-      option_and_then (λ condition. option_map (λ literals. Disjunction literals condition) (with_literals [] ws)) (clause_of c)
+      option_and_then (λ condition. option_map (λ literals. Disjunction literals condition) (with_literals [] ws))
+      (clause_of c)
   disjunction_command _ = None
 
   abbrev pub requires_command : List (List ℕ) → Option (Command N S)
   requires_command (p ∷ r ∷ []) =
-      option_and_then (λ parent. option_map (λ required. Requires parent required None) (requirement_of r)) (variable_of p)
+      option_and_then (λ parent. option_map (λ required. Requires parent required None) (requirement_of r))
+      (variable_of p)
   requires_command (p ∷ r ∷ d ∷ []) =
-      option_and_then (λ parent. option_and_then (λ required. option_map (λ disjunction. Requires parent required (Some disjunction))
+      option_and_then (λ parent.
+      option_and_then (λ required. option_map (λ disjunction. Requires parent required (Some disjunction))
       (clause_of d)) (requirement_of r)) (variable_of p)
   requires_command _ = None
 
@@ -119,7 +127,8 @@ module _ {N S : Type 0} where
 
   abbrev pub rewatch_command : List (List ℕ) → Option (Command N S)
   rewatch_command (c ∷ a ∷ b ∷ []) =
-      option_and_then (λ clause. option_and_then (λ from. option_map (λ to. Rewatch clause from to) (literal_of b)) (literal_of a)) (clause_of c)
+      option_and_then (λ clause. option_and_then (λ from. option_map (λ to. Rewatch clause from to) (literal_of b))
+      (literal_of a)) (clause_of c)
   rewatch_command _ = None
 
   abbrev pub watchers_command : List (List ℕ) → Option (Command N S)
@@ -134,8 +143,10 @@ module _ {N S : Type 0} where
   abbrev pub between_command : List ℕ → List (List ℕ) → Option (Command N S)
   between_command keyword ws =
       if bytes_eq keyword (codes "constrains") then option_map (λ w. Constrains w.0 w.1 w.2) (pair_and_set_of ws)
-      else if bytes_eq keyword (codes "constrains-excluded") then option_map (λ w. ConstrainsExcluded w.0 w.1 w.2) (pair_and_set_of ws)
-      else if bytes_eq keyword (codes "constrains-parent") then option_map (λ w. ConstrainsParent w.0 w.1 w.2) (pair_and_set_of ws)
+      else if bytes_eq keyword (codes "constrains-excluded")
+      then option_map (λ w. ConstrainsExcluded w.0 w.1 w.2) (pair_and_set_of ws)
+      else if bytes_eq keyword (codes "constrains-parent")
+      then option_map (λ w. ConstrainsParent w.0 w.1 w.2) (pair_and_set_of ws)
       else if bytes_eq keyword (codes "lock") then option_map (λ w. Lock w.0 w.1) (pair_of ws)
       else if bytes_eq keyword (codes "any-of") then option_map (λ w. AnyOf w.0 w.1) (pair_of ws)
       else None
@@ -143,18 +154,21 @@ module _ {N S : Type 0} where
 -- what a helper variable is to stand for, by its kind. A number below a limit names the package at it
 abbrev pub helper_origin_of : {N : Type 0} → ℕ → (ℕ → N) → List ℕ → List ℕ → Option (HelperOrigin N)
 helper_origin_of names name_at kind word =
-    if bytes_eq kind (codes "any-of") then option_map (λ number. AtLeastOne (name_at number)) (below names (number_of word))
+    if bytes_eq kind (codes "any-of") then option_map (λ number. AtLeastOne (name_at number))
+    (below names (number_of word))
     else if bytes_eq kind (codes "violation") then option_map (λ set. ConstrainsViolation set) (set_of word)
     else if bytes_eq kind (codes "gate") then option_map (λ required. RequiresGate required) (requirement_of word)
     else None
 
 module _ {N S : Type 0} (ids : Ids N S) where
   abbrev pub variable_command : List (List ℕ) → Option (Command N S)
-  variable_command (s ∷ []) = option_map (λ number. Variable (ids.solvable_at number)) (below ids.solvables (number_of s))
+  variable_command (s ∷ []) = option_map (λ number. Variable (ids.solvable_at number))
+      (below ids.solvables (number_of s))
   variable_command _ = None
 
   abbrev pub helper_command : List (List ℕ) → Option (Command N S)
-  helper_command (kind ∷ word ∷ []) = option_map (λ origin. Helper origin) (helper_origin_of ids.names ids.name_at kind word)
+  helper_command (kind ∷ word ∷ []) = option_map (λ origin. Helper origin)
+      (helper_origin_of ids.names ids.name_at kind word)
   helper_command _ = None
 
   abbrev pub at_most_once_command : List (List ℕ) → Option (Command N S)

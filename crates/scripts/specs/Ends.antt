@@ -12,12 +12,14 @@ module _ (answered : List (List ℕ) → List ℕ → Option ℕ → Type 0) whe
   -- the first of these lines, however many, are answered by this text, in which an unreadable one is named
   abbrev pub FirstAnswered : List (List ℕ) → List ℕ → Type 0
   FirstAnswered lines text =
-      (first left : List (List ℕ)) × (answer : List ℕ) × (faulty : Option ℕ) × (lines ≡ first ++ left) × answered first answer faulty
+      (first left : List (List ℕ)) × (answer : List ℕ) × (faulty : Option ℕ) × (lines ≡ first ++ left) ×
+      answered first answer faulty
       × (text ≡ answer ++ faulty_text faulty)
 
   -- what lines are answered was handed on, and waits where it isn't written: all of it; or, of an answer to the first
   -- of them, all but what memory was refused for, or what a writer that failed took
-  abbrev pub HandsAnswer : {T : Type 0} → List (List ℕ) → Option (List ℕ) → List ℕ → Result T ScriptFault → Option (List ℕ)
+  abbrev pub HandsAnswer : {T : Type 0} → List (List ℕ) → Option (List ℕ) → List ℕ →
+      Result T ScriptFault → Option (List ℕ)
       → List ℕ → Type 0
   HandsAnswer lines held waiting (Ok _) held' waiting' =
       (text : List ℕ) × answered lines text None × HandsOn held waiting held' waiting' text

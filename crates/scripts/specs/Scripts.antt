@@ -16,7 +16,8 @@ faulty_text (Some number) = unreadable_text number
 -- the commands of a script are answered by this text, over the packages of its catalogue
 abbrev pub CommandsAnswered : List (List ℕ) → List ℕ → Option ℕ → Type 0
 CommandsAnswered lines text faulty =
-    (packages : Packages) × (before : ℕ) × (left : List (List ℕ)) × CommandsBegin nothing_listed 0 lines before left packages
+    (packages : Packages) × (before : ℕ) × (left : List (List ℕ)) ×
+    CommandsBegin nothing_listed 0 lines before left packages
     × Answered numbers (new_store (provider_of packages)) before left text faulty
 
 -- the lines of a script are answered by this text, up to the first unreadable one: it has no commands, or its catalogue

@@ -27,8 +27,8 @@ BeginsCommand Unreadable after = ⊥
 BeginsCommand (Says c) after = ⊤
 
 module _ {N S : Type 0} where
-  -- memory was refused for the command that a line says, and the text stays; or for the reply's line, of which a beginning
-  -- is put after the text
+  -- memory was refused for the command that a line says, and the text stays; or for the reply's line, of which a
+  -- beginning is put after the text
   abbrev pub RefusesLine : Store N S → Line (Command N S) → List ℕ → List ℕ → Store N S → Type 0
   RefusesLine old (Says c) text text' new =
       (text' ≡ text) ⊎ ((reply : Reply) × Step old c reply new × StartsWith (text ++ reply_text reply) text')
@@ -36,16 +36,18 @@ module _ {N S : Type 0} where
 
   -- a line that says this is obeyed, and a text grows by the reply's line; or the line is unreadable; or memory was
   -- refused, which only a command can be
-  abbrev pub ObeysLine : {T : Type 0} → Store N S → Line (Command N S) → List ℕ → Result T LineFault → List ℕ → Store N S
+  abbrev pub ObeysLine : {T : Type 0} → Store N S → Line (Command N S) → List ℕ → Result T LineFault →
+      List ℕ → Store N S
       → Type 0
   ObeysLine old said text (Err OfLine.Memory) text' new = RefusesLine old said text text' new
   ObeysLine old said text (Err OfLine.Unreadable) text' new = (said ≡ Unreadable) × (text' ≡ text)
   ObeysLine old Skipped text (Ok _) text' new = (text' ≡ text) × (new ≡ old)
   ObeysLine old Unreadable text (Ok _) text' new = ⊥
-  ObeysLine old (Says c) text (Ok _) text' new = (reply : Reply) × Step old c reply new × (text' ≡ text ++ reply_text reply)
+  ObeysLine old (Says c) text (Ok _) text' new = (reply : Reply) × Step old c reply new ×
+      (text' ≡ text ++ reply_text reply)
 
-  -- a line of this number says this, and what is after it goes on so from the store that it leaves, with the text that is
-  -- left. `faulty` is the number of the first unreadable line, if there is one
+  -- a line of this number says this, and what is after it goes on so from the store that it leaves, with the text that
+  -- is left. `faulty` is the number of the first unreadable line, if there is one
   abbrev pub LineAnswered : Store N S → ℕ → Line (Command N S) → (Store N S → List ℕ → Type 0) → List ℕ → Option ℕ
       → Type 0
   LineAnswered st number Skipped goes_on text faulty = goes_on st text
@@ -61,8 +63,8 @@ module _ {N S : Type 0} (ids : Ids N S) where
   HasCommand [] = ⊥
   HasCommand (line ∷ lines) = BeginsCommand (command_line_of ids line) (HasCommand lines)
 
-  -- the lines, with so many before them, are answered by this text: a line for each command that was obeyed, in turn, up
-  -- to the first unreadable line or the end
+  -- the lines, with so many before them, are answered by this text: a line for each command that was obeyed, in turn,
+  -- up to the first unreadable line or the end
   abbrev pub Answered : Store N S → ℕ → List (List ℕ) → List ℕ → Option ℕ → Type 0
   Answered st before [] text faulty = (text ≡ []) × (faulty ≡ None)
   Answered st before (line ∷ lines) text faulty =

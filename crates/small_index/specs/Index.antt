@@ -1,5 +1,6 @@
 -- What a small index answers.
-use Rattle.std.specs.Prelude.{◌≡◌, ℕ, ◌++◌, ◌==◌, Bool, true, ◌&&◌, All, nat_le, nat_lt, List, [], length, slice_get, unwrap_or, option_map, filter, codes, decimal}
+use Rattle.std.specs.Prelude.{◌≡◌, ℕ, ◌++◌, ◌==◌, Bool, true, ◌&&◌, All, nat_le, nat_lt, List, []}
+use Rattle.std.specs.Prelude.{length, slice_get, unwrap_or, option_map, filter, codes, decimal}
 use Rattle.std.proofs.lemmas.List.Elements.{All-filter, filter_passes}
 use Rattle.resolvo_ids.specs.Types.VersionSetId.{VersionSetId}
 use Rattle.resolvo_pool.specs.Dependencies.{Needs, Known}
@@ -24,7 +25,8 @@ module _ {N : Type 0} (pool : Lists N VersionRange ℕ) where
   -- the range of a version set
   abbrev pub range_in : VersionSetId → VersionRange
   range_in v =
-      unwrap_or (option_map (λ (x : ℕ × VersionRange). x.1) (slice_get pool.version_sets v.0)) (record { low = 0; high = 0 })
+      unwrap_or (option_map (λ (x : ℕ × VersionRange). x.1) (slice_get pool.version_sets v.0))
+      (record { low = 0; high = 0 })
 
   -- of these solvables, those that the pool has
   abbrev pub here : List ℕ → List ℕ
@@ -35,10 +37,12 @@ module _ {N : Type 0} (pool : Lists N VersionRange ℕ) where
   of_name name solvables = filter (λ s. solvable_name_in pool s == name) solvables
 
   -- the pool has those that it is asked for
-  pub named_known : (name : ℕ) (solvables : List ℕ) → All (λ s. nat_lt s (length pool.solvables) ≡ true) (of_name name (here solvables))
+  pub named_known : (name : ℕ) (solvables : List ℕ) →
+      All (λ s. nat_lt s (length pool.solvables) ≡ true) (of_name name (here solvables))
   named_known name solvables = All-filter _ (λ s. nat_lt s (length pool.solvables) ≡ true) _ (filter_passes _ solvables)
 
 -- what the solvable at this place of the list needs; nothing where there is none
 abbrev pub needs_at : {A : Type 0} → List (KnownDependencies A) → ℕ → Needs
 needs_at {A} list place =
-    unwrap_or (option_map (λ (known : KnownDependencies A). Known known.requirements.items known.constrains.items) (slice_get list place)) (Known [] [])
+    unwrap_or (option_map (λ (known : KnownDependencies A). Known known.requirements.items known.constrains.items)
+    (slice_get list place)) (Known [] [])

@@ -1,5 +1,6 @@
 //! The provider: what an index answers as an interner, in its first half, and as a provider, in its second.
-ghost use Rattle.std.specs.Prelude.{◌≡◌, ◌<◌, true, All, None, length, reverse, string_bytes, decimal, IfOk, IfErr, OnOk, OnErr};
+ghost use Rattle.std.specs.Prelude.{◌≡◌, ◌<◌, true, All, None, length, reverse};
+ghost use Rattle.std.specs.Prelude.{string_bytes, decimal, IfOk, IfErr, OnOk, OnErr};
 ghost use Rattle.resolvo_ids.specs.Types.StoreError.TheVariants.{OutOfMemory};
 ghost use Rattle.resolvo_pool.specs.Pool.{IsOfItself};
 ghost use Rattle.resolvo_pool.specs.PoolProps.{pool_props};

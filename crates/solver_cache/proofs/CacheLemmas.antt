@@ -1,5 +1,7 @@
 -- A cache that keeps more: what is kept is still right, and what was kept is still kept.
-use Rattle.std.proofs.Common.{rules, ◌≡◌, Bool, true, false, cond, ℕ, ◌<◌, List, [], ◌∷◌, ◌++◌, length, slice_get, is_some, Option, None, Some, take, drop, get_or, true≢false, ◌≤◌, ◌∙◌, ap, refl, sym, subst, arith}
+use Rattle.std.proofs.Common.{rules, ◌≡◌, Bool, true, false, cond, ℕ, ◌<◌, List, [], ◌∷◌}
+use Rattle.std.proofs.Common.{◌++◌, length, slice_get, is_some, Option, None, Some, take}
+use Rattle.std.proofs.Common.{drop, get_or, true≢false, ◌≤◌, ◌∙◌, ap, refl, sym, subst, arith}
 use Rattle.std.specs.List.{list_any}
 use Rattle.std.specs.Prelude.{◌&&◌, not, All, Result, Ok, Err, OnErr, IfErr}
 use Rattle.std.specs.Result.{IsErrAnd}
@@ -26,7 +28,8 @@ use Rattle.providers.specs.Requirement.{same_requirement}
 use Rattle.providers.specs.declared.requirement.Requirement.TheVariants.{Single, Union}
 use Rattle.solver_cache.specs.Functions.{Provider, MayAnswer}
 use Rattle.solver_cache.specs.Hints.{hints_of}
-use Rattle.solver_cache.specs.Questions.{BeginsWith, IsLater, IsOnce, IsMarked, IsAsked, IsMatched, IsSorted, AreSorted, IsRefusedOf, IsRefusedOfSets, lacks_candidates}
+use Rattle.solver_cache.specs.Questions.{BeginsWith, IsLater, IsOnce, IsMarked, IsAsked, IsMatched, IsSorted}
+use Rattle.solver_cache.specs.Questions.{AreSorted, IsRefusedOf, IsRefusedOfSets, lacks_candidates}
 use Rattle.solver_cache.specs.declared.error.CacheError.{CacheError}
 use Rattle.solver_cache.specs.declared.error.CacheError.TheVariants.{Store, Cancelled}
 
@@ -62,7 +65,8 @@ module _ {K V : Type 0} where
   found_right same is_sameness P key value (e ∷ es) all h =
       by_test (same key e.0) refl h (found_right same is_sameness P key value es (All-tail (λ e. P e.0 e.1) e es all))
     where
-      by_test : (b : Bool) → same key e.0 ≡ b → cond b (Some e.1) (lookup (same key) es) ≡ Some value → (lookup (same key) es ≡ Some value → P key value) → P key value
+      by_test : (b : Bool) → same key e.0 ≡ b → cond b (Some e.1) (lookup (same key) es) ≡ Some value →
+          (lookup (same key) es ≡ Some value → P key value) → P key value
       by_test true t h rest =
           let is : e.1 ≡ value = cc in
           subst (λ v. P key v) is (subst (λ k. P k e.1) (sym (is_sameness key e.0 t)) (All-head (λ e. P e.0 e.1) e es all))
@@ -181,7 +185,14 @@ module _ {D N S A H : Type 0} (has : H → S → Bool) where
 
 module _ {D N S A H : Type 0} {may : MayAnswer N S A} (p : Provider N S) (c : Cache D N S A H) (is : IsCache p may c) where
   pub right_marked : (hinted : H) → IsCache p may (record c { hinted = hinted })
-  right_marked hinted = record { answers = is.answers; fits = is.fits; matching = is.matching; non_matching = is.non_matching; sorted = is.sorted; needs = is.needs }
+  right_marked hinted = record {
+    answers = is.answers;
+    fits = is.fits;
+    matching = is.matching;
+    non_matching = is.non_matching;
+    sorted = is.sorted;
+    needs = is.needs;
+  }
 
   pub right_asked : (n : N) (answer : Candidates S A) (hinted : H) → IsAnswer p may n answer → p.is_large_name n ≡ false
       → IsCache p may (record c { candidates = c.candidates ++ (n, answer) ∷ []; hinted = hinted })
@@ -222,7 +233,8 @@ module _ {D N S A H : Type 0} {may : MayAnswer N S A} (p : Provider N S) (c : Ca
     answers = is.answers;
     fits = is.fits;
     matching = is.matching;
-    non_matching = All-push (λ e. (e.1 ≡ non_matching p.universe p.answers e.0) × (is_set_asked p c e.0 ≡ true)) c.non_matching (v, list) is.non_matching (h, asked);
+    non_matching = All-push (λ e. (e.1 ≡ non_matching p.universe p.answers e.0) ×
+        (is_set_asked p c e.0 ≡ true)) c.non_matching (v, list) is.non_matching (h, asked);
     sorted = is.sorted;
     needs = is.needs;
   }
@@ -251,22 +263,28 @@ module _ {D N S A H : Type 0} {may : MayAnswer N S A} (p : Provider N S) (c : Ca
   found_answer is_sameness n place kept at = kept_answer p.same_name is_sameness (IsAnswer p may) n place c.candidates is.answers kept at
 
   -- what is kept of a version set, and that its package was asked for
-  pub found_matching : (v : VersionSetId) (place : ℕ) → is_kept (same_set v) c.matching ≡ true → slice_get (values_of c.matching) place ≡ lookup (same_set v) c.matching
+  pub found_matching : (v : VersionSetId) (place : ℕ) → is_kept (same_set v) c.matching ≡ true →
+      slice_get (values_of c.matching) place ≡ lookup (same_set v) c.matching
       → (list_at c (Matching, place) ≡ Some (matching p.universe p.answers v)) × (is_set_asked p c v ≡ true)
   found_matching v place kept at =
-      let found = kept_answer same_set sets_same (λ v list. (list ≡ matching p.universe p.answers v) × (is_set_asked p c v ≡ true)) v place c.matching is.matching kept at in
+      let found = kept_answer same_set sets_same (λ v list. (list ≡ matching p.universe p.answers v) ×
+      (is_set_asked p c v ≡ true)) v place c.matching is.matching kept at in
       (found.1 ∙ ap Some found.2.0, found.2.1)
 
-  pub found_non_matching : (v : VersionSetId) (place : ℕ) → is_kept (same_set v) c.non_matching ≡ true → slice_get (values_of c.non_matching) place ≡ lookup (same_set v) c.non_matching
+  pub found_non_matching : (v : VersionSetId) (place : ℕ) → is_kept (same_set v) c.non_matching ≡ true →
+      slice_get (values_of c.non_matching) place ≡ lookup (same_set v) c.non_matching
       → (list_at c (NonMatching, place) ≡ Some (non_matching p.universe p.answers v)) × (is_set_asked p c v ≡ true)
   found_non_matching v place kept at =
-      let found = kept_answer same_set sets_same (λ v list. (list ≡ non_matching p.universe p.answers v) × (is_set_asked p c v ≡ true)) v place c.non_matching is.non_matching kept at in
+      let found = kept_answer same_set sets_same (λ v list. (list ≡ non_matching p.universe p.answers v) ×
+      (is_set_asked p c v ≡ true)) v place c.non_matching is.non_matching kept at in
       (found.1 ∙ ap Some found.2.0, found.2.1)
 
-  pub found_sorted : (r : Requirement) (place : ℕ) → is_kept (same_requirement r) c.sorted ≡ true → slice_get (values_of c.sorted) place ≡ lookup (same_requirement r) c.sorted
+  pub found_sorted : (r : Requirement) (place : ℕ) → is_kept (same_requirement r) c.sorted ≡ true →
+      slice_get (values_of c.sorted) place ≡ lookup (same_requirement r) c.sorted
       → (list_at c (Sorted, place) ≡ Some (sorted_of p r)) × All (λ v. is_set_asked p c v ≡ true) (sets_of p.universe r)
   found_sorted r place kept at =
-      let found = kept_answer same_requirement requirements_same (λ r list. (list ≡ sorted_of p r) × All (λ v. is_set_asked p c v ≡ true) (sets_of p.universe r)) r place c.sorted is.sorted kept at in
+      let found = kept_answer same_requirement requirements_same (λ r list. (list ≡ sorted_of p r) ×
+      All (λ v. is_set_asked p c v ≡ true) (sets_of p.universe r)) r place c.sorted is.sorted kept at in
       (found.1 ∙ ap Some found.2.0, found.2.1)
 
   pub found_single : (v : VersionSetId) (place : ℕ) → is_kept (same_requirement (Single v)) c.sorted ≡ true
@@ -283,25 +301,29 @@ more_list c r list other e = ap (λ l. record c { sorted = c.sorted ++ (r, l) �
 
 -- one list more after the same
 module _ {D N S A H : Type 0} (c mid : Cache D N S A H) (e : c ≡ mid) where
-  pub more_matching : (v : VersionSetId) (list : List S) → record c { matching = c.matching ++ (v, list) ∷ [] } ≡ record mid { matching = mid.matching ++ (v, list) ∷ [] }
+  pub more_matching : (v : VersionSetId) (list : List S) →
+      record c { matching = c.matching ++ (v, list) ∷ [] } ≡ record mid { matching = mid.matching ++ (v, list) ∷ [] }
   more_matching v list = ap (λ (x : Cache D N S A H). record x { matching = x.matching ++ (v, list) ∷ [] }) e
 
-  pub more_non_matching : (v : VersionSetId) (list : List S) → record c { non_matching = c.non_matching ++ (v, list) ∷ [] } ≡ record mid { non_matching = mid.non_matching ++ (v, list) ∷ [] }
+  pub more_non_matching : (v : VersionSetId) (list : List S) →
+      record c { non_matching = c.non_matching ++ (v, list) ∷ [] } ≡
+      record mid { non_matching = mid.non_matching ++ (v, list) ∷ [] }
   more_non_matching v list = ap (λ (x : Cache D N S A H). record x { non_matching = x.non_matching ++ (v, list) ∷ [] }) e
 
   pub more_sorted : (r : Requirement) (list : List S) → record c { sorted = c.sorted ++ (r, list) ∷ [] } ≡ record mid { sorted = mid.sorted ++ (r, list) ∷ [] }
   more_sorted r list = ap (λ (x : Cache D N S A H). record x { sorted = x.sorted ++ (r, list) ∷ [] }) e
 
 -- nothing is kept
-pub right_new : {D N S A H : Type 0} {may : MayAnswer N S A} (p : Provider N S) (provider : D) (hinted : H) → IsCache {D = D} {N = N} {S = S} {A = A} {H = H} p may (record {
-  provider = provider;
-  candidates = [];
-  matching = [];
-  non_matching = [];
-  sorted = [];
-  dependencies = [];
-  hinted = hinted;
-})
+pub right_new : {D N S A H : Type 0} {may : MayAnswer N S A} (p : Provider N S) (provider : D) (hinted : H) →
+    IsCache {D = D} {N = N} {S = S} {A = A} {H = H} p may (record {
+      provider = provider;
+      candidates = [];
+      matching = [];
+      non_matching = [];
+      sorted = [];
+      dependencies = [];
+      hinted = hinted;
+    })
 right_new p provider hinted = record {
   answers = λ k d lt. (let no : ⊥ = omega arith in absurd no);
   fits = λ k d lt. (let no : ⊥ = omega arith in absurd no);
@@ -322,7 +344,8 @@ kept_front test (e ∷ es) more h =
 
 pub kept_later : {K V : Type 0} (test : K → Bool) (es fs : List (K × V)) → BeginsWith es fs → is_kept test es ≡ true → is_kept test fs ≡ true
 kept_later test es fs begins h =
-    subst (λ l. is_kept test l ≡ true) (ap (λ l. l ++ drop (length es) fs) (sym begins) ∙ take-append-drop (length es) fs) (kept_front test es (drop (length es) fs) h)
+    subst (λ l. is_kept test l ≡ true) (ap (λ l. l ++ drop (length es) fs) (sym begins) ∙
+    take-append-drop (length es) fs) (kept_front test es (drop (length es) fs) h)
 
 pub begins_trans : {X : Type 0} (xs ys zs : List X) → BeginsWith xs ys → BeginsWith ys zs → BeginsWith xs zs
 begins_trans xs ys zs first second =
@@ -346,7 +369,8 @@ module _ {D N S A H : Type 0} (has : H → S → Bool) where
   asked_later p v c d later h = kept_later _ c.candidates d.candidates later.candidates h
 
   -- one version set more
-  pub sorted_push : (p : Provider N S) (may : MayAnswer N S A) (vs : List VersionSetId) (v : VersionSetId) (c d e : Cache D N S A H) → AreSorted p may has c vs d → IsSorted p may has d v e
+  pub sorted_push : (p : Provider N S) (may : MayAnswer N S A) (vs : List VersionSetId) (v : VersionSetId)
+      (c d e : Cache D N S A H) → AreSorted p may has c vs d → IsSorted p may has d v e
       → AreSorted p may has c (vs ++ v ∷ []) e
   sorted_push p may [] v c d e first next = (e, subst (λ x. IsSorted p may has x v e) first next, refl)
   sorted_push p may (w ∷ vs) v c d e first next = (first.0, first.1, sorted_push p may vs v first.0 d e first.2 next)
@@ -370,7 +394,9 @@ module _ {D N S A H : Type 0} (has : H → S → Bool) (p : Provider N S) (old m
       by_test false t = t
 
   -- a refusal of one of version sets that were asked for in turn
-  pub refused_in_turn : {C : Type 0} (e : CacheError C) → IsRefusedOf (is_set_asked p mid (get_or vs i d)) (lacks_candidates p new (p.universe.set_name (get_or vs i d))) mid e new
+  pub refused_in_turn : {C : Type 0} (e : CacheError C) →
+      IsRefusedOf (is_set_asked p mid (get_or vs i d))
+      (lacks_candidates p new (p.universe.set_name (get_or vs i d))) mid e new
       → IsRefusedOfSets p vs old e new
   refused_in_turn (Cancelled reason) h =
       list_all_at (is_set_asked p old) vs i d lt (not_asked h.0)
@@ -426,7 +452,8 @@ module _ {D N S A H : Type 0} (has : H → S → Bool) (p : Provider N S) (may :
           (new ≡ record mid { sorted = mid.sorted ++ (Single v, sorted p.universe p.answers p.same_solvable v) ∷ [] })) d → kept_union d ≡ kept_union c
       by_kept true h = ap kept_union h
       by_kept false h =
-          ap kept_union h.2 ∙ skips (same_requirement (Union u)) h.0.sorted (Single v, sorted p.universe p.answers p.same_solvable v) refl ∙ matched_skips v c h.0 h.1
+          ap kept_union h.2 ∙ skips (same_requirement (Union u)) h.0.sorted
+          (Single v, sorted p.universe p.answers p.same_solvable v) refl ∙ matched_skips v c h.0 h.1
 
   -- version sets that are asked for in turn keep no union
   pub union_still_new : (vs : List VersionSetId) (c d : Cache D N S A H) → AreSorted p may has c vs d → kept_union c ≡ false → kept_union d ≡ false

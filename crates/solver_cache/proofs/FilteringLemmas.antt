@@ -35,7 +35,8 @@ module _ {D N S A H : Type 0} (has : H → S → Bool) where
         by_kept false h = ap (λ (x : Cache D N S A H). x.non_matching) h.3
 
   -- nor is anything lost by a list more
-  pub later_matching : (c d : Cache D N S A H) (v : VersionSetId) (list : List S) → IsLater has c d → IsLater has c (record d { matching = d.matching ++ (v, list) ∷ [] })
+  pub later_matching : (c d : Cache D N S A H) (v : VersionSetId) (list : List S) → IsLater has c d →
+      IsLater has c (record d { matching = d.matching ++ (v, list) ∷ [] })
   later_matching c d v list later = later_trans has c d _ later (record {
     provider = refl;
     candidates = begins_same d.candidates;

@@ -28,7 +28,8 @@ pub second_fails : (a b : Bool) → (a || b) ≡ false → b ≡ false
 second_fails true b h = absurd (true≢false h)
 second_fails false b h = h
 
-module _ {D N S A H : Type 0} {may : MayAnswer N S A} (p : Provider N S) (c : Cache D N S A H) (is : IsCache p may c) (is_sameness : (a b : N) → p.same_name a b ≡ true → a ≡ b) where
+module _ {D N S A H : Type 0} {may : MayAnswer N S A} (p : Provider N S) (c : Cache D N S A H) (is : IsCache p may c)
+    (is_sameness : (a b : N) → p.same_name a b ≡ true → a ≡ b) where
   -- a name that was asked for isn't too large
   asked_fits : (v : VersionSetId) → is_set_asked p c v ≡ true → p.is_large_name (p.universe.set_name v) ≡ false
   asked_fits v asked =

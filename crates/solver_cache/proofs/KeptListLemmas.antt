@@ -27,7 +27,8 @@ module _ {K V L : Type 0} (list : V → L) where
       ∙ ap (option_map (λ (e : K × L). e.1)) (slice_get-map (λ (e : K × V). (e.0, list e.1)) entries place)
       ∙ both (slice_get entries place) ∙ sym (ap (option_map list) (slice_get-map (λ (e : K × V). e.1) entries place))
     where
-      both : (o : Option (K × V)) → option_map (λ (e : K × L). e.1) (option_map (λ (e : K × V). (e.0, list e.1)) o) ≡ option_map list (option_map (λ (e : K × V). e.1) o)
+      both : (o : Option (K × V)) → option_map (λ (e : K × L). e.1) (option_map (λ (e : K × V). (e.0, list e.1)) o) ≡
+          option_map list (option_map (λ (e : K × V). e.1) o)
       both None = refl
       both (Some e) = refl
 

@@ -14,7 +14,8 @@ use Rattle.solver_cache.specs.Questions.{IsLater, IsOnce, IsMarked, IsAsked, IsM
 use Rattle.solver_cache.proofs.CacheLemmas.{begins_same, begins_more, later_trans, same_is}
 
 -- a requirement that isn't found isn't kept
-pub not_kept : {V : Type 0} (r : Requirement) (es : List (Requirement × V)) → false ≡ is_some (lookup (eq-value.it r) es) → is_kept (same_requirement r) es ≡ false
+pub not_kept : {V : Type 0} (r : Requirement) (es : List (Requirement × V)) →
+    false ≡ is_some (lookup (eq-value.it r) es) → is_kept (same_requirement r) es ≡ false
 not_kept r es h = ap (λ t. is_kept t es) (sym (same_is r)) ∙ sym h
 
 module _ {D N S A H : Type 0} (has : H → S → Bool) where
@@ -37,7 +38,8 @@ module _ {D N S A H : Type 0} (has : H → S → Bool) where
         by_kept false h = ap (λ (x : Cache D N S A H). x.sorted) h.2 ∙ asked_sorted (p.universe.set_name v) c h.0 h.1
 
   -- nothing is lost by a sorted list more
-  pub later_sorted : (c d : Cache D N S A H) (r : Requirement) (list : List S) → IsLater has c d → IsLater has c (record d { sorted = d.sorted ++ (r, list) ∷ [] })
+  pub later_sorted : (c d : Cache D N S A H) (r : Requirement) (list : List S) → IsLater has c d →
+      IsLater has c (record d { sorted = d.sorted ++ (r, list) ∷ [] })
   later_sorted c d r list later = later_trans has c d _ later (record {
     provider = refl;
     candidates = begins_same d.candidates;

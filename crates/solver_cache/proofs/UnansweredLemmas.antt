@@ -32,8 +32,10 @@ module _ {D N S A H : Type 0} (p : Provider N S) (may : MayAnswer N S A) (has : 
   all_sorted vs c d h = subst (λ l. AreUnsorted p may has c l d) (append-nil vs) (unsorted_after vs [] c d d h refl)
 
   -- the only one was refused
-  pub left_single : {C T : Type 0} (asked lacks : Bool) (v : VersionSetId) (old new : Cache D N S A H) (result : Result T (CacheError C)) → is_set_asked p old v ≡ asked
-      → IfErr result (λ e. IsRefusedOf asked lacks old e new) → OnErr result (IsUnsorted p may has old v new) → IfErr result (λ e. AreLeft p may has (v ∷ []) old e new)
+  pub left_single : {C T : Type 0} (asked lacks : Bool) (v : VersionSetId) (old new : Cache D N S A H)
+      (result : Result T (CacheError C)) → is_set_asked p old v ≡ asked
+      → IfErr result (λ e. IsRefusedOf asked lacks old e new) → OnErr result (IsUnsorted p may has old v new) →
+      IfErr result (λ e. AreLeft p may has (v ∷ []) old e new)
   left_single asked lacks v old new (Ok value) same refused left = tt
   left_single asked lacks v old new (Err (Cancelled reason)) same refused left = inl (same ∙ refused.0, refused.1)
   left_single asked lacks v old new (Err (Store e)) same refused left = inl left

@@ -1,5 +1,5 @@
--- A cache: what it was asked, and what it was answered. D are the providers, N the names, S the solvables, A the allocators,
--- H the sets of solvables.
+-- A cache: what it was asked, and what it was answered. D are the providers, N the names, S the solvables, A the
+-- allocators, H the sets of solvables.
 use Rattle.std.specs.Prelude.{◌≡◌, ℕ, Bool, true, false, ◌||◌, ◌==◌, List, [], map, flat_map, All}
 use Rattle.std.specs.Prelude.{Option, None, Some, is_some, unwrap_or, slice_get}
 use Rattle.std.specs.Map.{lookup}
@@ -79,8 +79,10 @@ pub record IsCache {D N S A H : Type 0} (p : Provider N S) (may : MayAnswer N S 
   pub answers : All (λ e. IsAnswer p may e.0 e.1) c.candidates
   pub fits : All (λ e. p.is_large_name e.0 ≡ false) c.candidates
   pub matching : All (λ e. (e.1 ≡ matching p.universe p.answers e.0) × (is_set_asked p c e.0 ≡ true)) c.matching
-  pub non_matching : All (λ e. (e.1 ≡ non_matching p.universe p.answers e.0) × (is_set_asked p c e.0 ≡ true)) c.non_matching
-  pub sorted : All (λ e. (e.1 ≡ sorted_of p e.0) × All (λ v. is_set_asked p c v ≡ true) (sets_of p.universe e.0)) c.sorted
+  pub non_matching : All (λ e. (e.1 ≡ non_matching p.universe p.answers e.0) ×
+      (is_set_asked p c e.0 ≡ true)) c.non_matching
+  pub sorted : All (λ e. (e.1 ≡ sorted_of p e.0) ×
+      All (λ v. is_set_asked p c v ≡ true) (sets_of p.universe e.0)) c.sorted
   pub needs : All (λ e. needs_of e.1 ≡ p.answers.needs e.0) c.dependencies
 
 module _ {D N S A H : Type 0} (c : Cache D N S A H) where
@@ -99,5 +101,6 @@ module _ {D N S A H : Type 0} (c : Cache D N S A H) where
   listed id = unwrap_or (list_at id) []
 
 -- these are the places of the candidates of version sets, best first, one list a set
-abbrev pub AreListed : {D N S A H : Type 0} → Provider N S → Cache D N S A H → List (ListKind × ℕ) → List VersionSetId → Type 0
+abbrev pub AreListed : {D N S A H : Type 0} → Provider N S → Cache D N S A H → List (ListKind × ℕ) →
+    List VersionSetId → Type 0
 AreListed p c ids vs = map (list_at c) ids ≡ map (λ v. Some (sorted_of_set p v)) vs

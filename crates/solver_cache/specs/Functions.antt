@@ -1,5 +1,5 @@
--- The fixed functions of a provider and of its ids, gathered, and what else it may tell. N are the names, S the solvables,
--- A the allocators.
+-- The fixed functions of a provider and of its ids, gathered, and what else it may tell. N are the names, S the
+-- solvables, A the allocators.
 use Rattle.std.specs.Prelude.{Bool, Option}
 use Rattle.providers.specs.Provider.{Universe, Answers}
 use Rattle.providers.specs.declared.candidates.Candidates.{Candidates}
@@ -24,13 +24,14 @@ MayAnswer N S A = N → Option (Candidates S A) → Type 0
 -- the same functions, of a provider D
 abbrev pub gathered : {D N S : Type 0} → (N → N → Bool) → (S → S → Bool) → (N → Bool) → (S → Bool) → (S → Bool) →
     Bool → (D → Universe N S) → (D → Answers N S) → D → Provider N S
-gathered same_name same_solvable is_large_name is_large_solvable is_large_hint are_names_many universe answers p = record {
-  same_name = same_name;
-  same_solvable = same_solvable;
-  is_large_name = is_large_name;
-  is_large_solvable = is_large_solvable;
-  is_large_hint = is_large_hint;
-  are_names_many = are_names_many;
-  universe = universe p;
-  answers = answers p;
-}
+gathered same_name same_solvable is_large_name is_large_solvable is_large_hint are_names_many universe answers p =
+    record {
+      same_name = same_name;
+      same_solvable = same_solvable;
+      is_large_name = is_large_name;
+      is_large_solvable = is_large_solvable;
+      is_large_hint = is_large_hint;
+      are_names_many = are_names_many;
+      universe = universe p;
+      answers = answers p;
+    }

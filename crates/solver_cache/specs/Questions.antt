@@ -1,6 +1,7 @@
 -- What a question leaves of a cache, answered or refused. D are the providers, N the names, S the solvables,
 -- A the allocators, H the sets of solvables.
-use Rattle.std.specs.Prelude.{◌≡◌, ◌-◌, ◌^◌, Bool, true, false, not, ◌&&◌, ◌||◌, nat_le, List, [], ◌∷◌, ◌++◌, length, take}
+use Rattle.std.specs.Prelude.{◌≡◌, ◌-◌, ◌^◌, Bool, true, false, not, ◌&&◌}
+use Rattle.std.specs.Prelude.{◌||◌, nat_le, List, [], ◌∷◌, ◌++◌, length, take}
 use Rattle.std.specs.List.{list_any, list_all}
 use Rattle.typed_ids.specs.Refusals.{IsGrowthRefusal}
 use Rattle.typed_ids.specs.declared.error.StoreError.{StoreError}
@@ -46,7 +47,8 @@ IsOnce false old Found new = Found new
 
 -- after a solvable's dependencies were asked for
 abbrev pub IsFetched : {D N S A H : Type 0} → Provider N S → Cache D N S A H → S → Cache D N S A H → Type 0
-IsFetched {A} p old s = IsOnce (is_fetched p old s) old (λ new. (answer : Dependencies A) × (needs_of answer ≡ p.answers.needs s) ×
+IsFetched {A} p old s = IsOnce (is_fetched p old s) old (λ new. (answer : Dependencies A) ×
+    (needs_of answer ≡ p.answers.needs s) ×
     (new ≡ record old { dependencies = old.dependencies ++ (s, answer) ∷ [] }))
 
 module _ {D N S A H : Type 0} (p : Provider N S) (may : MayAnswer N S A) (has : H → S → Bool) where
@@ -57,22 +59,26 @@ module _ {D N S A H : Type 0} (p : Provider N S) (may : MayAnswer N S A) (has : 
 
     -- after a package was asked for
     abbrev pub IsAsked : N → Cache D N S A H → Type 0
-    IsAsked n = IsOnce (is_asked p old n) old (λ new. (answer : Candidates S A) × IsAnswer p may n answer × IsMarked (hints_of answer) new.hinted ×
+    IsAsked n = IsOnce (is_asked p old n) old (λ new. (answer : Candidates S A) × IsAnswer p may n answer ×
+        IsMarked (hints_of answer) new.hinted ×
         (new ≡ record old { candidates = old.candidates ++ (n, answer) ∷ []; hinted = new.hinted }))
 
     -- after the candidates that a version set holds were: its package is asked for first
     abbrev pub IsMatched : VersionSetId → Cache D N S A H → Type 0
-    IsMatched v = IsOnce (is_kept (same_set v) old.matching) old (λ new. (mid : Cache D N S A H) × IsAsked (p.universe.set_name v) mid ×
+    IsMatched v = IsOnce (is_kept (same_set v) old.matching) old (λ new. (mid : Cache D N S A H) ×
+        IsAsked (p.universe.set_name v) mid ×
         (new ≡ record mid { matching = mid.matching ++ (v, matching p.universe p.answers v) ∷ [] }))
 
     -- after the others were
     abbrev pub IsUnmatched : VersionSetId → Cache D N S A H → Type 0
-    IsUnmatched v = IsOnce (is_kept (same_set v) old.non_matching) old (λ new. (mid : Cache D N S A H) × IsAsked (p.universe.set_name v) mid ×
+    IsUnmatched v = IsOnce (is_kept (same_set v) old.non_matching) old (λ new. (mid : Cache D N S A H) ×
+        IsAsked (p.universe.set_name v) mid ×
         (new ≡ record mid { non_matching = mid.non_matching ++ (v, non_matching p.universe p.answers v) ∷ [] }))
 
     -- after those that it holds were asked for in order: they are found first
     abbrev pub IsSorted : VersionSetId → Cache D N S A H → Type 0
-    IsSorted v = IsOnce (is_kept (same_requirement (Single v)) old.sorted) old (λ new. (mid : Cache D N S A H) × IsMatched v mid ×
+    IsSorted v = IsOnce (is_kept (same_requirement (Single v)) old.sorted) old (λ new. (mid : Cache D N S A H) ×
+        IsMatched v mid ×
         (new ≡ record mid { sorted = mid.sorted ++ (Single v, sorted p.universe p.answers p.same_solvable v) ∷ [] }))
 
   -- after those of each version set were, one set after the other
@@ -88,8 +94,8 @@ module _ {D N S A H : Type 0} (p : Provider N S) (may : MayAnswer N S A) (has : 
       (new ≡ record mid { sorted = mid.sorted ++ (Union u, sorted_of p (Union u)) ∷ [] })) new
 
 module _ {D N S A H : Type 0} (p : Provider N S) (c : Cache D N S A H) where
-  -- no answer can be kept for the package: nothing can be kept by its id, or all ids of answers are in use, as only names
-  -- that may be more than 2^32 can bring about
+  -- no answer can be kept for the package: nothing can be kept by its id, or all ids of answers are in use, as only
+  -- names that may be more than 2^32 can bring about
   abbrev pub lacks_candidates : N → Bool
   lacks_candidates n = p.is_large_name n || (p.are_names_many && nat_le (2 ^ 32) (length c.candidates))
 
@@ -97,14 +103,16 @@ module _ {D N S A H : Type 0} (p : Provider N S) (c : Cache D N S A H) where
   abbrev pub lacks_dependencies : S → Bool
   lacks_dependencies s = lacks_answer (2 ^ 32 - 1) p.is_large_solvable (length c.dependencies) s
 
--- a refusal to whoever asked about one package or solvable: whether it was asked for before, and whether an answer can't be
--- kept. Only what wasn't asked for is stopped, and then nothing changed
-abbrev pub IsRefusedOf : {D N S A H C : Type 0} → (asked lacks : Bool) → Cache D N S A H → CacheError C → Cache D N S A H → Type 0
+-- a refusal to whoever asked about one package or solvable: whether it was asked for before, and whether an answer
+-- can't be kept. Only what wasn't asked for is stopped, and then nothing changed
+abbrev pub IsRefusedOf : {D N S A H C : Type 0} → (asked lacks : Bool) → Cache D N S A H → CacheError C →
+    Cache D N S A H → Type 0
 IsRefusedOf asked lacks old (Cancelled reason) new = (asked ≡ false) × (new ≡ old)
 IsRefusedOf asked lacks old (Store e) new = IsGrowthRefusal (not asked && lacks) e
 
 -- a refusal to whoever asked about version sets in turn
-abbrev pub IsRefusedOfSets : {D N S A H C : Type 0} → Provider N S → List VersionSetId → Cache D N S A H → CacheError C → Cache D N S A H → Type 0
+abbrev pub IsRefusedOfSets : {D N S A H C : Type 0} → Provider N S → List VersionSetId → Cache D N S A H →
+    CacheError C → Cache D N S A H → Type 0
 IsRefusedOfSets p vs old (Cancelled reason) new = list_all (is_set_asked p old) vs ≡ false
 IsRefusedOfSets p vs old (Store e) new =
     IsGrowthRefusal (list_any (λ v. not (is_set_asked p old v) && lacks_candidates p new (p.universe.set_name v)) vs) e

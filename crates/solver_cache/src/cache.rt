@@ -17,8 +17,8 @@ use typed_ids::{CandidatesId, DependenciesId, VersionSetId};
 /// What a solver asked a provider, with the answers.
 ///
 /// A question whose answer is kept is answered again by one look-up: it is never refused, takes no memory and changes
-/// nothing. After a refusal the questions that were answered before are kept, and some hints of the package that was asked
-/// for may count already.
+/// nothing. After a refusal the questions that were answered before are kept, and some hints of the package that was
+/// asked for may count already.
 #[derive(Drop)]
 pub struct SolverCache<D: DependencyProvider> {
     provider: D,
@@ -69,7 +69,8 @@ impl<D: DependencyProvider + Drop> SolverCache<D> {
     /// The cache that was asked nothing. Takes no memory.
     pub fn new(alloc: D::Alloc, provider: D) -> Self
         ensures provider { result.provider ≡ provider }
-        ensures nothing { (result.candidates ≡ []) × (result.matching ≡ []) × (result.non_matching ≡ []) × (result.sorted ≡ []) × (result.dependencies ≡ []) }
+        ensures nothing { (result.candidates ≡ []) × (result.matching ≡ []) × (result.non_matching ≡ []) ×
+            (result.sorted ≡ []) × (result.dependencies ≡ []) }
         ensures no_hints { (s : D.SolvableId) → D.SolvableId.Set.has result.hinted s ≡ false }
     {
         SolverCache {
@@ -96,10 +97,11 @@ impl<D: DependencyProvider + Drop> SolverCache<D> {
         &self.provider
     }
 
-    /// Whether the dependencies of a solvable are at hand: they were asked for, or a package's answer said that they are
-    /// available.
+    /// Whether the dependencies of a solvable are at hand: they were asked for, or a package's answer said that they
+    /// are available.
     pub fn are_dependencies_available_for(&self, solvable: D::SolvableId) -> bool
-        ensures { result ≡ is_available (⟦<D as ProviderFunctions>⟧.functions self.now.provider) self.now D.SolvableId.Set.has solvable }
+        ensures { result ≡ is_available (⟦<D as ProviderFunctions>⟧.functions self.now.provider) self.now
+            D.SolvableId.Set.has solvable }
     {
         self.dependencies.find(solvable).is_some() || self.hinted.contains(solvable)
     }

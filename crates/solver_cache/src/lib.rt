@@ -1,18 +1,18 @@
 //! A solver's cache: each question to a provider is asked once, and each answer kept.
 //!
 //! A resolver asks for the same candidates again and again, and a provider may read them from a disk or a network. A
-//! [`SolverCache`] stands between them: it keeps the candidates of each package that was asked for, the candidates that a
-//! version set holds and those that it doesn't, the candidates of a requirement in order, and what a solvable needs. Before
-//! a question that may be costly, for a package's candidates or a solvable's dependencies, the provider is asked whether to
-//! stop.
+//! [`SolverCache`] stands between them: it keeps the candidates of each package that was asked for, the candidates that
+//! a version set holds and those that it doesn't, the candidates of a requirement in order, and what a solvable needs.
+//! Before a question that may be costly, for a package's candidates or a solvable's dependencies, the provider is asked
+//! whether to stop.
 //!
 //! `specs/Cache` is what a cache is, as plain lists. `specs/Outcomes` has a word for each outcome of a question, as
 //! `AnswersCandidates` where it is answered and `RefusesCandidates` where it is refused. Their parts say what is left:
-//! `specs/Questions` of an answered question, `specs/Unanswered` of a refused one.
-//! `cache` has the type, and in `cache/` are the questions, a file for each kind: `asking` those to the provider, `filtering`
-//! `sorting` those about version sets and requirements; `reading` shows what is kept. `candidates` asks the provider for a package's
-//! candidates, and `favored` puts the favored one first among others; `kept_lists` keeps lists by keys, and `hints` marks the
-//! solvables whose dependencies are at hand.
+//! `specs/Questions` of an answered question, `specs/Unanswered` of a refused one. `cache` has the type, and in
+//! `cache/` are the questions, a file for each kind: `asking` those to the provider, `filtering` `sorting` those about
+//! version sets and requirements; `reading` shows what is kept. `candidates` asks the provider for a package's
+//! candidates, and `favored` puts the favored one first among others; `kept_lists` keeps lists by keys, and `hints`
+//! marks the solvables whose dependencies are at hand.
 #![tactic(auto)]
 
 mod cache;

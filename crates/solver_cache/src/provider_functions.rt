@@ -13,5 +13,6 @@ pub trait ProviderFunctions: DependencyProvider {
 impl<D: DependencyProvider> ProviderFunctions for D {
     ghost use Rattle.solver_cache.specs.Functions.{gathered};
 
-    ghost functions = { gathered D.NameId.eq D.SolvableId.eq D.NameId.Slots.is_too_large D.SolvableId.Slots.is_too_large D.SolvableId.Set.is_too_large D.NameId.are_many D.universe D.answers };
+    ghost functions = { gathered D.NameId.eq D.SolvableId.eq D.NameId.Slots.is_too_large D.SolvableId.Slots.is_too_large
+        D.SolvableId.Set.is_too_large D.NameId.are_many D.universe D.answers };
 }

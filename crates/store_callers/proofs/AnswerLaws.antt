@@ -1,4 +1,5 @@
--- What an assignment is answered, where it isn't refused: that it was made, that it was made before, or that it clashes.
+-- What an assignment is answered, where it isn't refused: that it was made, that it was made before, or that it
+-- clashes.
 use Rattle.std.proofs.Common.{◌≡◌, ℕ, Bool, true, false, cond, Option, None, Some, refl, ◌∙◌, ap}
 use Rattle.std.specs.Bool.{beq}
 use Rattle.resolvo_store.specs.declared.reply.Reply.{Reply as ProgramReply}
@@ -22,7 +23,8 @@ module _ {A : Type 0} where
   is_clash Out.Clash h = cc
   is_clash _ h = cc
 
-  pub one_of_three : {N S : Type 0} (old new : Store N S) (v : ℕ) (value : Bool) (clause level : ℕ) (r : ProgramReply A) → Step old (Assign v value clause level) (reply_of r) new
+  pub one_of_three : {N S : Type 0} (old new : Store N S) (v : ℕ) (value : Bool) (clause level : ℕ)
+      (r : ProgramReply A) → Step old (Assign v value clause level) (reply_of r) new
       → (IsRefused (reply_of r) → ⊥) → (r ≡ Out.Assigned → ⊥) → (r ≡ Out.Already → ⊥) → (r ≡ Out.Clash → ⊥) → ⊥
   one_of_three {N} {S} old new v value clause level r step kept assigned already clash =
       by_value (values old v) (answered_by_outcome old new (Assign v value clause level) (reply_of r) refl step kept).0

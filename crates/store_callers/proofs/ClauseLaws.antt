@@ -16,10 +16,15 @@ use Rattle.resolvo_queue.specs.declared.offer.Offer.{Offer}
 use Rattle.resolvo_store.specs.declared.helper_origin.HelperOrigin.{HelperOrigin}
 use Rattle.resolvo_store.specs.declared.reply.Reply.{Reply as ProgramReply}
 use Rattle.resolvo_store.specs.declared.reply.Reply.TheVariants as Out
-use Rattle.resolvo_store.specs.Command.{Command, Helper, Load, Requires, Root, Constrains, ConstrainsExcluded, ConstrainsParent, Lock, Exclude, AnyOf, Learnt, AtMostOnce, Assign, Unpropagated, Saturate, Decide, Reply, VariableIs, ClauseIs, TrackedAs, Already, Clash, Refused, IsRefused, reply_of}
+use Rattle.resolvo_store.specs.Command.{Command, Helper, Load, Requires, Root, Constrains, ConstrainsExcluded}
+use Rattle.resolvo_store.specs.Command.{ConstrainsParent, Lock, Exclude, AnyOf, Learnt, AtMostOnce, Assign}
+use Rattle.resolvo_store.specs.Command.{Unpropagated, Saturate, Decide, Reply, VariableIs, ClauseIs}
+use Rattle.resolvo_store.specs.Command.{TrackedAs, Already, Clash, Refused, IsRefused, reply_of}
 use Rattle.resolvo_store.specs.Store.{Store, values, lists_of, kept_literals}
 use Rattle.resolvo_store.specs.Refusals.{first_refusal}
-use Rattle.resolvo_store.specs.Outcome.{Outcome, outcome, helper_origin, load, adds_clause, with_registered, with_learnt, hands_next, assign_reply, decision, falsified_clause, picked, tracking, with_tracked}
+use Rattle.resolvo_store.specs.Outcome.{Outcome, outcome, helper_origin, load, adds_clause}
+use Rattle.resolvo_store.specs.Outcome.{with_registered, with_learnt, hands_next, assign_reply}
+use Rattle.resolvo_store.specs.Outcome.{decision, falsified_clause, picked, tracking, with_tracked}
 use Rattle.resolvo_store.specs.Step.{IsAnswered, Step}
 use Rattle.resolvo_store.proofs.CallerLaws.{answered_by_outcome}
 
@@ -101,7 +106,12 @@ module _ {N S : Type 0} where
   by_outcome old new (AtMostOnce name v) clause conflict a b = absurd (by_test (is_tracked nat_eq (old.trackers name) v) a)
     where
       by_test : (t : Bool)
-          → ClauseIs clause conflict ≡ (cond {A = Outcome N S} t (record { reply = TrackedAs false 0; store = old }) (record { reply = TrackedAs true (length (tracking old name v)); store = with_tracked old name v })).reply → ⊥
+          → ClauseIs clause conflict ≡
+          (cond {A = Outcome N S} t (record { reply = TrackedAs false 0; store = old })
+          (record {
+            reply = TrackedAs true (length (tracking old name v));
+            store = with_tracked old name v;
+          })).reply → ⊥
       by_test true h = cc
       by_test false h = cc
   by_outcome old new Decide clause conflict a b = absurd (by_answer (falsified_clause old) (picked old) a)
@@ -121,7 +131,8 @@ module _ {N S : Type 0} where
       by_command (Saturate level) h = absurd h
       by_command d h = by_outcome old new d clause conflict h.1 h.2
 
-      by_refusal : (e : Option StoreError) → MatchOption e (IsAnswered old c (ClauseIs clause conflict) new) (λ x. (ClauseIs clause conflict ≡ Refused x) × (new ≡ old))
+      by_refusal : (e : Option StoreError) → MatchOption e
+          (IsAnswered old c (ClauseIs clause conflict) new) (λ x. (ClauseIs clause conflict ≡ Refused x) × (new ≡ old))
           → IsNext old new clause
       by_refusal None h = by_command c h
       by_refusal (Some x) h = let no : ClauseIs clause conflict ≡ Refused x = h.0 in cc
@@ -142,7 +153,9 @@ module _ {N S : Type 0} where
       goes : Type 0
       goes = option_map (literals_of (kept_literals new)) (slice_get new.clauses clause) ≡ Some (Neg v ∷ [])
 
-      by_refusal : (e : Option StoreError) → MatchOption e (IsAnswered old (Exclude v reason) (ClauseIs clause conflict) new) (λ x. (ClauseIs clause conflict ≡ Refused x) × (new ≡ old)) → goes
+      by_refusal : (e : Option StoreError) →
+          MatchOption e (IsAnswered old (Exclude v reason) (ClauseIs clause conflict) new) (λ x.
+          (ClauseIs clause conflict ≡ Refused x) × (new ≡ old)) → goes
       by_refusal None h =
           let id : clause ≡ length old.clauses = let same : ClauseIs clause conflict ≡ (adds_clause old (Kind.Excluded v reason)).reply = h.1 in cc in
           let clauses : new.clauses ≡ old.clauses ++ Kind.Excluded v reason ∷ [] = ap (λ (s : Store N S). s.clauses) h.2 in
@@ -157,7 +170,9 @@ module _ {N S : Type 0} where
       goes : Type 0
       goes = slice_get new.origins variable ≡ Some (helper_origin origin)
 
-      by_refusal : (e : Option StoreError) → MatchOption e (IsAnswered old (Helper origin) (VariableIs variable) new) (λ x. (VariableIs variable ≡ Refused x) × (new ≡ old)) → goes
+      by_refusal : (e : Option StoreError) →
+          MatchOption e (IsAnswered old (Helper origin) (VariableIs variable) new) (λ x.
+          (VariableIs variable ≡ Refused x) × (new ≡ old)) → goes
       by_refusal None h =
           let id : variable ≡ length old.origins = let same : VariableIs variable ≡ VariableIs (length old.origins) = h.1 in cc in
           let origins : new.origins ≡ old.origins ++ helper_origin origin ∷ [] = ap (λ (s : Store N S). s.origins) h.2 in

@@ -9,7 +9,8 @@ use Rattle.resolvo_clauses.specs.Trail.{Entry}
 use Rattle.resolvo_clauses.specs.AtMostOne.{is_tracked}
 use Rattle.resolvo_queue.specs.declared.requires_clause.RequiresClause.{RequiresClause}
 use Rattle.resolvo_queue.specs.declared.offer.Offer.{Offer}
-use Rattle.resolvo_store.specs.Command.{Command, Load, AtMostOnce, Assign, Unpropagated, Decide, Reply, TrackedAs, Already, Clash, Refused, IsRefused, is_saturate}
+use Rattle.resolvo_store.specs.Command.{Command, Load, AtMostOnce, Assign, Unpropagated, Decide, Reply}
+use Rattle.resolvo_store.specs.Command.{TrackedAs, Already, Clash, Refused, IsRefused, is_saturate}
 use Rattle.resolvo_store.specs.Store.{Store, values, lists_of}
 use Rattle.resolvo_store.specs.Refusals.{first_refusal}
 use Rattle.resolvo_store.specs.Outcome.{Outcome, outcome, load, hands_next, assign_reply, decision, falsified_clause, picked, tracking, with_tracked}
@@ -47,13 +48,15 @@ module _ {N S : Type 0} where
       by_answer None None h = h
   not_refused st (AtMostOnce name v) h = by_test (is_tracked nat_eq (st.trackers name) v) h
     where
-      by_test : (b : Bool) → IsRefused (cond {A = Outcome N S} b (record { reply = TrackedAs false 0; store = st }) (record { reply = TrackedAs true (length (tracking st name v)); store = with_tracked st name v })).reply → ⊥
+      by_test : (b : Bool) → IsRefused (cond {A = Outcome N S} b (record { reply = TrackedAs false 0; store = st })
+          (record { reply = TrackedAs true (length (tracking st name v)); store = with_tracked st name v })).reply → ⊥
       by_test true h = h
       by_test false h = h
   not_refused st _ h = h
 
   -- where no ids are lacking, a command but Saturate is answered by its outcome
-  outcome_answers : (st : Store N S) (c : Command N S) → is_saturate c ≡ false → lacks_ids st c ≡ false → IsAnswered st c (outcome st c).reply (outcome st c).store
+  outcome_answers : (st : Store N S) (c : Command N S) → is_saturate c ≡ false → lacks_ids st c ≡ false →
+      IsAnswered st c (outcome st c).reply (outcome st c).store
   outcome_answers st c plain few = is_answered st (outcome st c).store c (outcome st c).reply plain (by_reply (outcome st c).reply (not_refused st c) refl)
     where
       by_reply : (reply : Reply) → (IsRefused reply → ⊥) → reply ≡ (outcome st c).reply → HasOutcome st c reply (outcome st c).store
@@ -64,15 +67,21 @@ module _ {N S : Type 0} where
   answer_is_step st c plain = go (first_refusal st c)
     where
       by_ids : (b : Bool) → lacks_ids st c ≡ b →
-          IsAnswered st c (cond b (record { reply = Refused IdSpace; store = st }) (outcome st c)).reply (cond b (record { reply = Refused IdSpace; store = st }) (outcome st c)).store
+          IsAnswered st c (cond b (record { reply = Refused IdSpace; store = st }) (outcome st c)).reply
+          (cond b (record { reply = Refused IdSpace; store = st }) (outcome st c)).store
       by_ids true lacks = is_answered st st c (Refused IdSpace) plain (ap (λ b. b || may_use_up_answers st c) lacks, refl)
       by_ids false few = outcome_answers st c plain few
 
-      go : (e : Option StoreError) → MatchOption e (IsAnswered st c (answered st c e).reply (answered st c e).store) (λ x. ((answered st c e).reply ≡ Refused x) × ((answered st c e).store ≡ st))
+      go : (e : Option StoreError) →
+          MatchOption e (IsAnswered st c (answered st c e).reply (answered st c e).store) (λ x.
+          ((answered st c e).reply ≡ Refused x) × ((answered st c e).store ≡ st))
       go (Some e) = (refl, refl)
       go None = by_ids (lacks_ids st c) refl
 
 pub play_is_run : (N S : Type 0) → PlayIsRun N S
 play_is_run N S st [] plain = refl
-play_is_run N S st (c ∷ cs) plain =
-    ((answer st c).store, answer_is_step st c (All-head (λ d. is_saturate d ≡ false) c cs plain), play_is_run N S (answer st c).store cs (All-tail (λ d. is_saturate d ≡ false) c cs plain))
+play_is_run N S st (c ∷ cs) plain = (
+  (answer st c).store,
+  answer_is_step st c (All-head (λ d. is_saturate d ≡ false) c cs plain),
+  play_is_run N S (answer st c).store cs (All-tail (λ d. is_saturate d ≡ false) c cs plain),
+)

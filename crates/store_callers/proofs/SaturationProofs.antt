@@ -8,7 +8,10 @@ use Rattle.store_callers.specs.SaturationExamples.{SaturationExamples, left_by, 
 pub saturation_examples : SaturationExamples
 saturation_examples = record {
   root_forced = ((record { forced = refl; at_level = refl }, tt), settled_if (left_by two_versions with_root) refl);
-  other_excluded = ((record { forced = refl; at_level = refl }, (record { forced = refl; at_level = refl }, tt)), settled_if (left_by two_versions with_forced) refl);
+  other_excluded = (
+    (record { forced = refl; at_level = refl }, (record { forced = refl; at_level = refl }, tt)),
+    settled_if (left_by two_versions with_forced) refl,
+  );
   saturated_search = refl;
   settled_again = settled_if (left_by two_versions (with_forced ++ UndoUntil 1 ∷ [])) refl;
   clause_is_false = (omega arith, refl);

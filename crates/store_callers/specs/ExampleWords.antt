@@ -49,7 +49,13 @@ union u = Union (record { 0 = u })
 -- a decision, with the score of its candidate's package
 abbrev pub decides_at : ℕ → ℕ → ℕ → ℕ → ℕ → Reply
 decides_at candidate parent clause score count =
-    Decided (record { candidate = candidate; required_by = parent; clause_id = clause; package_activity = score; candidate_count = count })
+    Decided (record {
+      candidate = candidate;
+      required_by = parent;
+      clause_id = clause;
+      package_activity = score;
+      candidate_count = count;
+    })
 
 -- the same where it has no score
 abbrev pub decides : ℕ → ℕ → ℕ → ℕ → Reply
@@ -68,4 +74,9 @@ takes_back variable value clause level = Undone (Some (assigns variable value cl
 
 -- two versions of one package, and the version set of both
 abbrev pub two_versions : Packages
-two_versions = record { solvables = solvable 0 1 ∷ solvable 0 2 ∷ []; sets = range 0 1 3 ∷ []; unions = []; strings = 0 }
+two_versions = record {
+  solvables = solvable 0 1 ∷ solvable 0 2 ∷ [];
+  sets = range 0 1 3 ∷ [];
+  unions = [];
+  strings = 0;
+}

@@ -1,20 +1,37 @@
 -- Worked examples: what the abstract store replies to some lists of commands, computed.
 use Rattle.std.specs.Prelude.{true, false, [], ◌∷◌, Some, None}
-use Rattle.resolvo_ids.specs.Types.StoreError.TheVariants.{UnknownId, LevelOutOfRange, NotLoaded, BadWatch, BadLearnt, EmptyTrail}
+use Rattle.resolvo_ids.specs.Types.StoreError.TheVariants.{UnknownId, LevelOutOfRange, NotLoaded}
+use Rattle.resolvo_ids.specs.Types.StoreError.TheVariants.{BadWatch, BadLearnt, EmptyTrail}
 use Rattle.resolvo_clauses.specs.Literals.{Pos, Neg}
 use Rattle.resolvo_store.specs.declared.helper_origin.HelperOrigin.TheVariants as Helps
-use Rattle.resolvo_store.specs.Command.{Variable, Helper, Load, Requires, Root, Constrains, ConstrainsExcluded, ConstrainsParent, Lock, Exclude, AnyOf, Learnt, Assign, UndoLast, UndoUntil, Unpropagated, Rewatch, Watchers, Decide, VariableIs, LoadedAs, ClauseIs, Assigned, Already, Clash, Undone, Next, Done, WatchersAre, NoDecision, Falsified, Refused}
+use Rattle.resolvo_store.specs.Command.{Variable, Helper, Load, Requires, Root, Constrains}
+use Rattle.resolvo_store.specs.Command.{ConstrainsExcluded, ConstrainsParent, Lock, Exclude, AnyOf, Learnt}
+use Rattle.resolvo_store.specs.Command.{Assign, UndoLast, UndoUntil, Unpropagated, Rewatch, Watchers}
+use Rattle.resolvo_store.specs.Command.{Decide, VariableIs, LoadedAs, ClauseIs, Assigned, Already, Clash}
+use Rattle.resolvo_store.specs.Command.{Undone, Next, Done, WatchersAre, NoDecision, Falsified, Refused}
 use Rattle.store_callers.specs.Script.{Packages}
-use Rattle.store_callers.specs.ExampleWords.{Gives, Leaves, solvable, range, set, string, single, union, decides, hands, takes_back, two_versions}
-use Rattle.store_callers.specs.ScoreExamples.{ScoreAndCount, LateScore, ScoreAlone, CountAlone, RootProtected, OthersReplaced, RootFirst, OthersAfterRoot, FalsifiedBeforeRoot, ScoresFall, RoundedDown, EitherSetting, CountOfOneSet, BetterOffer, EqualCount, EqualScore, RootStays, BestSoFar, RootAlone, OthersByScore, RootReplaces, FirstWithoutScores}
-use Rattle.store_callers.specs.ConditionExamples.{WaitsForCondition, ConditionOpens, EmptyCondition, ConditionLiterals, ConditionsRefused, UnknownConditions, FourTracked, FourTrackedLiterals, TwoNames, FavoredFirst, FavoredOutside}
+use Rattle.store_callers.specs.ExampleWords.{Gives, Leaves, solvable, range, set, string, single}
+use Rattle.store_callers.specs.ExampleWords.{union, decides, hands, takes_back, two_versions}
+use Rattle.store_callers.specs.ScoreExamples.{ScoreAndCount, LateScore, ScoreAlone, CountAlone, RootProtected}
+use Rattle.store_callers.specs.ScoreExamples.{OthersReplaced, RootFirst, OthersAfterRoot, FalsifiedBeforeRoot}
+use Rattle.store_callers.specs.ScoreExamples.{ScoresFall, RoundedDown, EitherSetting, CountOfOneSet}
+use Rattle.store_callers.specs.ScoreExamples.{BetterOffer, EqualCount, EqualScore, RootStays, BestSoFar}
+use Rattle.store_callers.specs.ScoreExamples.{RootAlone, OthersByScore, RootReplaces, FirstWithoutScores}
+use Rattle.store_callers.specs.ConditionExamples.{WaitsForCondition, ConditionOpens, EmptyCondition, ConditionLiterals}
+use Rattle.store_callers.specs.ConditionExamples.{ConditionsRefused, UnknownConditions, FourTracked}
+use Rattle.store_callers.specs.ConditionExamples.{FourTrackedLiterals, TwoNames, FavoredFirst, FavoredOutside}
 use Rattle.store_callers.specs.SaturationExamples.{SaturationExamples}
 
 -- ---- two packages: a decision is asked for, taken, undone, and asked for again; then their union is loaded
 
 abbrev pub TwoPackages : Type 0
 TwoPackages =
-    Gives (record { solvables = solvable 0 1 ∷ solvable 0 2 ∷ solvable 1 1 ∷ []; sets = range 0 1 3 ∷ range 1 1 2 ∷ []; unions = (0 ∷ 1 ∷ []) ∷ []; strings = 0 })
+    Gives (record {
+      solvables = solvable 0 1 ∷ solvable 0 2 ∷ solvable 1 1 ∷ [];
+      sets = range 0 1 3 ∷ range 1 1 2 ∷ [];
+      unions = (0 ∷ 1 ∷ []) ∷ [];
+      strings = 0;
+    })
     (Load (single 0) ∷ Load (single 1) ∷ Requires 0 (single 0) None ∷ Requires 0 (single 1) None ∷ Decide ∷
     Assign 0 true 0 1 ∷ Decide ∷ Assign 1 true 0 2 ∷ Decide ∷ UndoUntil 1 ∷ Decide ∷ Load (union 0) ∷ [])
     (LoadedAs ((1 ∷ 2 ∷ []) ∷ []) ∷ LoadedAs ((3 ∷ []) ∷ []) ∷ ClauseIs 0 false ∷ ClauseIs 1 false ∷ NoDecision ∷
@@ -26,8 +43,10 @@ TwoPackages =
 abbrev pub OnePackage : Type 0
 OnePackage =
     Gives (record { solvables = solvable 0 1 ∷ solvable 0 2 ∷ []; sets = range 0 1 3 ∷ []; unions = []; strings = 0 })
-    (Requires 0 (single 0) None ∷ Load (single 0) ∷ Load (union 0) ∷ Requires 0 (single 0) (Some 0) ∷ Requires 0 (single 0) None ∷
-    Assign 0 true 0 0 ∷ Assign 0 true 0 1 ∷ Assign 1 false 0 1 ∷ Assign 2 false 0 1 ∷ Decide ∷ UndoUntil 0 ∷ Decide ∷ [])
+    (Requires 0 (single 0) None ∷ Load (single 0) ∷ Load (union 0) ∷ Requires 0 (single 0) (Some 0) ∷
+    Requires 0 (single 0) None ∷
+    Assign 0 true 0 0 ∷ Assign 0 true 0 1 ∷ Assign 1 false 0 1 ∷ Assign 2 false 0 1 ∷ Decide ∷
+    UndoUntil 0 ∷ Decide ∷ [])
     (Refused NotLoaded ∷ LoadedAs ((1 ∷ 2 ∷ []) ∷ []) ∷ Refused UnknownId ∷ Refused UnknownId ∷ ClauseIs 0 false ∷
     Refused LevelOutOfRange ∷ Assigned ∷ Assigned ∷ Assigned ∷ Falsified 0 ∷ Undone None ∷ NoDecision ∷ [])
 
@@ -36,8 +55,10 @@ OnePackage =
 abbrev pub MetAndUndone : Type 0
 MetAndUndone =
     Gives (record { solvables = solvable 0 1 ∷ []; sets = range 0 1 2 ∷ []; unions = []; strings = 0 })
-    (Load (single 0) ∷ Requires 0 (single 0) None ∷ Assign 0 true 0 1 ∷ Assign 1 true 0 2 ∷ Decide ∷ UndoUntil 1 ∷ Decide ∷ [])
-    (LoadedAs ((1 ∷ []) ∷ []) ∷ ClauseIs 0 false ∷ Assigned ∷ Assigned ∷ NoDecision ∷ Undone None ∷ decides 1 0 0 1 ∷ [])
+    (Load (single 0) ∷ Requires 0 (single 0) None ∷ Assign 0 true 0 1 ∷ Assign 1 true 0 2 ∷ Decide ∷
+    UndoUntil 1 ∷ Decide ∷ [])
+    (LoadedAs ((1 ∷ []) ∷ []) ∷ ClauseIs 0 false ∷ Assigned ∷ Assigned ∷ NoDecision ∷ Undone None ∷
+    decides 1 0 0 1 ∷ [])
 
 -- ---- falsified: by a false candidate, and for want of candidates
 
@@ -53,12 +74,18 @@ NoCandidates =
     (Load (single 0) ∷ Requires 0 (single 0) None ∷ Assign 0 true 0 1 ∷ Decide ∷ [])
     (LoadedAs ([] ∷ []) ∷ ClauseIs 0 false ∷ Assigned ∷ Falsified 0 ∷ [])
 
--- ---- two clauses are falsified: the reply names the first by the scan, which is the later one by registration, and not
+-- ---- two clauses are falsified: the reply names the first by the scan, which is the later one by registration, and
+-- not
 -- the last of the scan
 
 abbrev pub FirstFalsifiedOfScan : Type 0
 FirstFalsifiedOfScan =
-    Gives (record { solvables = solvable 0 1 ∷ solvable 1 1 ∷ solvable 2 1 ∷ []; sets = range 2 1 2 ∷ range 3 1 2 ∷ []; unions = []; strings = 0 })
+    Gives (record {
+      solvables = solvable 0 1 ∷ solvable 1 1 ∷ solvable 2 1 ∷ [];
+      sets = range 2 1 2 ∷ range 3 1 2 ∷ [];
+      unions = [];
+      strings = 0;
+    })
     (Variable 0 ∷ Variable 1 ∷ Load (single 0) ∷ Load (single 1) ∷
     Requires 1 (single 0) None ∷ Requires 2 (single 1) None ∷ Requires 1 (single 1) None ∷
     Assign 1 true 0 1 ∷ Assign 2 true 0 1 ∷ Decide ∷ [])
@@ -79,11 +106,18 @@ ConflictFlag =
 
 abbrev pub SetTwice : Type 0
 SetTwice =
-    Gives (record { solvables = solvable 0 1 ∷ solvable 0 2 ∷ []; sets = range 0 1 3 ∷ []; unions = (0 ∷ 0 ∷ []) ∷ []; strings = 0 })
+    Gives (record {
+      solvables = solvable 0 1 ∷ solvable 0 2 ∷ [];
+      sets = range 0 1 3 ∷ [];
+      unions = (0 ∷ 0 ∷ []) ∷ [];
+      strings = 0;
+    })
     (Load (union 0) ∷ Requires 0 (union 0) None ∷ Assign 0 true 0 1 ∷ Decide ∷ Assign 1 false 0 1 ∷ Decide ∷ [])
-    (LoadedAs ((1 ∷ 2 ∷ []) ∷ (1 ∷ 2 ∷ []) ∷ []) ∷ ClauseIs 0 false ∷ Assigned ∷ decides 1 0 0 4 ∷ Assigned ∷ decides 2 0 0 2 ∷ [])
+    (LoadedAs ((1 ∷ 2 ∷ []) ∷ (1 ∷ 2 ∷ []) ∷ []) ∷ ClauseIs 0 false ∷ Assigned ∷ decides 1 0 0 4 ∷ Assigned ∷
+    decides 2 0 0 2 ∷ [])
 
--- ---- a union of two packages: one list each, in the union's order; a count is that of one of them; a clause of it is a
+-- ---- a union of two packages: one list each, in the union's order; a count is that of one of them; a clause of it is
+-- a
 -- conflict only once the candidates of all lists are false
 
 abbrev pub TwoPackagesInOne : Type 0
@@ -94,18 +128,23 @@ TwoPackagesInOne =
       unions = (1 ∷ 0 ∷ []) ∷ [];
       strings = 0;
     })
-    (Load (union 0) ∷ Load (union 1) ∷ Requires 0 (union 0) None ∷ Assign 0 true 0 1 ∷ Decide ∷ Assign 1 false 0 1 ∷ Decide ∷
+    (Load (union 0) ∷ Load (union 1) ∷ Requires 0 (union 0) None ∷ Assign 0 true 0 1 ∷ Decide ∷
+    Assign 1 false 0 1 ∷ Decide ∷
     Requires 0 (union 0) None ∷ Assign 2 false 0 1 ∷ Assign 3 false 0 1 ∷ Requires 0 (union 0) None ∷ Decide ∷ [])
-    (LoadedAs ((1 ∷ []) ∷ (2 ∷ 3 ∷ []) ∷ []) ∷ Refused UnknownId ∷ ClauseIs 0 false ∷ Assigned ∷ decides 1 0 0 1 ∷ Assigned ∷ decides 2 0 0 2 ∷
+    (LoadedAs ((1 ∷ []) ∷ (2 ∷ 3 ∷ []) ∷ []) ∷ Refused UnknownId ∷ ClauseIs 0 false ∷ Assigned ∷ decides 1 0 0 1 ∷
+    Assigned ∷ decides 2 0 0 2 ∷
     ClauseIs 1 false ∷ Assigned ∷ Assigned ∷ ClauseIs 2 true ∷ Falsified 0 ∷ [])
 
--- ---- a clause for the root has the first id: met and undone, falsified for both reasons, and a set that is named twice
+-- ---- a clause for the root has the first id: met and undone, falsified for both reasons, and a set that is named
+-- twice
 
 abbrev pub MetAfterRoot : Type 0
 MetAfterRoot =
     Gives (record { solvables = solvable 0 1 ∷ []; sets = range 0 1 2 ∷ []; unions = []; strings = 0 })
-    (Root ∷ Load (single 0) ∷ Requires 0 (single 0) None ∷ Assign 0 true 0 1 ∷ Assign 1 true 1 2 ∷ Decide ∷ UndoUntil 1 ∷ Decide ∷ [])
-    (ClauseIs 0 false ∷ LoadedAs ((1 ∷ []) ∷ []) ∷ ClauseIs 1 false ∷ Assigned ∷ Assigned ∷ NoDecision ∷ Undone None ∷ decides 1 0 1 1 ∷ [])
+    (Root ∷ Load (single 0) ∷ Requires 0 (single 0) None ∷ Assign 0 true 0 1 ∷ Assign 1 true 1 2 ∷ Decide ∷
+    UndoUntil 1 ∷ Decide ∷ [])
+    (ClauseIs 0 false ∷ LoadedAs ((1 ∷ []) ∷ []) ∷ ClauseIs 1 false ∷ Assigned ∷ Assigned ∷ NoDecision ∷ Undone None ∷
+    decides 1 0 1 1 ∷ [])
 
 abbrev pub FalsifiedAfterRoot : Type 0
 FalsifiedAfterRoot =
@@ -121,15 +160,26 @@ NoCandidatesAfterRoot =
 
 abbrev pub SetTwiceAfterRoot : Type 0
 SetTwiceAfterRoot =
-    Gives (record { solvables = solvable 0 1 ∷ solvable 0 2 ∷ []; sets = range 0 1 3 ∷ []; unions = (0 ∷ 0 ∷ []) ∷ []; strings = 0 })
+    Gives (record {
+      solvables = solvable 0 1 ∷ solvable 0 2 ∷ [];
+      sets = range 0 1 3 ∷ [];
+      unions = (0 ∷ 0 ∷ []) ∷ [];
+      strings = 0;
+    })
     (Root ∷ Load (union 0) ∷ Requires 0 (union 0) None ∷ Assign 0 true 0 1 ∷ Decide ∷ Assign 1 false 1 1 ∷ Decide ∷ [])
-    (ClauseIs 0 false ∷ LoadedAs ((1 ∷ 2 ∷ []) ∷ (1 ∷ 2 ∷ []) ∷ []) ∷ ClauseIs 1 false ∷ Assigned ∷ decides 1 0 1 4 ∷ Assigned ∷ decides 2 0 1 2 ∷ [])
+    (ClauseIs 0 false ∷ LoadedAs ((1 ∷ 2 ∷ []) ∷ (1 ∷ 2 ∷ []) ∷ []) ∷ ClauseIs 1 false ∷ Assigned ∷ decides 1 0 1 4 ∷
+    Assigned ∷ decides 2 0 1 2 ∷ [])
 
 -- ---- the trail: assignments are handed out from the oldest on, and taken back from the newest on
 
 abbrev pub three_versions : Packages
 three_versions =
-    record { solvables = solvable 0 1 ∷ solvable 0 2 ∷ solvable 0 3 ∷ []; sets = range 0 1 4 ∷ []; unions = []; strings = 1 }
+    record {
+      solvables = solvable 0 1 ∷ solvable 0 2 ∷ solvable 0 3 ∷ [];
+      sets = range 0 1 4 ∷ [];
+      unions = [];
+      strings = 1;
+    }
 
 abbrev pub HandedAndTakenBack : Type 0
 HandedAndTakenBack =
@@ -139,7 +189,8 @@ HandedAndTakenBack =
     Unpropagated ∷ UndoLast ∷ Unpropagated ∷ UndoLast ∷ UndoLast ∷ UndoLast ∷ [])
     (ClauseIs 0 false ∷ VariableIs 1 ∷ VariableIs 2 ∷ VariableIs 3 ∷ Assigned ∷ Assigned ∷ Assigned ∷
     Already ∷ Clash ∷ Refused LevelOutOfRange ∷
-    hands 1 true 0 ∷ takes_back 3 false 0 2 ∷ hands 2 true 0 ∷ takes_back 2 true 0 1 ∷ takes_back 1 true 0 0 ∷ Refused EmptyTrail ∷ [])
+    hands 1 true 0 ∷ takes_back 3 false 0 2 ∷ hands 2 true 0 ∷ takes_back 2 true 0 1 ∷ takes_back 1 true 0 0 ∷
+    Refused EmptyTrail ∷ [])
 
 -- ---- what stands in the place of an assignment that was handed out and taken back is handed out again
 
@@ -150,7 +201,8 @@ HandedAgain =
     Unpropagated ∷ Unpropagated ∷ Unpropagated ∷ Unpropagated ∷ UndoLast ∷ UndoLast ∷ Unpropagated ∷
     Assign 2 false 0 2 ∷ Unpropagated ∷ UndoUntil 1 ∷ Assign 1 false 0 3 ∷ Unpropagated ∷ Unpropagated ∷ [])
     (ClauseIs 0 false ∷ VariableIs 1 ∷ VariableIs 2 ∷ Assigned ∷ Assigned ∷ Assigned ∷
-    hands 0 true 0 ∷ hands 1 true 0 ∷ hands 2 true 0 ∷ Next None ∷ takes_back 2 true 0 1 ∷ takes_back 1 true 0 1 ∷ Next None ∷
+    hands 0 true 0 ∷ hands 1 true 0 ∷ hands 2 true 0 ∷ Next None ∷ takes_back 2 true 0 1 ∷
+    takes_back 1 true 0 1 ∷ Next None ∷
     Assigned ∷ hands 2 false 0 ∷ Undone None ∷ Assigned ∷ hands 1 false 0 ∷ Next None ∷ [])
 
 -- ---- helper variables, learnt clauses and strings, with what is refused of them
@@ -159,18 +211,21 @@ abbrev pub HelpersAndLearnt : Type 0
 HelpersAndLearnt =
     Gives (record { solvables = solvable 0 1 ∷ []; sets = range 0 1 2 ∷ []; unions = []; strings = 1 })
     (Helper (Helps.AtLeastOne 0) ∷ Helper (Helps.ConstrainsViolation (set 0)) ∷ Helper (Helps.RequiresGate (single 0)) ∷
-    Learnt [] ∷ Learnt (Pos 1 ∷ []) ∷ Learnt (Pos 1 ∷ Neg 2 ∷ Pos 1 ∷ []) ∷ Exclude 1 (string 0) ∷ Exclude 1 (string 1) ∷ [])
+    Learnt [] ∷ Learnt (Pos 1 ∷ []) ∷ Learnt (Pos 1 ∷ Neg 2 ∷ Pos 1 ∷ []) ∷ Exclude 1 (string 0) ∷
+    Exclude 1 (string 1) ∷ [])
     (VariableIs 1 ∷ VariableIs 2 ∷ VariableIs 3 ∷
     Refused BadLearnt ∷ ClauseIs 0 false ∷ Refused BadLearnt ∷ ClauseIs 1 false ∷ Refused UnknownId ∷ [])
 
--- ---- the conflict flag of the kinds with two solvables: the second one is true, and the first one isn't false; the other
+-- ---- the conflict flag of the kinds with two solvables: the second one is true, and the first one isn't false; the
+-- other
 -- kinds have none
 
 abbrev pub FlagsOfPairs : Type 0
 FlagsOfPairs =
     Gives three_versions
     (Root ∷ Variable 0 ∷ Variable 1 ∷ Constrains 1 2 (set 0) ∷ ConstrainsParent 1 2 (set 0) ∷
-    Assign 2 true 0 1 ∷ Constrains 1 2 (set 0) ∷ ConstrainsParent 1 2 (set 0) ∷ ConstrainsExcluded 1 2 (set 0) ∷ ConstrainsExcluded 2 1 (set 0) ∷
+    Assign 2 true 0 1 ∷ Constrains 1 2 (set 0) ∷ ConstrainsParent 1 2 (set 0) ∷ ConstrainsExcluded 1 2 (set 0) ∷
+    ConstrainsExcluded 2 1 (set 0) ∷
     Assign 1 false 0 1 ∷ Constrains 1 2 (set 0) ∷ ConstrainsParent 1 2 (set 0) ∷ ConstrainsExcluded 2 1 (set 0) ∷
     Assign 0 true 0 1 ∷ Constrains 0 2 (set 0) ∷ ConstrainsParent 0 2 (set 0) ∷
     Lock 1 2 ∷ AnyOf 1 2 ∷ Exclude 2 (string 0) ∷ Learnt (Pos 1 ∷ []) ∷ [])
@@ -186,21 +241,30 @@ abbrev pub LiteralsOfKinds : Type 0
 LiteralsOfKinds =
     Leaves three_versions
     (Load (single 0) ∷ Root ∷ Requires 0 (single 0) None ∷ Assign 1 false 0 1 ∷ Requires 0 (single 0) None ∷
-    Constrains 1 2 (set 0) ∷ ConstrainsExcluded 1 2 (set 0) ∷ ConstrainsParent 1 2 (set 0) ∷ Lock 1 2 ∷ Exclude 1 (string 0) ∷ AnyOf 1 2 ∷
+    Constrains 1 2 (set 0) ∷ ConstrainsExcluded 1 2 (set 0) ∷ ConstrainsParent 1 2 (set 0) ∷ Lock 1 2 ∷
+    Exclude 1 (string 0) ∷ AnyOf 1 2 ∷
     Learnt (Pos 1 ∷ Neg 2 ∷ Pos 3 ∷ []) ∷ Learnt (Neg 3 ∷ []) ∷ Constrains 1 1 (set 0) ∷ [])
     ((Pos 0 ∷ []) ∷ (Neg 0 ∷ Pos 1 ∷ Pos 2 ∷ Pos 3 ∷ []) ∷ (Neg 0 ∷ Pos 1 ∷ Pos 2 ∷ Pos 3 ∷ []) ∷
-    (Neg 1 ∷ Neg 2 ∷ []) ∷ (Neg 1 ∷ Pos 2 ∷ []) ∷ (Neg 1 ∷ Neg 2 ∷ []) ∷ (Neg 2 ∷ Neg 0 ∷ []) ∷ (Neg 1 ∷ []) ∷ (Pos 1 ∷ Neg 2 ∷ []) ∷
+    (Neg 1 ∷ Neg 2 ∷ []) ∷ (Neg 1 ∷ Pos 2 ∷ []) ∷ (Neg 1 ∷ Neg 2 ∷ []) ∷ (Neg 2 ∷ Neg 0 ∷ []) ∷ (Neg 1 ∷ []) ∷
+    (Pos 1 ∷ Neg 2 ∷ []) ∷
     (Pos 1 ∷ Neg 2 ∷ Pos 3 ∷ []) ∷ (Neg 3 ∷ []) ∷ (Neg 1 ∷ Neg 1 ∷ []) ∷ [])
     ([] ∷ (Neg 0 ∷ Pos 1 ∷ []) ∷ (Neg 0 ∷ Pos 2 ∷ []) ∷
-    (Neg 1 ∷ Neg 2 ∷ []) ∷ (Neg 1 ∷ Pos 2 ∷ []) ∷ (Neg 1 ∷ Neg 2 ∷ []) ∷ (Neg 0 ∷ Neg 2 ∷ []) ∷ [] ∷ (Pos 1 ∷ Neg 2 ∷ []) ∷
+    (Neg 1 ∷ Neg 2 ∷ []) ∷ (Neg 1 ∷ Pos 2 ∷ []) ∷ (Neg 1 ∷ Neg 2 ∷ []) ∷ (Neg 0 ∷ Neg 2 ∷ []) ∷ [] ∷
+    (Pos 1 ∷ Neg 2 ∷ []) ∷
     (Pos 1 ∷ Pos 3 ∷ []) ∷ [] ∷ [] ∷ [])
 
 -- ---- a requires clause watches its parent and the first candidate that isn't false, or the first one where all are
 
 abbrev pub RequiresWatches : Type 0
 RequiresWatches =
-    Gives (record { solvables = solvable 0 1 ∷ solvable 1 1 ∷ solvable 1 2 ∷ []; sets = range 1 1 3 ∷ []; unions = []; strings = 0 })
-    (Root ∷ Variable 0 ∷ Load (single 0) ∷ Requires 1 (single 0) None ∷ Assign 2 false 0 1 ∷ Requires 1 (single 0) None ∷
+    Gives (record {
+      solvables = solvable 0 1 ∷ solvable 1 1 ∷ solvable 1 2 ∷ [];
+      sets = range 1 1 3 ∷ [];
+      unions = [];
+      strings = 0;
+    })
+    (Root ∷ Variable 0 ∷ Load (single 0) ∷ Requires 1 (single 0) None ∷ Assign 2 false 0 1 ∷
+    Requires 1 (single 0) None ∷
     Assign 3 false 0 1 ∷ Requires 1 (single 0) None ∷ Assign 1 false 0 1 ∷ Requires 1 (single 0) None ∷
     Watchers (Pos 2) ∷ Watchers (Pos 3) ∷ Watchers (Neg 1) ∷ [])
     (ClauseIs 0 false ∷ VariableIs 1 ∷ LoadedAs ((2 ∷ 3 ∷ []) ∷ []) ∷ ClauseIs 1 false ∷ Assigned ∷ ClauseIs 2 false ∷
@@ -212,16 +276,23 @@ RequiresWatches =
 abbrev pub PairWatches : Type 0
 PairWatches =
     Gives two_versions
-    (Variable 0 ∷ Variable 1 ∷ Constrains 1 2 (set 0) ∷ Watchers (Neg 1) ∷ Watchers (Neg 2) ∷ Constrains 1 1 (set 0) ∷ Watchers (Neg 1) ∷
+    (Variable 0 ∷ Variable 1 ∷ Constrains 1 2 (set 0) ∷ Watchers (Neg 1) ∷ Watchers (Neg 2) ∷ Constrains 1 1 (set 0) ∷
+    Watchers (Neg 1) ∷
     Assign 2 true 0 1 ∷ Constrains 1 2 (set 0) ∷ [])
-    (VariableIs 1 ∷ VariableIs 2 ∷ ClauseIs 0 false ∷ WatchersAre (0 ∷ []) ∷ WatchersAre (0 ∷ []) ∷ ClauseIs 1 false ∷ WatchersAre (0 ∷ []) ∷
+    (VariableIs 1 ∷ VariableIs 2 ∷ ClauseIs 0 false ∷ WatchersAre (0 ∷ []) ∷ WatchersAre (0 ∷ []) ∷ ClauseIs 1 false ∷
+    WatchersAre (0 ∷ []) ∷
     Assigned ∷ ClauseIs 2 true ∷ [])
 
 -- ---- a clause that watches another literal leaves one list, and goes to the front of the other
 
 abbrev pub MovedWatches : Type 0
 MovedWatches =
-    Gives (record { solvables = solvable 0 1 ∷ solvable 0 2 ∷ solvable 0 3 ∷ solvable 0 4 ∷ []; sets = []; unions = []; strings = 0 })
+    Gives (record {
+      solvables = solvable 0 1 ∷ solvable 0 2 ∷ solvable 0 3 ∷ solvable 0 4 ∷ [];
+      sets = [];
+      unions = [];
+      strings = 0;
+    })
     (Variable 0 ∷ Variable 1 ∷ Variable 2 ∷ Variable 3 ∷
     Learnt (Pos 1 ∷ Pos 2 ∷ Pos 3 ∷ []) ∷ Learnt (Pos 1 ∷ Pos 2 ∷ Pos 3 ∷ []) ∷ Learnt (Pos 1 ∷ Pos 2 ∷ Pos 4 ∷ []) ∷
     Watchers (Pos 1) ∷ Rewatch 2 (Pos 1) (Pos 2) ∷ Rewatch 0 (Pos 1) (Pos 2) ∷ Watchers (Pos 1) ∷ Watchers (Pos 2) ∷
@@ -239,7 +310,8 @@ abbrev pub SignsApart : Type 0
 SignsApart =
     Gives two_versions
     (Root ∷ Variable 0 ∷ Variable 1 ∷ Assign 2 true 0 1 ∷ ConstrainsParent 1 2 (set 0) ∷
-    Assign 1 false 0 1 ∷ Constrains 1 2 (set 0) ∷ ConstrainsExcluded 1 2 (set 0) ∷ Watchers (Pos 2) ∷ Watchers (Neg 2) ∷ [])
+    Assign 1 false 0 1 ∷ Constrains 1 2 (set 0) ∷ ConstrainsExcluded 1 2 (set 0) ∷ Watchers (Pos 2) ∷
+    Watchers (Neg 2) ∷ [])
     (ClauseIs 0 false ∷ VariableIs 1 ∷ VariableIs 2 ∷ Assigned ∷ ClauseIs 1 true ∷
     Assigned ∷ ClauseIs 2 false ∷ ClauseIs 3 false ∷ WatchersAre (3 ∷ []) ∷ WatchersAre (2 ∷ 1 ∷ []) ∷ [])
 

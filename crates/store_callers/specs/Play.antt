@@ -29,4 +29,5 @@ module _ {N S : Type 0} where
 
 -- what is computed is a run, where no command is a Saturate: which has no one outcome to compute
 abbrev pub PlayIsRun : Type 0 → Type 0 → Type 0
-PlayIsRun N S = (st : Store N S) (cs : List (Command N S)) → All (λ c. is_saturate c ≡ false) cs → Run st cs (play st cs) (store_after st cs)
+PlayIsRun N S = (st : Store N S) (cs : List (Command N S)) → All (λ c. is_saturate c ≡ false) cs →
+    Run st cs (play st cs) (store_after st cs)

@@ -1,15 +1,18 @@
--- Worked examples of what a Saturate may do: which entries clauses force, and what is so then. In the commands a forced entry
--- stands as the assignment that it is.
+-- Worked examples of what a Saturate may do: which entries clauses force, and what is so then. In the commands a forced
+-- entry stands as the assignment that it is.
 use Rattle.std.specs.Prelude.{ℕ, Bool, true, false, List, [], ◌∷◌, ◌++◌, None}
 use Rattle.resolvo_ids.specs.Types.StoreError.TheVariants.{LevelOutOfRange}
 use Rattle.resolvo_clauses.specs.Forcing.{AreForced}
 use Rattle.resolvo_clauses.specs.Trail.{Entry}
-use Rattle.resolvo_store.specs.Command.{Command, Load, Requires, Root, AtMostOnce, Assign, UndoUntil, UndoLast, Unpropagated, Saturate, Decide, Next, LoadedAs, ClauseIs, TrackedAs, Assigned, Undone, NoDecision, Falsified, Refused}
+use Rattle.resolvo_store.specs.Command.{Command, Load, Requires, Root, AtMostOnce, Assign, UndoUntil}
+use Rattle.resolvo_store.specs.Command.{UndoLast, Unpropagated, Saturate, Decide, Next, LoadedAs, ClauseIs}
+use Rattle.resolvo_store.specs.Command.{TrackedAs, Assigned, Undone, NoDecision, Falsified, Refused}
 use Rattle.resolvo_store.specs.Saturating.{HasSettled, HasConflict}
 use Rattle.resolvo_store.specs.Store.{Store, new_store, clause_literals}
 use Rattle.store_callers.specs.Play.{store_after}
 use Rattle.store_callers.specs.Script.{Packages, provider_of}
-use Rattle.store_callers.specs.ExampleWords.{Gives, solvable, range, single, assigns, decides, hands, takes_back, two_versions}
+use Rattle.store_callers.specs.ExampleWords.{Gives, solvable, range, single, assigns}
+use Rattle.store_callers.specs.ExampleWords.{decides, hands, takes_back, two_versions}
 
 abbrev pub entry : ℕ → Bool → ℕ → ℕ → Entry
 entry variable value clause level = record { decision = assigns variable value clause; level = level }
@@ -20,7 +23,8 @@ left_by packages commands = store_after (new_store (provider_of packages)) comma
 
 -- clauses force these entries at the level, one after another
 abbrev pub Forces : Packages → List (Command ℕ ℕ) → ℕ → List Entry → Type 0
-Forces packages commands level added = let st = left_by packages commands in AreForced (clause_literals st) level st.trail added
+Forces packages commands level added = let st = left_by packages commands in
+    AreForced (clause_literals st) level st.trail added
 
 -- all clauses are settled
 abbrev pub IsLeftSettled : Packages → List (Command ℕ ℕ) → Type 0
@@ -41,7 +45,8 @@ with_root = encoded ++ Assign 0 true 0 1 ∷ []
 abbrev pub RootForced : Type 0
 RootForced = Forces two_versions encoded 1 (entry 0 true 0 1 ∷ []) × IsLeftSettled two_versions with_root
 
--- ---- once the first candidate is decided, clause 2 forces the helper's negation, and by that clause 3 the other candidate's
+-- ---- once the first candidate is decided, clause 2 forces the helper's negation, and by that clause 3 the other
+-- candidate's
 
 abbrev pub decided : List (Command ℕ ℕ)
 decided = with_root ++ Decide ∷ Assign 1 true 0 2 ∷ []
@@ -50,17 +55,21 @@ abbrev pub with_forced : List (Command ℕ ℕ)
 with_forced = decided ++ Assign 3 false 2 2 ∷ Assign 2 false 3 2 ∷ []
 
 abbrev pub OtherExcluded : Type 0
-OtherExcluded = Forces two_versions decided 2 (entry 3 false 2 2 ∷ entry 2 false 3 2 ∷ []) × IsLeftSettled two_versions with_forced
+OtherExcluded = Forces two_versions decided 2 (entry 3 false 2 2 ∷ entry 2 false 3 2 ∷ []) ×
+    IsLeftSettled two_versions with_forced
 
 -- ---- no decision is left then; the forced entries are handed out; and undone to level 1 all is settled again
 
 abbrev pub SaturatedSearch : Type 0
 SaturatedSearch =
     Gives two_versions
-    (with_forced ++ Decide ∷ Unpropagated ∷ Unpropagated ∷ Unpropagated ∷ Unpropagated ∷ Unpropagated ∷ UndoUntil 1 ∷ Decide ∷ [])
-    (ClauseIs 0 false ∷ LoadedAs ((1 ∷ 2 ∷ []) ∷ []) ∷ ClauseIs 1 false ∷ TrackedAs true 0 ∷ TrackedAs true 2 ∷ Assigned ∷
+    (with_forced ++ Decide ∷ Unpropagated ∷ Unpropagated ∷ Unpropagated ∷ Unpropagated ∷ Unpropagated ∷
+    UndoUntil 1 ∷ Decide ∷ [])
+    (ClauseIs 0 false ∷ LoadedAs ((1 ∷ 2 ∷ []) ∷ []) ∷ ClauseIs 1 false ∷ TrackedAs true 0 ∷
+    TrackedAs true 2 ∷ Assigned ∷
     decides 1 0 1 2 ∷ Assigned ∷ Assigned ∷ Assigned ∷ NoDecision ∷
-    hands 0 true 0 ∷ hands 1 true 0 ∷ hands 3 false 2 ∷ hands 2 false 3 ∷ Next None ∷ Undone None ∷ decides 1 0 1 2 ∷ [])
+    hands 0 true 0 ∷ hands 1 true 0 ∷ hands 3 false 2 ∷ hands 2 false 3 ∷ Next None ∷ Undone None ∷
+    decides 1 0 1 2 ∷ [])
 
 abbrev pub SettledAgain : Type 0
 SettledAgain = IsLeftSettled two_versions (with_forced ++ UndoUntil 1 ∷ [])
@@ -91,7 +100,8 @@ without_candidates = Load (single 0) ∷ Requires 0 (single 0) None ∷ []
 
 abbrev pub ParentForcedFalse : Type 0
 ParentForcedFalse =
-    Forces no_version without_candidates 1 (entry 0 false 0 1 ∷ []) × IsLeftSettled no_version (without_candidates ++ Assign 0 false 0 1 ∷ [])
+    Forces no_version without_candidates 1 (entry 0 false 0 1 ∷ []) ×
+    IsLeftSettled no_version (without_candidates ++ Assign 0 false 0 1 ∷ [])
 
 abbrev pub ForcedTakenBack : Type 0
 ForcedTakenBack =

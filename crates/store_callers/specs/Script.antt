@@ -1,6 +1,7 @@
--- A few packages, and the provider of them: names and solvables are their numbers, a higher version is preferred, and of each
--- version set there is a condition.
-use Rattle.std.specs.Prelude.{ℕ, Bool, true, false, ◌==◌, ◌&&◌, ◌||◌, if◌then◌else◌, nat_lt, nat_le, List, [], ◌∷◌, map, length, filter, fold, Option, Some, None, unwrap_or, option_map, slice_get}
+-- A few packages, and the provider of them: names and solvables are their numbers, a higher version is preferred, and
+-- of each version set there is a condition.
+use Rattle.std.specs.Prelude.{ℕ, Bool, true, false, ◌==◌, ◌&&◌, ◌||◌, if◌then◌else◌, nat_lt, nat_le, List, [], ◌∷◌}
+use Rattle.std.specs.Prelude.{map, length, filter, fold, Option, Some, None, unwrap_or, option_map, slice_get}
 use Rattle.std.specs.List.{enumerate_from}
 use Rattle.resolvo_ids.specs.Types.VersionSetId.{VersionSetId}
 use Rattle.resolvo_pool.specs.Types.Condition.TheVariants.{Requirement}
@@ -28,7 +29,8 @@ pub record Packages : Type 0 where
 module _ (c : Packages) where
   -- the solvables of a name, by number
   abbrev pub named : ℕ → List ℕ
-  named n = map (λ (s : ℕ × Solvable). s.0) (filter (λ (s : ℕ × Solvable). s.1.name == n) (enumerate_from 0 c.solvables))
+  named n = map (λ (s : ℕ × Solvable). s.0)
+      (filter (λ (s : ℕ × Solvable). s.1.name == n) (enumerate_from 0 c.solvables))
 
   abbrev pub version : ℕ → ℕ
   version s = unwrap_or (option_map (λ x. x.version) (slice_get c.solvables s)) 0

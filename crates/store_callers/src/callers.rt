@@ -9,7 +9,8 @@ ghost use Rattle.resolvo_store.specs.Store.{lists_of};
 use resolvo_pool::{DependencyProvider, Interner, Requirement};
 use resolvo_store::{AbstractStore, ClauseStore, Command, Reply};
 
-/// A command that is refused, whatever it is and why, changes nothing, but for a `Saturate`, which keeps what it forced.
+/// A command that is refused, whatever it is and why, changes nothing, but for a `Saturate`, which keeps what it
+/// forced.
 pub fn obey<D: DependencyProvider + Drop>(
     store: &mut ClauseStore<D>,
     command: &Command<D::NameId, D::SolvableId, D::Alloc>,
@@ -32,13 +33,15 @@ pub fn unknown<D: DependencyProvider + Drop>(
     store.step(&Command::Variable(solvable))
 }
 
-/// Where a requirement is loaded for the first time, what is answered is one list a version set, in particular of a union.
+/// Where a requirement is loaded for the first time, what is answered is one list a version set, in particular of a
+/// union.
 pub fn load_first<D: DependencyProvider + Drop>(
     store: &mut ClauseStore<D>,
     requirement: Requirement,
 ) -> Reply<D::Alloc>
     requires { lists_of (⟦<D as AbstractStore>⟧.store store.old) requirement ≡ None }
-    ensures { (lists : List (List ℕ)) → reply_of result ≡ LoadedAs lists → length lists ≡ length (sets_of (D.universe store.old.provider) requirement) }
+    ensures { (lists : List (List ℕ)) → reply_of result ≡ LoadedAs lists →
+        length lists ≡ length (sets_of (D.universe store.old.provider) requirement) }
 {
     store.step(&Command::Load(requirement))
 }

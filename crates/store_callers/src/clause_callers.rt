@@ -14,8 +14,10 @@ pub fn add<D: DependencyProvider + Drop>(
     store: &mut ClauseStore<D>,
     command: &Command<D::NameId, D::SolvableId, D::Alloc>,
 ) -> Reply<D::Alloc>
-    ensures next { (clause : ℕ) (conflict : Bool) → reply_of result ≡ ClauseIs clause conflict → clause ≡ length (⟦<D as AbstractStore>⟧.store store.old).clauses }
-    ensures known { (clause : ℕ) (conflict : Bool) → reply_of result ≡ ClauseIs clause conflict → clause < length (⟦<D as AbstractStore>⟧.store store.new).clauses }
+    ensures next { (clause : ℕ) (conflict : Bool) → reply_of result ≡ ClauseIs clause conflict →
+        clause ≡ length (⟦<D as AbstractStore>⟧.store store.old).clauses }
+    ensures known { (clause : ℕ) (conflict : Bool) → reply_of result ≡ ClauseIs clause conflict →
+        clause < length (⟦<D as AbstractStore>⟧.store store.new).clauses }
 {
     store.step(command)
 }

@@ -1,5 +1,5 @@
-//! Callers that conclude what is true of every store, whatever store they are handed: they know nothing of the provider but
-//! its trait, and nothing of the store but its contracts. The laws that their proofs cite are those of
+//! Callers that conclude what is true of every store, whatever store they are handed: they know nothing of the provider
+//! but its trait, and nothing of the store but its contracts. The laws that their proofs cite are those of
 //! `resolvo_store/proofs/CallerLaws.antt`.
 ghost use Rattle.std.specs.Prelude.{◌≡◌, ◌≤◌, ℕ, Bool, length, [], None, All};
 ghost use Rattle.resolvo_store.specs.Command.{reply_of, NoDecision, Falsified, Conflict};
@@ -41,9 +41,9 @@ pub fn search_is_done<D: DependencyProvider + Drop>(store: &mut ClauseStore<D>) 
     store.step(&Command::Decide)
 }
 
-/// Assigns what clauses force, and asks for a decision once no clause is false or forces anything. No registered clause is
-/// falsified then; and where no decision is left, what the trail says to be true, all else false, meets each clause, unless a
-/// condition holds a variable that isn't negated, or a learnt clause needs more.
+/// Assigns what clauses force, and asks for a decision once no clause is false or forces anything. No registered clause
+/// is falsified then; and where no decision is left, what the trail says to be true, all else false, meets each clause,
+/// unless a condition holds a variable that isn't negated, or a learnt clause needs more.
 pub fn saturate_and_decide<D: DependencyProvider + Drop>(
     store: &mut ClauseStore<D>,
     level: u32,
@@ -58,13 +58,15 @@ pub fn saturate_and_decide<D: DependencyProvider + Drop>(
     }
 }
 
-/// Assigns what clauses force. Whatever is replied, each new entry follows from its clause and the entries before it: truth
-/// values of all variables that meet the clauses and agree with the trail still do. A conflict means that there were none.
+/// Assigns what clauses force. Whatever is replied, each new entry follows from its clause and the entries before it:
+/// truth values of all variables that meet the clauses and agree with the trail still do. A conflict means that there
+/// were none.
 pub fn saturate_soundly<D: DependencyProvider + Drop>(
     store: &mut ClauseStore<D>,
     level: u32,
 ) -> Reply<D::Alloc>
-    ensures forced { HasForcedMore level (⟦<D as AbstractStore>⟧.store store.old) (⟦<D as AbstractStore>⟧.store store.new) }
+    ensures forced { HasForcedMore level (⟦<D as AbstractStore>⟧.store store.old)
+        (⟦<D as AbstractStore>⟧.store store.new) }
     ensures kept { (a : ℕ → Bool) → IsModelNow (⟦<D as AbstractStore>⟧.store store.old) a
         → IsModelNow (⟦<D as AbstractStore>⟧.store store.new) a }
     ensures conflict { (clause : ℕ) → reply_of result ≡ Conflict clause
@@ -73,8 +75,8 @@ pub fn saturate_soundly<D: DependencyProvider + Drop>(
     store.step(&Command::Saturate(level))
 }
 
-/// Obeys commands in turn. Whatever was refused, each literal's watch list then holds exactly the clauses that watch the
-/// literal, each once, and what a clause watches is its own.
+/// Obeys commands in turn. Whatever was refused, each literal's watch list then holds exactly the clauses that watch
+/// the literal, each once, and what a clause watches is its own.
 pub fn obey_watched<D: DependencyProvider + Drop>(
     store: &mut ClauseStore<D>,
     commands: &[Command<D::NameId, D::SolvableId, D::Alloc>],
@@ -85,8 +87,8 @@ pub fn obey_watched<D: DependencyProvider + Drop>(
     store.run(commands)
 }
 
-/// Obeys a list of commands. Whatever was refused, the clauses of each name can then be met by choosing helpers exactly when at
-/// most one of the variables that are tracked under it is true.
+/// Obeys a list of commands. Whatever was refused, the clauses of each name can then be met by choosing helpers exactly
+/// when at most one of the variables that are tracked under it is true.
 pub fn obey_forbids_two<D: DependencyProvider + Drop>(
     store: &mut ClauseStore<D>,
     list: &[Command<D::NameId, D::SolvableId, D::Alloc>],

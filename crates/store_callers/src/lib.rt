@@ -1,10 +1,10 @@
-//! Callers of the clause store as who embeds it writes them: they know nothing of the provider but its traits, and nothing of the
-//! store but its contracts, from which alone they are proved. Each crate, item and definition is named through a door: `resolvo_ids`,
-//! `resolvo_pool`, `resolvo_clauses`, `resolvo_queue` and `resolvo_store`. docs/SEARCH.md and docs/CLAUSES.md quote
-//! `requirement_callers` and `searching`, a small search.
+//! Callers of the clause store as who embeds it writes them: they know nothing of the provider but its traits, and
+//! nothing of the store but its contracts, from which alone they are proved. Each crate, item and definition is named
+//! through a door: `resolvo_ids`, `resolvo_pool`, `resolvo_clauses`, `resolvo_queue` and `resolvo_store`.
+//! docs/SEARCH.md and docs/CLAUSES.md quote `requirement_callers` and `searching`, a small search.
 //!
-//! Beside them are worked examples that the checker computes from the definitions (`computed`); the program `worked_examples` runs
-//! the same examples.
+//! Beside them are worked examples that the checker computes from the definitions (`computed`); the program
+//! `worked_examples` runs the same examples.
 #![tactic(auto)]
 
 mod callers;

@@ -17,7 +17,8 @@ pub fn give<D: DependencyProvider + Drop>(
     clause: ClauseId,
     level: u32,
 ) -> Result<bool, StoreError>
-    ensures given { IfOk result (λ given. val (⟦<D as AbstractStore>⟧.store store.new).trail variable ≡ Some (if given then value else not value)) }
+    ensures given { IfOk result (λ given. val (⟦<D as AbstractStore>⟧.store store.new).trail variable ≡
+        Some (if given then value else not value)) }
     ensures refused { OnErr result (⟦<D as AbstractStore>⟧.store store.new ≡ ⟦<D as AbstractStore>⟧.store store.old) }
 {
     match store.obey(&Command::Assign(variable, value, clause, level))? {
@@ -33,7 +34,8 @@ pub fn load<D: DependencyProvider + Drop>(
     store: &mut ClauseStore<D>,
     requirement: Requirement,
 ) -> Result<(), StoreError>
-    ensures clauses { (⟦<D as AbstractStore>⟧.store store.new).requires ≡ (⟦<D as AbstractStore>⟧.store store.old).requires }
+    ensures clauses { (⟦<D as AbstractStore>⟧.store store.new).requires ≡
+        (⟦<D as AbstractStore>⟧.store store.old).requires }
     ensures unknown { knows_requirement (D.universe store.old.provider) requirement ≡ false → result ≡ Err UnknownId }
 {
     store.obey(&Command::Load(requirement))?;
@@ -46,7 +48,8 @@ pub fn register<D: DependencyProvider + Drop>(
     parent: VariableId,
     requirement: Requirement,
 ) -> Result<ClauseId, StoreError>
-    ensures added { IfOk result (λ clause. (⟦<D as AbstractStore>⟧.store store.new).requires ≡ (⟦<D as AbstractStore>⟧.store store.old).requires
+    ensures added { IfOk result (λ clause. (⟦<D as AbstractStore>⟧.store store.new).requires ≡
+        (⟦<D as AbstractStore>⟧.store store.old).requires
         ++ (record { parent = parent; requirement = requirement; condition = None; clause_id = clause }) ∷ []) }
     ensures refused { OnErr result (⟦<D as AbstractStore>⟧.store store.new ≡ ⟦<D as AbstractStore>⟧.store store.old) }
 {
@@ -64,16 +67,19 @@ pub fn require<D: DependencyProvider + Drop>(
     parent: VariableId,
     requirement: Requirement,
 ) -> Result<ClauseId, StoreError>
-    ensures added { IfOk result (λ clause. (⟦<D as AbstractStore>⟧.store store.new).requires ≡ (⟦<D as AbstractStore>⟧.store store.old).requires
+    ensures added { IfOk result (λ clause. (⟦<D as AbstractStore>⟧.store store.new).requires ≡
+        (⟦<D as AbstractStore>⟧.store store.old).requires
         ++ (record { parent = parent; requirement = requirement; condition = None; clause_id = clause }) ∷ []) }
-    ensures refused { OnErr result ((⟦<D as AbstractStore>⟧.store store.new).requires ≡ (⟦<D as AbstractStore>⟧.store store.old).requires) }
+    ensures refused { OnErr result ((⟦<D as AbstractStore>⟧.store store.new).requires ≡
+        (⟦<D as AbstractStore>⟧.store store.old).requires) }
     ensures unknown { knows_requirement (D.universe store.old.provider) requirement ≡ false → result ≡ Err UnknownId }
 {
     load(store, requirement)?;
     register(store, parent, requirement)
 }
 
-/// Whether what was refused may be granted another time, though nothing else is done: memory is all that comes and goes.
+/// Whether what was refused may be granted another time, though nothing else is done: memory is all that comes and
+/// goes.
 pub fn may_pass(error: StoreError) -> bool
     ensures { result ≡ (code_of error == 1) }
 {

@@ -36,7 +36,8 @@ pub enum AskFault {
 pub fn ask<D: DependencyProvider + Drop>(
     store: &mut ClauseStore<D>,
 ) -> Result<Option<QueueDecision>, AskFault>
-    ensures decision { IfOk result (λ decision. DecidesUnbeaten (offers (⟦<D as AbstractStore>⟧.store store.old)) decision) }
+    ensures decision { IfOk result (λ decision.
+        DecidesUnbeaten (offers (⟦<D as AbstractStore>⟧.store store.old)) decision) }
     ensures unfalsified { OnOk result (falsified_clause (⟦<D as AbstractStore>⟧.store store.old) ≡ None) }
     ensures fault { IfErr result (IsFault (⟦<D as AbstractStore>⟧.store store.old)) }
     ensures same { ⟦<D as AbstractStore>⟧.store store.new ≡ ⟦<D as AbstractStore>⟧.store store.old }
@@ -70,8 +71,8 @@ pub fn search<D: DependencyProvider + Drop>(
     Ok(SearchEnd::LevelsUsed)
 }
 
-/// Takes back what was assigned above a level, and rules a candidate out at this level: the clause can't be met with it.
-/// Answers whether it is ruled out now; it isn't if it was chosen at this level or below.
+/// Takes back what was assigned above a level, and rules a candidate out at this level: the clause can't be met with
+/// it. Answers whether it is ruled out now; it isn't if it was chosen at this level or below.
 pub fn rule_out<D: DependencyProvider + Drop>(
     store: &mut ClauseStore<D>,
     candidate: VariableId,

@@ -1,6 +1,11 @@
 -- The function `refuses` at a call: what its caller hands it, and what the caller has afterwards. Assumes `Logic`.
--- Nothing is known of what a cell holds, so nothing is known of the answer, but that it is a `bool`. A caller's proof goes through both.
-use Rattle.test_support.proofs.Steps.{◌≡◌, ℕ, Bool, List, [], ◌∷◌, refl, ap, Val, vbool, vptr, Ura, SProp, ent, sep, guard, id⊢, Lft, Share, ftrue, fsep, flft, Logic, sem, Memory, Routine, Fun, bool, Contract, triple_of, ‵, raw, ◌⊛◌, some, later, ◌$◌, ◌∵◌, !, qed, done, move, keep, use1, split, join, fjoin, feq_i, feq_l, pick, show, check, await, updating, at_once, nothing, only}
+-- Nothing is known of what a cell holds, so nothing is known of the answer, but that it is a `bool`. A caller's proof
+-- goes through both.
+use Rattle.test_support.proofs.Steps.{◌≡◌, ℕ, Bool, List, [], ◌∷◌, refl, ap, Val, vbool, vptr, Ura, SProp}
+use Rattle.test_support.proofs.Steps.{ent, sep, guard, id⊢, Lft, Share, ftrue, fsep, flft, Logic, sem, Memory}
+use Rattle.test_support.proofs.Steps.{Routine, Fun, bool, Contract, triple_of, ‵, raw, ◌⊛◌, some, later, ◌$◌}
+use Rattle.test_support.proofs.Steps.{◌∵◌, !, qed, done, move, keep, use1, split, join, fjoin, feq_i, feq_l}
+use Rattle.test_support.proofs.Steps.{pick, show, check, await, updating, at_once, nothing, only}
 use base.Logic.{ex}
 use Rattle.test_support.proofs.Fields.{counts}
 use Rattle.test_support.specs.contracts.refusing.refuses as refuses
@@ -33,7 +38,8 @@ module _ {M : Type 1} {𝓤 : Ura M} (𝓛 : Logic 𝓤) (mem : Memory → SProp
   pub asks_leaves : (v : Val) → ent 𝓤 ((Asks 𝓛 mem run).post (asks_at 𝓛 mem run κ q p) v) (H.⇛ (ex 𝓤 (Says v)))
   asks_leaves v =
       qed 𝓛 (raw ((Asks 𝓛 mem run).post (asks_at 𝓛 mem run κ q p) v) ∷ []) ∵ updating ! $
-      use1 𝓛 (later (some (λ (b : Bool). ((‵ (flft κ q) ⊛ ‵ ftrue) ⊛ ‵ (bool.own_val b (v ∷ []))) ⊛ some (λ (_ : Unit {0} × Unit {0}). ‵ (fsep ftrue ftrue) ⊛ ‵ ftrue)))) (id⊢ 𝓤 _) $
+      use1 𝓛 (later (some (λ (b : Bool). ((‵ (flft κ q) ⊛ ‵ ftrue) ⊛ ‵ (bool.own_val b (v ∷ []))) ⊛ some
+      (λ (_ : Unit {0} × Unit {0}). ‵ (fsep ftrue ftrue) ⊛ ‵ ftrue)))) (id⊢ 𝓤 _) $
       await ! tt $ pick ! (λ b. split ! $ split ! $ move ! (1 ∷ []) $
       -- what a `bool` owns says which machine value it is
       feq_l ! (λ e. split ! $ at_once ! $ show ! (Says v) b $ check ! (ap only e) $ keep ! (0 ∷ []) $ done !))

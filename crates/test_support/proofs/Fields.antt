@@ -1,5 +1,8 @@
--- The two fields of a `Refusing`: where they lie behind a `&self`, and that who holds the `&self` may look at both. Assumes `Logic`.
-use Rattle.test_support.proofs.Steps.{ℕ, ◌+◌, [], ◌∷◌, Bor, named, param, Ura, ent, sep, id⊢, Fml, Lft, Logic, sem, size, align, up, u64, RefOf, hidden_shr, RattleType, ShrRef, shr_vals, Slot, plain, ‵, ◌$◌, ◌∵◌, !, qed, done, move, keep, use1, fsplit, unhide, Al, α, seen}
+-- The two fields of a `Refusing`: where they lie behind a `&self`, and that who holds the `&self` may look at both.
+-- Assumes `Logic`.
+use Rattle.test_support.proofs.Steps.{ℕ, ◌+◌, [], ◌∷◌, Bor, named, param, Ura, ent, sep, id⊢, Fml, Lft, Logic, sem}
+use Rattle.test_support.proofs.Steps.{size, align, up, u64, RefOf, hidden_shr, RattleType, ShrRef, shr_vals, Slot}
+use Rattle.test_support.proofs.Steps.{plain, ‵, ◌$◌, ◌∵◌, !, qed, done, move, keep, use1, fsplit, unhide, Al, α, seen}
 use Rattle.std.specs.contracts.cell.Cell as Cell
 use Rattle.test_support.specs.contracts.refusing.Refusing as Refusing
 

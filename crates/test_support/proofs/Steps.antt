@@ -36,7 +36,9 @@ pub use denote.Triple.Table.{framed}
 pub use denote.Triple.Walked.{Stays, stay_dropped, walk_of, Goes-dropped}
 pub use Rattle.std.proofs.raw_atomic.Walks.{proved, leaves}
 -- the context of a walk, and the steps that change only it
-pub use types.Kit.{Item, Sq, ‵, raw, ◌⊛◌, some, later, given, prop, at_ret, ◌$◌, ◌∵◌, !, qed, by, done, move, keep, use0, use1, use2, split, split3, join, fsplit, fjoin, feq_i, feq_l, pick, learn, show, check, await, updating, now as at_once}
+pub use types.Kit.{Item, Sq, ‵, raw, ◌⊛◌, some, later, given, prop, at_ret, ◌$◌, ◌∵◌, !, qed}
+pub use types.Kit.{by, done, move, keep, use0, use1, use2, split, split3, join, fsplit, fjoin}
+pub use types.Kit.{feq_i, feq_l, pick, learn, show, check, await, updating, now as at_once}
 pub use denote.Opens.{unhide}
 pub use denote.Steps.{nothing, heard, only}
 -- the steps that follow the code
@@ -45,5 +47,7 @@ pub use types.Run.{enter, exec, first, branches, skips, returns, returns_within,
 pub use types.ByLocal.{alloc_all, pass_all, free_all, look_at, get, through, sets, lands_as, env}
 pub use denote.Triple.Call.{calls_at}
 -- an allocator under a bound, and its two methods at a call
-pub use Rattle.std.proofs.alloc.Calls.{Al, α, seen, token, Answer, answer_val, Answer-typed, Answer-Ok, Answer-err, Takes, at_takes, takes_key, Takes-goes, Takes-gives, Answered, answers, Gives, at_gives, gives_key, Gives-goes, Gives-Gives}
+pub use Rattle.std.proofs.alloc.Calls.{Al, α, seen, token, Answer, answer_val, Answer-typed, Answer-Ok}
+pub use Rattle.std.proofs.alloc.Calls.{Answer-err, Takes, at_takes, takes_key, Takes-goes, Takes-gives}
+pub use Rattle.std.proofs.alloc.Calls.{Answered, answers, Gives, at_gives, gives_key, Gives-goes, Gives-Gives}
 pub use Rattle.std.proofs.VecSteps.Shapes.{after}

@@ -1,5 +1,7 @@
 -- What a provider of plain lists answers. A solvable's number is its place in the list.
-use Rattle.std.specs.Prelude.{◌≡◌, ℕ, ◌<◌, ◌≤◌, ◌+◌, ◌%◌, Bool, true, false, ◌&&◌, ◌==◌, if◌then◌else◌, nat_le, nat_lt, List, [], ◌∷◌, ◌++◌, codes, decimal, length, map, reverse, slice_index_or, All, Option, option_map}
+use Rattle.std.specs.Prelude.{◌≡◌, ℕ, ◌<◌, ◌≤◌, ◌+◌, ◌%◌, Bool, true, false, ◌&&◌, ◌==◌}
+use Rattle.std.specs.Prelude.{if◌then◌else◌, nat_le, nat_lt, List, [], ◌∷◌, ◌++◌, codes, decimal}
+use Rattle.std.specs.Prelude.{length, map, reverse, slice_index_or, All, Option, option_map}
 use Rattle.std.specs.List.{AllByRecursion, list_all}
 use Rattle.std.specs.Char.{encode_utf8}
 use Rattle.std.proofs.lemmas.List.Elements.{All-from_recursion, All-append}
@@ -67,7 +69,8 @@ several = codes "several"
 -- ---- names N and solvables S that are told by their numbers
 module _ {N S : Type 0} where
   -- which ids the lists know, and how they belong together
-  abbrev pub universe_of : (ℕ → N) → (S → ℕ) → List Package → List VersionRange → List (List VersionSetId) → Universe N S
+  abbrev pub universe_of : (ℕ → N) → (S → ℕ) → List Package → List VersionRange →
+      List (List VersionSetId) → Universe N S
   universe_of name number packages ranges unions = record {
     knows_string = λ s. s.0 == 0;
     knows_name = λ n. true;
@@ -84,14 +87,16 @@ module _ {N S : Type 0} where
   -- a name is its letter, and a solvable that and its version, as a 1
   abbrev pub texts_of : (N → ℕ) → (S → ℕ) → List Package → List VersionRange → Texts N S
   texts_of name_number number packages ranges = record {
-    solvable = λ s. let p = package_at packages (number s) in encode_utf8 (letter p.name) ++ (codes " " ++ decimal p.version);
+    solvable = λ s. let p = package_at packages (number s) in
+        encode_utf8 (letter p.name) ++ (codes " " ++ decimal p.version);
     name = λ n. encode_utf8 (letter (name_number n));
     version_set = λ v. range_text (range_at ranges v);
     string = λ s. codes "old";
   }
 
   -- what the lists answer
-  abbrev pub answers_of : (N → ℕ) → (S → ℕ) → (ℕ → S) → List Package → List VersionRange → Option ℕ → Listing → Answers N S
+  abbrev pub answers_of : (N → ℕ) → (S → ℕ) → (ℕ → S) → List Package → List VersionRange → Option ℕ →
+      Listing → Answers N S
   answers_of name_number number numbered packages ranges favored listing = record {
     candidates = λ n. listed listing (map numbered (places_of (name_number n) 0 packages));
     matches = λ v s. is_within (range_at ranges v) (version_at packages (number s));
@@ -111,30 +116,35 @@ module _ {S : Type 0} (number : S → ℕ) (numbered : ℕ → S) (undone : (n :
       → AllByRecursion (λ s. nat_lt (number s) end ≡ true) (map numbered (places_of name n ps))
   places_below name n end [] h = tt
   places_below name n end (p ∷ ps) h =
-      let rest : AllByRecursion (λ s. nat_lt (number s) end ≡ true) (map numbered (places_of name (n + 1) ps)) = places_below name (n + 1) end ps (omega arith) in
+      let rest : AllByRecursion (λ s. nat_lt (number s) end ≡ true) (map numbered (places_of name (n + 1) ps)) =
+      places_below name (n + 1) end ps (omega arith) in
       let below : n < end = omega arith in
       let known : nat_lt n end ≡ true = search rules in
       let first : nat_lt (number (numbered n)) end ≡ true = ap (λ m. nat_lt m end) (undone n) ∙ known in
       elim (p.name == name) as (λ b. AllByRecursion (λ s. nat_lt (number s) end ≡ true)
-      (map numbered (cond b (n ∷ places_of name (n + 1) ps) (places_of name (n + 1) ps)))) [ true ↦ (first, rest) | false ↦ rest ]
+      (map numbered (cond b (n ∷ places_of name (n + 1) ps) (places_of name (n + 1) ps))))
+      [ true ↦ (first, rest) | false ↦ rest ]
 
   -- all of them, once or twice
   pub candidates_known : (name : ℕ) (ps : List Package) (listing : Listing)
       → All (λ s. nat_lt (number s) (length ps) ≡ true) (listed listing (map numbered (places_of name 0 ps)))
   candidates_known name ps Once = All-from_recursion _ _ (places_below name 0 (length ps) ps (omega arith))
   candidates_known name ps Twice =
-      let once : All (λ s. nat_lt (number s) (length ps) ≡ true) (map numbered (places_of name 0 ps)) = All-from_recursion _ _ (places_below name 0 (length ps) ps (omega arith)) in
+      let once : All (λ s. nat_lt (number s) (length ps) ≡ true) (map numbered (places_of name 0 ps)) =
+      All-from_recursion _ _ (places_below name 0 (length ps) ps (omega arith)) in
       All-append (λ s. nat_lt (number s) (length ps) ≡ true) _ _ once once
 
 -- so all version sets of a union are known, whatever else is known of it
-pub unions_known : (count : ℕ) (sets : List VersionSetId) (b : Bool) → (b && are_known count sets) ≡ true → All (λ v. nat_lt v.0 count ≡ true) sets
+pub unions_known : (count : ℕ) (sets : List VersionSetId) (b : Bool) → (b && are_known count sets) ≡ true →
+    All (λ v. nat_lt v.0 count ≡ true) sets
 unions_known count sets true h = All-from_recursion _ _ (each sets h)
   where
     each : (vs : List VersionSetId) → are_known count vs ≡ true → AllByRecursion (λ v. nat_lt v.0 count ≡ true) vs
     each [] k = tt
     each (v ∷ vs) k = both (nat_lt v.0 count) refl k (each vs)
       where
-        both : (a : Bool) → nat_lt v.0 count ≡ a → (a && are_known count vs) ≡ true → (are_known count vs ≡ true → AllByRecursion (λ w. nat_lt w.0 count ≡ true) vs)
+        both : (a : Bool) → nat_lt v.0 count ≡ a → (a && are_known count vs) ≡ true →
+            (are_known count vs ≡ true → AllByRecursion (λ w. nat_lt w.0 count ≡ true) vs)
             → (nat_lt v.0 count ≡ true) × AllByRecursion (λ w. nat_lt w.0 count ≡ true) vs
         both true e k rest = (e, rest k)
         both false e k rest = none_known k

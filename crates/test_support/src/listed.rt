@@ -90,7 +90,8 @@ pub(crate) fn within<S: Numbered, A: Allocator>(
     inverse: bool,
 ) -> Result<Vec<S, A>, StoreError>
     requires { All (λ s. nat_lt (S.number_of s) (length packages.now) ≡ true) candidates.now }
-    ensures ok { IfOk result (λ found. found.items ≡ filtered (λ s. is_within range (version_at packages.now (S.number_of s))) inverse candidates.now) }
+    ensures ok { IfOk result (λ found. found.items ≡
+        filtered (λ s. is_within range (version_at packages.now (S.number_of s))) inverse candidates.now) }
     ensures err { IfErr result (λ e. e ≡ OutOfMemory) }
 {
     let mut found = Vec::new(alloc);

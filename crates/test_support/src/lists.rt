@@ -16,9 +16,9 @@ use std::cell::Cell;
 use std::marker::PhantomData;
 use typed_ids::{ConditionId, StoreError, StringId, VersionSetId, VersionSetUnionId};
 
-/// Packages, version sets and unions in lists, with names `N` and solvables `S`. The later a package comes, the better. There
-/// is one string, `old`, and a condition for each version set, that it is met. The name of a package is written as a letter, `a` that of
-/// number 0; a version set whose versions have no end has no text.
+/// Packages, version sets and unions in lists, with names `N` and solvables `S`. The later a package comes, the better.
+/// There is one string, `old`, and a condition for each version set, that it is met. The name of a package is written
+/// as a letter, `a` that of number 0; a version set whose versions have no end has no text.
 #[derive(Drop)]
 pub struct Lists<N, S, A: Allocator> {
     /// What is listed.
@@ -68,7 +68,8 @@ impl<N: SolverId<A> + Numbered, S: SolverId<A> + Distinct, A: Allocator + Copy> 
 
     ghost use Rattle.test_support.specs.Listed.{universe_of, texts_of, union_at, unions_known};
 
-    ghost universe = { λ p. universe_of N.id_of S.number_of p.listed.packages.items p.listed.ranges.items (map (λ l. l.items) p.listed.unions.items) };
+    ghost universe = { λ p. universe_of N.id_of S.number_of p.listed.packages.items p.listed.ranges.items
+        (map (λ l. l.items) p.listed.unions.items) };
 
     ghost own_merged = { λ p list. Some several };
 
@@ -78,7 +79,8 @@ impl<N: SolverId<A> + Numbered, S: SolverId<A> + Distinct, A: Allocator + Copy> 
 
     ghost set_names_known = { λ p v h. refl };
 
-    ghost union_sets_known = { λ p u h. unions_known (length p.listed.ranges.items) (union_at (map (λ l. l.items) p.listed.unions.items) u) _ h };
+    ghost union_sets_known = { λ p u h. unions_known (length p.listed.ranges.items)
+        (union_at (map (λ l. l.items) p.listed.unions.items) u) _ h };
 
     ghost operands_known = { λ p c h. h };
 
@@ -176,9 +178,11 @@ impl<N: SolverId<A> + Numbered, S: SolverId<A> + Distinct, A: Allocator + Copy> 
 
     type Cancel = u32;
 
-    ghost answers = { λ p. answers_of N.number_of S.number_of S.id_of p.listed.packages.items p.listed.ranges.items p.listed.favored p.manner.listing };
+    ghost answers = { λ p. answers_of N.number_of S.number_of S.id_of p.listed.packages.items p.listed.ranges.items
+        p.listed.favored p.manner.listing };
 
-    ghost candidates_known = { λ p n. candidates_known S.number_of S.id_of S.number_of_id (N.number_of n) p.listed.packages.items p.manner.listing };
+    ghost candidates_known = { λ p n. candidates_known S.number_of S.id_of S.number_of_id
+        (N.number_of n) p.listed.packages.items p.manner.listing };
 
     ghost order_permutes = { λ p list. IsPermutation-reverse list };
 

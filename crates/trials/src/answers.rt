@@ -18,8 +18,8 @@ pub(crate) enum Way {
     Run,
 }
 
-/// Commands that are given so. What is told are the lines of the replies; and then, in a line each, the literals of all clauses, the
-/// next decision, and how often the provider was asked for candidates and whether to stop.
+/// Commands that are given so. What is told are the lines of the replies; and then, in a line each, the literals of all
+/// clauses, the next decision, and how often the provider was asked for candidates and whether to stop.
 #[derive(Drop)]
 struct Answers<'a, N, S, A: Allocator> {
     alloc: A,
@@ -118,7 +118,8 @@ fn push_literals<N, S, A: Allocator + Copy, T: Obeys<N, S, A>>(
     Ok(true)
 }
 
-/// Commands whose `Debug` texts are told, each with that of its reply, and then the texts of the clauses that a store has.
+/// Commands whose `Debug` texts are told, each with that of its reply, and then the texts of the clauses that a store
+/// has.
 #[derive(Drop)]
 struct Texts<'a, N, S, A: Allocator> {
     alloc: A,

@@ -3,13 +3,16 @@
 //! | line | what is asked for | answer |
 //! |---|---|---|
 //! | `candidates NAME` | the candidates of a package | `solvables 0 1 2`, of more than four the first four |
-//! | `extras NAME` | what else is kept of it: the locked solvable, and how many are excluded, with the first | `locked Some(1) excluded 1: Some(1)` |
-//! | `matching SET`, `others SET`, `sorted SET` | those that a version set holds, those that it doesn't, and those that it holds, best first | `solvables 1 0` |
+//! | `extras NAME` | the locked solvable; how many are excluded, and the first | `locked Some(1) excluded 1: Some(1)` |
+//! | `matching SET` | those that a version set holds | `solvables 1 0` |
+//! | `others SET` | those that it doesn't hold | `solvables 3` |
+//! | `sorted SET` | those that it holds, best first | `solvables 0 1` |
 //! | `required R` | those that meet a requirement, best first | `solvables 1 0 3` |
 //! | `needs SOLVABLE` | whether it is known what a solvable needs | `known true` |
 //! | `available SOLVABLE` | whether that is at hand | `available true` |
 //!
-//! A question about what isn't there is answered `unknown`, one that is refused `refused 1`, and one that is stopped `cancelled 7`.
+//! A question about what isn't there is answered `unknown`, one that is refused `refused 1`, and one that is stopped
+//! `cancelled 7`.
 use crate::answers::{Heap, push_unlike};
 use crate::listed::number_of;
 use crate::played::provider_of;
@@ -241,7 +244,8 @@ fn push_solvables(
     told.push_str("\n")
 }
 
-/// What caches tell: their answers; whether the request came that was to be refused; and how often the provider was asked.
+/// What caches tell: their answers; whether the request came that was to be refused; and how often the provider was
+/// asked.
 type Told = (String, bool, Counts);
 
 /// Which of the first eight solvables are said to be at hand, as the digits of a number.
@@ -255,8 +259,8 @@ fn at_hand<T: Asks>(cache: &mut T) -> u32 {
     are_at_hand
 }
 
-/// Asks a question again that was refused where these solvables were at hand before it. Tells which are at hand after the refusal, unless
-/// all that were before are still, and none is that isn't after the second answer.
+/// Asks a question again that was refused where these solvables were at hand before it. Tells which are at hand after
+/// the refusal, unless all that were before are still, and none is that isn't after the second answer.
 fn asked_again<T: Asks>(
     alloc: Global,
     cache: &mut T,
@@ -273,8 +277,8 @@ fn asked_again<T: Asks>(
     Ok(seen)
 }
 
-/// The answers to all questions in turn, of which the request of this number is refused. A refused question is asked again, and its
-/// second answer stands.
+/// The answers to all questions in turn, of which the request of this number is refused. A refused question is asked
+/// again, and its second answer stands.
 fn answers_of<T: Asks>(
     alloc: Global,
     cache: &mut T,
@@ -325,7 +329,8 @@ fn told<'h>(
     told_over(alloc, heap, (heap, number), provider, trial)
 }
 
-/// Puts what a cache tells of a trial after what waits; and where each request is refused in turn, what is answered otherwise then.
+/// Puts what a cache tells of a trial after what waits; and where each request is refused in turn, what is answered
+/// otherwise then.
 pub(crate) fn push_asked(
     alloc: Global,
     heap: Heap<'_>,

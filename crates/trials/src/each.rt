@@ -1,8 +1,9 @@
-//! Trials of which each request is refused in turn. Beside the store to which a request is refused there is a twin in ample memory, to
-//! which the refused command isn't given: both must then tell the same. A command that takes no memory must not meet a refusal. A refused
-//! `saturate` keeps what it forced: so it is compared where it is given again alone, from there on.
+//! Trials of which each request is refused in turn. Beside the store to which a request is refused there is a twin in
+//! ample memory, to which the refused command isn't given: both must then tell the same. A command that takes no memory
+//! must not meet a refusal. A refused `saturate` keeps what it forced: so it is compared where it is given again alone,
+//! from there on.
 use crate::answers::{Heap, push_replies, push_reply, push_steps, push_unlike};
-use crate::few::{Counts, refused_reply};
+use crate::few::{Counts, is_refused, may_do_without, refused_reply};
 use crate::free::is_free;
 use crate::given::commands_of;
 use crate::obeys::Obeys;
@@ -25,7 +26,8 @@ enum Fate {
     Over(usize, u64),
     /// In one run, the request of this number is refused.
     Run(u64),
-    /// The twin of the last two, to which the command of this place isn't given; none at all where the whole run was refused.
+    /// The twin of the last two, to which the command of this place isn't given; none at all where the whole run was
+    /// refused.
     Without(Option<usize>),
 }
 
@@ -66,8 +68,8 @@ impl<N, S, A: Allocator + Copy> Refused<'_, N, S, A> {
         self.commands.split_at(place.min(self.commands.len()))
     }
 
-    /// By steps: the command of a place is first refused the request of a number, if there is one, or not given. Answers whether the
-    /// request came.
+    /// By steps: the command of a place is first refused the request of a number, if there is one, or not given.
+    /// Answers whether the request came.
     fn push_step<T: Obeys<N, S, A>>(
         &self,
         store: &mut T,
@@ -85,7 +87,8 @@ impl<N, S, A: Allocator + Copy> Refused<'_, N, S, A> {
         Ok(is_met)
     }
 
-    /// By steps: the command of a place is refused the request of a number, and not given again. Answers whether the request came.
+    /// By steps: the command of a place is refused the request of a number, and not given again. Answers whether the
+    /// request came.
     fn push_over<T: Obeys<N, S, A>>(
         &self,
         store: &mut T,
@@ -100,8 +103,8 @@ impl<N, S, A: Allocator + Copy> Refused<'_, N, S, A> {
         Ok(is_met)
     }
 
-    /// Gives the first of these commands, to which the request of a number is refused; where there is none, tells that it was. Answers
-    /// whether the request came.
+    /// Gives the first of these commands, to which the request of a number is refused; where there is none, tells that
+    /// it was. Answers whether the request came.
     fn push_refused<T: Obeys<N, S, A>>(
         &self,
         store: &mut T,
@@ -114,7 +117,12 @@ impl<N, S, A: Allocator + Copy> Refused<'_, N, S, A> {
             return Ok(true);
         };
         let (reply, is_met) = refused_reply(store, command, self.heap, number);
-        push_reply(self.alloc, &reply, told)?;
+        // A saturation that left its mark out is given again as one that was refused, and must be answered alike then.
+        if is_met && may_do_without(command) && !is_refused(&reply) {
+            told.push_str(REFUSED)?;
+        } else {
+            push_reply(self.alloc, &reply, told)?;
+        }
         Ok(is_met)
     }
 
@@ -171,7 +179,8 @@ fn told<'h, K: IdKind>(
     K::played(heap, trial, &refused)?
 }
 
-/// Refuses each request of a trial in turn, and puts what isn't told alike after what waits. `answers` is what it is answered where none is.
+/// Refuses each request of a trial in turn, and puts what isn't told alike after what waits. `answers` is what it is
+/// answered where none is.
 pub(crate) fn tell_each<'h, K: IdKind>(
     heap: Heap<'h>,
     trial: &Trial<'_>,
@@ -268,7 +277,7 @@ fn tell_runs<'h, K: IdKind>(
         if place.is_some_and(|place| keeps_its_part(trial, place)) {
             continue;
         }
-        let (twin, _) = told::<K>(heap, trial, Fate::Without(place))?;
+        let twin = twin_of_run::<K>(heap, trial, seen.as_str(), place)?;
         push_unlike(
             "refused a request in a run:\n",
             seen.as_str(),
@@ -280,4 +289,20 @@ fn tell_runs<'h, K: IdKind>(
         }
     }
     Ok(waiting.extend_from_slice(ENDLESS)?)
+}
+
+/// What the twin of a run tells, in which the command of a place was refused. Where none was, the whole run was, or a
+/// saturation left its mark out, which nothing else shows.
+fn twin_of_run<'h, K: IdKind>(
+    heap: Heap<'h>,
+    trial: &Trial<'_>,
+    seen: &str,
+    place: Option<usize>,
+) -> Result<String<Heap<'h>>, StoreError> {
+    let (without, _) = told::<K>(heap, trial, Fate::Without(place))?;
+    if place.is_some() || without.as_str() == seen {
+        return Ok(without);
+    }
+    let (whole, _) = told::<K>(heap, trial, Fate::Run(0))?;
+    Ok(whole)
 }

@@ -1,5 +1,5 @@
-//! Trials in memory that refuses a request at every few commands, so that a `decide` is refused while its queue is brought up to date.
-//! Other commands come before the next one then, undos among them.
+//! Trials in memory that refuses a request at every few commands, so that a `decide` is refused while its queue is
+//! brought up to date. Other commands come before the next one then, undos among them.
 use crate::answers::{Heap, push_unlike};
 use crate::free::takes_no_memory;
 use crate::given::commands_of;
@@ -73,8 +73,13 @@ impl Counts {
 }
 
 /// Whether the reply is want of memory.
-fn is_refused<A: Allocator>(reply: &Reply<A>) -> bool {
+pub(crate) fn is_refused<A: Allocator>(reply: &Reply<A>) -> bool {
     matches!(reply, Reply::Refused(StoreError::OutOfMemory))
+}
+
+/// Whether the command may be answered though a request of it was refused: a saturation leaves its mark out then.
+pub(crate) fn may_do_without<N, S, A: Allocator>(command: &Command<N, S, A>) -> bool {
+    matches!(command, Command::Saturate(_))
 }
 
 /// The reply to a command of which the request of this number is refused, and whether that came.
@@ -148,8 +153,9 @@ struct Expected<'e> {
     is_free: bool,
 }
 
-/// Gives a store a command of which a request is refused, and answers whether the command was. A `decide` that is refused is left so; each
-/// other command is given once more then, since those behind it count on it. Appends what isn't wanted.
+/// Gives a store a command of which a request is refused, and answers whether the command was. A `decide` that is
+/// refused is left so; each other command is given once more then, since those behind it count on it. Appends what
+/// isn't wanted.
 fn push_step<N, S, A: Allocator + Copy, T: Obeys<N, S, A>>(
     store: &mut T,
     heap: &Refusing<Global>,
@@ -169,7 +175,7 @@ fn push_step<N, S, A: Allocator + Copy, T: Obeys<N, S, A>>(
     let line = format!(in *unlike.allocator(); "{reply}")?;
     drop(reply);
     let is_wanted = is_left || line.as_str() == expected.line;
-    let is_passed_over = is_met && !is_refused;
+    let is_passed_over = is_met && !is_refused && !may_do_without(command);
     if !is_wanted || is_passed_over || (is_met && expected.is_free) {
         unlike.push_str(line.as_str())?;
         unlike.push_str("\n")?;

@@ -2,8 +2,9 @@
 use crate::trial::Trial;
 use script_text::{Statement, is_word};
 
-/// Whether the command takes no memory where this line is wanted of it: it takes something back, hands an assignment out, or changes what
-/// is there already; or it finds a value that is there, a tracked variable, or a falsified clause; or it is refused by what it names.
+/// Whether the command takes no memory where this line is wanted of it: it takes something back, hands an assignment
+/// out, or changes what is there already; or it finds a value that is there, a tracked variable, or a falsified clause;
+/// or it is refused by what it names.
 pub(crate) fn takes_no_memory(said: &Statement<'_>, wanted: &str) -> bool {
     const COMMANDS: [&str; 5] = [
         "undo-last",
@@ -21,8 +22,8 @@ pub(crate) fn takes_no_memory(said: &Statement<'_>, wanted: &str) -> bool {
         || is_foreseen(wanted)
 }
 
-/// Whether the line is a refusal that follows from the command and the store alone: another one than for want of memory or ids, or where
-/// the provider stops.
+/// Whether the line is a refusal that follows from the command and the store alone: another one than for want of memory
+/// or ids, or where the provider stops.
 fn is_foreseen(wanted: &str) -> bool {
     const OTHERS: [&str; 3] = ["refused 1", "refused 2", "refused 12"];
     wanted.starts_with("refused") && !OTHERS.contains(&wanted)

@@ -1,8 +1,9 @@
-//! Providers of what a catalogue lists, whose names are numbers. Beside the lines of scripts a catalogue may have these:
+//! Providers of what a catalogue lists, whose names are numbers. Beside the lines of scripts a catalogue may have
+//! these:
 //!
 //! | line | meaning |
 //! |---|---|
-//! | `hint all`, `hint S ..` | the provider says that the dependencies of all candidates, or of these solvables, are at hand |
+//! | `hint all`, `hint S ..` | the dependencies of all candidates, or of these solvables, are said to be at hand |
 //! | `locked S` | this solvable is locked, and excluded too |
 //! | `twice` | each candidate is listed twice |
 ghost use Rattle.std.specs.Prelude.{◌≤◌, ◌^◌, length, IfOk};

@@ -1,19 +1,21 @@
-//! Trials of clause stores, and of the caches that they stand on. Standard input has trials one after the other: a line `trial` with its number and the ways in which it is
-//! played, and below it a script whose names are numbers. What is printed is, under the same line, what a store answered; and where a way
-//! of playing it told something else, that too.
+//! Trials of clause stores, and of the caches that they stand on. Standard input has trials one after the other: a line
+//! `trial` with its number and the ways in which it is played, and below it a script whose names are numbers. What is
+//! printed is, under the same line, what a store answered; and where a way of playing it told something else, that too.
 //!
-//! A store counts what its provider is asked, and its provider may stop it (`test_support`). Each trial is played by steps and in
-//! one run, by dense ids and by sparse ones. The ways are
+//! A store counts what its provider is asked, and its provider may stop it (`test_support`). Each trial is played by
+//! steps and in one run, by dense ids and by sparse ones. The ways, and what is done besides, are
 //!
-//! | word | what is done besides |
-//! |---|---|
-//! | `first`, `second`, `after`, `other`, `always` | the provider stops: at its first question alone, at its second, at each but the first, at every other one, at each |
-//! | `few` | it is played once more in memory that refuses a request at every few commands, undos and decisions among them |
-//! | `each` | and once more for each request of each command, which is refused: beside a twin to which that command isn't given |
-//! | `over` | where `each` stands too: a command that was refused by steps isn't given again but passed over, once more for each request |
+//! - `first`, `second`, `after`, `other`, `always`: the provider stops, at its first question alone, at its second, at
+//!   each but the first, at every other one, at each;
+//! - `few`: it is played once more in memory that refuses a request at every few commands, undos and decisions among
+//!   them;
+//! - `each`: and once more for each request of each command, which is refused: beside a twin to which that command
+//!   isn't given;
+//! - `over`: where `each` stands too, a command that was refused by steps isn't given again but passed over, once more
+//!   for each request.
 //!
-//! A trial with the word `texts` prints the texts of its commands, of their replies and of its clauses; one with the word `cache` has
-//! questions to a cache in place of commands (`cache`).
+//! A trial with the word `texts` prints the texts of its commands, of their replies and of its clauses; one with the
+//! word `cache` has questions to a cache in place of commands (`cache`).
 #![tactic(auto)]
 
 mod answers;

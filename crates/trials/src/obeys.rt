@@ -1,5 +1,5 @@
-//! What trials ask of a store. What they share is generic in it, since a proof over a type parameter is much shorter than one over the
-//! store's own type.
+//! What trials ask of a store. What they share is generic in it, since a proof over a type parameter is much shorter
+//! than one over the store's own type.
 use decisions::Literal;
 use providers::{DependencyProvider, Interner};
 use resolvo_queue::QueueDecision;

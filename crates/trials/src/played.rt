@@ -1,5 +1,5 @@
-//! New stores, and what is done with them. One function owns these stores, for ids of any kind: the proofs of such functions are long,
-//! and what is generic in a kind of ids asks no more of it than a number and a text.
+//! New stores, and what is done with them. One function owns these stores, for ids of any kind: the proofs of such
+//! functions are long, and what is generic in a kind of ids asks no more of it than a number and a text.
 use crate::listed::{listed, manner};
 use crate::obeys::Obeys;
 use crate::trial::Trial;

@@ -155,7 +155,8 @@ fn push_texts<'h, K: IdKind>(
     Ok(())
 }
 
-/// Plays the trial in all its ways, and puts what they tell after what waits: of the others what the first one didn't tell.
+/// Plays the trial in all its ways, and puts what they tell after what waits: of the others what the first one didn't
+/// tell.
 fn push_told<'h, K: IdKind, L: IdKind>(
     heap: Heap<'h>,
     trial: &Trial<'_>,

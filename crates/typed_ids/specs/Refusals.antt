@@ -1,7 +1,9 @@
 -- The refusals: their numbers, and which of them a growth may answer.
 use Rattle.std.specs.Prelude.{ℕ, Bool, IsTrue, ⊤, ◌^◌, min, nat_le}
 use Rattle.typed_ids.specs.declared.error.StoreError.{StoreError}
-use Rattle.typed_ids.specs.declared.error.StoreError.TheVariants.{OutOfMemory, IdSpace, UnknownId, LevelOutOfRange, NotLoaded, NegatesParent, BadWatch, BadLearnt, EmptyTrail, BadFraction, TooManyClauses, Cancelled}
+use Rattle.typed_ids.specs.declared.error.StoreError.TheVariants.{OutOfMemory, IdSpace, UnknownId, LevelOutOfRange}
+use Rattle.typed_ids.specs.declared.error.StoreError.TheVariants.{NotLoaded, NegatesParent, BadWatch, BadLearnt}
+use Rattle.typed_ids.specs.declared.error.StoreError.TheVariants.{EmptyTrail, BadFraction, TooManyClauses, Cancelled}
 
 -- the number that stands for a refusal
 abbrev pub code_of : StoreError → ℕ

@@ -1,5 +1,6 @@
 -- Total maps as functions from keys to values.
-use Rattle.std.specs.Prelude.{◌≡◌, ◌≢◌, ◌⊎◌, ℕ, ◌<◌, ◌^◌, true, false, min, List, length, take, slice_index_or, Option, None, Some, is_some, refl}
+use Rattle.std.specs.Prelude.{◌≡◌, ◌≢◌, ◌⊎◌, ℕ, ◌<◌, ◌^◌, true, false, min, List, length}
+use Rattle.std.specs.Prelude.{take, slice_index_or, Option, None, Some, is_some, refl}
 use Rattle.std.specs.Option.{unwrap_or}
 use Rattle.std.specs.Ordering.{is_gt}
 use Rattle.std.specs.declared.cmp.Ordering.{Ordering}
@@ -15,7 +16,8 @@ abbrev pub SameValues : {K V : Type 0} → (K → V) → (K → V) → Type 0
 SameValues {K} old new = (key : K) → new key ≡ old key
 
 -- neither the default nor a value of the map is larger than this one, which is among them
-pub record IsLargest {K V : Type 0} (compare : V → V → Ordering) (default : V) (values : K → V) (largest : V) : Type 0 where
+pub record IsLargest {K V : Type 0} (compare : V → V → Ordering) (default : V) (values : K → V)
+    (largest : V) : Type 0 where
   pub default_below : is_gt (compare default largest) ≡ false
   pub values_below : (key : K) → is_gt (compare (values key) largest) ≡ false
   pub among : (largest ≡ default) ⊎ ((key : K) × (largest ≡ values key))

@@ -1,4 +1,5 @@
-//! Dependencies of solvables. An id is kept as its index plus one, which its `Debug` text shows; a contract sees the index.
+//! Dependencies of solvables. An id is kept as its index plus one, which its `Debug` text shows; a contract sees the
+//! index.
 use crate::dense_index::DenseIndex;
 use crate::same_clone::SameClone;
 use crate::same_value::SameValue;

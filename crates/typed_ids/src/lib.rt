@@ -3,8 +3,8 @@
 //! Everything above speaks by these ids. A dense id stands for an index ([`DenseIndex`]), so that what is kept by it
 //! lies in vectors: total maps and sets in `id_maps`, lists of values and finite maps in `id_storage`.
 //!
-//! Each id has a file of its own. Those of names and solvables are a provider's to choose, and are dense (`dense_id`) or
-//! sparse (`sparse_id`); `dense_index` and `same_id` have the traits. Four more traits are laws of a type's derives:
+//! Each id has a file of its own. Those of names and solvables are a provider's to choose, and are dense (`dense_id`)
+//! or sparse (`sparse_id`); `dense_index` and `same_id` have the traits. Four more traits are laws of a type's derives:
 //! `same_value` of `==`, `same_clone` of `clone`, `ordered_by_parts` of the order, `default_value` of the default. The
 //! refusals are in `error`, and `insert_error` hands back what was refused. `specs/Refusals` and `specs/TotalMaps` have
 //! the words by which contracts of all crates speak of them and of total maps.

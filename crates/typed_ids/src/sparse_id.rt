@@ -7,8 +7,8 @@ use std::fmt;
 use std::hash::{BuildHasherDefault, DefaultHasher};
 use std::marker::{Model, PhantomData};
 
-/// A sparse id of the domain that `Tag` names, kept as a `Repr`. Tables that are kept by it hash by `H`. A contract sees
-/// the raw number.
+/// A sparse id of the domain that `Tag` names, kept as a `Repr`. Tables that are kept by it hash by `H`. A contract
+/// sees the raw number.
 #[derive_where(Clone, Copy, PartialEq, Eq, Hash; Repr)]
 pub struct SparseId<Tag, Repr = u32, H = BuildHasherDefault<DefaultHasher>> {
     raw: Repr,

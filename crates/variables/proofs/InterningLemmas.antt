@@ -1,5 +1,7 @@
 -- Solvables that get variables in turn.
-use Rattle.std.proofs.Common.{◌≡◌, ℕ, ◌+◌, ◌≤◌, ◌-◌, ◌^◌, Bool, true, false, cond, ◌||◌, List, [], ◌∷◌, ◌++◌, length, length-append, map, min, take, drop, Option, None, Some, Result, Ok, Err, refl, arith, sym, ◌∙◌, ap, subst, ltb}
+use Rattle.std.proofs.Common.{◌≡◌, ℕ, ◌+◌, ◌≤◌, ◌-◌, ◌^◌, Bool, true, false, cond, ◌||◌, List}
+use Rattle.std.proofs.Common.{[], ◌∷◌, ◌++◌, length, length-append, map, min, take, drop, Option}
+use Rattle.std.proofs.Common.{None, Some, Result, Ok, Err, refl, arith, sym, ◌∙◌, ap, subst, ltb}
 use Rattle.std.specs.Prelude.{is_some, is_none, ◌&&◌, unwrap_or, flat_map, IfErr}
 use Rattle.std.specs.Result.{IsErrAnd}
 use Rattle.std.specs.List.{list_any}
@@ -15,7 +17,9 @@ use Rattle.typed_ids.specs.declared.error.StoreError.{StoreError}
 use Rattle.typed_ids.specs.declared.error.StoreError.TheVariants.{OutOfMemory, IdSpace}
 use Rattle.variables.specs.declared.variable_origin.VariableOrigin.{VariableOrigin}
 use Rattle.variables.specs.declared.variable_origin.VariableOrigin.TheVariants.{Solvable}
-use Rattle.variables.specs.Variables.{is_solvable, variable_of_solvable, interned_variable, with_variable, with_variables, are_variables_out, lacks_variable, lacks_variables, IsPartlyInterned}
+use Rattle.variables.specs.Variables.{is_solvable, variable_of_solvable, interned_variable}
+use Rattle.variables.specs.Variables.{with_variable, with_variables, are_variables_out}
+use Rattle.variables.specs.Variables.{lacks_variable, lacks_variables, IsPartlyInterned}
 use Rattle.variables.proofs.VariableLemmas.{or_else, position-append}
 
 -- a refusal that was handed on
@@ -55,16 +59,19 @@ module _ {N S : Type 0} (same : S → S → Bool) where
       map (interned_variable same (with_variables same os (list x))) (list x) ∷ lists_in_turn list (with_variables same os (list x)) xs
 
   -- an origin more takes no solvable its variable
-  pub variable-kept : (s : S) (o : VariableOrigin N S) (v : ℕ) (os : List (VariableOrigin N S)) → variable_of_solvable same os s ≡ Some v → variable_of_solvable same (os ++ o ∷ []) s ≡ Some v
+  pub variable-kept : (s : S) (o : VariableOrigin N S) (v : ℕ) (os : List (VariableOrigin N S)) →
+      variable_of_solvable same os s ≡ Some v → variable_of_solvable same (os ++ o ∷ []) s ≡ Some v
   variable-kept s o v os h =
       position-append (is_solvable same s) o 0 (length os) os (omega arith) ∙ ap (λ p. or_else p (cond (is_solvable same s o) (Some (length os)) None)) h
 
-  pub kept-with_variable : (s t : S) (v : ℕ) (os : List (VariableOrigin N S)) → variable_of_solvable same os s ≡ Some v → variable_of_solvable same (with_variable same os t) s ≡ Some v
+  pub kept-with_variable : (s t : S) (v : ℕ) (os : List (VariableOrigin N S)) →
+      variable_of_solvable same os s ≡ Some v → variable_of_solvable same (with_variable same os t) s ≡ Some v
   kept-with_variable s t v os h =
       elim (is_some (variable_of_solvable same os t)) as (λ b. variable_of_solvable same (cond b os (os ++ Solvable t ∷ [])) s ≡ Some v)
       [ true ↦ h | false ↦ variable-kept s (Solvable t) v os h ]
 
-  pub kept-all : (s : S) (v : ℕ) (os : List (VariableOrigin N S)) (ss : List S) → variable_of_solvable same os s ≡ Some v → variable_of_solvable same (with_variables same os ss) s ≡ Some v
+  pub kept-all : (s : S) (v : ℕ) (os : List (VariableOrigin N S)) (ss : List S) →
+      variable_of_solvable same os s ≡ Some v → variable_of_solvable same (with_variables same os ss) s ≡ Some v
   kept-all s v os [] h = h
   kept-all s v os (t ∷ ss) h = kept-all s v (with_variable same os t) ss (kept-with_variable s t v os h)
 
@@ -119,7 +126,8 @@ module _ {N S : Type 0} (same : S → S → Bool) where
 
   module _ (reflexive : (x : S) → same x x ≡ true) where
     -- a solvable has the variable that it got
-    pub variable-with_variable : (s : S) (os : List (VariableOrigin N S)) → variable_of_solvable same (with_variable same os s) s ≡ Some (interned_variable same os s)
+    pub variable-with_variable : (s : S) (os : List (VariableOrigin N S)) →
+        variable_of_solvable same (with_variable same os s) s ≡ Some (interned_variable same os s)
     variable-with_variable s os = by_known (variable_of_solvable same os s) refl
       where
         by_known : (p : Option ℕ) → variable_of_solvable same os s ≡ p
@@ -130,15 +138,18 @@ module _ {N S : Type 0} (same : S → S → Bool) where
             ∙ ap (λ p. or_else p (cond (same s s) (Some (length os)) None)) h ∙ ap (λ b. cond b (Some (length os)) None) (reflexive s)
 
     -- the variables that solvables get in turn are those that they have in the end, also behind others
-    variables-later : (os : List (VariableOrigin N S)) (ss rest : List S) → variables_in_turn os ss ≡ map (interned_variable same (with_variables same os (ss ++ rest))) ss
+    variables-later : (os : List (VariableOrigin N S)) (ss rest : List S) →
+        variables_in_turn os ss ≡ map (interned_variable same (with_variables same os (ss ++ rest))) ss
     variables-later os [] rest = refl
     variables-later os (s ∷ ss) rest =
         let last : List (VariableOrigin N S) = with_variables same (with_variable same os s) (ss ++ rest) in
         let at : interned_variable same last s ≡ interned_variable same os s =
         ap (λ p. unwrap_or p (length last)) (kept-all s (interned_variable same os s) (with_variable same os s) (ss ++ rest) (variable-with_variable s os)) in
-        ap (λ v. v ∷ variables_in_turn (with_variable same os s) ss) (sym at) ∙ ap (λ vs. interned_variable same last s ∷ vs) (variables-later (with_variable same os s) ss rest)
+        ap (λ v. v ∷ variables_in_turn (with_variable same os s) ss) (sym at) ∙
+        ap (λ vs. interned_variable same last s ∷ vs) (variables-later (with_variable same os s) ss rest)
 
-    pub variables-in-turn : (os : List (VariableOrigin N S)) (ss : List S) → variables_in_turn os ss ≡ map (interned_variable same (with_variables same os ss)) ss
+    pub variables-in-turn : (os : List (VariableOrigin N S)) (ss : List S) →
+        variables_in_turn os ss ≡ map (interned_variable same (with_variables same os ss)) ss
     variables-in-turn os ss =
         variables-later os ss [] ∙ ap (λ all. map (interned_variable same (with_variables same os all)) ss) (append-nil ss)
 

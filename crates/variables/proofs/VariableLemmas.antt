@@ -1,12 +1,15 @@
 -- The variables of solvables, while origins come and go at the end of the list.
-use Rattle.std.proofs.Common.{◌≡◌, ◌≢◌, ℕ, zero, suc, ◌+◌, ◌<◌, ◌≤◌, ◌==◌, Bool, true, false, cond, IsSome, List, [], ◌∷◌, ◌++◌, length, take, slice_get, Option, None, Some, ◌⊎◌, inl, inr, refl, arith, rules, sym, ◌∙◌, ap, subst}
+use Rattle.std.proofs.Common.{◌≡◌, ◌≢◌, ℕ, zero, suc, ◌+◌, ◌<◌, ◌≤◌, ◌==◌, Bool, true, false}
+use Rattle.std.proofs.Common.{cond, IsSome, List, [], ◌∷◌, ◌++◌, length, take, slice_get, Option}
+use Rattle.std.proofs.Common.{None, Some, ◌⊎◌, inl, inr, refl, arith, rules, sym, ◌∙◌, ap, subst}
 use Rattle.std.specs.List.{position_from}
 use Rattle.std.specs.Prelude.{is_some, unwrap_or}
 use Rattle.typed_ids.specs.TotalMaps.{IsUpdate, SameValues}
 use Rattle.variables.specs.declared.variable_origin.VariableOrigin.{VariableOrigin}
 use Rattle.variables.specs.declared.variable_origin.VariableOrigin.TheVariants.{Root, Solvable}
 use Rattle.variables.specs.Forgetting.{forgotten}
-use Rattle.variables.specs.Variables.{is_solvable, solvable_of, key_of, variable_of_solvable, with_variable, interned_variable, IsRootFirst, AreSolvablesDistinct, IsVariableMap}
+use Rattle.variables.specs.Variables.{is_solvable, solvable_of, key_of, variable_of_solvable, with_variable}
+use Rattle.variables.specs.Variables.{interned_variable, IsRootFirst, AreSolvablesDistinct, IsVariableMap}
 
 -- the first of two that is there
 abbrev pub or_else : Option ℕ → Option ℕ → Option ℕ
@@ -36,14 +39,16 @@ module _ {X : Type 0} (test : X → Bool) where
       let e : n ≡ m = omega arith in
       ap (λ k. cond (test x) (Some k) None) e
   position-append x n m (y ∷ xs) h =
-      elim (test y) as (λ b. cond b (Some n) (position_from test (n + 1) (xs ++ x ∷ [])) ≡ or_else (cond b (Some n) (position_from test (n + 1) xs)) (cond (test x) (Some m) None))
+      elim (test y) as (λ b. cond b (Some n) (position_from test (n + 1) (xs ++ x ∷ [])) ≡
+      or_else (cond b (Some n) (position_from test (n + 1) xs)) (cond (test x) (Some m) None))
       [ true ↦ refl | false ↦ position-append x (n + 1) m xs (omega arith) ]
 
   -- what stands at a position passes the test
   pub position_at : (n v : ℕ) (xs : List X) → position_from test n xs ≡ Some v → (k : ℕ) × (x : X) × (v ≡ n + k) × (slice_get xs k ≡ Some x) × (test x ≡ true)
   position_at n v [] h = (let no : ⊥ = cc in absurd no)
   position_at n v (x ∷ xs) h =
-      (elim (test x) as (λ b. test x ≡ b → cond b (Some n) (position_from test (n + 1) xs) ≡ Some v → (k : ℕ) × (y : X) × (v ≡ n + k) × (slice_get (x ∷ xs) k ≡ Some y) × (test y ≡ true)) [
+      (elim (test x) as (λ b. test x ≡ b → cond b (Some n) (position_from test (n + 1) xs) ≡ Some v →
+      (k : ℕ) × (y : X) × (v ≡ n + k) × (slice_get (x ∷ xs) k ≡ Some y) × (test y ≡ true)) [
         | true ↦ λ t e. (let same : n ≡ v = search rules in (0, x, omega arith, refl, t))
         | false ↦ λ t e. (let rest = position_at (n + 1) v xs e in (suc rest.0, rest.1, omega (arith, rest.2), rest.3, rest.4))
       ]) refl h
@@ -59,7 +64,8 @@ module _ {X : Type 0} (test : X → Bool) where
 -- ---- elements by place
 
 -- an element of a list with one more at its end
-pub slice_get-last : {X : Type 0} (xs : List X) (x y : X) (v : ℕ) → slice_get (xs ++ x ∷ []) v ≡ Some y → (slice_get xs v ≡ Some y) ⊎ ((v ≡ length xs) × (x ≡ y))
+pub slice_get-last : {X : Type 0} (xs : List X) (x y : X) (v : ℕ) → slice_get (xs ++ x ∷ []) v ≡ Some y →
+    (slice_get xs v ≡ Some y) ⊎ ((v ≡ length xs) × (x ≡ y))
 slice_get-last [] x y zero h = inr (refl, (let e : x ≡ y = cc in e))
 slice_get-last [] x y (suc v) h = (let no : ⊥ = cc in absurd no)
 slice_get-last (z ∷ xs) x y zero h = inl h
@@ -155,7 +161,9 @@ module _ {N S : Type 0} (same : S → S → Bool) where
       by_place : (p : Option ℕ) → variable_of_solvable same os s ≡ p → (b : Bool) → forgotten b m (or_else p (cond b (Some m) None)) ≡ p
       by_place None h true = forgotten-this m
       by_place None h false = refl
-      by_place (Some q) h true = forgotten-other m q (let below : q < 0 + length os = position_within (is_solvable same s) 0 q os h in λ g. (let no : ⊥ = omega arith in no))
+      by_place (Some q) h true = forgotten-other m q
+          (let below : q < 0 + length os = position_within (is_solvable same s) 0 q os h in
+          λ g. (let no : ⊥ = omega arith in no))
       by_place (Some q) h false = refl
 
   -- the first so many of distinct ones
@@ -208,8 +216,13 @@ module _ {N S : Type 0} (same : S → S → Bool) where
         by_test : (b : Bool) → same x s ≡ b → h s ≡ variable_of_solvable same (os ++ Solvable x ∷ []) s
         by_test true t =
             let at : h x ≡ variable_of_solvable same (os ++ Solvable x ∷ []) x =
-            put.0 ∙ sym (position-append (is_solvable same x) (Solvable x) 0 m os (omega arith) ∙ ap (λ p. or_else p (cond (same x x) (Some m) None)) none ∙ ap (λ b. cond b (Some m) None) (reflexive x)) in
+            put.0 ∙ sym (position-append (is_solvable same x) (Solvable x) 0 m os (omega arith) ∙
+            ap (λ p. or_else p (cond (same x x) (Some m) None)) none ∙
+            ap (λ b. cond b (Some m) None) (reflexive x)) in
             subst (λ z. h z ≡ variable_of_solvable same (os ++ Solvable x ∷ []) z) (is_sameness x s t) at
         by_test false t =
             let apart : s ≢ x = λ q. (let no : true ≡ false = sym (reflexive x) ∙ ap (same x) (sym q) ∙ t in let no2 : ⊥ = cc in no2) in
-            put.1 s apart ∙ keep s ∙ agree s ∙ sym (position-append (is_solvable same s) (Solvable x) 0 m os (omega arith) ∙ ap (λ b. or_else (variable_of_solvable same os s) (cond b (Some m) None)) t ∙ or_else-None (variable_of_solvable same os s))
+            put.1 s apart ∙ keep s ∙ agree s ∙
+            sym (position-append (is_solvable same s) (Solvable x) 0 m os (omega arith) ∙
+            ap (λ b. or_else (variable_of_solvable same os s) (cond b (Some m) None)) t ∙
+            or_else-None (variable_of_solvable same os s))

@@ -4,7 +4,9 @@ use Rattle.std.specs.Option.{option_map_or}
 use Rattle.providers.specs.Provider.{Universe, knows_requirement}
 use Rattle.providers.specs.Texts.{Texts, requirement_text}
 use Rattle.variables.specs.declared.variable_origin.VariableOrigin.{VariableOrigin}
-use Rattle.variables.specs.declared.variable_origin.VariableOrigin.TheVariants.{Root, Solvable, ForbidMultiple, AtLeastOne, ConstrainsViolation, RequiresGate}
+use Rattle.variables.specs.declared.variable_origin.VariableOrigin.TheVariants.{Root, Solvable, ForbidMultiple}
+use Rattle.variables.specs.declared.variable_origin.VariableOrigin.TheVariants.{AtLeastOne, ConstrainsViolation}
+use Rattle.variables.specs.declared.variable_origin.VariableOrigin.TheVariants.{RequiresGate}
 
 module _ {N S : Type 0} (universe : Universe N S) where
   -- what the origin names is known
@@ -27,7 +29,8 @@ module _ {N S : Type 0} (universe : Universe N S) (texts : Texts N S) where
   origin_text (Solvable s) = texts.solvable s
   origin_text (ForbidMultiple n) = codes "forbid-multiple(" ++ (texts.name n ++ codes ")")
   origin_text (AtLeastOne n) = codes "any-of(" ++ (texts.name n ++ codes ")")
-  origin_text (ConstrainsViolation v) = codes "constrains-violation(" ++ ((texts.name (universe.set_name v) ++ 32 ∷ texts.version_set v) ++ codes ")")
+  origin_text (ConstrainsViolation v) = codes "constrains-violation(" ++
+      ((texts.name (universe.set_name v) ++ 32 ∷ texts.version_set v) ++ codes ")")
   origin_text (RequiresGate r) = codes "requires-gate(" ++ (requirement_text universe texts r ++ codes ")")
 
   -- of a variable, which is a place in the list of origins; nothing of one that isn't there

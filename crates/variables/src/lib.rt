@@ -1,5 +1,6 @@
 //! The variables of a clause store: what each stands for, the variable of each solvable, and those of a list of
-//! solvables; and what a variable tells of itself: its literals, what it stands for in a map of variables, and its text.
+//! solvables; and what a variable tells of itself: its literals, what it stands for in a map of variables, and its
+//! text.
 //!
 //! The texts are said in `specs/VariableTexts`, one line a kind of variable.
 #![tactic(auto)]

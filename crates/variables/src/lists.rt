@@ -21,7 +21,8 @@ pub fn intern_list<N: Copy, S: SolverId<A>, A: Allocator + Copy>(
     ensures list { IfOk result (λ list. list.items ≡ map (interned_variable S.eq variables.new) solvables.now) }
     ensures ok { OnOk result (variables.new ≡ with_variables S.eq variables.old solvables.now) }
     ensures err { OnErr result (IsPartlyInterned S.eq variables.old solvables.now variables.new) }
-    ensures refused { IfErr result (IsGrowthRefusal (lacks_variables S.eq S.Slots.is_too_large variables.old solvables.now)) }
+    ensures refused { IfErr result
+        (IsGrowthRefusal (lacks_variables S.eq S.Slots.is_too_large variables.old solvables.now)) }
     ensures fit { OnOk result (lacks_variables S.eq S.Slots.is_too_large variables.old solvables.now ≡ false) }
     ensures front { take (length variables.old) variables.new ≡ variables.old }
     ensures longer { length variables.old ≤ length variables.new }

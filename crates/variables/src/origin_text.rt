@@ -17,7 +17,8 @@ pub(crate) fn append_origin<I: Interner>(
     out: &mut String<I::Alloc>,
 ) -> Result<(), StoreError>
     requires { knows_origin (I.universe interner.now) origin ≡ true }
-    ensures ok { OnOk result (IsAppended out.old out.new (origin_text (I.universe interner.now) (I.texts interner.now) origin)) }
+    ensures ok { OnOk result
+        (IsAppended out.old out.new (origin_text (I.universe interner.now) (I.texts interner.now) origin)) }
     ensures err { OnErr result (IsSameText out.old out.new) }
     ensures memory { IfErr result (λ e. e ≡ OutOfMemory) }
 {
@@ -32,7 +33,8 @@ fn text_of_origin<I: Interner>(
     origin: VariableOrigin<I::NameId, I::SolvableId>,
 ) -> Result<String<I::Alloc>, StoreError>
     requires { knows_origin (I.universe interner.now) origin ≡ true }
-    ensures ok { IfOk result (λ text. string_bytes text ≡ origin_text (I.universe interner.now) (I.texts interner.now) origin) }
+    ensures ok { IfOk result (λ text. string_bytes text ≡
+        origin_text (I.universe interner.now) (I.texts interner.now) origin) }
     ensures err { IfErr result (λ e. e ≡ OutOfMemory) }
 {
     match origin {
@@ -102,7 +104,8 @@ fn text_of_set<I: Interner>(
 ) -> Result<String<I::Alloc>, StoreError>
     requires { (I.universe interner.now).knows_set set ≡ true }
     ensures ok { IfOk result (λ text. string_bytes text ≡
-        (I.texts interner.now).name ((I.universe interner.now).set_name set) ++ 32 ∷ (I.texts interner.now).version_set set) }
+        (I.texts interner.now).name ((I.universe interner.now).set_name set) ++ 32 ∷
+        (I.texts interner.now).version_set set) }
     ensures err { IfErr result (λ e. e ≡ OutOfMemory) }
 {
     let mut text = text_of_name(interner, alloc, interner.version_set_name(set))?;
@@ -118,7 +121,8 @@ fn text_of_requirement<I: Interner>(
     requirement: Requirement,
 ) -> Result<String<I::Alloc>, StoreError>
     requires { knows_requirement (I.universe interner.now) requirement ≡ true }
-    ensures ok { IfOk result (λ text. string_bytes text ≡ requirement_text (I.universe interner.now) (I.texts interner.now) requirement) }
+    ensures ok { IfOk result (λ text. string_bytes text ≡
+        requirement_text (I.universe interner.now) (I.texts interner.now) requirement) }
     ensures err { IfErr result (λ e. e ≡ OutOfMemory) }
 {
     let mut text = String::new(alloc);

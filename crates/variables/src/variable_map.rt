@@ -1,5 +1,6 @@
 //! The variables of a store: what each stands for, and the variable of each solvable.
-ghost use Rattle.std.specs.Prelude.{◌≡◌, ◌<◌, ◌≤◌, ◌+◌, ◌^◌, [], ◌∷◌, ◌++◌, length, take, slice_get, false, IsSome, IfSome, IsOk, IfOk, OnOk, OnErr, IfErr};
+ghost use Rattle.std.specs.Prelude.{◌≡◌, ◌<◌, ◌≤◌, ◌+◌, ◌^◌, [], ◌∷◌, ◌++◌, length, take, slice_get};
+ghost use Rattle.std.specs.Prelude.{false, IsSome, IfSome, IsOk, IfOk, OnOk, OnErr, IfErr};
 ghost use Rattle.typed_ids.specs.WithRoot.{root_or};
 ghost use Rattle.typed_ids.specs.declared.error.StoreError.TheVariants.{OutOfMemory};
 
@@ -32,9 +33,11 @@ impl<N: Copy, S: SolverId<A>, A: Allocator + Copy> Model for VariableMap<N, S, A
 }
 
 impl<N: Copy, S: SolverId<A>, A: Allocator + Copy> VariableMap<N, S, A> {
-    ghost use Rattle.variables.specs.Variables.{variable_of_solvable, interned_variable, with_variable, lacks_variable, IsRootFirst};
+    ghost use Rattle.variables.specs.Variables.{variable_of_solvable, interned_variable};
+    ghost use Rattle.variables.specs.Variables.{with_variable, lacks_variable, IsRootFirst};
     ghost use Rattle.variables.specs.Variables.{FailsWhereOut};
-    ghost use Rattle.variables.specs.Variables.{variable_of_key, interned_key, with_key, are_variables_out, solvable_of, key_of};
+    ghost use Rattle.variables.specs.Variables.{variable_of_key, interned_key, with_key};
+    ghost use Rattle.variables.specs.Variables.{are_variables_out, solvable_of, key_of};
 
     /// The root's variable alone.
     pub fn new(alloc: A) -> Result<Self, StoreError>

@@ -5,9 +5,11 @@ use Rattle.decisions.specs.Literals.{Lit}
 use Rattle.decisions.specs.LiteralIndex.{literal_index}
 use Rattle.id_storage.specs.Mapping.{value_at}
 use Rattle.watch_map.specs.declared.watched_literals.WatchedLiterals.{WatchedLiterals}
-use Rattle.watch_map.specs.Laws.{SameRecordsBelong, RecordsGrow, NewClausesJoin, RecordsSkip, RoomIsForFewer, CursorsDivide, ClausesAreMetOnce, CursorsOutliveRoom}
+use Rattle.watch_map.specs.Laws.{SameRecordsBelong, RecordsGrow, NewClausesJoin, RecordsSkip}
+use Rattle.watch_map.specs.Laws.{RoomIsForFewer, CursorsDivide, ClausesAreMetOnce, CursorsOutliveRoom}
 use Rattle.watch_map.specs.Watching.{is_clause_in, before, started}
-use Rattle.watch_map.specs.WatchLists.{Watches, record_of, literals_in, watched_by, next_in, link, IsChain, watchers, HasRoom, IsPrevious, literal_of, clause_of}
+use Rattle.watch_map.specs.WatchLists.{Watches, record_of, literals_in, watched_by, next_in, link}
+use Rattle.watch_map.specs.WatchLists.{IsChain, watchers, HasRoom, IsPrevious, literal_of, clause_of}
 use Rattle.watch_map.specs.WatchCalls.{Starts, passed, rest}
 use Rattle.watch_map.proofs.WatchingLaws.{split, exact_same, distinct_head, distinct_tail}
 use Rattle.watch_map.proofs.ChainLaws.{chain_same}
@@ -29,10 +31,13 @@ same_records_belong map old new same watched = (
     literals c = ap literals_in (same c)
 
     linked : (l : Lit) → IsChain (link new l) (value_at map (literal_index l)) (watchers map old l)
-    linked l = chain_same (link old l) (link new l) (value_at map (literal_index l)) (watchers map old l) (λ c m. ap (λ r. next_in r l) (same c)) (watched.linked l)
+    linked l = chain_same (link old l) (link new l) (value_at map (literal_index l))
+        (watchers map old l) (λ c m. ap (λ r. next_in r l) (same c)) (watched.linked l)
 
     lists : (l : Lit) → watchers map new l ≡ watchers map old l
-    lists = lists_made map new (watchers map old) (exact_same (watched_by old) (watched_by new) (watchers map old) (watchers map old) literals (λ l. refl) watched.exact) linked
+    lists = lists_made map new (watchers map old)
+        (exact_same (watched_by old) (watched_by new) (watchers map old)
+        (watchers map old) literals (λ l. refl) watched.exact) linked
 
 record_at_end : (watches : Watches) (watched : WatchedLiterals) → record_of (watches ++ Some watched ∷ []) (length watches) ≡ Some watched
 record_at_end [] watched = refl

@@ -18,7 +18,8 @@ pub in_front : (c : ℕ) (front back : List ℕ) → is_clause_in c front ≡ tr
 in_front c [] back h = absurd (let z : false ≡ true = h in cc)
 in_front c (x ∷ front) back h = go (nat_eq c x) (in_front c front back) h
   where
-    go : (b : Bool) → (is_clause_in c front ≡ true → is_clause_in c (front ++ back) ≡ true) → (b || is_clause_in c front) ≡ true → (b || is_clause_in c (front ++ back)) ≡ true
+    go : (b : Bool) → (is_clause_in c front ≡ true → is_clause_in c (front ++ back) ≡ true) →
+        (b || is_clause_in c front) ≡ true → (b || is_clause_in c (front ++ back)) ≡ true
     go true ih k = refl
     go false ih k = ih k
 
@@ -44,7 +45,8 @@ chain_same next next' first (c ∷ cs) same h =
     (h.0, chain_same next next' (next' c) cs (λ d m. same d (in_rest d c cs m)) (subst (λ o. IsChain next o cs) (sym (same c (in_head c cs))) h.1))
 
 -- what is behind a clause
-pub chain_behind : (next : ℕ → Option ℕ) (first : Option ℕ) (front : List ℕ) (c : ℕ) (back : List ℕ) → IsChain next first (front ++ c ∷ back) → IsChain next (next c) back
+pub chain_behind : (next : ℕ → Option ℕ) (first : Option ℕ) (front : List ℕ) (c : ℕ) (back : List ℕ) →
+    IsChain next first (front ++ c ∷ back) → IsChain next (next c) back
 chain_behind next first [] c back h = h.1
 chain_behind next first (x ∷ front) c back h = chain_behind next (next x) front c back h.1
 

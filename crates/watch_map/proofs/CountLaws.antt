@@ -1,5 +1,6 @@
 -- How many literals have clauses.
-use Rattle.std.proofs.Common.{◌≡◌, ℕ, zero, suc, ◌≤◌, ◌+◌, Bool, true, false, cond, nat_eq, List, [], ◌∷◌, Option, Some, None, is_some, length, sym, ap, refl, subst, ◌∙◌, arith}
+use Rattle.std.proofs.Common.{◌≡◌, ℕ, zero, suc, ◌≤◌, ◌+◌, Bool, true, false, cond, nat_eq, List, []}
+use Rattle.std.proofs.Common.{◌∷◌, Option, Some, None, is_some, length, sym, ap, refl, subst, ◌∙◌, arith}
 use Rattle.std.specs.Prelude.{count_by}
 use Rattle.std.proofs.lemmas.List.Sums.{sum_by-cons}
 use Rattle.std.proofs.lemmas.Bool.Decides.{nat_tests}
@@ -40,7 +41,8 @@ module _ {V : Type 0} (p : Option V → Bool) where
       omega (arith, ih, more, shift)
 
   -- slots that pass are those of the literals with clauses
-  pub slots_counted : (slots : List (Option V)) (lists : Lit → List ℕ) → ((l : Lit) → nat_eq (length (lists l)) 0 ≡ cond (p (value_at slots (literal_index l))) false true) →
+  pub slots_counted : (slots : List (Option V)) (lists : Lit → List ℕ) →
+      ((l : Lit) → nat_eq (length (lists l)) 0 ≡ cond (p (value_at slots (literal_index l))) false true) →
       count_by p slots ≡ count_lists (length slots) lists
   slots_counted slots lists same = slots_sum slots ∙ (sum_same (length slots) _ _ each ∙ sym (lists_sum (length slots) lists))
     where
@@ -64,7 +66,8 @@ pub firsts_counted : (map : WatchLists) (watches : Watches) → AreWatched map w
 firsts_counted map watches watched = record {
   bound = length map;
   past = λ l h. none (link watches l) (watchers map watches l) (value_at map (literal_index l)) (watched.linked l) (past_slots is_some map (literal_index l) h);
-  counted = slots_counted is_some map (watchers map watches) (λ l. has (link watches l) (watchers map watches l) (value_at map (literal_index l)) (watched.linked l));
+  counted = slots_counted is_some map (watchers map watches) (λ l.
+      has (link watches l) (watchers map watches l) (value_at map (literal_index l)) (watched.linked l));
 }
   where
     none : (next : ℕ → Option ℕ) (xs : List ℕ) (first : Option ℕ) → IsChain next first xs → first ≡ None → xs ≡ []

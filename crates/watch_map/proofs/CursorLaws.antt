@@ -6,7 +6,9 @@ use Rattle.decisions.specs.Literals.{Lit}
 use Rattle.watch_map.specs.WatchLists.{Position}
 use Rattle.watch_map.specs.declared.nodes.WatchNode.{WatchNode}
 use Rattle.watch_map.specs.Watching.{is_literal_in, is_clause_in, AreTwoOrNone, before, behind}
-use Rattle.watch_map.specs.WatchLists.{WatchLists, Watches, record_of, literals_in, watched_by, link, IsChain, watchers, HasTwoLinks, AreWatched, IsPrevious, IsCursorAt, CanBeLinked, clause_of, index_of}
+use Rattle.watch_map.specs.WatchLists.{WatchLists, Watches, record_of, literals_in, watched_by}
+use Rattle.watch_map.specs.WatchLists.{link, IsChain, watchers, HasTwoLinks, AreWatched}
+use Rattle.watch_map.specs.WatchLists.{IsPrevious, IsCursorAt, CanBeLinked, clause_of, index_of}
 use Rattle.watch_map.specs.WatchCalls.{StandsBehind, remaining}
 use Rattle.watch_map.proofs.WatchingLaws.{parts}
 use Rattle.watch_map.proofs.ChainLaws.{in_middle}

@@ -1,5 +1,6 @@
 -- What a forced literal is, and what entries that clauses force leave.
-use Rattle.std.proofs.Common.{◌≡◌, ℕ, ◌+◌, ◌<◌, ◌≤◌, Bool, true, false, ◌&&◌, ◌||◌, List, [], ◌∷◌, ◌++◌, length, take, Some, None, refl, sym, ap, subst, ◌∙◌, arith, append_assoc, append-nil, length-append}
+use Rattle.std.proofs.Common.{◌≡◌, ℕ, ◌+◌, ◌<◌, ◌≤◌, Bool, true, false, ◌&&◌, ◌||◌, List, [], ◌∷◌, ◌++◌, length, take}
+use Rattle.std.proofs.Common.{Some, None, refl, sym, ap, subst, ◌∙◌, arith, append_assoc, append-nil, length-append}
 use Rattle.std.specs.Prelude.{Ok}
 use Rattle.std.proofs.lemmas.Bool.{and_parts, and_from, or_left, or_right, false_from_ne_true}
 use Rattle.std.proofs.lemmas.List.{take-append-le}
@@ -10,10 +11,10 @@ use Rattle.clauses.specs.Clauses.{same_literal}
 use Rattle.watch_map.specs.Watching.{is_literal_in}
 use Rattle.watch_map.specs.Forcing.{are_others_false, forces, decided_literal, IsForced, AreForced}
 use Rattle.watch_map.specs.Saturation.{HasForced}
-use Rattle.watch_map.specs.WatchInvariant.{Extends, is_true_literal, val_before}
+use Rattle.watch_map.specs.WatchInvariant.{Extends, is_true_literal, is_true, val_before}
 use Rattle.watch_map.proofs.WatchingLaws.{same_is}
 use Rattle.watch_map.proofs.LiteralLists.{by_test, all_at, all_from, any_at, passes_of}
-use Rattle.watch_map.proofs.OpenClauses.{is_true, count_open, count_less}
+use Rattle.watch_map.proofs.OpenClauses.{count_open, count_less}
 use Rattle.watch_map.proofs.ValueLaws.{true_is_not_false, true_is_decided, open_variable, val_kept, val_added, decided_is_true, decided_variable, true_of}
 
 -- ---- a literal that a clause forces
@@ -167,8 +168,11 @@ module _ (literals : ℕ → List Lit) (level : ℕ) where
         none (e ∷ es) h = absurd (omega (arith, h))
 
     -- what stood before a place stands there
+    pub forced_take : (place : ℕ) → place ≤ length a.entries → take place b.entries ≡ take place a.entries
+    forced_take place h = ap (take place) f.entries ∙ take-append-le place a.entries f.added h
+
     pub forced_before : (place : ℕ) → place ≤ length a.entries → val_before place b.entries ≡ val_before place a.entries
-    forced_before place h = ap val (ap (take place) f.entries ∙ take-append-le place a.entries f.added h)
+    forced_before place h = ap val (forced_take place h)
 
     -- an entry more is a clause fewer that isn't true
     pub forced_fewer : (clauses : ℕ) → ((c : ℕ) (l : Lit) → is_literal_in l (literals c) ≡ true → c < clauses)

@@ -9,10 +9,13 @@ pub mod ListCallerLaws
 mod ListLaws
 pub mod ListSaturationLaws
 pub mod LiteralLists
+pub mod MarkLaws
 pub mod MetLaws
+pub mod MarkedLists
 mod MoveLaws
 mod OpenClauses
 mod RoundLaws
+mod StackLaws
 mod StartLaws
 pub mod ValueLaws
 mod VisitLaws

@@ -1,5 +1,7 @@
 -- Links in records.
-use Rattle.std.proofs.Common.{◌≡◌, ◌≢◌, ℕ, zero, suc, ◌<◌, Bool, true, false, ◌||◌, List, [], ◌∷◌, Option, Some, None, length, slice_index_or, set, sym, refl, subst, ◌∙◌, arith, get_or-set_same, get_or-set_other}
+use Rattle.std.proofs.Common.{◌≡◌, ◌≢◌, ℕ, zero, suc, ◌<◌, Bool, true, false, ◌||◌, List}
+use Rattle.std.proofs.Common.{[], ◌∷◌, Option, Some, None, length, slice_index_or, set, sym}
+use Rattle.std.proofs.Common.{refl, subst, ◌∙◌, arith, get_or-set_same, get_or-set_other}
 use Rattle.std.proofs.lemmas.List.{length-set}
 use Rattle.decisions.specs.Literals.{Lit}
 use Rattle.decisions.specs.LiteralIndex.{literal_index}
@@ -7,7 +9,8 @@ use Rattle.id_storage.specs.Mapping.{value_at}
 use Rattle.watch_map.specs.declared.watched_literals.WatchedLiterals.{WatchedLiterals}
 use Rattle.clauses.specs.Clauses.{same_literal}
 use Rattle.watch_map.specs.Watching.{is_literal_in, AreTwoOrNone, IsExact}
-use Rattle.watch_map.specs.WatchLists.{WatchLists, Watches, literals_in, watched_by, link_for, next_in, next_at, link, IsChain, watchers, HasTwoLinks, HasRoom, with_next, with_watch}
+use Rattle.watch_map.specs.WatchLists.{WatchLists, Watches, literals_in, watched_by, link_for, next_in, next_at}
+use Rattle.watch_map.specs.WatchLists.{link, IsChain, watchers, HasTwoLinks, HasRoom, with_next, with_watch}
 use Rattle.watch_map.proofs.WatchingLaws.{same_self, same_swap, few}
 use Rattle.watch_map.proofs.ChainLaws.{chain_is}
 
@@ -31,7 +34,8 @@ link_at (a ∷ b ∷ []) links (suc zero) l two h e =
     let s : same_literal l a ≡ false = subst (λ x. same_literal x a ≡ false) e (same_swap b a ∙ two) in rw s refl
 link_at (a ∷ b ∷ []) links (suc (suc index)) l two h e = absurd (omega arith)
 
-pub link_kept : (ls : List Lit) (links : List (Option ℕ)) (index : ℕ) (from l : Lit) (n : Option ℕ) → AreTwoOrNone ls → index < length ls → slice_index_or ls index from ≡ from →
+pub link_kept : (ls : List Lit) (links : List (Option ℕ)) (index : ℕ) (from l : Lit) (n : Option ℕ) → AreTwoOrNone ls →
+    index < length ls → slice_index_or ls index from ≡ from →
     is_literal_in l ls ≡ true → same_literal l from ≡ false → link_for ls (set links index n) l ≡ link_for ls links l
 link_kept [] links index from l n two h e i d = absurd (omega arith)
 link_kept (a ∷ []) links index from l n two h e i d = absurd two
@@ -47,7 +51,8 @@ link_kept (a ∷ b ∷ []) links (suc zero) from l n two h e i d =
     rw s (get_or-set_other links (suc zero) zero n None ne)
 link_kept (a ∷ b ∷ []) links (suc (suc index)) from l n two h e i d = absurd (omega arith)
 
-pub watch_kept : (ls : List Lit) (links : List (Option ℕ)) (index : ℕ) (from to l : Lit) (n : Option ℕ) → AreTwoOrNone ls → index < length ls → slice_index_or ls index from ≡ from →
+pub watch_kept : (ls : List Lit) (links : List (Option ℕ)) (index : ℕ) (from to l : Lit) (n : Option ℕ) →
+    AreTwoOrNone ls → index < length ls → slice_index_or ls index from ≡ from →
     is_literal_in l ls ≡ true → same_literal l from ≡ false → same_literal l to ≡ false → link_for (set ls index to) (set links index n) l ≡ link_for ls links l
 watch_kept [] links index from to l n two h e i d t = absurd (omega arith)
 watch_kept (a ∷ []) links index from to l n two h e i d t = absurd two
@@ -72,24 +77,28 @@ two_length (a ∷ b ∷ c ∷ ls) index two h = absurd two
 -- ---- records
 
 module _ (index : ℕ) (from : Lit) where
-  pub record_at : (r : Option WatchedLiterals) → AreTwoOrNone (literals_in r) → index < length (literals_in r) → slice_index_or (literals_in r) index from ≡ from →
+  pub record_at : (r : Option WatchedLiterals) → AreTwoOrNone (literals_in r) → index < length (literals_in r) →
+      slice_index_or (literals_in r) index from ≡ from →
       next_at r index ≡ next_in r from
   record_at None two h e = absurd (omega arith)
   record_at (Some w) two h e = link_at w.watched_literals w.next_watches index from two h e
 
-  pub record_next_kept : (r : Option WatchedLiterals) (n : Option ℕ) (l : Lit) → AreTwoOrNone (literals_in r) → index < length (literals_in r) → slice_index_or (literals_in r) index from ≡ from →
+  pub record_next_kept : (r : Option WatchedLiterals) (n : Option ℕ) (l : Lit) → AreTwoOrNone (literals_in r) →
+      index < length (literals_in r) → slice_index_or (literals_in r) index from ≡ from →
       is_literal_in l (literals_in r) ≡ true → same_literal l from ≡ false → next_in (with_next index n r) l ≡ next_in r l
   record_next_kept None n l two h e i d = refl
   record_next_kept (Some w) n l two h e i d = link_kept w.watched_literals w.next_watches index from l n two h e i d
 
-  pub record_next_set : (r : Option WatchedLiterals) (n : Option ℕ) → AreTwoOrNone (literals_in r) → index < length (literals_in r) → slice_index_or (literals_in r) index from ≡ from →
+  pub record_next_set : (r : Option WatchedLiterals) (n : Option ℕ) → AreTwoOrNone (literals_in r) →
+      index < length (literals_in r) → slice_index_or (literals_in r) index from ≡ from →
       HasTwoLinks r → next_in (with_next index n r) from ≡ n
   record_next_set None n two h e k = absurd (omega arith)
   record_next_set (Some w) n two h e k =
       let small = two_length w.watched_literals index two h in
       sym (link_at w.watched_literals (set w.next_watches index n) index from two h e) ∙ get_or-set_same w.next_watches index n None (omega arith)
 
-  pub record_watch_kept : (r : Option WatchedLiterals) (n : Option ℕ) (to l : Lit) → AreTwoOrNone (literals_in r) → index < length (literals_in r) → slice_index_or (literals_in r) index from ≡ from →
+  pub record_watch_kept : (r : Option WatchedLiterals) (n : Option ℕ) (to l : Lit) → AreTwoOrNone (literals_in r) →
+      index < length (literals_in r) → slice_index_or (literals_in r) index from ≡ from →
       is_literal_in l (literals_in r) ≡ true → same_literal l from ≡ false → same_literal l to ≡ false → next_in (with_watch index to n r) l ≡ next_in r l
   record_watch_kept None n to l two h e i d t = refl
   record_watch_kept (Some w) n to l two h e i d t = watch_kept w.watched_literals w.next_watches index from to l n two h e i d t

@@ -1,5 +1,6 @@
 -- Laws for a store: a clause more, and a watch moved, leave lists exact.
-use Rattle.std.proofs.Common.{◌≡◌, ◌≢◌, ℕ, zero, suc, ◌<◌, ◌≤◌, Bool, true, false, ◌||◌, List, [], ◌∷◌, ◌++◌, length, slice_index_or, set, refl, sym, ap, subst, ◌∙◌, arith, nat_eq}
+use Rattle.std.proofs.Common.{◌≡◌, ◌≢◌, ℕ, zero, suc, ◌<◌, ◌≤◌, Bool, true, false, ◌||◌, List, [], ◌∷◌}
+use Rattle.std.proofs.Common.{◌++◌, length, slice_index_or, set, refl, sym, ap, subst, ◌∙◌, arith, nat_eq}
 use Rattle.std.proofs.lemmas.Bool.{eqb-true, eqb-false}
 use Rattle.std.proofs.lemmas.List.{get_or-set_same, get_or-set_other}
 use Rattle.typed_ids.specs.TotalMaps.{IsUpdate}
@@ -15,7 +16,7 @@ module _ (watches : List (List Lit)) where
   abbrev pub watched_at : ℕ → List Lit
   watched_at c = slice_index_or watches c []
 
-past : (ws : List (List Lit)) (c : ℕ) → length ws ≤ c → watched_at ws c ≡ []
+pub past : (ws : List (List Lit)) (c : ℕ) → length ws ≤ c → watched_at ws c ≡ []
 past [] c h = refl
 past (w ∷ ws) zero h = absurd (omega (arith, h))
 past (w ∷ ws) (suc c) h = past ws c (omega (arith, h))
@@ -57,7 +58,8 @@ exact_pushed ws lists [] two ex =
         go false e = elsewhere ws [] c (eqb-false c (length ws) e)
 exact_pushed ws lists (a ∷ []) two ex = absurd two
 exact_pushed ws lists (a ∷ b ∷ []) two ex =
-    started_exact (watched_at ws) (watched_at (ws ++ (a ∷ b ∷ []) ∷ [])) lists (length ws) ex (a ∷ b ∷ []) (past ws (length ws) (omega arith)) two (pushed_watches ws (a ∷ b ∷ []))
+    started_exact (watched_at ws) (watched_at (ws ++ (a ∷ b ∷ []) ∷ [])) lists (length ws) ex (a ∷ b ∷ [])
+    (past ws (length ws) (omega arith)) two (pushed_watches ws (a ∷ b ∷ []))
 exact_pushed ws lists (a ∷ b ∷ c ∷ w) two ex = absurd two
 
 -- ---- a watch moved
@@ -84,7 +86,8 @@ place_of : (from : Lit) (ls : List Lit) → is_literal_in from ls ≡ true → P
 place_of from [] h = (let no : false ≡ true = h in cc)
 place_of from (a ∷ ls) h = by_first (same_literal from a) refl h (place_of from ls)
   where
-    by_first : (b : Bool) → same_literal from a ≡ b → (b || is_literal_in from ls) ≡ true → (is_literal_in from ls ≡ true → PlaceOf from ls) → PlaceOf from (a ∷ ls)
+    by_first : (b : Bool) → same_literal from a ≡ b → (b || is_literal_in from ls) ≡ true →
+        (is_literal_in from ls ≡ true → PlaceOf from ls) → PlaceOf from (a ∷ ls)
     by_first true e k later = record { index = 0; within = omega arith; reads = sym (same_is from a e) }
     by_first false e k later =
         let rest = later k in

@@ -1,5 +1,7 @@
 -- The list of clauses over its map and its records: what its calls make of them.
-use Rattle.std.proofs.Common.{◌≡◌, ℕ, Bool, true, false, not, List, [], ◌∷◌, ◌++◌, length, map, set, Option, Some, None, refl, sym, ap, subst, ◌∙◌, arith, nat_eq, ◌+◌, ◌<◌, ◌≤◌, take, drop, get_or, length-append, Result, Ok, Err}
+use Rattle.std.proofs.Common.{◌≡◌, ℕ, Bool, true, false, not, List, [], ◌∷◌, ◌++◌, length, map}
+use Rattle.std.proofs.Common.{set, Option, Some, None, refl, sym, ap, subst, ◌∙◌, arith, nat_eq}
+use Rattle.std.proofs.Common.{◌+◌, ◌<◌, ◌≤◌, take, drop, get_or, length-append, Result, Ok, Err}
 use Rattle.std.specs.Prelude.{◌&&◌, ◌-◌, ◌^◌, nat_lt, if◌then◌else◌, IsTrue, OnOk, OnErr}
 use Rattle.typed_ids.specs.Refusals.{are_ids_out}
 use Rattle.std.proofs.lemmas.List.Sums.{fold_more}
@@ -21,7 +23,10 @@ use Rattle.watch_map.specs.WatchLists.{WatchLists, Watches, literals_in, watched
 use Rattle.watch_map.specs.WatchCalls.{SameLists, KeepsRoom, UsesRoom, HaveRooms, Starts, StandsIn, Moves}
 use Rattle.watch_map.proofs.WatchingLaws.{exact_same}
 use Rattle.watch_map.proofs.CallerLaws.{same_records_belong, new_clauses_join, records_skip, room_is_for_fewer}
-use Rattle.watch_map.specs.ClauseList.{Clauses, IsClauseList, is_full, literals_watched, two_or_none, rewatched, with_clause, with_rewatched, can_rewatch, Kept, helper_literal, bit_watches, with_forbidden_one, with_forbidden, HasRoomFor, HasRoom as HasRoomOf, KeepsRoom as KeepsRoomOf}
+use Rattle.watch_map.specs.ClauseList.{Clauses, IsClauseList, is_full, literals_watched, two_or_none}
+use Rattle.watch_map.specs.ClauseList.{rewatched, with_clause, with_rewatched, can_rewatch, Kept}
+use Rattle.watch_map.specs.ClauseList.{helper_literal, bit_watches, with_forbidden_one, with_forbidden}
+use Rattle.watch_map.specs.ClauseList.{HasRoomFor, HasRoom as HasRoomOf, KeepsRoom as KeepsRoomOf}
 use Rattle.watch_map.specs.Walks.{StartsAtEnd, IsRewatched, may_rewatch}
 use Rattle.watch_map.proofs.ListCallerLaws.{watched_at, set_watches, watching_within, rewatched_is}
 
@@ -48,7 +53,8 @@ something_starts old new w clause starts ws watched = new_clauses_join old new w
 
 -- ---- a moved watch, in the records
 
-module _ (map map' : WatchLists) (ws ws' : Watches) (to : Lit) (at : Position) (given : AreWatched map ws) (stands : StandsIn at map ws) (as_many : length ws' ≡ length ws)
+module _ (map map' : WatchLists) (ws ws' : Watches) (to : Lit) (at : Position) (given : AreWatched map ws)
+    (stands : StandsIn at map ws) (as_many : length ws' ≡ length ws)
     (moves : Moves at to map ws map' ws') where
   moved_here : IsRewatched map ws (clause_of at) (literal_of at) to map' ws'
   moved_here = record {
@@ -56,7 +62,8 @@ module _ (map map' : WatchLists) (ws ws' : Watches) (to : Lit) (at : Position) (
     lists = moves.lists;
     as_many = as_many;
     literals = subst (λ ls. IsUpdate (watched_by ws) (clause_of at) ls (watched_by ws'))
-        (rewatched_is (watched_by ws (clause_of at)) (index_of at) (literal_of at) to (given.exact.two (clause_of at)) stands.within stands.watch) moves.literals;
+        (rewatched_is (watched_by ws (clause_of at)) (index_of at) (literal_of at) to
+        (given.exact.two (clause_of at)) stands.within stands.watch) moves.literals;
   }
 
   pub rewatch_done : (clause : ℕ) (from : Lit) → clause_of at ≡ clause → literal_of at ≡ from → IsRewatched map ws clause from to map' ws'
@@ -110,12 +117,14 @@ module _ {N : Type 0} where
   same_contents cs ws learnt old new watched same =
       ap (λ (f : Lit → List ℕ). record { clauses = cs; watches = map literals_in ws; learnt = learnt; watchers = f }) (fun_ext (same ws watched).1)
 
-  pub pushed_contents : (cs : List (Clause N)) (ws : Watches) (learnt : List (List Lit)) (old new : WatchLists) (clause : Clause N) (given made : Option WatchedLiterals)
+  pub pushed_contents : (cs : List (Clause N)) (ws : Watches) (learnt : List (List Lit)) (old new : WatchLists)
+      (clause : Clause N) (given made : Option WatchedLiterals)
       → AreWatched old ws → length cs ≡ length ws → literals_in made ≡ literals_in given → StartsAtEnd old made (length cs) new
       → contents_of (cs ++ clause ∷ []) (ws ++ made ∷ []) learnt new ≡ with_clause (contents_of cs ws learnt old) clause (literals_watched given)
   pushed_contents cs ws learnt old new clause given made watched as_many same starts =
       let literals : literals_in made ≡ two_or_none (literals_watched given) = same ∙ literals_are given in
-      let f : List (List Lit) → (Lit → List ℕ) → Clauses N = λ watches lists. record { clauses = cs ++ clause ∷ []; watches = watches; learnt = learnt; watchers = lists } in
+      let f : List (List Lit) → (Lit → List ℕ) → Clauses N = λ watches lists.
+      record { clauses = cs ++ clause ∷ []; watches = watches; learnt = learnt; watchers = lists } in
       let records : map literals_in (ws ++ made ∷ []) ≡ map literals_in ws ++ two_or_none (literals_watched given) ∷ [] =
       map-append literals_in ws (made ∷ []) ∙ ap (λ w. map literals_in ws ++ w ∷ []) literals in
       let lists : watchers new (ws ++ made ∷ []) ≡ started (length cs) (two_or_none (literals_watched given)) (watchers old ws) =
@@ -165,26 +174,31 @@ module _ {N : Type 0} where
       → IsClauseList (contents_of cs ws learnt old) → is_full (contents_of cs ws learnt old) ≡ false → AreWatched new (ws ++ made ∷ [])
       → IsClauseList (contents_of (cs ++ clause ∷ []) (ws ++ made ∷ []) learnt new)
   more_list cs learnt ws old new clause made is room watched = record {
-    paired = length-map (ws ++ made ∷ []) literals_in ∙ length-append ws (made ∷ []) ∙ ap (λ n. n + 1) (sym (length-map ws literals_in) ∙ is.paired) ∙ sym (length-append cs (clause ∷ []));
+    paired = length-map (ws ++ made ∷ []) literals_in ∙ length-append ws (made ∷ []) ∙
+        ap (λ n. n + 1) (sym (length-map ws literals_in) ∙ is.paired) ∙ sym (length-append cs (clause ∷ []));
     few = (let old_few = is.few in grind (arith, nat_tests, room, old_few, length-append cs (clause ∷ [])));
     exact = exact_here new (ws ++ made ∷ []) watched;
   }
 
   -- as many records as clauses
-  pub as_many_records : (cs : List (Clause N)) (learnt : List (List Lit)) (ws : Watches) (lists : WatchLists) → IsClauseList (contents_of cs ws learnt lists) → length cs ≡ length ws
+  pub as_many_records : (cs : List (Clause N)) (learnt : List (List Lit)) (ws : Watches) (lists : WatchLists) →
+      IsClauseList (contents_of cs ws learnt lists) → length cs ≡ length ws
   as_many_records cs learnt ws lists is = sym is.paired ∙ length-map ws literals_in
 
   -- ---- after a watch was to be moved
 
-  pub after_rewatch : {T E : Type 0} (result : Result T E) (cs : List (Clause N)) (learnt : List (List Lit)) (ws ws' : Watches) (old new : WatchLists) (clause : ℕ) (from to : Lit)
-      → AreWatched old ws → IsClauseList (contents_of cs ws learnt old) → OnOk result (IsRewatched old ws clause from to new ws') → OnErr result (SameLists old new × (ws' ≡ ws))
+  pub after_rewatch : {T E : Type 0} (result : Result T E) (cs : List (Clause N)) (learnt : List (List Lit))
+      (ws ws' : Watches) (old new : WatchLists) (clause : ℕ) (from to : Lit)
+      → AreWatched old ws → IsClauseList (contents_of cs ws learnt old) →
+      OnOk result (IsRewatched old ws clause from to new ws') → OnErr result (SameLists old new × (ws' ≡ ws))
       → IsClauseList (contents_of cs ws' learnt new) × AreWatched new ws'
   after_rewatch (Ok x) cs learnt ws ws' old new clause from to watched is ok err = (still_list cs learnt ws ws' old new is ok.as_many ok.watched, ok.watched)
   after_rewatch (Err e) cs learnt ws ws' old new clause from to watched is ok err =
       subst (λ rs. IsClauseList (contents_of cs rs learnt new) × AreWatched new rs) (sym err.1)
       (still_list cs learnt ws ws old new is refl (err.0 ws watched).0, (err.0 ws watched).0)
 
-  pub ok_rewatch : {T E : Type 0} (result : Result T E) (cs : List (Clause N)) (learnt : List (List Lit)) (ws ws' : Watches) (old new : WatchLists) (clause : ℕ) (from to : Lit)
+  pub ok_rewatch : {T E : Type 0} (result : Result T E) (cs : List (Clause N)) (learnt : List (List Lit))
+      (ws ws' : Watches) (old new : WatchLists) (clause : ℕ) (from to : Lit)
       → OnOk result (IsRewatched old ws clause from to new ws') → OnOk result (IsTrue (may_rewatch ws clause from to))
       → OnOk result (contents_of cs ws' learnt new ≡ with_rewatched (contents_of cs ws learnt old) clause from to)
   ok_rewatch (Ok x) cs learnt ws ws' old new clause from to ok can = rewatched_contents cs ws ws' learnt old new clause from to can ok
@@ -226,7 +240,8 @@ no_values v = None
 pub two_of_bit : (bit : ℕ × ℕ × Bool) → AreTwoOrNone (two_or_none (bit_watches bit))
 two_of_bit bit = by (same_literal (Neg bit.0) (helper_literal bit)) refl
   where
-    by : (b : Bool) → same_literal (Neg bit.0) (helper_literal bit) ≡ b → AreTwoOrNone (two_or_none (if b then None else Some (Neg bit.0 ∷ helper_literal bit ∷ [])))
+    by : (b : Bool) → same_literal (Neg bit.0) (helper_literal bit) ≡ b →
+        AreTwoOrNone (two_or_none (if b then None else Some (Neg bit.0 ∷ helper_literal bit ∷ [])))
     by true e = tt
     by false e = e
 
@@ -246,7 +261,8 @@ module _ {N : Type 0} where
       clauses = (let there = room.clauses in let as_many = ap length same in omega (arith, there, as_many, more_clauses));
       records = (let there = room.records in let as_many = ap length same in omega (arith, there, as_many, more_records));
       lists = All-from_get_or (λ (bit : ℕ × ℕ × Bool). HaveRooms new.lists count (two_or_none (bit_watches bit))) bits (0, 0, false) (λ i within l among.
-          keeps l count (All-get_or (λ (bit : ℕ × ℕ × Bool). HaveRooms old.lists count (two_or_none (bit_watches bit))) bits i (0, 0, false) within room.lists l among));
+          keeps l count (All-get_or (λ (bit : ℕ × ℕ × Bool). HaveRooms old.lists count (two_or_none (bit_watches bit)))
+          bits i (0, 0, false) within room.lists l among));
     };
   }
 
@@ -258,7 +274,9 @@ module _ {N : Type 0} where
     clauses = (let there = room.clauses in omega (arith, there, more, same_clauses));
     records = (let there = room.records in omega (arith, there, more, same_records));
     lists = All-from_get_or (λ (bit : ℕ × ℕ × Bool). HaveRooms new.lists count (two_or_none (bit_watches bit))) bits (0, 0, false) (λ i within l among.
-        room_used literals old.lists new.lists l count uses (All-get_or (λ (bit : ℕ × ℕ × Bool). HaveRooms old.lists (count + 1) (two_or_none (bit_watches bit))) bits i (0, 0, false) within room.lists l among));
+        room_used literals old.lists new.lists l count uses
+        (All-get_or (λ (bit : ℕ × ℕ × Bool). HaveRooms old.lists (count + 1) (two_or_none (bit_watches bit))) bits i
+        (0, 0, false) within room.lists l among));
   }
 
   -- room for some, of which this is one, is room for it
@@ -268,17 +286,22 @@ module _ {N : Type 0} where
     id = (let ids = room.ids in grind (arith, nat_tests, ids, some));
     clause = (let there = room.clauses in omega (arith, there, some));
     watch = (let there = room.records in omega (arith, there, some));
-    lists = λ l among. room_is_for_fewer kept.lists l count 1 (omega (arith, some)) (All-get_or (λ (bit : ℕ × ℕ × Bool). HaveRooms kept.lists count (two_or_none (bit_watches bit))) bits i (0, 0, false) within room.lists l among);
+    lists = λ l among. room_is_for_fewer kept.lists l count 1 (omega (arith, some))
+        (All-get_or (λ (bit : ℕ × ℕ × Bool). HaveRooms kept.lists count (two_or_none (bit_watches bit))) bits i
+        (0, 0, false) within room.lists l among);
   }
 
-  pub room_for_item : (count : ℕ) (bits : List (ℕ × ℕ × Bool)) (kept : Kept N) (i : ℕ) (bit : ℕ × ℕ × Bool) (watched : Option (List Lit)) → 0 < count → i < length bits
+  pub room_for_item : (count : ℕ) (bits : List (ℕ × ℕ × Bool)) (kept : Kept N) (i : ℕ) (bit : ℕ × ℕ × Bool)
+      (watched : Option (List Lit)) → 0 < count → i < length bits
       → bit ≡ get_or bits i bit → watched ≡ bit_watches bit → HasRoomFor count bits kept → HasRoomOf kept (two_or_none watched)
   room_for_item count bits kept i bit watched some within is watches room =
       subst (λ w. HasRoomOf kept (two_or_none w)) (sym watches)
-      (subst (λ b. HasRoomOf kept (two_or_none (bit_watches b))) (get_or_default bits i (0, 0, false) bit within ∙ sym is) (room_for_one count bits kept i some within room))
+      (subst (λ b. HasRoomOf kept (two_or_none (bit_watches b)))
+      (get_or_default bits i (0, 0, false) bit within ∙ sym is) (room_for_one count bits kept i some within room))
 
   -- the loop over the clauses goes on by the next one
-  pub one_forbidden_more : (name : N) (start now next : Clauses N) (bits : List (ℕ × ℕ × Bool)) (i : ℕ) (bit : ℕ × ℕ × Bool) (clause : Clause N) (watched : Option (List Lit))
+  pub one_forbidden_more : (name : N) (start now next : Clauses N) (bits : List (ℕ × ℕ × Bool)) (i : ℕ)
+      (bit : ℕ × ℕ × Bool) (clause : Clause N) (watched : Option (List Lit))
       → i < length bits → bit ≡ get_or bits i bit → clause ≡ ForbidMultipleInstances bit.0 (helper_literal bit) name → watched ≡ bit_watches bit
       → now ≡ with_forbidden name start (take i bits) → next ≡ with_clause now clause watched → next ≡ with_forbidden name start (take (i + 1) bits)
   one_forbidden_more name start now next bits i bit clause watched within is is_clause is_watched so_far added =

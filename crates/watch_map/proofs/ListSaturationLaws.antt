@@ -6,6 +6,10 @@ use Rattle.watch_map.specs.WatchLists.{Watches, literals_in, watched_by}
 use Rattle.clauses.specs.declared.clause.Clause.{Clause}
 use Rattle.watch_map.specs.ClauseList.{Clauses}
 use Rattle.watch_map.specs.Saturation.{WatchOwn, IsRearranged}
+use Rattle.decisions.specs.Trail.{Entry}
+use Rattle.watch_map.specs.Marks.{AreMarks}
+use Rattle.watch_map.specs.declared.marks.Mark.{Mark}
+use Rattle.watch_map.proofs.MarkLaws.{marks_alike}
 use Rattle.watch_map.proofs.ListCallerLaws.{watched_at}
 use Rattle.watch_map.proofs.ListLaws.{literals_at}
 
@@ -20,6 +24,16 @@ rearranged_here literals ws ws' is = record {
   own = λ c l h. is.own c l (subst (λ ls. is_literal_in l ls ≡ true) (literals_at ws' c) h);
   as_many = λ c. ap length (literals_at ws' c) ∙ is.as_many c ∙ sym (ap length (literals_at ws c));
 }
+
+pub marks_here : (literals : ℕ → List Lit) (ws : Watches) (es : List Entry) (marks : List Mark)
+    → AreMarks literals (watched_at (map literals_in ws)) es marks → AreMarks literals (watched_by ws) es marks
+marks_here literals ws es marks are =
+    marks_alike literals (watched_at (map literals_in ws)) es marks are (watched_by ws) (λ c. sym (literals_at ws c))
+
+pub marks_there : (literals : ℕ → List Lit) (ws : Watches) (es : List Entry) (marks : List Mark)
+    → AreMarks literals (watched_by ws) es marks → AreMarks literals (watched_at (map literals_in ws)) es marks
+marks_there literals ws es marks are =
+    marks_alike literals (watched_by ws) es marks are (watched_at (map literals_in ws)) (literals_at ws)
 
 -- a list with the same clauses and the same learnt literals differs in its watches and their lists alone
 pub rest_is : {N : Type 0} (old new : Clauses N) → new.clauses ≡ old.clauses → new.learnt ≡ old.learnt

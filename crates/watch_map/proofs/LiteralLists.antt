@@ -1,7 +1,8 @@
 -- Tests over the literals of a list, and two different literals.
-use Rattle.std.proofs.Common.{◌≡◌, ℕ, zero, suc, ◌<◌, Bool, true, false, ◌||◌, cond, ◌⊎◌, inl, inr, List, [], ◌∷◌, length, slice_index_or, set, Some, None, refl, sym, subst, ◌∙◌, arith}
+use Rattle.std.proofs.Common.{◌≡◌, ℕ, zero, suc, ◌<◌, Bool, true, false, ◌||◌, cond, ◌⊎◌, inl, inr, List, []}
+use Rattle.std.proofs.Common.{◌∷◌, length, slice_index_or, set, Some, None, refl, sym, subst, ◌∙◌, arith}
 use Rattle.std.proofs.lemmas.Bool.{true≢false, and_parts, and_from, or_left, or_right, or_parts}
-use Rattle.std.specs.Prelude.{find}
+use Rattle.std.specs.Prelude.{find, is_some}
 use Rattle.std.specs.List.{list_all, list_any}
 use Rattle.decisions.specs.Literals.{Lit}
 use Rattle.clauses.specs.Clauses.{same_literal}
@@ -56,6 +57,12 @@ passes_of p (x ∷ ls) h =
           (is_literal_in later.literal ls) later.within;
       passes = later.passes;
     })
+
+-- something is found exactly where something passes
+pub found_any : {X : Type 0} (p : X → Bool) (xs : List X) → is_some (find p xs) ≡ list_any p xs
+found_any p [] = refl
+found_any p (x ∷ xs) =
+    elim (p x) as (λ b. is_some (cond b (Some x) (find p xs)) ≡ (b || list_any p xs)) [ true ↦ refl | false ↦ found_any p xs ]
 
 -- what a test finds is in the list and passes it
 pub found_is : (p : Lit → Bool) (ls : List Lit) (m : Lit) → find p ls ≡ Some m

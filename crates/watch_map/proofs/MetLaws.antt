@@ -1,5 +1,6 @@
 -- The invariant of watched literals: what keeps it, and what is true of a clause where all that is false is met.
-use Rattle.std.proofs.Common.{◌≡◌, ℕ, ◌+◌, ◌<◌, true, false, not, ◌&&◌, inl, inr, List, [], ◌∷◌, ◌++◌, length, take, slice_index_or, set, Some, refl, sym, ap, subst, ◌∙◌, nat_eq, eqb-true}
+use Rattle.std.proofs.Common.{◌≡◌, ℕ, ◌+◌, ◌<◌, true, false, not, ◌&&◌, inl, inr, List, [], ◌∷◌, ◌++◌, length}
+use Rattle.std.proofs.Common.{take, slice_index_or, set, Some, refl, sym, ap, subst, ◌∙◌, nat_eq, eqb-true}
 use Rattle.std.specs.Prelude.{slice_get}
 use Rattle.std.proofs.lemmas.Bool.{true≢false, eqb-false, and_parts, and_from, not-true, not_from_false, false_from_ne_true}
 use Rattle.std.proofs.lemmas.List.{take_more}

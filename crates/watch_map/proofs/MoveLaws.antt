@@ -1,5 +1,7 @@
 -- A watch that moves: the clause is unlinked from one list and put first in another.
-use Rattle.std.proofs.Common.{◌≡◌, ◌≢◌, ℕ, zero, suc, ◌<◌, Bool, true, false, ◌||◌, cond, nat_eq, List, [], ◌∷◌, ◌++◌, Option, Some, None, length, slice_index_or, set, sym, ap, refl, subst, ◌∙◌, arith, eqb-true}
+use Rattle.std.proofs.Common.{◌≡◌, ◌≢◌, ℕ, zero, suc, ◌<◌, Bool, true, false, ◌||◌, cond}
+use Rattle.std.proofs.Common.{nat_eq, List, [], ◌∷◌, ◌++◌, Option, Some, None, length}
+use Rattle.std.proofs.Common.{slice_index_or, set, sym, ap, refl, subst, ◌∙◌, arith, eqb-true}
 use Rattle.std.specs.List.{IsDistinct}
 use Rattle.std.specs.Prelude.{IfSome}
 use Rattle.std.proofs.lemmas.Bool.{eqb-false}
@@ -12,16 +14,20 @@ use Rattle.watch_map.specs.WatchLists.{Position}
 use Rattle.watch_map.specs.declared.nodes.WatchNode.{WatchNode}
 use Rattle.clauses.specs.Clauses.{same_literal}
 use Rattle.watch_map.specs.Watching.{is_literal_in, is_clause_in, AreTwoOrNone, IsExact, without, moved}
-use Rattle.watch_map.specs.WatchLists.{WatchLists, Watches, record_of, literals_in, watched_by, next_in, next_at, link, IsChain, watchers, HasTwoLinks, AreWatched, with_next, with_watch, IsPrevious, IsCursorAt, IsRelinked, literal_of, clause_of, index_of}
+use Rattle.watch_map.specs.WatchLists.{WatchLists, Watches, record_of, literals_in, watched_by, next_in, next_at}
+use Rattle.watch_map.specs.WatchLists.{link, IsChain, watchers, HasTwoLinks, AreWatched, with_next, with_watch}
+use Rattle.watch_map.specs.WatchLists.{IsPrevious, IsCursorAt, IsRelinked, literal_of, clause_of, index_of}
 use Rattle.watch_map.specs.WatchCalls.{StandsIn, StandsBehind, Moves, passed, rest, remaining}
 use Rattle.watch_map.proofs.WatchingLaws.{same_is, same_self, same_swap, split, without_parts, distinct_head, distinct_tail, exact_same, moved_exact}
 use Rattle.watch_map.proofs.ChainLaws.{in_head, in_rest, in_middle, chain_same, chain_behind, chain_less}
 use Rattle.watch_map.proofs.CursorLaws.{next_watches_it, arrived}
-use Rattle.watch_map.proofs.LinkLaws.{record_at, record_next_kept, record_next_set, record_watch_kept, record_watch_set, next_literals, watch_literals, next_links, watch_links, lists_made}
+use Rattle.watch_map.proofs.LinkLaws.{record_at, record_next_kept, record_next_set, record_watch_kept, record_watch_set}
+use Rattle.watch_map.proofs.LinkLaws.{next_literals, watch_literals, next_links, watch_links, lists_made}
 
 pub index_apart : (l m : Lit) → same_literal l m ≡ false → literal_index l ≢ literal_index m
 index_apart l m e k =
-    let z : same_literal l m ≡ true = subst (λ x. same_literal l x ≡ true) (literal_index-injective l m k) (same_self l) in let y : true ≡ false = sym z ∙ e in cc
+    let z : same_literal l m ≡ true = subst (λ x. same_literal l x ≡ true) (literal_index-injective l m k)
+    (same_self l) in let y : true ≡ false = sym z ∙ e in cc
 
 from_watched : (ls : List Lit) (index : ℕ) (from : Lit) → index < length ls → slice_index_or ls index from ≡ from → is_literal_in from ls ≡ true
 from_watched [] index from h e = absurd (omega arith)
@@ -88,7 +94,8 @@ module _ (cursor : Position) (map : WatchLists) (ws : Watches) (stands : StandsI
   pub first_is : (c : ℕ) × (value_at map (literal_index from) ≡ Some c)
   first_is = go (passed cursor map ws) linked_whole
     where
-      go : (front : List ℕ) → IsChain (link ws from) (value_at map (literal_index from)) (front ++ clause ∷ rest cursor map ws) → (c : ℕ) × (value_at map (literal_index from) ≡ Some c)
+      go : (front : List ℕ) → IsChain (link ws from) (value_at map (literal_index from))
+          (front ++ clause ∷ rest cursor map ws) → (c : ℕ) × (value_at map (literal_index from) ≡ Some c)
       go [] h = (clause, h.0)
       go (x ∷ front) h = (x, h.0)
 
@@ -105,7 +112,8 @@ module _ (cursor : Position) (map : WatchLists) (ws : Watches) (stands : StandsI
     linked_next = subst (λ o. IsChain (link ws from) o (rest cursor map ws)) (sym next_now) linked_rest
 
     pub watched_next : (c : ℕ) → next ≡ Some c → is_literal_in from (watched_by ws c) ≡ true
-    watched_next = next_watches_it map ws stands.watched from (Some cursor.current) (passed cursor map ws ++ clause ∷ []) (rest cursor map ws) whole_past next linked_next
+    watched_next = next_watches_it map ws stands.watched from (Some cursor.current)
+        (passed cursor map ws ++ clause ∷ []) (rest cursor map ws) whole_past next linked_next
 
     pub goes_past : (result : Option Position) → IsCursorAt ws from (Some cursor.current) next result →
         (remaining result map ws ≡ rest cursor map ws) × IfSome result (StandsBehind (passed cursor map ws ++ clause ∷ []) from map ws)
@@ -135,7 +143,9 @@ module _ (cursor : Position) (map : WatchLists) (ws : Watches) (stands : StandsI
     links = λ c. links c (nat_eq c node.clause_id) refl;
     others = λ l c i d. others l c i d (nat_eq c node.clause_id) refl;
     linked = subst (λ xs. IsChain (link ws' from) (value_at map' (literal_index from)) xs) (sym parted) skipped;
-    behind = λ d m. ap (λ r. next_in r from) (re.1.1 d (apart_back node.clause_id d earlier (clause ∷ rest cursor map ws) once_parted (in_rest d clause (rest cursor map ws) m)));
+    behind = λ d m. ap (λ r. next_in r from)
+        (re.1.1 d (apart_back node.clause_id d earlier (clause ∷ rest cursor map ws) once_parted
+        (in_rest d clause (rest cursor map ws) m)));
   }
     where
       earlier : List ℕ
@@ -167,10 +177,12 @@ module _ (cursor : Position) (map : WatchLists) (ws : Watches) (stands : StandsI
       literals c false e = ap literals_in (re.1.1 c (eqb-false c node.clause_id e))
 
       links : (c : ℕ) (b : Bool) → nat_eq c node.clause_id ≡ b → HasTwoLinks (record_of ws' c)
-      links c true e = rw (eqb-true c node.clause_id e, at_node) (next_links node.watch_index _ (record_of ws node.clause_id) (stands.watched.links node.clause_id))
+      links c true e = rw (eqb-true c node.clause_id e, at_node)
+          (next_links node.watch_index _ (record_of ws node.clause_id) (stands.watched.links node.clause_id))
       links c false e = rw (re.1.1 c (eqb-false c node.clause_id e)) (stands.watched.links c)
 
-      others : (l : Lit) (c : ℕ) → is_literal_in l (watched_by ws c) ≡ true → same_literal l from ≡ false → (b : Bool) → nat_eq c node.clause_id ≡ b → link ws' l c ≡ link ws l c
+      others : (l : Lit) (c : ℕ) → is_literal_in l (watched_by ws c) ≡ true → same_literal l from ≡ false → (b : Bool) →
+          nat_eq c node.clause_id ≡ b → link ws' l c ≡ link ws l c
       others l c i d true e =
           let is = eqb-true c node.clause_id e in
           let there : is_literal_in l (watched_by ws node.clause_id) ≡ true = subst (λ x. is_literal_in l (watched_by ws x) ≡ true) is i in
@@ -180,20 +192,24 @@ module _ (cursor : Position) (map : WatchLists) (ws : Watches) (stands : StandsI
 
       skips : link ws' from node.clause_id ≡ link ws from clause
       skips = ap (λ r. next_in r from) at_node
-          ∙ (record_next_set node.watch_index from (record_of ws node.clause_id) _ two front.0.within front.0.watch (stands.watched.links node.clause_id) ∙ next_is)
+          ∙ (record_next_set node.watch_index from (record_of ws node.clause_id) _ two front.0.within front.0.watch
+          (stands.watched.links node.clause_id) ∙ next_is)
 
       skipped : IsChain (link ws' from) (value_at map' (literal_index from)) (earlier ++ node.clause_id ∷ rest cursor map ws)
       skipped =
           chain_less (link ws from) (link ws' from) (value_at map' (literal_index from)) earlier node.clause_id clause (rest cursor map ws) skips
           (λ d m. ap (λ r. next_in r from) (re.1.1 d (apart_front node.clause_id d earlier (clause ∷ rest cursor map ws) once_parted m)))
-          (λ d m. ap (λ r. next_in r from) (re.1.1 d (apart_back node.clause_id d earlier (clause ∷ rest cursor map ws) once_parted (in_rest d clause (rest cursor map ws) m))))
+          (λ d m. ap (λ r. next_in r from)
+          (re.1.1 d (apart_back node.clause_id d earlier (clause ∷ rest cursor map ws) once_parted
+          (in_rest d clause (rest cursor map ws) m))))
           (subst (λ m. IsChain (link ws from) (value_at m (literal_index from)) (earlier ++ node.clause_id ∷ clause ∷ rest cursor map ws)) (sym re.0)
           (subst (IsChain (link ws from) (value_at map (literal_index from))) parted_whole linked_whole))
 
   -- ---- the clause put first in the other list
 
   module _ (to : Lit) (other : is_literal_in to (watched_by ws clause) ≡ false) (map1 : WatchLists) (ws1 : Watches)
-      (relinked : IsRelinked cursor.previous from (next_at (record_of ws clause) (index_of cursor)) map ws map1 ws1) (map2 : WatchLists) (ws2 : Watches) (behind_it : Option ℕ)
+      (relinked : IsRelinked cursor.previous from (next_at (record_of ws clause) (index_of cursor)) map ws map1 ws1)
+      (map2 : WatchLists) (ws2 : Watches) (behind_it : Option ℕ)
       (behind_is : behind_it ≡ value_at map1 (literal_index to)) (first : IsUpdate (value_at map1) (literal_index to) (Some clause) (value_at map2))
       (watch_set : IsUpdate (record_of ws1) clause (with_watch (index_of cursor) to behind_it (record_of ws1 clause)) (record_of ws2)) where
     un : Unlinked from clause (passed cursor map ws ++ rest cursor map ws) (rest cursor map ws) map ws map1 ws1
@@ -222,7 +238,8 @@ module _ (cursor : Position) (map : WatchLists) (ws : Watches) (stands : StandsI
     )
 
     pub exact_after : IsExact (watched_by ws2) (moved clause from to (watchers map ws))
-    exact_after = moved_exact (watched_by ws) (watched_by ws2) (watchers map ws) clause stands.watched.exact (index_of cursor) from to stands.within stands.watch other literals_after
+    exact_after = moved_exact (watched_by ws) (watched_by ws2) (watchers map ws) clause stands.watched.exact
+        (index_of cursor) from to stands.within stands.watch other literals_after
 
     links_after : (c : ℕ) (b : Bool) → nat_eq c clause ≡ b → HasTwoLinks (record_of ws2 c)
     links_after c true e = rw (eqb-true c clause e, at_clause) (watch_links (index_of cursor) to behind_it (record_of ws clause) (stands.watched.links clause))
@@ -237,9 +254,12 @@ module _ (cursor : Position) (map : WatchLists) (ws : Watches) (stands : StandsI
     -- the list of the other literal
     to_linked : IsChain (link ws2 to) (value_at map2 (literal_index to)) (clause ∷ watchers map ws to)
     to_linked =
-        let two_after : AreTwoOrNone (literals_in (with_watch (index_of cursor) to behind_it (record_of ws clause))) = subst (λ r. AreTwoOrNone (literals_in r)) at_clause (exact_after.two clause) in
+        let two_after : AreTwoOrNone (literals_in (with_watch (index_of cursor) to behind_it (record_of ws clause))) =
+        subst (λ r. AreTwoOrNone (literals_in r)) at_clause (exact_after.two clause) in
         let its_link : link ws2 to clause ≡ value_at map (literal_index to) =
-        ap (λ r. next_in r to) at_clause ∙ (record_watch_set (index_of cursor) to (record_of ws clause) behind_it two_clause stands.within two_after (stands.watched.links clause)
+        ap (λ r. next_in r to) at_clause ∙
+        (record_watch_set (index_of cursor) to (record_of ws clause) behind_it two_clause stands.within two_after
+        (stands.watched.links clause)
         ∙ (behind_is ∙ un.heads to to_from)) in (
           first.0,
           subst (λ o. IsChain (link ws2 to) o (watchers map ws to)) (sym its_link)
@@ -249,7 +269,10 @@ module _ (cursor : Position) (map : WatchLists) (ws : Watches) (stands : StandsI
         kept : (c : ℕ) → is_clause_in c (watchers map ws to) ≡ true → link ws2 to c ≡ link ws to c
         kept c m =
             let watches_it : is_literal_in to (watched_by ws c) ≡ true = sym (stands.watched.exact.stands to c) ∙ m in
-            let ne : c ≢ clause = λ e. (let w : is_literal_in to (watched_by ws clause) ≡ true = subst (λ x. is_literal_in to (watched_by ws x) ≡ true) e watches_it in let z : true ≡ false = sym w ∙ other in cc) in
+            let ne : c ≢ clause = λ e.
+            (let w : is_literal_in to (watched_by ws clause) ≡
+            true = subst (λ x. is_literal_in to (watched_by ws x) ≡ true) e watches_it in
+            let z : true ≡ false = sym w ∙ other in cc) in
             ap (λ r. next_in r to) (watch_set.1 c ne) ∙ un.others to c watches_it to_from
 
     -- what is left of the walked list
@@ -270,17 +293,21 @@ module _ (cursor : Position) (map : WatchLists) (ws : Watches) (stands : StandsI
         kept c m = ap (λ r. next_in r from) (watch_set.1 c (outside c (passed cursor map ws) (rest cursor map ws) once m))
 
     -- every other list
-    else_linked : (l : Lit) → same_literal l to ≡ false → same_literal l from ≡ false → IsChain (link ws2 l) (value_at map2 (literal_index l)) (watchers map ws l)
+    else_linked : (l : Lit) → same_literal l to ≡ false → same_literal l from ≡ false →
+        IsChain (link ws2 l) (value_at map2 (literal_index l)) (watchers map ws l)
     else_linked l t f =
         subst (λ o. IsChain (link ws2 l) o (watchers map ws l)) (sym (first.1 (literal_index l) (index_apart l to t) ∙ un.heads l f))
-        (chain_same (link ws l) (link ws2 l) (value_at map (literal_index l)) (watchers map ws l) (λ c m. kept c m (nat_eq c clause) refl) (stands.watched.linked l))
+        (chain_same (link ws l) (link ws2 l) (value_at map (literal_index l))
+        (watchers map ws l) (λ c m. kept c m (nat_eq c clause) refl) (stands.watched.linked l))
       where
         kept : (c : ℕ) → is_clause_in c (watchers map ws l) ≡ true → (b : Bool) → nat_eq c clause ≡ b → link ws2 l c ≡ link ws l c
         kept c m true e =
             let is = eqb-true c clause e in
-            let watches_it : is_literal_in l (watched_by ws clause) ≡ true = subst (λ x. is_literal_in l (watched_by ws x) ≡ true) is (sym (stands.watched.exact.stands l c) ∙ m) in
+            let watches_it : is_literal_in l (watched_by ws clause) ≡ true =
+            subst (λ x. is_literal_in l (watched_by ws x) ≡ true) is (sym (stands.watched.exact.stands l c) ∙ m) in
             subst (λ x. link ws2 l x ≡ link ws l x) (sym is)
-            (ap (λ r. next_in r l) at_clause ∙ record_watch_kept (index_of cursor) from (record_of ws clause) behind_it to l two_clause stands.within stands.watch watches_it f t)
+            (ap (λ r. next_in r l) at_clause ∙ record_watch_kept (index_of cursor) from
+            (record_of ws clause) behind_it to l two_clause stands.within stands.watch watches_it f t)
         kept c m false e =
             ap (λ r. next_in r l) (watch_set.1 c (eqb-false c clause e)) ∙ un.others l c (sym (stands.watched.exact.stands l c) ∙ m) f
 
@@ -288,7 +315,8 @@ module _ (cursor : Position) (map : WatchLists) (ws : Watches) (stands : StandsI
     linked_after l = go (same_literal l to) refl (same_literal l from) refl
       where
         go : (t : Bool) → same_literal l to ≡ t → (f : Bool) → same_literal l from ≡ f →
-            IsChain (link ws2 l) (value_at map2 (literal_index l)) (cond t (clause ∷ watchers map ws l) (cond f (without clause (watchers map ws l)) (watchers map ws l)))
+            IsChain (link ws2 l) (value_at map2 (literal_index l))
+            (cond t (clause ∷ watchers map ws l) (cond f (without clause (watchers map ws l)) (watchers map ws l)))
         go true e f h = subst (λ x. IsChain (link ws2 x) (value_at map2 (literal_index x)) (clause ∷ watchers map ws x)) (sym (same_is l to e)) to_linked
         go false e true h =
             subst (λ x. IsChain (link ws2 x) (value_at map2 (literal_index x)) (without clause (watchers map ws x))) (sym (same_is l from h))
@@ -323,7 +351,8 @@ module _ (cursor : Position) (map : WatchLists) (ws : Watches) (stands : StandsI
     previous_after None front = front
     previous_after (Some node) front =
         let ends : passed cursor map ws ≡ front.1.0 ++ node.clause_id ∷ [] = front.1.1 in
-        let there : is_clause_in node.clause_id (passed cursor map ws) ≡ true = subst (λ xs. is_clause_in node.clause_id xs ≡ true) (sym ends) (in_middle node.clause_id front.1.0 []) in
+        let there : is_clause_in node.clause_id (passed cursor map ws) ≡ true =
+        subst (λ xs. is_clause_in node.clause_id xs ≡ true) (sym ends) (in_middle node.clause_id front.1.0 []) in
         let ne : node.clause_id ≢ clause = apart_front clause node.clause_id (passed cursor map ws) (rest cursor map ws) once there in
         let same : watched_by ws2 node.clause_id ≡ watched_by ws node.clause_id = literals_after.1 node.clause_id ne in
         (record { within = rw same front.0.within; watch = rw same front.0.watch }, front.1)
@@ -338,4 +367,5 @@ module _ (cursor : Position) (map : WatchLists) (ws : Watches) (stands : StandsI
       pub goes_on : (result : Option Position) → IsCursorAt ws2 from cursor.previous next result →
           (remaining result map2 ws2 ≡ rest cursor map ws) × IfSome result (StandsBehind (passed cursor map ws) from map2 ws2)
       goes_on result =
-          arrived map2 ws2 watched_after from cursor.previous (passed cursor map ws) (rest cursor map ws) left_after (previous_after cursor.previous stands.placed) next result linked_now
+          arrived map2 ws2 watched_after from cursor.previous (passed cursor map ws) (rest cursor map ws) left_after
+          (previous_after cursor.previous stands.placed) next result linked_now

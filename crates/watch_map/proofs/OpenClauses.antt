@@ -1,16 +1,11 @@
 -- How many clauses aren't true: what a saturation makes fewer with each entry.
 use Rattle.std.proofs.Common.{◌≡◌, ℕ, zero, suc, ◌+◌, ◌<◌, ◌≤◌, Bool, true, false, cond, List, refl, subst, arith, nat_eq, eqb-true}
 use Rattle.std.specs.Prelude.{if◌then◌else◌}
-use Rattle.std.specs.List.{list_any}
 use Rattle.std.proofs.lemmas.Bool.{eqb-false}
 use Rattle.decisions.specs.Literals.{Lit, Values}
-use Rattle.watch_map.specs.WatchInvariant.{Extends, is_true_literal}
+use Rattle.watch_map.specs.WatchInvariant.{Extends, is_true_literal, is_true}
 use Rattle.watch_map.proofs.LiteralLists.{by_test, any_at, passes_of}
 use Rattle.watch_map.proofs.ValueLaws.{true_kept}
-
--- whether a clause of these literals is true
-abbrev pub is_true : Values → List Lit → Bool
-is_true now literals = list_any (is_true_literal now) literals
 
 -- how many of the clauses below the bound aren't
 abbrev pub count_open : (ℕ → List Lit) → ℕ → Values → ℕ

@@ -1,6 +1,8 @@
 -- The rounds of a saturation: the next place, the clauses that watch nothing, the end, and what gets smaller.
 use Rattle.std.specs.Prelude.{MatchOption, is_some, slice_get}
-use Rattle.std.proofs.Common.{◌≡◌, ◌≢◌, ℕ, ◌+◌, ◌-◌, ◌<◌, ◌≤◌, true, false, List, [], ◌∷◌, ◌++◌, length, map, get_or, Option, Some, None, refl, sym, ap, subst, ◌∙◌, arith, nat_eq, eqb-true, take_all, length-append}
+use Rattle.std.proofs.Common.{◌≡◌, ◌≢◌, ℕ, ◌+◌, ◌-◌, ◌<◌, ◌≤◌, true, false, List, [], ◌∷◌}
+use Rattle.std.proofs.Common.{◌++◌, length, map, get_or, Option, Some, None, refl, sym, ap}
+use Rattle.std.proofs.Common.{subst, ◌∙◌, arith, nat_eq, eqb-true, take_all, length-append}
 use Rattle.std.proofs.lemmas.Bool.{eqb-false, or_left}
 use Rattle.std.proofs.lemmas.List.{length-map, get_or_append_left, get_or-map}
 use Rattle.std.proofs.lemmas.Option.{slice_get-get_or, slice_get_within, get_or_from_slice_get}
@@ -12,11 +14,12 @@ use Rattle.watch_map.specs.Watching.{is_literal_in, AreTwoOrNone}
 use Rattle.watch_map.specs.Forcing.{IsSettled, AreSettled}
 use Rattle.watch_map.specs.WatchLists.{WatchLists, Watches, watched_by, AreWatched}
 use Rattle.watch_map.specs.Saturation.{WatchOwn, HasForced, IsRearranged}
-use Rattle.watch_map.specs.WatchInvariant.{refuted_literal, AreMet, AreMetBut, val_before}
+use Rattle.watch_map.specs.WatchInvariant.{refuted_literal, AreMet, AreMetBut, KeepsMet, val_before}
 use Rattle.watch_map.specs.Visits.{AreUnwatchedSettled}
 use Rattle.watch_map.proofs.WatchingLaws.{same_self}
 use Rattle.watch_map.proofs.LiteralLists.{by_test}
 use Rattle.watch_map.proofs.OpenClauses.{count_open}
+use Rattle.watch_map.proofs.ValueLaws.{extends_on}
 use Rattle.watch_map.proofs.ForcingLaws.{forced_extends, forced_longer, forced_same, forced_before, forced_fewer}
 use Rattle.watch_map.proofs.MetLaws.{met_kept, met_one_more, met_not_false, met_not_forcing}
 
@@ -24,6 +27,12 @@ use Rattle.watch_map.proofs.MetLaws.{met_kept, met_one_more, met_not_false, met_
 pub none_case : {X : Type 0} (A : Type 0) (B : X → Type 0) (o : Option X) → MatchOption o A B → is_some o ≡ false → A
 none_case A B None h n = h
 none_case A B (Some x) h n = absurd (let z : true ≡ false = n in cc)
+
+-- where one was
+pub some_case : {X : Type 0} (A A' : Type 0) (B : X → Type 0) (o : Option X) → MatchOption o A B → is_some o ≡ true
+    → MatchOption o A' B
+some_case A A' B None h s = absurd (let z : false ≡ true = s in cc)
+some_case A A' B (Some x) h s = h
 
 -- ---- the entry at a place
 
@@ -64,6 +73,7 @@ pub record IsPropagated (literals : ℕ → List Lit) (level : ℕ) (t : Trail) 
   pub rearranged : IsRearranged literals w (watched_by watches)
   pub forced : HasForced literals level t t'
   pub met : AreMet (val_before place t'.entries) (val t'.entries) (watched_by watches)
+  pub kept : KeepsMet (val t.entries) w (watched_by watches)
 
 pub rearranged_then : (literals a b c : ℕ → List Lit) → IsRearranged literals a b → IsRearranged literals b c
     → IsRearranged literals a c
@@ -74,9 +84,11 @@ module _ (literals : ℕ → List Lit) (level : ℕ) where
   pub place_reached : (a b : Trail) (place : ℕ) (l : Lit) (watched : ℕ → List Lit) → place < length a.entries
       → ((e : Entry) → slice_get a.entries place ≡ Some e → l ≡ refuted_literal e.decision)
       → HasForced literals level a b
-      → AreMet (val_before place a.entries) (val b.entries) watched → AreMetBut [] l (val b.entries) watched
+      → AreMet (val_before place a.entries) (val a.entries) watched → AreMetBut [] l (val b.entries) watched
       → AreMet (val_before (place + 1) b.entries) (val b.entries) watched
-  place_reached a b place l watched within is_l f met one =
+  place_reached a b place l watched within is_l f met_by_a one =
+      let met = met_kept (val_before place a.entries) (val a.entries) (val b.entries) watched
+      (forced_extends literals level a b f) met_by_a in
       let has = has_entry a.entries place within in
       let e = has.0 in
       let there : slice_get b.entries place ≡ Some e = subst (λ es. slice_get es place ≡ Some e) (sym f.entries)
@@ -85,6 +97,14 @@ module _ (literals : ℕ → List Lit) (level : ℕ) where
       met_one_more b.entries place e (val b.entries) watched there
       (subst (λ (v : Values). AreMet v (val b.entries) watched) (sym as_before) met)
       (subst (λ x. AreMetBut [] x (val b.entries) watched) (is_l e has.1) one)
+
+  -- what is kept by each of two steps is kept by both
+  pub keeps_then : (a b : Trail) (w w' w'' : ℕ → List Lit) → HasForced literals level a b
+      → KeepsMet (val a.entries) w w' → KeepsMet (val b.entries) w' w'' → KeepsMet (val a.entries) w w''
+  keeps_then a b w w' w'' f first second before seen ex ex_seen met =
+      let grown = forced_extends literals level a b f in
+      second before seen (extends_on before (val a.entries) (val b.entries) ex grown)
+      (extends_on seen (val a.entries) (val b.entries) ex_seen grown) (first before seen ex ex_seen met)
 
   -- what is met at all entries is met at the place behind them
   pub place_kept : (a b : Trail) (watched : ℕ → List Lit) → HasForced literals level a b

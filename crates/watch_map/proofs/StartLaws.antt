@@ -1,5 +1,6 @@
 -- A new map, room in it, and a clause that starts to watch.
-use Rattle.std.proofs.Common.{◌≡◌, ◌≢◌, ℕ, zero, suc, ◌<◌, ◌≤◌, ◌+◌, Bool, true, false, ◌||◌, cond, nat_eq, List, [], ◌∷◌, Option, Some, None, length, slice_index_or, sym, ap, refl, subst, ◌∙◌, arith}
+use Rattle.std.proofs.Common.{◌≡◌, ◌≢◌, ℕ, zero, suc, ◌<◌, ◌≤◌, ◌+◌, Bool, true, false, ◌||◌, cond, nat_eq, List}
+use Rattle.std.proofs.Common.{[], ◌∷◌, Option, Some, None, length, slice_index_or, sym, ap, refl, subst, ◌∙◌, arith}
 use Rattle.std.specs.List.{IsDistinct}
 use Rattle.std.specs.Prelude.{Result, Ok, Err, OnOk, OnErr, max}
 use Rattle.typed_ids.specs.declared.error.StoreError.{StoreError}
@@ -11,7 +12,8 @@ use Rattle.id_storage.specs.Mapping.{value_at, AreEmpty}
 use Rattle.watch_map.specs.declared.watched_literals.WatchedLiterals.{WatchedLiterals}
 use Rattle.clauses.specs.Clauses.{same_literal}
 use Rattle.watch_map.specs.Watching.{is_literal_in, is_clause_in, AreTwo, IsExact, started}
-use Rattle.watch_map.specs.WatchLists.{WatchLists, Watches, record_of, literals_in, watched_by, next_in, link, chain, IsChain, watchers, HasTwoLinks, HasRoom, AreWatched}
+use Rattle.watch_map.specs.WatchLists.{WatchLists, Watches, record_of, literals_in, watched_by, next_in}
+use Rattle.watch_map.specs.WatchLists.{link, chain, IsChain, watchers, HasTwoLinks, HasRoom, AreWatched}
 use Rattle.watch_map.specs.WatchCalls.{SameLists, Starts, KeepsRoom, UsesRoom}
 use Rattle.watch_map.proofs.WatchingLaws.{same_is, same_self, same_swap, exact_same, started_exact}
 use Rattle.watch_map.proofs.ChainLaws.{chain_same}
@@ -120,7 +122,8 @@ module _ (clause : ℕ) (a b : Lit) (two : same_literal a b ≡ false) (r0 r1 r2
         where
           ne : c ≢ clause
           ne e =
-              let i : is_literal_in l (watched_by before clause) ≡ true = subst (λ z. is_literal_in l (watched_by before z) ≡ true) e (sym (watched2.exact.stands l c) ∙ m) in
+              let i : is_literal_in l (watched_by before clause) ≡ true =
+              subst (λ z. is_literal_in l (watched_by before z) ≡ true) e (sym (watched2.exact.stands l c) ∙ m) in
               let z : false ≡ true = subst (λ ls. is_literal_in l ls ≡ true) none i in cc
 
       behind : (l : Lit) → value_at r4 (literal_index l) ≡ Some clause → link after l clause ≡ value_at r2 (literal_index l) →
@@ -143,7 +146,9 @@ module _ (clause : ℕ) (a b : Lit) (two : same_literal a b ≡ false) (r0 r1 r2
               subst (λ z. IsChain (link after z) (value_at r4 (literal_index z)) (clause ∷ watchers r2 before z)) (sym (same_is l b h))
               (behind b first_b.0 (ap (λ r. next_in r b) update.0 ∙ rw b_a (y_is ∙ first_a.1 (literal_index b) (index_apart b a b_a))))
           go false e false h =
-              subst (λ o. IsChain (link after l) o (watchers r2 before l)) (sym (first_b.1 (literal_index l) (index_apart l b h) ∙ first_a.1 (literal_index l) (index_apart l a e)))
+              subst (λ o. IsChain (link after l) o (watchers r2 before l))
+              (sym (first_b.1 (literal_index l) (index_apart l b h) ∙
+              first_a.1 (literal_index l) (index_apart l a e)))
               (chain_same (link before l) (link after l) (value_at r2 (literal_index l)) (watchers r2 before l) (kept l) (watched2.linked l))
 
       exact : IsExact (watched_by after) (started clause (a ∷ b ∷ []) (watchers r2 before))

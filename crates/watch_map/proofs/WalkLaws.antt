@@ -1,17 +1,17 @@
 -- A walk over the clauses that watch a literal: what each of its steps leaves.
 use Rattle.std.specs.Prelude.{IfSome}
 use Rattle.std.proofs.Common.{◌≡◌, ℕ, true, List, ◌∷◌, slice_index_or, Option, Some, None, subst, ◌∙◌}
-use Rattle.decisions.specs.Literals.{Lit, Values, is_false_literal}
+use Rattle.decisions.specs.Literals.{Lit, is_false_literal}
 use Rattle.decisions.specs.Trail.{Trail, val}
 use Rattle.watch_map.specs.WatchLists.{WatchLists, Watches, Position, watched_by, AreWatched, IsNode, clause_of, index_of, literal_of}
 use Rattle.watch_map.specs.WatchCalls.{StandsIn, StandsBehind, Moves, rest}
 use Rattle.watch_map.specs.Saturation.{HasForced, IsRearranged}
-use Rattle.watch_map.specs.WatchInvariant.{Extends, has_true_beside, AreMet, AreMetBut}
+use Rattle.watch_map.specs.WatchInvariant.{has_true_beside, KeepsMet, AreMetBut}
 use Rattle.watch_map.specs.Visits.{IsWatching, MayWatch}
 use Rattle.watch_map.proofs.LiteralLists.{read_in}
-use Rattle.watch_map.proofs.ValueLaws.{extends_self, extends_on, false_kept}
+use Rattle.watch_map.proofs.ValueLaws.{extends_on, false_kept}
 use Rattle.watch_map.proofs.ForcingLaws.{forced_then, forced_extends}
-use Rattle.watch_map.proofs.MetLaws.{met_kept, met_but_kept, met_but_next, moved_own, moved_as_many, moved_met, moved_met_but}
+use Rattle.watch_map.proofs.MetLaws.{met_but_kept, met_but_next, moved_own, moved_as_many, moved_met, moved_met_but}
 
 -- a cursor stands in the list of the literal, where there is one
 pub record IsAt (l : Lit) (map : WatchLists) (watches : Watches) (at : Position) : Type 0 where
@@ -29,8 +29,7 @@ pub record IsWalked (literals : ℕ → List Lit) (level : ℕ) (l : Lit) (t : T
   pub watched : AreWatched map watches
   pub rearranged : IsRearranged literals w (watched_by watches)
   pub forced : HasForced literals level t t'
-  pub kept : (before : Values) → Extends before (val t.entries) → AreMet before (val t.entries) w
-      → AreMet before (val t'.entries) (watched_by watches)
+  pub kept : KeepsMet (val t.entries) w (watched_by watches)
   pub ahead_met : AreMetBut ahead l (val t'.entries) (watched_by watches)
 
 module _ (literals : ℕ → List Lit) (level : ℕ) (l : Lit) (t : Trail) (w : ℕ → List Lit) where
@@ -44,8 +43,7 @@ module _ (literals : ℕ → List Lit) (level : ℕ) (l : Lit) (t : Trail) (w : 
         watched = walked.watched;
         rearranged = walked.rearranged;
         forced = forced_then literals level t t' t'' walked.forced f;
-        kept = λ before old met. met_kept before (val t'.entries) (val t''.entries) (watched_by watches) ex
-            (walked.kept before old met);
+        kept = walked.kept;
         ahead_met = met_but_kept ahead l (val t'.entries) (val t''.entries) (watched_by watches) ex walked.ahead_met;
       }
 
@@ -88,10 +86,11 @@ module _ (literals : ℕ → List Lit) (level : ℕ) (l : Lit) (t : Trail) (w : 
               ∙ walked.rearranged.as_many d;
         };
         forced = walked.forced;
-        kept = λ past ex met. moved_met before after c index l to two within read may.unwatched moves.literals now
-            l_false may.not_false past now
-            (extends_on past (val t.entries) now ex (forced_extends literals level t t' walked.forced))
-            (extends_self now) here (walked.kept past ex met);
+        kept = λ past seen ex ex_seen met.
+            let grown = forced_extends literals level t t' walked.forced in
+            moved_met before after c index l to two within read may.unwatched moves.literals now l_false may.not_false
+            past seen (extends_on past (val t.entries) now ex grown) (extends_on seen (val t.entries) now ex_seen grown)
+            here (walked.kept past seen ex ex_seen met);
         ahead_met = moved_met_but before after c index l to two within read may.unwatched moves.literals now l_false
             may.not_false (rest cursor map watches) walked.ahead_met;
       }

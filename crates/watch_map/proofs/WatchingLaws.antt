@@ -1,5 +1,7 @@
 -- Starting and moving a watch keep the lists exact; what stands before and behind a clause.
-use Rattle.std.proofs.Common.{◌≡◌, ◌≢◌, ℕ, zero, suc, ◌<◌, ◌≤◌, Bool, true, false, not, ◌&&◌, ◌||◌, cond, nat_eq, List, [], ◌∷◌, ◌++◌, sym, ap, refl, subst, ◌∙◌, arith, length, slice_index_or, set, eqb-true, eq-eqb}
+use Rattle.std.proofs.Common.{◌≡◌, ◌≢◌, ℕ, zero, suc, ◌<◌, ◌≤◌, Bool, true, false, not, ◌&&◌}
+use Rattle.std.proofs.Common.{◌||◌, cond, nat_eq, List, [], ◌∷◌, ◌++◌, sym, ap, refl, subst}
+use Rattle.std.proofs.Common.{◌∙◌, arith, length, slice_index_or, set, eqb-true, eq-eqb}
 use Rattle.std.proofs.lemmas.Bool.{eqb-false}
 use Rattle.std.specs.List.{AllByRecursion, IsDistinct}
 use Rattle.std.proofs.lemmas.Map.Steps.{length-le_from_distinct_below}
@@ -150,7 +152,8 @@ unfolding IsDistinct
 distinct_without c [] d = tt
 distinct_without c (x ∷ cs) d = go (not (nat_eq x c)) (all_without (λ y. nat_eq x y ≡ false) c cs d.0) (distinct_without c cs d.1)
   where
-    go : (b : Bool) → AllByRecursion (λ y. nat_eq x y ≡ false) (without c cs) → IsDistinct nat_eq (without c cs) → IsDistinct nat_eq (cond b (x ∷ without c cs) (without c cs))
+    go : (b : Bool) → AllByRecursion (λ y. nat_eq x y ≡ false) (without c cs) → IsDistinct nat_eq (without c cs) →
+        IsDistinct nat_eq (cond b (x ∷ without c cs) (without c cs))
     go true r s = (r, s)
     go false r s = s
 
@@ -259,7 +262,8 @@ module _ (watched watched' : ℕ → List Lit) (lists : Lit → List ℕ) (claus
           record {
             two = same_swap a to ∙ to_a;
             is_to = rw (same_self to) (or_true (same_literal to a));
-            was_from = subst (λ x. (same_literal from a || (same_literal from x || false)) ≡ true) (sym r) (rw (same_self from) (or_true (same_literal from a)));
+            was_from = subst (λ x. (same_literal from a || (same_literal from x || false)) ≡ true) (sym r)
+                (rw (same_self from) (or_true (same_literal from a)));
             is_from = rw (from_to, from_a) refl;
             others = λ l p q. let lb : same_literal l b ≡ false = subst (λ x. same_literal l x ≡ false) (sym r) q in rw (p, lb) refl;
           }
@@ -295,10 +299,12 @@ module _ (watched watched' : ℕ → List Lit) (lists : Lit → List ℕ) (claus
       stands l c true e f q false h = rw (h, update.1 c (eqb-false c clause h)) (ex.stands l c)
       stands l c false e true q true h =
           let gone : is_clause_in c (without clause (lists l)) ≡ false = rw (in_without clause c (lists l), h) (and_false (is_clause_in c (lists l))) in
-          let unwatched : is_literal_in l (watched' clause) ≡ false = subst (λ x. is_literal_in x (watched' clause) ≡ false) (sym (same_is l from q)) re.is_from in
+          let unwatched : is_literal_in l (watched' clause) ≡ false =
+          subst (λ x. is_literal_in x (watched' clause) ≡ false) (sym (same_is l from q)) re.is_from in
           gone ∙ sym (subst (λ x. is_literal_in l (watched' x) ≡ false) (sym (eqb-true c clause h)) unwatched)
       stands l c false e true q false h =
-          let stays : is_clause_in c (without clause (lists l)) ≡ is_clause_in c (lists l) = rw (in_without clause c (lists l), h) (and_true (is_clause_in c (lists l))) in
+          let stays : is_clause_in c (without clause (lists l)) ≡ is_clause_in c (lists l) =
+          rw (in_without clause c (lists l), h) (and_true (is_clause_in c (lists l))) in
           stays ∙ (ex.stands l c ∙ ap (is_literal_in l) (sym (update.1 c (eqb-false c clause h))))
       stands l c false e false q true h = rw (eqb-true c clause h) (ex.stands l clause ∙ sym (re.others l e q))
       stands l c false e false q false h = rw (update.1 c (eqb-false c clause h)) (ex.stands l c)

@@ -1,5 +1,7 @@
 -- The clauses of a store, what each of them watches, and the literals of the learnt ones. N are the names of packages.
-use Rattle.std.specs.Prelude.{◌≡◌, ℕ, ◌+◌, ◌-◌, ◌<◌, ◌≤◌, ◌^◌, Bool, false, not, nat_lt, fold, ◌&&◌, ◌||◌, if◌then◌else◌, List, [], ◌∷◌, ◌++◌, map, length, slice_set, slice_index_or, Option, option_map, unwrap_or}
+use Rattle.std.specs.Prelude.{◌≡◌, ℕ, ◌+◌, ◌-◌, ◌<◌, ◌≤◌, ◌^◌, Bool, false, not, nat_lt, fold}
+use Rattle.std.specs.Prelude.{◌&&◌, ◌||◌, if◌then◌else◌, List, [], ◌∷◌, ◌++◌, map, length}
+use Rattle.std.specs.Prelude.{slice_set, slice_index_or, Option, option_map, unwrap_or}
 use Rattle.std.specs.List.{All}
 use Rattle.typed_ids.specs.Refusals.{are_ids_out}
 use Rattle.decisions.specs.Literals.{Lit, Pos, Neg}
@@ -100,7 +102,8 @@ module _ {N : Type 0} where
 
   -- the clause watches the one literal, and not the other
   abbrev pub can_rewatch : Clauses N → ℕ → Lit → Lit → Bool
-  can_rewatch cs clause from to = is_literal_in from (watched_by cs clause) && not (is_literal_in to (watched_by cs clause))
+  can_rewatch cs clause from to = is_literal_in from (watched_by cs clause) &&
+      not (is_literal_in to (watched_by cs clause))
 
   -- the clause watches another literal in the place of one
   abbrev pub with_rewatched : Clauses N → ℕ → Lit → Lit → Clauses N
@@ -115,7 +118,8 @@ module _ {N : Type 0} where
 
   -- one more clause "not x or h", or "not x or not h", by the name
   abbrev pub with_forbidden_one : N → Clauses N → ℕ × ℕ × Bool → Clauses N
-  with_forbidden_one name cs bit = with_clause cs (ForbidMultipleInstances bit.0 (helper_literal bit) name) (bit_watches bit)
+  with_forbidden_one name cs bit = with_clause cs (ForbidMultipleInstances bit.0 (helper_literal bit) name)
+      (bit_watches bit)
 
   -- one such clause more for each of these, in order
   abbrev pub with_forbidden : N → Clauses N → List (ℕ × ℕ × Bool) → Clauses N

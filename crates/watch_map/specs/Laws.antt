@@ -4,14 +4,16 @@ use Rattle.typed_ids.specs.TotalMaps.{IsUpdate}
 use Rattle.decisions.specs.Literals.{Lit}
 use Rattle.watch_map.specs.declared.watched_literals.WatchedLiterals.{WatchedLiterals}
 use Rattle.watch_map.specs.Watching.{is_clause_in, started}
-use Rattle.watch_map.specs.WatchLists.{WatchLists, Watches, Position, record_of, watched_by, watchers, HasRoom, AreWatched, literal_of, clause_of}
+use Rattle.watch_map.specs.WatchLists.{WatchLists, Watches, Position, record_of, watched_by}
+use Rattle.watch_map.specs.WatchLists.{watchers, HasRoom, AreWatched, literal_of, clause_of}
 use Rattle.watch_map.specs.WatchCalls.{SameLists, Starts, StandsIn, passed, rest}
 
 -- ---- records
 
 -- records that are the same at each id belong to the map as well, and show the same lists
 abbrev pub SameRecordsBelong : Type 0
-SameRecordsBelong = (map : WatchLists) (old new : Watches) → ((clause : ℕ) → record_of new clause ≡ record_of old clause)
+SameRecordsBelong = (map : WatchLists) (old new : Watches) →
+    ((clause : ℕ) → record_of new clause ≡ record_of old clause)
     → AreWatched map old → AreWatched map new × ((l : Lit) → watchers map new l ≡ watchers map old l)
 
 -- at the end there is room for the record of a new clause, which watched nothing before
@@ -21,9 +23,11 @@ RecordsGrow = (watches : Watches) (watched : WatchedLiterals) → (watched_by wa
 
 -- a clause that starts with the next id belongs to the map once its record stands at the end
 abbrev pub NewClausesJoin : Type 0
-NewClausesJoin = (old new : WatchLists) (watches : Watches) (watched : WatchedLiterals) (clause : ℕ) → AreWatched old watches
+NewClausesJoin = (old new : WatchLists) (watches : Watches) (watched : WatchedLiterals) (clause : ℕ) →
+    AreWatched old watches
     → Starts old watched clause new → clause ≡ length watches → AreWatched new (watches ++ Some watched ∷ [])
-    × ((l : Lit) → watchers new (watches ++ Some watched ∷ []) l ≡ started clause watched.watched_literals (watchers old watches) l)
+    × ((l : Lit) → watchers new (watches ++ Some watched ∷ []) l ≡
+    started clause watched.watched_literals (watchers old watches) l)
 
 -- a clause without watches changes no record
 abbrev pub RecordsSkip : Type 0

@@ -2,6 +2,7 @@ pub mod ClauseList
 pub mod ClauseListView
 pub mod Forcing
 pub mod Laws
+pub mod Marks
 pub mod Saturation
 pub mod Visits
 pub mod Walks

@@ -36,7 +36,8 @@ pub record HasForced (literals : ℕ → List Lit) (level : ℕ) (old new : Trai
   pub place : new.place ≡ old.place
   pub floor : new.floor ≡ old.floor
 
--- each clause watches its own literals, and as many as before: two or none. That the two differ is the lists' exactness.
+-- each clause watches its own literals, and as many as before: two or none. That the two differ is the lists'
+-- exactness.
 pub record IsRearranged (literals watched watched' : ℕ → List Lit) : Type 0 where
   pub own : WatchOwn literals watched'
   pub as_many : (c : ℕ) → length (watched' c) ≡ length (watched c)

@@ -6,7 +6,7 @@ use Rattle.clauses.specs.Stored.{kept_in}
 use Rattle.watch_map.specs.Watching.{is_literal_in, AreTwoOrNone}
 use Rattle.watch_map.specs.Forcing.{is_false, forces, IsSettled}
 use Rattle.watch_map.specs.Saturation.{literals_from, AreOwn}
-use Rattle.watch_map.specs.WatchInvariant.{has_true_beside}
+use Rattle.watch_map.specs.WatchInvariant.{has_true_beside, is_true}
 use Rattle.watch_map.specs.declared.saturation.given.Given.{Given}
 use Rattle.watch_map.specs.declared.saturation.unwatched.Finding.{Finding}
 use Rattle.watch_map.specs.declared.saturation.unwatched.Finding.TheVariants as Found
@@ -61,3 +61,8 @@ IsFinding now literals Found.Conflict = is_false now literals ≡ true
 -- those below the bound that watch nothing are settled
 abbrev pub AreUnwatchedSettled : (ℕ → List Lit) → (ℕ → List Lit) → ℕ → Values → Type 0
 AreUnwatchedSettled literals watched clauses now = (c : ℕ) → c < clauses → watched c ≡ [] → IsSettled now (literals c)
+
+-- each of them is true, and so stays settled whatever entries come
+abbrev pub AreUnwatchedTrue : (ℕ → List Lit) → (ℕ → List Lit) → ℕ → Values → Type 0
+AreUnwatchedTrue literals watched clauses now =
+    (c : ℕ) → c < clauses → watched c ≡ [] → is_true now (literals c) ≡ true

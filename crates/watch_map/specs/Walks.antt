@@ -11,7 +11,8 @@ use Rattle.watch_map.specs.ClauseList.{rewatched}
 abbrev pub StartsAtEnd : WatchLists → Option WatchedLiterals → ℕ → WatchLists → Type 0
 StartsAtEnd old watched clause new = (watches : Watches) → AreWatched old watches → clause ≡ length watches
     → AreWatched new (watches ++ watched ∷ [])
-    × ((l : Lit) → watchers new (watches ++ watched ∷ []) l ≡ started clause (literals_in watched) (watchers old watches) l)
+    × ((l : Lit) → watchers new (watches ++ watched ∷ []) l ≡
+    started clause (literals_in watched) (watchers old watches) l)
 
 -- the clause watches the one literal, and not the other
 abbrev pub may_rewatch : Watches → ℕ → Lit → Lit → Bool
@@ -19,8 +20,10 @@ may_rewatch watches clause from to =
     is_literal_in from (watched_by watches clause) && not (is_literal_in to (watched_by watches clause))
 
 -- the clause watches the other literal in the place of the one
-pub record IsRewatched (map : WatchLists) (watches : Watches) (clause : ℕ) (from to : Lit) (map' : WatchLists) (watches' : Watches) : Type 0 where
+pub record IsRewatched (map : WatchLists) (watches : Watches) (clause : ℕ) (from to : Lit) (map' : WatchLists)
+    (watches' : Watches) : Type 0 where
   pub watched : AreWatched map' watches'
   pub lists : (l : Lit) → watchers map' watches' l ≡ moved clause from to (watchers map watches) l
   pub as_many : length watches' ≡ length watches
-  pub literals : IsUpdate (watched_by watches) clause (rewatched from to (watched_by watches clause)) (watched_by watches')
+  pub literals : IsUpdate (watched_by watches) clause (rewatched from to (watched_by watches clause))
+      (watched_by watches')

@@ -1,10 +1,12 @@
 -- What the calls on watch lists promise: the words of their contracts, whatever the lists are kept as.
-use Rattle.std.specs.Prelude.{◌≡◌, ℕ, ◌+◌, ◌<◌, true, if◌then◌else◌, List, [], ◌∷◌, ◌++◌, length, Option, Some, None, slice_index_or, slice_set}
+use Rattle.std.specs.Prelude.{◌≡◌, ℕ, ◌+◌, ◌<◌, true, if◌then◌else◌, List, [], ◌∷◌, ◌++◌}
+use Rattle.std.specs.Prelude.{length, Option, Some, None, slice_index_or, slice_set}
 use Rattle.typed_ids.specs.TotalMaps.{IsUpdate}
 use Rattle.decisions.specs.Literals.{Lit}
 use Rattle.watch_map.specs.declared.watched_literals.WatchedLiterals.{WatchedLiterals}
 use Rattle.watch_map.specs.Watching.{is_literal_in, is_clause_in, started, moved, before, behind}
-use Rattle.watch_map.specs.WatchLists.{WatchLists, Watches, Position, record_of, watched_by, watchers, HasRoom, AreWatched, literal_of, clause_of, index_of, IsPlaced}
+use Rattle.watch_map.specs.WatchLists.{WatchLists, Watches, Position, record_of, watched_by, watchers}
+use Rattle.watch_map.specs.WatchLists.{HasRoom, AreWatched, literal_of, clause_of, index_of, IsPlaced}
 
 -- ---- lists
 
@@ -17,7 +19,8 @@ SameLists old new = (watches : Watches) → AreWatched old watches
 abbrev pub Starts : WatchLists → WatchedLiterals → ℕ → WatchLists → Type 0
 Starts old watched clause new = (before after : Watches) → AreWatched old before → watched_by before clause ≡ []
     → IsUpdate (record_of before) clause (Some watched) (record_of after)
-    → AreWatched new after × ((l : Lit) → watchers new after l ≡ started clause watched.watched_literals (watchers old before) l)
+    → AreWatched new after ×
+    ((l : Lit) → watchers new after l ≡ started clause watched.watched_literals (watchers old before) l)
 
 -- ---- room
 
@@ -58,19 +61,23 @@ pub record StandsIn (cursor : Position) (map : WatchLists) (watches : Watches) :
   pub watched : AreWatched map watches
   pub member : is_clause_in (clause_of cursor) (watchers map watches (literal_of cursor)) ≡ true
   pub within : index_of cursor < length (watched_by watches (clause_of cursor))
-  pub watch : slice_index_or (watched_by watches (clause_of cursor)) (index_of cursor) (literal_of cursor) ≡ literal_of cursor
+  pub watch : slice_index_or (watched_by watches (clause_of cursor)) (index_of cursor) (literal_of cursor) ≡
+      literal_of cursor
   pub placed : IsPlaced cursor map watches
 
 -- a cursor stands in the list of this literal, behind these of its clauses
-pub record StandsBehind (front : List ℕ) (literal : Lit) (map : WatchLists) (watches : Watches) (cursor : Position) : Type 0 where
+pub record StandsBehind (front : List ℕ) (literal : Lit) (map : WatchLists) (watches : Watches)
+    (cursor : Position) : Type 0 where
   pub stands : StandsIn cursor map watches
   pub literal_is : literal_of cursor ≡ literal
   pub front_is : passed cursor map watches ≡ front
 
 -- the clause at which a cursor stands watches another literal in the place of the cursor's
-pub record Moves (cursor : Position) (to : Lit) (map : WatchLists) (watches : Watches) (map' : WatchLists) (watches' : Watches) : Type 0 where
+pub record Moves (cursor : Position) (to : Lit) (map : WatchLists) (watches : Watches) (map' : WatchLists)
+    (watches' : Watches) : Type 0 where
   pub watched : AreWatched map' watches'
-  pub lists : (l : Lit) → watchers map' watches' l ≡ moved (clause_of cursor) (literal_of cursor) to (watchers map watches) l
+  pub lists : (l : Lit) → watchers map' watches' l ≡
+      moved (clause_of cursor) (literal_of cursor) to (watchers map watches) l
   pub walked : watchers map' watches' (literal_of cursor) ≡ passed cursor map watches ++ rest cursor map watches
   pub literals : IsUpdate (watched_by watches) (clause_of cursor)
       (slice_set (watched_by watches (clause_of cursor)) (index_of cursor) to) (watched_by watches')

@@ -25,6 +25,10 @@ refuted_literal d = if d.value then Neg d.variable else Pos d.variable
 abbrev pub is_true_literal : Values → Lit → Bool
 is_true_literal now l = known_true (truth now l)
 
+-- whether a clause of these literals is true: one of them is
+abbrev pub is_true : Values → List Lit → Bool
+is_true now literals = list_any (is_true_literal now) literals
+
 -- ---- watches
 
 -- whether, of the literals that a clause watches, another than this one is true: then the watch of this one is met
@@ -35,6 +39,11 @@ has_true_beside now watched l = list_any (λ m. not (same_literal m l) && is_tru
 abbrev pub AreMet : Values → Values → (ℕ → List Lit) → Type 0
 AreMet before now watched = (c : ℕ) (l : Lit) → is_literal_in l (watched c) ≡ true → is_false_literal before l ≡ true
     → has_true_beside now (watched c) l ≡ true
+
+-- what was false by earlier values than these, and met by such, is met where clauses watch other literals
+abbrev pub KeepsMet : Values → (ℕ → List Lit) → (ℕ → List Lit) → Type 0
+KeepsMet now watched watched' = (before seen : Values) → Extends before now → Extends seen now
+    → AreMet before seen watched → AreMet before seen watched'
 
 -- each watch of this literal is met, but for the clauses that its walk is yet to visit
 abbrev pub AreMetBut : List ℕ → Lit → Values → (ℕ → List Lit) → Type 0

@@ -1,6 +1,7 @@
 -- What a watch map, the records of all clauses and a cursor show: here the map has each literal's first clause, and a
 -- clause's record the next one in each of its two lists.
-use Rattle.std.specs.Prelude.{◌≡◌, ℕ, ◌<◌, ⊤, if◌then◌else◌, List, [], ◌∷◌, ◌++◌, length, Option, Some, None, MatchOption, slice_index_or, slice_set}
+use Rattle.std.specs.Prelude.{◌≡◌, ℕ, ◌<◌, ⊤, if◌then◌else◌, List, [], ◌∷◌, ◌++◌, length}
+use Rattle.std.specs.Prelude.{Option, Some, None, MatchOption, slice_index_or, slice_set}
 use Rattle.std.proofs.Common.{zero, suc}
 use Rattle.typed_ids.specs.TotalMaps.{IsUpdate}
 use Rattle.decisions.specs.Literals.{Lit}
@@ -116,18 +117,21 @@ pub record IsNode (watches : Watches) (l : Lit) (node : WatchNode) : Type 0 wher
 -- the node is the last in front
 abbrev pub IsPrevious : Watches → Lit → Option WatchNode → List ℕ → Type 0
 IsPrevious watches l None front = front ≡ []
-IsPrevious watches l (Some node) front = IsNode watches l node × ((earlier : List ℕ) × (front ≡ earlier ++ node.clause_id ∷ []))
+IsPrevious watches l (Some node) front = IsNode watches l node ×
+    ((earlier : List ℕ) × (front ≡ earlier ++ node.clause_id ∷ []))
 
 -- a cursor knows the node in front of the one at which it stands
 abbrev pub IsPlaced : Position → WatchLists → Watches → Type 0
 IsPlaced cursor map watches =
-    IsPrevious watches (literal_of cursor) cursor.previous (before (clause_of cursor) (watchers map watches (literal_of cursor)))
+    IsPrevious watches (literal_of cursor) cursor.previous
+    (before (clause_of cursor) (watchers map watches (literal_of cursor)))
 
 -- the position at this clause, where there is one
 abbrev pub IsCursorAt : Watches → Lit → Option WatchNode → Option ℕ → Option Position → Type 0
 IsCursorAt watches l previous None result = result ≡ None
 IsCursorAt watches l previous (Some clause) result = MatchOption result ⊥ (λ cursor.
-    (cursor.literal ≡ l) × (cursor.previous ≡ previous) × (cursor.current.clause_id ≡ clause) × IsNode watches l cursor.current)
+    (cursor.literal ≡ l) × (cursor.previous ≡ previous) × (cursor.current.clause_id ≡ clause) ×
+    IsNode watches l cursor.current)
 
 -- ---- one record written
 
@@ -153,4 +157,6 @@ abbrev pub IsRelinked : Option WatchNode → Lit → Option ℕ → WatchLists �
 IsRelinked None l next map watches map' watches' =
     IsUpdate (value_at map) (literal_index l) next (value_at map') × (watches' ≡ watches) × (length map' ≡ length map)
 IsRelinked (Some node) l next map watches map' watches' =
-    (map' ≡ map) × IsUpdate (record_of watches) node.clause_id (with_next node.watch_index next (record_of watches node.clause_id)) (record_of watches') × (length watches' ≡ length watches)
+    (map' ≡ map) × IsUpdate (record_of watches) node.clause_id
+    (with_next node.watch_index next (record_of watches node.clause_id)) (record_of watches') ×
+    (length watches' ≡ length watches)

@@ -1,5 +1,6 @@
 -- What clauses watch, and the lists of the clauses that watch each literal, as functions.
-use Rattle.std.specs.Prelude.{◌≡◌, ℕ, ◌+◌, ◌≤◌, ⊤, Bool, false, not, nat_eq, if◌then◌else◌, ◌==◌, List, [], ◌∷◌, filter, length}
+use Rattle.std.specs.Prelude.{◌≡◌, ℕ, ◌+◌, ◌≤◌, ⊤, Bool, false, not, nat_eq}
+use Rattle.std.specs.Prelude.{if◌then◌else◌, ◌==◌, List, [], ◌∷◌, filter, length}
 use Rattle.std.proofs.Common.{zero, suc}
 use Rattle.std.specs.List.{list_any, IsDistinct}
 use Rattle.decisions.specs.Literals.{Lit}
@@ -25,8 +26,8 @@ AreTwoOrNone [] = ⊤
 AreTwoOrNone (a ∷ b ∷ []) = same_literal a b ≡ false
 AreTwoOrNone _ = ⊥
 
--- Lists are exact: each clause watches nothing or two different literals, no list repeats a clause, and a clause stands in
--- the list of a literal exactly if it watches it.
+-- Lists are exact: each clause watches nothing or two different literals, no list repeats a clause, and a clause stands
+-- in the list of a literal exactly if it watches it.
 pub record IsExact (watched : ℕ → List Lit) (lists : Lit → List ℕ) : Type 0 where
   pub two : (clause : ℕ) → AreTwoOrNone (watched clause)
   pub once : (l : Lit) → IsDistinct nat_eq (lists l)

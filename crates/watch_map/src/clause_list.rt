@@ -1,25 +1,30 @@
 //! The clauses of a store.
 //!
 //! A store keeps each clause as a record of its kind, beside the two literals that it watches. Two lists of one length
-//! hold them, so that a walk over watches doesn't read the clauses. The literals of learnt clauses are in an arena, since
-//! their number isn't fixed; those of the other kinds follow from the record.
+//! hold them, so that a walk over watches doesn't read the clauses. The literals of learnt clauses are in an arena,
+//! since their number isn't fixed; those of the other kinds follow from the record.
 //!
 //! Clauses are added at the end, where each gets the next id, and watches its literals from then on. For a caller that
 //! adds a clause in more than one place, the room for it can be made before: then adding it isn't refused.
-ghost use Rattle.std.specs.Prelude.{◌≡◌, ℕ, ◌+◌, ◌<◌, ◌↔◌, Bool, List, [], length, map, slice_get, slice_index_or, false, if◌then◌else◌, option_map};
-ghost use Rattle.std.specs.Prelude.{◌≤◌, ◌^◌, MatchOption, IsTrue, IfOk, OnOk, OnErr, IfErr, Err};
+ghost use Rattle.std.specs.Prelude.{◌≡◌, ℕ, ◌+◌, ◌<◌, ◌↔◌, Bool, List, [], length, map, slice_get, slice_index_or};
+ghost use Rattle.std.specs.Prelude.{false, if◌then◌else◌, option_map};
+ghost use Rattle.std.specs.Prelude.{◌≤◌, ◌^◌, drop, MatchOption, IsTrue, IfOk, OnOk, OnErr, IfErr, Err};
 ghost use Rattle.typed_ids.specs.declared.error.StoreError.TheVariants.{IdSpace, OutOfMemory, BadWatch};
 ghost use Rattle.typed_ids.specs.Refusals.{IsGrowthRefusal};
 ghost use Rattle.watch_map.specs.Watching.{AreTwoOrNone};
-ghost use Rattle.watch_map.specs.ClauseList.{literals_watched, two_or_none, no_clauses, IsClauseList, is_full, is_learnt_full};
-ghost use Rattle.watch_map.specs.ClauseList.{contents, with_clause, with_learnt, with_rewatched, can_rewatch, HasRoom, KeepsRoom};
+ghost use Rattle.watch_map.specs.ClauseList.{literals_watched, two_or_none, no_clauses};
+ghost use Rattle.watch_map.specs.ClauseList.{IsClauseList, is_full, is_learnt_full};
+ghost use Rattle.watch_map.specs.ClauseList.{contents, with_clause, with_learnt};
+ghost use Rattle.watch_map.specs.ClauseList.{with_rewatched, can_rewatch, HasRoom, KeepsRoom};
 ghost use Rattle.watch_map.specs.ClauseList.{are_ids_out_for, with_forbidden, HasRoomFor, watched_by};
 ghost use Rattle.decisions.specs.Trail.{val};
 ghost use Rattle.clauses.specs.Stored.{kept_in};
 ghost use Rattle.watch_map.specs.Forcing.{AreSettled, IsConflict};
 ghost use Rattle.watch_map.specs.Saturation.{literals_in_list, WatchOwn, HasForced, IsRearranged};
+ghost use Rattle.watch_map.specs.Marks.{AreMarks, none_false_at, none_watched_false};
 
 use crate::lists::WatchMap;
+use crate::marks::Marks;
 use crate::saturation::{self, Given};
 use crate::walks;
 use crate::watched_literals::WatchedLiterals;
@@ -48,8 +53,8 @@ pub struct ClauseList<N: Copy, A: Allocator + Copy> {
     learnt: Arena<LearntClauseId, Vec<Literal, A>, A>,
 }
 
-/// The clauses, what each of them watches, the clauses that watch each literal, and the literals of the learnt ones; and
-/// the room for more.
+/// The clauses, what each of them watches, the clauses that watch each literal, and the literals of the learnt ones;
+/// and the room for more.
 impl<N: Copy, A: Allocator + Copy> Model for ClauseList<N, A> {
     ghost use Rattle.watch_map.specs.ClauseList.{Kept, contents, IsClauseList};
     ghost use Rattle.watch_map.specs.ClauseListView.{kept_in};
@@ -107,7 +112,8 @@ impl<N: Copy, A: Allocator + Copy> ClauseList<N, A> {
 
     /// What the clause watches, if there is one of this id and it watches something.
     pub fn watches(&self, id: ClauseId) -> Option<&WatchedLiterals>
-        ensures { two_or_none (option_map (λ w. w.now.watched_literals) result) ≡ slice_index_or (contents self.now).watches id [] }
+        ensures { two_or_none (option_map (λ w. w.now.watched_literals) result) ≡
+            slice_index_or (contents self.now).watches id [] }
     {
         self.watches.get(id.to_index())?.as_ref()
     }
@@ -156,7 +162,8 @@ impl<N: Copy, A: Allocator + Copy> ClauseList<N, A> {
         requires two { AreTwoOrNone (two_or_none (literals_watched watches)) }
         ensures id { result ≡ length (contents self.old).clauses }
         ensures added { contents self.new ≡ with_clause (contents self.old) clause (literals_watched watches) }
-        ensures rooms { (count : ℕ) (bits : List (ℕ × ℕ × Bool)) → HasRoomFor (count + 1) bits self.old → HasRoomFor count bits self.new }
+        ensures rooms { (count : ℕ) (bits : List (ℕ × ℕ × Bool)) → HasRoomFor (count + 1) bits self.old →
+            HasRoomFor count bits self.new }
     {
         let id = ClauseId::from_index(self.clauses.len());
         let watches = walks::started(&mut self.map, watches, id);
@@ -165,9 +172,9 @@ impl<N: Copy, A: Allocator + Copy> ClauseList<N, A> {
         id
     }
 
-    /// Makes room for clauses of the kind that forbids multiple instances, each of a variable, a helper, and whether the
-    /// helper is positive: then [`ClauseList::push_forbidden_reserved`] may add them. There is none where they were more
-    /// clauses than there may be. Room that is there is kept.
+    /// Makes room for clauses of the kind that forbids multiple instances, each of a variable, a helper, and whether
+    /// the helper is positive: then [`ClauseList::push_forbidden_reserved`] may add them. There is none where they were
+    /// more clauses than there may be. Room that is there is kept.
     pub fn make_room_forbidden(
         &mut self,
         clauses: &[(VariableId, VariableId, bool)],
@@ -186,8 +193,8 @@ impl<N: Copy, A: Allocator + Copy> ClauseList<N, A> {
         walks::make_rooms(&mut self.map, clauses)
     }
 
-    /// Adds clauses for which there is room, in order: "not x or h" of a variable x, a helper h and `true`, "not x or not h"
-    /// of these and `false`. Takes no memory.
+    /// Adds clauses for which there is room, in order: "not x or h" of a variable x, a helper h and `true`, "not x or
+    /// not h" of these and `false`. Takes no memory.
     pub fn push_forbidden_reserved(&mut self, name: N, clauses: &[(VariableId, VariableId, bool)])
         requires { HasRoomFor (length clauses.now) clauses.now self.old }
         ensures { contents self.new ≡ with_forbidden name (contents self.old) clauses.now }
@@ -206,7 +213,8 @@ impl<N: Copy, A: Allocator + Copy> ClauseList<N, A> {
     ) -> Result<ClauseId, StoreError>
         requires { AreTwoOrNone (two_or_none (literals_watched watches)) }
         ensures id { IfOk result (λ id. id ≡ length (contents self.old).clauses) }
-        ensures ok { OnOk result (contents self.new ≡ with_clause (contents self.old) clause (literals_watched watches)) }
+        ensures ok { OnOk result (contents self.new ≡
+            with_clause (contents self.old) clause (literals_watched watches)) }
         ensures err { OnErr result (contents self.new ≡ contents self.old) }
         ensures refused { IfErr result (IsGrowthRefusal (is_full (contents self.old))) }
         ensures ids_out { IsTrue (is_full (contents self.old)) → result ≡ Err IdSpace }
@@ -237,34 +245,61 @@ impl<N: Copy, A: Allocator + Copy> ClauseList<N, A> {
     }
 
     /// Lets a clause watch another literal in the place of one that it watches: it leaves the list of the one, whose
-    /// others keep their order, and goes to the front of the other's. Refused `BadWatch` where the clause doesn't watch the
-    /// one, or watches the other. Goes through the list of the one up to the clause; takes memory where there is no room in
-    /// that of the other.
+    /// others keep their order, and goes to the front of the other's. Refused `BadWatch` where the clause doesn't watch
+    /// the one, or watches the other. Goes through the list of the one up to the clause; takes memory where there is no
+    /// room in that of the other.
     pub fn rewatch(&mut self, id: ClauseId, from: Literal, to: Literal) -> Result<(), StoreError>
         ensures ok { OnOk result (contents self.new ≡ with_rewatched (contents self.old) id from to) }
         ensures err { OnErr result (contents self.new ≡ contents self.old) }
-        ensures refused { IfErr result (λ e. e ≡ (if can_rewatch (contents self.old) id from to then OutOfMemory else BadWatch)) }
+        ensures refused { IfErr result (λ e. e ≡
+            (if can_rewatch (contents self.old) id from to then OutOfMemory else BadWatch)) }
         ensures can { OnOk result (IsTrue (can_rewatch (contents self.old) id from to)) }
     {
         walks::rewatch(&mut self.map, self.watches.as_mut_slice(), id, from, to)
     }
 
+    /// Forgets the marks under whose entries a watch of the clause may be false: those that are left are marks still
+    /// once the clause is let watch another literal. Takes no memory.
+    pub fn forget_false(&self, id: ClauseId, marks: &mut Marks<A>, trail: &DecisionTracker<A>)
+        ensures { marks.new ≡ none_false_at trail.now.entries marks.old (watched_by (contents self.now) id) }
+    {
+        if let Some(watched) = self.watches(id) {
+            marks.forget_false(watched.watched_literals.as_slice(), trail);
+        }
+    }
+
+    /// The same of each clause from this id on: those that are left are marks still where these clauses are new. Takes
+    /// no memory.
+    pub fn forget_false_from(&self, first: usize, marks: &mut Marks<A>, trail: &DecisionTracker<A>)
+        ensures { marks.new ≡ none_watched_false trail.now.entries marks.old (drop first (contents self.now).watches) }
+    {
+        for index in first..self.clauses.len() {
+            self.forget_false(ClauseId::from_index(index), marks, trail);
+        }
+    }
+
     /// Adds to the trail, at this level, what clauses force, until none forces anything or one is false, which it
-    /// answers. The candidates of requirements and the disjunctions to which clauses refer are kept by the caller. Watches
-    /// move to literals that aren't false.
+    /// answers. The candidates of requirements and the disjunctions to which clauses refer are kept by the caller, as
+    /// are the marks of the trail: those that changed trail or clauses forgot what isn't one any more. Watches move to
+    /// literals that aren't false.
     ///
-    /// Reads the trail from its beginning, and goes once through the list of each literal that is false. Takes memory for
-    /// each entry, and where a watch moves to a literal that nothing ever watched; refused, what was forced so far stays.
+    /// Reads the trail from the newest mark on, and goes once through the list of each literal that the entries there
+    /// make false; and the records of the clauses from the mark's bound on. Remembers a mark of the end where all
+    /// clauses are settled. Takes memory for each entry, for the mark, which is left out where that is refused, and
+    /// where a watch moves to a literal that nothing ever watched; refused, what was forced so far stays.
     pub fn saturate(
         &mut self,
         lists: &RequirementMap<Vec<Vec<VariableId, A>, A>, A>,
         disjunctions: &Arena<DisjunctionId, Disjunction<A>, A>,
         trail: &mut DecisionTracker<A>,
+        marks: &mut Marks<A>,
         level: u32,
     ) -> Result<Option<ClauseId>, StoreError>
         requires own { WatchOwn (literals_in_list (kept_in [] lists.now disjunctions.now) (contents self.old))
             (watched_by (contents self.old)) }
         requires level { (1 ≤ level) × (level < 2 ^ 31) }
+        requires marks { AreMarks (literals_in_list (kept_in [] lists.now disjunctions.now) (contents self.old))
+            (watched_by (contents self.old)) trail.old.entries marks.old }
         ensures clauses { (contents self.new).clauses ≡ (contents self.old).clauses }
         ensures learnt { (contents self.new).learnt ≡ (contents self.old).learnt }
         ensures rearranged { IsRearranged (literals_in_list (kept_in [] lists.now disjunctions.now) (contents self.old))
@@ -278,6 +313,8 @@ impl<N: Copy, A: Allocator + Copy> ClauseList<N, A> {
             (IsConflict (literals_in_list (kept_in [] lists.now disjunctions.now) (contents self.old))
             (length (contents self.old).clauses) (val trail.new.entries))) }
         ensures memory { IfErr result (λ e. e ≡ OutOfMemory) }
+        ensures marks { AreMarks (literals_in_list (kept_in [] lists.now disjunctions.now) (contents self.old))
+            (watched_by (contents self.new)) trail.new.entries marks.new }
     {
         let given = Given {
             clauses: self.clauses.as_slice(),
@@ -286,6 +323,12 @@ impl<N: Copy, A: Allocator + Copy> ClauseList<N, A> {
             disjunctions,
             level,
         };
-        saturation::saturate(&given, &mut self.map, self.watches.as_mut_slice(), trail)
+        saturation::saturate(
+            &given,
+            &mut self.map,
+            self.watches.as_mut_slice(),
+            trail,
+            marks,
+        )
     }
 }

@@ -1,10 +1,13 @@
 //! Positions in the lists of the clauses that watch a literal.
-ghost use Rattle.std.specs.Prelude.{◌≡◌, ◌<◌, ◌++◌, [], ◌∷◌, true, false, length, Some, OnOk, OnErr, IfOk, IfErr, IsOk, IfSome};
+ghost use Rattle.std.specs.Prelude.{◌≡◌, ◌<◌, ◌++◌, [], ◌∷◌, true, false, length};
+ghost use Rattle.std.specs.Prelude.{Some, OnOk, OnErr, IfOk, IfErr, IsOk, IfSome};
 ghost use Rattle.std.specs.Option.{ForSome};
 ghost use Rattle.typed_ids.specs.declared.error.StoreError.TheVariants.{OutOfMemory};
 ghost use Rattle.watch_map.specs.Watching.{AreTwoOrNone, is_literal_in};
-ghost use Rattle.watch_map.specs.WatchLists.{watched_by, record_of, HasRoom, IsCursorAt, clause_of, index_of, literal_of};
-ghost use Rattle.watch_map.specs.WatchCalls.{SameLists, KeepsRoom, UsesRoom, StandsIn, StandsBehind, Moves, passed, rest, remaining};
+ghost use Rattle.watch_map.specs.WatchLists.{watched_by, record_of, HasRoom, IsCursorAt};
+ghost use Rattle.watch_map.specs.WatchLists.{clause_of, index_of, literal_of};
+ghost use Rattle.watch_map.specs.WatchCalls.{SameLists, KeepsRoom, UsesRoom, StandsIn};
+ghost use Rattle.watch_map.specs.WatchCalls.{StandsBehind, Moves, passed, rest, remaining};
 
 use crate::lists::WatchMap;
 use crate::nodes::{Place, WatchNode, next_of, node_at, set_watch};
@@ -16,9 +19,9 @@ use typed_ids::{ClauseId, DenseIndex, InsertError};
 
 /// A position in a literal's list, at one of its clauses.
 ///
-/// It borrows neither the map nor the records: whoever walks hands them to each call, and may read and write them between
-/// two calls. A call that moves the position asks that it still stands in the lists that it is given, as it does after
-/// whatever changed none of the clauses up to its own.
+/// It borrows neither the map nor the records: whoever walks hands them to each call, and may read and write them
+/// between two calls. A call that moves the position asks that it still stands in the lists that it is given, as it
+/// does after whatever changed none of the clauses up to its own.
 ///
 /// ```text
 /// let mut cursor = map.cursor(watches, literal);
@@ -103,7 +106,8 @@ impl WatchMapCursor {
     ) -> Option<WatchMapCursor>
         requires { StandsIn self map.now watches.now }
         ensures list { remaining result map.now watches.now ≡ rest self map.now watches.now }
-        ensures stands { IfSome result (StandsBehind (passed self map.now watches.now ++ clause_of self ∷ []) (literal_of self) map.now watches.now) }
+        ensures stands { IfSome result (StandsBehind (passed self map.now watches.now ++ clause_of self ∷ [])
+            (literal_of self) map.now watches.now) }
     {
         next_place(map, watches, &self.place)
     }
@@ -123,8 +127,10 @@ impl WatchMapCursor {
         requires other { is_literal_in new_watch (watched_by watches.old (clause_of self)) ≡ false }
         ensures lists { OnOk result (Moves self new_watch map.old watches.old map.new watches.new) }
         ensures list { IfOk result (λ next. remaining next map.new watches.new ≡ rest self map.old watches.old) }
-        ensures stands { IfOk result (λ next. IfSome next (StandsBehind (passed self map.old watches.old) (literal_of self) map.new watches.new)) }
-        ensures err { IfErr result (λ refused. (refused.value ≡ self) × StandsBehind (passed self map.old watches.old) (literal_of self) map.new watches.new refused.value) }
+        ensures stands { IfOk result (λ next. IfSome next
+            (StandsBehind (passed self map.old watches.old) (literal_of self) map.new watches.new)) }
+        ensures err { IfErr result (λ refused. (refused.value ≡ self) ×
+            StandsBehind (passed self map.old watches.old) (literal_of self) map.new watches.new refused.value) }
         ensures err_lists { OnErr result (SameLists map.old map.new × (watches.new ≡ watches.old)) }
         ensures ok_rooms { OnOk result (UsesRoom (new_watch ∷ []) map.old map.new) }
         ensures err_rooms { OnErr result (KeepsRoom map.old map.new) }
@@ -146,7 +152,8 @@ fn next_place<A: Allocator + Copy>(
 ) -> Option<WatchMapCursor>
     requires { StandsIn place.now map.now watches.now }
     ensures list { remaining result map.now watches.now ≡ rest place.now map.now watches.now }
-    ensures stands { IfSome result (StandsBehind (passed place.now map.now watches.now ++ clause_of place.now ∷ []) (literal_of place.now) map.now watches.now) }
+    ensures stands { IfSome result (StandsBehind (passed place.now map.now watches.now ++ clause_of place.now ∷ [])
+        (literal_of place.now) map.now watches.now) }
 {
     let next = next_of(watches, &place.current);
     WatchMapCursor::at_clause(watches, place.literal, Some(place.current), next)
@@ -165,7 +172,8 @@ fn move_clause<A: Allocator + Copy>(
     requires room { HasRoom map.old new_watch 1 }
     ensures lists { Moves place.now new_watch map.old watches.old map.new watches.new }
     ensures list { remaining result map.new watches.new ≡ rest place.now map.old watches.old }
-    ensures stands { IfSome result (StandsBehind (passed place.now map.old watches.old) (literal_of place.now) map.new watches.new) }
+    ensures stands { IfSome result
+        (StandsBehind (passed place.now map.old watches.old) (literal_of place.now) map.new watches.new) }
     ensures rooms { KeepsRoom map.old map.new }
 {
     let next = next_of(watches, &place.current);

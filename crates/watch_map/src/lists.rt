@@ -6,7 +6,8 @@ ghost use Rattle.typed_ids.specs.TotalMaps.{IsUpdate};
 ghost use Rattle.decisions.specs.LiteralIndex.{literal_index};
 ghost use Rattle.id_storage.specs.Mapping.{value_at};
 ghost use Rattle.watch_map.specs.Watching.{AreTwo, IsListCount};
-ghost use Rattle.watch_map.specs.WatchLists.{Watches, watchers, record_of, next_at, HasRoom, AreWatched, CanBeLinked, IsRelinked};
+ghost use Rattle.watch_map.specs.WatchLists.{Watches, watchers, record_of, next_at};
+ghost use Rattle.watch_map.specs.WatchLists.{HasRoom, AreWatched, CanBeLinked, IsRelinked};
 ghost use Rattle.watch_map.specs.WatchCalls.{SameLists, Starts, KeepsRoom, UsesRoom, HaveRoom, StandsBehind, remaining};
 
 use crate::cursor::WatchMapCursor;
@@ -21,11 +22,11 @@ use typed_ids::{ClauseId, StoreError};
 /// For each literal the list of the clauses that watch it, the newest first.
 ///
 /// The literals that a clause watches stand in its record, and the records of all clauses in a slice, by the clauses'
-/// indexes; a clause without watches has none. Map and slice belong together: a contract says so by `AreWatched`, and each
-/// call keeps it.
+/// indexes; a clause without watches has none. Map and slice belong together: a contract says so by `AreWatched`, and
+/// each call keeps it.
 ///
-/// The map has the first clause of each list, and each clause's record the next one. So a list takes no memory but a slot,
-/// from its literal's first clause or room on, and none is given back.
+/// The map has the first clause of each list, and each clause's record the next one. So a list takes no memory but a
+/// slot, from its literal's first clause or room on, and none is given back.
 #[derive(Drop)]
 pub struct WatchMap<A: Allocator + Copy> {
     firsts: Mapping<Literal, ClauseId, A>,
@@ -59,8 +60,8 @@ impl<A: Allocator + Copy> WatchMap<A> {
         self.firsts.len()
     }
 
-    /// Makes room for one more clause in a literal's list, so that its next addition takes no memory. Room that is there
-    /// is kept.
+    /// Makes room for one more clause in a literal's list, so that its next addition takes no memory. Room that is
+    /// there is kept.
     pub fn make_room(&mut self, literal: Literal) -> Result<(), StoreError>
         ensures lists { SameLists self.old self.new }
         ensures rooms { KeepsRoom self.old self.new }
@@ -71,8 +72,8 @@ impl<A: Allocator + Copy> WatchMap<A> {
         self.make_room_many(literal, 1)
     }
 
-    /// Makes room for so many more clauses in a literal's list, so that its next additions up to that number take no memory.
-    /// Room that is there is kept. Constant time, whatever the number.
+    /// Makes room for so many more clauses in a literal's list, so that its next additions up to that number take no
+    /// memory. Room that is there is kept. Constant time, whatever the number.
     pub fn make_room_many(&mut self, literal: Literal, additions: usize) -> Result<(), StoreError>
         ensures lists { SameLists self.old self.new }
         ensures rooms { KeepsRoom self.old self.new }
@@ -163,12 +164,13 @@ impl<A: Allocator + Copy> WatchMap<A> {
         }
     }
 
-    /// Takes the clause at this place out of the list: the next one follows the node in front, or comes first where there
-    /// is no such node.
+    /// Takes the clause at this place out of the list: the next one follows the node in front, or comes first where
+    /// there is no such node.
     pub(crate) fn unlink(&mut self, watches: &mut [Option<WatchedLiterals>], place: &Place)
         requires room { HasRoom self.old place.now.literal 1 }
         requires node { CanBeLinked place.now.current (record_of watches.old place.now.current.clause_id) }
-        requires previous { ForSome place.now.previous (λ node. CanBeLinked node (record_of watches.old node.clause_id)) }
+        requires previous { ForSome place.now.previous (λ node.
+            CanBeLinked node (record_of watches.old node.clause_id)) }
         ensures { IsRelinked place.now.previous place.now.literal
             (next_at (record_of watches.old place.now.current.clause_id) place.now.current.watch_index)
             self.old watches.old self.new watches.new }

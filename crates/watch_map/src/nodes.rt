@@ -82,7 +82,8 @@ pub(crate) fn set_watch(
 )
     requires { CanBeLinked node.now (record_of watches.old node.now.clause_id) }
     ensures { IsUpdate (record_of watches.old) node.now.clause_id
-        (with_watch node.now.watch_index literal next (record_of watches.old node.now.clause_id)) (record_of watches.new) }
+        (with_watch node.now.watch_index literal next (record_of watches.old node.now.clause_id))
+        (record_of watches.new) }
 {
     if let Some(watched) = &mut watches[node.clause_id.to_index()] {
         watched.watched_literals[node.watch_index] = literal;

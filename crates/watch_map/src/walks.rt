@@ -56,8 +56,8 @@ pub(crate) fn started<A: Allocator + Copy>(
     }
 }
 
-/// The clause "not x or h" of a variable x, a helper h and `true`, or "not x or not h" of these and `false`, with what it
-/// watches.
+/// The clause "not x or h" of a variable x, a helper h and `true`, or "not x or not h" of these and `false`, with what
+/// it watches.
 pub(crate) fn forbidden<N>(
     name: N,
     bit: (VariableId, VariableId, bool),
@@ -76,7 +76,8 @@ pub(crate) fn make_rooms<A: Allocator + Copy>(
 ) -> Result<(), StoreError>
     ensures lists { SameLists map.old map.new }
     ensures rooms { KeepsRoom map.old map.new }
-    ensures room { OnOk result (All (λ bit. HaveRooms map.new (length clauses.now) (two_or_none (bit_watches bit))) clauses.now) }
+    ensures room { OnOk result
+        (All (λ bit. HaveRooms map.new (length clauses.now) (two_or_none (bit_watches bit))) clauses.now) }
     ensures memory { IfErr result (λ e. e ≡ OutOfMemory) }
 {
     for clause in clauses {

@@ -3,12 +3,15 @@ ghost use Rattle.std.specs.Prelude.{◌≡◌, ◌<◌, ◌&&◌, not, [], ◌�
 ghost use Rattle.decisions.specs.Decisions.{values_in};
 ghost use Rattle.decisions.specs.Literals.{Pos, Neg, Values, known_true, known_false, is_false_literal};
 ghost use Rattle.decisions.specs.Trail.{val};
-ghost use Rattle.clauses.specs.Clauses.{Kept, condition_literals, asked_literals, same_literal, watch_pair, watch_beside, watch_ends};
+ghost use Rattle.clauses.specs.Clauses.{Kept, condition_literals, asked_literals};
+ghost use Rattle.clauses.specs.Clauses.{same_literal, watch_pair, watch_beside, watch_ends};
 ghost use Rattle.clauses.specs.Clauses.{first_not_false, first_watches, is_met_by_parent, is_conflict, next_unwatched};
 ghost use Rattle.clauses.specs.Stored.{kept_in};
 ghost use Rattle.clauses.specs.Walks.{literals_in};
 ghost use Rattle.watch_map.specs.WatchLists.{IsUnlinked};
-ghost use Rattle.clauses.specs.declared.clause.Clause.TheVariants.{InstallRoot, Requires, ForbidMultipleInstances, Constrains, ConstrainsExcluded, ConstrainsParent, Lock, Learnt, Excluded, AnyOf};
+ghost use Rattle.clauses.specs.declared.clause.Clause.TheVariants.{InstallRoot, Requires, ForbidMultipleInstances};
+ghost use Rattle.clauses.specs.declared.clause.Clause.TheVariants.{Constrains, ConstrainsExcluded};
+ghost use Rattle.clauses.specs.declared.clause.Clause.TheVariants.{ConstrainsParent, Lock, Learnt, Excluded, AnyOf};
 
 use clauses::{Clause, Disjunction, LiteralWalk, negative, positive};
 use decisions::{DecisionMap, DecisionTracker, Literal};
@@ -64,8 +67,10 @@ impl WatchedLiterals {
         requires { disjunction ≡ None → literals.now ≡ [] }
         ensures clause { result.2 ≡ Requires parent disjunction requirement }
         ensures watches { option_map (λ w. w.watched_literals) result.0
-            ≡ watch_beside (Neg parent) (first_not_false (val tracker.now.entries) (asked_literals literals.now (candidates.now ∷ []))) }
-        ensures conflict { result.1 ≡ is_met_by_parent (val tracker.now.entries) parent (asked_literals literals.now (candidates.now ∷ [])) }
+            ≡ watch_beside (Neg parent)
+            (first_not_false (val tracker.now.entries) (asked_literals literals.now (candidates.now ∷ []))) }
+        ensures conflict { result.1 ≡ is_met_by_parent (val tracker.now.entries) parent
+            (asked_literals literals.now (candidates.now ∷ [])) }
         ensures unlinked { IfSome result.0 IsUnlinked }
     {
         let others = LiteralWalk {
@@ -90,10 +95,14 @@ impl WatchedLiterals {
         requires { disjunction ≡ None → literals.now ≡ [] }
         ensures clause { result.2 ≡ Requires parent disjunction requirement }
         ensures watches { option_map (λ w. w.watched_literals) result.0
-            ≡ watch_beside (Neg parent) (first_not_false (val tracker.now.entries) (asked_literals literals.now (map (λ list. list.items) lists.now))) }
-        ensures conflict { result.1 ≡ is_met_by_parent (val tracker.now.entries) parent (asked_literals literals.now (map (λ list. list.items) lists.now)) }
-        ensures kept { (k : Kept) → condition_literals k disjunction ≡ literals.now → k.lists requirement ≡ map (λ list. list.items) lists.now →
-            (option_map (λ w. w.watched_literals) result.0 ≡ first_watches k (val tracker.now.entries) result.2) × (result.1 ≡ is_conflict k (val tracker.now.entries) result.2) }
+            ≡ watch_beside (Neg parent) (first_not_false (val tracker.now.entries)
+            (asked_literals literals.now (map (λ list. list.items) lists.now))) }
+        ensures conflict { result.1 ≡ is_met_by_parent (val tracker.now.entries) parent
+            (asked_literals literals.now (map (λ list. list.items) lists.now)) }
+        ensures kept { (k : Kept) → condition_literals k disjunction ≡ literals.now →
+            k.lists requirement ≡ map (λ list. list.items) lists.now →
+            (option_map (λ w. w.watched_literals) result.0 ≡ first_watches k (val tracker.now.entries) result.2) ×
+            (result.1 ≡ is_conflict k (val tracker.now.entries) result.2) }
         ensures unlinked { IfSome result.0 IsUnlinked }
     {
         let others = LiteralWalk {
@@ -115,7 +124,8 @@ impl WatchedLiterals {
     ) -> (Option<Self>, bool, Clause<N>)
         ensures clause { result.2 ≡ Constrains parent forbidden set }
         ensures pair { option_map (λ w. w.watched_literals) result.0 ≡ watch_pair (Neg parent) (Neg forbidden) }
-        ensures watches { (k : Kept) → option_map (λ w. w.watched_literals) result.0 ≡ first_watches k (val tracker.now.entries) result.2 }
+        ensures watches { (k : Kept) → option_map (λ w. w.watched_literals) result.0 ≡
+            first_watches k (val tracker.now.entries) result.2 }
         ensures conflict { (k : Kept) → result.1 ≡ is_conflict k (val tracker.now.entries) result.2 }
         ensures unlinked { IfSome result.0 IsUnlinked }
     {
@@ -137,7 +147,8 @@ impl WatchedLiterals {
     ) -> (Option<Self>, bool, Clause<N>)
         ensures clause { result.2 ≡ ConstrainsParent parent aux set }
         ensures pair { option_map (λ w. w.watched_literals) result.0 ≡ watch_pair (Neg parent) (Neg aux) }
-        ensures watches { (k : Kept) → option_map (λ w. w.watched_literals) result.0 ≡ first_watches k (val tracker.now.entries) result.2 }
+        ensures watches { (k : Kept) → option_map (λ w. w.watched_literals) result.0 ≡
+            first_watches k (val tracker.now.entries) result.2 }
         ensures conflict { (k : Kept) → result.1 ≡ is_conflict k (val tracker.now.entries) result.2 }
         ensures unlinked { IfSome result.0 IsUnlinked }
     {
@@ -158,7 +169,8 @@ impl WatchedLiterals {
     ) -> (Option<Self>, Clause<N>)
         ensures clause { result.1 ≡ ConstrainsExcluded candidate aux set }
         ensures pair { option_map (λ w. w.watched_literals) result.0 ≡ watch_pair (Neg candidate) (Pos aux) }
-        ensures watches { (k : Kept) (now : Values) → option_map (λ w. w.watched_literals) result.0 ≡ first_watches k now result.1 }
+        ensures watches { (k : Kept) (now : Values) →
+            option_map (λ w. w.watched_literals) result.0 ≡ first_watches k now result.1 }
         ensures unlinked { IfSome result.0 IsUnlinked }
     {
         let watches = Self::pair(negative(candidate), positive(aux));
@@ -169,7 +181,8 @@ impl WatchedLiterals {
     pub fn lock<N>(locked: VariableId, other: VariableId) -> (Option<Self>, Clause<N>)
         ensures clause { result.1 ≡ Lock locked other }
         ensures pair { option_map (λ w. w.watched_literals) result.0 ≡ watch_pair (Neg 0) (Neg other) }
-        ensures watches { (k : Kept) (now : Values) → option_map (λ w. w.watched_literals) result.0 ≡ first_watches k now result.1 }
+        ensures watches { (k : Kept) (now : Values) →
+            option_map (λ w. w.watched_literals) result.0 ≡ first_watches k now result.1 }
         ensures unlinked { IfSome result.0 IsUnlinked }
     {
         let watches = Self::pair(negative(VariableId::root()), negative(other));
@@ -184,7 +197,8 @@ impl WatchedLiterals {
     ) -> (Option<Self>, Clause<N>)
         ensures clause { result.1 ≡ ForbidMultipleInstances candidate other name }
         ensures pair { option_map (λ w. w.watched_literals) result.0 ≡ watch_pair (Neg candidate) other }
-        ensures watches { (k : Kept) (now : Values) → option_map (λ w. w.watched_literals) result.0 ≡ first_watches k now result.1 }
+        ensures watches { (k : Kept) (now : Values) →
+            option_map (λ w. w.watched_literals) result.0 ≡ first_watches k now result.1 }
         ensures unlinked { IfSome result.0 IsUnlinked }
     {
         let watches = Self::pair(negative(candidate), other);
@@ -220,7 +234,8 @@ impl WatchedLiterals {
     pub fn any_of<N>(selected: VariableId, other: VariableId) -> (Option<Self>, Clause<N>)
         ensures clause { result.1 ≡ AnyOf selected other }
         ensures pair { option_map (λ w. w.watched_literals) result.0 ≡ watch_pair (Pos selected) (Neg other) }
-        ensures watches { (k : Kept) (now : Values) → option_map (λ w. w.watched_literals) result.0 ≡ first_watches k now result.1 }
+        ensures watches { (k : Kept) (now : Values) →
+            option_map (λ w. w.watched_literals) result.0 ≡ first_watches k now result.1 }
         ensures unlinked { IfSome result.0 IsUnlinked }
     {
         let watches = Self::pair(positive(selected), negative(other));
@@ -254,8 +269,8 @@ impl WatchedLiterals {
         )
     }
 
-    /// What the clause may watch in place of the watch at this index, 0 or 1: its first literal that isn't the other watch
-    /// and isn't false. A binary clause has none. Takes no memory. The stores are those of [`Clause::literals`].
+    /// What the clause may watch in place of the watch at this index, 0 or 1: its first literal that isn't the other
+    /// watch and isn't false. A binary clause has none. Takes no memory. The stores are those of [`Clause::literals`].
     pub fn next_unwatched_literal<N, A: Allocator + Copy>(
         &self,
         clause: &Clause<N>,
@@ -266,7 +281,8 @@ impl WatchedLiterals {
         index: usize,
     ) -> Option<Literal>
         requires { index < 2 }
-        ensures { result ≡ next_unwatched (kept_in learnt.now lists.now disjunctions.now) (values_in map.now) clause.now self.now.watched_literals index }
+        ensures { result ≡ next_unwatched (kept_in learnt.now lists.now disjunctions.now)
+            (values_in map.now) clause.now self.now.watched_literals index }
     {
         if clause.is_binary() {
             return None;
@@ -319,8 +335,8 @@ fn may_replace<A: Allocator + Copy>(map: &DecisionMap<A>, other: Literal, litera
     literal != other && !is_false(map, literal)
 }
 
-/// Whether a clause is a conflict but for its parent, by whether some other literal isn't false, whether there is any, and
-/// the parent's value.
+/// Whether a clause is a conflict but for its parent, by whether some other literal isn't false, whether there is any,
+/// and the parent's value.
 fn is_met_by_parent(has_other: bool, has_first: bool, parent: Option<bool>) -> bool
     ensures { result ≡ (not has_other && (has_first && not (known_false parent))) }
 {
@@ -333,7 +349,8 @@ fn is_conflict<A: Allocator + Copy>(
     parent: VariableId,
     forbidden: VariableId,
 ) -> bool
-    ensures { result ≡ (known_true (val tracker.now.entries forbidden) && not (known_false (val tracker.now.entries parent))) }
+    ensures { result ≡ (known_true (val tracker.now.entries forbidden) &&
+        not (known_false (val tracker.now.entries parent))) }
 {
     tracker.assigned_value(forbidden) == Some(true) && tracker.assigned_value(parent) != Some(false)
 }

@@ -77,8 +77,8 @@ impl Write for Full {
     }
 }
 
-/// Puts what devices were answered otherwise than they are to be after what waits. `answer` is what the script is answered, with its exit
-/// status.
+/// Puts what devices were answered otherwise than they are to be after what waits. `answer` is what the script is
+/// answered, with its exit status.
 pub(crate) fn push_unlike(
     alloc: Global,
     script: &[u8],
@@ -89,7 +89,8 @@ pub(crate) fn push_unlike(
     let unended = script.strip_suffix(b"\n").unwrap_or(script);
     push_unlike_read(alloc, script, None, answer, waiting)?;
     push_unlike_read(alloc, unended, None, answer, waiting)?;
-    // Where a read fails nothing is written, though whole commands were read. Want of memory is a reader's failure as any other.
+    // Where a read fails nothing is written, though whole commands were read. Want of memory is a reader's failure as
+    // any other.
     for kind in FAULTS {
         push_unlike_read(alloc, script, Some(kind), (&[], 2), waiting)?;
     }
@@ -123,8 +124,8 @@ fn push_unlike_read(
     Ok(())
 }
 
-/// What is seen of a writer: the exit status, how many bytes it took, and whether the answer begins with them; how often it was
-/// flushed, and how many bytes it had by then.
+/// What is seen of a writer: the exit status, how many bytes it took, and whether the answer begins with them; how
+/// often it was flushed, and how many bytes it had by then.
 type Written = ((u8, usize, bool), (usize, usize));
 
 /// What is seen of a writer with so much room.
@@ -142,8 +143,8 @@ fn written(alloc: Global, text: &[u8], answer: &[u8], room: usize) -> Written {
     (taken, (writer.flushes, writer.flushed))
 }
 
-/// What is to be seen of a writer with so much room. What it took before it failed is a beginning of the answer; a whole answer is flushed
-/// once, at its end.
+/// What is to be seen of a writer with so much room. What it took before it failed is a beginning of the answer; a
+/// whole answer is flushed once, at its end.
 fn wanted_of((answer, number): (&[u8], u8), room: usize) -> Written {
     let length = answer.len();
     if room < length {

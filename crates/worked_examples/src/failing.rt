@@ -27,7 +27,8 @@ impl Calls {
         }
     }
 
-    /// One call more: whether it is the one that fails. Those behind it succeed, so that a failure that is passed over shows.
+    /// One call more: whether it is the one that fails. Those behind it succeed, so that a failure that is passed over
+    /// shows.
     fn count(&mut self) -> io::Result<()> {
         if self.left > 0 || self.has_failed {
             self.left = self.left.saturating_sub(1);
@@ -76,11 +77,12 @@ impl Write for FailingWriter {
     }
 }
 
-/// What is seen of a device: whether its call failed, the exit status, and whether what was written is what is to be then.
+/// What is seen of a device: whether its call failed, the exit status, and whether what was written is what is to be
+/// then.
 type Seen = (bool, u8, bool);
 
-/// Puts a line after what waits for each call of a reader and of a writer whose failure is answered otherwise than it is to be. `answer` is
-/// what the script is answered, with its exit status.
+/// Puts a line after what waits for each call of a reader and of a writer whose failure is answered otherwise than it
+/// is to be. `answer` is what the script is answered, with its exit status.
 pub(crate) fn push_unlike(
     alloc: Global,
     script: &[u8],

@@ -60,9 +60,10 @@ impl Write for Counted {
     }
 }
 
-/// Puts a line after what waits: how long the answers to ten thousand commands are, and to a comment of 2^20 bytes; and what comes of a
-/// text of five bytes in five reads, and in six, of which the last one meets its end. A second line tells in which pieces the answers to
-/// ten thousand commands are written, and what is written of them where the second write fails.
+/// Puts a line after what waits: how long the answers to ten thousand commands are, and to a comment of 2^20 bytes; and
+/// what comes of a text of five bytes in five reads, and in six, of which the last one meets its end. A second line
+/// tells in which pieces the answers to ten thousand commands are written, and what is written of them where the second
+/// write fails.
 pub(crate) fn push_long(alloc: Global, waiting: &mut Vec<u8>) -> Result<(), AllocError> {
     let commands = length_answered(alloc, b"begin\n", b"decide\n", 10_000);
     let comment = length_answered(alloc, b"begin\n#", b"#", 1 << 20);

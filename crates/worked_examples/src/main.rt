@@ -1,9 +1,10 @@
-//! The worked examples: scripts with their answers, as files. Standard input has the examples, each of which is a heading, a
-//! line that begins with `== `, and below it a script. What is printed is each heading with the script's answer below
-//! it, and a line that tells the exit status where it isn't 0.
+//! The worked examples: scripts with their answers, as files. Standard input has the examples, each of which is a
+//! heading, a line that begins with `== `, and below it a script. What is printed is each heading with the script's
+//! answer below it, and a line that tells the exit status where it isn't 0.
 //!
-//! Each script is also read and written by devices that are slow, or full (`devices`), and by such as fail at a call, at each in turn
-//! (`failing`): what is answered otherwise by them than it is to be is printed too. Last come answers to scripts that are long (`long`).
+//! Each script is also read and written by devices that are slow, or full (`devices`), and by such as fail at a call,
+//! at each in turn (`failing`): what is answered otherwise by them than it is to be is printed too. Last come answers
+//! to scripts that are long (`long`).
 #![tactic(auto)]
 
 mod devices;

@@ -5,7 +5,8 @@ ghost use Rattle.typed_ids.specs.Refusals.{IsGrowthRefusal};
 ghost use Rattle.decisions.specs.Trail.{val};
 ghost use Rattle.clauses.specs.Clauses.{Kept, first_watches, is_conflict};
 ghost use Rattle.watch_map.specs.Watching.{AreTwoOrNone};
-ghost use Rattle.watch_map.specs.ClauseList.{contents, literals_watched, two_or_none, is_full, is_learnt_full, with_clause, with_learnt};
+ghost use Rattle.watch_map.specs.ClauseList.{contents, literals_watched, two_or_none, is_full, is_learnt_full};
+ghost use Rattle.watch_map.specs.ClauseList.{with_clause, with_learnt};
 ghost use Rattle.resolvo_store.specs.Adding.{is_direct, names_known};
 ghost use Rattle.resolvo_store.specs.Command.{ClauseIs, reply_of};
 ghost use Rattle.resolvo_store.specs.Refusals.{is_bad_learnt};
@@ -26,7 +27,8 @@ impl<D: DependencyProvider + Drop> ClauseStore<D> {
     ghost use Rattle.resolvo_store.specs.Command.{Learnt, answer_of, IsRefused};
     ghost use Rattle.resolvo_store.specs.Step.{Step};
 
-    /// Adds a clause that its command names whole: one that is neither registered for decisions, nor tracked, nor learnt.
+    /// Adds a clause that its command names whole: one that is neither registered for decisions, nor tracked, nor
+    /// learnt.
     pub(super) fn add(&mut self, clause: Clause<D::NameId>) -> Result<Reply<D::Alloc>, StoreError>
         requires { is_direct clause ≡ true }
         ensures step { Step (⟦<D as AbstractStore>⟧.store self.old) (adding clause)
@@ -39,7 +41,11 @@ impl<D: DependencyProvider + Drop> ClauseStore<D> {
             return Err(StoreError::UnknownId);
         }
         let (watches, conflict) = first_watches(clause, &self.trail);
-        add_clause(&mut self.clauses, clause, watches, conflict)
+        let first = self.clauses.len();
+        let reply = add_clause(&mut self.clauses, clause, watches, conflict);
+        self.clauses
+            .forget_false_from(first, &mut self.marks, &self.trail);
+        reply
     }
 
     /// Adds a learnt clause with these literals.
@@ -56,7 +62,11 @@ impl<D: DependencyProvider + Drop> ClauseStore<D> {
         if is_bad_learnt(literals) {
             return Err(StoreError::BadLearnt);
         }
-        learn_clause(&mut self.clauses, literals)
+        let first = self.clauses.len();
+        let reply = learn_clause(&mut self.clauses, literals);
+        self.clauses
+            .forget_false_from(first, &mut self.marks, &self.trail);
+        reply
     }
 }
 
@@ -144,7 +154,8 @@ fn add_clause<N: Copy, A: Allocator + Copy>(
 ) -> Result<Reply<A>, StoreError>
     requires { AreTwoOrNone (two_or_none (literals_watched watches)) }
     ensures reply { IfOk result (λ reply. reply_of reply ≡ ClauseIs (length (contents clauses.old).clauses) conflict) }
-    ensures ok { OnOk result (contents clauses.new ≡ with_clause (contents clauses.old) clause (literals_watched watches)) }
+    ensures ok { OnOk result
+        (contents clauses.new ≡ with_clause (contents clauses.old) clause (literals_watched watches)) }
     ensures err { OnErr result (contents clauses.new ≡ contents clauses.old) }
     ensures refused { IfErr result (IsGrowthRefusal (is_full (contents clauses.old))) }
     ensures ids_out { IsTrue (is_full (contents clauses.old)) → result ≡ Err IdSpace }

@@ -9,7 +9,8 @@ use providers::DependencyProvider;
 use typed_ids::{ClauseId, DenseIndex, StoreError, VariableId};
 
 impl<D: DependencyProvider + Drop> ClauseStore<D> {
-    ghost use Rattle.resolvo_store.specs.Command.{Assign, UndoLast, UndoUntil, Unpropagated, answer_of, reply_of, IsRefused};
+    ghost use Rattle.resolvo_store.specs.Command.{Assign, UndoLast, UndoUntil, Unpropagated, answer_of, reply_of};
+    ghost use Rattle.resolvo_store.specs.Command.{IsRefused};
     ghost use Rattle.resolvo_store.specs.Step.{Step};
     ghost use Rattle.resolvo_store.specs.Walks.{taken_back};
 
@@ -56,6 +57,8 @@ impl<D: DependencyProvider + Drop> ClauseStore<D> {
             return Err(StoreError::EmptyTrail);
         }
         let last = self.trail.undo_last();
+        self.marks.cut_to(&self.trail);
+        self.queue.cut_trail(self.trail.assignments().len());
         Ok(Reply::Undone(Some(last)))
     }
 
@@ -68,6 +71,8 @@ impl<D: DependencyProvider + Drop> ClauseStore<D> {
         ensures asked { self.new.asked ≡ taken_back (⟦<D as AbstractStore>⟧.store self.new).trail self.old.asked }
     {
         self.trail.undo_until(level);
+        self.marks.cut_to(&self.trail);
+        self.queue.cut_trail(self.trail.assignments().len());
         Reply::Undone(None)
     }
 

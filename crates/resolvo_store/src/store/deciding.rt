@@ -26,7 +26,7 @@ impl<D: DependencyProvider + Drop> ClauseStore<D> {
         ensures asked { let old = ⟦<D as AbstractStore>⟧.store self.old in
             Asks old Decide (answer_of result) old.trail self.old.asked self.new.asked }
     {
-        if let Some(clause) = self.falsified_since() {
+        if let Some(clause) = self.find_falsified() {
             return Ok(Reply::Falsified(clause));
         }
         match self.next_decision() {
@@ -37,8 +37,8 @@ impl<D: DependencyProvider + Drop> ClauseStore<D> {
     }
 
     /// The first falsified clause of the scan, if there is one: its parent is true, its condition is met, and all its
-    /// candidates are false. Takes no memory; linear in all registered clauses, and in the rows of those whose parents are
-    /// true, of each up to the first row that isn't false.
+    /// candidates are false. Takes no memory; linear in all registered clauses, and in the rows of those whose parents
+    /// are true, of each up to the first row that isn't false.
     pub fn falsified(&self) -> Option<ClauseId>
         ensures { result ≡ option_map (λ c. c.clause_id) (falsified_clause (⟦<D as AbstractStore>⟧.store self.now)) }
     {
@@ -50,11 +50,16 @@ impl<D: DependencyProvider + Drop> ClauseStore<D> {
         )
     }
 
-    /// What [`ClauseStore::falsified`] answers, found by what the trail changed by since the last decision. Takes no memory.
-    fn falsified_since(&self) -> Option<ClauseId>
-        ensures { result ≡ option_map (λ c. c.clause_id) (falsified_clause (⟦<D as AbstractStore>⟧.store self.now)) }
+    /// What [`ClauseStore::falsified`] answers, found by what the trail changed by since the last decision; or while
+    /// the clause that was answered last is falsified, since that answer. Takes no memory.
+    fn find_falsified(&mut self) -> Option<ClauseId>
+        ensures found { result ≡ option_map (λ c. c.clause_id)
+            (falsified_clause (⟦<D as AbstractStore>⟧.store self.old)) }
+        ensures same { ⟦<D as AbstractStore>⟧.store self.new ≡ ⟦<D as AbstractStore>⟧.store self.old }
+        ensures provider { self.new.provider ≡ self.old.provider }
+        ensures asked { self.new.asked ≡ self.old.asked }
     {
-        self.queue.falsified_since(
+        self.queue.find_falsified(
             self.trail.sync_floor(),
             self.trail.assignments(),
             self.trail.map(),
@@ -64,24 +69,26 @@ impl<D: DependencyProvider + Drop> ClauseStore<D> {
         )
     }
 
-    /// The decision that the scan picks, where nothing is falsified: [`ClauseStore::falsified`] is the test. It brings the
-    /// queue up to date with the trail, for which it takes memory; nothing changes that a contract can see, also where it
-    /// is refused. Linear in what the trail changed by since the last decision and the clauses that this wakes, in those of
-    /// them that aren't eligible, and in the rows of which nothing is known since.
+    /// The decision that the scan picks, where nothing is falsified: [`ClauseStore::falsified`] is the test. It brings
+    /// the queue up to date with the trail, for which it takes memory; nothing changes that a contract can see, also
+    /// where it is refused. Linear in what the trail changed by since the last decision and the clauses that this
+    /// wakes, in those of them that aren't eligible, and in the rows of which nothing is known since.
     pub fn next_decision(&mut self) -> Result<Option<QueueDecision>, StoreError>
         requires { falsified_clause (⟦<D as AbstractStore>⟧.store self.old) ≡ None }
-        ensures picked { IfOk result (λ decision. decision ≡ option_map decided (picked (⟦<D as AbstractStore>⟧.store self.old))) }
+        ensures picked { IfOk result (λ decision.
+            decision ≡ option_map decided (picked (⟦<D as AbstractStore>⟧.store self.old))) }
 
         // There is none exactly when no clause of the scan is eligible, and no eligible clause beats it.
         ensures none { IfOk result (λ decision. (decision ≡ None) ↔
-            All (λ c. is_eligible_clause (⟦<D as AbstractStore>⟧.store self.old) c ≡ false) (scan (⟦<D as AbstractStore>⟧.store self.old).requires)) }
+            All (λ c. is_eligible_clause (⟦<D as AbstractStore>⟧.store self.old) c ≡ false)
+            (scan (⟦<D as AbstractStore>⟧.store self.old).requires)) }
         ensures unbeaten { IfOk result (DecidesUnbeaten (offers (⟦<D as AbstractStore>⟧.store self.old))) }
         ensures same { ⟦<D as AbstractStore>⟧.store self.new ≡ ⟦<D as AbstractStore>⟧.store self.old }
         ensures provider { self.new.provider ≡ self.old.provider }
         ensures memory { IfErr result (λ e. e ≡ OutOfMemory) }
 
-        // No requirement is walked twice, or looked at twice for a witness, whatever the result; and the queue has this trail
-        // then, unless it was refused.
+        // No requirement is walked twice, or looked at twice for a witness, whatever the result; and the queue has this
+        // trail then, unless it was refused.
         ensures asked { AsksOnce (⟦<D as AbstractStore>⟧.store self.old) self.old.asked self.new.asked }
         ensures told { OnOk result (IsTold (⟦<D as AbstractStore>⟧.store self.old).trail self.new.asked) }
     {

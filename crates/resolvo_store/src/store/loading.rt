@@ -1,5 +1,6 @@
 //! The commands that bring variables: `Variable`, `Helper` and `Load`.
-ghost use Rattle.std.specs.Prelude.{◌≡◌, ◌∷◌, ◌++◌, [], None, true, false, map, option_map, length, take, Err, IsTrue, IfOk, OnOk, OnErr, IfErr};
+ghost use Rattle.std.specs.Prelude.{◌≡◌, ◌∷◌, ◌++◌, [], None, true, false, map, option_map};
+ghost use Rattle.std.specs.Prelude.{length, take, Err, IsTrue, IfOk, OnOk, OnErr, IfErr};
 ghost use Rattle.std.specs.Map.{lookup};
 ghost use Rattle.providers.specs.Provider.{knows_requirement};
 ghost use Rattle.providers.specs.Requirement.{same_requirement};
@@ -86,9 +87,11 @@ impl<D: DependencyProvider + Drop> ClauseStore<D> {
     fn load_new(&mut self, requirement: Requirement) -> Result<VariableLists<D::Alloc>, StoreError>
         requires known { knows_requirement (D.universe self.old.provider) requirement ≡ true }
         requires new { lists_of (⟦<D as AbstractStore>⟧.store self.old) requirement ≡ None }
-        ensures ok { IfOk result (λ lists. IsAnswered (⟦<D as AbstractStore>⟧.store self.old) (Load requirement) (LoadedAs (map (λ l. l.items) lists.items))
+        ensures ok { IfOk result (λ lists. IsAnswered (⟦<D as AbstractStore>⟧.store self.old) (Load requirement)
+            (LoadedAs (map (λ l. l.items) lists.items))
             (⟦<D as AbstractStore>⟧.store self.new)) }
-        ensures err { IfErr result (λ e. IsAnswered (⟦<D as AbstractStore>⟧.store self.old) (Load requirement) (Refused e)
+        ensures err { IfErr result (λ e. IsAnswered (⟦<D as AbstractStore>⟧.store self.old)
+            (Load requirement) (Refused e)
             (⟦<D as AbstractStore>⟧.store self.new)) }
         ensures provider { self.new.provider ≡ self.old.provider }
         ensures asked { self.new.asked ≡ self.old.asked }
@@ -101,15 +104,16 @@ impl<D: DependencyProvider + Drop> ClauseStore<D> {
         kept
     }
 
-    /// Gives a requirement's candidates variables, and keeps their lists as the requirement's. A refusal keeps no lists,
-    /// and leaves the variables that were there in front.
+    /// Gives a requirement's candidates variables, and keeps their lists as the requirement's. A refusal keeps no
+    /// lists, and leaves the variables that were there in front.
     fn keep_candidates(
         &mut self,
         requirement: Requirement,
     ) -> Result<VariableLists<D::Alloc>, StoreError>
         requires known { knows_requirement (D.universe self.old.provider) requirement ≡ true }
         requires new { lists_of (⟦<D as AbstractStore>⟧.store self.old) requirement ≡ None }
-        ensures lists { IfOk result (λ lists. map (λ l. l.items) lists.items ≡ variables_loaded (⟦<D as AbstractStore>⟧.store self.old) requirement) }
+        ensures lists { IfOk result (λ lists. map (λ l. l.items) lists.items ≡
+            variables_loaded (⟦<D as AbstractStore>⟧.store self.old) requirement) }
         ensures ok { IfOk result (λ lists. self.new ≡ record self.old {
           origins = origins_loaded (⟦<D as AbstractStore>⟧.store self.old) requirement;
           loaded = self.old.loaded ++ (requirement, map (λ l. l.items) lists.items) ∷ [];
@@ -117,7 +121,8 @@ impl<D: DependencyProvider + Drop> ClauseStore<D> {
         ensures fit { OnOk result (lacks_ids (⟦<D as AbstractStore>⟧.store self.old) (Load requirement) ≡ false) }
         ensures err { OnErr result (self.new ≡ record self.old { origins = self.new.origins }) }
         ensures front { take (length self.old.origins) self.new.origins ≡ self.old.origins }
-        ensures refused { IfErr result (λ e. may_be_refused (⟦<D as AbstractStore>⟧.store self.old) (Load requirement) e ≡ true) }
+        ensures refused { IfErr result (λ e. may_be_refused (⟦<D as AbstractStore>⟧.store self.old)
+            (Load requirement) e ≡ true) }
     {
         let lists = load_lists(&mut self.cache, &mut self.variables, requirement)?;
         let reply = lists.clone()?;

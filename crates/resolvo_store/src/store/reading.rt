@@ -1,5 +1,6 @@
 //! What a search or a report reads of a store beside the replies.
-ghost use Rattle.std.specs.Prelude.{◌≡◌, [], if◌then◌else◌, is_some, slice_get, option_map, IsSomeAnd, IfOk, OnOk, OnErr, IfErr};
+ghost use Rattle.std.specs.Prelude.{◌≡◌, [], if◌then◌else◌, is_some, slice_get};
+ghost use Rattle.std.specs.Prelude.{option_map, IsSomeAnd, IfOk, OnOk, OnErr, IfErr};
 ghost use Rattle.typed_ids.specs.declared.error.StoreError.TheVariants.{OutOfMemory, UnknownId};
 ghost use Rattle.providers.specs.Texts.{IsAppended, IsSameText};
 ghost use Rattle.watch_map.specs.Watching.{IsExact};
@@ -31,7 +32,8 @@ impl<D: DependencyProvider + Drop> ClauseStore<D> {
     /// The clauses that watch the literal, front first; none of an unknown variable. Takes memory for them.
     pub fn watchers(&self, literal: Literal) -> Result<Vec<ClauseId, D::Alloc>, StoreError>
         ensures ok { IfOk result (λ found. found.items ≡
-            (if knows_literal (⟦<D as AbstractStore>⟧.store self.now) literal then (⟦<D as AbstractStore>⟧.store self.now).watchers literal else [])) }
+            (if knows_literal (⟦<D as AbstractStore>⟧.store self.now) literal
+            then (⟦<D as AbstractStore>⟧.store self.now).watchers literal else [])) }
         ensures exact { (let st = ⟦<D as AbstractStore>⟧.store self.now in IsExact (watched_by st) st.watchers) }
         ensures memory { IfErr result (λ e. e ≡ OutOfMemory) }
     {
@@ -44,7 +46,8 @@ impl<D: DependencyProvider + Drop> ClauseStore<D> {
     /// The literals of a clause, in order; none of an unknown one. Takes memory for them.
     pub fn literals(&self, clause: ClauseId) -> Result<Option<Vec<Literal, D::Alloc>>, StoreError>
         ensures ok { IfOk result (λ found. option_map (λ literals. literals.items) found ≡
-            option_map (literals_of (kept_literals (⟦<D as AbstractStore>⟧.store self.now))) (slice_get (⟦<D as AbstractStore>⟧.store self.now).clauses clause)) }
+            option_map (literals_of (kept_literals (⟦<D as AbstractStore>⟧.store self.now)))
+            (slice_get (⟦<D as AbstractStore>⟧.store self.now).clauses clause)) }
         ensures memory { IfErr result (λ e. e ≡ OutOfMemory) }
     {
         let Some(clause) = self.clauses.get(clause) else {
@@ -55,19 +58,23 @@ impl<D: DependencyProvider + Drop> ClauseStore<D> {
         Ok(Some(literals))
     }
 
-    /// Appends the text of a clause: its kind, and in brackets what it is made of, over the provider's texts. A clause that
-    /// the store doesn't have is refused `UnknownId`, and nothing is asked of the provider then. After a refusal `out` is
-    /// as it was.
+    /// Appends the text of a clause: its kind, and in brackets what it is made of, over the provider's texts. A clause
+    /// that the store doesn't have is refused `UnknownId`, and nothing is asked of the provider then. After a refusal
+    /// `out` is as it was.
     pub fn display_clause(
         &self,
         clause: ClauseId,
         out: &mut String<D::Alloc>,
     ) -> Result<(), StoreError>
-        ensures ok { OnOk result (IsSomeAnd (slice_get (⟦<D as AbstractStore>⟧.store self.now).clauses clause) (λ c. IsAppended out.old out.new
-            (clause_text (D.universe self.now.provider) (D.texts self.now.provider) (⟦<D as AbstractStore>⟧.store self.now).origins c))) }
+        ensures ok { OnOk result
+            (IsSomeAnd (slice_get (⟦<D as AbstractStore>⟧.store self.now).clauses clause) (λ c.
+            IsAppended out.old out.new
+            (clause_text (D.universe self.now.provider) (D.texts self.now.provider)
+            (⟦<D as AbstractStore>⟧.store self.now).origins c))) }
         ensures err { OnErr result (IsSameText out.old out.new) }
         ensures refused { IfErr result (λ e. e ≡
-            (if is_some (slice_get (⟦<D as AbstractStore>⟧.store self.now).clauses clause) then OutOfMemory else UnknownId)) }
+            (if is_some (slice_get (⟦<D as AbstractStore>⟧.store self.now).clauses clause) then OutOfMemory
+            else UnknownId)) }
     {
         let Some(clause) = self.clauses.get(clause) else {
             return Err(StoreError::UnknownId);

@@ -1,5 +1,7 @@
 //! The commands that keep conditions' literals and add requires clauses.
-ghost use Rattle.std.specs.Prelude.{◌≡◌, ◌⊎◌, ◌-◌, ◌^◌, ◌∷◌, ◌++◌, [], length, true, false, nat_le, nat_lt, ◌&&◌, is_some, unwrap_or, map, ◌<◌, IsSome, IfSome, All, Err, IsTrue, IfOk, OnOk, OnErr, IfErr};
+ghost use Rattle.std.specs.Prelude.{◌≡◌, ◌⊎◌, ◌-◌, ◌^◌, ◌∷◌, ◌++◌, List, [], length, true, false};
+ghost use Rattle.std.specs.Prelude.{nat_le, nat_lt, ◌&&◌, is_some, unwrap_or, map, ◌<◌, IsSome};
+ghost use Rattle.std.specs.Prelude.{IfSome, All, Err, IsTrue, IfOk, OnOk, OnErr, IfErr};
 ghost use Rattle.decisions.specs.Literals.{Neg};
 ghost use Rattle.decisions.specs.Trail.{val};
 ghost use Rattle.typed_ids.specs.Refusals.{IsGrowthRefusal, are_ids_out};
@@ -14,8 +16,10 @@ ghost use Rattle.clauses.specs.Clauses.{Kept, first_watches, is_conflict, condit
 ghost use Rattle.clauses.specs.Stored.{kept_in};
 ghost use Rattle.clauses.specs.declared.clause.Clause.TheVariants as Kind;
 ghost use Rattle.watch_map.specs.Watching.{AreTwoOrNone, is_literal_in};
+ghost use Rattle.decisions.specs.declared.decision.Decision.{Decision as ADecision};
+ghost use Rattle.resolvo_queue.specs.Clear.{RemembersWell};
 ghost use Rattle.resolvo_queue.specs.Queue.{IsRegistered, IsUnchanged, StandsOn};
-ghost use Rattle.resolvo_queue.specs.References.{Lists, references};
+ghost use Rattle.resolvo_queue.specs.References.{Lists, References, references};
 ghost use Rattle.resolvo_queue.specs.WalkCounts.{looks, owed, walks};
 ghost use Rattle.watch_map.specs.ClauseList.{contents, literals_watched, two_or_none, is_full, with_clause};
 ghost use Rattle.resolvo_store.specs.Command.{DisjunctionIs, ClauseIs, reply_of};
@@ -113,7 +117,8 @@ impl<D: DependencyProvider + Drop> ClauseStore<D> {
             condition: disjunction,
             parent_value: self.trail.assigned_value(parent),
         };
-        register(
+        let first = self.clauses.len();
+        let reply = register(
             self.alloc,
             &mut self.clauses,
             &mut self.queue,
@@ -123,7 +128,10 @@ impl<D: DependencyProvider + Drop> ClauseStore<D> {
             clause,
             watches,
             conflict,
-        )
+        );
+        self.clauses
+            .forget_false_from(first, &mut self.marks, &self.trail);
+        reply
     }
 }
 
@@ -160,7 +168,8 @@ fn negates_parent<A: Allocator + Copy>(
     parent: VariableId,
     disjunction: &Option<DisjunctionId>,
 ) -> bool
-    ensures { result ≡ is_literal_in (Neg parent) (condition_literals (kept_in [] [] disjunctions.now) disjunction.now) }
+    ensures { result ≡ is_literal_in (Neg parent)
+        (condition_literals (kept_in [] [] disjunctions.now) disjunction.now) }
 {
     has_literal(
         literals_of(disjunctions, disjunction),
@@ -183,7 +192,8 @@ fn candidates<A: Allocator + Copy>(
     loaded: &RequirementMap<VariableLists<A>, A>,
     requirement: Requirement,
 ) -> &[Vec<VariableId, A>]
-    ensures { map (λ l. l.items) result.now ≡ unwrap_or (lookup (same_requirement requirement) (lists_kept loaded.now)) [] }
+    ensures { map (λ l. l.items) result.now ≡
+        unwrap_or (lookup (same_requirement requirement) (lists_kept loaded.now)) [] }
 {
     match lists(loaded, requirement) {
         Some(lists) => lists.as_slice(),
@@ -202,29 +212,35 @@ fn clause_of<N, A: Allocator + Copy>(
     disjunction: &Option<DisjunctionId>,
 ) -> (Option<WatchedLiterals>, bool, Clause<N>)
     ensures clause { result.2 ≡ Kind.Requires parent disjunction.now requirement }
-    ensures kept { (k : Kept) → condition_literals k disjunction.now ≡ condition_literals (kept_in [] [] disjunctions.now) disjunction.now →
+    ensures kept { (k : Kept) → condition_literals k disjunction.now ≡
+        condition_literals (kept_in [] [] disjunctions.now) disjunction.now →
         k.lists requirement ≡ unwrap_or (lookup (same_requirement requirement) (lists_kept loaded.now)) [] →
-        (literals_watched result.0 ≡ first_watches k (val trail.now.entries) result.2) × (result.1 ≡ is_conflict k (val trail.now.entries) result.2) }
+        (literals_watched result.0 ≡ first_watches k (val trail.now.entries) result.2) ×
+        (result.1 ≡ is_conflict k (val trail.now.entries) result.2) }
 {
     let lists = candidates(loaded, requirement);
     let literals = literals_of(disjunctions, disjunction);
     WatchedLiterals::requires_of_lists(parent, requirement, lists, *disjunction, literals, trail)
 }
 
-/// Keeps one disjunction more, and answers its id. Takes memory for a copy of the literals, and where there is no room left.
+/// Keeps one disjunction more, and answers its id. Takes memory for a copy of the literals, and where there is no room
+/// left.
 fn keep_disjunction<A: Allocator + Copy>(
     alloc: A,
     disjunctions: &mut Arena<DisjunctionId, Disjunction<A>, A>,
     literals: &[Literal],
     condition: ConditionId,
 ) -> Result<Reply<A>, StoreError>
-    ensures reply { IfOk result (λ reply. reply_of reply ≡ DisjunctionIs (length (disjunctions_kept disjunctions.old))) }
+    ensures reply { IfOk result (λ reply. reply_of reply ≡
+        DisjunctionIs (length (disjunctions_kept disjunctions.old))) }
     ensures ok { OnOk result (disjunctions_kept disjunctions.new ≡
         disjunctions_kept disjunctions.old ++ record { literals = literals.now; condition = condition } ∷ []) }
     ensures more { OnOk result (IsOneMore disjunctions.old disjunctions.new) }
     ensures err { OnErr result (disjunctions.new ≡ disjunctions.old) }
-    ensures refused { IfErr result (IsGrowthRefusal (are_ids_out (2 ^ 32 - 1) (length (disjunctions_kept disjunctions.old)))) }
-    ensures ids_out { IsTrue (are_ids_out (2 ^ 32 - 1) (length (disjunctions_kept disjunctions.old))) → result ≡ Err IdSpace }
+    ensures refused { IfErr result
+        (IsGrowthRefusal (are_ids_out (2 ^ 32 - 1) (length (disjunctions_kept disjunctions.old)))) }
+    ensures ids_out { IsTrue (are_ids_out (2 ^ 32 - 1) (length (disjunctions_kept disjunctions.old))) →
+        result ≡ Err IdSpace }
 {
     if !DisjunctionId::in_range(disjunctions.len()) {
         return Err(StoreError::IdSpace);
@@ -246,8 +262,8 @@ struct Required {
     parent_value: Option<bool>,
 }
 
-/// Registers the clause under the next id, and adds it; the reply says whether it is a conflict. The room for it is made
-/// first.
+/// Registers the clause under the next id, and adds it; the reply says whether it is a conflict. The room for it is
+/// made first.
 fn register<D: DependencyProvider + Drop>(
     alloc: D::Alloc,
     clauses: &mut ClauseList<D::NameId, D::Alloc>,
@@ -264,10 +280,17 @@ fn register<D: DependencyProvider + Drop>(
     requires few { nat_le (2 ^ 32 - 1) (length queue.old.clauses) ≡ false }
     requires two { AreTwoOrNone (two_or_none (literals_watched watches)) }
     ensures reply { IfOk result (λ reply. reply_of reply ≡ ClauseIs (length (contents clauses.old).clauses) conflict) }
-    ensures added { OnOk result (contents clauses.new ≡ with_clause (contents clauses.old) clause (literals_watched watches)) }
+    ensures added { OnOk result (contents clauses.new ≡
+        with_clause (contents clauses.old) clause (literals_watched watches)) }
     ensures registered { OnOk result (IsRegistered D.NameId.Set.has
-        (record { parent = required.now.parent; requirement = required.now.requirement; condition = required.now.condition; clause_id = length (contents clauses.old).clauses })
-        (map (D.universe provider.now).set_name (sets_of (D.universe provider.now) required.now.requirement)) required.now.parent_value queue.old queue.new) }
+        (record {
+          parent = required.now.parent;
+          requirement = required.now.requirement;
+          condition = required.now.condition;
+          clause_id = length (contents clauses.old).clauses;
+        })
+        (map (D.universe provider.now).set_name (sets_of (D.universe provider.now) required.now.requirement))
+        required.now.parent_value queue.old queue.new) }
     ensures unadded { OnErr result (contents clauses.new ≡ contents clauses.old) }
     ensures unregistered { OnErr result (IsUnchanged queue.old queue.new D.NameId.Set.has) }
     ensures walks { SameValues (walks queue.old) (walks queue.new) }
@@ -277,6 +300,8 @@ fn register<D: DependencyProvider + Drop>(
     ensures stands { (lists : Lists D.Alloc) → IsSome (lookup (same_requirement required.now.requirement) lists) →
         StandsOn (references (D.universe provider.now) lists disjunctions.now) queue.old →
         StandsOn (references (D.universe provider.now) lists disjunctions.now) queue.new }
+    ensures clear { (refs : References D.NameId D.SolvableId D.Alloc) (ds : List ADecision) → StandsOn refs queue.old →
+        RemembersWell refs ds queue.old → RemembersWell refs ds queue.new }
     ensures refused { IfErr result (IsGrowthRefusal (is_full (contents clauses.old))) }
     ensures ids_out { IsTrue (is_full (contents clauses.old)) → result ≡ Err IdSpace }
 {
@@ -303,7 +328,8 @@ fn package_names<D: DependencyProvider>(
     requirement: Requirement,
 ) -> Result<Vec<D::NameId, D::Alloc>, StoreError>
     requires { knows_requirement (D.universe provider.now) requirement ≡ true }
-    ensures ok { IfOk result (λ names. names.items ≡ map (D.universe provider.now).set_name (sets_of (D.universe provider.now) requirement)) }
+    ensures ok { IfOk result (λ names. names.items ≡
+        map (D.universe provider.now).set_name (sets_of (D.universe provider.now) requirement)) }
     ensures memory { IfErr result (λ e. e ≡ OutOfMemory) }
 {
     names_of_sets(

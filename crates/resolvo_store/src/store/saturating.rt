@@ -27,9 +27,13 @@ impl<D: DependencyProvider + Drop> ClauseStore<D> {
             return Err(StoreError::LevelOutOfRange);
         }
         let (lists, disjunctions) = (&self.loaded, &self.disjunctions);
-        let found = self
-            .clauses
-            .saturate(lists, disjunctions, &mut self.trail, level);
+        let found = self.clauses.saturate(
+            lists,
+            disjunctions,
+            &mut self.trail,
+            &mut self.marks,
+            level,
+        );
         answered(found)
     }
 }

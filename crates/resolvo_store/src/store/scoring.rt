@@ -1,9 +1,11 @@
 //! The commands on scores: how active packages were in a search.
-ghost use Rattle.std.specs.Prelude.{◌≡◌, true, Err, IsTrue, IfOk, OnOk, OnErr, IfErr};
+ghost use Rattle.std.specs.Prelude.{◌≡◌, List, true, Err, IsTrue, IfOk, OnOk, OnErr, IfErr};
 ghost use Rattle.typed_ids.specs.Refusals.{IsGrowthRefusal};
 ghost use Rattle.typed_ids.specs.TotalMaps.{IsUpdate, SameValues};
 ghost use Rattle.typed_ids.specs.declared.error.StoreError.TheVariants.{IdSpace};
 ghost use Rattle.id_maps.specs.Scores.{bumped};
+ghost use Rattle.decisions.specs.declared.decision.Decision.{Decision as ADecision};
+ghost use Rattle.resolvo_queue.specs.Clear.{RemembersWell};
 ghost use Rattle.resolvo_queue.specs.Queue.{SameClauses, SameSync, StandsOn};
 ghost use Rattle.resolvo_queue.specs.References.{References};
 ghost use Rattle.resolvo_queue.specs.WalkCounts.{looks, owed, walks};
@@ -73,7 +75,8 @@ impl<D: DependencyProvider + Drop> ClauseStore<D> {
     }
 }
 
-/// Raises the score of a name, which the queue knows as hot from then on. All memory is taken before the score is written.
+/// Raises the score of a name, which the queue knows as hot from then on. All memory is taken before the score is
+/// written.
 fn raise<D: DependencyProvider>(
     scores: &mut Scores<D::NameId, D::Alloc>,
     queue: &mut DecideQueue<D>,
@@ -84,14 +87,18 @@ fn raise<D: DependencyProvider>(
     ensures bumped { OnOk result (D.NameId.Scores.value_at scores.new.map
         ≡ bumped D.NameId.eq name amount (D.NameId.Scores.value_at scores.old.map)) }
     ensures hot { OnOk result (IsUpdate (D.NameId.Set.has queue.old.hot) name true (D.NameId.Set.has queue.new.hot)) }
-    ensures same_scores { OnErr result (D.NameId.Scores.value_at scores.new.map ≡ D.NameId.Scores.value_at scores.old.map) }
+    ensures same_scores { OnErr result (D.NameId.Scores.value_at scores.new.map ≡
+        D.NameId.Scores.value_at scores.old.map) }
     ensures same_hot { OnErr result (SameValues (D.NameId.Set.has queue.old.hot) (D.NameId.Set.has queue.new.hot)) }
     ensures clauses { SameClauses queue.old queue.new }
     ensures synced { SameSync queue.old queue.new }
     ensures walks { SameValues (walks queue.old) (walks queue.new) }
     ensures looks { SameValues (looks queue.old) (looks queue.new) }
     ensures owed { SameValues (owed queue.old) (owed queue.new) }
-    ensures stands { (refs : References D.NameId D.SolvableId D.Alloc) → StandsOn refs queue.old → StandsOn refs queue.new }
+    ensures stands { (refs : References D.NameId D.SolvableId D.Alloc) → StandsOn refs queue.old →
+        StandsOn refs queue.new }
+    ensures clear { (refs : References D.NameId D.SolvableId D.Alloc) (ds : List ADecision) →
+        RemembersWell refs ds queue.old → RemembersWell refs ds queue.new }
     ensures refused { IfErr result (IsGrowthRefusal (D.NameId.Slots.is_too_large name)) }
     ensures too_large { IsTrue (D.NameId.Slots.is_too_large name) → result ≡ Err IdSpace }
 {

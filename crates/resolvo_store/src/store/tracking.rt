@@ -1,5 +1,6 @@
 //! The command that tracks variables of which at most one may be true.
-ghost use Rattle.std.specs.Prelude.{◌≡◌, ℕ, ◌+◌, ◌-◌, ◌^◌, ◌&&◌, ◌||◌, ◌++◌, [], true, false, not, nat_eq, nat_lt, length, is_some, IfOk, OnOk, OnErr, IfErr, IsTrue, Err};
+ghost use Rattle.std.specs.Prelude.{◌≡◌, ℕ, ◌+◌, ◌-◌, ◌^◌, ◌&&◌, ◌||◌, ◌++◌, [], true, false, not, nat_eq};
+ghost use Rattle.std.specs.Prelude.{nat_lt, length, is_some, IfOk, OnOk, OnErr, IfErr, IsTrue, Err};
 ghost use Rattle.typed_ids.specs.Refusals.{IsGrowthRefusal};
 ghost use Rattle.typed_ids.specs.declared.error.StoreError.TheVariants.{IdSpace, OutOfMemory};
 ghost use Rattle.variables.specs.Variables.{are_variables_out};
@@ -25,8 +26,8 @@ impl<D: DependencyProvider + Drop> ClauseStore<D> {
     ghost use Rattle.resolvo_store.specs.Command.{AtMostOnce, answer_of, IsRefused};
     ghost use Rattle.resolvo_store.specs.Step.{Step};
 
-    /// Tracks a variable under a name. The clauses are made first, then room for them and for the variable, so that nothing
-    /// has changed where this is refused; the helper, if one is needed, is made last.
+    /// Tracks a variable under a name. The clauses are made first, then room for them and for the variable, so that
+    /// nothing has changed where this is refused; the helper, if one is needed, is made last.
     pub(super) fn at_most_once(
         &mut self,
         name: D::NameId,
@@ -44,14 +45,18 @@ impl<D: DependencyProvider + Drop> ClauseStore<D> {
         if self.trackers.is_tracked(name, variable) {
             return Ok(Reply::Tracked(false, 0));
         }
-        track(
+        let first = self.clauses.len();
+        let reply = track(
             self.alloc,
             &mut self.variables,
             &mut self.clauses,
             &mut self.trackers,
             name,
             variable,
-        )
+        );
+        self.clauses
+            .forget_false_from(first, &mut self.marks, &self.trail);
+        reply
     }
 }
 
@@ -85,8 +90,8 @@ fn is_helper<N: Copy, S: SolverId<A>, A: Allocator + Copy>(
     }
 }
 
-/// Tracks a variable under a name that doesn't track it, with a helper where one is needed, and adds the clauses of both.
-/// All room is made before anything changes, but for the helper's, which is made last.
+/// Tracks a variable under a name that doesn't track it, with a helper where one is needed, and adds the clauses of
+/// both. All room is made before anything changes, but for the helper's, which is made last.
 fn track<N: SolverId<A>, S: SolverId<A>, A: Allocator + Copy>(
     alloc: A,
     variables: &mut VariableMap<N, S, A>,
@@ -97,18 +102,22 @@ fn track<N: SolverId<A>, S: SolverId<A>, A: Allocator + Copy>(
 ) -> Result<Reply<A>, StoreError>
     requires { is_tracked nat_eq (tracker_of N.eq trackers.old name) variable ≡ false }
     ensures reply { let t = tracker_of N.eq trackers.old name in
-        IfOk result (λ reply. reply_of reply ≡ TrackedAs true (length (new_clauses t (next_helper variables.old t variable) variable))) }
+        IfOk result (λ reply. reply_of reply ≡ TrackedAs true
+        (length (new_clauses t (next_helper variables.old t variable) variable))) }
     ensures variables { let t = tracker_of N.eq trackers.old name in
         OnOk result (variables.new ≡ origins_with variables.old name (next_helper variables.old t variable)) }
     ensures clauses { let t = tracker_of N.eq trackers.old name in
-        OnOk result (contents clauses.new ≡ with_forbidden name (contents clauses.old) (new_clauses t (next_helper variables.old t variable) variable)) }
+        OnOk result (contents clauses.new ≡ with_forbidden name (contents clauses.old)
+        (new_clauses t (next_helper variables.old t variable) variable)) }
     ensures trackers { let t = tracker_of N.eq trackers.old name in
-        OnOk result (tracker_of N.eq trackers.new ≡ with_tracked N.eq name variable (next_helper variables.old t variable) (tracker_of N.eq trackers.old)) }
+        OnOk result (tracker_of N.eq trackers.new ≡
+        with_tracked N.eq name variable (next_helper variables.old t variable) (tracker_of N.eq trackers.old)) }
     ensures same_variables { OnErr result (variables.new ≡ variables.old) }
     ensures same_clauses { OnErr result (contents clauses.new ≡ contents clauses.old) }
     ensures same_trackers { OnErr result (tracker_of N.eq trackers.new ≡ tracker_of N.eq trackers.old) }
     ensures fits { let t = tracker_of N.eq trackers.old name in let h = next_helper variables.old t variable in
-        OnOk result ((N.Slots.is_too_large name || lacks_more variables.old h (length (contents clauses.old).clauses) (length (new_clauses t h variable))) ≡ false) }
+        OnOk result ((N.Slots.is_too_large name || lacks_more variables.old h (length (contents clauses.old).clauses)
+        (length (new_clauses t h variable))) ≡ false) }
     ensures refused { let t = tracker_of N.eq trackers.old name in let h = next_helper variables.old t variable in
         IfErr result (IsGrowthRefusal (lacks_tracker (N.Slots.is_too_large name) N.are_many t
         || lacks_more variables.old h (length (contents clauses.old).clauses) (length (new_clauses t h variable)))) }
@@ -131,10 +140,12 @@ fn next_helper<N: SolverId<A>, S: SolverId<A>, A: Allocator + Copy>(
     name: N,
     variable: VariableId,
 ) -> Result<Option<VariableId>, StoreError>
-    ensures ok { IfOk result (λ helper. helper ≡ next_helper variables.now (tracker_of N.eq trackers.now name) variable) }
+    ensures ok { IfOk result (λ helper. helper ≡
+        next_helper variables.now (tracker_of N.eq trackers.now name) variable) }
     ensures fits { IfOk result (λ helper. (is_some helper && are_variables_out (length variables.now)) ≡ false) }
     ensures err { IfErr result (λ e. (e ≡ IdSpace)
-        × IsTrue (is_some (next_helper variables.now (tracker_of N.eq trackers.now name) variable) && are_variables_out (length variables.now))) }
+        × IsTrue (is_some (next_helper variables.now (tracker_of N.eq trackers.now name) variable) &&
+        are_variables_out (length variables.now))) }
 {
     if !trackers.needs_helper(name, variable) {
         return Ok(None);

@@ -44,6 +44,8 @@ impl<D: DependencyProvider + Drop> ClauseStore<D> {
             return Err(StoreError::BadWatch);
         }
         self.clauses.rewatch(clause, from, to)?;
+        self.clauses
+            .forget_false(clause, &mut self.marks, &self.trail);
         Ok(Reply::Done)
     }
 
@@ -85,7 +87,8 @@ fn has_literal<N: Copy, A: Allocator + Copy>(
     literal: Literal,
 ) -> bool
     ensures { let kept = record (kept_in [] loaded.now disjunctions.now) { learnt = (contents clauses.now).learnt } in
-        result ≡ is_literal_in literal (unwrap_or (option_map (literals_of kept) (slice_get (contents clauses.now).clauses clause)) []) }
+        result ≡ is_literal_in literal
+        (unwrap_or (option_map (literals_of kept) (slice_get (contents clauses.now).clauses clause)) []) }
 {
     let Some(clause) = clauses.get(clause) else {
         return false;

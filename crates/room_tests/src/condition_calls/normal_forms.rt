@@ -30,7 +30,8 @@ pub(crate) const FORMS: [Form; 4] = [
     [Some([A, C, None]), Some([B, C, None]), None, None, None],
 ];
 
-/// Whether each of the two conditions is met where it should be, as each of the eight ways to choose version sets shows.
+/// Whether each of the two conditions is met where it should be, as each of the eight ways to choose version sets
+/// shows.
 pub(crate) fn met_by_each<I: Interner, A: Allocator + Copy>(
     alloc: A,
     interner: &I,

@@ -1,4 +1,5 @@
-//! Memory refused at each request in turn. A refused conversion answers so, and made again it answers what ample memory does.
+//! Memory refused at each request in turn. A refused conversion answers so, and made again it answers what ample memory
+//! does.
 use crate::condition_calls::normal_forms::{Form, form};
 use providers::Interner;
 use std::alloc::Global;
@@ -6,12 +7,12 @@ use std::test::Fail;
 use test_support::{Refusing, is_same};
 use typed_ids::StoreError;
 
-/// What is seen of a conversion to which a request may be refused: the number of the request, and whether it came; and the
-/// answers to the conversion, and to one that is made again.
+/// What is seen of a conversion to which a request may be refused: the number of the request, and whether it came; and
+/// the answers to the conversion, and to one that is made again.
 type Refusal = (u64, bool, [Result<Form, StoreError>; 2]);
 
-/// Each request that the conversion of condition 8 makes is refused in turn. A request is the room for an alternative, for
-/// the two lists of one, for a list's sets, or for the lists that are done.
+/// Each request that the conversion of condition 8 makes is refused in turn. A request is the room for an alternative,
+/// for the two lists of one, for a list's sets, or for the lists that are done.
 pub(crate) fn each_is_refused<I: Interner>(alloc: Global, interner: &I) -> Result<(), Fail> {
     for number in 1..100u64 {
         if !is_as_wanted(alloc, interner, number)? {

@@ -27,8 +27,8 @@ const FIFTH: &[BitClause] = &[
     (5, 13, true),
 ];
 
-/// Which additions were of new variables; and whether the clauses were as wanted: those that four variables have, and of a
-/// fifth one those that are foretold, and then added.
+/// Which additions were of new variables; and whether the clauses were as wanted: those that four variables have, and
+/// of a fifth one those that are foretold, and then added.
 type Seen = ([bool; 7], [bool; 3]);
 
 // Two variables come again, which changes nothing.

@@ -65,8 +65,9 @@ impl<A: Allocator + Copy> TrackedNumbers<A> {
     }
 }
 
-/// The variables 1 to 5 are added, and the clauses of 6 foretold, where the request of a number is refused; what is refused is called once
-/// more. How many calls were refused; whether one of them changed anything; and whether the clauses are as many as wanted in the end.
+/// The variables 1 to 5 are added, and the clauses of 6 foretold, where the request of a number is refused; what is
+/// refused is called once more. How many calls were refused; whether one of them changed anything; and whether the
+/// clauses are as many as wanted in the end.
 pub(crate) fn refused_additions<B: Allocator>(
     heap: &Refusing<B>,
     number: u64,

@@ -6,8 +6,8 @@ use std::test::Fail;
 use test_support::sees;
 use typed_ids::StoreError;
 
-// A walk updates the first and the last clause of its list, and passes the one between them. Each goes to the front of the
-// other list, so that the one that is met last stands first.
+// A walk updates the first and the last clause of its list, and passes the one between them. Each goes to the front of
+// the other list, so that the one that is met last stands first.
 #[test]
 fn walks_move_some_and_keep_others(rt: HostRuntime) -> Result<(), Fail> {
     let (none, all) = (listed(&[]), listed(&[3, 2, 1, 0]));

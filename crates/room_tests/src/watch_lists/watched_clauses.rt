@@ -32,8 +32,8 @@ impl<A: Allocator + Copy> Model for WatchedClauses<A> {
 /// How many variables are watched, and the lists of four of them.
 pub(crate) type Seen = (usize, [Listed; 4]);
 
-/// What is seen of two lists once a watch is moved from the one to the other: both lists, the clause at which the cursor
-/// then stands, and how many variables are watched.
+/// What is seen of two lists once a watch is moved from the one to the other: both lists, the clause at which the
+/// cursor then stands, and how many variables are watched.
 pub(crate) type Moved = ([Listed; 2], Option<usize>, usize);
 
 impl<A: Allocator + Copy> WatchedClauses<A> {
@@ -85,8 +85,8 @@ impl<A: Allocator + Copy> WatchedClauses<A> {
         move_each(&mut self.map, self.watches.as_mut_slice(), from, to)
     }
 
-    /// The second clause of a variable's list is to watch another variable in its place. Where that is refused, the clause at which the
-    /// cursor stands that is handed back, and why.
+    /// The second clause of a variable's list is to watch another variable in its place. Where that is refused, the
+    /// clause at which the cursor stands that is handed back, and why.
     pub(crate) fn move_second(&mut self, from: u16, to: u16) -> Option<(usize, StoreError)> {
         let (from, to) = (positive(from), positive(to));
         let first = self.map.cursor(self.watches.as_slice(), from);
@@ -175,8 +175,8 @@ fn move_first_and_third<A: Allocator + Copy>(
     Ok(())
 }
 
-/// Lets the clause at the cursor, if there is one, watch another literal, unless it watches that already. The cursor at the
-/// clause behind it.
+/// Lets the clause at the cursor, if there is one, watch another literal, unless it watches that already. The cursor at
+/// the clause behind it.
 fn moved<A: Allocator + Copy>(
     map: &mut WatchMap<A>,
     watches: &mut [Option<WatchedLiterals>],
@@ -201,8 +201,8 @@ fn moved<A: Allocator + Copy>(
     }
 }
 
-/// Lets the clause at the cursor, if there is one, watch another literal, unless it watches that already. Where that is refused, the clause
-/// at which the cursor stands that is handed back, and why.
+/// Lets the clause at the cursor, if there is one, watch another literal, unless it watches that already. Where that is
+/// refused, the clause at which the cursor stands that is handed back, and why.
 fn updated<A: Allocator + Copy>(
     map: &mut WatchMap<A>,
     watches: &mut [Option<WatchedLiterals>],

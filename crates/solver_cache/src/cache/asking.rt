@@ -23,7 +23,8 @@ impl<D: DependencyProvider + Drop> SolverCache<D> {
         ensures answered { IfOk result (λ id. AnswersCandidates
             (⟦<D as ProviderFunctions>⟧.functions self.old.provider) (D.may_answer self.old.provider)
             D.SolvableId.Set.has self.old name id self.new) }
-        ensures kept { is_asked (⟦<D as ProviderFunctions>⟧.functions self.old.provider) self.old name ≡ true → IsOk result }
+        ensures kept { is_asked (⟦<D as ProviderFunctions>⟧.functions self.old.provider) self.old name ≡
+            true → IsOk result }
         ensures refused { IfErr result (λ e. RefusesCandidates
             (⟦<D as ProviderFunctions>⟧.functions self.old.provider) (D.may_answer self.old.provider)
             D.SolvableId.Set.has self.old name e self.new) }
@@ -60,7 +61,8 @@ impl<D: DependencyProvider + Drop> SolverCache<D> {
         requires { (D.universe self.old.provider).knows_solvable solvable ≡ true }
         ensures answered { IfOk result (λ id. AnswersDependencies
             (⟦<D as ProviderFunctions>⟧.functions self.old.provider) self.old solvable id self.new) }
-        ensures kept { is_fetched (⟦<D as ProviderFunctions>⟧.functions self.old.provider) self.old solvable ≡ true → IsOk result }
+        ensures kept { is_fetched (⟦<D as ProviderFunctions>⟧.functions self.old.provider) self.old solvable ≡
+            true → IsOk result }
         ensures refused { IfErr result (λ e. RefusesDependencies
             (⟦<D as ProviderFunctions>⟧.functions self.old.provider) self.old solvable e self.new) }
     {

@@ -22,8 +22,8 @@ impl<D: DependencyProvider + Drop> SolverCache<D> {
     ghost use Rattle.solver_cache.specs.Outcomes.{AnswersSorted, AnswersRequirement, AnswersLists, SortsSets};
     ghost use Rattle.solver_cache.specs.Outcomes.{RefusesSorted, RefusesSets, RefusesNext};
 
-    /// The candidates of a requirement: of each of its version sets, one after the other, those that it holds, best first.
-    /// The first refusal ends the call.
+    /// The candidates of a requirement: of each of its version sets, one after the other, those that it holds, best
+    /// first. The first refusal ends the call.
     pub fn get_or_cache_sorted_candidates(
         &mut self,
         requirement: Requirement,
@@ -44,8 +44,8 @@ impl<D: DependencyProvider + Drop> SolverCache<D> {
         }
     }
 
-    /// The candidates that a version set holds, best first. The favored one, where it is among them, is the best; the others
-    /// are in the provider's order.
+    /// The candidates that a version set holds, best first. The favored one, where it is among them, is the best; the
+    /// others are in the provider's order.
     pub fn get_or_cache_sorted_candidates_for_version_set(
         &mut self,
         set: VersionSetId,
@@ -120,7 +120,8 @@ impl<D: DependencyProvider + Drop> SolverCache<D> {
             (⟦<D as ProviderFunctions>⟧.functions self.old.provider) (D.may_answer self.old.provider)
             D.SolvableId.Set.has self.old
             ((D.universe self.old.provider).union_sets union) self.new) }
-        ensures list { IfOk result (λ list. list.items ≡ sorted_of (⟦<D as ProviderFunctions>⟧.functions self.old.provider) (Union union)) }
+        ensures list { IfOk result (λ list. list.items ≡
+            sorted_of (⟦<D as ProviderFunctions>⟧.functions self.old.provider) (Union union)) }
         ensures refused { IfErr result (λ e. RefusesSets
             (⟦<D as ProviderFunctions>⟧.functions self.old.provider) (D.may_answer self.old.provider)
             D.SolvableId.Set.has self.old
@@ -167,7 +168,8 @@ impl<D: DependencyProvider + Drop> SolverCache<D> {
         ensures sorted { OnOk result (SortsSets
             (⟦<D as ProviderFunctions>⟧.functions self.old.provider) (D.may_answer self.old.provider)
             D.SolvableId.Set.has self.old sets.now self.new) }
-        ensures lists { OnOk result (AreListed (⟦<D as ProviderFunctions>⟧.functions self.old.provider) self.new ids.new.items sets.now) }
+        ensures lists { OnOk result
+            (AreListed (⟦<D as ProviderFunctions>⟧.functions self.old.provider) self.new ids.new.items sets.now) }
         ensures refused { IfErr result (λ e. RefusesSets
             (⟦<D as ProviderFunctions>⟧.functions self.old.provider) (D.may_answer self.old.provider)
             D.SolvableId.Set.has self.old sets.now e self.new) }
@@ -210,7 +212,8 @@ impl<D: DependencyProvider + Drop> SolverCache<D> {
 
     /// The candidates that a version set holds, which are kept here.
     fn matching_list(&self, set: VersionSetId, id: ListId) -> &[D::SolvableId]
-        requires { list_at self.now id ≡ Some (matching (D.universe self.now.provider) (D.answers self.now.provider) set) }
+        requires { list_at self.now id ≡
+            Some (matching (D.universe self.now.provider) (D.answers self.now.provider) set) }
         ensures list { result.now ≡ matching (D.universe self.now.provider) (D.answers self.now.provider) set }
         ensures known { All (λ s. (D.universe self.now.provider).knows_solvable s ≡ true) result.now }
     {
@@ -239,7 +242,8 @@ fn in_order<D: DependencyProvider>(
     favored: Option<D::SolvableId>,
 ) -> Result<Vec<D::SolvableId, D::Alloc>, StoreError>
     requires { All (λ s. (D.universe provider.now).knows_solvable s ≡ true) solvables.now }
-    ensures ok { IfOk result (λ list. list.items ≡ favored_first D.SolvableId.eq favored ((D.answers provider.now).order solvables.now)) }
+    ensures ok { IfOk result (λ list. list.items ≡
+        favored_first D.SolvableId.eq favored ((D.answers provider.now).order solvables.now)) }
     ensures memory { IfErr result (λ e. e ≡ OutOfMemory) }
 {
     let mut list = Vec::from_slice(alloc, solvables)?;

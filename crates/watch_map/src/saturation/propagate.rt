@@ -6,7 +6,7 @@ ghost use Rattle.decisions.specs.Trail.{Entry, val};
 ghost use Rattle.watch_map.specs.WatchLists.{watched_by, AreWatched};
 ghost use Rattle.watch_map.specs.Forcing.{IsConflict};
 ghost use Rattle.watch_map.specs.Saturation.{WatchOwn, HasForced, IsRearranged};
-ghost use Rattle.watch_map.specs.WatchInvariant.{AreMet, refuted_literal, val_before};
+ghost use Rattle.watch_map.specs.WatchInvariant.{AreMet, KeepsMet, refuted_literal, val_before};
 ghost use Rattle.watch_map.specs.Visits.{literals_at};
 
 use crate::lists::WatchMap;
@@ -18,7 +18,8 @@ use std::alloc::Allocator;
 use typed_ids::{ClauseId, StoreError};
 
 /// Walks the lists of the literals that the entries from this place on make false, those that it adds among them.
-/// Answers a clause that is false, if it meets one; else all that is false is met.
+/// Answers a clause that is false, if it meets one; else all that is false is met. What earlier entries met they meet
+/// still.
 pub(crate) fn propagate<N: Copy, A: Allocator + Copy>(
     given: &Given<N, A>,
     map: &mut WatchMap<A>,
@@ -33,6 +34,7 @@ pub(crate) fn propagate<N: Copy, A: Allocator + Copy>(
     ensures watched { AreWatched map.new watches.new }
     ensures rearranged { IsRearranged (literals_at given.now) (watched_by watches.old) (watched_by watches.new) }
     ensures forced { HasForced (literals_at given.now) given.now.level trail.old trail.new }
+    ensures kept { KeepsMet (val trail.old.entries) (watched_by watches.old) (watched_by watches.new) }
     ensures ok { IfOk result (λ conflict. MatchOption conflict
         (AreMet (val trail.new.entries) (val trail.new.entries) (watched_by watches.new))
         (IsConflict (literals_at given.now) (length given.now.clauses.now) (val trail.new.entries))) }

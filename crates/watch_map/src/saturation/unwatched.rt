@@ -1,5 +1,6 @@
 //! The clauses that watch nothing: each visit reads all of their literals.
-ghost use Rattle.std.specs.Prelude.{◌≡◌, ◌<◌, ◌≤◌, ◌-◌, ◌^◌, ◌&&◌, true, false, not, length, MatchOption, IfOk, IfErr};
+ghost use Rattle.std.specs.Prelude.{◌≡◌, ◌<◌, ◌≤◌, ◌-◌, ◌^◌, ◌&&◌, true, false, [], not, length, MatchOption, IfOk};
+ghost use Rattle.std.specs.Prelude.{IfErr};
 ghost use Rattle.typed_ids.specs.declared.error.StoreError.TheVariants.{OutOfMemory};
 ghost use Rattle.decisions.specs.Decisions.{values_in};
 ghost use Rattle.decisions.specs.Literals.{is_false_literal};
@@ -9,7 +10,8 @@ ghost use Rattle.clauses.specs.Stored.{kept_in};
 ghost use Rattle.watch_map.specs.WatchLists.{watched_by};
 ghost use Rattle.watch_map.specs.Forcing.{is_false, IsSettled, IsConflict};
 ghost use Rattle.watch_map.specs.Saturation.{HasForced};
-ghost use Rattle.watch_map.specs.Visits.{literals_at, IsFinding, AreUnwatchedSettled};
+ghost use Rattle.watch_map.specs.WatchInvariant.{is_true};
+ghost use Rattle.watch_map.specs.Visits.{literals_at, IsFinding, AreUnwatchedSettled, AreUnwatchedTrue};
 
 use crate::saturation::given::{Given, clause_at};
 use crate::saturation::visit::{force, is_false, is_true};
@@ -29,14 +31,16 @@ pub(crate) enum Finding {
     Conflict,
 }
 
-/// Visits each clause that watches nothing. Answers one that is false, if it meets one; else they are settled where no
-/// entry was added.
+/// Visits each clause that watches nothing, from this bound of ids on: below it they are true. Answers one that is
+/// false, if it meets one; else all are settled where no entry was added.
 pub(crate) fn visit_all_unwatched<N: Copy, A: Allocator + Copy>(
     given: &Given<N, A>,
     watches: &[Option<WatchedLiterals>],
     trail: &mut DecisionTracker<A>,
+    from: usize,
 ) -> Result<Option<ClauseId>, StoreError>
     requires few { length given.now.clauses.now ≤ 2 ^ 32 - 1 }
+    requires from { AreUnwatchedTrue (literals_at given.now) (watched_by watches.now) from (val trail.old.entries) }
     ensures forced { HasForced (literals_at given.now) given.now.level trail.old trail.new }
     ensures ok { IfOk result (λ conflict. MatchOption conflict
         (length trail.new.entries ≡ length trail.old.entries → AreUnwatchedSettled (literals_at given.now)
@@ -44,7 +48,7 @@ pub(crate) fn visit_all_unwatched<N: Copy, A: Allocator + Copy>(
         (IsConflict (literals_at given.now) (length given.now.clauses.now) (val trail.new.entries))) }
     ensures memory { IfErr result (λ e. e ≡ OutOfMemory) }
 {
-    for index in 0..given.clauses.len() {
+    for index in from..given.clauses.len() {
         if !is_watching(watches, index) {
             let id = ClauseId::from_index(index);
             if visit_unwatched(given, id, trail)? {
@@ -53,6 +57,51 @@ pub(crate) fn visit_all_unwatched<N: Copy, A: Allocator + Copy>(
         }
     }
     Ok(None)
+}
+
+/// A bound of ids: each clause below it that watches nothing is true. It is no lower than this one, which is such a
+/// bound.
+pub(crate) fn count_true<N: Copy, A: Allocator + Copy>(
+    given: &Given<N, A>,
+    watches: &[Option<WatchedLiterals>],
+    map: &DecisionMap<A>,
+    from: usize,
+) -> usize
+    requires few { length given.now.clauses.now ≤ 2 ^ 32 - 1 }
+    requires from { AreUnwatchedTrue (literals_at given.now) (watched_by watches.now) from (values_in map.now) }
+    ensures { AreUnwatchedTrue (literals_at given.now) (watched_by watches.now) result (values_in map.now) }
+{
+    let mut bound = from;
+    while bound < given.clauses.len() && is_watching_or_true(given, watches, map, bound) {
+        bound += 1;
+    }
+    bound
+}
+
+/// Whether the clause of this index watches something, or is true.
+fn is_watching_or_true<N: Copy, A: Allocator + Copy>(
+    given: &Given<N, A>,
+    watches: &[Option<WatchedLiterals>],
+    map: &DecisionMap<A>,
+    index: usize,
+) -> bool
+    requires { index < 2 ^ 32 - 1 }
+    ensures { result ≡ true → watched_by watches.now index ≡ []
+        → is_true (values_in map.now) (literals_at given.now index) ≡ true }
+{
+    if is_watching(watches, index) {
+        return true;
+    }
+    let Some(clause) = clause_at(given, ClauseId::from_index(index)) else {
+        return false;
+    };
+    let found = clause.find_literal(
+        given.learnt,
+        given.lists,
+        given.disjunctions,
+        |literal| is_true(map, literal),
+    );
+    found.is_some()
 }
 
 /// Whether the clause of this index watches something.

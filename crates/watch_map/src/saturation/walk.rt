@@ -1,12 +1,12 @@
 //! The clauses that watch one literal.
 ghost use Rattle.std.specs.Prelude.{◌≡◌, true, [], length, MatchOption, IfOk, IfErr};
 ghost use Rattle.typed_ids.specs.declared.error.StoreError.TheVariants.{OutOfMemory};
-ghost use Rattle.decisions.specs.Literals.{Values, is_false_literal};
+ghost use Rattle.decisions.specs.Literals.{is_false_literal};
 ghost use Rattle.decisions.specs.Trail.{val};
 ghost use Rattle.watch_map.specs.WatchLists.{watched_by, AreWatched};
 ghost use Rattle.watch_map.specs.Forcing.{IsConflict};
 ghost use Rattle.watch_map.specs.Saturation.{WatchOwn, HasForced, IsRearranged};
-ghost use Rattle.watch_map.specs.WatchInvariant.{Extends, AreMet, AreMetBut};
+ghost use Rattle.watch_map.specs.WatchInvariant.{KeepsMet, AreMetBut};
 ghost use Rattle.watch_map.specs.Visits.{literals_at};
 
 use crate::lists::WatchMap;
@@ -17,8 +17,9 @@ use decisions::{DecisionTracker, Literal};
 use std::alloc::Allocator;
 use typed_ids::{ClauseId, StoreError};
 
-/// Visits each clause that watches the literal, which is false, and lets those that find another literal watch that one.
-/// Answers a clause that is false, if it meets one. What was met before by earlier entries, whichever these are, stays so.
+/// Visits each clause that watches the literal, which is false, and lets those that find another literal watch that
+/// one. Answers a clause that is false, if it meets one. What earlier entries met, whichever these are, they meet
+/// still.
 pub(crate) fn walk<N: Copy, A: Allocator + Copy>(
     given: &Given<N, A>,
     map: &mut WatchMap<A>,
@@ -32,9 +33,7 @@ pub(crate) fn walk<N: Copy, A: Allocator + Copy>(
     ensures watched { AreWatched map.new watches.new }
     ensures rearranged { IsRearranged (literals_at given.now) (watched_by watches.old) (watched_by watches.new) }
     ensures forced { HasForced (literals_at given.now) given.now.level trail.old trail.new }
-    ensures kept { (before : Values) → Extends before (val trail.old.entries)
-        → AreMet before (val trail.old.entries) (watched_by watches.old)
-        → AreMet before (val trail.new.entries) (watched_by watches.new) }
+    ensures kept { KeepsMet (val trail.old.entries) (watched_by watches.old) (watched_by watches.new) }
     ensures ok { IfOk result (λ conflict. MatchOption conflict
         (AreMetBut [] literal (val trail.new.entries) (watched_by watches.new))
         (IsConflict (literals_at given.now) (length given.now.clauses.now) (val trail.new.entries))) }

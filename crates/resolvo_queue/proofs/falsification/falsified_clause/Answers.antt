@@ -1,7 +1,7 @@
 use Rattle.std.proofs.Common.{◌≡◌, None, arith, subst, sym, ◌∙◌}
 use Rattle.decisions.specs.Decisions.{values_in}
 use Rattle.resolvo_queue.specs.Falsified.{Finds, is_falsified_in, refs_of}
-use Rattle.resolvo_queue.proofs.LookLaws.{finds_next, finds_rest, finds_start, id_of_all, look_passed, look_taken}
+use Rattle.resolvo_queue.proofs.LookLaws.{finds_along, finds_next, finds_rest, finds_start, look_passed, look_taken}
 use Rattle.resolvo_queue.proofs.QueuedLaws.{read_at}
 use Rattle.resolvo_queue.proofs.falsification.falsified_clause.Goals as goal
 use Rattle.resolvo_queue.proofs.falsification.falsified_clause.Goals.{then-is_earlier, else-is_earlier}
@@ -32,6 +32,4 @@ loop-clause-preserved g c =
 
 pub returns : goal.returns
 returns g c =
-    c.id_of.ensures
-    ∙ id_of_all (refs_of g.I.Interner.universe c.args.asked.now) (values_in c.args.asked.now.map.now) c.args.clauses.now c.requires.located c.loop-clause.first
-    (finds_rest 0 c.loop-clause.clause-index c.loop-clause-test.false c.loop-clause.invariant) (λ n d is held. omega arith)
+    finds_along (λ n d is all. omega arith) (finds_rest 0 c.loop-clause.clause-index c.loop-clause-test.false c.loop-clause.invariant)

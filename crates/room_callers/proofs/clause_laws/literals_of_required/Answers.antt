@@ -9,4 +9,7 @@ use Rattle.room_callers.proofs.clause_laws.literals_of_required.Goals as goal
 pub returns : goal.returns
 returns g c =
     let k = kept_in c.args.learnt.now c.args.lists.now c.args.disjunctions.now in
-    IfOk-weaker c.literals.result (λ literals. literals.items ≡ literals_of k c.args.clause.now) (λ literals. RequiresSays k c.args.clause.now literals.items) (λ literals is. subst (λ ls. RequiresSays k c.args.clause.now ls) (sym is) (requires_says k c.args.clause.now)) c.literals.ensures.ok
+    IfOk-weaker c.literals.result (λ literals. literals.items ≡ literals_of k c.args.clause.now) (λ literals.
+    RequiresSays k c.args.clause.now literals.items) (λ literals is.
+    subst (λ ls. RequiresSays k c.args.clause.now ls) (sym is) (requires_says k c.args.clause.now))
+    c.literals.ensures.ok

@@ -13,7 +13,8 @@ returns-clause-here g c =
 pub returns-clause-again : goal.returns-clause-again
 returns-clause-again g c =
     rw (c.in_ok-id.ensures.ok, c.in_ok-id.ensures.id)
-    (place_of_second g.K.Kind.is_one g.met.K.Kind.laws (g.K.Kind.entry c.args.first) (g.K.Kind.entry c.args.second.now) c.requires.one (g.K.Kind.kept c.args.pool.now))
+    (place_of_second g.K.Kind.is_one g.met.K.Kind.laws (g.K.Kind.entry c.args.first)
+    (g.K.Kind.entry c.args.second.now) c.requires.one (g.K.Kind.kept c.args.pool.now))
 
 pub returns-clause-second : goal.returns-clause-second
 returns-clause-second g c = g.met.K.Kind.may_still _ _ c.intern.ensures.later c.args.second.now c.requires.second

@@ -12,4 +12,5 @@ holds range all s = is_within range (version_at all s)
 
 abbrev pub invariant-loop-solvable : goal.invariant-loop-solvable
 invariant-loop-solvable l =
-    l.found.items ++ filtered (holds l.range l.pool.solvables) l.inverse (drop l.solvable-index l.candidates) ≡ filtered (holds l.range l.pool.solvables) l.inverse l.candidates
+    l.found.items ++ filtered (holds l.range l.pool.solvables) l.inverse (drop l.solvable-index l.candidates) ≡
+    filtered (holds l.range l.pool.solvables) l.inverse l.candidates

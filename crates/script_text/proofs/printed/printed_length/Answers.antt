@@ -13,14 +13,16 @@ overflow_add-length c =
 pub returns-then-found-lt16 : goal.returns-then-found-lt16
 returns-then-found-lt16 c =
     let room : c.loop-length.length + 16 ≤ length c.args.text.now = omega arith in
-    let ends = ends_in_sixteen c.args.text.now c.loop-length.length c.printed_of_sixteen-found.result room c.printed_of_sixteen-found.ensures c.if-found-lt16.true in
+    let ends = ends_in_sixteen c.args.text.now c.loop-length.length c.printed_of_sixteen-found.result room
+    c.printed_of_sixteen-found.ensures c.if-found-lt16.true in
     omega (arith, ends, c.loop-length.invariant.counted)
 
 pub loop-length-preserved : goal.loop-length-preserved
 loop-length-preserved c =
     let room : c.loop-length.length + 16 ≤ length c.args.text.now = omega arith in
     let found = found_of_sixteen c.args.text.now c.loop-length.length c.printed_of_sixteen-found.result room c.printed_of_sixteen-found.ensures in
-    let goes_on = goes_on_after_sixteen c.args.text.now c.loop-length.length c.printed_of_sixteen-found.result room c.printed_of_sixteen-found.ensures c.if-found-lt16.false in
+    let goes_on = goes_on_after_sixteen c.args.text.now c.loop-length.length c.printed_of_sixteen-found.result room
+    c.printed_of_sixteen-found.ensures c.if-found-lt16.false in
     record { within = omega (arith, found, room); counted = omega (arith, goes_on, c.loop-length.invariant.counted) }
 
 pub overflow_add-result : goal.overflow_add-result

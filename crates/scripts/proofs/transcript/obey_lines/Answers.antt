@@ -12,7 +12,8 @@ use Rattle.scripts.proofs.transcript.obey_lines.Goals as goal
 pub loop-said-init : goal.loop-said-init
 loop-said-init g c = record {
   fits = omega arith;
-  so_far = so_far_none (named g) (store g c.args.store.now) c.args.before (lines_of c.args.lines.now) (g.W.Sink.contents c.args.writer.now) c.args.waiting.now.items;
+  so_far = so_far_none (named g) (store g c.args.store.now) c.args.before (lines_of c.args.lines.now)
+      (g.W.Sink.contents c.args.writer.now) c.args.waiting.now.items;
   writer = (0, refl);
   command = λ more. more;
 }
@@ -36,7 +37,8 @@ returns-in-Err-clause-memory g c h =
 pub returns-in_err-write_much-clause-answer : goal.returns-in_err-write_much-clause-answer
 returns-in_err-write_much-clause-answer g c =
     let fails = fails_so _ _ Device c.from_residual.ensures.1 c.in_err-write_much.ensures.err in
-    ended_cut (named g) (store g c.args.store.now) c.args.before (lines_of c.args.lines.now) _ _ (Unit {0}) _ _ _ _ _ _ _ _ fails c.in_err-write_much.ensures.failed
+    ended_cut (named g) (store g c.args.store.now) c.args.before (lines_of c.args.lines.now) _ _
+    (Unit {0}) _ _ _ _ _ _ _ _ fails c.in_err-write_much.ensures.failed
     (so_far_more (named g) (store g c.args.store.now) _ _ c.args.before _ (lines_of c.args.lines.now) _ _ _ _ _ _ _ _ _ _
     c.in-Some.ensures.first.1 c.in-Some.ensures.first.2 c.in-Ok.ensures c.loop-said.invariant.so_far)
 
@@ -44,7 +46,8 @@ pub returns-in_err-write_much-clause-ends : goal.returns-in_err-write_much-claus
 returns-in_err-write_much-clause-ends g c =
     let fails = fails_so _ _ Device c.from_residual.ensures.1 c.in_err-write_much.ensures.err in
     subst (λ r. WriterEnds g.W.Sink.writes g.W.Sink.fails {T = Unit {0}} c.args.writer.now r c.write_much.new.writer) (sym fails)
-    (GivesUp-after g.W.Sink.writes g.W.Sink.fails c.args.writer.now c.loop-said.writer c.write_much.new.writer c.loop-said.invariant.writer c.in_err-write_much.ensures.ends)
+    (GivesUp-after g.W.Sink.writes g.W.Sink.fails c.args.writer.now c.loop-said.writer c.write_much.new.writer
+    c.loop-said.invariant.writer c.in_err-write_much.ensures.ends)
 
 pub loop-said-preserved : goal.loop-said-preserved
 loop-said-preserved g c = record {
@@ -52,8 +55,11 @@ loop-said-preserved g c = record {
   so_far = so_far_written (named g) (store g c.args.store.now) _ c.args.before _ (lines_of c.args.lines.now) _ _ _ _ _ _ _ c.in_ok-write_much.ensures.handed
       (so_far_more (named g) (store g c.args.store.now) _ _ c.args.before _ (lines_of c.args.lines.now) _ _ _ _ _ _ _ _ _ _
       c.in-Some.ensures.first.1 c.in-Some.ensures.first.2 c.in-Ok.ensures c.loop-said.invariant.so_far);
-  writer = GoesWell-trans g.W.Sink.writes g.W.Sink.fails c.args.writer.now c.loop-said.writer c.write_much.new.writer c.loop-said.invariant.writer c.in_ok-write_much.ensures.ends;
-  command = λ more. c.loop-said.invariant.command (command_after (named g) _ _ _ _ _ _ _ _ _ c.in-Some.ensures.first.1 c.in-Some.ensures.first.2 c.in-Ok.ensures more);
+  writer = GoesWell-trans g.W.Sink.writes g.W.Sink.fails c.args.writer.now c.loop-said.writer c.write_much.new.writer
+      c.loop-said.invariant.writer c.in_ok-write_much.ensures.ends;
+  command = λ more. c.loop-said.invariant.command
+      (command_after (named g) _ _ _ _ _ _ _ _ _ c.in-Some.ensures.first.1 c.in-Some.ensures.first.2
+      c.in-Ok.ensures more);
 }
 
 pub returns-clause-answer : goal.returns-clause-answer

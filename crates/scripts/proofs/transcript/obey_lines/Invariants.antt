@@ -8,8 +8,12 @@ use Rattle.scripts.proofs.TranscriptLemmas.{SoFar}
 use Rattle.scripts.proofs.transcript.obey_lines.Given as goal
 
 -- the abstract store
-abbrev pub store : (g : goal.Over) → Kept g.row.D.Denot g.row.D-NameId.Denot g.row.D-SolvableId.Denot g.row.D-NameId-Scores.Denot → Store g.row.D-NameId.Denot g.row.D-SolvableId.Denot
-store g = store_of (gathered g.D.NameId.PartialEq.eq g.D.SolvableId.PartialEq.eq g.D.NameId.Slots.IdMap.is_too_large g.D.SolvableId.Slots.IdMap.is_too_large g.D.SolvableId.Set.IdSet.is_too_large g.D.NameId.SolverId.are_many g.D.Interner.universe g.D.DependencyProvider.answers) g.D.NameId.Scores.IdMap.value_at
+abbrev pub store : (g : goal.Over) →
+    Kept g.row.D.Denot g.row.D-NameId.Denot g.row.D-SolvableId.Denot g.row.D-NameId-Scores.Denot →
+    Store g.row.D-NameId.Denot g.row.D-SolvableId.Denot
+store g = store_of (gathered g.D.NameId.PartialEq.eq g.D.SolvableId.PartialEq.eq g.D.NameId.Slots.IdMap.is_too_large
+    g.D.SolvableId.Slots.IdMap.is_too_large g.D.SolvableId.Set.IdSet.is_too_large g.D.NameId.SolverId.are_many
+    g.D.Interner.universe g.D.DependencyProvider.answers) g.D.NameId.Scores.IdMap.value_at
 
 -- what numbers stand for
 abbrev pub named : (g : goal.Over) → Ids g.row.D-NameId.Denot g.row.D-SolvableId.Denot

@@ -11,4 +11,6 @@ returns-in-Ok-None-clause-answer g c = never_begun (Unit {0}) tt (lines_of c.arg
 pub returns-in-Ok-Some-clause-answer : goal.returns-in-Ok-Some-clause-answer
 returns-in-Ok-Some-clause-answer g c =
     let catalogue = c.in-Ok-Some.catalogue in
-    commands_answered (lines_of c.args.text.now) catalogue.packages catalogue.line_count (lines_of catalogue.commands.now) (rw c.in-Ok-Some.field-0-is at c.in-Ok-Some.ensures.ok) _ _ _ _ _ c.obey_commands.ensures.answer
+    commands_answered (lines_of c.args.text.now) catalogue.packages catalogue.line_count
+    (lines_of catalogue.commands.now) (rw c.in-Ok-Some.field-0-is at c.in-Ok-Some.ensures.ok) _ _ _ _ _
+    c.obey_commands.ensures.answer

@@ -11,7 +11,8 @@ returns-in-Done-clause-unfalsified g c =
     let mid = store_in c.step-in-Done.ensures.was_sound in
     let new = store_in c.step-in-Done.ensures.sound in
     let done = subst (λ reply. Step old (Saturate c.args.level) (reply_of reply) mid) c.in-Done.is c.step.ensures.step in
-    decides_unfalsified mid new (reply_of c.step-in-Done.result) (done_unfalsified old mid c.args.level c.step-in-Done.ensures.was_sound done) c.step-in-Done.ensures.step
+    decides_unfalsified mid new (reply_of c.step-in-Done.result)
+    (done_unfalsified old mid c.args.level c.step-in-Done.ensures.was_sound done) c.step-in-Done.ensures.step
 
 pub returns-in-Done-clause-model : goal.returns-in-Done-clause-model
 returns-in-Done-clause-model g c = λ may none.
@@ -19,4 +20,5 @@ returns-in-Done-clause-model g c = λ may none.
     let mid = store_in c.step-in-Done.ensures.was_sound in
     let new = store_in c.step-in-Done.ensures.sound in
     let done = subst (λ reply. Step old (Saturate c.args.level) (reply_of reply) mid) c.in-Done.is c.step.ensures.step in
-    no_decision_is_model mid new c.step-in-Done.ensures.sound (done_settles old mid c.args.level done) (subst (λ reply. Step mid Decide reply new) none c.step-in-Done.ensures.step) may
+    no_decision_is_model mid new c.step-in-Done.ensures.sound (done_settles old mid c.args.level done)
+    (subst (λ reply. Step mid Decide reply new) none c.step-in-Done.ensures.step) may

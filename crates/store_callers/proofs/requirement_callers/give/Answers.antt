@@ -21,5 +21,6 @@ returns-in-Clash-clause-given g c =
 
 pub unreachable-requires : goal.unreachable-requires
 unreachable-requires g c =
-    one_of_three (store_in c.obey.ensures.was_sound) (store_in c.obey.ensures.sound) c.args.variable c.args.value c.args.clause c.args.level c.in_ok-obey.field-0
+    one_of_three (store_in c.obey.ensures.was_sound)
+    (store_in c.obey.ensures.sound) c.args.variable c.args.value c.args.clause c.args.level c.in_ok-obey.field-0
     c.in_ok-obey.ensures.step c.in_ok-obey.ensures.ok c.in_default.not-Assigned c.in_default.not-Already c.in_default.not-Clash

@@ -11,4 +11,6 @@ holds number range packages s = is_within range (version_at packages (number s))
 
 abbrev pub invariant-loop-solvable : goal.invariant-loop-solvable
 invariant-loop-solvable g l =
-    l.found.items ++ filtered (holds g.S.Numbered.number_of l.range l.packages) l.inverse (drop l.solvable-index l.candidates) ≡ filtered (holds g.S.Numbered.number_of l.range l.packages) l.inverse l.candidates
+    l.found.items ++ filtered (holds g.S.Numbered.number_of l.range l.packages) l.inverse
+    (drop l.solvable-index l.candidates) ≡ filtered
+    (holds g.S.Numbered.number_of l.range l.packages) l.inverse l.candidates

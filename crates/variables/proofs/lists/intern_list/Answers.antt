@@ -3,7 +3,9 @@ use Rattle.std.proofs.Common.{◌≡◌, ◌∷◌, [], ◌++◌, ◌+◌, ◌||
 use Rattle.std.proofs.lemmas.List.{take_more, take_all, drop_more, take-append-drop}
 use Rattle.std.specs.List.{list_any}
 use Rattle.variables.specs.Variables.{interned_variable, with_variables, lacks_variable, lacks_variables, IsPartlyInterned}
-use Rattle.variables.proofs.InterningLemmas.{variables_in_turn, one-more, in_turn-more, variables-in-turn, lacks_for_one, refusal_wider, handed_on, list_any-fails, wholly, front_of_part, longer_part}
+use Rattle.variables.proofs.InterningLemmas.{variables_in_turn, one-more, in_turn-more}
+use Rattle.variables.proofs.InterningLemmas.{variables-in-turn, lacks_for_one, refusal_wider, handed_on}
+use Rattle.variables.proofs.InterningLemmas.{list_any-fails, wholly, front_of_part, longer_part}
 use Rattle.variables.proofs.lists.intern_list.Given.{Over}
 use Rattle.variables.proofs.lists.intern_list.Goals as goal
 use Rattle.variables.proofs.lists.intern_list.Goals.{After-drop-list, After-drop-list-in_err-push, Else-prove}
@@ -21,11 +23,14 @@ loop-solvable-preserved g c =
     let more : take (i + 1) ss ≡ done ++ x ∷ [] = take_more ss i x c.loop-solvable-test.true ∙ ap (λ y. done ++ y ∷ []) (sym c.solvable-item.is) in
     record {
       list = c.in_ok-push.ensures.items ∙ ap (λ l. l ++ v ∷ []) c.loop-solvable.invariant.list
-          ∙ ap (λ w. variables_in_turn same first done ++ w ∷ []) (c.in_ok-variable.ensures.variable ∙ ap (λ os. interned_variable same os x) c.loop-solvable.invariant.done)
+          ∙ ap (λ w. variables_in_turn same first done ++ w ∷ [])
+          (c.in_ok-variable.ensures.variable ∙
+          ap (λ os. interned_variable same os x) c.loop-solvable.invariant.done)
           ∙ sym (in_turn-more same first done x) ∙ ap (variables_in_turn same first) (sym more);
       done = one-more same first c.loop-solvable.variables c.intern_solvable.new.self done x c.loop-solvable.invariant.done c.in_ok-variable.ensures.ok
           ∙ ap (with_variables same first) (sym more);
-      fit = ap (list_any large) more ∙ list_any-fails large done (x ∷ []) c.loop-solvable.invariant.fit (ap (λ b. b || false) c.in_ok-variable.ensures.not_large);
+      fit = ap (list_any large) more ∙ list_any-fails large done (x ∷ []) c.loop-solvable.invariant.fit
+          (ap (λ b. b || false) c.in_ok-variable.ensures.not_large);
     }
 
 pub returns-clause-list : goal.returns-clause-list
@@ -46,10 +51,14 @@ returns-in_err-variable-clause-err g c =
     handed_on _ c.from_residual-in_err-variable.result c.in_err-variable.field-0.0 c.from_residual-in_err-variable.ensures.1 (part-variable g c)
 
 pub returns-in_err-variable-clause-front : goal.returns-in_err-variable-clause-front
-returns-in_err-variable-clause-front g c = front_of_part g.S.PartialEq.eq c.args.variables.now c.args.solvables.now c.intern_solvable.new.self (part-variable g c)
+returns-in_err-variable-clause-front g c =
+    front_of_part g.S.PartialEq.eq c.args.variables.now c.args.solvables.now c.intern_solvable.new.self
+    (part-variable g c)
 
 pub returns-in_err-variable-clause-longer : goal.returns-in_err-variable-clause-longer
-returns-in_err-variable-clause-longer g c = longer_part g.S.PartialEq.eq c.args.variables.now c.args.solvables.now c.intern_solvable.new.self (part-variable g c)
+returns-in_err-variable-clause-longer g c =
+    longer_part g.S.PartialEq.eq c.args.variables.now c.args.solvables.now c.intern_solvable.new.self
+    (part-variable g c)
 
 pub returns-in_err-variable-clause-refused : goal.returns-in_err-variable-clause-refused
 returns-in_err-variable-clause-refused g c =
@@ -71,7 +80,8 @@ returns-in_err-variable-clause-refused g c =
     c.in_err-variable.ensures.ids.refused)
 
 -- where the variable's place was refused, so has the solvable
-part-push : (g : Over) (c : After-drop-list-in_err-push g) → IsPartlyInterned g.S.PartialEq.eq c.args.variables.now c.args.solvables.now c.intern_solvable.new.self
+part-push : (g : Over) (c : After-drop-list-in_err-push g) →
+    IsPartlyInterned g.S.PartialEq.eq c.args.variables.now c.args.solvables.now c.intern_solvable.new.self
 part-push g c =
     let same = g.S.PartialEq.eq in
     let first = c.args.variables.now in

@@ -9,38 +9,51 @@ unlink-requires-clause-room g c =
 
 pub put_first-next_of_new-requires : goal.put_first-next_of_new-requires
 put_first-next_of_new-requires g c =
-    let s = (unlinked c.args.place.now c.args.map.now c.args.watches.now c.requires.stands c.args.place.now.previous c.unlink.new.self c.unlink.new.watches c.requires.stands.placed c.unlink.ensures).slots in
+    let s = (unlinked c.args.place.now c.args.map.now c.args.watches.now c.requires.stands c.args.place.now.previous
+    c.unlink.new.self c.unlink.new.watches c.requires.stands.placed c.unlink.ensures).slots in
     room_by_length c.args.map.now c.unlink.new.self c.args.new_watch 1 1 (omega (arith, s)) c.requires.room
 
 pub at_clause-requires-clause-two : goal.at_clause-requires-clause-two
-at_clause-requires-clause-two g c x e = (watched_after c.args.place.now c.args.map.now c.args.watches.now c.requires.stands c.args.new_watch c.requires.other c.unlink.new.self c.unlink.new.watches c.unlink.ensures
-    c.put_first-next_of_new.new.self c.set_watch.new.watches c.put_first-next_of_new.result c.put_first-next_of_new.ensures.earlier c.put_first-next_of_new.ensures.first c.set_watch.ensures).exact.two x
+at_clause-requires-clause-two g c x e =
+    (watched_after c.args.place.now c.args.map.now c.args.watches.now c.requires.stands c.args.new_watch
+    c.requires.other c.unlink.new.self c.unlink.new.watches c.unlink.ensures
+    c.put_first-next_of_new.new.self c.set_watch.new.watches c.put_first-next_of_new.result
+    c.put_first-next_of_new.ensures.earlier c.put_first-next_of_new.ensures.first c.set_watch.ensures).exact.two x
 
 pub at_clause-requires-clause-watched : goal.at_clause-requires-clause-watched
 at_clause-requires-clause-watched g c =
-    watched_behind c.args.place.now c.args.map.now c.args.watches.now c.requires.stands c.args.new_watch c.requires.other c.unlink.new.self c.unlink.new.watches c.unlink.ensures
-    c.put_first-next_of_new.new.self c.set_watch.new.watches c.put_first-next_of_new.result c.put_first-next_of_new.ensures.earlier c.put_first-next_of_new.ensures.first c.set_watch.ensures
+    watched_behind c.args.place.now c.args.map.now c.args.watches.now c.requires.stands c.args.new_watch
+    c.requires.other c.unlink.new.self c.unlink.new.watches c.unlink.ensures
+    c.put_first-next_of_new.new.self c.set_watch.new.watches c.put_first-next_of_new.result
+    c.put_first-next_of_new.ensures.earlier c.put_first-next_of_new.ensures.first c.set_watch.ensures
     c.next_of-next.result c.next_of-next.ensures
 
 pub returns-clause-lists : goal.returns-clause-lists
 returns-clause-lists g c =
-    moves c.args.place.now c.args.map.now c.args.watches.now c.requires.stands c.args.new_watch c.requires.other c.unlink.new.self c.unlink.new.watches c.unlink.ensures
-    c.put_first-next_of_new.new.self c.set_watch.new.watches c.put_first-next_of_new.result c.put_first-next_of_new.ensures.earlier c.put_first-next_of_new.ensures.first c.set_watch.ensures
+    moves c.args.place.now c.args.map.now c.args.watches.now c.requires.stands c.args.new_watch c.requires.other
+    c.unlink.new.self c.unlink.new.watches c.unlink.ensures
+    c.put_first-next_of_new.new.self c.set_watch.new.watches c.put_first-next_of_new.result
+    c.put_first-next_of_new.ensures.earlier c.put_first-next_of_new.ensures.first c.set_watch.ensures
 
 pub returns-clause-list : goal.returns-clause-list
 returns-clause-list g c =
-    (goes_on c.args.place.now c.args.map.now c.args.watches.now c.requires.stands c.args.new_watch c.requires.other c.unlink.new.self c.unlink.new.watches c.unlink.ensures
-    c.put_first-next_of_new.new.self c.set_watch.new.watches c.put_first-next_of_new.result c.put_first-next_of_new.ensures.earlier c.put_first-next_of_new.ensures.first c.set_watch.ensures
+    (goes_on c.args.place.now c.args.map.now c.args.watches.now c.requires.stands c.args.new_watch c.requires.other
+    c.unlink.new.self c.unlink.new.watches c.unlink.ensures
+    c.put_first-next_of_new.new.self c.set_watch.new.watches c.put_first-next_of_new.result
+    c.put_first-next_of_new.ensures.earlier c.put_first-next_of_new.ensures.first c.set_watch.ensures
     c.next_of-next.result c.next_of-next.ensures c.at_clause.result c.at_clause.ensures).0
 
 pub returns-clause-stands : goal.returns-clause-stands
 returns-clause-stands g c =
-    (goes_on c.args.place.now c.args.map.now c.args.watches.now c.requires.stands c.args.new_watch c.requires.other c.unlink.new.self c.unlink.new.watches c.unlink.ensures
-    c.put_first-next_of_new.new.self c.set_watch.new.watches c.put_first-next_of_new.result c.put_first-next_of_new.ensures.earlier c.put_first-next_of_new.ensures.first c.set_watch.ensures
+    (goes_on c.args.place.now c.args.map.now c.args.watches.now c.requires.stands c.args.new_watch c.requires.other
+    c.unlink.new.self c.unlink.new.watches c.unlink.ensures
+    c.put_first-next_of_new.new.self c.set_watch.new.watches c.put_first-next_of_new.result
+    c.put_first-next_of_new.ensures.earlier c.put_first-next_of_new.ensures.first c.set_watch.ensures
     c.next_of-next.result c.next_of-next.ensures c.at_clause.result c.at_clause.ensures).1
 
 pub returns-clause-rooms : goal.returns-clause-rooms
 returns-clause-rooms g c l n =
-    let s = (unlinked c.args.place.now c.args.map.now c.args.watches.now c.requires.stands c.args.place.now.previous c.unlink.new.self c.unlink.new.watches c.requires.stands.placed c.unlink.ensures).slots in
+    let s = (unlinked c.args.place.now c.args.map.now c.args.watches.now c.requires.stands c.args.place.now.previous
+    c.unlink.new.self c.unlink.new.watches c.requires.stands.placed c.unlink.ensures).slots in
     let p = c.put_first-next_of_new.ensures.slots in
     room_by_length c.args.map.now c.put_first-next_of_new.new.self l n n (omega (arith, s, p))

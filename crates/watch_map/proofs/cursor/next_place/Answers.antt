@@ -6,8 +6,10 @@ at_clause-requires-clause-watched g c = watched_next c.args.place.now c.args.map
 
 pub returns-clause-list : goal.returns-clause-list
 returns-clause-list g c =
-    (goes_past c.args.place.now c.args.map.now c.args.watches.now c.requires c.next_of-next.result c.next_of-next.ensures c.at_clause.result c.at_clause.ensures).0
+    (goes_past c.args.place.now c.args.map.now c.args.watches.now c.requires c.next_of-next.result
+    c.next_of-next.ensures c.at_clause.result c.at_clause.ensures).0
 
 pub returns-clause-stands : goal.returns-clause-stands
 returns-clause-stands g c =
-    (goes_past c.args.place.now c.args.map.now c.args.watches.now c.requires c.next_of-next.result c.next_of-next.ensures c.at_clause.result c.at_clause.ensures).1
+    (goes_past c.args.place.now c.args.map.now c.args.watches.now c.requires c.next_of-next.result
+    c.next_of-next.ensures c.at_clause.result c.at_clause.ensures).1

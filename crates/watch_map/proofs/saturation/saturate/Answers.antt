@@ -1,110 +1,85 @@
-use Rattle.std.proofs.Common.{◌≡◌, ◌≢◌, ℕ, List, length, sym, subst, ◌∙◌, arith}
-use Rattle.decisions.specs.Trail.{Entry, val}
+use Rattle.std.proofs.Common.{length, sym, subst, ◌∙◌}
+use Rattle.decisions.specs.Trail.{val}
 use Rattle.watch_map.specs.WatchLists.{watched_by}
-use Rattle.watch_map.specs.Forcing.{IsConflict}
-use Rattle.watch_map.specs.WatchInvariant.{AreMet, val_before}
-use Rattle.watch_map.specs.Visits.{literals_at, AreUnwatchedSettled}
-use Rattle.watch_map.proofs.GivenLaws.{given_within}
-use Rattle.watch_map.proofs.ForcingLaws.{forced_then, forced_longer, forced_same}
-use Rattle.watch_map.proofs.RoundLaws.{none_case, rearranged_then, place_kept, all_settled, as_many_decisions, round_smaller}
+use Rattle.watch_map.specs.Forcing.{AreSettled, IsConflict}
+use Rattle.watch_map.specs.WatchInvariant.{AreMet}
+use Rattle.watch_map.specs.Visits.{literals_at}
+use Rattle.watch_map.specs.Marks.{IsMark, IsBehind}
+use Rattle.watch_map.specs.declared.marks.Mark.{Mark}
+use Rattle.watch_map.proofs.MarkLaws.{newest_is_mark, mark_saturated, marks_saturated, marks_remembered}
+use Rattle.watch_map.proofs.RoundLaws.{none_case, some_case}
 use Rattle.watch_map.proofs.saturation.saturate.Goals as goal
 
-pub returns-in_err-conflict-clause-forced : goal.returns-in_err-conflict-clause-forced
-returns-in_err-conflict-clause-forced g c =
-    forced_then (literals_at c.args.given.now) c.args.given.now.level c.args.trail.now
-    c.rounds.trail c.propagate.new.trail
-    c.rounds.invariant.forced c.propagate.ensures.forced
+pub saturate_from-requires-clause-from : goal.saturate_from-requires-clause-from
+saturate_from-requires-clause-from g c =
+    subst (IsMark (literals_at c.args.given.now) (watched_by c.args.watches.now) c.args.trail.now.entries)
+    (sym c.newest-from.ensures)
+    (newest_is_mark (literals_at c.args.given.now) (watched_by c.args.watches.now) c.args.trail.now.entries
+    c.args.marks.now c.requires.marks)
 
-pub returns-then-is_some-clause-forced : goal.returns-then-is_some-clause-forced
-returns-then-is_some-clause-forced g c =
-    forced_then (literals_at c.args.given.now) c.args.given.now.level c.args.trail.now
-    c.rounds.trail c.propagate.new.trail
-    c.rounds.invariant.forced c.propagate.ensures.forced
+pub returns-in_err-conflict-clause-marks : goal.returns-in_err-conflict-clause-marks
+returns-in_err-conflict-clause-marks g c =
+    let call = c.saturate_from in
+    marks_saturated (literals_at c.args.given.now) (watched_by c.args.watches.now) (watched_by call.new.watches)
+    c.args.given.now.level c.args.trail.now call.new.trail call.ensures.forced call.ensures.kept
+    call.ensures.rearranged.as_many c.args.marks.now c.requires.marks
 
-pub returns-in_err-conflict-2-clause-forced : goal.returns-in_err-conflict-2-clause-forced
-returns-in_err-conflict-2-clause-forced g c =
-    forced_then (literals_at c.args.given.now) c.args.given.now.level c.args.trail.now c.propagate.new.trail
-    c.visit_all_unwatched.new.trail
-    (forced_then (literals_at c.args.given.now) c.args.given.now.level c.args.trail.now
-    c.rounds.trail c.propagate.new.trail
-    c.rounds.invariant.forced c.propagate.ensures.forced) c.visit_all_unwatched.ensures.forced
+pub returns-then-is_some-clause-marks : goal.returns-then-is_some-clause-marks
+returns-then-is_some-clause-marks g c =
+    let call = c.saturate_from in
+    marks_saturated (literals_at c.args.given.now) (watched_by c.args.watches.now) (watched_by call.new.watches)
+    c.args.given.now.level c.args.trail.now call.new.trail call.ensures.forced call.ensures.kept
+    call.ensures.rearranged.as_many c.args.marks.now c.requires.marks
 
-pub returns-then-is_some-2-clause-forced : goal.returns-then-is_some-2-clause-forced
-returns-then-is_some-2-clause-forced g c =
-    forced_then (literals_at c.args.given.now) c.args.given.now.level c.args.trail.now c.propagate.new.trail
-    c.visit_all_unwatched.new.trail
-    (forced_then (literals_at c.args.given.now) c.args.given.now.level c.args.trail.now
-    c.rounds.trail c.propagate.new.trail
-    c.rounds.invariant.forced c.propagate.ensures.forced) c.visit_all_unwatched.ensures.forced
-
-pub returns-then-assignments-place-clause-forced : goal.returns-then-assignments-place-clause-forced
-returns-then-assignments-place-clause-forced g c =
-    forced_then (literals_at c.args.given.now) c.args.given.now.level c.args.trail.now c.propagate.new.trail
-    c.visit_all_unwatched.new.trail
-    (forced_then (literals_at c.args.given.now) c.args.given.now.level c.args.trail.now
-    c.rounds.trail c.propagate.new.trail
-    c.rounds.invariant.forced c.propagate.ensures.forced) c.visit_all_unwatched.ensures.forced
-
-pub returns-then-assignments-place-clause-ok : goal.returns-then-assignments-place-clause-ok
-returns-then-assignments-place-clause-ok g c =
+pub returns-then-is_some-clause-ok : goal.returns-then-is_some-clause-ok
+returns-then-is_some-clause-ok g c =
     let literals = literals_at c.args.given.now in
     let clauses = length c.args.given.now.clauses.now in
-    let watched = watched_by c.propagate.new.watches in
-    let b = c.propagate.new.trail in
-    let d = c.visit_all_unwatched.new.trail in
-    let many_b = as_many_decisions c.assignments-place.result.now b.entries c.assignments-place.ensures.decisions in
-    let many_d = as_many_decisions c.assignments.result.now d.entries c.assignments.ensures.decisions in
-    let test = c.if-assignments-place.true in
-    let alike : length d.entries ≡ length b.entries = omega (arith, many_b, many_d, test) in
-    let same = forced_same literals c.args.given.now.level b d c.visit_all_unwatched.ensures.forced alike in
-    let met : AreMet (val b.entries) (val b.entries) watched =
-    none_case (AreMet (val b.entries) (val b.entries) watched)
-    (IsConflict literals clauses (val b.entries)) c.in_ok-conflict.conflict c.in_ok-conflict.ensures.ok
-    (sym c.is_some.ensures ∙ c.if-is_some.false) in
-    let unwatched : AreUnwatchedSettled literals watched clauses (val d.entries) =
-    none_case (length d.entries ≡ length b.entries → AreUnwatchedSettled literals watched clauses (val d.entries))
-    (IsConflict literals clauses (val d.entries)) c.in_ok-conflict-2.conflict c.in_ok-conflict-2.ensures.ok
-    (sym c.is_some-in-rounds.ensures ∙ c.if-is_some-2.false) alike in
-    all_settled literals watched clauses (val d.entries)
-    (λ x. c.propagate.ensures.watched.exact.two x) c.propagate.ensures.rearranged.own
-    (subst (λ (es : List Entry). AreMet (val es) (val es) watched) (sym same) met) unwatched
+    let call = c.saturate_from in
+    let now = val call.new.trail.entries in
+    some_case (AreSettled literals clauses now × AreMet now now (watched_by call.new.watches))
+    (AreSettled literals clauses now) (IsConflict literals clauses now) c.in_ok-conflict.conflict
+    c.in_ok-conflict.ensures.ok (sym c.is_some.ensures ∙ c.if-is_some.true)
 
-pub rounds-smaller : goal.rounds-smaller
-rounds-smaller g c =
-    let given = c.args.given.now in
-    let b = c.propagate.new.trail in
-    let d = c.visit_all_unwatched.new.trail in
-    let many_b = as_many_decisions c.assignments-place.result.now b.entries c.assignments-place.ensures.decisions in
-    let many_d = as_many_decisions c.assignments.result.now d.entries c.assignments.ensures.decisions in
-    let test = c.if-assignments-place.false in
-    let differs : length d.entries ≢ length b.entries = omega (arith, many_b, many_d, test) in
-    round_smaller (literals_at given) given.level (length given.clauses.now) (given_within given)
-    c.rounds.trail b d c.propagate.ensures.forced c.visit_all_unwatched.ensures.forced differs
-
-pub rounds-preserved : goal.rounds-preserved
-rounds-preserved g c =
+pub mark_at_end-requires-clause-from : goal.mark_at_end-requires-clause-from
+mark_at_end-requires-clause-from g c =
     let literals = literals_at c.args.given.now in
-    let level = c.args.given.now.level in
+    let watched = watched_by c.args.watches.now in
+    let call = c.saturate_from in
+    let from = subst (IsMark literals watched c.args.trail.now.entries) (sym c.newest-from.ensures)
+    (newest_is_mark literals watched c.args.trail.now.entries c.args.marks.now c.requires.marks) in
+    mark_saturated literals watched (watched_by call.new.watches) c.args.given.now.level c.args.trail.now
+    call.new.trail call.ensures.forced call.ensures.kept call.ensures.rearranged.as_many c.newest-from.result from
+
+pub mark_at_end-requires-clause-met : goal.mark_at_end-requires-clause-met
+mark_at_end-requires-clause-met g c =
+    let literals = literals_at c.args.given.now in
     let clauses = length c.args.given.now.clauses.now in
-    let watched = watched_by c.propagate.new.watches in
-    let a = c.rounds.trail in
-    let b = c.propagate.new.trail in
-    let d = c.visit_all_unwatched.new.trail in
-    let inv = c.rounds.invariant in
-    let many_b = as_many_decisions c.assignments-place.result.now b.entries c.assignments-place.ensures.decisions in
-    let longer = forced_longer literals level b d c.visit_all_unwatched.ensures.forced in
-    let met : AreMet (val b.entries) (val b.entries) watched =
-    none_case (AreMet (val b.entries) (val b.entries) watched)
-    (IsConflict literals clauses (val b.entries)) c.in_ok-conflict.conflict c.in_ok-conflict.ensures.ok
-    (sym c.is_some.ensures ∙ c.if-is_some.false) in
-    record {
-      within = omega (arith, many_b, longer);
-      watched = c.propagate.ensures.watched;
-      rearranged = rearranged_then literals (watched_by c.args.watches.now) (watched_by c.rounds.watches) watched
-          inv.rearranged c.propagate.ensures.rearranged;
-      forced = forced_then literals level c.args.trail.now b d
-          (forced_then literals level c.args.trail.now a b inv.forced c.propagate.ensures.forced)
-          c.visit_all_unwatched.ensures.forced;
-      met = subst (λ (p : ℕ). AreMet (val_before p d.entries) (val d.entries) watched) (sym many_b)
-          (place_kept literals level b d watched c.visit_all_unwatched.ensures.forced met);
-    }
+    let call = c.saturate_from in
+    let now = val call.new.trail.entries in
+    (none_case (AreSettled literals clauses now × AreMet now now (watched_by call.new.watches))
+    (IsConflict literals clauses now) c.in_ok-conflict.conflict c.in_ok-conflict.ensures.ok
+    (sym c.is_some.ensures ∙ c.if-is_some.false)).1
+
+pub push-requires : goal.push-requires
+push-requires g c = subst (λ (m : Mark). IsBehind m c.mark_at_end.result) c.newest-from.ensures c.mark_at_end.ensures.behind
+
+pub returns-clause-ok : goal.returns-clause-ok
+returns-clause-ok g c =
+    let literals = literals_at c.args.given.now in
+    let clauses = length c.args.given.now.clauses.now in
+    let call = c.saturate_from in
+    let now = val call.new.trail.entries in
+    (none_case (AreSettled literals clauses now × AreMet now now (watched_by call.new.watches))
+    (IsConflict literals clauses now) c.in_ok-conflict.conflict c.in_ok-conflict.ensures.ok
+    (sym c.is_some.ensures ∙ c.if-is_some.false)).0
+
+pub returns-clause-marks : goal.returns-clause-marks
+returns-clause-marks g c =
+    let literals = literals_at c.args.given.now in
+    let call = c.saturate_from in
+    let kept = marks_saturated literals (watched_by c.args.watches.now) (watched_by call.new.watches)
+    c.args.given.now.level c.args.trail.now call.new.trail call.ensures.forced call.ensures.kept
+    call.ensures.rearranged.as_many c.args.marks.now c.requires.marks in
+    marks_remembered literals (watched_by call.new.watches) call.new.trail.entries c.mark_at_end.result
+    c.args.marks.now c.push.new.self c.mark_at_end.ensures.mark kept c.push.ensures

@@ -11,4 +11,6 @@ returns-clause-clause g c =
 pub returns-clause-watches : goal.returns-clause-watches
 returns-clause-watches g c =
     c.forbid_multiple.ensures.watches no_literals no_values
-    ∙ ap (first_watches no_literals no_values) (c.forbid_multiple.ensures.clause ∙ ap (λ l. ForbidMultipleInstances c.args.bit.0 l c.args.name) (c.new.ensures ∙ literal_of_sign c.args.bit.1 c.args.bit.2))
+    ∙ ap (first_watches no_literals no_values)
+    (c.forbid_multiple.ensures.clause ∙ ap (λ l. ForbidMultipleInstances c.args.bit.0 l c.args.name)
+    (c.new.ensures ∙ literal_of_sign c.args.bit.1 c.args.bit.2))

@@ -16,7 +16,8 @@ pub returns-clause-same : goal.returns-clause-same
 returns-clause-same g c =
     let same = g.N.PartialEq.eq in
     let kept = c.self.inside.trackers in
-    ap (tracker_of same) (c.replace.ensures.replaced ∙ ap (λ now. set_value (same c.args.name) now c.make_room-made.new.self) c.replace-tracker.ensures.replaced)
+    ap (tracker_of same) (c.replace.ensures.replaced ∙
+    ap (λ now. set_value (same c.args.name) now c.make_room-made.new.self) c.replace-tracker.ensures.replaced)
     ∙ tracker_kept same g.met.N.Eq.laws g.met.N.SameValue.same kept c.args.name c.replace-tracker.result c.new.result c.make_room-made.new.self
     c.replace-tracker.ensures.earlier c.make_room-made.ensures.same
     ∙ ap (tracker_of same) c.self.view_is ∙ c.in_ok-start.ensures.same

@@ -10,8 +10,10 @@ returns-in-Err-clause-refused g c =
     let same = g.N.PartialEq.eq in
     let kept = c.self.inside.trackers in
     let none = tracker_missing same kept c.args.name (sym c.find.ensures.found ∙ (sym c.is_some.ensures ∙ c.if-is_some.false)) in
-    subst (λ now. IsGrowthRefusal (lacks_tracker (g.N.Slots.IdMap.is_too_large c.args.name) g.N.SolverId.are_many (tracker_of same now c.args.name)) c.in-Err.refusal) c.self.view_is
-    (tracker_refused g.N.Slots.IdMap.is_too_large g.N.SolverId.are_many (length kept) c.args.name (tracker_of same kept c.args.name) c.in-Err.refusal c.insert.ensures.few none
+    subst (λ now. IsGrowthRefusal (lacks_tracker (g.N.Slots.IdMap.is_too_large c.args.name) g.N.SolverId.are_many
+    (tracker_of same now c.args.name)) c.in-Err.refusal) c.self.view_is
+    (tracker_refused g.N.Slots.IdMap.is_too_large g.N.SolverId.are_many (length kept) c.args.name
+    (tracker_of same kept c.args.name) c.in-Err.refusal c.insert.ensures.few none
     c.in-Err.ensures.refused)
 
 pub returns-clause-same : goal.returns-clause-same

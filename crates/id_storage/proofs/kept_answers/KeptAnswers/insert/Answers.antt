@@ -12,7 +12,8 @@ invariant_of-self-2 g c =
     let below : c.len-index.result < min g.I.DenseIndex.limit (2 ^ 32) = search rules in
     let none : lookup (same c.args.key) kept ≡ None = search rules in
     rw c.in_ok-id.ensures.ok
-    (AreKept-push same g.met.K.Eq.laws g.met.K.SameValue.same g.K.SolverId.is_id g.I.DenseIndex.limit c.len-index.result _ _ _ kept c.args.key c.args.value size below
+    (AreKept-push same g.met.K.Eq.laws g.met.K.SameValue.same g.K.SolverId.is_id g.I.DenseIndex.limit c.len-index.result
+    _ _ _ kept c.args.key c.args.value size below
     c.self.invariant c.make_room.ensures.same none c.attest.ensures (c.put.ensures.put.0 ∙ c.new.ensures, c.put.ensures.put.1))
 
 pub returns-then-index-clause-few : goal.returns-then-index-clause-few

@@ -32,7 +32,8 @@ invariant_of-self g c =
     let place = ap g.I.DenseIndex.index_of c.from_index-id.ensures ∙ g.met.I.DenseIndex.round_trip c.in-Some.index below.1 in
     let is : slice_get kept c.in-Some.index ≡ Some c.index_mut.result.now =
     subst (λ n. slice_get kept n ≡ Some c.index_mut.result.now) place c.index_mut.ensures.value in
-    subst (λ n. AreKept same g.K.SolverId.is_id g.I.DenseIndex.limit (g.K.Slots.IdMap.value_at c.self.inside.slots) (set kept n (c.index_mut.result.now.0, c.replace.new.dest)))
+    subst (λ n. AreKept same g.K.SolverId.is_id g.I.DenseIndex.limit (g.K.Slots.IdMap.value_at c.self.inside.slots)
+    (set kept n (c.index_mut.result.now.0, c.replace.new.dest)))
     (sym place)
     (subst (λ now. AreKept same g.K.SolverId.is_id g.I.DenseIndex.limit (g.K.Slots.IdMap.value_at c.self.inside.slots) now)
     (sym (answer_replaced same kept c.args.key c.in-Some.index c.index_mut.result.now c.replace.new.dest at is))

@@ -10,11 +10,14 @@ sound : (g : _) (c : goal.In_ok-intern g) → IsSound (record (lists_in c.self.i
 sound g c =
     let keys = c.self.inside.conditions.keys in
     let new = c.intern.new.table.keys in
-    let made : IsMadeBelow (lists_in c.self.inside) (length keys) c.args.condition = subst (λ p. IsMadeBelow p (length p.conditions) c.args.condition) (sym c.self.view_is) c.requires in
+    let made : IsMadeBelow (lists_in c.self.inside) (length keys) c.args.condition =
+    subst (λ p. IsMadeBelow p (length p.conditions) c.args.condition) (sym c.self.view_is) c.requires in
     record {
       fits = search rules;
       own = own_with_conditions (lists_in c.self.inside) c.self.invariant.own new
-          (placed_interned eq-value.it keys c.args.condition (IsMadeBelow (lists_in c.self.inside)) new c.in_ok-intern.ensures.ok c.self.invariant.own.conditions made);
+          (placed_interned eq-value.it keys c.args.condition
+          (IsMadeBelow (lists_in c.self.inside)) new c.in_ok-intern.ensures.ok
+          c.self.invariant.own.conditions made);
     }
 
 pub invariant_of-self-2 : goal.invariant_of-self-2

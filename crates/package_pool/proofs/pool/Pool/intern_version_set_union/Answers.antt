@@ -9,7 +9,9 @@ sound : (g : _) (c : goal.In_ok-alloc g) → IsSound (record (lists_in c.self.in
 sound g c =
     let sets = c.in_ok-sets.sets in
     let unions = c.self.inside.unions in
-    let here : AreSetsHere (lists_in c.self.inside) sets.items = rw c.in_ok-sets.ensures.ok (subst (λ p. AreSetsHere p (c.args.first ∷ c.args.others.now)) (sym c.self.view_is) c.requires) in
+    let here : AreSetsHere (lists_in c.self.inside) sets.items =
+    rw c.in_ok-sets.ensures.ok
+    (subst (λ p. AreSetsHere p (c.args.first ∷ c.args.others.now)) (sym c.self.view_is) c.requires) in
     let room : length unions < 2 ^ 32 = search rules in
     record {
       fits = record {

@@ -7,7 +7,9 @@ pub returns-clause-value : goal.returns-clause-value
 returns-clause-value g c =
     let within : c.args.set.0 < length c.self.inside.version_sets.keys = subst (λ p. c.args.set.0 < length p.version_sets) (sym c.self.view_is) c.requires in
     rw (← c.self.view_is)
-    (ap (option_map (λ s. s.0)) (read_at c.self.inside.version_sets.keys _ _ _ _ within c.as_slice.ensures.keys c.to_index.ensures.value c.index-as_slice-to_index.is))
+    (ap (option_map (λ s. s.0))
+    (read_at c.self.inside.version_sets.keys _ _ _ _ within c.as_slice.ensures.keys c.to_index.ensures.value
+    c.index-as_slice-to_index.is))
 
 pub returns-clause-known : goal.returns-clause-known
 returns-clause-known g c =

@@ -24,7 +24,8 @@ returns-clause-ok g c =
     let p = c.args.self.now in
     let named = c.in_ok-display_solvable_name.ensures.ok in
     let merged = c.loop-solvable.merged in
-    let name = ap string_bytes (c.loop-solvable.invariant.name ∙ c.new-merged.ensures.name) ∙ (named.1 ∙ ap (λ bytes. bytes ++ named.0) c.new-name.ensures.bytes) in
+    let name = ap string_bytes (c.loop-solvable.invariant.name ∙ c.new-merged.ensures.name) ∙
+    (named.1 ∙ ap (λ bytes. bytes ++ named.0) c.new-name.ensures.bytes) in
     let gathered = none_left string_bytes (own.texts p).solvable merged.texts.items c.args.solvables.now c.loop-solvable.solvable-index
     c.loop-solvable.invariant.texts c.loop-solvable-test.false in
     on_ok_weaker c.append_to.result (λ h. (

@@ -10,5 +10,6 @@ returns-clause-ok g c =
     c.sort_unstable.ensures.permutation c.sort_unstable.ensures.sorted c.dedup.ensures.filtered in
     let name = string_bytes c.args.self.name in
     let blank = string_bytes c.append.new.out in
-    let joined = c.deref-2.ensures ∙ (c.in_ok-append_joined.ensures.ok ∙ ap (λ texts. blank ++ join_by string_bytes (codes " | ") texts) c.deref.ensures.value) in
+    let joined = c.deref-2.ensures ∙ (c.in_ok-append_joined.ensures.ok ∙
+    ap (λ texts. blank ++ join_by string_bytes (codes " | ") texts) c.deref.ensures.value) in
     on_ok_weaker c.append-2.result (λ h. (c.deref-2.result.now, h, merged name blank _ _ _ in_order c.in_ok-append.ensures.ok joined)) c.append-2.ensures.ok

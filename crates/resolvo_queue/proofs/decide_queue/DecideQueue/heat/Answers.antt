@@ -5,6 +5,8 @@ use Rattle.resolvo_queue.specs.Order.{Stands}
 use Rattle.resolvo_queue.specs.Queue.{Queue, StandsOn, queue_of}
 use Rattle.resolvo_queue.proofs.AfterLaws.{kept_heated, stands_heated}
 use Rattle.resolvo_queue.proofs.ByNameLaws.{entered_lacks}
+use Rattle.resolvo_queue.specs.Clear.{IsClear, RemembersWell}
+use Rattle.resolvo_queue.proofs.RememberLaws.{clear_still, remembered_along}
 use Rattle.resolvo_queue.proofs.decide_queue.DecideQueue.heat.Goals as goal
 
 pub invariant_of-self : goal.invariant_of-self
@@ -42,3 +44,14 @@ returns-clause-records g c = c.heat_clauses.ensures.heats.requirements ∙ ap (�
 
 pub returns-clause-witnesses : goal.returns-clause-witnesses
 returns-clause-witnesses g c = ap (λ (q : Queue g.row.D-NameId.Denot g.row.D-NameId-Set.Denot). q.witnesses) c.self.view_is
+
+pub returns-clause-clear : goal.returns-clause-clear
+returns-clause-clear g c =
+    let inside = c.self.inside in
+    let before : Queue g.row.D-NameId.Denot g.row.D-NameId-Set.Denot = queue_of inside.tracked inside.names.items inside.hot_names inside.since.items inside.witnesses in
+    let heats = c.heat_clauses.ensures.heats in
+    let now = c.heat_clauses.new.self.index.clauses.items in
+    let order = c.self.invariant.0.order in
+    λ refs ds h. remembered_along (IsClear refs ds before.inside.clauses before.witnesses.looked) (IsClear refs ds now before.witnesses.looked) before.last before.last refl
+    (λ last is. clear_still before.inside.clauses now heats.clauses order.located (heats.in_order order).located refs ds before.witnesses.looked last is)
+    (subst (RemembersWell refs ds) (sym c.self.view_is) h)

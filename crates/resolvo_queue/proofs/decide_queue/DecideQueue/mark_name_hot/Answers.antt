@@ -3,6 +3,7 @@ use Rattle.std.proofs.Common.{sym, subst, arith}
 use Rattle.resolvo_queue.specs.Names.{ColdLack}
 use Rattle.resolvo_queue.specs.Queue.{Queue, StandsOn, queue_of}
 use Rattle.resolvo_queue.proofs.AfterLaws.{cold_still, fits_if_ok, kept_hot, stands_hot}
+use Rattle.resolvo_queue.specs.Clear.{RemembersWell}
 use Rattle.resolvo_queue.proofs.decide_queue.DecideQueue.mark_name_hot.Goals as goal
 
 pub returns-in_err-insert-clause-stands : goal.returns-in_err-insert-clause-stands
@@ -34,3 +35,9 @@ returns-in_err-insert-clause-err g c = grind (arith, common_steps)
 
 pub returns-clause-ok : goal.returns-clause-ok
 returns-clause-ok g c = grind (arith, common_steps)
+
+pub returns-in_err-insert-clause-clear : goal.returns-in_err-insert-clause-clear
+returns-in_err-insert-clause-clear g c = λ refs ds h. subst (RemembersWell refs ds) (sym c.self.view_is) (c.heat.ensures.clear refs ds h)
+
+pub returns-clause-clear : goal.returns-clause-clear
+returns-clause-clear g c = λ refs ds h. subst (RemembersWell refs ds) (sym c.self.view_is) (c.heat.ensures.clear refs ds h)

@@ -89,3 +89,9 @@ returns-clause-owed g c = λ r. c.pick.ensures.owed r ∙ ap (λ ts. owed_in ts 
 
 pub returns-clause-looks : goal.returns-clause-looks
 returns-clause-looks g c = λ r. let same = c.pick.ensures.looks r in let once = c.settle.ensures.looks r in omega (arith, same, once)
+
+pub settle-requires-clause-looked : goal.settle-requires-clause-looked
+settle-requires-clause-looked g c = c.requires.stands.falsified.looked
+
+pub returns-clause-last : goal.returns-clause-last
+returns-clause-last g c = c.pick.ensures.last ∙ c.settle.ensures.last

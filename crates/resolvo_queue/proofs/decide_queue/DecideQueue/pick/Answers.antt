@@ -150,3 +150,9 @@ returns-clause-looks g c = λ r. ap (λ (q : Queue g.row.D-NameId.Denot g.row.D-
 
 pub next_offer-requires-clause-largest : goal.next_offer-requires-clause-largest
 next_offer-requires-clause-largest g c = grind (arith, common_steps)
+
+pub returns-in_err-offer-clause-last : goal.returns-in_err-offer-clause-last
+returns-in_err-offer-clause-last g c = ap (λ (q : Queue g.row.D-NameId.Denot g.row.D-NameId-Set.Denot). q.last) c.self.view_is
+
+pub returns-clause-last : goal.returns-clause-last
+returns-clause-last g c = ap (λ (q : Queue g.row.D-NameId.Denot g.row.D-NameId-Set.Denot). q.last) c.self.view_is

@@ -1,5 +1,5 @@
 use Rattle.std.proofs.lemmas.Grind.{common_steps}
-use Rattle.std.proofs.Common.{◌≡◌, ◌⊎◌, inl, arith, ◌<◌, ◌^◌, ◌-◌, [], ◌∷◌, ◌++◌, map, length, sym, ap, refl, subst, ◌∙◌}
+use Rattle.std.proofs.Common.{◌≡◌, ◌⊎◌, inl, arith, ◌<◌, ◌^◌, ◌-◌, [], ◌∷◌, ◌++◌, map, length, IfSome, sym, ap, refl, subst, ◌∙◌}
 use Rattle.std.specs.List.{list_any}
 use Rattle.std.proofs.lemmas.List.{length-map, map-append}
 use Rattle.resolvo_queue.specs.ByName.{IsEntered, numbers_under}
@@ -12,6 +12,8 @@ use Rattle.resolvo_queue.specs.WalkCounts.{owed, owed_in, walks}
 use Rattle.resolvo_queue.proofs.AfterLaws.{kept_still}
 use Rattle.resolvo_queue.proofs.ByNameLaws.{entered_last, entered_still}
 use Rattle.resolvo_queue.proofs.KeptLaws.{kept_refused, kept_registered, not_full, registered_whole, stands_refused, stands_registered}
+use Rattle.resolvo_queue.specs.Clear.{IsClear, RemembersWell}
+use Rattle.resolvo_queue.proofs.RememberLaws.{clear_registered, remembered_along}
 use Rattle.resolvo_queue.proofs.decide_queue.DecideQueue.register_clause.Goals as goal
 
 pub overflow_cast-number : goal.overflow_cast-number
@@ -153,3 +155,21 @@ register-requires-clause-order g c = grind (arith, common_steps)
 
 pub register-requires-clause-few : goal.register-requires-clause-few
 register-requires-clause-few g c = grind (arith, common_steps)
+
+pub returns-in_err-register-clause-clear : goal.returns-in_err-register-clause-clear
+returns-in_err-register-clause-clear g c =
+    let inside = c.self.inside in
+    let before : Queue g.row.D-NameId.Denot g.row.D-NameId-Set.Denot = queue_of inside.tracked inside.names.items inside.hot_names inside.since.items inside.witnesses in
+    λ refs ds s h. subst (λ cs. IfSome before.last (IsClear refs ds cs before.witnesses.looked)) (sym c.in_err-register.ensures.err.clauses)
+    (subst (RemembersWell refs ds) (sym c.self.view_is) h)
+
+pub returns-clause-clear : goal.returns-clause-clear
+returns-clause-clear g c =
+    let inside = c.self.inside in
+    let before : Queue g.row.D-NameId.Denot g.row.D-NameId-Set.Denot = queue_of inside.tracked inside.names.items inside.hot_names inside.since.items inside.witnesses in
+    let registers = c.in_ok-register.ensures.ok in
+    let now = c.register.new.self.index.clauses.items in
+    λ refs ds s h. remembered_along (IsClear refs ds before.inside.clauses before.witnesses.looked) (IsClear refs ds now before.witnesses.looked) before.last before.last refl
+    (λ last is. subst (λ cs. IsClear refs ds cs before.witnesses.looked last) (sym registers.clauses)
+    (clear_registered before.inside.clauses registers.new refs ds before.witnesses.looked (subst (StandsOn refs) (sym c.self.view_is) s).falsified.looked last is))
+    (subst (RemembersWell refs ds) (sym c.self.view_is) h)

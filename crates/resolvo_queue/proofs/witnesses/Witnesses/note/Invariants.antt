@@ -6,6 +6,7 @@ abbrev pub invariant-loop-decision : goal.invariant-loop-decision
 invariant-loop-decision g l = record {
   of : l.self.of ≡ l.fn.self.of;
   looked : l.self.looked ≡ l.fn.self.looked;
+  last : l.self.last ≡ l.fn.self.last;
   changed : l.self.changed.items ≡ l.fn.self.changed.items ++ variables_of (take l.decision-index l.decisions);
   room : length l.self.changed.items + length l.decisions ≤ l.self.changed.cap + l.decision-index;
 }

@@ -5,6 +5,8 @@ use Rattle.std.proofs.lemmas.Bool.Decides.{nat_tests}
 use Rattle.watch_map.specs.ClauseList.{contents}
 use Rattle.at_most_once.specs.NameTrackers.{tracker_of}
 use Rattle.resolvo_store.specs.Command.{AtMostOnce, answer_of}
+use Rattle.resolvo_store.specs.Lists.{HasMarks}
+use Rattle.resolvo_store.specs.Outcome.{tracking}
 use Rattle.resolvo_store.specs.Step.{Step}
 use Rattle.resolvo_store.specs.Store.{Store, Kept, Provider, store_of, gathered}
 use Rattle.resolvo_store.specs.Tracking.{is_helper_among}
@@ -12,6 +14,7 @@ use Rattle.resolvo_store.proofs.AddingLemmas.{both, failed}
 use Rattle.resolvo_store.proofs.InvariantLemmas.{after_tracked, tracked_or_same, with_list}
 use Rattle.resolvo_store.proofs.CallerLaws.{store_in}
 use Rattle.resolvo_store.proofs.KnownLemmas.{IsLawful}
+use Rattle.resolvo_store.proofs.MarkedLaws.{marks_more, forbidden_or_same}
 use Rattle.resolvo_store.proofs.TrackingSteps.{step_tracked}
 use Rattle.resolvo_store.proofs.store.ClauseStore.at_most_once.Given.{Over}
 use Rattle.resolvo_store.proofs.store.ClauseStore.at_most_once.Goals as goal
@@ -41,24 +44,30 @@ invariant_of-self g c =
     let one = both named (nat_lt v (length os) && not (is_helper_among os v)) known in
     let two = both (nat_lt v (length os)) (not (is_helper_among os v)) one.1 in
     let within : v < length os = (let test = two.0 in grind (arith, nat_tests, test)) in
-    after_tracked c.self.invariant name v c.track.result (lawful g c.self.inside.cache.provider) one.0 within (failed (is_helper_among os v) two.1) (sym c.is_tracked.ensures ∙ c.if-is_tracked.false)
-    c.track.ensures.variables c.track.ensures.clauses c.track.ensures.trackers c.track.ensures.same_variables c.track.ensures.same_clauses c.track.ensures.same_trackers
+    let call = c.track-reply in
+    let first = c.len-first.ensures.value ∙ sym c.self.invariant.consistent.sound.watched in
+    record {
+      consistent = after_tracked c.self.invariant.consistent name v call.result (lawful g c.self.inside.cache.provider) one.0 within (failed (is_helper_among os v) two.1) (sym c.is_tracked.ensures ∙ c.if-is_tracked.false)
+          call.ensures.variables call.ensures.clauses call.ensures.trackers call.ensures.same_variables call.ensures.same_clauses call.ensures.same_trackers;
+      marked = subst (HasMarks (with_list (store_in c.self.invariant.consistent.sound) (contents call.new.clauses))) (sym c.forget_false_from.ensures) (marks_more (store_in c.self.invariant.consistent.sound) c.self.inside.marks c.self.invariant.marked (contents call.new.clauses) c.len-first.result first
+          (forbidden_or_same (contents c.self.inside.clauses) name (tracking (store_in c.self.invariant.consistent.sound) name v) call.result call.ensures.clauses call.ensures.same_clauses));
+    }
 
 pub returns-clause-step : goal.returns-clause-step
 returns-clause-step g c =
     let name = c.args.name in
     let v = c.args.variable in
-    let old = store_in c.self.invariant.sound in
+    let old = store_in c.self.invariant.consistent.sound in
     let os = c.self.inside.variables in
     let may = subst (λ p. ((g.D.Interner.universe p).knows_name name && (nat_lt v (length os) && not (is_helper_among os v))) ≡ true) c.provider.ensures.provider (sym c.may_track.ensures ∙ c.if-not-may_track.false) in
-    let origins = c.track.new.variables in
-    let clauses = contents c.track.new.clauses in
-    let trackers = tracker_of g.D.NameId.PartialEq.eq c.track.new.trackers in
+    let origins = c.track-reply.new.variables in
+    let clauses = contents c.track-reply.new.clauses in
+    let trackers = tracker_of g.D.NameId.PartialEq.eq c.track-reply.new.trackers in
     let after : Store g.row.D-NameId.Denot g.row.D-SolvableId.Denot = record (with_list old clauses) { origins = origins; trackers = trackers } in
-    let parts = tracked_or_same old name v origins clauses trackers c.track.result c.track.ensures.variables c.track.ensures.clauses c.track.ensures.trackers
-    c.track.ensures.same_variables c.track.ensures.same_clauses c.track.ensures.same_trackers in
-    subst (λ (k : Kept g.row.D.Denot g.row.D-NameId.Denot g.row.D-SolvableId.Denot g.row.D-NameId-Scores.Denot). Step (store_of (given g) g.D.NameId.Scores.IdMap.value_at k) (AtMostOnce name v) (answer_of c.track.result) after) c.self.view_is
-    (step_tracked old name v c.track.result after may (sym c.is_tracked.ensures ∙ c.if-is_tracked.false) c.track.ensures.reply parts.0 parts.1 c.track.ensures.fits c.track.ensures.refused)
+    let parts = tracked_or_same old name v origins clauses trackers c.track-reply.result c.track-reply.ensures.variables c.track-reply.ensures.clauses c.track-reply.ensures.trackers
+    c.track-reply.ensures.same_variables c.track-reply.ensures.same_clauses c.track-reply.ensures.same_trackers in
+    subst (λ (k : Kept g.row.D.Denot g.row.D-NameId.Denot g.row.D-SolvableId.Denot g.row.D-NameId-Scores.Denot). Step (store_of (given g) g.D.NameId.Scores.IdMap.value_at k) (AtMostOnce name v) (answer_of c.track-reply.result) after) c.self.view_is
+    (step_tracked old name v c.track-reply.result after may (sym c.is_tracked.ensures ∙ c.if-is_tracked.false) c.track-reply.ensures.reply parts.0 parts.1 c.track-reply.ensures.fits c.track-reply.ensures.refused)
 
 pub returns-clause-provider : goal.returns-clause-provider
 returns-clause-provider g c = grind (arith, common_steps)

@@ -5,6 +5,7 @@ use Rattle.resolvo_store.specs.Command.{Bump, answer_of}
 use Rattle.resolvo_store.specs.Step.{Step}
 use Rattle.resolvo_store.specs.Walks.{WalksNothing}
 use Rattle.resolvo_store.specs.Store.{Store, Kept, Provider, store_of, gathered}
+use Rattle.resolvo_store.specs.Synced.{decisions_of}
 use Rattle.resolvo_store.proofs.AddingLemmas.{step_grown, first_of_bump}
 use Rattle.resolvo_store.proofs.CallerLaws.{store_in}
 use Rattle.resolvo_store.proofs.InvariantLemmas.{after_bumped, bumped_or_same}
@@ -20,14 +21,18 @@ given g = gathered g.D.NameId.PartialEq.eq g.D.SolvableId.PartialEq.eq g.D.NameI
 pub invariant_of-self : goal.invariant_of-self
 invariant_of-self g c =
     let inside = c.self.inside in
-    after_bumped c.self.invariant g.D.NameId.PartialEq.eq g.met.D.NameId.SameValue.same c.args.name c.args.amount c.raise.result refl c.raise.ensures.clauses c.raise.ensures.synced
-    (c.raise.ensures.stands (references (g.D.Interner.universe inside.cache.provider) inside.loaded inside.disjunctions) c.self.invariant.may_ask.stands)
-    c.raise.ensures.bumped c.raise.ensures.hot c.raise.ensures.same_scores c.raise.ensures.same_hot
+    record {
+      consistent = after_bumped c.self.invariant.consistent g.D.NameId.PartialEq.eq g.met.D.NameId.SameValue.same c.args.name c.args.amount c.raise.result refl c.raise.ensures.clauses c.raise.ensures.synced
+          (c.raise.ensures.stands (references (g.D.Interner.universe inside.cache.provider) inside.loaded inside.disjunctions) c.self.invariant.consistent.may_ask.stands)
+          (c.raise.ensures.clear (references (g.D.Interner.universe inside.cache.provider) inside.loaded inside.disjunctions) (decisions_of inside.trail.entries) c.self.invariant.consistent.may_ask.clear)
+          c.raise.ensures.bumped c.raise.ensures.hot c.raise.ensures.same_scores c.raise.ensures.same_hot;
+      marked = c.self.invariant.marked;
+    }
 
 pub returns-clause-step : goal.returns-clause-step
 returns-clause-step g c =
     let name = c.args.name in
-    let st = store_in c.self.invariant.sound in
+    let st = store_in c.self.invariant.consistent.sound in
     let after : Store g.row.D-NameId.Denot g.row.D-SolvableId.Denot =
     record st { scores = g.D.NameId.Scores.IdMap.value_at c.raise.new.scores.map; requires = c.raise.new.queue.clauses } in
     let large = g.D.NameId.Slots.IdMap.is_too_large name in

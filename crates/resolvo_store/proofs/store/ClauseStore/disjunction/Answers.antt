@@ -10,6 +10,7 @@ use Rattle.resolvo_store.specs.Store.{Kept, Provider, store_of, gathered}
 use Rattle.resolvo_store.proofs.CallerLaws.{store_in}
 use Rattle.resolvo_store.proofs.AddingLemmas.{both, step_grown, first_of_disjunction}
 use Rattle.resolvo_store.proofs.InvariantLemmas.{after_disjunction, on_ok, on_err}
+use Rattle.resolvo_store.proofs.MarkedLaws.{marks_asked}
 use Rattle.resolvo_store.proofs.store.ClauseStore.disjunction.Given.{Over}
 use Rattle.resolvo_store.proofs.store.ClauseStore.disjunction.Goals as goal
 
@@ -23,12 +24,16 @@ invariant_of-self g c =
     let knows : Bool = list_all (λ l. nat_lt (variable_of l) (length c.self.inside.variables)) c.args.literals.now in
     let known = subst (λ n. (list_all (λ l. nat_lt (variable_of l) n) c.args.literals.now && (g.D.Interner.universe c.provider.result.now).knows_condition c.args.condition) ≡ true) c.count.ensures.value
     (sym c.knows_parts.ensures ∙ c.if-not-knows_parts.false) in
-    after_disjunction c.self.invariant c.args.literals.now c.args.condition c.keep_disjunction.result refl (both knows ((g.D.Interner.universe c.provider.result.now).knows_condition c.args.condition) known).0
-    c.keep_disjunction.ensures.more c.keep_disjunction.ensures.ok c.keep_disjunction.ensures.err
+    let call = c.keep_disjunction in
+    record {
+      consistent = after_disjunction c.self.invariant.consistent c.args.literals.now c.args.condition c.keep_disjunction.result refl (both knows ((g.D.Interner.universe c.provider.result.now).knows_condition c.args.condition) known).0
+          c.keep_disjunction.ensures.more c.keep_disjunction.ensures.ok c.keep_disjunction.ensures.err;
+      marked = marks_asked (store_in c.self.invariant.consistent.sound) c.self.inside.marks c.self.invariant.marked c.self.inside.disjunctions c.args.literals.now c.args.condition call.new.disjunctions call.result refl call.ensures.ok call.ensures.err;
+    }
 
 pub returns-clause-step : goal.returns-clause-step
 returns-clause-step g c =
-    let st = store_in c.self.invariant.sound in
+    let st = store_in c.self.invariant.consistent.sound in
     let known = subst (λ n. (list_all (λ l. nat_lt (variable_of l) n) c.args.literals.now && st.provider.universe.knows_condition c.args.condition) ≡ true) c.count.ensures.value
     (subst (λ p. (list_all (λ l. nat_lt (variable_of l) c.count.result) c.args.literals.now && (g.D.Interner.universe p).knows_condition c.args.condition) ≡ true) c.provider.ensures.provider
     (sym c.knows_parts.ensures ∙ c.if-not-knows_parts.false)) in

@@ -19,12 +19,12 @@ pub falsified-requires-clause-walkable : goal.falsified-requires-clause-walkable
 falsified-requires-clause-walkable g c =
     let inside = c.self.inside in
     subst (λ p. All (CanWalk (references (g.D.Interner.universe p) inside.loaded inside.disjunctions)) inside.queue.clauses) (sym c.provider.ensures.provider)
-    (can_walk c.self.invariant refl refl)
+    (can_walk c.self.invariant.consistent refl refl)
 
 pub returns : goal.returns
 returns g c =
     let inside = c.self.inside in
-    let kept = kept_literals (store_in c.self.invariant.sound) in
+    let kept = kept_literals (store_in c.self.invariant.consistent.sound) in
     let found = subst (λ p. let refs = references (g.D.Interner.universe p) inside.loaded inside.disjunctions in
     c.falsified.result ≡ option_map (λ q. q.clause_id) (first_falsified (values_in c.map.result.now) (literals_in refs) (rows_in refs) inside.queue.clauses)) c.provider.ensures.provider c.falsified.ensures in
     subst (λ (k : Kept g.row.D.Denot g.row.D-NameId.Denot g.row.D-SolvableId.Denot g.row.D-NameId-Scores.Denot). c.falsified.result ≡ option_map (λ q. q.clause_id) (falsified_clause (store_of (given g) g.D.NameId.Scores.IdMap.value_at k))) c.self.view_is

@@ -23,7 +23,7 @@ given g = gathered g.D.NameId.PartialEq.eq g.D.SolvableId.PartialEq.eq g.D.NameI
 
 pub returns-then-not-knows_helper-clause-step : goal.returns-then-not-knows_helper-clause-step
 returns-then-not-knows_helper-clause-step g c =
-    let st = store_in c.self.invariant.sound in
+    let st = store_in c.self.invariant.consistent.sound in
     let origin = c.args.origin in
     let known_is = subst (λ p. c.knows_helper.result ≡ is_helper_known (g.D.Interner.universe p) origin) c.provider.ensures.provider c.knows_helper.ensures ∙ helper_known_is st origin in
     subst (λ (k : Kept g.row.D.Denot g.row.D-NameId.Denot g.row.D-SolvableId.Denot g.row.D-NameId-Scores.Denot). let now = store_of (given g) g.D.NameId.Scores.IdMap.value_at k in Step now (Helper origin) (Refused UnknownId) now) c.self.view_is
@@ -31,15 +31,18 @@ returns-then-not-knows_helper-clause-step g c =
 
 pub invariant_of-self : goal.invariant_of-self
 invariant_of-self g c =
-    let st = store_in c.self.invariant.sound in
+    let st = store_in c.self.invariant.consistent.sound in
     let origin = c.args.origin in
     let known_is = subst (λ p. c.knows_helper.result ≡ is_helper_known (g.D.Interner.universe p) origin) c.provider.ensures.provider c.knows_helper.ensures ∙ helper_known_is st origin in
-    after_origins c.self.invariant (c.self.inside.variables ++ helper_origin origin ∷ []) c.add_helper.result
-    (IsSound-helper _ c.self.invariant.sound origin (sym known_is ∙ c.if-not-knows_helper.false)) c.add_helper.ensures.ok c.add_helper.ensures.err
+    record {
+      consistent = after_origins c.self.invariant.consistent (c.self.inside.variables ++ helper_origin origin ∷ []) c.add_helper.result
+          (IsSound-helper _ c.self.invariant.consistent.sound origin (sym known_is ∙ c.if-not-knows_helper.false)) c.add_helper.ensures.ok c.add_helper.ensures.err;
+      marked = c.self.invariant.marked;
+    }
 
 pub returns-clause-step : goal.returns-clause-step
 returns-clause-step g c =
-    let st = store_in c.self.invariant.sound in
+    let st = store_in c.self.invariant.consistent.sound in
     let origin = c.args.origin in
     let known_is = subst (λ p. c.knows_helper.result ≡ is_helper_known (g.D.Interner.universe p) origin) c.provider.ensures.provider c.knows_helper.ensures ∙ helper_known_is st origin in
     let with_origins = λ (os : List (VariableOrigin g.row.D-NameId.Denot g.row.D-SolvableId.Denot)). record st { origins = os } in

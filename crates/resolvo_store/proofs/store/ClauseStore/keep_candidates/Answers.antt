@@ -1,5 +1,5 @@
 use Rattle.std.proofs.lemmas.Grind.{common_steps}
-use Rattle.std.proofs.Common.{◌≡◌, ◌∷◌, ◌++◌, [], ◌∙◌, sym, ap, subst, None, map, take, true, false, arith}
+use Rattle.std.proofs.Common.{◌≡◌, ◌∷◌, ◌++◌, [], ◌∙◌, sym, ap, refl, subst, None, map, take, true, false, arith}
 use Rattle.std.specs.Map.{lookup}
 use Rattle.std.specs.Prelude.{All}
 use Rattle.std.proofs.lemmas.List.Elements.{All-take}
@@ -10,7 +10,7 @@ use Rattle.variables.specs.Variables.{interned_variable}
 use Rattle.solver_cache.specs.Cache.{sorted_of_set, sorted_of}
 use Rattle.solver_cache.proofs.CacheLemmas.{handed_on}
 use Rattle.resolvo_store.specs.Command.{Load}
-use Rattle.resolvo_store.specs.Lists.{lists_kept, IsConsistent}
+use Rattle.resolvo_store.specs.Lists.{lists_kept, IsConsistent, HasMarks}
 use Rattle.resolvo_store.specs.Outcome.{origins_loaded, variables_loaded}
 use Rattle.resolvo_store.specs.Step.{lacks_ids, may_be_refused}
 use Rattle.resolvo_store.specs.Store.{Store, Provider, Kept, store_of, gathered}
@@ -19,6 +19,7 @@ use Rattle.resolvo_store.proofs.CallerLaws.{store_in, left_of}
 use Rattle.resolvo_store.proofs.KnownLemmas.{IsLawful, IsKnownSolvable, all_known}
 use Rattle.resolvo_store.proofs.ListLemmas.{insert-kept, items_of, items-cloned}
 use Rattle.resolvo_store.proofs.LoadingLemmas.{lacks_nothing, load_refused}
+use Rattle.resolvo_store.proofs.MarkedLaws.{marks_loaded}
 use Rattle.resolvo_store.proofs.store.ClauseStore.keep_candidates.Given.{Over}
 use Rattle.resolvo_store.proofs.store.ClauseStore.keep_candidates.Goals as goal
 
@@ -50,26 +51,36 @@ pub invariant_of-self : goal.invariant_of-self
 invariant_of-self g c =
     let inside = c.self.inside in
     let got = c.in_err-lists.ensures.err in
-    after_variables (given g) g.D.NameId.Scores.IdMap.value_at g.D.SolvableId.Set.IdSet.has g.D.NameId.Set.IdSet.has (left_of c.self.view_is) inside.variables inside.loaded inside.disjunctions inside.queue inside.trail inside.cache c.load_lists.new.cache c.in_err-lists.ensures.later
-    c.self.invariant (lawful g inside.cache.provider) (take got.0 (sorted_of (given g inside.cache.provider) c.args.requirement)) c.load_lists.new.variables
-    (All-take (IsKnownSolvable (g.D.Interner.universe inside.cache.provider)) got.0 _ (candidates_known g inside.cache.provider c.args.requirement)) got.1
+    record {
+      consistent = after_variables (given g) g.D.NameId.Scores.IdMap.value_at g.D.SolvableId.Set.IdSet.has g.D.NameId.Set.IdSet.has (left_of c.self.view_is) inside.variables inside.loaded inside.disjunctions inside.queue inside.trail inside.cache c.load_lists.new.cache c.in_err-lists.ensures.later
+          c.self.invariant.consistent (lawful g inside.cache.provider) (take got.0 (sorted_of (given g inside.cache.provider) c.args.requirement)) c.load_lists.new.variables
+          (All-take (IsKnownSolvable (g.D.Interner.universe inside.cache.provider)) got.0 _ (candidates_known g inside.cache.provider c.args.requirement)) got.1;
+      marked = c.self.invariant.marked;
+    }
 
 -- all of them have
 pub invariant_of-self-in_err-reply : goal.invariant_of-self-in_err-reply
 invariant_of-self-in_err-reply g c =
     let inside = c.self.inside in
-    after_variables (given g) g.D.NameId.Scores.IdMap.value_at g.D.SolvableId.Set.IdSet.has g.D.NameId.Set.IdSet.has (left_of c.self.view_is) inside.variables inside.loaded inside.disjunctions inside.queue inside.trail inside.cache c.load_lists.new.cache c.in_ok-lists.ensures.later
-    c.self.invariant (lawful g inside.cache.provider) (sorted_of (given g inside.cache.provider) c.args.requirement) c.load_lists.new.variables
-    (candidates_known g inside.cache.provider c.args.requirement) c.in_ok-lists.ensures.ok
+    record {
+      consistent = after_variables (given g) g.D.NameId.Scores.IdMap.value_at g.D.SolvableId.Set.IdSet.has g.D.NameId.Set.IdSet.has (left_of c.self.view_is) inside.variables inside.loaded inside.disjunctions inside.queue inside.trail inside.cache c.load_lists.new.cache c.in_ok-lists.ensures.later
+          c.self.invariant.consistent (lawful g inside.cache.provider) (sorted_of (given g inside.cache.provider) c.args.requirement) c.load_lists.new.variables
+          (candidates_known g inside.cache.provider c.args.requirement) c.in_ok-lists.ensures.ok;
+      marked = c.self.invariant.marked;
+    }
 
 pub invariant_of-self-in_err-insert : goal.invariant_of-self-in_err-insert
 invariant_of-self-in_err-insert g c =
     let inside = c.self.inside in
     let new = c.load_lists.new.cache in
-    subst (λ kept. IsConsistent g.D.NameId.Set.IdSet.has (store_with (given g) g.D.NameId.Scores.IdMap.value_at (left_of c.self.view_is) new.provider c.load_lists.new.variables kept) kept inside.disjunctions new inside.queue inside.trail) (sym c.in_err-insert.ensures.err.1)
-    (after_variables (given g) g.D.NameId.Scores.IdMap.value_at g.D.SolvableId.Set.IdSet.has g.D.NameId.Set.IdSet.has (left_of c.self.view_is) inside.variables inside.loaded inside.disjunctions inside.queue inside.trail inside.cache new c.in_ok-lists.ensures.later
-    c.self.invariant (lawful g inside.cache.provider) (sorted_of (given g inside.cache.provider) c.args.requirement) c.load_lists.new.variables
-    (candidates_known g inside.cache.provider c.args.requirement) c.in_ok-lists.ensures.ok)
+    record {
+      consistent = subst (λ kept. IsConsistent g.D.NameId.Set.IdSet.has (store_with (given g) g.D.NameId.Scores.IdMap.value_at (left_of c.self.view_is) new.provider c.load_lists.new.variables kept) kept inside.disjunctions new inside.queue inside.trail) (sym c.in_err-insert.ensures.err.1)
+          (after_variables (given g) g.D.NameId.Scores.IdMap.value_at g.D.SolvableId.Set.IdSet.has g.D.NameId.Set.IdSet.has (left_of c.self.view_is) inside.variables inside.loaded inside.disjunctions inside.queue inside.trail inside.cache new c.in_ok-lists.ensures.later
+          c.self.invariant.consistent (lawful g inside.cache.provider) (sorted_of (given g inside.cache.provider) c.args.requirement) c.load_lists.new.variables
+          (candidates_known g inside.cache.provider c.args.requirement) c.in_ok-lists.ensures.ok);
+      marked = subst (λ kept. HasMarks (store_with (given g) g.D.NameId.Scores.IdMap.value_at (left_of c.self.view_is) new.provider c.load_lists.new.variables kept) inside.marks)
+          (sym c.in_err-insert.ensures.err.1) c.self.invariant.marked;
+    }
 
 -- and their lists are kept
 pub invariant_of-self-2 : goal.invariant_of-self-2
@@ -78,9 +89,12 @@ invariant_of-self-2 g c =
     let r = c.args.requirement in
     let fresh : lookup (same_requirement r) (lists_kept inside.loaded) ≡ None =
     subst (λ kept. lookup (same_requirement r) kept.loaded ≡ None) (sym c.self.view_is) c.requires.new in
-    after_load (given g) g.D.NameId.Scores.IdMap.value_at g.D.SolvableId.Set.IdSet.has g.D.NameId.Set.IdSet.has (left_of c.self.view_is) inside.variables inside.loaded inside.disjunctions inside.queue inside.trail inside.cache c.load_lists.new.cache c.in_ok-lists.ensures.later
-    c.self.invariant (lawful g inside.cache.provider) r (sorted_of_set (given g inside.cache.provider)) c.load_lists.new.variables c.in_ok-lists.lists c.insert.new.self
-    (candidates_known g inside.cache.provider r) fresh c.in_ok-lists.ensures.ok c.in_ok-lists.ensures.lists c.in_ok-lists.ensures.few c.in_ok-lists.ensures.asked c.in_ok-insert.ensures.ok
+    record {
+      consistent = after_load (given g) g.D.NameId.Scores.IdMap.value_at g.D.SolvableId.Set.IdSet.has g.D.NameId.Set.IdSet.has (left_of c.self.view_is) inside.variables inside.loaded inside.disjunctions inside.queue inside.trail inside.cache c.load_lists.new.cache c.in_ok-lists.ensures.later
+          c.self.invariant.consistent (lawful g inside.cache.provider) r (sorted_of_set (given g inside.cache.provider)) c.load_lists.new.variables c.in_ok-lists.lists c.insert.new.self
+          (candidates_known g inside.cache.provider r) fresh c.in_ok-lists.ensures.ok c.in_ok-lists.ensures.lists c.in_ok-lists.ensures.few c.in_ok-lists.ensures.asked c.in_ok-insert.ensures.ok;
+      marked = marks_loaded (store_in c.self.invariant.consistent.sound) inside.marks c.self.invariant.marked inside.loaded r c.in_ok-lists.lists fresh refl c.in_ok-insert.ensures.ok;
+    }
 
 pub returns-clause-lists : goal.returns-clause-lists
 returns-clause-lists g c =
@@ -110,14 +124,14 @@ returns-clause-ok g c =
     subst Made c.self.view_is
     (ap (λ q. record was { provider = q; origins = c.load_lists.new.variables; loaded = lists_kept c.insert.new.self }) c.in_ok-lists.ensures.later.provider
     ∙ ap (λ os. record was { origins = os; loaded = lists_kept c.insert.new.self }) c.in_ok-lists.ensures.ok
-    ∙ ap (λ ls. record was { origins = origins_loaded (store_in c.self.invariant.sound) r; loaded = ls }) loaded)
+    ∙ ap (λ ls. record was { origins = origins_loaded (store_in c.self.invariant.consistent.sound) r; loaded = ls }) loaded)
 
 pub returns-clause-fit : goal.returns-clause-fit
 returns-clause-fit g c =
     let inside = c.self.inside in
     let r = c.args.requirement in
     subst (λ kept. lacks_ids (store g kept) (Load r) ≡ false) c.self.view_is
-    (lacks_nothing (store_in c.self.invariant.sound) r c.in_ok-lists.ensures.names_fit
+    (lacks_nothing (store_in c.self.invariant.consistent.sound) r c.in_ok-lists.ensures.names_fit
     c.in_ok-lists.ensures.few c.in_ok-lists.ensures.fit)
 
 pub returns-in_err-lists-clause-refused : goal.returns-in_err-lists-clause-refused
@@ -129,8 +143,8 @@ returns-in_err-lists-clause-refused g c =
     subst (λ kept. lookup (same_requirement r) kept.loaded ≡ None) (sym c.self.view_is) c.requires.new in
     handed_on _ c.from_residual.result e c.from_residual.ensures.1
     (subst (λ kept. may_be_refused (store g kept) (Load r) e ≡ true) c.self.view_is
-    (load_refused (store_in c.self.invariant.sound) r inside.cache c.load_lists.new.cache
-    g.met.D.NameId.SameValue.same c.self.invariant.asked fresh e c.in_err-lists.ensures.refused))
+    (load_refused (store_in c.self.invariant.consistent.sound) r inside.cache c.load_lists.new.cache
+    g.met.D.NameId.SameValue.same c.self.invariant.consistent.asked fresh e c.in_err-lists.ensures.refused))
 
 pub returns-in_err-reply-clause-front : goal.returns-in_err-reply-clause-front
 returns-in_err-reply-clause-front g c = grind (arith, common_steps)

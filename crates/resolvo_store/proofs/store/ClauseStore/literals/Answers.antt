@@ -14,7 +14,7 @@ given g = gathered g.D.NameId.PartialEq.eq g.D.SolvableId.PartialEq.eq g.D.NameI
 pub returns-clause-ok : goal.returns-clause-ok
 returns-clause-ok g c =
     let inside = c.self.inside in
-    let st = store_in c.self.invariant.sound in
+    let st = store_in c.self.invariant.consistent.sound in
     let found : slice_get inside.clauses.clauses c.args.clause ≡ Some c.in-Some.clause = sym c.get.ensures ∙ c.in-Some.is in
     let same = literals-kept c.learnt-learnt.result.now inside.clauses.learnt inside.loaded inside.disjunctions c.learnt-learnt.ensures in
     subst (λ (k : Kept g.row.D.Denot g.row.D-NameId.Denot g.row.D-SolvableId.Denot g.row.D-NameId-Scores.Denot). Some c.in_ok-literals.literals.items ≡ option_map (literals_of (kept_literals (store_of (given g) g.D.NameId.Scores.IdMap.value_at k))) (slice_get k.clauses c.args.clause))

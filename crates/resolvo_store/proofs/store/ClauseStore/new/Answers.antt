@@ -1,4 +1,4 @@
-use Rattle.std.proofs.Common.{rules, refl, subst, sym, []}
+use Rattle.std.proofs.Common.{rules, refl, subst, sym, [], arith}
 use Rattle.watch_map.specs.ClauseList.{Clauses}
 use Rattle.resolvo_store.specs.Asked.{asked_of}
 use Rattle.resolvo_store.specs.Lists.{lists_kept, disjunctions_kept, IsConsistent}
@@ -28,19 +28,22 @@ invariant_of-result g c =
       requires = c.new-6.result.clauses;
       trail = c.new-7.result.entries;
       place = c.new-7.result.place;
-      trackers = c.new-8.result;
-      scores = c.new-9.result.map;
+      trackers = c.new-9.result;
+      scores = c.new-10.result.map;
       asked = asked_of c.new-6.result c.new-7.result;
     } in
-    subst (λ (cs : Clauses g.row.D-NameId.Denot). IsConsistent g.D.NameId.Set.IdSet.has (with_list (store_of (given g) g.D.NameId.Scores.IdMap.value_at kept) cs) c.new-4.result c.new-5.result c.new-3.result c.new-6.result c.new-7.result) (sym c.in_ok-clauses.ensures.ok)
-    (rw (c.in_ok-variables.ensures.ok, c.new-3.ensures.provider, c.new-4.ensures, c.new-5.ensures, c.new-6.ensures.new.clauses, c.new-7.ensures, c.new-8.ensures, c.new-9.ensures)
-    (record {
-      few = search rules;
-      known = search rules;
-      sound = IsSound-new_store _;
-      asked = search rules;
-      may_ask = new_may_ask c.new-6.result _ _ c.new-6.ensures.new c.new-6.ensures.stands refl;
-    }))
+    record {
+      consistent = subst (λ (cs : Clauses g.row.D-NameId.Denot). IsConsistent g.D.NameId.Set.IdSet.has (with_list (store_of (given g) g.D.NameId.Scores.IdMap.value_at kept) cs) c.new-4.result c.new-5.result c.new-3.result c.new-6.result c.new-7.result) (sym c.in_ok-clauses.ensures.ok)
+          (rw (c.in_ok-variables.ensures.ok, c.new-3.ensures.provider, c.new-4.ensures, c.new-5.ensures, c.new-6.ensures.new.clauses, c.new-7.ensures, c.new-9.ensures, c.new-10.ensures)
+          (record {
+            few = search rules;
+            known = search rules;
+            sound = IsSound-new_store _;
+            asked = search rules;
+            may_ask = new_may_ask c.new-6.result _ _ c.new-6.ensures.new c.new-6.ensures.stands c.new-6.ensures.last refl;
+          }));
+      marked = rw c.new-8.ensures (λ k d h. absurd (omega (arith, h)));
+    }
 
 pub returns-clause-sound : goal.returns-clause-sound
 returns-clause-sound g c =
@@ -56,9 +59,9 @@ returns-clause-sound g c =
       requires = c.new-6.result.clauses;
       trail = c.new-7.result.entries;
       place = c.new-7.result.place;
-      trackers = c.new-8.result;
-      scores = c.new-9.result.map;
+      trackers = c.new-9.result;
+      scores = c.new-10.result.map;
       asked = asked_of c.new-6.result c.new-7.result;
     } in
     subst (λ (cs : Clauses g.row.D-NameId.Denot). IsSound (with_list (store_of (given g) g.D.NameId.Scores.IdMap.value_at kept) cs)) (sym c.in_ok-clauses.ensures.ok)
-    (rw (c.in_ok-variables.ensures.ok, c.new-3.ensures.provider, c.new-4.ensures, c.new-5.ensures, c.new-6.ensures.new.clauses, c.new-7.ensures, c.new-8.ensures, c.new-9.ensures) (IsSound-new_store _))
+    (rw (c.in_ok-variables.ensures.ok, c.new-3.ensures.provider, c.new-4.ensures, c.new-5.ensures, c.new-6.ensures.new.clauses, c.new-7.ensures, c.new-9.ensures, c.new-10.ensures) (IsSound-new_store _))

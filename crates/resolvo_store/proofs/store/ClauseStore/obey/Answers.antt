@@ -29,8 +29,8 @@ store g = store_of (given g) g.D.NameId.Scores.IdMap.value_at
 
 pub returns-clause-sound : goal.returns-clause-sound
 returns-clause-sound g c =
-    IsSound-step (command_of c.args.command.now) (answer_of c.dispatch.result) (lawful g c.args.self.now.provider) (subst (λ k. IsSound (store g k)) c.self.view_is c.self.invariant.sound) c.dispatch.ensures.step
+    IsSound-step (command_of c.args.command.now) (answer_of c.dispatch.result) (lawful g c.args.self.now.provider) (subst (λ k. IsSound (store g k)) c.self.view_is c.self.invariant.consistent.sound) c.dispatch.ensures.step
 
 pub returns-clause-err : goal.returns-clause-err
 returns-clause-err g c =
-    refusal_leaves (store g c.args.self.now) (store g c.dispatch.new.self) (command_of c.args.command.now) c.dispatch.result (subst (λ k. IsSound (store g k)) c.self.view_is c.self.invariant.sound) c.dispatch.ensures.step
+    refusal_leaves (store g c.args.self.now) (store g c.dispatch.new.self) (command_of c.args.command.now) c.dispatch.result (subst (λ k. IsSound (store g k)) c.self.view_is c.self.invariant.consistent.sound) c.dispatch.ensures.step

@@ -5,12 +5,14 @@ use Rattle.watch_map.specs.Watching.{is_literal_in}
 use Rattle.watch_map.specs.ClauseList.{Clauses, contents}
 use Rattle.typed_ids.specs.declared.error.StoreError.TheVariants.{BadWatch}
 use Rattle.resolvo_store.specs.Command.{Rewatch, Done, Refused}
+use Rattle.resolvo_store.specs.Lists.{HasMarks}
 use Rattle.resolvo_store.specs.Step.{Step}
 use Rattle.resolvo_store.specs.Store.{Kept, Provider, store_of, gathered}
 use Rattle.resolvo_store.proofs.AddingLemmas.{first_of_rewatch, step_foreseen, without_literal, step_rewatched, step_unmoved, err_answer}
 use Rattle.resolvo_store.proofs.CallerLaws.{store_in}
 use Rattle.resolvo_store.proofs.InvariantLemmas.{after_rewatch, with_list}
 use Rattle.resolvo_store.proofs.ListLemmas.{literals-kept}
+use Rattle.resolvo_store.proofs.MarkedLaws.{marks_rewatched}
 use Rattle.resolvo_store.proofs.store.ClauseStore.rewatch.Given.{Over}
 use Rattle.resolvo_store.proofs.store.ClauseStore.rewatch.Goals as goal
 
@@ -25,7 +27,10 @@ invariant_of-self g c =
     let own = inside.clauses.learnt in
     let same = ap (λ (k : KeptLiterals). record k { learnt = own }) (literals-kept [] [] inside.loaded inside.disjunctions refl) in
     let has = ap (λ (k : KeptLiterals). is_literal_in c.args.to (unwrap_or (option_map (literals_of k) (slice_get inside.clauses.clauses c.args.clause)) [])) (sym same) ∙ sym c.has_literal.ensures ∙ c.if-not-has_literal.false in
-    after_rewatch c.self.invariant c.args.clause c.args.from c.args.to c.rewatch.result has c.rewatch.ensures.can c.rewatch.ensures.ok c.rewatch.ensures.err
+    record {
+      consistent = after_rewatch c.self.invariant.consistent c.args.clause c.args.from c.args.to c.rewatch.result has c.rewatch.ensures.can c.rewatch.ensures.ok c.rewatch.ensures.err;
+      marked = subst (λ (cs : Clauses g.row.D-NameId.Denot). HasMarks (with_list (store_in c.self.invariant.consistent.sound) cs) inside.marks) (sym c.in_err-rewatch.ensures.err) c.self.invariant.marked;
+    }
 
 pub invariant_of-self-2 : goal.invariant_of-self-2
 invariant_of-self-2 g c =
@@ -33,13 +38,16 @@ invariant_of-self-2 g c =
     let own = inside.clauses.learnt in
     let same = ap (λ (k : KeptLiterals). record k { learnt = own }) (literals-kept [] [] inside.loaded inside.disjunctions refl) in
     let has = ap (λ (k : KeptLiterals). is_literal_in c.args.to (unwrap_or (option_map (literals_of k) (slice_get inside.clauses.clauses c.args.clause)) [])) (sym same) ∙ sym c.has_literal.ensures ∙ c.if-not-has_literal.false in
-    after_rewatch c.self.invariant c.args.clause c.args.from c.args.to c.rewatch.result has c.rewatch.ensures.can c.rewatch.ensures.ok c.rewatch.ensures.err
+    record {
+      consistent = after_rewatch c.self.invariant.consistent c.args.clause c.args.from c.args.to c.rewatch.result has c.rewatch.ensures.can c.rewatch.ensures.ok c.rewatch.ensures.err;
+      marked = subst (HasMarks (with_list (store_in c.self.invariant.consistent.sound) (contents c.rewatch.new.self))) (sym c.forget_false.ensures) (marks_rewatched (store_in c.self.invariant.consistent.sound) c.self.inside.marks c.self.invariant.marked c.args.clause c.args.from c.args.to c.in_ok-rewatch.ensures.can c.in_ok-rewatch.ensures.ok);
+    }
 
 pub returns-then-not-has_literal-clause-step : goal.returns-then-not-has_literal-clause-step
 returns-then-not-has_literal-clause-step g c =
     let inside = c.self.inside in
     let own = inside.clauses.learnt in
-    let st = store_in c.self.invariant.sound in
+    let st = store_in c.self.invariant.consistent.sound in
     let same = ap (λ (k : KeptLiterals). record k { learnt = own }) (literals-kept [] [] inside.loaded inside.disjunctions refl) in
     let none = ap (λ (k : KeptLiterals). is_literal_in c.args.to (unwrap_or (option_map (literals_of k) (slice_get inside.clauses.clauses c.args.clause)) [])) (sym same) ∙ sym c.has_literal.ensures ∙ c.if-not-has_literal.true in
     subst (λ (k : Kept g.row.D.Denot g.row.D-NameId.Denot g.row.D-SolvableId.Denot g.row.D-NameId-Scores.Denot). let now = store_of (given g) g.D.NameId.Scores.IdMap.value_at k in Step now (Rewatch c.args.clause c.args.from c.args.to) (Refused BadWatch) now) c.self.view_is
@@ -51,7 +59,7 @@ returns-in_err-rewatch-clause-step g c =
     let own = inside.clauses.learnt in
     let same = ap (λ (k : KeptLiterals). record k { learnt = own }) (literals-kept [] [] inside.loaded inside.disjunctions refl) in
     let has = ap (λ (k : KeptLiterals). is_literal_in c.args.to (unwrap_or (option_map (literals_of k) (slice_get inside.clauses.clauses c.args.clause)) [])) (sym same) ∙ sym c.has_literal.ensures ∙ c.if-not-has_literal.false in
-    let st = store_in c.self.invariant.sound in
+    let st = store_in c.self.invariant.consistent.sound in
     let first = first_of_rewatch st c.args.clause c.args.from c.args.to (sym c.knows_watches.ensures ∙ c.if-not-knows_watches.false) has in
     let made = with_list st (contents c.rewatch.new.self) in
     let e = c.in_err-rewatch.field-0.0 in
@@ -66,7 +74,7 @@ returns-clause-step g c =
     let own = inside.clauses.learnt in
     let same = ap (λ (k : KeptLiterals). record k { learnt = own }) (literals-kept [] [] inside.loaded inside.disjunctions refl) in
     let has = ap (λ (k : KeptLiterals). is_literal_in c.args.to (unwrap_or (option_map (literals_of k) (slice_get inside.clauses.clauses c.args.clause)) [])) (sym same) ∙ sym c.has_literal.ensures ∙ c.if-not-has_literal.false in
-    let st = store_in c.self.invariant.sound in
+    let st = store_in c.self.invariant.consistent.sound in
     let first = first_of_rewatch st c.args.clause c.args.from c.args.to (sym c.knows_watches.ensures ∙ c.if-not-knows_watches.false) has in
     let made = with_list st (contents c.rewatch.new.self) in
     let moved = ap (λ (cs : Clauses g.row.D-NameId.Denot). with_list st cs) c.in_ok-rewatch.ensures.ok in

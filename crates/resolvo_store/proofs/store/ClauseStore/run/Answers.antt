@@ -44,5 +44,5 @@ returns-clause-one_each g c = omega (arith, c.loop-command.invariant.len, c.loop
 
 pub returns-clause-sound : goal.returns-clause-sound
 returns-clause-sound g c =
-    IsSound-run (map command_of (take c.loop-command.command-index c.args.commands.now)) (map reply_of c.loop-command.replies.items) (lawful g c.self.inside.cache.provider) c.self.invariant.sound
+    IsSound-run (map command_of (take c.loop-command.command-index c.args.commands.now)) (map reply_of c.loop-command.replies.items) (lawful g c.self.inside.cache.provider) c.self.invariant.consistent.sound
     (rw (← c.self.view_is) at c.loop-command.invariant.ran)

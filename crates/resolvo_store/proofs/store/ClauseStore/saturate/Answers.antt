@@ -3,13 +3,14 @@ use Rattle.std.proofs.lemmas.Bool.Decides.{nat_tests}
 use Rattle.clauses.specs.Clauses.{Kept as KeptLiterals}
 use Rattle.watch_map.specs.ClauseList.{contents, watched_by}
 use Rattle.watch_map.specs.Saturation.{literals_from, WatchOwn}
+use Rattle.watch_map.specs.Marks.{AreMarks}
 use Rattle.resolvo_store.specs.Command.{Saturate, answer_of}
 use Rattle.resolvo_store.specs.Refusals.{is_level}
 use Rattle.resolvo_store.specs.Step.{Step}
 use Rattle.resolvo_store.specs.Store.{Kept, Provider, store_of, gathered}
 use Rattle.resolvo_store.proofs.CallerLaws.{store_in}
 use Rattle.resolvo_store.proofs.ListLemmas.{literals-kept}
-use Rattle.resolvo_store.proofs.SaturatingLemmas.{HasLeft, with_forced, step_found, after_saturated}
+use Rattle.resolvo_store.proofs.SaturatingLemmas.{HasLeft, with_forced, step_found, still, after_saturated}
 use Rattle.resolvo_store.proofs.store.ClauseStore.saturate.Given.{Over}
 use Rattle.resolvo_store.proofs.store.ClauseStore.saturate.Goals as goal
 
@@ -18,31 +19,42 @@ abbrev given : (g : Over) → g.row.D.Denot → Provider g.row.D-NameId.Denot g.
 given g = gathered g.D.NameId.PartialEq.eq g.D.SolvableId.PartialEq.eq g.D.NameId.Slots.IdMap.is_too_large g.D.SolvableId.Slots.IdMap.is_too_large
     g.D.SolvableId.Set.IdSet.is_too_large g.D.NameId.SolverId.are_many g.D.Interner.universe g.D.DependencyProvider.answers
 
+pub saturate-found-requires-clause-marks : goal.saturate-found-requires-clause-marks
+saturate-found-requires-clause-marks g c =
+    let inside = c.self.inside in
+    let same = ap (λ (k : KeptLiterals). literals_from (record k { learnt = inside.clauses.learnt }) inside.clauses.clauses) (literals-kept [] [] inside.loaded inside.disjunctions refl) in
+    subst (λ f. AreMarks f (watched_by (contents inside.clauses)) inside.trail.entries inside.marks) (sym same) c.self.invariant.marked
+
 pub saturate-found-requires-clause-own : goal.saturate-found-requires-clause-own
 saturate-found-requires-clause-own g c =
     let inside = c.self.inside in
     let same = ap (λ (k : KeptLiterals). literals_from (record k { learnt = inside.clauses.learnt }) inside.clauses.clauses) (literals-kept [] [] inside.loaded inside.disjunctions refl) in
-    subst (λ f. WatchOwn f (watched_by (contents inside.clauses))) (sym same) c.self.invariant.sound.own
+    subst (λ f. WatchOwn f (watched_by (contents inside.clauses))) (sym same) c.self.invariant.consistent.sound.own
 
 pub invariant_of-self : goal.invariant_of-self
 invariant_of-self g c =
     let inside = c.self.inside in
     let call = c.saturate-found in
     let same = ap (λ (k : KeptLiterals). literals_from (record k { learnt = inside.clauses.learnt }) inside.clauses.clauses) (literals-kept [] [] inside.loaded inside.disjunctions refl) in
-    after_saturated c.self.invariant c.args.level (search rules) (record {
+    let left : HasLeft (store_in c.self.invariant.consistent.sound) _ c.args.level inside.trail call.new.trail (contents call.new.self) = record {
       literals_are = same;
       clauses = call.ensures.clauses;
       learnt = call.ensures.learnt;
       rearranged = call.ensures.rearranged;
       is_list = call.ensures.list;
       forced = call.ensures.forced;
-    }) refl refl
+    } in
+    record {
+      consistent = after_saturated c.self.invariant.consistent c.args.level (search rules) left refl refl;
+      marked = still (store_in c.self.invariant.consistent.sound) c.self.invariant.consistent.sound _ c.args.level inside.trail call.new.trail (contents call.new.self) left refl refl
+          (λ f n. AreMarks f (watched_by (contents call.new.self)) call.new.trail.entries call.new.marks) call.ensures.marks;
+    }
 
 pub returns-clause-step : goal.returns-clause-step
 returns-clause-step g c =
     let inside = c.self.inside in
     let call = c.saturate-found in
-    let st = store_in c.self.invariant.sound in
+    let st = store_in c.self.invariant.consistent.sound in
     let same = ap (λ (k : KeptLiterals). literals_from (record k { learnt = inside.clauses.learnt }) inside.clauses.clauses) (literals-kept [] [] inside.loaded inside.disjunctions refl) in
     let left : HasLeft st _ c.args.level inside.trail call.new.trail (contents call.new.self) = record {
       literals_are = same;
@@ -56,4 +68,4 @@ returns-clause-step g c =
     let after = with_forced st (contents call.new.self) call.new.trail in
     subst (λ (k : Kept g.row.D.Denot g.row.D-NameId.Denot g.row.D-SolvableId.Denot g.row.D-NameId-Scores.Denot). Step (store_of (given g) g.D.NameId.Scores.IdMap.value_at k) (Saturate c.args.level) (answer_of c.answered.result) after) c.self.view_is
     (subst (λ reply. Step st (Saturate c.args.level) reply after) (sym c.answered.ensures.value)
-    (step_found st c.self.invariant.sound _ c.args.level inside.trail call.new.trail (contents call.new.self) left refl refl call.result good call.ensures.ok call.ensures.memory))
+    (step_found st c.self.invariant.consistent.sound _ c.args.level inside.trail call.new.trail (contents call.new.self) left refl refl call.result good call.ensures.ok call.ensures.memory))

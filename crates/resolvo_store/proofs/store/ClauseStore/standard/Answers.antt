@@ -3,6 +3,7 @@ use Rattle.resolvo_queue.specs.References.{references}
 use Rattle.resolvo_store.proofs.InvariantLemmas.{after_question}
 use Rattle.resolvo_store.specs.Asked.{asked_of}
 use Rattle.resolvo_store.specs.Store.{Kept}
+use Rattle.resolvo_store.specs.Synced.{decisions_of}
 use Rattle.resolvo_store.specs.Walks.{WalksNothing}
 use Rattle.resolvo_store.proofs.WalkLemmas.{walks_still}
 use Rattle.resolvo_store.proofs.store.ClauseStore.standard.Goals as goal
@@ -10,8 +11,12 @@ use Rattle.resolvo_store.proofs.store.ClauseStore.standard.Goals as goal
 pub invariant_of-self : goal.invariant_of-self
 invariant_of-self g c =
     let inside = c.self.inside in
-    after_question c.self.invariant refl c.set_standard_activity_params.ensures.unchanged
-    (c.set_standard_activity_params.ensures.stands (references (g.D.Interner.universe inside.cache.provider) inside.loaded inside.disjunctions) c.self.invariant.may_ask.stands)
+    record {
+      consistent = after_question c.self.invariant.consistent refl c.set_standard_activity_params.ensures.unchanged
+          (c.set_standard_activity_params.ensures.stands (references (g.D.Interner.universe inside.cache.provider) inside.loaded inside.disjunctions) c.self.invariant.consistent.may_ask.stands)
+          (c.set_standard_activity_params.ensures.clear (references (g.D.Interner.universe inside.cache.provider) inside.loaded inside.disjunctions) (decisions_of inside.trail.entries) c.self.invariant.consistent.may_ask.clear);
+      marked = c.self.invariant.marked;
+    }
 
 pub returns-clause-asked : goal.returns-clause-asked
 returns-clause-asked g c =

@@ -4,7 +4,7 @@ use Rattle.clauses.specs.Clauses.{literals_of, same_literal}
 use Rattle.clauses.specs.Stored.{kept_in}
 use Rattle.watch_map.specs.ClauseList.{contents}
 use Rattle.watch_map.specs.Watching.{is_literal_in}
-use Rattle.resolvo_store.proofs.WatchLaws.{found_any}
+use Rattle.watch_map.proofs.LiteralLists.{found_any}
 use Rattle.resolvo_store.proofs.store.watching.has_literal.Goals as goal
 
 pub returns : goal.returns

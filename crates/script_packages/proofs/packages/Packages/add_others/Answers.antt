@@ -17,7 +17,8 @@ loop-word-preserved c =
     let solvables : length c.add_version.new.self.pool.solvables ≡ length c.loop-word.self.pool.solvables + 1 =
     ap (λ (l : Listing). length l.pool.solvables) more.ok ∙ length-append c.loop-word.self.pool.solvables _ in
     let names : length c.add_version.new.self.pool.names ≡ length c.loop-word.self.pool.names =
-    sym (length-map c.add_version.new.self.pool.names string_bytes) ∙ (ap (λ (l : Listing). length l.pool.names) more.ok ∙ length-map c.loop-word.self.pool.names string_bytes) in
+    sym (length-map c.add_version.new.self.pool.names string_bytes) ∙
+    (ap (λ (l : Listing). length l.pool.names) more.ok ∙ length-map c.loop-word.self.pool.names string_bytes) in
     record {
       listed =
           ap (λ (l : Listing). listed_versions l name left) more.ok

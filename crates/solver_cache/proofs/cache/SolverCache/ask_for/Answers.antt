@@ -2,7 +2,8 @@ use Rattle.std.proofs.lemmas.Grind.{common_steps}
 use Rattle.std.proofs.Common.{◌∙◌, sym, refl, ap, length, inr, arith}
 use Rattle.solver_cache.specs.Cache.{is_kept}
 use Rattle.solver_cache.specs.Hints.{hints_of}
-use Rattle.solver_cache.proofs.CacheLemmas.{right_asked, right_marked, later_asked, later_marked, once_new, value_last, found_last, kept_last, handed_on, refused_unasked, refusal_wider}
+use Rattle.solver_cache.proofs.CacheLemmas.{right_asked, right_marked, later_asked, later_marked, once_new, value_last}
+use Rattle.solver_cache.proofs.CacheLemmas.{found_last, kept_last, handed_on, refused_unasked, refusal_wider}
 use Rattle.solver_cache.proofs.IdLemmas.{used_up_by_many, second_fails}
 use Rattle.solver_cache.specs.declared.error.CacheError.TheVariants.{Store}
 use Rattle.solver_cache.proofs.HintLemmas.{still_marked}
@@ -23,11 +24,15 @@ returns-clause-answered g c =
       asked = once_new _ _ _ _ c.requires (rw (sym c.self.view_is, c.in_ok-insert.ensures.ok)
           (answer, c.in_ok-answer.ensures.ok, c.in_ok-mark_hints.ensures.ok, refl));
       own = rw (c.in_ok-insert.ensures.ok, c.in_ok-insert.ensures.place) (value_last c.self.inside.candidates name answer
-          ∙ sym (found_last (same name) c.self.inside.candidates name answer (ap (λ v. is_kept (same name) v.candidates) c.self.view_is ∙ c.requires) (g.met.D.NameId.Eq.laws.refl name)));
+          ∙ sym (found_last (same name) c.self.inside.candidates name answer
+          (ap (λ v. is_kept (same name) v.candidates) c.self.view_is ∙ c.requires)
+          (g.met.D.NameId.Eq.laws.refl name)));
       answer = rw (sym c.self.view_is, c.in_ok-insert.ensures.ok, c.in_ok-insert.ensures.place)
           (answer, value_last c.self.inside.candidates name answer, c.in_ok-answer.ensures.ok);
       later = rw (sym c.self.view_is, c.in_ok-insert.ensures.ok) (later_asked has _ name answer c.mark_hints.new.hinted
-          (λ s h. c.in_ok-mark_hints.ensures.ok s ∙ still_marked g.D.SolvableId.PartialEq.eq g.D.SolvableId.Set.IdSet.is_too_large (has c.self.inside.hinted) (hints_of answer) s h));
+          (λ s h. c.in_ok-mark_hints.ensures.ok s ∙
+          still_marked g.D.SolvableId.PartialEq.eq g.D.SolvableId.Set.IdSet.is_too_large (has c.self.inside.hinted)
+          (hints_of answer) s h));
       asked_now = rw c.in_ok-insert.ensures.ok (kept_last (same name) c.self.inside.candidates name answer (g.met.D.NameId.Eq.laws.refl name));
     }
 
@@ -49,12 +54,15 @@ returns-in_err-insert-clause-refused g c =
     handed_on _ c.from_residual-in_err-insert.result (Store c.in_err-insert.field-0.0) c.from_residual-in_err-insert.ensures.1 (record {
       reason = rw c.in_err-insert.ensures.err (refused_unasked _ _ c.in_err-insert.field-0.0 c.requires
           (refusal_wider _ _ c.in_err-insert.field-0.0
-          (used_up_by_many g.D.NameId.SolverId.are_many (g.D.NameId.Slots.IdMap.is_too_large c.args.name) (length c.self.inside.candidates) c.insert.ensures.few)
+          (used_up_by_many g.D.NameId.SolverId.are_many (g.D.NameId.Slots.IdMap.is_too_large c.args.name)
+          (length c.self.inside.candidates) c.insert.ensures.few)
           c.in_err-insert.ensures.refused));
       left = rw (sym c.self.view_is, c.in_err-insert.ensures.err)
           (inr (c.in_ok-answer.answer, c.in_ok-answer.ensures.ok, λ s h. sym (c.in_ok-mark_hints.ensures.ok s) ∙ h, refl));
       later = rw (sym c.self.view_is, c.in_err-insert.ensures.err) (later_marked has _ c.mark_hints.new.hinted
-          (λ s h. c.in_ok-mark_hints.ensures.ok s ∙ still_marked g.D.SolvableId.PartialEq.eq g.D.SolvableId.Set.IdSet.is_too_large (has c.self.inside.hinted) (hints_of c.in_ok-answer.answer) s h));
+          (λ s h. c.in_ok-mark_hints.ensures.ok s ∙
+          still_marked g.D.SolvableId.PartialEq.eq g.D.SolvableId.Set.IdSet.is_too_large (has c.self.inside.hinted)
+          (hints_of c.in_ok-answer.answer) s h));
     })
 
 pub insert-requires : goal.insert-requires

@@ -72,7 +72,8 @@ returns-in_err-filter_candidates-clause-refused g c =
     let answered = c.in_ok-id.ensures.answered in
     let name : c.version_set_name-name.result ≡ p.universe.set_name c.args.set =
     c.version_set_name-name.ensures ∙ ap (λ v. (g.D.Interner.universe v.provider).set_name c.args.set) c.self.view_is in
-    handed_on _ c.from_residual-in_err-filter_candidates.result (Store c.in_err-filter_candidates.field-0.0) c.from_residual-in_err-filter_candidates.ensures.1 (record {
+    handed_on _ c.from_residual-in_err-filter_candidates.result
+    (Store c.in_err-filter_candidates.field-0.0) c.from_residual-in_err-filter_candidates.ensures.1 (record {
       reason = grind (arith, common_steps);
       left = inr (subst (λ n. IsAsked p (g.D.DependencyProvider.may_answer old.provider) g.D.SolvableId.Set.IdSet.has old n
           c.get_or_cache_candidates.new.self) name answered.asked);

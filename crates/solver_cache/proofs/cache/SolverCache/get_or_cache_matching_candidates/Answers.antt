@@ -59,7 +59,9 @@ insert-requires g c =
     let new : is_kept (same_set set) old.matching ≡ false = rw (sym c.self.view_is) (sym c.in-None.ensures.found) in
     let p = provided g old.provider in
     none_of _ (ap (λ v. is_kept (same_set set) v.matching) c.self-in-None.view_is
-    ∙ ap (is_kept (same_set set)) (asked_matching g.D.SolvableId.Set.IdSet.has p (g.D.DependencyProvider.may_answer old.provider) (p.universe.set_name set) old c.filtered.new.self c.in_ok-found-in-None.ensures.package.asked) ∙ new)
+    ∙ ap (is_kept (same_set set))
+    (asked_matching g.D.SolvableId.Set.IdSet.has p (g.D.DependencyProvider.may_answer old.provider)
+    (p.universe.set_name set) old c.filtered.new.self c.in_ok-found-in-None.ensures.package.asked) ∙ new)
 
 pub invariant_of-self-in-None : goal.invariant_of-self-in-None
 invariant_of-self-in-None g c =

@@ -5,7 +5,8 @@ use Rattle.solver_cache.specs.Cache.{is_kept, is_set_asked, same_set}
 use Rattle.solver_cache.specs.Functions.{Provider, gathered}
 use Rattle.solver_cache.specs.Questions.{IsLater, IsAsked}
 use Rattle.solver_cache.specs.declared.error.CacheError.TheVariants.{Store}
-use Rattle.solver_cache.proofs.CacheLemmas.{found_non_matching, handed_on, later_same, more_non_matching, none_of, once_kept, once_new, right_unmatched, value_last}
+use Rattle.solver_cache.proofs.CacheLemmas.{found_non_matching, handed_on, later_same, more_non_matching}
+use Rattle.solver_cache.proofs.CacheLemmas.{none_of, once_kept, once_new, right_unmatched, value_last}
 use Rattle.solver_cache.proofs.FilteringLemmas.{asked_non_matching, later_non_matching, memory_refused}
 use Rattle.solver_cache.proofs.cache.SolverCache.get_or_cache_non_matching_candidates.Given.{Over}
 use Rattle.solver_cache.proofs.cache.SolverCache.get_or_cache_non_matching_candidates.Goals as goal
@@ -59,7 +60,9 @@ insert-requires g c =
     let new : is_kept (same_set set) old.non_matching ≡ false = rw (sym c.self.view_is) (sym c.in-None.ensures.found) in
     let p = provided g old.provider in
     none_of _ (ap (λ v. is_kept (same_set set) v.non_matching) c.self-in-None.view_is
-    ∙ ap (is_kept (same_set set)) (asked_non_matching g.D.SolvableId.Set.IdSet.has p (g.D.DependencyProvider.may_answer old.provider) (p.universe.set_name set) old c.filtered.new.self c.in_ok-found-in-None.ensures.package.asked) ∙ new)
+    ∙ ap (is_kept (same_set set))
+    (asked_non_matching g.D.SolvableId.Set.IdSet.has p (g.D.DependencyProvider.may_answer old.provider)
+    (p.universe.set_name set) old c.filtered.new.self c.in_ok-found-in-None.ensures.package.asked) ∙ new)
 
 pub invariant_of-self-in-None : goal.invariant_of-self-in-None
 invariant_of-self-in-None g c =

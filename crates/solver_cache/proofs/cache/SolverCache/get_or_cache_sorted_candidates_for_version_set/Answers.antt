@@ -8,7 +8,8 @@ use Rattle.solver_cache.specs.Cache.{is_kept, is_set_asked}
 use Rattle.solver_cache.specs.Functions.{Provider, gathered}
 use Rattle.solver_cache.specs.Questions.{IsLater, IsMatched}
 use Rattle.solver_cache.specs.declared.error.CacheError.TheVariants.{Store}
-use Rattle.solver_cache.proofs.CacheLemmas.{found_single, handed_on, later_same, more_list, more_sorted, none_of, once_kept, once_new, right_single, same_is, value_last}
+use Rattle.solver_cache.proofs.CacheLemmas.{found_single, handed_on, later_same, more_list, more_sorted}
+use Rattle.solver_cache.proofs.CacheLemmas.{none_of, once_kept, once_new, right_single, same_is, value_last}
 use Rattle.solver_cache.proofs.FilteringLemmas.{memory_refused}
 use Rattle.solver_cache.proofs.SortingLemmas.{later_sorted, matched_sorted, not_kept}
 use Rattle.solver_cache.proofs.cache.SolverCache.get_or_cache_sorted_candidates_for_version_set.Given.{Over}
@@ -60,7 +61,11 @@ pub returns-in_err-list-in-None-clause-refused : goal.returns-in_err-list-in-Non
 returns-in_err-list-in-None-clause-refused g c =
     let answered = c.in_ok-id-in-None.ensures.answered in
     handed_on _ c.from_residual-in_err-list-in-None.result (Store c.in_err-list-in-None.field-0.0) c.from_residual-in_err-list-in-None.ensures.1
-    (record { reason = memory_refused _ c.in_err-list-in-None.field-0.0 c.in_err-list-in-None.ensures.memory; left = inr answered.matched; later = answered.later })
+    (record {
+      reason = memory_refused _ c.in_err-list-in-None.field-0.0 c.in_err-list-in-None.ensures.memory;
+      left = inr answered.matched;
+      later = answered.later;
+    })
 
 pub returns-in_err-place-in-None-clause-refused : goal.returns-in_err-place-in-None-clause-refused
 returns-in_err-place-in-None-clause-refused g c =
@@ -83,7 +88,8 @@ insert-requires g c =
     let old = c.args.self.now in
     let new : is_kept (same_requirement r) old.sorted ≡ false = rw (sym c.self.view_is) (not_kept r c.self.inside.sorted c.in-None.ensures.found) in
     none_of _ (ap (λ t. is_kept t c.self-in-None.inside.sorted) (same_is r) ∙ ap (λ v. is_kept (same_requirement r) v.sorted) c.self-in-None.view_is
-    ∙ ap (is_kept (same_requirement r)) (matched_sorted g.D.SolvableId.Set.IdSet.has (provided g old.provider) (g.D.DependencyProvider.may_answer old.provider) c.args.set old c.get_or_cache_matching_candidates.new.self
+    ∙ ap (is_kept (same_requirement r)) (matched_sorted g.D.SolvableId.Set.IdSet.has (provided g old.provider)
+    (g.D.DependencyProvider.may_answer old.provider) c.args.set old c.get_or_cache_matching_candidates.new.self
     c.in_ok-id-in-None.ensures.answered.matched) ∙ new)
 
 in_order : (g : Over) (c : goal.In_ok-place-in-None g) → let q = c.args.self.now.provider in

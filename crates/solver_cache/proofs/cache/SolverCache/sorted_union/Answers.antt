@@ -9,7 +9,8 @@ use Rattle.solver_cache.specs.Functions.{Provider, gathered}
 use Rattle.solver_cache.specs.Questions.{IsLater}
 use Rattle.solver_cache.specs.Unanswered.{AreUnsorted}
 use Rattle.solver_cache.specs.declared.error.CacheError.TheVariants.{Store}
-use Rattle.solver_cache.proofs.CacheLemmas.{found_sorted, handed_on, later_same, more_list, more_sorted, none_of, once_kept, once_new, right_sorted, same_is, union_still_new, value_last}
+use Rattle.solver_cache.proofs.CacheLemmas.{found_sorted, handed_on, later_same, more_list, more_sorted, none_of}
+use Rattle.solver_cache.proofs.CacheLemmas.{once_kept, once_new, right_sorted, same_is, union_still_new, value_last}
 use Rattle.solver_cache.proofs.FilteringLemmas.{memory_refused}
 use Rattle.solver_cache.proofs.SortingLemmas.{later_sorted, not_kept}
 use Rattle.solver_cache.proofs.UnansweredLemmas.{all_sorted}
@@ -75,7 +76,8 @@ insert-requires g c =
     let p = provided g old.provider in
     let new : is_kept (same_requirement r) old.sorted ≡ false = rw (sym c.self.view_is) (not_kept r c.self.inside.sorted c.in-None.ensures.found) in
     let still : is_kept (same_requirement r) mid.sorted ≡ false =
-    union_still_new g.D.SolvableId.Set.IdSet.has p (g.D.DependencyProvider.may_answer old.provider) u (p.universe.union_sets u) old mid c.in_ok-list-in-None.ensures.sorted.sorted new in
+    union_still_new g.D.SolvableId.Set.IdSet.has p (g.D.DependencyProvider.may_answer old.provider) u
+    (p.universe.union_sets u) old mid c.in_ok-list-in-None.ensures.sorted.sorted new in
     none_of _ (ap (λ t. is_kept t c.self-in-None.inside.sorted) (same_is r) ∙ ap (λ v. is_kept (same_requirement r) v.sorted) c.self-in-None.view_is ∙ still)
 
 pub invariant_of-self-in-None : goal.invariant_of-self-in-None
@@ -89,7 +91,8 @@ invariant_of-self-in-None g c =
     rw c.in_ok-place-in-None.ensures.ok (right_sorted _ _ c.self-in-None.invariant r c.in_ok-list-in-None.list.items
     (c.in_ok-list-in-None.ensures.list ∙ ap (λ q. sorted_of (provided g q) r) (sym same))
     (subst (λ st. All (λ v. is_set_asked (provided g q) st v ≡ true) ((provided g q).universe.union_sets u)) (sym c.self-in-None.view_is)
-    (subst (λ q. All (λ v. is_set_asked (provided g q) mid v ≡ true) ((provided g q).universe.union_sets u)) (sym same) c.in_ok-list-in-None.ensures.sorted.asked)))
+    (subst (λ q. All (λ v. is_set_asked (provided g q) mid v ≡ true) ((provided g q).universe.union_sets u))
+    (sym same) c.in_ok-list-in-None.ensures.sorted.asked)))
 
 pub returns-in_ok-place-in-None-clause-answered : goal.returns-in_ok-place-in-None-clause-answered
 returns-in_ok-place-in-None-clause-answered g c =

@@ -14,7 +14,10 @@ returns-clause-list g c =
     let test = g.K.PartialEq.eq c.args.key in
     rw (sym c.self.view_is) (by_result c.get_index_of.result c.get_index_of.ensures.value)
   where
-    by_result : (o : Option ℕ) → IfSome o (λ i. slice_get (values_of c.self.inside.lists.entries) i ≡ lookup (g.K.PartialEq.eq c.args.key) c.self.inside.lists.entries)
-        → IfSome o (λ i. slice_get (values_of (lists (λ l. l.items) c.self.inside.lists.entries)) i ≡ lookup (g.K.PartialEq.eq c.args.key) (lists (λ l. l.items) c.self.inside.lists.entries))
+    by_result : (o : Option ℕ) →
+        IfSome o (λ i. slice_get (values_of c.self.inside.lists.entries) i ≡
+        lookup (g.K.PartialEq.eq c.args.key) c.self.inside.lists.entries)
+        → IfSome o (λ i. slice_get (values_of (lists (λ l. l.items) c.self.inside.lists.entries)) i ≡
+        lookup (g.K.PartialEq.eq c.args.key) (lists (λ l. l.items) c.self.inside.lists.entries))
     by_result None h = tt
     by_result (Some i) h = list_found (λ l. l.items) (g.K.PartialEq.eq c.args.key) i c.self.inside.lists.entries h

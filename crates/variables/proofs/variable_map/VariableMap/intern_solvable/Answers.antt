@@ -2,7 +2,8 @@ use Rattle.std.proofs.lemmas.Grind.{common_steps}
 use Rattle.std.proofs.Common.{arith, rules, ◌<◌, ◌≡◌, ◌++◌, ◌∷◌, [], sym, ◌∙◌, ap, None, length, length-append}
 use Rattle.variables.specs.declared.variable_origin.VariableOrigin.TheVariants.{Solvable}
 use Rattle.variables.specs.Variables.{variable_of_solvable}
-use Rattle.variables.proofs.VariableLemmas.{agrees-with_variable, distinct-new, root-append, not_known, with_variable-new, interned_variable-new, IsVariableMap-same}
+use Rattle.variables.proofs.VariableLemmas.{agrees-with_variable, distinct-new, root-append, not_known}
+use Rattle.variables.proofs.VariableLemmas.{with_variable-new, interned_variable-new, IsVariableMap-same}
 use Rattle.variables.proofs.variable_map.VariableMap.intern_solvable.Goals as goal
 
 pub invariant_of-self-2 : goal.invariant_of-self-2
@@ -14,7 +15,9 @@ invariant_of-self-2 g c =
     let size : c.len-index.result ≡ length os = c.len-index.ensures ∙ c.self.inside.origins.ok.0 in
     let below : c.len-index.result < 2147483647 = search rules in
     rw c.in_ok-push.ensures.items record {
-      agrees = agrees-with_variable same g.met.S.Eq.laws.refl g.met.S.SameValue.same c.args.solvable c.len-index.result os _ _ _ size c.self.invariant.agrees c.make_room.ensures.same absent (c.put.ensures.put.0 ∙ c.new.ensures, c.put.ensures.put.1);
+      agrees = agrees-with_variable same g.met.S.Eq.laws.refl g.met.S.SameValue.same c.args.solvable c.len-index.result
+          os _ _ _ size c.self.invariant.agrees c.make_room.ensures.same absent
+          (c.put.ensures.put.0 ∙ c.new.ensures, c.put.ensures.put.1);
       few = simp length-append (omega (arith, size, below));
       root_first = root-append os _ c.self.invariant.root_first;
       distinct = distinct-new same g.met.S.Eq.laws.refl g.met.S.SameValue.same c.args.solvable os absent c.self.invariant.distinct;

@@ -54,14 +54,16 @@ returns-in_err-make_room-2-clause-keeps g c =
     room_stays _ _ (c.reserve.ensures.items ∙ ap (λ (k : Kept g.row.N.Denot). k.clauses) c.self.view_is)
     (subst (λ (k : Kept g.row.N.Denot). k.clause_room ≤ vec_capacity c.reserve.new.self) c.self.view_is c.reserve.ensures.capacity)
     (subst (λ (k : Kept g.row.N.Denot). k.record_room ≤ vec_capacity c.reserve-2.new.self) c.self.view_is c.reserve-2.ensures.capacity)
-    (subst (λ (k : Kept g.row.N.Denot). KeepsRoom k.lists c.make_room-in-Some.new.self) c.self.view_is (λ l n room. c.make_room-in-Some.ensures.rooms l n (c.make_room.ensures.rooms l n room)))
+    (subst (λ (k : Kept g.row.N.Denot). KeepsRoom k.lists c.make_room-in-Some.new.self) c.self.view_is (λ l n room.
+    c.make_room-in-Some.ensures.rooms l n (c.make_room.ensures.rooms l n room)))
 
 pub returns-in_ok-make_room-2-clause-keeps : goal.returns-in_ok-make_room-2-clause-keeps
 returns-in_ok-make_room-2-clause-keeps g c =
     room_stays _ _ (c.reserve.ensures.items ∙ ap (λ (k : Kept g.row.N.Denot). k.clauses) c.self.view_is)
     (subst (λ (k : Kept g.row.N.Denot). k.clause_room ≤ vec_capacity c.reserve.new.self) c.self.view_is c.reserve.ensures.capacity)
     (subst (λ (k : Kept g.row.N.Denot). k.record_room ≤ vec_capacity c.reserve-2.new.self) c.self.view_is c.reserve-2.ensures.capacity)
-    (subst (λ (k : Kept g.row.N.Denot). KeepsRoom k.lists c.make_room-in-Some.new.self) c.self.view_is (λ l n room. c.make_room-in-Some.ensures.rooms l n (c.make_room.ensures.rooms l n room)))
+    (subst (λ (k : Kept g.row.N.Denot). KeepsRoom k.lists c.make_room-in-Some.new.self) c.self.view_is (λ l n room.
+    c.make_room-in-Some.ensures.rooms l n (c.make_room.ensures.rooms l n room)))
 
 pub returns-in_default-clause-keeps : goal.returns-in_default-clause-keeps
 returns-in_default-clause-keeps g c =

@@ -7,15 +7,19 @@ pub push_reserved-requires-clause-room : goal.push_reserved-requires-clause-room
 push_reserved-requires-clause-room g c =
     let within = c.loop-clause-test.true in
     room_for_item (length c.args.clauses.now - c.loop-clause.clause-index) c.args.clauses.now c.loop-clause.self c.loop-clause.clause-index c.clause-item.result
-    (literals_watched c.forbidden-watches.result.0) (omega (arith, within)) within c.clause-item.is c.forbidden-watches.ensures.watches c.loop-clause.invariant.room
+    (literals_watched c.forbidden-watches.result.0)
+    (omega (arith, within)) within c.clause-item.is c.forbidden-watches.ensures.watches c.loop-clause.invariant.room
 
 pub loop-clause-preserved : goal.loop-clause-preserved
 loop-clause-preserved g c =
     let within = c.loop-clause-test.true in
-    let left : length c.args.clauses.now - c.loop-clause.clause-index ≡ (length c.args.clauses.now - (c.loop-clause.clause-index + 1)) + 1 = omega (arith, within) in
+    let left : length c.args.clauses.now - c.loop-clause.clause-index ≡
+    (length c.args.clauses.now - (c.loop-clause.clause-index + 1)) + 1 = omega (arith, within) in
     record {
-      added = one_forbidden_more c.args.name (contents c.args.self.now) (contents c.loop-clause.self) (contents c.push_reserved.new.self) c.args.clauses.now c.loop-clause.clause-index
-          c.clause-item.result c.forbidden-watches.result.1 (literals_watched c.forbidden-watches.result.0) within c.clause-item.is c.forbidden-watches.ensures.clause
+      added = one_forbidden_more c.args.name (contents c.args.self.now) (contents c.loop-clause.self)
+          (contents c.push_reserved.new.self) c.args.clauses.now c.loop-clause.clause-index
+          c.clause-item.result c.forbidden-watches.result.1
+          (literals_watched c.forbidden-watches.result.0) within c.clause-item.is c.forbidden-watches.ensures.clause
           c.forbidden-watches.ensures.watches c.loop-clause.invariant.added c.push_reserved.ensures.added;
       room = c.push_reserved.ensures.rooms (length c.args.clauses.now - (c.loop-clause.clause-index + 1)) c.args.clauses.now
           (subst (λ n. HasRoomFor n c.args.clauses.now c.loop-clause.self) left c.loop-clause.invariant.room);

@@ -16,9 +16,14 @@ invariant_of-self g c =
     let made = c.started-watches.result in
     let e = as_many_records inside.clauses.items learnt ws inside.map c.self.invariant.0 in
     let watched = (c.started-watches.ensures.starts ws c.self.invariant.1 (c.from_index-id.ensures ∙ c.len.ensures ∙ inside.clauses.ok.0 ∙ e)).0 in
-    subst (λ cs. IsClauseList (contents_of cs c.push_reserved-2.new.self.items learnt new) × AreWatched new c.push_reserved-2.new.self.items) (sym c.push_reserved.ensures.items)
-    (subst (λ rs. IsClauseList (contents_of (inside.clauses.items ++ c.args.clause ∷ []) rs learnt new) × AreWatched new rs) (sym c.push_reserved-2.ensures.items)
-    (more_list inside.clauses.items learnt ws inside.map new c.args.clause made c.self.invariant.0 (rw (← c.self.view_is) at c.requires.room.id) watched, watched))
+    subst (λ cs. IsClauseList (contents_of cs c.push_reserved-2.new.self.items learnt new) ×
+    AreWatched new c.push_reserved-2.new.self.items) (sym c.push_reserved.ensures.items)
+    (subst (λ rs. IsClauseList (contents_of (inside.clauses.items ++ c.args.clause ∷ []) rs learnt new) ×
+    AreWatched new rs) (sym c.push_reserved-2.ensures.items) (
+      more_list inside.clauses.items learnt ws inside.map new c.args.clause made c.self.invariant.0
+          (rw (← c.self.view_is) at c.requires.room.id) watched,
+      watched,
+    ))
 
 pub returns-clause-added : goal.returns-clause-added
 returns-clause-added g c =
@@ -30,15 +35,23 @@ returns-clause-added g c =
     let e = as_many_records inside.clauses.items learnt ws inside.map c.self.invariant.0 in
     let id = c.from_index-id.ensures ∙ c.len.ensures ∙ inside.clauses.ok.0 in
     let starts = subst (λ i. StartsAtEnd inside.map made i new) id c.started-watches.ensures.starts in
-    subst (λ cs. contents_of cs c.push_reserved-2.new.self.items learnt new ≡ with_clause (contents c.args.self.now) c.args.clause (literals_watched c.args.watches)) (sym c.push_reserved.ensures.items)
-    (subst (λ rs. contents_of (inside.clauses.items ++ c.args.clause ∷ []) rs learnt new ≡ with_clause (contents c.args.self.now) c.args.clause (literals_watched c.args.watches)) (sym c.push_reserved-2.ensures.items)
-    (subst (λ (k : Kept g.row.N.Denot). contents_of (inside.clauses.items ++ c.args.clause ∷ []) (ws ++ made ∷ []) learnt new ≡ with_clause (contents k) c.args.clause (literals_watched c.args.watches)) c.self.view_is
-    (pushed_contents inside.clauses.items ws learnt inside.map new c.args.clause c.args.watches made c.self.invariant.1 e c.started-watches.ensures.same starts)))
+    subst (λ cs. contents_of cs c.push_reserved-2.new.self.items learnt new ≡ with_clause
+    (contents c.args.self.now) c.args.clause (literals_watched c.args.watches)) (sym c.push_reserved.ensures.items)
+    (subst (λ rs. contents_of (inside.clauses.items ++ c.args.clause ∷ []) rs learnt new ≡
+    with_clause (contents c.args.self.now) c.args.clause (literals_watched c.args.watches))
+    (sym c.push_reserved-2.ensures.items)
+    (subst (λ (k : Kept g.row.N.Denot). contents_of (inside.clauses.items ++ c.args.clause ∷ [])
+    (ws ++ made ∷ []) learnt new ≡ with_clause (contents k) c.args.clause
+    (literals_watched c.args.watches)) c.self.view_is
+    (pushed_contents inside.clauses.items ws learnt inside.map new c.args.clause c.args.watches made c.self.invariant.1
+    e c.started-watches.ensures.same starts)))
 
 pub returns-clause-rooms : goal.returns-clause-rooms
 returns-clause-rooms g c count bits room =
-    room_after count bits _ _ (literals_in c.args.watches) (ap length c.push_reserved.ensures.items ∙ length-append c.self.inside.clauses.items (c.args.clause ∷ []))
-    c.push_reserved.ensures.capacity c.push_reserved-2.ensures.capacity c.started-watches.ensures.rooms (subst (HasRoomFor (count + 1) bits) (sym c.self.view_is) room)
+    room_after count bits _ _ (literals_in c.args.watches)
+    (ap length c.push_reserved.ensures.items ∙ length-append c.self.inside.clauses.items (c.args.clause ∷ []))
+    c.push_reserved.ensures.capacity c.push_reserved-2.ensures.capacity c.started-watches.ensures.rooms
+    (subst (HasRoomFor (count + 1) bits) (sym c.self.view_is) room)
 
 pub started-watches-requires-clause-room : goal.started-watches-requires-clause-room
 started-watches-requires-clause-room g c = grind (arith, common_steps)

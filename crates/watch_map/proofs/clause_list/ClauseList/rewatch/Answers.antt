@@ -17,10 +17,12 @@ invariant_of-self g c =
     let new = c.rewatch.new.map in
     let learnt : List (List Lit) = map (λ v. v.items) inside.learnt in
     let all = whole inside.watches.len ws' ws inside.watches.ok.0 (subst (λ rs. length ws' ≡ length rs) c.as_mut_slice.ensures.value c.rewatch.auto.watches) in
-    let ok = subst (λ rs. OnOk c.rewatch.result (IsRewatched inside.map rs c.args.id c.args.from c.args.to new ws')) c.as_mut_slice.ensures.value c.rewatch.ensures.ok in
+    let ok = subst (λ rs. OnOk c.rewatch.result (IsRewatched inside.map rs c.args.id c.args.from c.args.to new ws'))
+    c.as_mut_slice.ensures.value c.rewatch.ensures.ok in
     let err = subst (λ rs. OnErr c.rewatch.result (SameLists inside.map new × (ws' ≡ rs))) c.as_mut_slice.ensures.value c.rewatch.ensures.err in
     subst (λ rs. IsClauseList (contents_of inside.clauses.items rs learnt new) × AreWatched new rs) (sym all)
-    (after_rewatch c.rewatch.result inside.clauses.items learnt ws ws' inside.map new c.args.id c.args.from c.args.to c.self.invariant.1 c.self.invariant.0 ok err)
+    (after_rewatch c.rewatch.result inside.clauses.items learnt ws ws' inside.map new c.args.id c.args.from c.args.to
+    c.self.invariant.1 c.self.invariant.0 ok err)
 
 pub returns-clause-ok : goal.returns-clause-ok
 returns-clause-ok g c =
@@ -30,10 +32,15 @@ returns-clause-ok g c =
     let new = c.rewatch.new.map in
     let learnt : List (List Lit) = map (λ v. v.items) inside.learnt in
     let all = whole inside.watches.len ws' ws inside.watches.ok.0 (subst (λ rs. length ws' ≡ length rs) c.as_mut_slice.ensures.value c.rewatch.auto.watches) in
-    let ok = subst (λ rs. OnOk c.rewatch.result (IsRewatched inside.map rs c.args.id c.args.from c.args.to new ws')) c.as_mut_slice.ensures.value c.rewatch.ensures.ok in
-    let can = subst (λ rs. OnOk c.rewatch.result (IsTrue (may_rewatch rs c.args.id c.args.from c.args.to))) c.as_mut_slice.ensures.value c.rewatch.ensures.can in
-    subst (λ rs. OnOk c.rewatch.result (contents_of inside.clauses.items rs learnt new ≡ with_rewatched (contents c.args.self.now) c.args.id c.args.from c.args.to)) (sym all)
-    (subst (λ (k : Kept g.row.N.Denot). OnOk c.rewatch.result (contents_of inside.clauses.items ws' learnt new ≡ with_rewatched (contents k) c.args.id c.args.from c.args.to)) c.self.view_is
+    let ok = subst (λ rs. OnOk c.rewatch.result (IsRewatched inside.map rs c.args.id c.args.from c.args.to new ws'))
+    c.as_mut_slice.ensures.value c.rewatch.ensures.ok in
+    let can = subst (λ rs. OnOk c.rewatch.result (IsTrue (may_rewatch rs c.args.id c.args.from c.args.to)))
+    c.as_mut_slice.ensures.value c.rewatch.ensures.can in
+    subst (λ rs. OnOk c.rewatch.result (contents_of inside.clauses.items rs learnt new ≡
+    with_rewatched (contents c.args.self.now) c.args.id c.args.from c.args.to)) (sym all)
+    (subst (λ (k : Kept g.row.N.Denot). OnOk c.rewatch.result
+    (contents_of inside.clauses.items ws' learnt new ≡ with_rewatched (contents k) c.args.id c.args.from c.args.to))
+    c.self.view_is
     (ok_rewatch c.rewatch.result inside.clauses.items learnt ws ws' inside.map new c.args.id c.args.from c.args.to ok can))
 
 pub returns-clause-err : goal.returns-clause-err

@@ -8,9 +8,10 @@ use Rattle.watch_map.specs.WatchLists.{Watches, AreWatched, literals_in, watched
 use Rattle.watch_map.specs.ClauseList.{IsClauseList, Kept, contents, watched_by as watches_of}
 use Rattle.watch_map.specs.Forcing.{AreSettled, IsConflict}
 use Rattle.watch_map.specs.Saturation.{literals_from, literals_in_list, WatchOwn, IsRearranged, HasForced}
+use Rattle.watch_map.specs.Marks.{AreMarks}
 use Rattle.watch_map.proofs.ListCallerLaws.{watched_at}
 use Rattle.watch_map.proofs.ListLaws.{contents_of, still_list, whole}
-use Rattle.watch_map.proofs.ListSaturationLaws.{own_here, rearranged_here}
+use Rattle.watch_map.proofs.ListSaturationLaws.{own_here, rearranged_here, marks_here, marks_there}
 use Rattle.watch_map.proofs.clause_list.ClauseList.saturate.Goals as goal
 
 pub invariant_of-self : goal.invariant_of-self
@@ -35,6 +36,10 @@ saturate-requires g c =
     (literals_in_list (kept_in [] c.args.lists.now c.args.disjunctions.now) (contents s))
     (watches_of (contents s))) (sym c.self.view_is) c.requires.own in
     let here = own_here (literals_from k inside.clauses.items) inside.watches.items own in
+    let entries = c.args.trail.now.entries in
+    let marks = subst (λ (s : Kept g.row.N.Denot). AreMarks
+    (literals_in_list (kept_in [] c.args.lists.now c.args.disjunctions.now) (contents s))
+    (watches_of (contents s)) entries c.args.marks.now) (sym c.self.view_is) c.requires.marks in
     record {
       watched = subst (λ (rs : Watches). AreWatched inside.map rs)
           (sym c.as_mut_slice.ensures.value) c.self.invariant.1;
@@ -44,7 +49,31 @@ saturate-requires g c =
           (sym c.as_mut_slice.ensures.value) here);
       few = subst (λ (cs : List (Clause g.row.N.Denot)). length cs ≤ 2 ^ 32 - 1)
           (sym c.as_slice.ensures.value) c.self.invariant.0.few;
+      marks = subst (λ (cs : List (Clause g.row.N.Denot)). AreMarks (literals_from k cs)
+          (watched_by c.as_mut_slice.result.now) entries c.args.marks.now) (sym c.as_slice.ensures.value)
+          (subst (λ (rs : Watches). AreMarks (literals_from k inside.clauses.items) (watched_by rs) entries
+          c.args.marks.now) (sym c.as_mut_slice.ensures.value)
+          (marks_here (literals_from k inside.clauses.items) inside.watches.items entries c.args.marks.now marks));
     }
+
+pub returns-clause-marks : goal.returns-clause-marks
+returns-clause-marks g c =
+    let inside = c.self.inside in
+    let ws = inside.watches.items in
+    let ws' = c.saturate.new.watches in
+    let k = kept_in inside.learnt c.args.lists.now c.args.disjunctions.now in
+    let entries = c.saturate.new.trail.entries in
+    let marks = c.saturate.new.marks in
+    let all = whole inside.watches.len ws' ws inside.watches.ok.0
+    (subst (λ rs. length ws' ≡ length rs) c.as_mut_slice.ensures.value c.saturate.auto.watches) in
+    let by_cs = subst (λ (cs : List (Clause g.row.N.Denot)). AreMarks (literals_from k cs) (watched_by ws') entries
+    marks) c.as_slice.ensures.value c.saturate.ensures.marks in
+    let there = marks_there (literals_from k inside.clauses.items) ws' entries marks by_cs in
+    subst (λ (rs : Watches). AreMarks (literals_in_list (kept_in [] c.args.lists.now c.args.disjunctions.now)
+    (contents c.args.self.now)) (watched_at (map literals_in rs)) entries marks) (sym all)
+    (subst (λ (s : Kept g.row.N.Denot). AreMarks (literals_in_list
+    (kept_in [] c.args.lists.now c.args.disjunctions.now) (contents s)) (watched_at (map literals_in ws')) entries
+    marks) c.self.view_is there)
 
 pub returns-clause-rearranged : goal.returns-clause-rearranged
 returns-clause-rearranged g c =

@@ -12,5 +12,7 @@ returns-clause-list g c = c.next_place.ensures.list ∙ ap (λ (p : Position). r
 
 pub returns-clause-stands : goal.returns-clause-stands
 returns-clause-stands g c =
-    subst (λ (p : Position). IfSome c.next_place.result (StandsBehind (passed p c.args.map.now c.args.watches.now ++ clause_of p ∷ []) (literal_of p) c.args.map.now c.args.watches.now))
+    subst (λ (p : Position). IfSome c.next_place.result
+    (StandsBehind (passed p c.args.map.now c.args.watches.now ++ clause_of p ∷ [])
+    (literal_of p) c.args.map.now c.args.watches.now))
     c.self.view_is c.next_place.ensures.stands

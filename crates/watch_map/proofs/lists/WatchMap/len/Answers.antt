@@ -7,4 +7,5 @@ use Rattle.watch_map.proofs.lists.WatchMap.len.Goals as goal
 
 pub returns : goal.returns
 returns g c watches watched =
-    subst (IsListCount (watchers c.args.self.now watches)) (ap value_count (sym c.self.view_is) ∙ sym c.len.ensures) (firsts_counted c.args.self.now watches watched)
+    subst (IsListCount (watchers c.args.self.now watches)) (ap value_count (sym c.self.view_is) ∙ sym c.len.ensures)
+    (firsts_counted c.args.self.now watches watched)

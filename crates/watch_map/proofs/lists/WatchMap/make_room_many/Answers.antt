@@ -10,7 +10,8 @@ returns-clause-lists g c = same_lists c.args.self.now c.make_room.new.self (λ k
 
 pub returns-clause-rooms : goal.returns-clause-rooms
 returns-clause-rooms g c l n =
-    let more = no_fewer_slots c.make_room.result c.self.inside.firsts c.make_room.new.self (slots_for (literal_index c.args.literal)) c.make_room.ensures.slots c.make_room.ensures.err in
+    let more = no_fewer_slots c.make_room.result c.self.inside.firsts c.make_room.new.self
+    (slots_for (literal_index c.args.literal)) c.make_room.ensures.slots c.make_room.ensures.err in
     room_by_length c.args.self.now c.make_room.new.self l n n (subst (λ m. length m ≤ length c.make_room.new.self) c.self.view_is more)
 
 pub returns-clause-room : goal.returns-clause-room
@@ -20,4 +21,5 @@ returns-clause-room g c =
 
 pub returns-clause-succeeds : goal.returns-clause-succeeds
 returns-clause-succeeds g c room =
-    (c.make_room.ensures.room (subst (λ m. literal_index c.args.literal < length m) (sym c.self.view_is) (slot_within c.args.self.now c.args.literal c.args.additions room))).0
+    (c.make_room.ensures.room (subst (λ m. literal_index c.args.literal < length m) (sym c.self.view_is)
+    (slot_within c.args.self.now c.args.literal c.args.additions room))).0

@@ -5,9 +5,9 @@ use Rattle.watch_map.specs.Forcing.{IsConflict}
 use Rattle.watch_map.specs.WatchInvariant.{AreMetBut, val_before}
 use Rattle.watch_map.specs.Visits.{literals_at}
 use Rattle.watch_map.proofs.GivenLaws.{given_within}
-use Rattle.watch_map.proofs.ValueLaws.{before_extends}
+use Rattle.watch_map.proofs.ValueLaws.{before_extends, extends_self}
 use Rattle.watch_map.proofs.ForcingLaws.{forced_then, forced_longer}
-use Rattle.watch_map.proofs.RoundLaws.{none_case, rearranged_then, place_reached, as_many_decisions, place_smaller}
+use Rattle.watch_map.proofs.RoundLaws.{none_case, rearranged_then, keeps_then, place_reached, as_many_decisions, place_smaller}
 use Rattle.watch_map.proofs.saturation.propagate.propagate.Goals as goal
 
 pub returns-in_err-conflict-clause-forced : goal.returns-in_err-conflict-clause-forced
@@ -21,6 +21,18 @@ returns-then-is_some-clause-forced g c =
     forced_then (literals_at c.args.given.now) c.args.given.now.level c.args.trail.now
     c.loop-place.trail c.walk.new.trail
     c.loop-place.invariant.forced c.walk.ensures.forced
+
+pub returns-in_err-conflict-clause-kept : goal.returns-in_err-conflict-clause-kept
+returns-in_err-conflict-clause-kept g c =
+    keeps_then (literals_at c.args.given.now) c.args.given.now.level c.args.trail.now c.loop-place.trail
+    (watched_by c.args.watches.now) (watched_by c.loop-place.watches) (watched_by c.walk.new.watches)
+    c.loop-place.invariant.forced c.loop-place.invariant.kept c.walk.ensures.kept
+
+pub returns-then-is_some-clause-kept : goal.returns-then-is_some-clause-kept
+returns-then-is_some-clause-kept g c =
+    keeps_then (literals_at c.args.given.now) c.args.given.now.level c.args.trail.now c.loop-place.trail
+    (watched_by c.args.watches.now) (watched_by c.loop-place.watches) (watched_by c.walk.new.watches)
+    c.loop-place.invariant.forced c.loop-place.invariant.kept c.walk.ensures.kept
 
 pub loop-place-smaller : goal.loop-place-smaller
 loop-place-smaller g c =
@@ -55,6 +67,8 @@ loop-place-preserved g c =
       forced = forced_then literals level c.args.trail.now old new inv.forced c.walk.ensures.forced;
       met = place_reached literals level old new place c.refuted_at-literal.result watched within
           c.refuted_at-literal.ensures.entry
-          c.walk.ensures.forced (c.walk.ensures.kept (val_before place old.entries)
-          (before_extends old.entries place) inv.met) one;
+          c.walk.ensures.forced (c.walk.ensures.kept (val_before place old.entries) (val old.entries)
+          (before_extends old.entries place) (extends_self (val old.entries)) inv.met) one;
+      kept = keeps_then literals level c.args.trail.now old (watched_by c.args.watches.now)
+          (watched_by c.loop-place.watches) watched inv.forced inv.kept c.walk.ensures.kept;
     }

@@ -5,6 +5,7 @@ use Rattle.watch_map.specs.Forcing.{IsSettled}
 use Rattle.watch_map.specs.Saturation.{HasForced}
 use Rattle.watch_map.specs.Visits.{literals_at, AreUnwatchedSettled}
 use Rattle.watch_map.proofs.ForcingLaws.{forced_none, forced_then}
+use Rattle.watch_map.proofs.MarkLaws.{unwatched_settled}
 use Rattle.watch_map.proofs.RoundLaws.{unwatched_more, watches_none}
 use Rattle.watch_map.proofs.saturation.unwatched.visit_all_unwatched.Goals as goal
 use Rattle.watch_map.proofs.saturation.unwatched.visit_all_unwatched.Goals.{then-not-is_watching+in_ok-visit_unwatched+else-branch, else-not-is_watching}
@@ -18,6 +19,16 @@ pub returns-then-branch-clause-forced : goal.returns-then-branch-clause-forced
 returns-then-branch-clause-forced g c =
     forced_then (literals_at c.args.given.now) c.args.given.now.level c.args.trail.now c.loop-index.trail
     c.visit_unwatched.new.trail c.loop-index.invariant.forced c.visit_unwatched.ensures.forced
+
+pub loop-index-init : goal.loop-index-init
+loop-index-init g c =
+    let literals = literals_at c.args.given.now in
+    let watched = watched_by c.args.watches.now in
+    let now = val c.args.trail.now.entries in
+    record {
+      forced = forced_none literals c.args.given.now.level c.args.trail.now;
+      settled = λ same. unwatched_settled literals watched c.args.from now c.requires.from;
+    }
 
 pub loop-index-preserved : goal.loop-index-preserved
 loop-index-preserved g c =

@@ -43,12 +43,12 @@ returns-in_err-visit-clause-forced g c =
     c.loop-cursor.invariant.walked).forced
 
 pub returns-in_err-visit-clause-kept : goal.returns-in_err-visit-clause-kept
-returns-in_err-visit-clause-kept g c before ex met =
+returns-in_err-visit-clause-kept g c before seen ex ex_seen met =
     (walked_more (literals_at c.args.given.now) c.args.given.now.level c.args.literal c.args.trail.now
     (watched_by c.args.watches.now)
     c.loop-cursor.map c.loop-cursor.watches c.loop-cursor.trail c.visit.new.trail
     (remaining c.loop-cursor.cursor c.loop-cursor.map c.loop-cursor.watches) c.visit.ensures.forced
-    c.loop-cursor.invariant.walked).kept before ex met
+    c.loop-cursor.invariant.walked).kept before seen ex ex_seen met
 
 pub returns-in-Err-clause-forced : goal.returns-in-Err-clause-forced
 returns-in-Err-clause-forced g c =
@@ -59,14 +59,14 @@ returns-in-Err-clause-forced g c =
     c.loop-cursor.invariant.walked).forced
 
 pub returns-in-Err-clause-kept : goal.returns-in-Err-clause-kept
-returns-in-Err-clause-kept g c before ex met =
-    subst (λ (ws : Watches). AreMet before (val c.visit.new.trail.entries) (watched_by ws))
+returns-in-Err-clause-kept g c before seen ex ex_seen met =
+    subst (λ (ws : Watches). AreMet before seen (watched_by ws))
     (sym c.in-Err.ensures.err_lists.1)
     ((walked_more (literals_at c.args.given.now) c.args.given.now.level c.args.literal c.args.trail.now
     (watched_by c.args.watches.now)
     c.loop-cursor.map c.loop-cursor.watches c.loop-cursor.trail c.visit.new.trail
     (remaining c.loop-cursor.cursor c.loop-cursor.map c.loop-cursor.watches) c.visit.ensures.forced
-    c.loop-cursor.invariant.walked).kept before ex met)
+    c.loop-cursor.invariant.walked).kept before seen ex ex_seen met)
 
 pub returns-in-Conflict-clause-forced : goal.returns-in-Conflict-clause-forced
 returns-in-Conflict-clause-forced g c =
@@ -77,12 +77,12 @@ returns-in-Conflict-clause-forced g c =
     c.loop-cursor.invariant.walked).forced
 
 pub returns-in-Conflict-clause-kept : goal.returns-in-Conflict-clause-kept
-returns-in-Conflict-clause-kept g c before ex met =
+returns-in-Conflict-clause-kept g c before seen ex ex_seen met =
     (walked_more (literals_at c.args.given.now) c.args.given.now.level c.args.literal c.args.trail.now
     (watched_by c.args.watches.now)
     c.loop-cursor.map c.loop-cursor.watches c.loop-cursor.trail c.visit.new.trail
     (remaining c.loop-cursor.cursor c.loop-cursor.map c.loop-cursor.watches) c.visit.ensures.forced
-    c.loop-cursor.invariant.walked).kept before ex met
+    c.loop-cursor.invariant.walked).kept before seen ex ex_seen met
 
 pub returns-in-Conflict-clause-ok : goal.returns-in-Conflict-clause-ok
 returns-in-Conflict-clause-ok g c =

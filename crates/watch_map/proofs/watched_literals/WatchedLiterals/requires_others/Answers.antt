@@ -16,7 +16,8 @@ returns-clause-watches g c =
     let first : c.find-first.result ≡ find (λ l. true) ls = c.find-first.ensures.tested (λ l. true) (λ x b k. search (rules, tests)) in
     let other : c.find-other.result ≡ find (λ l. not (is_false_literal (values_in c.map-map.result.now) l)) ls =
     c.find-other.ensures.tested (λ l. not (is_false_literal (values_in c.map-map.result.now) l)) (λ x b k. search (rules, tests)) in
-    let open_now : c.find-other.result ≡ find (λ l. not (is_false_literal now l)) ls = other ∙ ap (λ v. find (λ l. not (is_false_literal v l)) ls) c.map-map.ensures.values in
+    let open_now : c.find-other.result ≡ find (λ l. not (is_false_literal now l)) ls =
+    other ∙ ap (λ v. find (λ l. not (is_false_literal v l)) ls) c.map-map.ensures.values in
     let chosen : c.or.result ≡ first_not_false now ls = c.or.ensures ∙ (ap (λ o. option_or o c.find-first.result) open_now
     ∙ (ap (option_or (find (λ l. not (is_false_literal now l)) ls)) first ∙ sym (first_or now ls))) in
     c.beside-watches.ensures.literals ∙ (ap (λ n. watch_beside n c.or.result) c.negative.ensures ∙ ap (watch_beside (Neg c.args.parent)) chosen)
@@ -28,9 +29,12 @@ returns-clause-conflict g c =
     let first : c.find-first.result ≡ find (λ l. true) ls = c.find-first.ensures.tested (λ l. true) (λ x b k. search (rules, tests)) in
     let other : c.find-other.result ≡ find (λ l. not (is_false_literal (values_in c.map-map.result.now) l)) ls =
     c.find-other.ensures.tested (λ l. not (is_false_literal (values_in c.map-map.result.now) l)) (λ x b k. search (rules, tests)) in
-    let open_now : c.find-other.result ≡ find (λ l. not (is_false_literal now l)) ls = other ∙ ap (λ v. find (λ l. not (is_false_literal v l)) ls) c.map-map.ensures.values in
+    let open_now : c.find-other.result ≡ find (λ l. not (is_false_literal now l)) ls =
+    other ∙ ap (λ v. find (λ l. not (is_false_literal v l)) ls) c.map-map.ensures.values in
     c.is_met_by_parent-conflict.ensures
     ∙ (ap (λ b. not b && (c.is_some-2.result && not (known_false c.assigned_value-value.result))) (c.is_some.ensures ∙ ap is_some open_now)
-    ∙ (ap (λ b. not (is_some (find (λ l. not (is_false_literal now l)) ls)) && (b && not (known_false c.assigned_value-value.result))) (c.is_some-2.ensures ∙ ap is_some first)
-    ∙ (ap (λ v. not (is_some (find (λ l. not (is_false_literal now l)) ls)) && (is_some (find (λ l. true) ls) && not (known_false v))) c.assigned_value-value.ensures
+    ∙ (ap (λ b. not (is_some (find (λ l. not (is_false_literal now l)) ls)) &&
+    (b && not (known_false c.assigned_value-value.result))) (c.is_some-2.ensures ∙ ap is_some first)
+    ∙ (ap (λ v. not (is_some (find (λ l. not (is_false_literal now l)) ls)) &&
+    (is_some (find (λ l. true) ls) && not (known_false v))) c.assigned_value-value.ensures
     ∙ met_by_parent now c.args.parent ls)))

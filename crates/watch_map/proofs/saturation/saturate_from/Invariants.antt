@@ -4,7 +4,7 @@ use Rattle.watch_map.specs.WatchLists.{watched_by}
 use Rattle.watch_map.specs.Visits.{literals_at}
 use Rattle.watch_map.proofs.OpenClauses.{count_open}
 use Rattle.watch_map.proofs.RoundLaws.{IsPropagated}
-use Rattle.watch_map.proofs.saturation.saturate.Given as goal
+use Rattle.watch_map.proofs.saturation.saturate_from.Given as goal
 
 abbrev pub invariant-rounds : goal.invariant-rounds
 invariant-rounds g l = IsPropagated (literals_at l.given) l.given.level l.fn.trail

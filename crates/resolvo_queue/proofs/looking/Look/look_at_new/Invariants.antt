@@ -1,8 +1,0 @@
-use Rattle.std.proofs.Common.{None}
-use Rattle.resolvo_queue.specs.Looking.{FindsFalsified}
-use Rattle.resolvo_queue.proofs.LookLaws.{IsBetween}
-use Rattle.resolvo_queue.proofs.looking.Look.look_at_new.Given as goal
-
-abbrev pub invariant-loop-number : goal.invariant-loop-number
-invariant-loop-number g l =
-    FindsFalsified g.I.Interner.universe l.self (IsBetween l.self.witnesses.now.looked l.number) None l.first

@@ -1,0 +1,51 @@
+//! The mark at a saturation's end.
+ghost use Rattle.std.specs.Prelude.{◌≡◌, ℕ, ◌-◌, ◌≤◌, ◌^◌, length, take};
+ghost use Rattle.decisions.specs.Trail.{val, level_of};
+ghost use Rattle.watch_map.specs.WatchLists.{watched_by};
+ghost use Rattle.watch_map.specs.WatchInvariant.{AreMet};
+ghost use Rattle.watch_map.specs.Visits.{literals_at};
+ghost use Rattle.watch_map.specs.Marks.{IsMark, IsBehind};
+
+use crate::marks::Mark;
+use crate::saturation::given::Given;
+use crate::saturation::unwatched::count_true;
+use crate::watched_literals::WatchedLiterals;
+use decisions::DecisionTracker;
+use std::alloc::Allocator;
+
+/// The mark of the trail's end, where all that is false is met. The mark from which the saturation went on tells the
+/// beginning: it reads what came behind alone.
+pub(crate) fn mark_at_end<N: Copy, A: Allocator + Copy>(
+    given: &Given<N, A>,
+    watches: &[Option<WatchedLiterals>],
+    trail: &DecisionTracker<A>,
+    from: &Mark,
+) -> Mark
+    requires few { length given.now.clauses.now ≤ 2 ^ 32 - 1 }
+    requires from { IsMark (literals_at given.now) (watched_by watches.now) trail.now.entries from.now }
+    requires met { AreMet (val trail.now.entries) (val trail.now.entries) (watched_by watches.now) }
+    ensures mark { IsMark (literals_at given.now) (watched_by watches.now) trail.now.entries result }
+    ensures behind { IsBehind from.now result }
+{
+    Mark {
+        place: trail.assignments().len(),
+        clauses: count_true(given, watches, trail.map(), from.clauses),
+        level: highest_level(trail, from),
+    }
+}
+
+/// The highest level of an entry, that of the mark if no later one is higher.
+fn highest_level<A: Allocator + Copy>(trail: &DecisionTracker<A>, from: &Mark) -> u32
+    requires levels { (x : ℕ) → level_of (take from.now.place trail.now.entries) x ≤ from.now.level }
+    requires within { from.now.place ≤ length trail.now.entries }
+    ensures highest { (x : ℕ) → level_of trail.now.entries x ≤ result }
+    ensures behind { from.now.level ≤ result }
+{
+    let decisions = trail.assignments();
+    let mut level = from.level;
+    for index in from.place..decisions.len() {
+        let own = trail.level(decisions[index].variable);
+        level = level.max(own);
+    }
+    level
+}
