@@ -17,6 +17,7 @@ mod OpenClauses
 mod RoundLaws
 mod StackLaws
 mod StartLaws
+mod UnwatchedLaws
 pub mod ValueLaws
 mod VisitLaws
 mod WalkLaws

@@ -15,7 +15,7 @@ use Rattle.watch_map.specs.Watching.{is_literal_in}
 use Rattle.watch_map.specs.Forcing.{is_false, forces, IsSettled}
 use Rattle.watch_map.specs.Saturation.{HasForced}
 use Rattle.watch_map.specs.WatchInvariant.{is_true_literal, is_true, has_true_beside, AreMet, KeepsMet, val_before}
-use Rattle.watch_map.specs.Visits.{AreUnwatchedTrue, AreUnwatchedSettled}
+use Rattle.watch_map.specs.Visits.{AreUnwatchedTrue}
 use Rattle.watch_map.specs.Marks.{IsMark, AreMarks, beginning, newest_mark, is_from}
 use Rattle.watch_map.specs.Marks.{marks_below, not_false_at, none_false_at, IsRemembered}
 use Rattle.watch_map.specs.declared.marks.Mark.{Mark}
@@ -38,11 +38,6 @@ true_is_settled now ls t =
       λ l. false_from_ne_true (forces now ls l)
           (λ f. forces_untrue now ls l (forces_parts now ls l f) p.literal p.within p.passes),
     )
-
-pub unwatched_settled : (literals watched : ℕ → List Lit) (clauses : ℕ) (now : Values)
-    → AreUnwatchedTrue literals watched clauses now → AreUnwatchedSettled literals watched clauses now
-unwatched_settled literals watched clauses now unwatched c h none =
-    true_is_settled now (literals c) (unwatched c h none)
 
 -- ---- levels
 

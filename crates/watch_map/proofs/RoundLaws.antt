@@ -2,8 +2,8 @@
 use Rattle.std.specs.Prelude.{MatchOption, is_some, slice_get}
 use Rattle.std.proofs.Common.{◌≡◌, ◌≢◌, ℕ, ◌+◌, ◌-◌, ◌<◌, ◌≤◌, true, false, List, [], ◌∷◌}
 use Rattle.std.proofs.Common.{◌++◌, length, map, get_or, Option, Some, None, refl, sym, ap}
-use Rattle.std.proofs.Common.{subst, ◌∙◌, arith, nat_eq, eqb-true, take_all, length-append}
-use Rattle.std.proofs.lemmas.Bool.{eqb-false, or_left}
+use Rattle.std.proofs.Common.{subst, ◌∙◌, arith, take, take_all, length-append}
+use Rattle.std.proofs.lemmas.Bool.{or_left}
 use Rattle.std.proofs.lemmas.List.{length-map, get_or_append_left, get_or-map}
 use Rattle.std.proofs.lemmas.Option.{slice_get-get_or, slice_get_within, get_or_from_slice_get}
 use Rattle.decisions.specs.Literals.{Lit, Values}
@@ -15,11 +15,11 @@ use Rattle.watch_map.specs.Forcing.{IsSettled, AreSettled}
 use Rattle.watch_map.specs.WatchLists.{WatchLists, Watches, watched_by, AreWatched}
 use Rattle.watch_map.specs.Saturation.{WatchOwn, HasForced, IsRearranged}
 use Rattle.watch_map.specs.WatchInvariant.{refuted_literal, AreMet, AreMetBut, KeepsMet, val_before}
-use Rattle.watch_map.specs.Visits.{AreUnwatchedSettled}
+use Rattle.watch_map.specs.Visits.{AreUnwatchedSettled, AreAllSettled}
 use Rattle.watch_map.proofs.WatchingLaws.{same_self}
-use Rattle.watch_map.proofs.LiteralLists.{by_test}
 use Rattle.watch_map.proofs.OpenClauses.{count_open}
 use Rattle.watch_map.proofs.ValueLaws.{extends_on}
+use Rattle.watch_map.proofs.UnwatchedLaws.{one_more}
 use Rattle.watch_map.proofs.ForcingLaws.{forced_extends, forced_longer, forced_same, forced_before, forced_fewer}
 use Rattle.watch_map.proofs.MetLaws.{met_kept, met_one_more, met_not_false, met_not_forcing}
 
@@ -119,31 +119,22 @@ module _ (literals : ℕ → List Lit) (level : ℕ) where
 
 -- ---- the clauses that watch nothing
 
-module _ (literals watched : ℕ → List Lit) (level : ℕ) where
+module _ (literals : ℕ → List Lit) (level : ℕ) where
   -- one more was visited
-  pub unwatched_more : (t a b : Trail) (index : ℕ) → HasForced literals level t a
-      → (length a.entries ≡ length t.entries → AreUnwatchedSettled literals watched index (val a.entries))
+  pub one_more_visited : (t a b : Trail) (ids : List ℕ) (index id : ℕ) → HasForced literals level t a
+      → (length a.entries ≡ length t.entries → AreAllSettled literals (take index ids) (val a.entries))
       → HasForced literals level a b
-      → (length b.entries ≡ length a.entries → watched index ≡ [] → IsSettled (val b.entries) (literals index))
-      → length b.entries ≡ length t.entries → AreUnwatchedSettled literals watched (index + 1) (val b.entries)
-  unwatched_more t a b index ta before ab here same d within none =
+      → (length b.entries ≡ length a.entries → IsSettled (val b.entries) (literals id))
+      → index < length ids → id ≡ get_or ids index id
+      → length b.entries ≡ length t.entries → AreAllSettled literals (take (index + 1) ids) (val b.entries)
+  one_more_visited t a b ids index id ta before ab here within is same =
       let long = forced_longer literals level t a ta in
       let long_b = forced_longer literals level a b ab in
       let as_b : length b.entries ≡ length a.entries = omega (arith, long, long_b, same) in
       let as_a : length a.entries ≡ length t.entries = omega (arith, long, long_b, same) in
-      by_test (IsSettled (val b.entries) (literals d)) (nat_eq d index)
-      (λ e.
-      let is = eqb-true d index e in
-      subst (λ x. IsSettled (val b.entries) (literals x)) (sym is) (here as_b (subst (λ x. watched x ≡ []) is none)))
-      (λ e.
-      let ne = eqb-false d index e in
-      let below : d < index = omega (arith, ne, within) in
-      subst (λ es. IsSettled (val es) (literals d)) (sym (forced_same literals level a b ab as_b))
-      (before as_a d below none))
-
--- a clause that watches something isn't one of them
-pub watches_none : (ls : List Lit) → ls ≡ [] → 0 < length ls → ⊥
-watches_none ls e h = absurd (omega (arith, ap length e, h))
+      let old = subst (λ es. AreAllSettled literals (take index ids) (val es))
+      (sym (forced_same literals level a b ab as_b)) (before as_a) in
+      one_more ids index id within is (λ c. IsSettled (val b.entries) (literals c)) old (here as_b)
 
 -- ---- the end
 

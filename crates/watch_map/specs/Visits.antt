@@ -1,5 +1,5 @@
 -- What a look at a clause tells, and what a visit leaves.
-use Rattle.std.specs.Prelude.{◌≡◌, ℕ, ◌<◌, true, false, List, []}
+use Rattle.std.specs.Prelude.{◌≡◌, ℕ, ◌<◌, true, false, List, [], All}
 use Rattle.decisions.specs.Literals.{Lit, Values, is_false_literal}
 use Rattle.clauses.specs.Clauses.{same_literal}
 use Rattle.clauses.specs.Stored.{kept_in}
@@ -57,6 +57,14 @@ abbrev pub IsFinding : Values → List Lit → Finding → Type 0
 IsFinding now literals Found.Settled = IsSettled now literals
 IsFinding now literals (Found.Forces l) = forces now literals l ≡ true
 IsFinding now literals Found.Conflict = is_false now literals ≡ true
+
+-- these clauses are settled
+abbrev pub AreAllSettled : (ℕ → List Lit) → List ℕ → Values → Type 0
+AreAllSettled literals ids now = All (λ c. IsSettled now (literals c)) ids
+
+-- these are true
+abbrev pub AreAllTrue : (ℕ → List Lit) → List ℕ → Values → Type 0
+AreAllTrue literals ids now = All (λ c. is_true now (literals c) ≡ true) ids
 
 -- those below the bound that watch nothing are settled
 abbrev pub AreUnwatchedSettled : (ℕ → List Lit) → (ℕ → List Lit) → ℕ → Values → Type 0

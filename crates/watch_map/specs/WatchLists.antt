@@ -1,6 +1,6 @@
 -- What a watch map, the records of all clauses and a cursor show: here the map has each literal's first clause, and a
 -- clause's record the next one in each of its two lists.
-use Rattle.std.specs.Prelude.{◌≡◌, ℕ, ◌<◌, ⊤, if◌then◌else◌, List, [], ◌∷◌, ◌++◌, length}
+use Rattle.std.specs.Prelude.{◌≡◌, ℕ, ◌<◌, ◌≤◌, ⊤, if◌then◌else◌, List, [], ◌∷◌, ◌++◌, length}
 use Rattle.std.specs.Prelude.{Option, Some, None, MatchOption, slice_index_or, slice_set}
 use Rattle.std.proofs.Common.{zero, suc}
 use Rattle.typed_ids.specs.TotalMaps.{IsUpdate}
@@ -11,7 +11,7 @@ use Rattle.clauses.specs.Clauses.{same_literal}
 use Rattle.watch_map.specs.declared.watched_literals.WatchedLiterals.{WatchedLiterals}
 use Rattle.watch_map.specs.declared.nodes.Place.{Place}
 use Rattle.watch_map.specs.declared.nodes.WatchNode.{WatchNode}
-use Rattle.watch_map.specs.Watching.{IsExact, before}
+use Rattle.watch_map.specs.Watching.{IsExact, AreUnwatched, before}
 
 -- ---- the map
 
@@ -41,6 +41,11 @@ IsUnlinked watched = watched.next_watches ≡ None ∷ None ∷ []
 -- the literals that a clause watches
 abbrev pub watched_by : Watches → ℕ → List Lit
 watched_by watches clause = literals_in (record_of watches clause)
+
+-- these are the clauses that watch nothing, of those below a bound, which have records
+pub record AreUnwatchedBelow (watches : Watches) (bound : ℕ) (ids : List ℕ) : Type 0 where
+  pub within : bound ≤ length watches
+  pub are : AreUnwatched (watched_by watches) bound ids
 
 -- ---- links
 

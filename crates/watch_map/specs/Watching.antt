@@ -1,8 +1,8 @@
 -- What clauses watch, and the lists of the clauses that watch each literal, as functions.
-use Rattle.std.specs.Prelude.{◌≡◌, ℕ, ◌+◌, ◌≤◌, ⊤, Bool, false, not, nat_eq}
+use Rattle.std.specs.Prelude.{◌≡◌, ℕ, ◌+◌, ◌<◌, ◌≤◌, ⊤, Bool, false, not, nat_eq}
 use Rattle.std.specs.Prelude.{if◌then◌else◌, ◌==◌, List, [], ◌∷◌, filter, length}
 use Rattle.std.proofs.Common.{zero, suc}
-use Rattle.std.specs.List.{list_any, IsDistinct}
+use Rattle.std.specs.List.{list_any, All, AllPairs, Contains, IsDistinct}
 use Rattle.decisions.specs.Literals.{Lit}
 use Rattle.decisions.specs.LiteralIndex.{literal_index, literal_at}
 use Rattle.clauses.specs.Clauses.{same_literal}
@@ -32,6 +32,13 @@ pub record IsExact (watched : ℕ → List Lit) (lists : Lit → List ℕ) : Typ
   pub two : (clause : ℕ) → AreTwoOrNone (watched clause)
   pub once : (l : Lit) → IsDistinct nat_eq (lists l)
   pub stands : (l : Lit) (clause : ℕ) → is_clause_in clause (lists l) ≡ is_literal_in l (watched clause)
+
+-- these are the clauses below a bound that watch nothing, ascending
+pub record AreUnwatched (watched : ℕ → List Lit) (bound : ℕ) (ids : List ℕ) : Type 0 where
+  pub all : (clause : ℕ) → clause < bound → watched clause ≡ [] → Contains ids clause
+  pub within : All (λ clause. clause < bound) ids
+  pub unwatched : All (λ clause. watched clause ≡ []) ids
+  pub ascending : AllPairs (λ clause later. clause < later) ids
 
 -- the lists with the clause at the front of those of its literals
 abbrev pub started : ℕ → List Lit → (Lit → List ℕ) → Lit → List ℕ

@@ -26,6 +26,7 @@ ghost use Rattle.watch_map.specs.Marks.{AreMarks, none_false_at, none_watched_fa
 use crate::lists::WatchMap;
 use crate::marks::Marks;
 use crate::saturation::{self, Given};
+use crate::unwatched::UnwatchedClauses;
 use crate::walks;
 use crate::watched_literals::WatchedLiterals;
 use clauses::{Clause, Disjunction};
@@ -51,6 +52,8 @@ pub struct ClauseList<N: Copy, A: Allocator + Copy> {
     /// The clauses that watch each literal.
     map: WatchMap<A>,
     learnt: Arena<LearntClauseId, Vec<Literal, A>, A>,
+    /// The clauses that watch nothing, of those that were there at the last saturation.
+    unwatched: UnwatchedClauses<A>,
 }
 
 /// The clauses, what each of them watches, the clauses that watch each literal, and the literals of the learnt ones;
@@ -58,13 +61,14 @@ pub struct ClauseList<N: Copy, A: Allocator + Copy> {
 impl<N: Copy, A: Allocator + Copy> Model for ClauseList<N, A> {
     ghost use Rattle.watch_map.specs.ClauseList.{Kept, contents, IsClauseList};
     ghost use Rattle.watch_map.specs.ClauseListView.{kept_in};
-    ghost use Rattle.watch_map.specs.WatchLists.{AreWatched};
+    ghost use Rattle.watch_map.specs.WatchLists.{AreWatched, AreUnwatchedBelow};
 
     ghost Value = { Kept N };
 
     ghost view = { kept_in };
 
-    ghost invariant = { λ a. IsClauseList (contents (kept_in a)) × AreWatched a.map a.watches.items };
+    ghost invariant = { λ a. IsClauseList (contents (kept_in a)) × AreWatched a.map a.watches.items
+        × AreUnwatchedBelow a.watches.items a.unwatched.bound a.unwatched.ids.items };
 }
 
 impl<N: Copy, A: Allocator + Copy> ClauseList<N, A> {
@@ -78,6 +82,7 @@ impl<N: Copy, A: Allocator + Copy> ClauseList<N, A> {
             watches: Vec::new(alloc),
             map: WatchMap::new(alloc)?,
             learnt: Arena::new(alloc),
+            unwatched: UnwatchedClauses::new(alloc),
         })
     }
 
@@ -284,9 +289,10 @@ impl<N: Copy, A: Allocator + Copy> ClauseList<N, A> {
     /// literals that aren't false.
     ///
     /// Reads the trail from the newest mark on, and goes once through the list of each literal that the entries there
-    /// make false; and the records of the clauses from the mark's bound on. Remembers a mark of the end where all
-    /// clauses are settled. Takes memory for each entry, for the mark, which is left out where that is refused, and
-    /// where a watch moves to a literal that nothing ever watched; refused, what was forced so far stays.
+    /// make false; then reads the clauses that watch nothing, from the mark's bound on. Looks once at the record of each
+    /// clause that is new. Remembers a mark of the end where all clauses are settled. Takes memory for each entry, for
+    /// new clauses that watch nothing, for the mark, which is left out where that is refused, and where a watch moves to
+    /// a literal that nothing ever watched; refused, what was forced so far stays.
     pub fn saturate(
         &mut self,
         lists: &RequirementMap<Vec<Vec<VariableId, A>, A>, A>,
@@ -316,8 +322,10 @@ impl<N: Copy, A: Allocator + Copy> ClauseList<N, A> {
         ensures marks { AreMarks (literals_in_list (kept_in [] lists.now disjunctions.now) (contents self.old))
             (watched_by (contents self.new)) trail.new.entries marks.new }
     {
+        self.unwatched.catch_up(self.watches.as_slice())?;
         let given = Given {
             clauses: self.clauses.as_slice(),
+            unwatched: self.unwatched.ids.as_slice(),
             learnt: &self.learnt,
             lists,
             disjunctions,

@@ -59,6 +59,7 @@ mod lists;
 mod marks;
 mod nodes;
 mod saturation;
+mod unwatched;
 mod walks;
 mod watched_literals;
 

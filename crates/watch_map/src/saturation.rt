@@ -16,7 +16,7 @@
 //! │                        the other watch is undecided:        forced: an entry more, and then met
 //! │                        the other watch is false as well:    a conflict
 //! │
-//! └── visit_all_unwatched    each clause that watches nothing, from an id on: all of its literals are looked at
+//! └── visit_all_unwatched    each clause that watches nothing, from a place in their list on: its literals are looked at
 //! ```
 //!
 //! A place divides the trail: what the entries before it make false is met. Here `a` was assigned, and both clauses
@@ -50,11 +50,11 @@
 //! # Time and memory
 //!
 //! The list of each entry behind the mark is walked once. A visit is constant time where the other watch is true, else
-//! it reads the clause's literals up to one that may be watched. A round passes once over the records of the clauses
-//! behind the mark's bound for those that watch nothing. Memory is taken for an entry, for the list of a literal that
+//! it reads the clause's literals up to one that may be watched. A round passes once over the clauses behind the mark's
+//! bound that watch nothing, which are given as a list. Memory is taken for an entry, for the list of a literal that
 //! nothing ever watched, and for a mark. The mark is left out where that is refused. Where one of the others is, what
 //! was forced so far stays, and the lists are exact: asked again it goes on from the same mark.
-ghost use Rattle.std.specs.Prelude.{◌≡◌, ◌≤◌, ◌-◌, ◌^◌, length, MatchOption, IfOk, IfErr};
+ghost use Rattle.std.specs.Prelude.{◌≡◌, length, MatchOption, IfOk, IfErr};
 ghost use Rattle.typed_ids.specs.declared.error.StoreError.TheVariants.{OutOfMemory};
 ghost use Rattle.decisions.specs.Trail.{val};
 ghost use Rattle.watch_map.specs.WatchLists.{watched_by, AreWatched};
@@ -62,6 +62,7 @@ ghost use Rattle.watch_map.specs.Forcing.{AreSettled, IsConflict};
 ghost use Rattle.watch_map.specs.Saturation.{WatchOwn, HasForced, IsRearranged};
 ghost use Rattle.watch_map.specs.WatchInvariant.{AreMet, KeepsMet};
 ghost use Rattle.watch_map.specs.Visits.{literals_at};
+ghost use Rattle.watch_map.specs.Watching.{AreUnwatched};
 ghost use Rattle.watch_map.specs.Marks.{IsMark, AreMarks};
 
 mod given;
@@ -75,7 +76,7 @@ use crate::lists::WatchMap;
 use crate::marks::{Mark, Marks};
 use crate::saturation::marking::mark_at_end;
 use crate::saturation::propagate::propagate;
-use crate::saturation::unwatched::visit_all_unwatched;
+use crate::saturation::unwatched::{count_before, visit_all_unwatched};
 use crate::watched_literals::WatchedLiterals;
 use decisions::DecisionTracker;
 pub(crate) use given::Given;
@@ -94,7 +95,7 @@ pub(crate) fn saturate<N: Copy, A: Allocator + Copy>(
 ) -> Result<Option<ClauseId>, StoreError>
     requires watched { AreWatched map.old watches.old }
     requires own { WatchOwn (literals_at given.now) (watched_by watches.old) }
-    requires few { length given.now.clauses.now ≤ 2 ^ 32 - 1 }
+    requires unwatched { AreUnwatched (watched_by watches.old) (length given.now.clauses.now) given.now.unwatched.now }
     requires marks { AreMarks (literals_at given.now) (watched_by watches.old) trail.old.entries marks.old }
     ensures watched { AreWatched map.new watches.new }
     ensures rearranged { IsRearranged (literals_at given.now) (watched_by watches.old) (watched_by watches.new) }
@@ -125,7 +126,7 @@ fn saturate_from<N: Copy, A: Allocator + Copy>(
 ) -> Result<Option<ClauseId>, StoreError>
     requires watched { AreWatched map.old watches.old }
     requires own { WatchOwn (literals_at given.now) (watched_by watches.old) }
-    requires few { length given.now.clauses.now ≤ 2 ^ 32 - 1 }
+    requires unwatched { AreUnwatched (watched_by watches.old) (length given.now.clauses.now) given.now.unwatched.now }
     requires from { IsMark (literals_at given.now) (watched_by watches.old) trail.old.entries from.now }
     ensures watched { AreWatched map.new watches.new }
     ensures rearranged { IsRearranged (literals_at given.now) (watched_by watches.old) (watched_by watches.new) }
@@ -137,6 +138,7 @@ fn saturate_from<N: Copy, A: Allocator + Copy>(
         (IsConflict (literals_at given.now) (length given.now.clauses.now) (val trail.new.entries))) }
     ensures memory { IfErr result (λ e. e ≡ OutOfMemory) }
 {
+    let first = count_before(given, from.clauses);
     let mut place = from.place;
     'rounds: loop {
         let conflict = propagate(given, map, watches, trail, place)?;
@@ -144,7 +146,7 @@ fn saturate_from<N: Copy, A: Allocator + Copy>(
             return Ok(conflict);
         }
         place = trail.assignments().len();
-        let conflict = visit_all_unwatched(given, watches, trail, from.clauses)?;
+        let conflict = visit_all_unwatched(given, trail, first)?;
         if conflict.is_some() {
             return Ok(conflict);
         }

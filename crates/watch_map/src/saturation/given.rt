@@ -12,6 +12,8 @@ use typed_ids::{ClauseId, DenseIndex, DisjunctionId, LearntClauseId, VariableId}
 #[derive(Drop)]
 pub(crate) struct Given<'a, N: Copy, A: Allocator + Copy> {
     pub(crate) clauses: &'a [Clause<N>],
+    /// Those that watch nothing, ascending.
+    pub(crate) unwatched: &'a [ClauseId],
     pub(crate) learnt: &'a Arena<LearntClauseId, Vec<Literal, A>, A>,
     /// The candidates of each loaded requirement.
     pub(crate) lists: &'a RequirementMap<Vec<Vec<VariableId, A>, A>, A>,

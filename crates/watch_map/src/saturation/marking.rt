@@ -1,14 +1,15 @@
 //! The mark at a saturation's end.
-ghost use Rattle.std.specs.Prelude.{◌≡◌, ℕ, ◌-◌, ◌≤◌, ◌^◌, length, take};
+ghost use Rattle.std.specs.Prelude.{ℕ, ◌≤◌, length, take};
 ghost use Rattle.decisions.specs.Trail.{val, level_of};
 ghost use Rattle.watch_map.specs.WatchLists.{watched_by};
 ghost use Rattle.watch_map.specs.WatchInvariant.{AreMet};
 ghost use Rattle.watch_map.specs.Visits.{literals_at};
+ghost use Rattle.watch_map.specs.Watching.{AreUnwatched};
 ghost use Rattle.watch_map.specs.Marks.{IsMark, IsBehind};
 
 use crate::marks::Mark;
 use crate::saturation::given::Given;
-use crate::saturation::unwatched::count_true;
+use crate::saturation::unwatched::{bound_of_true, count_before};
 use crate::watched_literals::WatchedLiterals;
 use decisions::DecisionTracker;
 use std::alloc::Allocator;
@@ -21,15 +22,16 @@ pub(crate) fn mark_at_end<N: Copy, A: Allocator + Copy>(
     trail: &DecisionTracker<A>,
     from: &Mark,
 ) -> Mark
-    requires few { length given.now.clauses.now ≤ 2 ^ 32 - 1 }
+    requires unwatched { AreUnwatched (watched_by watches.now) (length given.now.clauses.now) given.now.unwatched.now }
     requires from { IsMark (literals_at given.now) (watched_by watches.now) trail.now.entries from.now }
     requires met { AreMet (val trail.now.entries) (val trail.now.entries) (watched_by watches.now) }
     ensures mark { IsMark (literals_at given.now) (watched_by watches.now) trail.now.entries result }
     ensures behind { IsBehind from.now result }
 {
+    let first = count_before(given, from.clauses);
     Mark {
         place: trail.assignments().len(),
-        clauses: count_true(given, watches, trail.map(), from.clauses),
+        clauses: bound_of_true(given, trail.map(), first),
         level: highest_level(trail, from),
     }
 }

@@ -1,21 +1,20 @@
 //! The clauses that watch nothing: each visit reads all of their literals.
-ghost use Rattle.std.specs.Prelude.{◌≡◌, ◌<◌, ◌≤◌, ◌-◌, ◌^◌, ◌&&◌, true, false, [], not, length, MatchOption, IfOk};
-ghost use Rattle.std.specs.Prelude.{IfErr};
+ghost use Rattle.std.specs.Prelude.{◌≡◌, ◌<◌, ◌≤◌, ◌&&◌, true, false, not, length, take, MatchOption, IfOk, IfErr};
+ghost use Rattle.std.specs.Prelude.{All};
+ghost use Rattle.std.specs.List.{AllPairs};
 ghost use Rattle.typed_ids.specs.declared.error.StoreError.TheVariants.{OutOfMemory};
 ghost use Rattle.decisions.specs.Decisions.{values_in};
 ghost use Rattle.decisions.specs.Literals.{is_false_literal};
 ghost use Rattle.decisions.specs.Trail.{val};
 ghost use Rattle.clauses.specs.Clauses.{literals_of, same_literal};
 ghost use Rattle.clauses.specs.Stored.{kept_in};
-ghost use Rattle.watch_map.specs.WatchLists.{watched_by};
 ghost use Rattle.watch_map.specs.Forcing.{is_false, IsSettled, IsConflict};
 ghost use Rattle.watch_map.specs.Saturation.{HasForced};
 ghost use Rattle.watch_map.specs.WatchInvariant.{is_true};
-ghost use Rattle.watch_map.specs.Visits.{literals_at, IsFinding, AreUnwatchedSettled, AreUnwatchedTrue};
+ghost use Rattle.watch_map.specs.Visits.{literals_at, IsFinding, AreAllSettled, AreAllTrue};
 
 use crate::saturation::given::{Given, clause_at};
 use crate::saturation::visit::{force, is_false, is_true};
-use crate::watched_literals::WatchedLiterals;
 use clauses::Clause;
 use decisions::{DecisionMap, DecisionTracker, Literal};
 use std::alloc::Allocator;
@@ -31,68 +30,77 @@ pub(crate) enum Finding {
     Conflict,
 }
 
-/// Visits each clause that watches nothing, from this bound of ids on: below it they are true. Answers one that is
-/// false, if it meets one; else all are settled where no entry was added.
+/// How many of the clauses that watch nothing come before this bound of ids. Looks at those behind it.
+pub(crate) fn count_before<N: Copy, A: Allocator + Copy>(given: &Given<N, A>, bound: usize) -> usize
+    requires { AllPairs (λ c d. c < d) given.now.unwatched.now }
+    ensures { All (λ c. c < bound) (take result given.now.unwatched.now) }
+{
+    let mut count = given.unwatched.len();
+    while count > 0 {
+        if given.unwatched[count - 1].to_index() < bound {
+            return count;
+        }
+        count -= 1;
+    }
+    0
+}
+
+/// Visits each clause that watches nothing, but for the first so many, which are true. Answers one that is false, if it
+/// meets one; else all are settled where no entry was added.
 pub(crate) fn visit_all_unwatched<N: Copy, A: Allocator + Copy>(
     given: &Given<N, A>,
-    watches: &[Option<WatchedLiterals>],
     trail: &mut DecisionTracker<A>,
-    from: usize,
+    first: usize,
 ) -> Result<Option<ClauseId>, StoreError>
-    requires few { length given.now.clauses.now ≤ 2 ^ 32 - 1 }
-    requires from { AreUnwatchedTrue (literals_at given.now) (watched_by watches.now) from (val trail.old.entries) }
+    requires there { All (λ c. c < length given.now.clauses.now) given.now.unwatched.now }
+    requires first { AreAllTrue (literals_at given.now) (take first given.now.unwatched.now) (val trail.old.entries) }
     ensures forced { HasForced (literals_at given.now) given.now.level trail.old trail.new }
     ensures ok { IfOk result (λ conflict. MatchOption conflict
-        (length trail.new.entries ≡ length trail.old.entries → AreUnwatchedSettled (literals_at given.now)
-        (watched_by watches.now) (length given.now.clauses.now) (val trail.new.entries))
+        (length trail.new.entries ≡ length trail.old.entries
+        → AreAllSettled (literals_at given.now) given.now.unwatched.now (val trail.new.entries))
         (IsConflict (literals_at given.now) (length given.now.clauses.now) (val trail.new.entries))) }
     ensures memory { IfErr result (λ e. e ≡ OutOfMemory) }
 {
-    for index in from..given.clauses.len() {
-        if !is_watching(watches, index) {
-            let id = ClauseId::from_index(index);
-            if visit_unwatched(given, id, trail)? {
-                return Ok(Some(id));
-            }
+    for index in first..given.unwatched.len() {
+        let id = given.unwatched[index];
+        if visit_unwatched(given, id, trail)? {
+            return Ok(Some(id));
         }
     }
     Ok(None)
 }
 
-/// A bound of ids: each clause below it that watches nothing is true. It is no lower than this one, which is such a
-/// bound.
-pub(crate) fn count_true<N: Copy, A: Allocator + Copy>(
+/// A bound of ids: each clause below it that watches nothing is true. The first so many are.
+pub(crate) fn bound_of_true<N: Copy, A: Allocator + Copy>(
     given: &Given<N, A>,
-    watches: &[Option<WatchedLiterals>],
     map: &DecisionMap<A>,
-    from: usize,
+    first: usize,
 ) -> usize
-    requires few { length given.now.clauses.now ≤ 2 ^ 32 - 1 }
-    requires from { AreUnwatchedTrue (literals_at given.now) (watched_by watches.now) from (values_in map.now) }
-    ensures { AreUnwatchedTrue (literals_at given.now) (watched_by watches.now) result (values_in map.now) }
+    requires there { All (λ c. c < length given.now.clauses.now) given.now.unwatched.now }
+    requires ascending { AllPairs (λ c d. c < d) given.now.unwatched.now }
+    requires first { AreAllTrue (literals_at given.now) (take first given.now.unwatched.now) (values_in map.now) }
+    ensures within { result ≤ length given.now.clauses.now }
+    ensures below { All (λ c. c < result → is_true (values_in map.now) (literals_at given.now c) ≡ true)
+        given.now.unwatched.now }
 {
-    let mut bound = from;
-    while bound < given.clauses.len() && is_watching_or_true(given, watches, map, bound) {
-        bound += 1;
+    for place in first..given.unwatched.len() {
+        let id = given.unwatched[place];
+        if !is_clause_true(given, id, map) {
+            return id.to_index();
+        }
     }
-    bound
+    given.clauses.len()
 }
 
-/// Whether the clause of this index watches something, or is true.
-fn is_watching_or_true<N: Copy, A: Allocator + Copy>(
+/// Whether the clause is true.
+fn is_clause_true<N: Copy, A: Allocator + Copy>(
     given: &Given<N, A>,
-    watches: &[Option<WatchedLiterals>],
+    id: ClauseId,
     map: &DecisionMap<A>,
-    index: usize,
 ) -> bool
-    requires { index < 2 ^ 32 - 1 }
-    ensures { result ≡ true → watched_by watches.now index ≡ []
-        → is_true (values_in map.now) (literals_at given.now index) ≡ true }
+    ensures { result ≡ is_true (values_in map.now) (literals_at given.now id) }
 {
-    if is_watching(watches, index) {
-        return true;
-    }
-    let Some(clause) = clause_at(given, ClauseId::from_index(index)) else {
+    let Some(clause) = clause_at(given, id) else {
         return false;
     };
     let found = clause.find_literal(
@@ -102,16 +110,6 @@ fn is_watching_or_true<N: Copy, A: Allocator + Copy>(
         |literal| is_true(map, literal),
     );
     found.is_some()
-}
-
-/// Whether the clause of this index watches something.
-fn is_watching(watches: &[Option<WatchedLiterals>], index: usize) -> bool
-    ensures { result ≡ true → 0 < length (watched_by watches.now index) }
-{
-    match watches.get(index) {
-        Some(Some(watched)) => !watched.watched_literals.as_slice().is_empty(),
-        _ => false,
-    }
 }
 
 /// Visits a clause that watches nothing: adds an entry for what it forces. Answers whether it is false.

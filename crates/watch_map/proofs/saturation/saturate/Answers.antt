@@ -8,6 +8,7 @@ use Rattle.watch_map.specs.Marks.{IsMark, IsBehind}
 use Rattle.watch_map.specs.declared.marks.Mark.{Mark}
 use Rattle.watch_map.proofs.MarkLaws.{newest_is_mark, mark_saturated, marks_saturated, marks_remembered}
 use Rattle.watch_map.proofs.RoundLaws.{none_case, some_case}
+use Rattle.watch_map.proofs.UnwatchedLaws.{unwatched_alike}
 use Rattle.watch_map.proofs.saturation.saturate.Goals as goal
 
 pub saturate_from-requires-clause-from : goal.saturate_from-requires-clause-from
@@ -60,6 +61,13 @@ mark_at_end-requires-clause-met g c =
     (none_case (AreSettled literals clauses now × AreMet now now (watched_by call.new.watches))
     (IsConflict literals clauses now) c.in_ok-conflict.conflict c.in_ok-conflict.ensures.ok
     (sym c.is_some.ensures ∙ c.if-is_some.false)).1
+
+pub mark_at_end-requires-clause-unwatched : goal.mark_at_end-requires-clause-unwatched
+mark_at_end-requires-clause-unwatched g c =
+    let given = c.args.given.now in
+    unwatched_alike (watched_by c.args.watches.now) (watched_by c.saturate_from.new.watches)
+    (length given.clauses.now) given.unwatched.now (λ d h. c.saturate_from.ensures.rearranged.as_many d)
+    c.requires.unwatched
 
 pub push-requires : goal.push-requires
 push-requires g c = subst (λ (m : Mark). IsBehind m c.mark_at_end.result) c.newest-from.ensures c.mark_at_end.ensures.behind

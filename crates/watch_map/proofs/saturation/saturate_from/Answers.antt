@@ -3,11 +3,12 @@ use Rattle.decisions.specs.Trail.{Entry, val}
 use Rattle.watch_map.specs.WatchLists.{watched_by}
 use Rattle.watch_map.specs.Forcing.{IsConflict}
 use Rattle.watch_map.specs.WatchInvariant.{AreMet, val_before}
-use Rattle.watch_map.specs.Visits.{literals_at, AreUnwatchedSettled}
+use Rattle.watch_map.specs.Visits.{literals_at, AreAllSettled}
 use Rattle.watch_map.proofs.GivenLaws.{given_within}
 use Rattle.watch_map.proofs.ForcingLaws.{forced_none, forced_then, forced_longer, forced_same}
 use Rattle.watch_map.proofs.MarkLaws.{mark_begins, mark_unwatched, mark_saturated}
 use Rattle.watch_map.proofs.RoundLaws.{none_case, rearranged_then, keeps_then, place_kept, all_settled, as_many_decisions, round_smaller}
+use Rattle.watch_map.proofs.UnwatchedLaws.{unwatched_alike, settled_if_listed, first_are_true}
 use Rattle.watch_map.proofs.saturation.saturate_from.Goals as goal
 
 pub returns-in_err-conflict-clause-forced : goal.returns-in_err-conflict-clause-forced
@@ -62,10 +63,16 @@ returns-then-assignments-place-clause-ok g c =
     none_case (AreMet (val b.entries) (val b.entries) watched)
     (IsConflict literals clauses (val b.entries)) c.in_ok-conflict.conflict c.in_ok-conflict.ensures.ok
     (sym c.is_some.ensures ∙ c.if-is_some.false) in
-    let unwatched : AreUnwatchedSettled literals watched clauses (val d.entries) =
-    none_case (length d.entries ≡ length b.entries → AreUnwatchedSettled literals watched clauses (val d.entries))
+    let ids = c.args.given.now.unwatched.now in
+    let listed : AreAllSettled literals ids (val d.entries) =
+    none_case (length d.entries ≡ length b.entries → AreAllSettled literals ids (val d.entries))
     (IsConflict literals clauses (val d.entries)) c.in_ok-conflict-2.conflict c.in_ok-conflict-2.ensures.ok
     (sym c.is_some-in-rounds.ensures ∙ c.if-is_some-2.false) alike in
+    let rearranged = rearranged_then literals (watched_by c.args.watches.now) (watched_by c.rounds.watches) watched
+    c.rounds.invariant.rearranged c.propagate.ensures.rearranged in
+    let unwatched = settled_if_listed literals watched clauses ids (val d.entries)
+    (unwatched_alike (watched_by c.args.watches.now) watched clauses ids (λ x h. rearranged.as_many x)
+    c.requires.unwatched) listed in
     let met_now = subst (λ (es : List Entry). AreMet (val es) (val es) watched) (sym same) met in (
       all_settled literals watched clauses (val d.entries)
           (λ x. c.propagate.ensures.watched.exact.two x) c.propagate.ensures.rearranged.own met_now unwatched,
@@ -117,21 +124,34 @@ rounds-init g c =
       kept = λ before seen ex ex_seen met. met;
     }
 
+pub count_before-first-requires : goal.count_before-first-requires
+count_before-first-requires g c = c.requires.unwatched.ascending
+
+pub visit_all_unwatched-requires-clause-there : goal.visit_all_unwatched-requires-clause-there
+visit_all_unwatched-requires-clause-there g c = c.requires.unwatched.within
+
 -- the clauses below the mark's bound that watch nothing are true still
-pub visit_all_unwatched-requires-clause-from : goal.visit_all_unwatched-requires-clause-from
-visit_all_unwatched-requires-clause-from g c =
-    let literals = literals_at c.args.given.now in
-    let level = c.args.given.now.level in
+pub visit_all_unwatched-requires-clause-first : goal.visit_all_unwatched-requires-clause-first
+visit_all_unwatched-requires-clause-first g c =
+    let given = c.args.given.now in
+    let literals = literals_at given in
+    let level = given.level in
+    let watched = watched_by c.propagate.new.watches in
+    let ids = given.unwatched.now in
     let a = c.args.trail.now in
     let b = c.propagate.new.trail in
     let forced = forced_then literals level a c.rounds.trail b c.rounds.invariant.forced c.propagate.ensures.forced in
     let rearranged = rearranged_then literals (watched_by c.args.watches.now) (watched_by c.rounds.watches)
-    (watched_by c.propagate.new.watches) c.rounds.invariant.rearranged c.propagate.ensures.rearranged in
-    mark_unwatched literals (watched_by c.propagate.new.watches) b.entries c.args.from.now
-    (mark_saturated literals (watched_by c.args.watches.now) (watched_by c.propagate.new.watches) level a b forced
+    watched c.rounds.invariant.rearranged c.propagate.ensures.rearranged in
+    let below = mark_unwatched literals watched b.entries c.args.from.now
+    (mark_saturated literals (watched_by c.args.watches.now) watched level a b forced
     (keeps_then literals level a c.rounds.trail (watched_by c.args.watches.now) (watched_by c.rounds.watches)
-    (watched_by c.propagate.new.watches) c.rounds.invariant.forced c.rounds.invariant.kept c.propagate.ensures.kept)
-    rearranged.as_many c.args.from.now c.requires.from)
+    watched c.rounds.invariant.forced c.rounds.invariant.kept c.propagate.ensures.kept)
+    rearranged.as_many c.args.from.now c.requires.from) in
+    first_are_true literals watched (length given.clauses.now) ids (val b.entries)
+    (unwatched_alike (watched_by c.args.watches.now) watched (length given.clauses.now) ids
+    (λ x h. rearranged.as_many x) c.requires.unwatched)
+    c.args.from.now.clauses c.count_before-first.result below c.count_before-first.ensures
 
 pub rounds-smaller : goal.rounds-smaller
 rounds-smaller g c =

@@ -2,11 +2,12 @@ use Rattle.std.proofs.lemmas.Grind.{common_steps}
 use Rattle.std.proofs.Common.{◌≡◌, sym, subst, map, List, length, arith}
 use Rattle.std.specs.Prelude.{OnOk, OnErr, IsTrue}
 use Rattle.decisions.specs.Literals.{Lit}
-use Rattle.watch_map.specs.WatchLists.{AreWatched}
+use Rattle.watch_map.specs.WatchLists.{AreWatched, AreUnwatchedBelow}
 use Rattle.watch_map.specs.WatchCalls.{SameLists}
 use Rattle.watch_map.specs.ClauseList.{IsClauseList, Kept, contents, with_rewatched}
 use Rattle.watch_map.specs.Walks.{IsRewatched, may_rewatch}
 use Rattle.watch_map.proofs.ListLaws.{contents_of, after_rewatch, ok_rewatch, err_rewatch, whole}
+use Rattle.watch_map.proofs.UnwatchedLaws.{below_rewatched}
 use Rattle.watch_map.proofs.clause_list.ClauseList.rewatch.Goals as goal
 
 pub invariant_of-self : goal.invariant_of-self
@@ -20,9 +21,16 @@ invariant_of-self g c =
     let ok = subst (λ rs. OnOk c.rewatch.result (IsRewatched inside.map rs c.args.id c.args.from c.args.to new ws'))
     c.as_mut_slice.ensures.value c.rewatch.ensures.ok in
     let err = subst (λ rs. OnErr c.rewatch.result (SameLists inside.map new × (ws' ≡ rs))) c.as_mut_slice.ensures.value c.rewatch.ensures.err in
-    subst (λ rs. IsClauseList (contents_of inside.clauses.items rs learnt new) × AreWatched new rs) (sym all)
-    (after_rewatch c.rewatch.result inside.clauses.items learnt ws ws' inside.map new c.args.id c.args.from c.args.to
-    c.self.invariant.1 c.self.invariant.0 ok err)
+    let unwatched = inside.unwatched in
+    let after = after_rewatch c.rewatch.result inside.clauses.items learnt ws ws' inside.map new c.args.id c.args.from
+    c.args.to c.self.invariant.1 c.self.invariant.0 ok err in
+    subst (λ rs. IsClauseList (contents_of inside.clauses.items rs learnt new) ×
+    AreWatched new rs × AreUnwatchedBelow rs unwatched.bound unwatched.ids.items) (sym all) (
+      after.0,
+      after.1,
+      below_rewatched unwatched.bound unwatched.ids.items c.rewatch.result inside.map new ws ws' c.args.id c.args.from
+          c.args.to ok err c.self.invariant.2,
+    )
 
 pub returns-clause-ok : goal.returns-clause-ok
 returns-clause-ok g c =

@@ -1,14 +1,11 @@
-use Rattle.std.proofs.Common.{◌≡◌, ◌+◌, ℕ, length, sym, subst}
-use Rattle.decisions.specs.Trail.{Trail, val}
-use Rattle.watch_map.specs.WatchLists.{watched_by}
+use Rattle.std.proofs.Common.{take, take_all, sym, subst, arith}
+use Rattle.decisions.specs.Trail.{val}
 use Rattle.watch_map.specs.Forcing.{IsSettled}
-use Rattle.watch_map.specs.Saturation.{HasForced}
-use Rattle.watch_map.specs.Visits.{literals_at, AreUnwatchedSettled}
+use Rattle.watch_map.specs.Visits.{literals_at, AreAllSettled}
 use Rattle.watch_map.proofs.ForcingLaws.{forced_none, forced_then}
-use Rattle.watch_map.proofs.MarkLaws.{unwatched_settled}
-use Rattle.watch_map.proofs.RoundLaws.{unwatched_more, watches_none}
+use Rattle.watch_map.proofs.UnwatchedLaws.{true_are_settled}
+use Rattle.watch_map.proofs.RoundLaws.{one_more_visited}
 use Rattle.watch_map.proofs.saturation.unwatched.visit_all_unwatched.Goals as goal
-use Rattle.watch_map.proofs.saturation.unwatched.visit_all_unwatched.Goals.{then-not-is_watching+in_ok-visit_unwatched+else-branch, else-not-is_watching}
 
 pub returns-in_err-visit_unwatched-clause-forced : goal.returns-in_err-visit_unwatched-clause-forced
 returns-in_err-visit_unwatched-clause-forced g c =
@@ -22,43 +19,35 @@ returns-then-branch-clause-forced g c =
 
 pub loop-index-init : goal.loop-index-init
 loop-index-init g c =
-    let literals = literals_at c.args.given.now in
-    let watched = watched_by c.args.watches.now in
-    let now = val c.args.trail.now.entries in
+    let given = c.args.given.now in
+    let literals = literals_at given in
     record {
-      forced = forced_none literals c.args.given.now.level c.args.trail.now;
-      settled = λ same. unwatched_settled literals watched c.args.from now c.requires.from;
+      forced = forced_none literals given.level c.args.trail.now;
+      settled = λ same. true_are_settled literals (take c.args.first given.unwatched.now) (val c.args.trail.now.entries)
+          c.requires.first;
     }
 
 pub loop-index-preserved : goal.loop-index-preserved
 loop-index-preserved g c =
-    let literals = literals_at c.args.given.now in
-    let watched = watched_by c.args.watches.now in
-    let level = c.args.given.now.level in
+    let given = c.args.given.now in
+    let literals = literals_at given in
     let start = c.args.trail.now in
     let old = c.loop-index.trail in
-    let index = c.loop-index.index in
+    let new = c.visit_unwatched.new.trail in
     let inv = c.loop-index.invariant in
-    elim c.if-not-is_watching.branch [
-      | then-not-is_watching+in_ok-visit_unwatched+else-branch w ↦
-          (let new = w.visit_unwatched.new.trail in
-          let one = w.visit_unwatched.ensures.forced in
-          record {
-            forced = subst (λ (x : Trail). HasForced literals level start x) (sym w.trail-is)
-                (forced_then literals level start old new inv.forced one);
-            settled = subst (λ (x : Trail). length x.entries ≡ length start.entries
-                → AreUnwatchedSettled literals watched (index + 1) (val x.entries)) (sym w.trail-is)
-                (unwatched_more literals watched level start old new index inv.forced inv.settled one
-                (λ alike none. subst (λ (x : ℕ). IsSettled (val new.entries) (literals x)) w.from_index-id.ensures
-                (w.in_ok-visit_unwatched.ensures.settled w.if-branch.false alike)));
-          })
-      | else-not-is_watching w ↦ record {
-        forced = subst (λ (x : Trail). HasForced literals level start x) (sym w.trail-is) inv.forced;
-        settled = subst (λ (x : Trail). length x.entries ≡ length start.entries
-            → AreUnwatchedSettled literals watched (index + 1) (val x.entries)) (sym w.trail-is)
-            (unwatched_more literals watched level start old old index inv.forced inv.settled
-            (forced_none literals level old)
-            (λ alike none. absurd (watches_none (watched index) none
-            (c.is_watching.ensures w.if-not-is_watching.false))));
-      }
-    ]
+    record {
+      forced = forced_then literals given.level start old new inv.forced c.visit_unwatched.ensures.forced;
+      settled = one_more_visited literals given.level start old new given.unwatched.now c.loop-index.index
+          c.index-given-index.result inv.forced inv.settled c.visit_unwatched.ensures.forced
+          (λ alike. subst (λ x. IsSettled (val new.entries) (literals x)) (sym c.index-given-index.is)
+          (c.in_ok-visit_unwatched.ensures.settled c.if-branch.false alike)) c.loop-index-test.true
+          c.index-given-index.is;
+    }
+
+pub returns-clause-ok : goal.returns-clause-ok
+returns-clause-ok g c same =
+    let given = c.args.given.now in
+    let now = val c.loop-index.trail.entries in
+    let ended = c.loop-index-test.false in
+    subst (λ xs. AreAllSettled (literals_at given) xs now)
+    (take_all c.loop-index.index given.unwatched.now (omega (arith, ended))) (c.loop-index.invariant.settled same)
