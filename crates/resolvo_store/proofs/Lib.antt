@@ -1,9 +1,11 @@
 pub mod AddingLemmas
 pub mod AskingLemmas
 pub mod CallerLaws
+pub mod CandidateLaws
 pub mod ForbiddingLaws
 pub mod HelperLemmas
 pub mod InvariantLemmas
+pub mod KeepingLaws
 pub mod KnownLemmas
 pub mod ListLemmas
 pub mod LiteralLaws

@@ -4,6 +4,7 @@ pub mod Command
 pub mod CommandLaws
 pub mod ForbidsTwo
 pub mod Helpers
+pub mod Keeping
 pub mod Lists
 pub mod LoadRefusals
 pub mod Models

@@ -144,6 +144,15 @@ module _ {N S : Type 0} where
       let next = added_next old new c reply step clause conflict is in
       omega (arith, next.0, next.1)
 
+  -- a clause that excludes a variable is there under its id, where it was added
+  pub excluded_there : (old new : Store N S) (v : ℕ) (reason : StringId) (clause : ℕ) (conflict : Bool)
+      → Step old (Exclude v reason) (ClauseIs clause conflict) new → slice_get new.clauses clause ≡ Some (Kind.Excluded v reason)
+  excluded_there old new v reason clause conflict step =
+      let answer = answered_by_outcome old new (Exclude v reason) (ClauseIs clause conflict) refl step (λ h. h) in
+      let id : clause ≡ length old.clauses = let same : ClauseIs clause conflict ≡ (adds_clause old (Kind.Excluded v reason)).reply = answer.0 in cc in
+      let clauses : new.clauses ≡ old.clauses ++ Kind.Excluded v reason ∷ [] = ap (λ (s : Store N S). s.clauses) answer.1 in
+      rw (clauses, id) (last_at old.clauses (Kind.Excluded v reason))
+
   -- the literals of a clause that excludes a variable, where it was added
   pub excluded_literals : (old new : Store N S) (v : ℕ) (reason : StringId) (clause : ℕ) (conflict : Bool)
       → Step old (Exclude v reason) (ClauseIs clause conflict) new

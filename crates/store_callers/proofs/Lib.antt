@@ -6,3 +6,4 @@ pub mod LoadLaws
 pub mod PlayLaws
 pub mod SaturatingLaws
 pub mod SaturationProofs
+pub mod StayingLaws

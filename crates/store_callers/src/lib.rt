@@ -10,6 +10,7 @@
 mod callers;
 mod clause_callers;
 mod computed;
+mod keeping_callers;
 mod law_callers;
 mod requirement_callers;
 mod searching;
@@ -17,6 +18,7 @@ mod searching;
 pub use callers::{decide, load_first, obey, undo_nothing, unknown};
 pub use clause_callers::{add, exclude, stands_for};
 pub use computed::{examples, play_is_run};
+pub use keeping_callers::{exclude_first, load_again};
 pub use law_callers::{
     obey_forbids_two, obey_watched, search_is_done, start_again, value_of_unknown,
 };
