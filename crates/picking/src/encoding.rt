@@ -1,4 +1,5 @@
 //! What a search tells the store before it runs: all that may be picked, and what each needs and forbids.
+use crate::reason::Reason;
 use crate::search::{Result, Search};
 use resolvo_clauses::{Literal, VariableOrigin};
 use resolvo_ids::{
@@ -10,11 +11,22 @@ use resolvo_pool::{
 };
 use resolvo_store::{Command, HelperOrigin, Reply};
 
+/// Who needs something: a variable, and its solvable where it isn't the root.
+#[derive(Clone, Copy)]
+struct Parent<S> {
+    variable: VariableId,
+    solvable: Option<S>,
+}
+
 impl<D: DependencyProvider + Drop> Search<D> {
     /// Says what is wanted, which the root requires, and what all candidates need. What that loads comes last, so that
     /// each variable of the store is met here.
     pub(crate) fn encode_all(&mut self, wanted: &[ConditionalRequirement]) -> Result<()> {
-        self.require_all(VariableId::root(), wanted)?;
+        let root = Parent {
+            variable: VariableId::root(),
+            solvable: None,
+        };
+        self.require_all(root, wanted)?;
         for index in 0..(1 << 31) - 1 {
             let variable = VariableId::from_index(index);
             match self.store.origin(variable) {
@@ -34,10 +46,16 @@ impl<D: DependencyProvider + Drop> Search<D> {
         self.leave_out(variable, solvable, name)?;
         match needs {
             Dependencies::Known(needs) => {
-                self.require_all(variable, &needs.requirements)?;
-                self.constrain_all(variable, &needs.constrains)
+                let parent = Parent {
+                    variable,
+                    solvable: Some(solvable),
+                };
+                self.require_all(parent, &needs.requirements)?;
+                self.constrain_all(variable, solvable, &needs.constrains)
             }
-            Dependencies::Unknown(reason) => self.exclude(variable, reason),
+            Dependencies::Unknown(reason) => {
+                self.exclude(variable, reason, Reason::Unknown(solvable, reason))
+            }
         }
     }
 
@@ -63,7 +81,7 @@ impl<D: DependencyProvider + Drop> Search<D> {
         };
         for (excluded, reason) in &found.excluded {
             if *excluded == solvable {
-                self.exclude(variable, *reason)?;
+                self.exclude(variable, *reason, Reason::Excluded(solvable, *reason))?;
             }
         }
         match found.locked {
@@ -73,21 +91,27 @@ impl<D: DependencyProvider + Drop> Search<D> {
     }
 
     /// Makes a variable false at level 1, for a reason.
-    fn exclude(&mut self, variable: VariableId, reason: StringId) -> Result<()> {
-        match self.obey(Command::Exclude(variable, reason))? {
-            Reply::Clause(clause, _) => self.rule_out(variable, clause),
-            _ => Ok(()),
+    fn exclude(
+        &mut self,
+        variable: VariableId,
+        string: StringId,
+        reason: Reason<D::NameId, D::SolvableId>,
+    ) -> Result<()> {
+        match self.tell_for(Command::Exclude(variable, string), reason)? {
+            Some(clause) => self.rule_out(variable, clause),
+            None => Ok(()),
         }
     }
 
     /// Makes a variable false at level 1, since its package is locked to another solvable.
     fn lock(&mut self, locked: D::SolvableId, variable: VariableId) -> Result<()> {
-        if let Reply::Variable(locked) = self.obey(Command::Variable(locked))? {
-            if let Reply::Clause(clause, _) = self.obey(Command::Lock(locked, variable))? {
-                return self.rule_out(variable, clause);
-            }
+        let Reply::Variable(first) = self.obey(Command::Variable(locked))? else {
+            return Ok(());
+        };
+        match self.tell_for(Command::Lock(first, variable), Reason::Locked(locked))? {
+            Some(clause) => self.rule_out(variable, clause),
+            None => Ok(()),
         }
-        Ok(())
     }
 
     /// Makes a variable false by a clause, at level 1.
@@ -95,7 +119,11 @@ impl<D: DependencyProvider + Drop> Search<D> {
         self.assign(Literal::new(variable, true), clause)
     }
 
-    fn require_all(&mut self, parent: VariableId, wanted: &[ConditionalRequirement]) -> Result<()> {
+    fn require_all(
+        &mut self,
+        parent: Parent<D::SolvableId>,
+        wanted: &[ConditionalRequirement],
+    ) -> Result<()> {
         for wanted in wanted {
             self.require(parent, *wanted)?;
         }
@@ -103,18 +131,41 @@ impl<D: DependencyProvider + Drop> Search<D> {
     }
 
     /// Says that the parent, if true, requires a candidate; under a condition once for each list of its normal form.
-    fn require(&mut self, parent: VariableId, wanted: ConditionalRequirement) -> Result<()> {
-        self.tell(Command::Load(wanted.requirement))?;
+    fn require(
+        &mut self,
+        parent: Parent<D::SolvableId>,
+        wanted: ConditionalRequirement,
+    ) -> Result<()> {
+        let reason = if self.load(wanted.requirement)? {
+            Reason::Needs(parent.solvable, wanted)
+        } else {
+            Reason::Lacks(parent.solvable, wanted)
+        };
+        let (variable, requirement) = (parent.variable, wanted.requirement);
         let Some(condition) = wanted.condition else {
-            return self.tell(Command::Requires(parent, wanted.requirement, None));
+            self.tell_for(Command::Requires(variable, requirement, None), reason)?;
+            return Ok(());
         };
         for list in &self.lists_of(condition)? {
             let unless = self.unless(list)?;
             if let Reply::Disjunction(id) = self.obey(Command::Disjunction(unless, condition))? {
-                self.tell(Command::Requires(parent, wanted.requirement, Some(id)))?;
+                self.tell_for(Command::Requires(variable, requirement, Some(id)), reason)?;
             }
         }
         Ok(())
+    }
+
+    /// Loads a requirement, and answers whether it has a candidate.
+    fn load(&mut self, requirement: Requirement) -> Result<bool> {
+        let Reply::Loaded(lists) = self.obey(Command::Load(requirement))? else {
+            return Err(StoreError::NotLoaded);
+        };
+        for list in &lists {
+            if !list.is_empty() {
+                return Ok(true);
+            }
+        }
+        Ok(false)
     }
 
     /// The normal form of a condition: it holds where all version sets of one list do.
@@ -161,27 +212,48 @@ impl<D: DependencyProvider + Drop> Search<D> {
         Ok(gate)
     }
 
-    fn constrain_all(&mut self, parent: VariableId, sets: &[VersionSetId]) -> Result<()> {
+    fn constrain_all(
+        &mut self,
+        variable: VariableId,
+        solvable: D::SolvableId,
+        sets: &[VersionSetId],
+    ) -> Result<()> {
         for set in sets {
-            self.constrain(parent, *set)?;
+            self.constrain(variable, *set, Reason::Limits(solvable, *set))?;
         }
         Ok(())
     }
 
     /// Says that the parent, if true, forbids the candidates that the version set doesn't hold. A parent that is one of
     /// them is false at level 1: its clause has one literal twice, and a clause watches two literals or none.
-    fn constrain(&mut self, parent: VariableId, set: VersionSetId) -> Result<()> {
+    fn constrain(
+        &mut self,
+        parent: VariableId,
+        set: VersionSetId,
+        reason: Reason<D::NameId, D::SolvableId>,
+    ) -> Result<()> {
         for outside in &self.outside(set)? {
             if let Reply::Variable(outside) = self.obey(Command::Variable(*outside))? {
-                match self.obey(Command::Constrains(parent, outside, set))? {
-                    Reply::Clause(clause, _) if outside == parent => {
-                        self.rule_out(parent, clause)?;
-                    }
+                match self.tell_for(Command::Constrains(parent, outside, set), reason)? {
+                    Some(clause) if outside == parent => self.rule_out(parent, clause)?,
                     _ => {}
                 }
             }
         }
         Ok(())
+    }
+
+    /// Obeys a command that adds a clause, and keeps what the clause says.
+    fn tell_for(
+        &mut self,
+        command: Command<D::NameId, D::SolvableId, D::Alloc>,
+        reason: Reason<D::NameId, D::SolvableId>,
+    ) -> Result<Option<ClauseId>> {
+        let Reply::Clause(clause, _) = self.obey(command)? else {
+            return Ok(None);
+        };
+        self.told.insert(clause, reason)?;
+        Ok(Some(clause))
     }
 
     /// The candidates that a version set doesn't hold.

@@ -1,21 +1,25 @@
 //! The search, and the check of what it found.
 ghost use Rattle.std.specs.Prelude.{IfOk};
-ghost use Rattle.picking.specs.Answers.{IsSound};
+ghost use Rattle.picking.specs.Answers.{IsComplete, IsSound};
 
 use crate::lent::Lent;
+use crate::reason::Reason;
 use crate::search::{SearchEnd, search_for};
-use crate::serving::serves;
 use resolvo_ids::StoreError;
 use resolvo_pool::{ConditionalRequirement, DependencyProvider, Interner, ProviderFunctions};
+use serving::{refutes, serves};
 use std::alloc::Allocator;
 
 /// What comes of a search.
 #[derive(Debug, Drop)]
-pub enum Answer<S, A: Allocator> {
+pub enum Answer<N, S, A: Allocator> {
     /// These solvables serve.
     Picked(Vec<S, A>),
-    /// Nothing serves. No contract says so.
-    Unsolvable,
+    /// Nothing serves, for these reasons together. Of the reasons no contract speaks.
+    Unsolvable(Vec<Reason<N, S>, A>),
+    /// The search found nothing that serves, for these reasons together, which doesn't show that nothing does: what a
+    /// package excludes, or isn't locked to, may serve, and the search doesn't pick it.
+    Unshown(Vec<Reason<N, S>, A>),
     /// So many steps were too few.
     StepsUsed,
     /// What the search found doesn't serve, so the search is at fault. A right one never answers this.
@@ -28,8 +32,9 @@ pub fn pick<D: DependencyProvider>(
     provider: &D,
     wanted: &[ConditionalRequirement],
     steps: u64,
-) -> Result<Answer<D::SolvableId, D::Alloc>, StoreError>
+) -> Result<Answer<D::NameId, D::SolvableId, D::Alloc>, StoreError>
     ensures sound { IfOk result (IsSound (⟦<D as ProviderFunctions>⟧.functions provider.now) wanted.now) }
+    ensures complete { IfOk result (IsComplete (⟦<D as ProviderFunctions>⟧.functions provider.now) wanted.now) }
 {
     match search_for(alloc, Lent::new(provider), wanted, steps)? {
         SearchEnd::Picked(solvables) => {
@@ -39,7 +44,13 @@ pub fn pick<D: DependencyProvider>(
                 Ok(Answer::Refuted)
             }
         }
-        SearchEnd::Unsolvable => Ok(Answer::Unsolvable),
+        SearchEnd::Unsolvable(refutation) => {
+            if refutes(alloc, provider, wanted, &refutation.nogoods)? {
+                Ok(Answer::Unsolvable(refutation.reasons))
+            } else {
+                Ok(Answer::Unshown(refutation.reasons))
+            }
+        }
         SearchEnd::StepsUsed => Ok(Answer::StepsUsed),
     }
 }

@@ -2,19 +2,21 @@
 //!
 //! [`pick`] looks for versions of packages that serve whoever wants some requirements: each requirement has a picked
 //! candidate, each picked version's needs are given, nothing is picked that another one's constraints rule out, and at
-//! most one version of a package is picked. `specs/Serves` says so in the words of the provider alone.
+//! most one version of a package is picked. `serving`'s `specs/Serves` says so in the words of the provider alone.
 //!
-//! The search (`search`, and `encoding` for what it tells the store) owes nothing. What it found is checked once at the
-//! end by [`serves`] (`serving`, and `choice` for the questions about version sets), which looks at the provider and at
-//! what was picked, and at no store. `lent` makes a provider that a store can own of one that is borrowed.
+//! The search owes nothing (`search`; `encoding` for what it tells the store, `learning` for conflicts, `explaining` for
+//! why nothing serves, which it tells as a list of [`Reason`]s). What it answers is checked once at the end by the crate
+//! `serving`, which looks at the provider and at no store: what is picked by its `serves`, and that nothing serves by its
+//! `refutes`, which replays what the search learnt. `lent` makes a provider that a store can own of one that is lent.
 #![tactic(auto)]
 
-mod choice;
 mod encoding;
+mod explaining;
 mod finding;
+mod learning;
 mod lent;
+mod reason;
 mod search;
-mod serving;
 
 pub use finding::{Answer, pick};
-pub use serving::serves;
+pub use reason::Reason;

@@ -1,29 +1,43 @@
 //! A search over the clause store.
 //!
 //! It encodes all that may be picked (`encoding`); then it saturates and decides in turn. Where a clause is false it
-//! learns which choices can't stand together, and goes back to where all of them but the last one stand.
+//! learns which choices can't stand together (`learning`), and goes back to where all of them but the last one stand.
+//! Where nothing serves, it tells why (`explaining`).
+use crate::learning::Source;
+use crate::reason::Reason;
 use resolvo_clauses::{Decision, Literal};
-use resolvo_ids::{ClauseId, IndexedSet, Mapping, StoreError, VariableId, VersionSetId};
+use resolvo_ids::{ClauseId, Mapping, StoreError, VariableId, VersionSetId};
 use resolvo_pool::{ConditionalRequirement, DependencyProvider};
 use resolvo_store::{ClauseStore, Command, Reply};
 use std::alloc::Allocator;
+use std::mem;
 
 pub(crate) type Result<T> = std::result::Result<T, StoreError>;
 
 /// How a search ends.
 #[derive(Drop)]
-pub(crate) enum SearchEnd<S, A: Allocator> {
+pub(crate) enum SearchEnd<N, S, A: Allocator> {
     /// These solvables were found.
     Picked(Vec<S, A>),
     /// Nothing serves.
-    Unsolvable,
+    Unsolvable(Refutation<N, S, A>),
     /// So many steps were too few.
     StepsUsed,
 }
 
+/// That nothing serves.
+#[derive(Drop)]
+pub(crate) struct Refutation<N, S, A: Allocator> {
+    /// Solvables that can't all be picked, list after list: each follows by unit propagation from what was told the
+    /// store and from the lists before it. The last one is empty.
+    pub(crate) nogoods: Vec<Vec<S, A>, A>,
+    /// What the last one follows from in the end.
+    pub(crate) reasons: Vec<Reason<N, S>, A>,
+}
+
 /// What was chosen to be true at a level: at level 1 the root, and then candidates.
 #[derive(Clone, Copy)]
-struct Choice {
+pub(crate) struct Choice {
     variable: VariableId,
     /// How many assignments were made below its level.
     below: usize,
@@ -31,10 +45,10 @@ struct Choice {
 
 /// An assignment, with its level.
 #[derive(Clone, Copy)]
-struct Assigned {
-    decision: Decision,
-    level: usize,
-    is_choice: bool,
+pub(crate) struct Assigned {
+    pub(crate) decision: Decision,
+    pub(crate) level: usize,
+    pub(crate) is_choice: bool,
 }
 
 /// A search, which owns its store.
@@ -46,9 +60,17 @@ pub(crate) struct Search<D: DependencyProvider> {
     /// For each version set that a condition names the variable that is true where one of its candidates is.
     pub(crate) gates: Mapping<VersionSetId, VariableId, D::Alloc>,
     /// A choice for each level.
-    choices: Vec<Choice, D::Alloc>,
+    pub(crate) choices: Vec<Choice, D::Alloc>,
     /// The trail as it was read last, oldest first.
-    trail: Vec<Assigned, D::Alloc>,
+    pub(crate) trail: Vec<Assigned, D::Alloc>,
+    /// What clauses say.
+    pub(crate) told: Mapping<ClauseId, Reason<D::NameId, D::SolvableId>, D::Alloc>,
+    /// Solvables that can't all be picked, list after list as they were learnt.
+    pub(crate) nogoods: Vec<Vec<D::SolvableId, D::Alloc>, D::Alloc>,
+    /// What each learnt clause follows from.
+    pub(crate) derived: Mapping<ClauseId, Vec<Source, D::Alloc>, D::Alloc>,
+    /// What follows from the root alone, and so leaves no choice.
+    pub(crate) root_cause: Vec<Source, D::Alloc>,
     pub(crate) alloc: D::Alloc,
 }
 
@@ -58,13 +80,17 @@ pub(crate) fn search_for<D: DependencyProvider + Drop>(
     provider: D,
     wanted: &[ConditionalRequirement],
     steps: u64,
-) -> Result<SearchEnd<D::SolvableId, D::Alloc>> {
+) -> Result<SearchEnd<D::NameId, D::SolvableId, D::Alloc>> {
     let mut search = Search {
         store: ClauseStore::new(alloc, provider)?,
         candidates: Vec::new(alloc),
         gates: Mapping::new(alloc)?,
         choices: Vec::new(alloc),
         trail: Vec::new(alloc),
+        told: Mapping::new(alloc)?,
+        nogoods: Vec::new(alloc),
+        derived: Mapping::new(alloc)?,
+        root_cause: Vec::new(alloc),
         alloc,
     };
     let end = search.find(wanted, steps);
@@ -78,7 +104,7 @@ impl<D: DependencyProvider + Drop> Search<D> {
         &mut self,
         wanted: &[ConditionalRequirement],
         steps: u64,
-    ) -> Result<SearchEnd<D::SolvableId, D::Alloc>> {
+    ) -> Result<SearchEnd<D::NameId, D::SolvableId, D::Alloc>> {
         self.tell(Command::Root)?;
         self.choose(VariableId::root(), ClauseId::install_root())?;
         self.encode_all(wanted)?;
@@ -87,16 +113,23 @@ impl<D: DependencyProvider + Drop> Search<D> {
 
     /// A step makes what follows from the choices true, and then chooses, or learns which choices can't stand together;
     /// these don't come together again. So it ends, but perhaps after very many steps.
-    fn run(&mut self, steps: u64) -> Result<SearchEnd<D::SolvableId, D::Alloc>> {
+    fn run(&mut self, steps: u64) -> Result<SearchEnd<D::NameId, D::SolvableId, D::Alloc>> {
         for _ in 0..steps {
             if self.choices.is_empty() {
-                return Ok(SearchEnd::Unsolvable);
+                return Ok(SearchEnd::Unsolvable(self.refutation()?));
             }
             if !self.goes_on()? {
                 return Ok(SearchEnd::Picked(self.picked()?));
             }
         }
         Ok(SearchEnd::StepsUsed)
+    }
+
+    /// What was learnt, and why nothing serves.
+    fn refutation(&mut self) -> Result<Refutation<D::NameId, D::SolvableId, D::Alloc>> {
+        let reasons = self.reasons()?;
+        let nogoods = mem::replace(&mut self.nogoods, Vec::new(self.alloc));
+        Ok(Refutation { nogoods, reasons })
     }
 
     /// Makes a step, and answers whether one was left.
@@ -135,7 +168,7 @@ impl<D: DependencyProvider + Drop> Search<D> {
     }
 
     /// Reads what was assigned since it was read last, all of it at the level of the last choice.
-    fn read_trail(&mut self) -> Result<()> {
+    pub(crate) fn read_trail(&mut self) -> Result<()> {
         for _ in 0..u32::MAX {
             let Reply::Next(Some(decision)) = self.obey(Command::Unpropagated)? else {
                 break;
@@ -153,64 +186,8 @@ impl<D: DependencyProvider + Drop> Search<D> {
         Ok(())
     }
 
-    /// Learns from a false clause that the choices which it follows from can't stand together. Goes back to where all
-    /// of them but the last one stand, and makes that one false there. Where the root alone is to blame, no choice is
-    /// left.
-    fn learn(&mut self, conflict: ClauseId) -> Result<()> {
-        self.read_trail()?;
-        let blamed = self.blamed(conflict)?;
-        match blamed.as_slice() {
-            [] => self.choices.clear(),
-            [last] => {
-                self.go_back(1)?;
-                self.assign(Literal::new(last.decision.variable, true), conflict)?;
-            }
-            [last, next, ..] => {
-                self.go_back(next.level)?;
-                let mut literals = Vec::new(self.alloc);
-                for choice in &blamed {
-                    literals.push(Literal::new(choice.decision.variable, true))?;
-                }
-                if let Reply::Clause(learnt, _) = self.obey(Command::Learnt(literals))? {
-                    self.assign(Literal::new(last.decision.variable, true), learnt)?;
-                }
-            }
-        }
-        Ok(())
-    }
-
-    /// The choices above the root that a false clause follows from, the last one first. The trail is walked backwards,
-    /// since what an assignment follows from was assigned before it.
-    fn blamed(&self, conflict: ClauseId) -> Result<Vec<Assigned, D::Alloc>> {
-        let mut met = IndexedSet::new(self.alloc);
-        self.meet(&mut met, conflict)?;
-        let mut blamed = Vec::new(self.alloc);
-        for assigned in self.trail.iter().rev() {
-            if assigned.level < 2 {
-                break;
-            }
-            if !met.contains(assigned.decision.variable) {
-                continue;
-            }
-            if assigned.is_choice {
-                blamed.push(*assigned)?;
-            } else {
-                self.meet(&mut met, assigned.decision.derived_from)?;
-            }
-        }
-        Ok(blamed)
-    }
-
-    /// Adds the variables of a clause.
-    fn meet(&self, met: &mut IndexedSet<VariableId, D::Alloc>, clause: ClauseId) -> Result<()> {
-        for literal in self.store.literals(clause)?.iter().flatten() {
-            met.insert(literal.variable())?;
-        }
-        Ok(())
-    }
-
     /// Takes back what is above a level.
-    fn go_back(&mut self, level: usize) -> Result<()> {
+    pub(crate) fn go_back(&mut self, level: usize) -> Result<()> {
         if let Some(choice) = self.choices.get(level) {
             self.trail.truncate(choice.below);
         }

@@ -1,6 +1,8 @@
 -- What a small index answers.
-use Rattle.std.specs.Prelude.{◌≡◌, ℕ, ◌++◌, ◌==◌, Bool, true, ◌&&◌, All, nat_le, nat_lt, List, []}
+use Rattle.std.specs.Prelude.{◌≡◌, ℕ, ◌++◌, ◌==◌, Bool, true, ◌&&◌, All, nat_le, nat_lt, List, [], Option, None, Some}
 use Rattle.std.specs.Prelude.{length, slice_get, unwrap_or, option_map, filter, codes, decimal}
+use Rattle.std.specs.List.{sum_by}
+use Rattle.std.specs.declared.vec.Vec.{Vec}
 use Rattle.std.proofs.lemmas.List.Elements.{All-filter, filter_passes}
 use Rattle.resolvo_ids.specs.Types.VersionSetId.{VersionSetId}
 use Rattle.resolvo_pool.specs.Dependencies.{Needs, Known}
@@ -40,6 +42,19 @@ module _ {N : Type 0} (pool : Lists N VersionRange ℕ) where
   pub named_known : (name : ℕ) (solvables : List ℕ) →
       All (λ s. nat_lt s (length pool.solvables) ≡ true) (of_name name (here solvables))
   named_known name solvables = All-filter _ (λ s. nat_lt s (length pool.solvables) ≡ true) _ (filter_passes _ solvables)
+
+-- the versions in a list; none where there is no list
+abbrev pub versions_or_none : {A : Type 0} → Option (Vec ℕ A) → List ℕ
+versions_or_none None = []
+versions_or_none (Some list) = list.items
+
+-- the versions at a name's place
+abbrev pub versions_at : {A : Type 0} → List (Vec ℕ A) → ℕ → List ℕ
+versions_at lists name = versions_or_none (slice_get lists name)
+
+-- how many versions there are
+abbrev pub count_of : {A : Type 0} → List (Vec ℕ A) → ℕ
+count_of lists = sum_by (λ list. length list.items) lists
 
 -- what the solvable at this place of the list needs; nothing where there is none
 abbrev pub needs_at : {A : Type 0} → List (KnownDependencies A) → ℕ → Needs

@@ -25,8 +25,8 @@ pub struct SmallIndex {
     pub(crate) alloc: Global,
     /// Names, versions, ranges and conditions, each by its id.
     pub(crate) pool: Pool<VersionRange>,
-    /// The versions in the order of their lines. A later one is the better.
-    pub(crate) versions: Vec<SolvableId>,
+    /// The versions of each package, at its name's place, in the order of their lines. A later one is the better.
+    pub(crate) versions: Vec<Vec<SolvableId>>,
     /// What each solvable needs, at its place.
     pub(crate) needs: Vec<KnownDependencies>,
     ghost of_itself: { IsOfItself pool } by { Prim.hlevel pool_props },
@@ -128,19 +128,19 @@ fn append(out: &mut String, text: &str) -> Result<(), StoreError>
 
 impl DependencyProvider for SmallIndex {
     ghost use Rattle.std.proofs.lemmas.List.Sorted.{IsPermutation-reverse};
-    ghost use Rattle.small_index.specs.Index.{range_in, needs_at, named_known};
+    ghost use Rattle.small_index.specs.Index.{range_in, versions_at, needs_at, named_known};
 
     type Cancel = ();
 
     ghost answers = { λ index. record {
-      candidates = λ name. of_name index.pool name (here index.pool index.versions.items);
+      candidates = λ name. of_name index.pool name (here index.pool (versions_at index.versions.items name));
       matches = λ set s. is_within (range_in index.pool set) (version_in index.pool s);
       favored = λ name. None;
       order = λ list. reverse list;
       needs = λ s. needs_at index.needs.items s;
     } };
 
-    ghost candidates_known = { λ index name. named_known index.pool name index.versions.items };
+    ghost candidates_known = { λ index name. named_known index.pool name (versions_at index.versions.items name) };
 
     ghost order_permutes = { λ index list. IsPermutation-reverse list };
 
@@ -161,7 +161,9 @@ impl DependencyProvider for SmallIndex {
         name: NameId,
     ) -> Result<Option<Candidates<SolvableId>>, StoreError> {
         let mut found = Candidates::new(alloc);
-        found.candidates = named(alloc, &self.pool, &self.versions, name)?;
+        if let Some(versions) = self.versions.get(name.to_index()) {
+            found.candidates = named(alloc, &self.pool, versions, name)?;
+        }
         Ok(Some(found))
     }
 

@@ -1,18 +1,19 @@
 //! The reader of an index. What reads words of a line interns in the pool what they name.
-ghost use Rattle.std.specs.Prelude.{◌≡◌, ◌+◌, ◌<◌, ◌≤◌, IfOk, IfErr, OnOk, length};
+ghost use Rattle.std.specs.Prelude.{◌≡◌, ◌+◌, ◌^◌, ◌<◌, ◌≤◌, IfOk, IfErr, OnOk, length};
+ghost use Rattle.small_index.specs.Index.{count_of};
 ghost use Rattle.small_index.specs.Reading.{IsOfLine, IsOfLines, IsFurther};
 
 use crate::fault::IndexFault;
 use crate::index::SmallIndex;
 use crate::line::{Line, Words};
 use crate::range::VersionRange;
-use resolvo_ids::{ConditionId, NameId, SolvableId, StoreError, VersionSetId};
+use resolvo_ids::{ConditionId, DenseIndex, NameId, SolvableId, StoreError, VersionSetId};
 use resolvo_pool::{Condition, ConditionalRequirement, KnownDependencies, Pool, Requirement};
 use std::alloc::Global;
 
 /// Reads an index of its lines, each of which is a version.
 pub fn read(alloc: Global, lines: &[Line<'_>]) -> Result<SmallIndex, IndexFault>
-    ensures ok { IfOk result (λ index. length index.versions.items ≡ length lines.now) }
+    ensures ok { IfOk result (λ index. count_of index.versions.items ≡ length lines.now) }
     ensures err { IfErr result (IsOfLines lines.now) }
 {
     let mut index = SmallIndex {
@@ -32,7 +33,8 @@ pub fn read(alloc: Global, lines: &[Line<'_>]) -> Result<SmallIndex, IndexFault>
 
 impl SmallIndex {
     fn add_lines(&mut self, lines: &[Line<'_>]) -> Result<(), IndexFault>
-        ensures ok { OnOk result (length self.new.versions.items ≡ length self.old.versions.items + length lines.now) }
+        ensures ok { OnOk result
+            (count_of self.new.versions.items ≡ count_of self.old.versions.items + length lines.now) }
         ensures err { IfErr result (IsOfLines lines.now) }
     {
         for line in lines {
@@ -42,7 +44,7 @@ impl SmallIndex {
     }
 
     fn add_line(&mut self, line: Line<'_>) -> Result<(), IndexFault>
-        ensures ok { OnOk result (length self.new.versions.items ≡ length self.old.versions.items + 1) }
+        ensures ok { OnOk result (count_of self.new.versions.items ≡ count_of self.old.versions.items + 1) }
         ensures err { IfErr result (IsOfLine line.entry.number) }
     {
         let words = line.words(self.alloc)?;
@@ -52,11 +54,36 @@ impl SmallIndex {
         };
         let read = words.version(self.alloc, &mut self.pool);
         self.pool.tell_sound();
-        let (solvable, needs) = read?;
-        self.versions.push(solvable)?;
+        let (name, solvable, needs) = read?;
+        reach(self.alloc, &mut self.versions, name.to_index())?;
+        add(&mut self.versions, name.to_index(), solvable)?;
         self.needs.push(needs)?;
         Ok(())
     }
+}
+
+/// Adds empty lists up to a place.
+fn reach(alloc: Global, lists: &mut Vec<Vec<SolvableId>>, place: usize) -> Result<(), StoreError>
+    requires { place < 2 ^ 32 }
+    ensures count { count_of lists.new.items ≡ count_of lists.old.items }
+    ensures reached { OnOk result (place < length lists.new.items) }
+{
+    for _ in lists.len()..place + 1 {
+        lists.push(Vec::new(alloc))?;
+    }
+    Ok(())
+}
+
+/// Adds a solvable to the list at a place.
+fn add(
+    lists: &mut Vec<Vec<SolvableId>>,
+    place: usize,
+    solvable: SolvableId,
+) -> Result<(), StoreError>
+    requires { place < length lists.now.items }
+    ensures { OnOk result (count_of lists.new.items ≡ count_of lists.old.items + 1) }
+{
+    Ok(lists[place].push(solvable)?)
 }
 
 impl Words<'_> {
@@ -65,7 +92,7 @@ impl Words<'_> {
         &mut self,
         alloc: Global,
         pool: &mut Pool<VersionRange>,
-    ) -> Result<(SolvableId, KnownDependencies), IndexFault>
+    ) -> Result<(NameId, SolvableId, KnownDependencies), IndexFault>
         ensures { IfErr result (IsOfLine self.old.number) }
     {
         let name = self.name(alloc, pool)?;
@@ -74,7 +101,7 @@ impl Words<'_> {
         let solvable = pool
             .intern_solvable(name, version)
             .map_err(StoreError::from)?;
-        Ok((solvable, needs))
+        Ok((name, solvable, needs))
     }
 
     /// What a version asks for: entries, up to the end of the line.

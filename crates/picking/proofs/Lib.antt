@@ -1,4 +1,0 @@
-pub mod DecisionLemmas
-pub mod Examples
-pub mod MemberLemmas
-pub mod ServingLemmas

@@ -1,0 +1,46 @@
+/* Picking versions by Nivolakku's search, whose picks are proved to serve. docs/C.md explains it.
+ *
+ * Link libpicking_c.a, and behind it the Rattle kit's c/liblibc_c.a, which calls malloc, realloc and free. */
+#ifndef NIVOLAKKU_PICKING_H
+#define NIVOLAKKU_PICKING_H
+
+#include <stddef.h>
+#include <stdint.h>
+
+#ifdef __cplusplus
+extern "C" {
+#endif
+
+/* What became of an index: what nivolakku_pick returns. */
+enum {
+    /* Versions are picked, and they serve: the answer is a line "NAME:" and a line for each version. */
+    NIVOLAKKU_PICKED = 0,
+    /* Nothing serves: the answer says so, below the line "NAME:". */
+    NIVOLAKKU_NONE_SERVES = 1,
+    /* The search made too many steps, or memory was refused: the answer says which. */
+    NIVOLAKKU_GAVE_UP = 2,
+    /* A line isn't in the format, or the text has no index, or several: the answer is "line NUMBER unreadable". */
+    NIVOLAKKU_UNREADABLE = 3,
+    /* The answer takes more room than there is; nothing is written. */
+    NIVOLAKKU_TOO_SMALL = 4
+};
+
+/* Answers the index of a text, in so many steps at most.
+ *
+ *   index, length    the text: any bytes
+ *   steps            how far the search may go; a million is plenty
+ *   answer, room     where the answer is written, without a zero byte at its end. It is written whole or not at all,
+ *                    and the bytes behind it stay as they were
+ *   needed           gets the answer's length, also where the room is too small; 0 where not even the answer got memory
+ *
+ * No pointer may be null, not even where its length is 0. The text, the answer's room and needed may not overlap, and
+ * no length may be above PTRDIFF_MAX. Calls may run beside one another, and keep nothing; none may be made from a
+ * signal handler, or in the forked child of a process with threads. */
+uint32_t nivolakku_pick(const uint8_t *index, size_t length, uint64_t steps,
+                        uint8_t *answer, size_t room, size_t *needed);
+
+#ifdef __cplusplus
+}
+#endif
+
+#endif

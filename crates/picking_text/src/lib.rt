@@ -1,0 +1,15 @@
+//! What an index is answered, as a text: for the program `pick_versions` and the library `picking_c`.
+//!
+//! [`answer`] reads an index of `small_index`, and searches by `picking` for what its first line asks for. The text has
+//! who asks, the name of the first line, and below it a line for each version that is picked, or `none` where nothing
+//! serves, and why (`reasons`); where the search gives up, or a line is unreadable, it says so. What is picked serves:
+//! [`answer`] says in which words (`specs/Answers`).
+#![tactic(auto)]
+
+mod outcome;
+mod reasons;
+mod telling;
+mod told;
+
+pub use outcome::Outcome;
+pub use told::{Told, answer, answer_text};

@@ -1,0 +1,21 @@
+use Rattle.resolvo_pool.specs.Functions.{Provider, gathered}
+use Rattle.serving.specs.Truth.{AreContent}
+use Rattle.serving.proofs.EncodingLemmas as L
+use Rattle.serving.proofs.encoding.Encoder.encode_all.Given.{Over}
+use Rattle.serving.proofs.encoding.Encoder.encode_all.Goals as goal
+
+-- the provider's functions
+abbrev provided : (g : Over) → g.row.D.Denot → Provider g.row.D-NameId.Denot g.row.D-SolvableId.Denot
+provided g = gathered g.D.NameId.PartialEq.eq g.D.SolvableId.PartialEq.eq g.D.NameId.Slots.IdMap.is_too_large g.D.SolvableId.Slots.IdMap.is_too_large
+    g.D.SolvableId.Set.IdSet.is_too_large g.D.NameId.SolverId.are_many g.D.Interner.universe g.D.DependencyProvider.answers
+
+pub loop-number-init : goal.loop-number-init
+loop-number-init g c =
+    let p = provided g c.args.self.now.provider.now in
+    L.still p (AreContent p) c.args.theory.now.clauses.items
+
+pub loop-number-preserved : goal.loop-number-preserved
+loop-number-preserved g c =
+    let p = provided g c.args.self.now.provider.now in
+    L.still_then p (AreContent p) c.args.theory.now.clauses.items c.loop-number.theory.clauses.items c.encode.new.theory.clauses.items
+    c.loop-number.invariant c.in_ok-encode.ensures

@@ -1,0 +1,25 @@
+use Rattle.std.proofs.Common.{◌∙◌, ◌∷◌, [], ap}
+use Rattle.std.specs.Prelude.{⊤}
+use Rattle.resolvo_pool.specs.Functions.{Provider, gathered}
+use Rattle.serving.specs.Truth.{AreLeftOutUnless}
+use Rattle.serving.proofs.EncodingLemmas as L
+use Rattle.serving.proofs.encoding.Encoder.held.Given.{Over}
+use Rattle.serving.proofs.encoding.Encoder.held.Goals as goal
+
+-- the provider's functions
+abbrev provided : (g : Over) → g.row.D.Denot → Provider g.row.D-NameId.Denot g.row.D-SolvableId.Denot
+provided g = gathered g.D.NameId.PartialEq.eq g.D.SolvableId.PartialEq.eq g.D.NameId.Slots.IdMap.is_too_large g.D.SolvableId.Slots.IdMap.is_too_large
+    g.D.SolvableId.Set.IdSet.is_too_large g.D.NameId.SolverId.are_many g.D.Interner.universe g.D.DependencyProvider.answers
+
+pub returns : goal.returns
+returns g c =
+    let p = provided g c.args.self.now.provider.now in
+    record {
+      fact = c.in_ok-atom.ensures;
+      theory = L.still_where p (λ picked. AreLeftOutUnless p (c.new.result ∷ []) picked c.deref.result.now) (λ picked. ⊤) c.args.theory.now.clauses.items
+          c.leave_out_unless.new.theory.clauses.items
+          (λ picked so. L.left_out_unless_held p c.new.result c.args.set c.deref.result.now picked
+          (ap (λ k. k.fact) c.new.ensures ∙ c.in_ok-atom.ensures) (ap (λ k. k.value) c.new.ensures)
+          c.in_ok-held.ensures.known (c.deref.ensures.value ∙ c.in_ok-held.ensures.found))
+          c.in_ok-leave_out_unless.ensures;
+    }

@@ -1,0 +1,289 @@
+//! Clauses, and what follows from them.
+ghost use Rattle.std.specs.Prelude.{◌≡◌, Bool, true, not, All, [], ◌∷◌, ◌++◌, IfOk, OnOk};
+ghost use Rattle.serving.specs.Clauses.{AreMet, AreTrue, Follows, IsOneAName, is_true};
+ghost use Rattle.serving.specs.declared.literal.Fact.{Fact};
+ghost use Rattle.serving.specs.declared.literal.Fact.TheVariants.{Picked};
+
+use crate::atoms::{Atoms, Packages};
+use crate::known::Known;
+use crate::literal::{Atom, Fact, Literal};
+use crate::rest::{Rest, rest_of};
+use resolvo_ids::{SameId, SolverId, StoreError};
+use std::alloc::Allocator;
+
+/// Clauses about facts that were met.
+#[derive(Drop)]
+pub(crate) struct Theory<N: SolverId<A>, S: SolverId<A>, A: Allocator + Copy> {
+    pub(crate) atoms: Atoms<N, S, A>,
+    pub(crate) clauses: Vec<Vec<Literal<N, S>, A>, A>,
+    naming: Naming<A>,
+}
+
+impl<N: SolverId<A>, S: SolverId<A>, A: Allocator + Copy> Theory<N, S, A> {
+    pub(crate) fn new(alloc: A) -> Result<Self, StoreError>
+        ensures { IfOk result (λ theory. theory.clauses.items ≡ []) }
+    {
+        Ok(Theory {
+            atoms: Atoms::new(alloc)?,
+            clauses: Vec::new(alloc),
+            naming: Naming {
+                clauses: Vec::new(alloc),
+                alloc,
+            },
+        })
+    }
+
+    pub(crate) fn add(&mut self, clause: Vec<Literal<N, S>, A>) -> Result<(), StoreError>
+        ensures { OnOk result (self.new.clauses.items ≡ self.old.clauses.items ++ clause ∷ []) }
+    {
+        self.naming.note_all(self.clauses.len(), &clause)?;
+        self.clauses.push(clause)?;
+        Ok(())
+    }
+
+    /// What literals follow by.
+    pub(crate) fn rules(&self) -> Rules<'_, N, S, A>
+        ensures { result.clauses.now ≡ self.now.clauses.items }
+    {
+        Rules {
+            clauses: self.clauses.as_slice(),
+            naming: &self.naming,
+            packages: &self.atoms.packages,
+        }
+    }
+}
+
+/// For each number of a fact the places of the clauses that name it. They tell where to look.
+#[derive(Drop)]
+struct Naming<A: Allocator + Copy> {
+    clauses: Vec<Vec<usize, A>, A>,
+    alloc: A,
+}
+
+impl<A: Allocator + Copy> Naming<A> {
+    fn note_all<N: SameId, S: SameId>(
+        &mut self,
+        place: usize,
+        clause: &[Literal<N, S>],
+    ) -> Result<(), StoreError> {
+        for literal in clause {
+            self.note(place, literal.number)?;
+        }
+        Ok(())
+    }
+
+    fn note(&mut self, place: usize, number: u32) -> Result<(), StoreError> {
+        for _ in self.clauses.len()..number as usize + 1 {
+            self.clauses.push(Vec::new(self.alloc))?;
+        }
+        if let Some(places) = self.clauses.get_mut(number as usize) {
+            places.push(place)?;
+        }
+        Ok(())
+    }
+}
+
+/// What literals follow by: clauses, and that at most one version of a package is picked. Where a literal gets known,
+/// the clauses that name its fact are looked at, and the other versions of its package.
+#[derive(Clone, Copy)]
+pub(crate) struct Rules<'t, N: SameId, S: SameId, A: Allocator + Copy> {
+    pub(crate) clauses: &'t [Vec<Literal<N, S>, A>],
+    naming: &'t Naming<A>,
+    packages: &'t Packages<N, S, A>,
+}
+
+impl<'t, N: SameId, S: SameId, A: Allocator + Copy> Rules<'t, N, S, A> {
+    /// Adds what follows from the clauses. Answers whether they contradict what is known.
+    pub(crate) fn settle(&self, known: &mut Known<N, S, A>) -> Result<bool, StoreError>
+        ensures { IfOk result (Follows (λ holds. IsOneAName holds × AreMet holds self.now.clauses.now)
+            known.old.literals.items known.new.literals.items) }
+    {
+        if self.look_at_all(known)? {
+            return Ok(true);
+        }
+        self.propagate(known, 0)
+    }
+
+    /// Looks at each clause once.
+    fn look_at_all(&self, known: &mut Known<N, S, A>) -> Result<bool, StoreError>
+        ensures { IfOk result (Follows (λ holds. AreMet holds self.now.clauses.now)
+            known.old.literals.items known.new.literals.items) }
+    {
+        for place in 0..self.clauses.len() {
+            if self.look_at(known, place)? {
+                return Ok(true);
+            }
+        }
+        Ok(false)
+    }
+
+    /// Adds what follows from the clause at a place. Answers whether that contradicts what is known.
+    pub(crate) fn draw(&self, known: &mut Known<N, S, A>, place: usize) -> Result<bool, StoreError>
+        ensures { IfOk result (Follows (λ holds. IsOneAName holds × AreMet holds self.now.clauses.now)
+            known.old.literals.items known.new.literals.items) }
+    {
+        let count = known.literals.len();
+        if self.look_at(known, place)? {
+            return Ok(true);
+        }
+        self.propagate(known, count)
+    }
+
+    /// Whether literals can't all be true where all that is known is.
+    pub(crate) fn refute(
+        &self,
+        known: &mut Known<N, S, A>,
+        assumed: &[Literal<N, S>],
+    ) -> Result<bool, StoreError>
+        ensures refuted { IfOk result (λ yes. yes ≡ true → (holds : Fact N S → Bool) → IsOneAName holds →
+            AreMet holds self.now.clauses.now → AreTrue holds known.old.literals.items →
+            AreTrue holds assumed.now → ⊥) }
+        ensures taken_back { OnOk result (known.new.literals.items ≡ known.old.literals.items) }
+    {
+        let count = known.literals.len();
+        let refuted = self.contradict(known, assumed)?;
+        known.literals.truncate(count);
+        Ok(refuted)
+    }
+
+    /// Adds literals, and what follows.
+    fn contradict(
+        &self,
+        known: &mut Known<N, S, A>,
+        assumed: &[Literal<N, S>],
+    ) -> Result<bool, StoreError>
+        ensures { IfOk result (Follows (λ holds. IsOneAName holds × (AreMet holds self.now.clauses.now
+            × AreTrue holds assumed.now)) known.old.literals.items known.new.literals.items) }
+    {
+        let count = known.literals.len();
+        if assume(known, assumed)? {
+            return Ok(true);
+        }
+        self.propagate(known, count)
+    }
+
+    /// Adds what follows from the literals from a place on, and from what that adds.
+    fn propagate(&self, known: &mut Known<N, S, A>, from: usize) -> Result<bool, StoreError>
+        ensures { IfOk result (Follows (λ holds. IsOneAName holds × AreMet holds self.now.clauses.now)
+            known.old.literals.items known.new.literals.items) }
+    {
+        for place in from..usize::MAX {
+            let Some(literal) = known.literals.get(place).copied() else {
+                return Ok(false);
+            };
+            if self.follow(known, literal)? {
+                return Ok(true);
+            }
+        }
+        Ok(false)
+    }
+
+    /// Adds what follows from a literal that is known.
+    fn follow(&self, known: &mut Known<N, S, A>, literal: Literal<N, S>) -> Result<bool, StoreError>
+        requires { (holds : Fact N S → Bool) → AreTrue holds known.old.literals.items → is_true holds literal ≡ true }
+        ensures { IfOk result (Follows (λ holds. IsOneAName holds × AreMet holds self.now.clauses.now)
+            known.old.literals.items known.new.literals.items) }
+    {
+        if self.leave_others_out(known, literal)? {
+            return Ok(true);
+        }
+        self.look_where_named(known, literal.number)
+    }
+
+    /// Where a literal that is known picks a version, leaves out the others of its package.
+    fn leave_others_out(
+        &self,
+        known: &mut Known<N, S, A>,
+        literal: Literal<N, S>,
+    ) -> Result<bool, StoreError>
+        requires { (holds : Fact N S → Bool) → AreTrue holds known.old.literals.items → is_true holds literal ≡ true }
+        ensures { IfOk result (Follows IsOneAName known.old.literals.items known.new.literals.items) }
+    {
+        let Some(others) = self.packages.of(literal.number) else {
+            return Ok(false);
+        };
+        for other in others {
+            if leave_out(known, literal, *other)? {
+                return Ok(true);
+            }
+        }
+        Ok(false)
+    }
+
+    /// Looks at the clauses that name a fact.
+    fn look_where_named(&self, known: &mut Known<N, S, A>, number: u32) -> Result<bool, StoreError>
+        ensures { IfOk result (Follows (λ holds. AreMet holds self.now.clauses.now)
+            known.old.literals.items known.new.literals.items) }
+    {
+        let Some(places) = self.naming.clauses.get(number as usize) else {
+            return Ok(false);
+        };
+        for place in places {
+            if self.look_at(known, *place)? {
+                return Ok(true);
+            }
+        }
+        Ok(false)
+    }
+
+    /// Adds the literal of a clause that has no other left. Answers whether it has none at all.
+    fn look_at(&self, known: &mut Known<N, S, A>, place: usize) -> Result<bool, StoreError>
+        ensures { IfOk result (Follows (λ holds. AreMet holds self.now.clauses.now)
+            known.old.literals.items known.new.literals.items) }
+    {
+        let Some(clause) = self.clauses.get(place) else {
+            return Ok(false);
+        };
+        match rest_of(clause, known) {
+            Rest::Refuted => Ok(true),
+            Rest::Unit(literal) => known.add(literal),
+            Rest::Open => Ok(false),
+        }
+    }
+}
+
+/// Adds literals, up to one whose opposite is known.
+fn assume<N: SameId, S: SameId, A: Allocator + Copy>(
+    known: &mut Known<N, S, A>,
+    literals: &[Literal<N, S>],
+) -> Result<bool, StoreError>
+    ensures { IfOk result (Follows (λ holds. AreTrue holds literals.now)
+        known.old.literals.items known.new.literals.items) }
+{
+    for literal in literals {
+        if known.add(*literal)? {
+            return Ok(true);
+        }
+    }
+    Ok(false)
+}
+
+/// Where a literal that is known picks a version, leaves another one out that is of a package of the same name.
+fn leave_out<N: SameId, S: SameId, A: Allocator + Copy>(
+    known: &mut Known<N, S, A>,
+    literal: Literal<N, S>,
+    other: Atom<N, S>,
+) -> Result<bool, StoreError>
+    requires { (holds : Fact N S → Bool) → AreTrue holds known.old.literals.items → is_true holds literal ≡ true }
+    ensures { IfOk result (Follows IsOneAName known.old.literals.items known.new.literals.items) }
+{
+    if literal.value && is_rival(&literal.fact, &other.fact) {
+        known.add(Literal::new(other, false))
+    } else {
+        Ok(false)
+    }
+}
+
+/// Whether two facts are that different versions are picked, of packages of one name.
+fn is_rival<N: SameId, S: SameId>(one: &Fact<N, S>, other: &Fact<N, S>) -> bool
+    ensures { result ≡ true → (holds : Fact N S → Bool) → IsOneAName holds → holds one.now ≡ true →
+        holds other.now ≡ true → ⊥ }
+{
+    match one {
+        Fact::Picked(solvable, name) => match other {
+            Fact::Picked(another, its) => *solvable != *another && *name == *its,
+            Fact::Held(_) => false,
+        },
+        Fact::Held(_) => false,
+    }
+}

@@ -1,0 +1,28 @@
+//! Whether a choice of versions serves, and that none does: both are decided over the packages alone, and proved.
+//!
+//! A search for versions owes nothing: what it says is checked at its end, by what shares no code with it.
+//!
+//! - [`serves`] checks what was picked: each requirement has a picked candidate, each picked version's needs are given,
+//!   nothing is picked that another one's constraints rule out, and at most one version of a package is picked.
+//! - [`refutes`] checks that nothing serves, by a list of nogoods that a search kept: solvables that can't all be picked
+//!   together, each for what the packages say and the nogoods before it.
+//!
+//! `specs/Serves` says both in the words of the provider alone. A choice is asked its questions in `choice`, and
+//! `serving` asks them. What the packages say is written as clauses (`encoding`, over `asking`) about facts of a choice
+//! (`literal`, numbered by `atoms`); what follows from what is known (`known`) is drawn from them (`clauses`), and
+//! `refuting` replays the nogoods.
+#![tactic(auto)]
+
+mod asking;
+mod atoms;
+mod choice;
+mod clauses;
+mod encoding;
+mod known;
+mod literal;
+mod refuting;
+mod rest;
+mod serving;
+
+pub use refuting::refutes;
+pub use serving::serves;

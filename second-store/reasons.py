@@ -1,0 +1,61 @@
+"""Judges why nothing serves: whether what is told is what the index says, and whether nothing can meet all of it.
+
+A version is a name and a number. A clause is a dict of versions, of which one has to be picked where it has true, or
+not to be picked where it has false.
+"""
+import itertools
+
+
+def is_reason(index, lines):
+    """Whether the index says each of these lines, and no choice meets all of them. Two versions of a package may be
+    picked together unless a line says otherwise.
+    """
+    said = dict(said_by(index))
+    clauses = [clause for line in lines for clause in said.get(line, ())]
+    return all(line in said for line in lines) and not can_be_met([it for it in clauses if it is not None])
+
+
+def said_by(index):
+    """Each line that the index says, with its clauses."""
+    for line, parent, spans, condition in index.all_needs():
+        candidates = index.among(spans)
+        heads = index.among([condition]) if condition else [None]
+        yield line + ("" if candidates else ", and there is none"), [
+            clause_of([parent, head], candidates) for head in heads
+        ]
+    for line, parent, limit in index.all_limits():
+        outside = set(index.of_name(limit[0])) - set(index.among([limit]))
+        yield line, [clause_of([parent, version], []) for version in outside]
+    for name in index.versions:
+        pairs = itertools.combinations(index.of_name(name), 2)
+        yield f"one version of {name}", [clause_of(pair, []) for pair in pairs]
+
+
+def clause_of(picked, wanted):
+    """That where all of the first are picked, one of the others is; none where that is so anyway. The root is None."""
+    clause = {version: False for version in picked if version}
+    return None if any(version in clause for version in wanted) else clause | dict.fromkeys(wanted, True)
+
+
+def can_be_met(clauses):
+    """Whether values meet all clauses: by trying both values of a version, and what follows."""
+    while True:
+        if {} in clauses:
+            return False
+        unit = next((clause for clause in clauses if len(clause) == 1), None)
+        if unit is None:
+            break
+        clauses = given(clauses, *next(iter(unit.items())))
+    if not clauses:
+        return True
+    version = next(iter(clauses[0]))
+    return any(can_be_met(given(clauses, version, value)) for value in (False, True))
+
+
+def given(clauses, version, value):
+    """What is left of the clauses where the version has the value."""
+    return [
+        {other: wanted for other, wanted in clause.items() if other != version}
+        for clause in clauses
+        if clause.get(version) is not value
+    ]
