@@ -1,4 +1,4 @@
-"""The programs that resolve a request: pick_versions, cadical on the same clauses, and apt-get."""
+"""The programs that resolve a request: pick_versions, cadical on the same clauses, dose-debcheck and apt-get."""
 import os
 import re
 import resource
@@ -89,6 +89,21 @@ def satisfy(index, runs=1):
     if ran.status not in (SATISFIABLE, UNSATISFIABLE):
         raise Fault(f"cadical ended with {ran.status} for {index.request}")
     return ran.status == SATISFIABLE, ran.seconds
+
+
+class Debcheck:
+    """dose-debcheck over a `Packages` file, which it reads whole at each call. Essential packages aren't asked for."""
+
+    def __init__(self, packages):
+        self.words = ["dose-debcheck", "--deb-ignore-essential", f"--fg={packages}", "--coinst"]
+
+    def check(self, request):
+        """Whether a version of each package can be installed beside the others, and its seconds."""
+        ran = run([*self.words, request])
+        counts = dict(re.findall(r"^(total|broken)-tuples: (\d+)", ran.text, re.MULTILINE))
+        if len(counts) < 2:
+            raise Fault(f"dose-debcheck ended with {ran.status} for {request}")
+        return int(counts["broken"]) < int(counts["total"]), ran.seconds
 
 
 class AptGet:
