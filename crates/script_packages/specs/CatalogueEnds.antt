@@ -1,5 +1,8 @@
 -- Where the catalogue of a script ends, and what it lists by then.
 use Rattle.std.specs.Prelude.{◌≡◌, ℕ, ◌+◌, List, [], ◌∷◌, ◌⊎◌, Option, None, Some, ⊤}
+use Rattle.std.specs.Prelude.{Bool, true, false, Result, Ok, Err}
+use Rattle.script_text.specs.declared.fault.LineFault.{LineFault}
+use Rattle.script_text.specs.declared.fault.LineFault.TheVariants as OfLine
 use Rattle.script_text.specs.declared.fault.ScriptFault.{ScriptFault}
 use Rattle.script_text.specs.declared.fault.ScriptFault.TheVariants as OfScript
 use Rattle.script_packages.specs.declared.packages.Packages.{Packages}
@@ -72,3 +75,11 @@ abbrev pub CatalogueFault : List (List ℕ) → ScriptFault → Type 0
 CatalogueFault lines (OfScript.Unreadable number) = FaultyAt nothing_listed 0 lines number
 CatalogueFault lines OfScript.Device = ⊥
 CatalogueFault lines OfScript.Memory = NeedMemory nothing_listed lines
+
+-- a line that does this is listed; or it begins the commands, and nothing is listed; or it is unreadable; or memory was
+-- refused for what it lists
+abbrev pub ListsLine : LineEffect → Listing → Result Bool LineFault → Listing → Type 0
+ListsLine effect l (Ok false) l' = effect ≡ GoesOn l'
+ListsLine effect l (Ok true) l' = (effect ≡ Ends) × (l' ≡ l)
+ListsLine effect l (Err OfLine.Unreadable) l' = effect ≡ Faulty
+ListsLine effect l (Err OfLine.Memory) l' = ⊤

@@ -2,11 +2,14 @@
 ghost use Rattle.std.specs.Prelude.{◌≡◌, ◌+◌, ◌^◌, ◌<◌, ⊤, length, IfOk, IfErr, MatchOption};
 ghost use Rattle.script_packages.specs.Listing.{listing_of, nothing_listed};
 ghost use Rattle.script_packages.specs.CatalogueEnds.{NeverBegins, CommandsBegin, CatalogueFault};
+ghost use Rattle.script_packages.specs.CatalogueEnds.{effect_of, ListsLine};
+ghost use Rattle.script_packages.specs.CatalogueLines.{entry_meant};
+ghost use Rattle.script_text.specs.Statements.{IsRestPrinted};
 ghost use Rattle.script_text.specs.Lines.{lines as lines_of};
 
 use crate::catalogue_line::{CatalogueLine, catalogue_line};
 use crate::packages::Packages;
-use script_text::{Line, ScriptFault, next_statement};
+use script_text::{Line, LineFault, ScriptFault, Statement, next_statement};
 use std::alloc::Global;
 
 /// A catalogue that was read to its `begin`: what it lists, and where the commands are.
@@ -68,4 +71,21 @@ fn list_packages<'a>(
         }
     }
     Ok(None)
+}
+
+/// Lists what a line up to `begin` says. Answers whether it says `begin`, which lists nothing.
+pub fn list_line(packages: &mut Packages, said: Line<Statement<'_>>) -> Result<bool, LineFault>
+    requires { IsRestPrinted said }
+    ensures { ListsLine (effect_of (listing_of packages.old) (entry_meant said.entry)) (listing_of packages.old) result
+        (listing_of packages.new) }
+{
+    match catalogue_line(said) {
+        Line::Skipped => Ok(false),
+        Line::Unreadable => Err(LineFault::Unreadable),
+        Line::Says(CatalogueLine::Begin) => Ok(true),
+        Line::Says(entry) => {
+            packages.add(&entry)?;
+            Ok(false)
+        }
+    }
 }

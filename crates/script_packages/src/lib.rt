@@ -1,8 +1,8 @@
 //! The packages that a script's catalogue lists.
 //!
 //! [`read_catalogue`] makes [`Packages`] of the lines up to `begin`, and hands back the lines after it: the commands,
-//! of which nothing is known here but that words of theirs stand for ids too. The packages answer what a store asks of
-//! its provider.
+//! of which nothing is known here but that words of theirs stand for ids too. [`list_line`] lists what one line says,
+//! where lines come one by one. The packages answer what a store asks of its provider.
 #![tactic(auto)]
 
 mod catalogue;
@@ -13,6 +13,6 @@ mod packages;
 mod provider;
 mod versions;
 
-pub use catalogue::{Catalogue, read_catalogue};
+pub use catalogue::{Catalogue, list_line, read_catalogue};
 pub use ids::{id, requirement};
 pub use packages::{Packages, Span, VersionRange};

@@ -68,7 +68,7 @@ impl Packages {
     ghost use Rattle.script_packages.specs.Listing.{are_sets, is_listed};
 
     /// No packages.
-    pub(crate) fn new(alloc: Global) -> Packages
+    pub fn new(alloc: Global) -> Packages
         ensures { listing_of result ≡ nothing_listed }
     {
         Packages {

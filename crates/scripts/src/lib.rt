@@ -12,5 +12,6 @@ mod reply_line;
 mod transcript;
 
 pub use command_line::command;
+pub use reply_line::push_unreadable;
 pub use script_text::{ScriptFault, status};
-pub use transcript::script;
+pub use transcript::{obey_line, script};

@@ -164,7 +164,7 @@ fn obey_lines<D: DependencyProvider<NameId: DenseIndex, SolvableId: DenseIndex> 
 }
 
 /// Obeys a line that says this, and puts the line of the reply after what waits.
-fn obey_line<D: DependencyProvider<NameId: DenseIndex, SolvableId: DenseIndex> + Drop>(
+pub fn obey_line<D: DependencyProvider<NameId: DenseIndex, SolvableId: DenseIndex> + Drop>(
     alloc: D::Alloc,
     store: &mut ClauseStore<D>,
     said: Line<Statement<'_>>,
