@@ -1,0 +1,4 @@
+pub mod Feeds
+pub mod NextLines
+pub mod SoFar
+pub mod Ends

@@ -1,0 +1,3 @@
+pub mod Answering
+pub mod LineReads
+pub mod Talks

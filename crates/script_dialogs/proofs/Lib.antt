@@ -1,0 +1,4 @@
+pub mod DialogCalls
+pub mod DialogLemmas
+pub mod LineLemmas
+pub mod StageLemmas

@@ -1,0 +1,2 @@
+pub mod DialogEnds
+pub mod ScriptLines
