@@ -1,14 +1,12 @@
 //! Lines of a reader, as they come.
-ghost use Rattle.std.specs.Prelude.{◌≡◌, ◌<◌, ◌≤◌, ℕ, true, false, List, [], ◌++◌, take, drop, length, Ok};
+ghost use Rattle.std.specs.Prelude.{◌≡◌, ◌<◌, ◌≤◌, true, false, [], take, drop, length};
 ghost use Rattle.std.specs.Prelude.{IfOk, IfErr, OnOk, MatchOption};
-ghost use Rattle.std.specs.Io.KnownBytes.{Consumes, IsAtEnd};
-ghost use Rattle.script_text.specs.Reading.{ReadOnce};
+ghost use Rattle.std.specs.Io.KnownBytes.{IsAtEnd};
 ghost use Rattle.script_text.specs.declared.fault.ScriptFault.TheVariants.{Memory};
 ghost use Rattle.dialogs.specs.LineReads.{HasNoFeed, IsFed, NextLine, NextLineFails};
 
-use script_text::{ScriptFault, Source};
+use script_text::{ScriptFault, Source, read_piece};
 use std::alloc::Global;
-use std::io::ErrorKind;
 use std::mem;
 
 /// How many reads a line has to come in.
@@ -92,28 +90,4 @@ fn line_end(text: &[u8], looked: usize) -> Option<usize>
         }
     }
     None
-}
-
-/// One read, whose bytes are put after those before it; whether it met the end. One that was interrupted gives none.
-fn read_piece<S: Source>(
-    reader: &mut S,
-    piece: &mut [u8],
-    input: &mut Vec<u8>,
-) -> Result<bool, ScriptFault>
-    requires { 0 < length piece.old }
-    ensures bytes { OnOk result ((bytes : List ℕ) × Consumes (S.remaining reader.old) (S.remaining reader.new) bytes
-        × (input.new.items ≡ input.old.items ++ bytes)) }
-    ensures end { result ≡ Ok true → IsAtEnd (S.remaining reader.new) }
-    ensures read { ReadOnce S.reads S.fails reader.old result reader.new }
-{
-    match reader.read(piece) {
-        Ok(count) => {
-            input.extend_from_slice(&piece[..count])?;
-            Ok(count == 0)
-        }
-        Err(e) => match e.kind() {
-            ErrorKind::Interrupted => Ok(false),
-            _ => Err(ScriptFault::Device),
-        },
-    }
 }

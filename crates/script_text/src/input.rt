@@ -66,8 +66,9 @@ fn read_pieces<S: Source>(
     Err(ScriptFault::Device)
 }
 
-/// One read, whose bytes are put after those before it; whether it met the end.
-fn read_piece<S: Source>(
+/// One read, whose bytes are put after those before it; whether it met the end. One that was interrupted gives none. At
+/// most so many bytes are read as the piece has room for.
+pub fn read_piece<S: Source>(
     reader: &mut S,
     piece: &mut [u8],
     input: &mut Vec<u8>,
