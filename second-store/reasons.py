@@ -19,9 +19,8 @@ def said_by(index):
     """Each line that the index says, with its clauses."""
     for line, parent, spans, condition in index.all_needs():
         candidates = index.among(spans)
-        heads = index.among([condition]) if condition else [None]
         yield line + ("" if candidates else ", and there is none"), [
-            clause_of([parent, head], candidates) for head in heads
+            clause_of([parent, *heads], candidates) for heads in heads_of(index, condition)
         ]
     for line, parent, limit in index.all_limits():
         outside = set(index.of_name(limit[0])) - set(index.among([limit]))
@@ -29,6 +28,12 @@ def said_by(index):
     for name in index.versions:
         pairs = itertools.combinations(index.of_name(name), 2)
         yield f"one version of {name}", [clause_of(pair, []) for pair in pairs]
+
+
+def heads_of(index, condition):
+    """The lists of versions that make a condition hold; where there is none, the empty list."""
+    for spans in condition or [[]]:
+        yield from itertools.product(*(index.among([span]) for span in spans))
 
 
 def clause_of(picked, wanted):

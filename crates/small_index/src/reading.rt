@@ -8,7 +8,9 @@ use crate::index::SmallIndex;
 use crate::line::{Line, Words};
 use crate::range::VersionRange;
 use resolvo_ids::{ConditionId, DenseIndex, NameId, SolvableId, StoreError, VersionSetId};
-use resolvo_pool::{Condition, ConditionalRequirement, KnownDependencies, Pool, Requirement};
+use resolvo_pool::{
+    Condition, ConditionalRequirement, KnownDependencies, LogicalOperator, Pool, Requirement,
+};
 use std::alloc::Global;
 
 /// Reads an index of its lines, each of which is a version.
@@ -149,7 +151,7 @@ impl Words<'_> {
         Err(self.unreadable())
     }
 
-    /// `if SET`, or nothing.
+    /// `if` and alternatives, or nothing.
     fn condition(
         &mut self,
         alloc: Global,
@@ -162,8 +164,63 @@ impl Words<'_> {
         if !self.take_if("if") {
             return Ok(None);
         }
+        Ok(Some(self.alternatives(alloc, pool)?))
+    }
+
+    /// One list of version sets that have to hold together, or several with `or` between them, of which one is enough.
+    fn alternatives(
+        &mut self,
+        alloc: Global,
+        pool: &mut Pool<VersionRange>,
+    ) -> Result<ConditionId, IndexFault>
+        ensures further { IsFurther self.old self.new }
+        ensures names { length pool.old.names ≤ length pool.new.names }
+        ensures fault { IfErr result (IsOfLine self.old.number) }
+    {
+        let mut condition = self.together(alloc, pool)?;
+        'others: while self.take_if("or") {
+            let other = self.together(alloc, pool)?;
+            let either = Condition::Binary(LogicalOperator::Or, condition, other);
+            condition = pool.intern_condition(either)?;
+        }
+        Ok(condition)
+    }
+
+    /// `SET`, or several with `and` between them, which have to hold together.
+    fn together(
+        &mut self,
+        alloc: Global,
+        pool: &mut Pool<VersionRange>,
+    ) -> Result<ConditionId, IndexFault>
+        ensures further { IsFurther self.old self.new }
+        ensures here { IfOk result (λ condition. condition < length pool.new.conditions) }
+        ensures conditions { length pool.old.conditions ≤ length pool.new.conditions }
+        ensures names { length pool.old.names ≤ length pool.new.names }
+        ensures fault { IfErr result (IsOfLine self.old.number) }
+    {
+        let mut condition = self.holding(alloc, pool)?;
+        'others: while self.take_if("and") {
+            let other = self.holding(alloc, pool)?;
+            let both = Condition::Binary(LogicalOperator::And, condition, other);
+            condition = pool.intern_condition(both)?;
+        }
+        Ok(condition)
+    }
+
+    /// `SET`, as what has to hold.
+    fn holding(
+        &mut self,
+        alloc: Global,
+        pool: &mut Pool<VersionRange>,
+    ) -> Result<ConditionId, IndexFault>
+        ensures further { IsFurther self.old self.new }
+        ensures here { IfOk result (λ condition. condition < length pool.new.conditions) }
+        ensures conditions { length pool.old.conditions ≤ length pool.new.conditions }
+        ensures names { length pool.old.names ≤ length pool.new.names }
+        ensures fault { IfErr result (IsOfLine self.old.number) }
+    {
         let set = self.version_set(alloc, pool)?;
-        Ok(Some(pool.intern_condition(Condition::Requirement(set))?))
+        Ok(pool.intern_condition(Condition::Requirement(set))?)
     }
 
     /// `SET`, or several with `|` between them, of which one is enough.
@@ -197,6 +254,7 @@ impl Words<'_> {
         ensures further { IsFurther self.old self.new }
         ensures here { IfOk result (λ set. set.0 < length pool.new.version_sets) }
         ensures sets { length pool.old.version_sets ≤ length pool.new.version_sets }
+        ensures conditions { pool.new.conditions ≡ pool.old.conditions }
         ensures names { length pool.old.names ≤ length pool.new.names }
         ensures fault { IfErr result (IsOfLine self.old.number) }
     {
@@ -215,6 +273,7 @@ impl Words<'_> {
         ensures here { IfOk result (λ name. name < length pool.new.names) }
         ensures names { length pool.old.names ≤ length pool.new.names }
         ensures sets { pool.new.version_sets ≡ pool.old.version_sets }
+        ensures conditions { pool.new.conditions ≡ pool.old.conditions }
         ensures fault { IfErr result (IsOfLine self.old.number) }
     {
         let name = String::from_str(alloc, self.take()?)?;
