@@ -17,7 +17,7 @@ enum {
     NIVOLAKKU_PICKED = 0,
     /* Nothing serves: the answer says so, below the line "NAME:". */
     NIVOLAKKU_NONE_SERVES = 1,
-    /* The search made too many steps, or memory was refused: the answer says which. */
+    /* The search gave up: the answer says why, or is empty where memory was refused even for it. */
     NIVOLAKKU_GAVE_UP = 2,
     /* A line isn't in the format, or the text has no index, or several: the answer is "line NUMBER unreadable". */
     NIVOLAKKU_UNREADABLE = 3,

@@ -4,7 +4,8 @@
 //! first line, and what that line asks for: a line for each version that is picked; or `none` where nothing serves, and
 //! below it why, a line for each thing that is needed or limited there.
 //! Where it gives up, or a line is unreadable, it says so, and goes on with the next index. The first line's own
-//! version isn't picked. The exit status tells what became of the worst index: [`Outcome`] has the numbers.
+//! version is picked only where another one needs it, and what it limits counts only then. The exit status tells what
+//! became of the worst index: [`Outcome`] has the numbers.
 #![tactic(auto)]
 
 ghost use Rattle.std.specs.Prelude.{◌≡◌};

@@ -8,7 +8,7 @@ use Rattle.serving.specs.Serves.{Serves, IsUnsolvable}
 use Rattle.picking_text.specs.declared.outcome.Outcome.{Outcome}
 use Rattle.picking_text.specs.declared.outcome.Outcome.TheVariants.{Picked, NoneServes, GaveUp, Unreadable, Failed}
 
--- what is required
+-- what is required; nothing where that can't be told
 abbrev pub requirements_of : Needs → List ConditionalRequirement
 requirements_of (Known requirements constrains) = requirements
 requirements_of (Unknown reason) = []

@@ -10,7 +10,8 @@ pub enum Outcome {
     Picked = 0,
     /// Nothing serves.
     NoneServes = 1,
-    /// The search made too many steps, or was refused memory.
+    /// The search gave up: it made too many steps, was refused memory or an id, or found nothing and couldn't show that
+    /// nothing serves.
     GaveUp = 2,
     /// A line isn't in the format.
     Unreadable = 3,

@@ -42,7 +42,8 @@ fn first_number(lines: &[Line<'_>]) -> u64 {
     }
 }
 
-/// Answers the index of these lines, in so many steps at most.
+/// Answers the index of these lines, in so many steps at most. The contract speaks of some index; that it is the one of
+/// the lines is tested.
 pub fn answer(alloc: Global, lines: &[Line<'_>], steps: u64) -> Result<Told, AllocError>
     ensures { IfOk result (λ told. IsAnswerOf
         ⟦<SmallIndex as ProviderFunctions>⟧.functions ⟦<SmallIndex as Interner>⟧.texts 0
