@@ -125,7 +125,7 @@ fn tell_requirement<I: Interner>(
     }
 }
 
-/// Appends a condition. An index joins none, so that a joined one isn't spelled out.
+/// Appends a condition. One that joins others isn't spelled out.
 fn tell_condition<I: Interner>(
     interner: &I,
     condition: Option<ConditionId>,
