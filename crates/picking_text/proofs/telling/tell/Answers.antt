@@ -6,10 +6,10 @@ use Rattle.picking_text.proofs.telling.tell.Goals as goal
 pub returns-in-Unsolvable : goal.returns-in-Unsolvable
 returns-in-Unsolvable g c =
     record {
-        known = search rules;
-        none =
-            none_told _ _ _ _ _ c.in-Unsolvable.is (c.deref.ensures.value ∙ c.in_ok-wanted.ensures)
-            c.in_ok-solvables.ensures.complete;
-        reasons = c.deref-in-Unsolvable.result.now;
-        is = search (rules, append_assoc)
+      known = search rules;
+      none =
+          none_told _ _ _ _ _ c.in-Unsolvable.is (c.deref.ensures.value ∙ c.in_ok-wanted.ensures)
+          c.in_ok-solvables.ensures.complete;
+      reasons = c.deref-in-Unsolvable.result.now;
+      is = search (rules, append_assoc);
     }
