@@ -10,13 +10,15 @@ def is_reason(index, lines):
     """Whether the index says each of these lines, and no choice meets all of them. Two versions of a package may be
     picked together unless a line says otherwise.
     """
-    said = dict(said_by(index))
+    said = {}
+    for line, clauses in said_by(index):
+        said.setdefault(line, []).extend(clauses)
     clauses = [clause for line in lines for clause in said.get(line, ())]
     return all(line in said for line in lines) and not can_be_met([it for it in clauses if it is not None])
 
 
 def said_by(index):
-    """Each line that the index says, with its clauses."""
+    """Each line that the index says, with its clauses. Two needs may be told by one line."""
     for line, parent, spans, condition in index.all_needs():
         candidates = index.among(spans)
         yield line + ("" if candidates else ", and there is none"), [
