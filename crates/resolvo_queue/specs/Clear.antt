@@ -5,7 +5,7 @@ use Rattle.decisions.specs.Literals.{Lit, Values, variable_of}
 use Rattle.decisions.specs.declared.decision.Decision.{Decision}
 use Rattle.providers.specs.declared.requirement.Requirement.{Requirement}
 use Rattle.resolvo_queue.specs.Falsified.{comes_first, is_falsified_in}
-use Rattle.resolvo_queue.specs.Order.{Stands}
+use Rattle.resolvo_queue.specs.Members.{Stands}
 use Rattle.resolvo_queue.specs.Queue.{Queue, values_of}
 use Rattle.resolvo_queue.specs.References.{References}
 use Rattle.resolvo_queue.specs.declared.last_falsified.LastFalsified.{LastFalsified}
@@ -23,7 +23,8 @@ module _ {N S A : Type 0} (refs : References N S A) where
       is_falsified_in refs val c ≡ false
 
   -- the clause is there, and so is that much of the trail, by which none before it is falsified
-  pub record IsClear (ds : List Decision) (clauses : List TrackedClause) (looked : ℕ) (last : LastFalsified) : Type 0 where
+  pub record IsClear (ds : List Decision) (clauses : List TrackedClause) (looked : ℕ)
+      (last : LastFalsified) : Type 0 where
     pub clause : TrackedClause
     pub at : slice_get clauses last.number ≡ Some clause
     pub within : last.length ≤ length ds
@@ -38,7 +39,7 @@ module _ (literals : TrackedClause → List Lit) (listing : ℕ → List Require
   pub data Concerns (v : ℕ) (c : TrackedClause) : Type 0 where
     of_parent : c.parent ≡ v → Concerns v c
     of_condition : (l : Lit) → Stands l (literals c) → variable_of l ≡ v → Concerns v c
-    of_row : Stands c.required (listing v) → Concerns v c
+    of_row : Stands c.requirement (listing v) → Concerns v c
 
   -- one of the variables finds the clause
   abbrev pub AreConcerning : List ℕ → TrackedClause → Type 0

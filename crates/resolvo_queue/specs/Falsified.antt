@@ -1,10 +1,16 @@
 -- Which clauses are falsified, and how the first of them in the scan is found.
-use Rattle.std.specs.Prelude.{◌≡◌, ℕ, Bool, true, false, ⊤, Option, None, Some, List, map, option_map, slice_get, IfSome}
+pub mod Allowance
+pub mod ConditionLooks
+pub mod Looks
+pub mod Settling
+pub mod Witnesses
+use Rattle.std.specs.Prelude.{◌≡◌, ℕ, Bool, true, false, ⊤, Option, None}
+use Rattle.std.specs.Prelude.{Some, List, map, option_map, slice_get, IfSome}
 use Rattle.std.specs.Ordering.{is_lt}
 use Rattle.decisions.specs.Literals.{Values}
 use Rattle.providers.specs.Provider.{Universe}
-use Rattle.resolvo_queue.specs.Inspection.{clause_of}
-use Rattle.resolvo_queue.specs.Positions.{position_cmp, is_after}
+use Rattle.resolvo_queue.specs.Pick.Inspection.{clause_of}
+use Rattle.resolvo_queue.specs.Scan.Positions.{position_cmp, is_after}
 use Rattle.resolvo_queue.specs.References.{References, literals_in, references, rows_in}
 use Rattle.resolvo_queue.specs.Scan.{first_falsified, is_falsified}
 use Rattle.resolvo_queue.specs.declared.asked.Asked.{Asked}

@@ -29,7 +29,8 @@ StandsWithLists N S A H =
 -- whatever it remembers
 abbrev pub StandsWithLast : (N S A H : Type 0) → Type 0
 StandsWithLast N S A H =
-    (refs : References N S A) (q : Queue N H) (last : Option LastFalsified) → StandsOn refs q → StandsOn refs (with_last q last)
+    (refs : References N S A) (q : Queue N H) (last : Option LastFalsified) → StandsOn refs q →
+    StandsOn refs (with_last q last)
 
 -- nothing is remembered
 abbrev pub RemembersNothing : (N S A H : Type 0) → Type 0
@@ -39,12 +40,14 @@ RemembersNothing N S A H =
 -- a longer trail
 abbrev pub RemembersLonger : (N S A H : Type 0) → Type 0
 RemembersLonger N S A H =
-    (refs : References N S A) (ds more : List Decision) (q : Queue N H) → RemembersWell refs ds q → RemembersWell refs (ds ++ more) q
+    (refs : References N S A) (ds more : List Decision) (q : Queue N H) → RemembersWell refs ds q →
+    RemembersWell refs (ds ++ more) q
 
 -- one disjunction more
 abbrev pub RemembersWithDisjunction : (N S A H : Type 0) → Type 0
 RemembersWithDisjunction N S A H =
-    (refs : References N S A) (ds : List Decision) (q : Queue N H) (d : Disjunction A) → StandsOn refs q → RemembersWell refs ds q →
+    (refs : References N S A) (ds : List Decision) (q : Queue N H) (d : Disjunction A) → StandsOn refs q →
+    RemembersWell refs ds q →
     RemembersWell (references refs.universe refs.lists (refs.disjunctions ++ d ∷ [])) ds q
 
 -- lists of a requirement that had none

@@ -3,7 +3,7 @@ use Rattle.std.specs.Prelude.{◌≡◌, ◌⊎◌, ℕ, Bool, true, List, Conta
 use Rattle.std.specs.List.{list_any}
 use Rattle.providers.specs.Requirement.{same_requirement}
 use Rattle.providers.specs.declared.requirement.Requirement.{Requirement}
-use Rattle.resolvo_queue.specs.Index.{list_at}
+use Rattle.resolvo_queue.specs.Rows.ByVariable.{list_at}
 use Rattle.resolvo_queue.specs.References.{Lists}
 
 -- what a reader of rows has: the lists, and the requirements that it has walked, oldest first
@@ -30,7 +30,8 @@ listing o variable = list_at o.by_variable variable
 -- the requirement came to the listings of such variables, and nothing left any
 pub record GrowsWith (r : Requirement) (variables : List ℕ) (old new : Listed) : Type 0 where
   pub kept : (v : ℕ) (q : Requirement) → Contains (listing old v) q → Contains (listing new v) q
-  pub added : (v : ℕ) (q : Requirement) → Contains (listing new v) q → Contains (listing old v) q ⊎ ((q ≡ r) × Contains variables v)
+  pub added : (v : ℕ) (q : Requirement) → Contains (listing new v) q →
+      Contains (listing old v) q ⊎ ((q ≡ r) × Contains variables v)
 
 -- the requirement is in the listing of each of the variables
 abbrev pub HasAll : Requirement → List ℕ → Listed → Type 0

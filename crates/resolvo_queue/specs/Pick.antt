@@ -1,5 +1,12 @@
 -- What eligible clauses offer, and which offer is picked.
-use Rattle.std.specs.Prelude.{◌≡◌, ℕ, Bool, false, not, ◌==◌, ◌&&◌, ◌||◌, nat_lt, if◌then◌else◌, List, [], filter, filter_map, fold, Option, None, Some, option_map, All, Contains, MatchOption}
+pub mod Behind
+pub mod Groups
+pub mod Inspection
+pub mod Questions
+pub mod Ready
+pub mod Steps
+use Rattle.std.specs.Prelude.{◌≡◌, ℕ, Bool, false, not, ◌==◌, ◌&&◌, ◌||◌, nat_lt, if◌then◌else◌, List, [], filter}
+use Rattle.std.specs.Prelude.{filter_map, fold, Option, None, Some, option_map, All, Contains, MatchOption}
 use Rattle.std.specs.List.{list_any}
 use Rattle.typed_ids.specs.declared.version_set_id.VersionSetId.{VersionSetId}
 use Rattle.providers.specs.declared.requirement.Requirement.{Requirement}
@@ -10,7 +17,8 @@ use Rattle.resolvo_queue.specs.declared.queue_decision.QueueDecision.{QueueDecis
 use Rattle.resolvo_queue.specs.Rows.{Row, frontier}
 use Rattle.resolvo_queue.specs.Scan.{scan, is_open}
 
-module _ (val : Values) (literals_of : Option ℕ → List Lit) (rows_of : Requirement → List Row) (score : VersionSetId → ℕ) where
+module _ (val : Values) (literals_of : Option ℕ → List Lit) (rows_of : Requirement → List Row)
+    (score : VersionSetId → ℕ) where
   -- what a clause offers: none unless it is eligible; the score is that of its frontier's version set
   abbrev pub offer : RequiresClause → Option Offer
   offer c =

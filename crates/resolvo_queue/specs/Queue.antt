@@ -1,20 +1,20 @@
 -- What contracts see of a queue, and how its calls change it. N are the names of packages, H the sets of them.
-use Rattle.std.specs.Prelude.{◌≡◌, ℕ, Bool, true, false, ◌==◌, ◌<◌, ◌≤◌, if◌then◌else◌, List, [], ◌∷◌, ◌++◌, map, take, length, All, Option, Some, None, slice_get}
+use Rattle.std.specs.Prelude.{◌≡◌, ℕ, Bool, true, false, ◌==◌, ◌<◌, ◌≤◌, if◌then◌else◌, List, []}
+use Rattle.std.specs.Prelude.{◌∷◌, ◌++◌, map, take, length, All, Option, Some, None, slice_get}
 use Rattle.std.specs.declared.vec.Vec.{Vec}
 use Rattle.typed_ids.specs.TotalMaps.{SameValues}
 use Rattle.providers.specs.Provider.{Universe, sets_of}
 use Rattle.decisions.specs.Literals.{Values, known_true}
 use Rattle.decisions.specs.declared.decision.Decision.{Decision}
-use Rattle.resolvo_queue.specs.Inspection.{clause_of}
-use Rattle.resolvo_queue.specs.Listing.{IsListedWell}
-use Rattle.resolvo_queue.specs.Names.{AreCold, AreLast, counts}
+use Rattle.resolvo_queue.specs.Pick.Inspection.{clause_of}
+use Rattle.resolvo_queue.specs.Rows.Listing.{IsListedWell}
+use Rattle.resolvo_queue.specs.Parts.Names.{AreCold, AreLast, counts}
 use Rattle.resolvo_queue.specs.Occurrences.{is_listed}
-use Rattle.resolvo_queue.specs.Question.{clause_literals}
+use Rattle.resolvo_queue.specs.Pick.Questions.{clause_literals}
 use Rattle.resolvo_queue.specs.References.{References, HasParts, rows_in}
-use Rattle.resolvo_queue.specs.Synced.{FindsConditions}
-use Rattle.resolvo_queue.specs.Synced.{IsSynced as KeepsQueued}
-use Rattle.resolvo_queue.specs.Tracking.{IsInOrder, Tracking, tracking_of}
-use Rattle.resolvo_queue.specs.Witnesses.{AreCandidates, AreWitnessed, Witnessed}
+use Rattle.resolvo_queue.specs.Routing.Synced.{FindsConditions, KeepsQueued}
+use Rattle.resolvo_queue.specs.Parts.Tracking.{IsInOrder, Tracking, tracking_of}
+use Rattle.resolvo_queue.specs.Falsified.Witnesses.{AreCandidates, AreWitnessed, Witnessed}
 use Rattle.resolvo_queue.specs.declared.last_falsified.LastFalsified.{LastFalsified}
 use Rattle.resolvo_queue.specs.declared.parent_value.ParentValue.{ParentValue}
 use Rattle.resolvo_queue.specs.declared.tracked_clause.TrackedClause.{TrackedClause}
@@ -44,7 +44,8 @@ abbrev pub witnessed : {A : Type 0} → Witnesses A → Witnessed
 witnessed w = record { of = w.of; changed = w.changed.items; looked = w.looked }
 
 -- a queue's value, by what it keeps
-abbrev pub queue_of : {N H A : Type 0} → TrackedClauses A → List (Vec N A) → H → List ParentValue → Witnesses A → Queue N H
+abbrev pub queue_of : {N H A : Type 0} → TrackedClauses A → List (Vec N A) → H → List ParentValue →
+    Witnesses A → Queue N H
 queue_of tracked names hot since witnesses = record {
   clauses = map clause_of tracked.index.clauses.items;
   names = map (λ own. own.items) names;
@@ -92,7 +93,8 @@ pub record IsNew {N H : Type 0} (has : H → N → Bool) (q : Queue N H) : Type 
   pub hot : (n : N) → has q.hot n ≡ false
 
 -- one clause more, with its names, and its parent's value
-pub record IsRegistered {N H : Type 0} (has : H → N → Bool) (clause : RequiresClause) (its_names : List N) (value : Option Bool) (old new : Queue N H) : Type 0 where
+pub record IsRegistered {N H : Type 0} (has : H → N → Bool) (clause : RequiresClause) (its_names : List N)
+    (value : Option Bool) (old new : Queue N H) : Type 0 where
   pub clauses : new.clauses ≡ old.clauses ++ clause ∷ []
   pub names : new.names ≡ old.names ++ its_names ∷ []
   pub since : new.since ≡ old.since ++ (record { parent = clause.parent; value = value }) ∷ []
@@ -111,7 +113,8 @@ pub record HasTrail {N H : Type 0} (entries : List Decision) (q : Queue N H) : T
 -- the trail is the queue's below the floor, where no parent is true that was registered since as not true
 pub record AgreesBelow {N H : Type 0} (floor : ℕ) (entries : List Decision) (q : Queue N H) : Type 0 where
   pub trail : take floor q.trail ≡ take floor entries
-  pub since : All (λ p. known_true p.value ≡ false → known_true (values_of (take floor entries) p.parent) ≡ false) q.since
+  pub since : All (λ p. known_true p.value ≡ false →
+      known_true (values_of (take floor entries) p.parent) ≡ false) q.since
 
 -- the last sync was accepted, and the values are those of its trail, and those of the parents registered since
 pub record IsSynced {N H : Type 0} (val : Values) (q : Queue N H) : Type 0 where
@@ -127,17 +130,18 @@ AreNamed universe q = q.names ≡ map (λ c. map universe.set_name (sets_of univ
 abbrev pub OnlyHotScore : {N H : Type 0} → (H → N → Bool) → (N → ℕ) → Queue N H → Type 0
 OnlyHotScore {N} has scores q = (n : N) → has q.hot n ≡ false → scores n ≡ 0
 
--- witnesses are candidates of their requirements, the clauses that were there when they were last looked for have listed
--- requirements, and unless the last sync was refused, what changed finds all clauses that may
--- be falsified
+-- witnesses are candidates of their requirements, the clauses that were there when they were last looked for have
+-- listed requirements, and unless the last sync was refused, what changed finds all clauses that may be falsified
 pub record FindsFalsified {N S A H : Type 0} (refs : References N S A) (q : Queue N H) : Type 0 where
   pub candidates : AreCandidates refs.lists q.inside.occurrences q.witnesses.of
   pub looked : q.witnesses.looked ≤ length q.inside.clauses
-  pub listed : (n : ℕ) (c : TrackedClause) → slice_get q.inside.clauses n ≡ Some c → n < q.witnesses.looked → is_listed q.inside.occurrences c.required ≡ true
-  pub witnessed : q.must_start_anew ≡ false → AreWitnessed (clause_literals refs) q.inside.clauses (values_of q.trail) q.witnesses
+  pub listed : (n : ℕ) (c : TrackedClause) → slice_get q.inside.clauses n ≡ Some c → n < q.witnesses.looked →
+      is_listed q.inside.occurrences c.requirement ≡ true
+  pub witnessed : q.must_start_anew ≡ false →
+      AreWitnessed (clause_literals refs) q.inside.clauses (values_of q.trail) q.witnesses
 
--- what the queue's clauses name is there, and as it was when they were registered: the variables of a condition find the
--- clause, the rows of listed requirements are listed, and unless the last sync was refused, all clauses that may be
+-- what the queue's clauses name is there, and as it was when they were registered: the variables of a condition find
+-- the clause, the rows of listed requirements are listed, and unless the last sync was refused, all clauses that may be
 -- eligible are queued, what is known of rows is right, and all clauses that may be falsified are found by what changed
 pub record StandsOn {N S A H : Type 0} (refs : References N S A) (q : Queue N H) : Type 0 where
   pub clauses : q.clauses ≡ map clause_of q.inside.clauses
@@ -145,7 +149,8 @@ pub record StandsOn {N S A H : Type 0} (refs : References N S A) (q : Queue N H)
   pub conditions : FindsConditions q.inside.clauses (clause_literals refs) q.inside.by_condition
   pub listed : IsListedWell refs.lists q.inside.occurrences q.inside.requirements
   pub synced : q.must_start_anew ≡ false →
-      KeepsQueued q.inside.clauses (clause_literals refs) (rows_in refs) (values_of q.trail) (counts (values_of q.trail) q.since q.inside.clauses) q.inside.requirements q.inside.queued
+      KeepsQueued q.inside.clauses (clause_literals refs) (rows_in refs) (values_of q.trail)
+      (counts (values_of q.trail) q.since q.inside.clauses) q.inside.requirements q.inside.queued
   pub falsified : FindsFalsified refs q
 
 -- what always holds of a queue

@@ -1,36 +1,39 @@
 -- What routing variables leaves: who is queued, and of which requirements nothing is known any more.
+pub mod Possible
+pub mod Synced
+pub mod Trails
 use Rattle.std.specs.Prelude.{◌≡◌, ℕ, ◌⊎◌, List, Some, None, option_map, map, slice_get}
 use Rattle.decisions.specs.Decisions.{values_in}
 use Rattle.decisions.specs.Literals.{Values}
 use Rattle.decisions.specs.declared.decision.Decision.{Decision}
 use Rattle.providers.specs.declared.requirement.Requirement.{Requirement}
-use Rattle.resolvo_queue.specs.Index.{list_at}
+use Rattle.resolvo_queue.specs.Rows.ByVariable.{list_at}
 use Rattle.resolvo_queue.specs.Occurrences.{Listed, listing}
-use Rattle.resolvo_queue.specs.Order.{Stands}
-use Rattle.resolvo_queue.specs.Queued.{Queued, GrowsBy, IsOfClause, AreWoken}
-use Rattle.resolvo_queue.specs.Tracked.{Tracked, known_at, clauses_at, IsPlaceOf, forgotten}
+use Rattle.resolvo_queue.specs.Members.{Stands}
+use Rattle.resolvo_queue.specs.Parts.Queued.{Queued, GrowsBy, IsOfClause, AreWoken}
+use Rattle.resolvo_queue.specs.Parts.Records.{Record, known_at, clauses_at, IsPlaceOf, forgotten}
 use Rattle.resolvo_queue.specs.declared.clause_index.ClauseIndex.{ClauseIndex}
 use Rattle.resolvo_queue.specs.declared.routing.Routing.{Routing}
 use Rattle.resolvo_queue.specs.declared.tracked_clause.TrackedClause.{TrackedClause}
 
 -- records stay, but that nothing may be known of their rows any more
-abbrev pub OnlyForgets : List Tracked → List Tracked → Type 0
+abbrev pub OnlyForgets : List Record → List Record → Type 0
 OnlyForgets old now =
     (k : ℕ) → (slice_get now k ≡ slice_get old k) ⊎ (slice_get now k ≡ option_map forgotten (slice_get old k))
 
 -- nothing is known of these requirements' rows
-abbrev pub AreUnknown : List Requirement → List Tracked → Type 0
+abbrev pub AreUnknown : List Requirement → List Record → Type 0
 AreUnknown rs ts = (r : Requirement) → Stands r rs → (k : ℕ) → IsPlaceOf ts r k → known_at ts k ≡ None
 
 -- the records of all other requirements stay
-abbrev pub ForgetsAmong : List Requirement → List Tracked → List Tracked → Type 0
+abbrev pub ForgetsAmong : List Requirement → List Record → List Record → Type 0
 ForgetsAmong rs old now =
-    (k : ℕ) (t : Tracked) → slice_get old k ≡ Some t → (Stands t.requirement rs → ⊥) → slice_get now k ≡ Some t
+    (k : ℕ) (t : Record) → slice_get old k ≡ Some t → (Stands t.requirement rs → ⊥) → slice_get now k ≡ Some t
 
 -- the records of requirements that list none of the variables stay
-abbrev pub Unrouted : (ℕ → List Requirement) → List ℕ → List Tracked → List Tracked → Type 0
+abbrev pub Unrouted : (ℕ → List Requirement) → List ℕ → List Record → List Record → Type 0
 Unrouted listing variables old now =
-    (k : ℕ) (t : Tracked) → slice_get old k ≡ Some t →
+    (k : ℕ) (t : Record) → slice_get old k ≡ Some t →
     ((v : ℕ) → Stands v variables → Stands t.requirement (listing v) → ⊥) → slice_get now k ≡ Some t
 
 -- what variables are routed by: the clauses and who finds them, the requirements with a variable in a row, and values
@@ -55,12 +58,12 @@ ways r = ways_of r.index.now r.occurrences.now (values_in r.map.now)
 
 module _ (w : Ways) where
   -- the clauses of a requirement that was known to have no frontier, and isn't any more, are queued
-  abbrev pub WakesForgotten : List Tracked → List Tracked → Queued → Type 0
+  abbrev pub WakesForgotten : List Record → List Record → Queued → Type 0
   WakesForgotten old now q =
       (k : ℕ) → known_at old k ≡ Some None → known_at now k ≡ None → AreWoken w.clauses w.val (clauses_at old k) q
 
   -- these variables were routed
-  pub record Routes (variables : List ℕ) (ts ts' : List Tracked) (q q' : Queued) : Type 0 where
+  pub record Routes (variables : List ℕ) (ts ts' : List Record) (q q' : Queued) : Type 0 where
     pub grows : GrowsBy (IsOfClause w.clauses) q q'
     pub only : OnlyForgets ts ts'
     pub parents : (v : ℕ) → Stands v variables → AreWoken w.clauses w.val (list_at w.by_parent v) q'

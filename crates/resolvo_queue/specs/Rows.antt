@@ -1,5 +1,9 @@
 -- The rows of a requirement, and its frontier under the values of the variables.
-use Rattle.std.specs.Prelude.{ℕ, ◌<◌, ◌^◌, Bool, ◌==◌, ◌&&◌, if◌then◌else◌, List, [], map, find, count_by, flat_map, length, zip, Option, None, Some, option_map}
+pub mod ByVariable
+pub mod Listing
+pub mod States
+use Rattle.std.specs.Prelude.{ℕ, ◌<◌, ◌^◌, Bool, ◌==◌, ◌&&◌, if◌then◌else◌, List, [], map, find}
+use Rattle.std.specs.Prelude.{count_by, flat_map, length, zip, Option, None, Some, option_map}
 use Rattle.std.specs.List.{list_all, list_any}
 use Rattle.std.specs.Map.{lookup}
 use Rattle.std.specs.declared.vec.Vec.{Vec}
@@ -8,7 +12,7 @@ use Rattle.providers.specs.Provider.{Universe, sets_of}
 use Rattle.providers.specs.Requirement.{same_requirement}
 use Rattle.providers.specs.declared.requirement.Requirement.{Requirement}
 use Rattle.decisions.specs.Literals.{Values, known_true, known_false, undecided}
-use Rattle.resolvo_queue.specs.declared.frontier.Frontier.{Frontier}
+use Rattle.resolvo_queue.specs.declared.offer.Frontier.{Frontier}
 
 -- a row: the variable of a candidate, and the version set in whose list it stands
 pub record Row : Type 0 where

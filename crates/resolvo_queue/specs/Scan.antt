@@ -1,5 +1,8 @@
 -- The scan of the requires clauses, and which of them are open.
-use Rattle.std.specs.Prelude.{ℕ, Bool, not, ◌==◌, ◌&&◌, if◌then◌else◌, List, [], ◌∷◌, ◌++◌, map, filter, flat_map, find, fold, Option, is_some, is_none}
+pub mod Order
+pub mod Positions
+use Rattle.std.specs.Prelude.{ℕ, Bool, not, ◌==◌, ◌&&◌, if◌then◌else◌, List, [], ◌∷◌, ◌++◌}
+use Rattle.std.specs.Prelude.{map, filter, flat_map, find, fold, Option, is_some, is_none}
 use Rattle.std.specs.List.{list_all, list_any}
 use Rattle.providers.specs.declared.requirement.Requirement.{Requirement}
 use Rattle.decisions.specs.Literals.{Lit, Values, known_true, is_false_literal}
@@ -30,7 +33,8 @@ module _ (val : Values) (literals_of : Option ℕ → List Lit) (rows_of : Requi
   -- the parent is true, the literals of the condition are false, and no row is true
   abbrev pub is_open : RequiresClause → Bool
   is_open c =
-      known_true (val c.parent) && (are_literals_false val (literals_of c.condition) && not (has_true_row val (rows_of c.requirement)))
+      known_true (val c.parent) &&
+      (are_literals_false val (literals_of c.condition) && not (has_true_row val (rows_of c.requirement)))
 
   -- open, with an undecided row
   abbrev pub is_eligible : RequiresClause → Bool

@@ -1,34 +1,35 @@
 -- How often the rows of requirements were walked, or looked at for a witness, and how often they may be walked before a
 -- variable changes.
-use Rattle.std.specs.Prelude.{◌≡◌, ◌⊎◌, ℕ, ◌+◌, ◌≤◌, Bool, true, false, is_some, List, ◌++◌, Option, None, Some, find, drop}
+use Rattle.std.specs.Prelude.{◌≡◌, ◌⊎◌, ℕ, ◌+◌, ◌≤◌, Bool, true, false, is_some}
+use Rattle.std.specs.Prelude.{List, ◌++◌, Option, None, Some, find, drop}
 use Rattle.decisions.specs.declared.decision.Decision.{Decision}
 use Rattle.providers.specs.Requirement.{same_requirement}
 use Rattle.providers.specs.declared.requirement.Requirement.{Requirement}
 use Rattle.resolvo_queue.specs.Occurrences.{times}
-use Rattle.resolvo_queue.specs.Order.{Stands}
+use Rattle.resolvo_queue.specs.Members.{Stands}
 use Rattle.resolvo_queue.specs.Queue.{Queue}
 use Rattle.resolvo_queue.specs.Routing.{variables_of}
 use Rattle.resolvo_queue.specs.Rows.{Row}
-use Rattle.resolvo_queue.specs.Tracked.{Tracked, owed_of, walk_of}
+use Rattle.resolvo_queue.specs.Parts.Records.{Record, owed_of, walk_of}
 
 -- the record of a requirement, if it has one
-abbrev pub record_of : List Tracked → Requirement → Option Tracked
-record_of ts r = find (λ (t : Tracked). same_requirement r t.requirement) ts
+abbrev pub record_of : List Record → Requirement → Option Record
+record_of ts r = find (λ (t : Record). same_requirement r t.requirement) ts
 
-abbrev pub walks_of : Option Tracked → ℕ
+abbrev pub walks_of : Option Record → ℕ
 walks_of None = 0
 walks_of (Some t) = t.walks
 
 -- how often its rows were walked; never without a record
-abbrev pub walks_in : List Tracked → Requirement → ℕ
+abbrev pub walks_in : List Record → Requirement → ℕ
 walks_in ts r = walks_of (record_of ts r)
 
 -- the walks, and one more while nothing is known of the rows; 0 without a record
-abbrev pub owed_in : List Tracked → Requirement → ℕ
+abbrev pub owed_in : List Record → Requirement → ℕ
 owed_in ts r = owed_of (record_of ts r)
 
 -- whether what a walk answered is known
-abbrev pub is_known : List Tracked → Requirement → Bool
+abbrev pub is_known : List Record → Requirement → Bool
 is_known ts r = is_some (walk_of (record_of ts r))
 
 -- ---- in a queue
@@ -46,7 +47,7 @@ looks q r = times q.witnesses.of.looks r
 -- ---- a question
 
 -- requirements were walked, each once, and no others; the log has them, and each walk is owed no more
-pub record WalksOnce (old now : List Tracked) (log log' : List Requirement) : Type 0 where
+pub record WalksOnce (old now : List Record) (log log' : List Requirement) : Type 0 where
   pub walked : List Requirement
   pub logged : log' ≡ log ++ walked
   pub once : (r : Requirement) → times walked r ≤ 1
@@ -61,16 +62,12 @@ pub record WalksOnce (old now : List Tracked) (log log' : List Requirement) : Ty
 -- ---- a clause that comes
 
 -- the walks stay, and so does what is owed, but that a requirement may get its record, and owes its first walk
-pub record OwesFirst (own : Requirement) (old now : List Tracked) : Type 0 where
+pub record OwesFirst (own : Requirement) (old now : List Record) : Type 0 where
   pub walks : (r : Requirement) → walks_in now r ≡ walks_in old r
-  pub owed : (r : Requirement) → (owed_in now r ≡ owed_in old r) ⊎ ((r ≡ own) × (owed_in old r ≡ 0) × (owed_in now r ≡ 1))
+  pub owed : (r : Requirement) → (owed_in now r ≡ owed_in old r) ⊎
+      ((r ≡ own) × (owed_in old r ≡ 0) × (owed_in now r ≡ 1))
 
 -- ---- a sync
-
--- the walks stay, and at most one more is owed of each requirement
-pub record OwesOneMore (old now : List Tracked) : Type 0 where
-  pub walks : (r : Requirement) → walks_in now r ≡ walks_in old r
-  pub owed : (r : Requirement) → owed_in now r ≤ owed_in old r + 1
 
 -- the variables of the decisions from a floor on, in the queue's trail and in another
 abbrev pub changed_from : {N H : Type 0} → ℕ → List Decision → Queue N H → List ℕ

@@ -1,14 +1,13 @@
 //! The registered clauses, and who finds them.
 ghost use Rattle.std.specs.Prelude.{◌≡◌, ◌<◌, ◌^◌, length, slice_get, option_map, MatchOption, OnOk, IfErr};
 ghost use Rattle.typed_ids.specs.declared.error.StoreError.TheVariants.{OutOfMemory};
-ghost use Rattle.resolvo_queue.specs.Index.{list_at};
-ghost use Rattle.resolvo_queue.specs.Registered.{FoundByAll, GainsNumber};
+ghost use Rattle.resolvo_queue.specs.Rows.ByVariable.{list_at};
+ghost use Rattle.resolvo_queue.specs.Parts.Numbers.{FoundByAll, GainsNumber};
 ghost use Rattle.resolvo_queue.specs.declared.group.Group.TheVariants.{OfParent};
 
 use crate::group::Group;
 use crate::lists_by_variable::ListsByVariable;
-use crate::position::Position;
-use crate::tracked_clause::TrackedClause;
+use crate::tracked_clause::{Position, TrackedClause};
 use decisions::Literal;
 use std::alloc::Allocator;
 use typed_ids::{StoreError, VariableId};

@@ -3,8 +3,8 @@ ghost use Rattle.std.specs.Prelude.{◌≡◌, ◌↔◌, ◌-◌, true, [], Ok,
 ghost use Rattle.std.specs.Prelude.{IfErr};
 ghost use Rattle.typed_ids.specs.declared.error.StoreError.TheVariants.{OutOfMemory};
 ghost use Rattle.typed_ids.specs.TotalMaps.{SameValues};
-ghost use Rattle.resolvo_queue.specs.ByName.{IsEntered, KeepsNumbers, numbers_under};
-ghost use Rattle.resolvo_queue.specs.Order.{Stands};
+ghost use Rattle.resolvo_queue.specs.Parts.ByName.{IsEntered, KeepsNumbers, numbers_under};
+ghost use Rattle.resolvo_queue.specs.Members.{Stands};
 
 use id_maps::{IdMap, Slot, SolverId};
 use std::alloc::Allocator;
@@ -21,7 +21,7 @@ pub(crate) struct ClausesByName<N: SolverId<A>, A: Allocator + Copy> {
 
 impl<N: SolverId<A>, A: Allocator + Copy> Model for ClausesByName<N, A> {
     ghost use Rattle.std.specs.Prelude.{map};
-    ghost use Rattle.resolvo_queue.specs.ByName.{ByName, HaveLists};
+    ghost use Rattle.resolvo_queue.specs.Parts.ByName.{ByName, HaveLists};
 
     ghost Value = { ByName N.Slots };
 

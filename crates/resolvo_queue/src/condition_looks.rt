@@ -7,8 +7,8 @@
 ghost use Rattle.std.specs.Prelude.{◌<◌, ◌++◌, ◌↔◌, IfSome, IsSome, IsTrue, length, sum_by};
 ghost use Rattle.std.specs.Map.{lookup};
 ghost use Rattle.providers.specs.Requirement.{same_requirement};
-ghost use Rattle.resolvo_queue.specs.Allowance.{Leaves};
-ghost use Rattle.resolvo_queue.specs.ConditionLooks.{CanReckon, read_at, read_by, read_of};
+ghost use Rattle.resolvo_queue.specs.Falsified.Allowance.{Leaves};
+ghost use Rattle.resolvo_queue.specs.Falsified.ConditionLooks.{CanReckon, read_at, read_by, read_of};
 ghost use Rattle.resolvo_queue.specs.Routing.{variables_of};
 
 use crate::allowance::less;
@@ -37,7 +37,7 @@ impl<'c, A: Allocator + Copy> ConditionLooks<'c, A> {
     /// What remains of an allowance after a look at a clause. A short condition takes nothing.
     fn after_clause(&self, clause: &TrackedClause, allowance: usize) -> Option<usize>
         requires condition { IfSome clause.now.condition (λ d. d < length self.now.disjunctions.now) }
-        requires lists { IsSome (lookup (same_requirement clause.now.required) self.now.reader.now.lists) }
+        requires lists { IsSome (lookup (same_requirement clause.now.requirement) self.now.reader.now.lists) }
         ensures { Leaves allowance (read_at self.now clause.now) result }
     {
         let literals = condition_of(&clause.condition, self.disjunctions).len();
@@ -45,7 +45,7 @@ impl<'c, A: Allocator + Copy> ConditionLooks<'c, A> {
             return Some(allowance);
         }
         let rest = less(allowance, literals)?;
-        self.reader.less_rows(clause.required, rest)
+        self.reader.less_rows(clause.requirement, rest)
     }
 
     /// What remains of an allowance after a look at the clause with a number. A number past the end takes nothing.

@@ -68,21 +68,21 @@ ghost use Rattle.providers.specs.declared.requirement.Requirement.{Requirement a
 ghost use Rattle.decisions.specs.Decisions.{values_in};
 ghost use Rattle.decisions.specs.declared.decision.Decision.{Decision as ADecision};
 ghost use Rattle.resolvo_queue.specs.Clear.{RemembersWell};
-ghost use Rattle.resolvo_queue.specs.Listing.{IsListedWell};
-ghost use Rattle.resolvo_queue.specs.Names.{ColdLack};
+ghost use Rattle.resolvo_queue.specs.Rows.Listing.{IsListedWell};
+ghost use Rattle.resolvo_queue.specs.Parts.Names.{ColdLack};
 ghost use Rattle.resolvo_queue.specs.Pick.{eligible, pick, decided, DecidesUnbeaten};
 ghost use Rattle.resolvo_queue.specs.Queue.{AgreesBelow, AreNamed, HasTrail, IsNew, IsRegistered, IsSynced};
 ghost use Rattle.resolvo_queue.specs.Queue.{IsUnchanged, OnlyHotScore, SameClauses, SameSync, StandsOn, values_of};
 ghost use Rattle.resolvo_queue.specs.References.{CanWalk, IsWalkable, Lists, References, literals_in, references};
 ghost use Rattle.resolvo_queue.specs.References.{rows_in, score_in};
 ghost use Rattle.resolvo_queue.specs.Scan.{first_falsified, is_eligible, scan};
-ghost use Rattle.resolvo_queue.specs.Synced.{FindsConditions};
+ghost use Rattle.resolvo_queue.specs.Routing.Synced.{FindsConditions};
 ghost use Rattle.resolvo_queue.specs.WalkCounts.{HasNoneOf, WalksOnce, changed_from, looks, owed, walks};
-ghost use Rattle.resolvo_queue.specs.Witnesses.{AreCandidates, HaveEntries, NoneFalsified, literals_by};
+ghost use Rattle.resolvo_queue.specs.Falsified.Witnesses.{AreCandidates, HaveEntries, NoneFalsified, literals_by};
 
 mod finding;
 
-use crate::asked::Asked;
+use crate::asked::{Asked, Question};
 use crate::clauses_by_name::ClausesByName;
 use crate::condition::condition_of;
 use crate::deciding::next_offer;
@@ -90,7 +90,6 @@ use crate::falsification::{falsified_clause, id_of};
 use crate::names::{copied, has_hot_name};
 use crate::offer::decision_at;
 use crate::parent_value::{ParentValue, is_true};
-use crate::question::Question;
 use crate::queue_decision::QueueDecision;
 use crate::requires_clause::RequiresClause;
 use crate::row_reader::RowReader;
@@ -125,7 +124,7 @@ pub struct DecideQueue<D: DependencyProvider> {
 
 impl<D: DependencyProvider> Model for DecideQueue<D> {
     ghost use Rattle.std.specs.Prelude.{map};
-    ghost use Rattle.resolvo_queue.specs.ByName.{AreEntered, numbers_under};
+    ghost use Rattle.resolvo_queue.specs.Parts.ByName.{AreEntered, numbers_under};
     ghost use Rattle.resolvo_queue.specs.Queue.{IsKept, Queue, queue_of};
 
     ghost Value = { Queue D.NameId D.NameId.Set };

@@ -5,29 +5,26 @@ ghost use Rattle.std.specs.Prelude.{◌≡◌, ◌<◌, Some, None, true, false,
 ghost use Rattle.std.specs.Prelude.{IfSome, MatchOption, OnOk, IfOk, IfErr};
 ghost use Rattle.typed_ids.specs.declared.error.StoreError.TheVariants.{OutOfMemory};
 ghost use Rattle.decisions.specs.Decisions.{values_in};
-ghost use Rattle.resolvo_queue.specs.Asking.{CanBeAsked, OnlyWalks};
-ghost use Rattle.resolvo_queue.specs.Group.{group_at, has_of, is_in, offers_of};
-ghost use Rattle.resolvo_queue.specs.Inspection.{eligible_frontier, offer_with};
+ghost use Rattle.resolvo_queue.specs.Pick.Steps.{CanBeAsked, OnlyWalks};
+ghost use Rattle.resolvo_queue.specs.Pick.Groups.{group_at, has_of, is_in, offers_of};
+ghost use Rattle.resolvo_queue.specs.Pick.Inspection.{eligible_frontier, offer_with};
 ghost use Rattle.resolvo_queue.specs.Pick.{best_offer, is_of_root, pick};
-ghost use Rattle.resolvo_queue.specs.Positions.{has, is_after, IsBefore};
-ghost use Rattle.resolvo_queue.specs.Queued.{IsOfClause, set_of};
-ghost use Rattle.resolvo_queue.specs.Question.{clause_literals, offers_in, AreUpTo};
-ghost use Rattle.resolvo_queue.specs.Ready.{IsDone, ColdHasNoScore, offered, rest_picked, improved};
+ghost use Rattle.resolvo_queue.specs.Scan.Positions.{has, is_after, IsBefore};
+ghost use Rattle.resolvo_queue.specs.Parts.Queued.{IsOfClause, set_of};
+ghost use Rattle.resolvo_queue.specs.Pick.Questions.{clause_literals, offers_in, AreUpTo};
+ghost use Rattle.resolvo_queue.specs.Pick.Ready.{IsDone, ColdHasNoScore, offered, rest_picked, improved};
 ghost use Rattle.resolvo_queue.specs.References.{references, rows_in, score_in};
-ghost use Rattle.resolvo_queue.specs.declared.position.Position.{Position as APosition};
+ghost use Rattle.resolvo_queue.specs.declared.tracked_clause.Position.{Position as APosition};
 ghost use Rattle.resolvo_queue.specs.declared.tracked_clause.TrackedClause.{TrackedClause as ATrackedClause};
 ghost use Rattle.typed_ids.specs.declared.version_set_id.VersionSetId.{VersionSetId as AVersionSetId};
 
-use crate::candidate::Candidate;
-use crate::frontier::Frontier;
+use crate::asked::Question;
 use crate::group::Group;
 use crate::inspection::inspect;
-use crate::offer::Offer;
-use crate::position::Position;
-use crate::question::Question;
+use crate::offer::{Candidate, Frontier, Offer};
 use crate::requires_clause::RequiresClause;
 use crate::row_reader::RowReader;
-use crate::tracked_clause::TrackedClause;
+use crate::tracked_clause::{Position, TrackedClause};
 use crate::tracked_clauses::TrackedClauses;
 use id_maps::{IdMap, SolverId};
 use providers::Interner;
@@ -35,7 +32,7 @@ use std::alloc::Allocator;
 use typed_ids::{StoreError, VariableId, VersionSetId};
 
 /// Where the clause at a position is eligible. One that isn't leaves the queue.
-fn look<I: Interner>(
+fn inspect_at<I: Interner>(
     tracked: &mut TrackedClauses<I::Alloc>,
     position: Position,
     reader: &mut RowReader<'_, I::Alloc>,
@@ -89,7 +86,7 @@ fn offer_at<I: Interner>(
     Offer {
         clause: RequiresClause {
             parent: clause.parent,
-            requirement: clause.required,
+            requirement: clause.requirement,
             condition: clause.condition,
             clause_id: clause.clause_id,
         },
@@ -144,7 +141,7 @@ fn first_eligible<I: Interner>(
     ensures memory { IfErr result (λ e. e ≡ OutOfMemory) }
 {
     while let Some(position) = tracked.queued.first_of(group) {
-        match look(tracked, position, reader, question)? {
+        match inspect_at(tracked, position, reader, question)? {
             Some(frontier) => return Ok(Some(candidate_at(tracked, position, frontier, question))),
             None => {}
         }
@@ -201,7 +198,7 @@ fn improve<I: Interner>(
     ensures walks { OnlyWalks tracked.old tracked.new reader.old reader.new }
     ensures memory { IfErr result (λ e. e ≡ OutOfMemory) }
 {
-    let frontier = match look(tracked, position, reader, question)? {
+    let frontier = match inspect_at(tracked, position, reader, question)? {
         Some(frontier) => frontier,
         None => return Ok(()),
     };

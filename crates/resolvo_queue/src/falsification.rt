@@ -2,7 +2,7 @@
 ghost use Rattle.std.specs.Prelude.{◌≡◌, ◌<◌, ◌&&◌, length, option_map, IfSome};
 ghost use Rattle.decisions.specs.Decisions.{values_in};
 ghost use Rattle.resolvo_queue.specs.Falsified.{FindsFirst, comes_first, is_falsified_in, refs_of};
-ghost use Rattle.resolvo_queue.specs.Question.{AreAskable};
+ghost use Rattle.resolvo_queue.specs.Pick.Questions.{AreAskable};
 ghost use Rattle.resolvo_queue.specs.References.{IsWalkable};
 
 use crate::asked::Asked;
@@ -46,7 +46,7 @@ pub(crate) fn is_earlier<I: Interner, A: Allocator + Copy>(
     asked: &Asked<'_, I, A>,
 ) -> bool
     requires condition { IfSome clause.now.condition (λ d. d < length asked.now.disjunctions.now) }
-    requires walkable { IsWalkable (I.universe asked.now.interner.now) asked.now.lists.now clause.now.required }
+    requires walkable { IsWalkable (I.universe asked.now.interner.now) asked.now.lists.now clause.now.requirement }
     ensures { let refs = refs_of I.universe asked.now in
         result ≡ (comes_first clause.now found.now && is_falsified_in refs (values_in asked.now.map.now) clause.now) }
 {

@@ -1,7 +1,7 @@
 //! Which clauses a question goes through at a time.
 ghost use Rattle.std.specs.Prelude.{◌≡◌, false};
 
-use crate::position::Position;
+use crate::tracked_clause::Position;
 
 /// The clauses of one parent, or those of all. In the order of the scan a parent's clauses lie side by side.
 #[derive(Clone, Copy)]
@@ -12,7 +12,7 @@ pub(crate) enum Group {
 }
 
 impl Group {
-    ghost use Rattle.resolvo_queue.specs.Group.{group_at, is_in, only_in, start_of};
+    ghost use Rattle.resolvo_queue.specs.Pick.Groups.{group_at, is_in, only_in, start_of};
 
     /// The clauses of the parent whose clause is at the position.
     pub(crate) fn at(position: Position) -> Self

@@ -1,8 +1,8 @@
 //! Clauses that become hot.
 ghost use Rattle.std.specs.Prelude.{◌≡◌, ℕ, Some, true, [], slice_get, IsOk, OnOk, IfErr};
 ghost use Rattle.typed_ids.specs.declared.error.StoreError.TheVariants.{OutOfMemory};
-ghost use Rattle.resolvo_queue.specs.Order.{Stands};
-ghost use Rattle.resolvo_queue.specs.Tracking.{Heats, tracking_of};
+ghost use Rattle.resolvo_queue.specs.Members.{Stands};
+ghost use Rattle.resolvo_queue.specs.Parts.Tracking.{Heats, tracking_of};
 ghost use Rattle.resolvo_queue.specs.declared.tracked_clause.TrackedClause.{TrackedClause as ATrackedClause};
 
 use crate::tracked_clauses::TrackedClauses;

@@ -6,17 +6,17 @@ ghost use Rattle.decisions.specs.Decisions.{values_in};
 ghost use Rattle.providers.specs.Requirement.{same_requirement};
 ghost use Rattle.resolvo_queue.specs.Rows.{loaded_rows, frontier};
 ghost use Rattle.resolvo_queue.specs.Rows.{candidates};
-ghost use Rattle.resolvo_queue.specs.Question.{clause_literals};
+ghost use Rattle.resolvo_queue.specs.Pick.Questions.{clause_literals};
 ghost use Rattle.resolvo_queue.specs.References.{IsWalkable, references};
-ghost use Rattle.resolvo_queue.specs.Inspection.{Learns, ListsOnly, eligible_frontier, may_be};
-ghost use Rattle.resolvo_queue.specs.Listing.{IsListedWell};
+ghost use Rattle.resolvo_queue.specs.Pick.Inspection.{Learns, ListsOnly, eligible_frontier, may_be};
+ghost use Rattle.resolvo_queue.specs.Rows.Listing.{IsListedWell};
 ghost use Rattle.resolvo_queue.specs.Occurrences.{is_listed, GrowsWith, KeepsListed};
-ghost use Rattle.resolvo_queue.specs.Tracked.{known_at, IsPlaceOf, OwesSame, SameFound};
+ghost use Rattle.resolvo_queue.specs.Parts.Records.{known_at, IsPlaceOf, OwesSame, SameFound};
 ghost use Rattle.resolvo_queue.specs.WalkCounts.{WalksOnce};
 
+use crate::asked::Question;
 use crate::condition::is_met;
-use crate::frontier::Frontier;
-use crate::question::Question;
+use crate::offer::Frontier;
 use crate::requirements::{Requirements, Walk};
 use crate::row_reader::{Occurrences, RowReader};
 use crate::tracked_clause::TrackedClause;
@@ -53,21 +53,21 @@ fn requirement_frontier<I: Interner>(
     clause: &TrackedClause,
     question: &Question<'_, I>,
 ) -> Result<Option<Frontier>, StoreError>
-    requires place { IsPlaceOf requirements.old clause.now.required clause.now.requirement }
-    requires walkable { IsWalkable (I.universe question.now.interner.now) reader.old.lists clause.now.required }
+    requires place { IsPlaceOf requirements.old clause.now.requirement clause.now.record }
+    requires walkable { IsWalkable (I.universe question.now.interner.now) reader.old.lists clause.now.requirement }
     requires listed { IsListedWell reader.old.lists occurrences.old requirements.old }
     requires right { let universe = I.universe question.now.interner.now in
-        let rows = loaded_rows universe reader.old.lists clause.now.required in
-        (f : _) → known_at requirements.old clause.now.requirement ≡ Some f →
+        let rows = loaded_rows universe reader.old.lists clause.now.requirement in
+        (f : _) → known_at requirements.old clause.now.record ≡ Some f →
         f ≡ frontier (values_in question.now.map.now) rows }
     ensures frontier { let universe = I.universe question.now.interner.now in
-        let rows = loaded_rows universe reader.old.lists clause.now.required in
+        let rows = loaded_rows universe reader.old.lists clause.now.requirement in
         IfOk result (λ f. f ≡ frontier (values_in question.now.map.now) rows) }
-    ensures known { IfOk result (λ f. known_at requirements.new clause.now.requirement ≡ Some f) }
+    ensures known { IfOk result (λ f. known_at requirements.new clause.now.record ≡ Some f) }
     ensures once { WalksOnce requirements.old requirements.new reader.old.walked reader.new.walked }
     ensures learns { let universe = I.universe question.now.interner.now in
-        let rows = loaded_rows universe reader.old.lists clause.now.required in
-        Learns clause.now.required clause.now.requirement (frontier (values_in question.now.map.now) rows)
+        let rows = loaded_rows universe reader.old.lists clause.now.requirement in
+        Learns clause.now.requirement clause.now.record (frontier (values_in question.now.map.now) rows)
         requirements.old requirements.new reader.old.walked reader.new.walked }
     ensures rows { reader.new.lists ≡ reader.old.lists }
     ensures listed { IsListedWell reader.old.lists occurrences.new requirements.new }
@@ -76,12 +76,12 @@ fn requirement_frontier<I: Interner>(
     ensures found { SameFound requirements.old requirements.new }
     ensures memory { IfErr result (λ e. e ≡ OutOfMemory) }
 {
-    match requirements.walk(clause.requirement) {
+    match requirements.known(clause.record) {
         Walk::Known(frontier) => Ok(frontier),
         Walk::Unknown => {
-            list_once(occurrences, reader, clause.required)?;
-            let frontier = reader.walk(clause.required, question.map, question.interner);
-            requirements.keep(clause.requirement, &frontier);
+            list_once(occurrences, reader, clause.requirement)?;
+            let frontier = reader.walk(clause.requirement, question.map, question.interner);
+            requirements.keep(clause.record, &frontier);
             Ok(frontier)
         }
     }
@@ -95,13 +95,13 @@ pub(crate) fn inspect<I: Interner>(
     clause: &TrackedClause,
     question: &Question<'_, I>,
 ) -> Result<Option<Frontier>, StoreError>
-    requires place { IsPlaceOf requirements.old clause.now.required clause.now.requirement }
+    requires place { IsPlaceOf requirements.old clause.now.requirement clause.now.record }
     requires condition { IfSome clause.now.condition (λ d. d < length question.now.disjunctions.now) }
-    requires walkable { IsWalkable (I.universe question.now.interner.now) reader.old.lists clause.now.required }
+    requires walkable { IsWalkable (I.universe question.now.interner.now) reader.old.lists clause.now.requirement }
     requires listed { IsListedWell reader.old.lists occurrences.old requirements.old }
     requires right { let universe = I.universe question.now.interner.now in
-        let rows = loaded_rows universe reader.old.lists clause.now.required in
-        (f : _) → known_at requirements.old clause.now.requirement ≡ Some f →
+        let rows = loaded_rows universe reader.old.lists clause.now.requirement in
+        (f : _) → known_at requirements.old clause.now.record ≡ Some f →
         f ≡ frontier (values_in question.now.map.now) rows }
     ensures eligible { let refs = references (I.universe question.now.interner.now)
         reader.old.lists question.now.disjunctions.now in
@@ -115,8 +115,8 @@ pub(crate) fn inspect<I: Interner>(
         IfOk result (λ f. may_be val (clause_literals refs) requirements.new clause.now ≡ is_some f) }
     ensures once { WalksOnce requirements.old requirements.new reader.old.walked reader.new.walked }
     ensures learns { let universe = I.universe question.now.interner.now in
-        let rows = loaded_rows universe reader.old.lists clause.now.required in
-        Learns clause.now.required clause.now.requirement (frontier (values_in question.now.map.now) rows)
+        let rows = loaded_rows universe reader.old.lists clause.now.requirement in
+        Learns clause.now.requirement clause.now.record (frontier (values_in question.now.map.now) rows)
         requirements.old requirements.new reader.old.walked reader.new.walked }
     ensures rows { reader.new.lists ≡ reader.old.lists }
     ensures listed { IsListedWell reader.old.lists occurrences.new requirements.new }

@@ -16,7 +16,6 @@
 
 mod allowance;
 mod asked;
-mod candidate;
 mod clause_index;
 mod clauses_by_name;
 mod condition;
@@ -24,7 +23,6 @@ mod condition_looks;
 mod decide_queue;
 mod deciding;
 mod falsification;
-mod frontier;
 mod group;
 mod heating;
 mod inspection;
@@ -36,9 +34,7 @@ mod looking_again;
 mod names;
 mod offer;
 mod parent_value;
-mod position;
 mod position_set;
-mod question;
 mod queue_decision;
 mod queued_clauses;
 mod registering;
@@ -56,8 +52,7 @@ mod walk_log;
 mod witnesses;
 
 pub use decide_queue::DecideQueue;
-pub use frontier::Frontier;
-pub use offer::Offer;
+pub use offer::{Frontier, Offer};
 pub use queue_decision::QueueDecision;
 pub use requires_clause::RequiresClause;
 pub use row_reader::{Occurrences, RowReader};

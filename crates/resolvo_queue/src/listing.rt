@@ -5,12 +5,12 @@
 ghost use Rattle.std.specs.Prelude.{◌≡◌, ◌≤◌, ℕ, List, [], true, length, slice_get, Some, OnErr, OnOk, IfErr};
 ghost use Rattle.typed_ids.specs.declared.error.StoreError.TheVariants.{OutOfMemory};
 ghost use Rattle.decisions.specs.Decisions.{values_in};
-ghost use Rattle.resolvo_queue.specs.Listing.{IsListedWell};
+ghost use Rattle.resolvo_queue.specs.Rows.Listing.{IsListedWell};
 ghost use Rattle.resolvo_queue.specs.Occurrences.{KeepsListed, is_listed};
-ghost use Rattle.resolvo_queue.specs.Order.{Stands};
-ghost use Rattle.resolvo_queue.specs.Tracked.{Tracked};
-ghost use Rattle.resolvo_queue.specs.Settling.{AreFound, AreSettled, CanSettle, HaveLists, Settles, basis_of};
-ghost use Rattle.resolvo_queue.specs.Witnesses.{AreTouching, literals_by};
+ghost use Rattle.resolvo_queue.specs.Members.{Stands};
+ghost use Rattle.resolvo_queue.specs.Parts.Records.{Record};
+ghost use Rattle.resolvo_queue.specs.Falsified.Settling.{AreFound, AreSettled, CanSettle, HaveLists, Settles, basis_of};
+ghost use Rattle.resolvo_queue.specs.Falsified.Witnesses.{AreTouching, literals_by};
 ghost use Rattle.resolvo_queue.specs.declared.tracked_clause.TrackedClause.{TrackedClause as ATrackedClause};
 
 use crate::inspection::list_once;
@@ -32,14 +32,14 @@ fn list_all<A: Allocator + Copy>(
 ) -> Result<(), StoreError>
     requires { HaveLists reader.now.lists clauses.now }
     ensures keeps { KeepsListed occurrences.old occurrences.new }
-    ensures well { (ts : List Tracked) → IsListedWell reader.now.lists occurrences.old ts →
+    ensures well { (ts : List Record) → IsListedWell reader.now.lists occurrences.old ts →
         IsListedWell reader.now.lists occurrences.new ts }
     ensures listed { OnOk result ((c : ATrackedClause) → Stands c clauses.now →
-        is_listed occurrences.new c.required ≡ true) }
+        is_listed occurrences.new c.requirement ≡ true) }
     ensures memory { IfErr result (λ e. e ≡ OutOfMemory) }
 {
     for clause in clauses {
-        list_once(occurrences, reader, clause.required)?;
+        list_once(occurrences, reader, clause.requirement)?;
     }
     Ok(())
 }
@@ -67,7 +67,7 @@ impl<A: Allocator + Copy> TrackedClauses<A> {
         ensures changed { OnOk result (witnesses.new.changed.items ≡ []) }
         ensures looked { OnOk result (witnesses.new.looked ≡ length self.old.index.clauses.items) }
         ensures listed { OnOk result ((n : ℕ) (c : ATrackedClause) → slice_get self.old.index.clauses.items n ≡ Some c →
-            witnesses.old.looked ≤ n → is_listed self.new.occurrences c.required ≡ true) }
+            witnesses.old.looked ≤ n → is_listed self.new.occurrences c.requirement ≡ true) }
         ensures settled { let basis = basis_of reader.now.lists disjunctions.now self.old.index (values_in map.now) in
             let literals = literals_by disjunctions.now in
             let found = λ (n : ℕ). AreTouching literals witnesses.old.of witnesses.old.changed.items in

@@ -2,7 +2,7 @@
 ghost use Rattle.std.specs.Prelude.{◌≡◌, ◌<◌, [], ◌∷◌, ◌++◌, map, OnOk, OnErr, IfErr, vec_len};
 ghost use Rattle.typed_ids.specs.declared.error.StoreError.TheVariants.{OutOfMemory};
 ghost use Rattle.typed_ids.specs.TotalMaps.{IsUpdate, SameValues};
-ghost use Rattle.resolvo_queue.specs.Index.{list_at};
+ghost use Rattle.resolvo_queue.specs.Rows.ByVariable.{list_at};
 
 use std::alloc::Allocator;
 use std::marker::Model;

@@ -1,13 +1,13 @@
 //! Looking for the first falsified clause among those that changed variables find.
 ghost use Rattle.std.specs.Prelude.{◌≡◌, ◌++◌, ◌↔◌, ◌≤◌, ℕ, Some, IsTrue, drop, false, length, slice_get};
 ghost use Rattle.resolvo_queue.specs.Falsified.{FindsFirst};
-ghost use Rattle.resolvo_queue.specs.Looking.{AreToLookAt, CanAsk, CanLook, FindsFalsified, clauses_of};
-ghost use Rattle.resolvo_queue.specs.Looking.{is_falsified_by, literals_of};
+ghost use Rattle.resolvo_queue.specs.Falsified.Looks.{AreToLookAt, CanAsk, CanLook, FindsFalsified, clauses_of};
+ghost use Rattle.resolvo_queue.specs.Falsified.Looks.{is_falsified_by, literals_of};
 ghost use Rattle.resolvo_queue.specs.Occurrences.{listing};
-ghost use Rattle.resolvo_queue.specs.Order.{Stands};
+ghost use Rattle.resolvo_queue.specs.Members.{Stands};
 ghost use Rattle.resolvo_queue.specs.Routing.{variables_of};
-ghost use Rattle.resolvo_queue.specs.Tracking.{IsInOrder, tracking_of};
-ghost use Rattle.resolvo_queue.specs.Witnesses.{AreTouching, Touches, witness};
+ghost use Rattle.resolvo_queue.specs.Parts.Tracking.{IsInOrder, tracking_of};
+ghost use Rattle.resolvo_queue.specs.Falsified.Witnesses.{AreTouching, Touches, witness};
 ghost use Rattle.resolvo_queue.specs.declared.tracked_clause.TrackedClause.{TrackedClause as ATrackedClause};
 
 use crate::asked::Asked;
@@ -41,7 +41,7 @@ impl<A: Allocator + Copy> TrackedClauses<A> {
     pub(crate) fn clauses_with(&self, requirement: Requirement) -> &[u32]
         requires { IsInOrder (tracking_of self.now) }
         ensures { (n : ℕ) (c : ATrackedClause) → slice_get self.now.index.clauses.items n ≡ Some c →
-            c.required ≡ requirement → Stands n result.now }
+            c.requirement ≡ requirement → Stands n result.now }
     {
         match self.requirements.place(requirement) {
             Some(place) => self.requirements.clauses(place),
@@ -117,7 +117,7 @@ impl<'a, I: Interner, A: Allocator + Copy> Look<'a, I, A> {
         first: Option<TrackedClause>,
     ) -> Option<TrackedClause>
         requires { CanLook I.universe self.now }
-        ensures { FindsFalsified I.universe self.now (λ n c. (c.required ≡ requirement)
+        ensures { FindsFalsified I.universe self.now (λ n c. (c.requirement ≡ requirement)
             × (witness self.now.witnesses.now.of requirement ≡ Some variable)) first result }
     {
         if !is_witness(&self.witnesses.of, requirement, variable) {
@@ -134,8 +134,8 @@ impl<'a, I: Interner, A: Allocator + Copy> Look<'a, I, A> {
     ) -> Option<TrackedClause>
         requires { CanLook I.universe self.now }
         ensures { FindsFalsified I.universe self.now
-            (λ n c. Stands c.required (listing self.now.tracked.now.occurrences variable)
-            × (witness self.now.witnesses.now.of c.required ≡ Some variable)) first result }
+            (λ n c. Stands c.requirement (listing self.now.tracked.now.occurrences variable)
+            × (witness self.now.witnesses.now.of c.requirement ≡ Some variable)) first result }
     {
         let mut found = first;
         for requirement in self.tracked.occurrences.listing(variable) {

@@ -8,10 +8,11 @@ ghost use Rattle.typed_ids.specs.TotalMaps.{SameValues};
 ghost use Rattle.decisions.specs.Decisions.{values_in};
 ghost use Rattle.resolvo_queue.specs.Clear.{AreConcerning, Concerns, IsClear};
 ghost use Rattle.resolvo_queue.specs.Falsified.{FindsFirst, refs_of};
-ghost use Rattle.resolvo_queue.specs.Looking.{AreListed, CanAsk, CanLook, FindsFalsified, clauses_of, is_falsified_by};
-ghost use Rattle.resolvo_queue.specs.Looking.{literals_of};
+ghost use Rattle.resolvo_queue.specs.Falsified.Looks.{AreListed, CanAsk, CanLook, FindsFalsified};
+ghost use Rattle.resolvo_queue.specs.Falsified.Looks.{clauses_of, is_falsified_by};
+ghost use Rattle.resolvo_queue.specs.Falsified.Looks.{literals_of};
 ghost use Rattle.resolvo_queue.specs.Occurrences.{listing};
-ghost use Rattle.resolvo_queue.specs.Order.{Stands};
+ghost use Rattle.resolvo_queue.specs.Members.{Stands};
 ghost use Rattle.resolvo_queue.specs.Queue.{values_of};
 ghost use Rattle.resolvo_queue.specs.Routing.{variables_of};
 
@@ -32,7 +33,7 @@ impl<'a, I: Interner, A: Allocator + Copy> Look<'a, I, A> {
     ) -> Option<TrackedClause>
         requires { CanLook I.universe self.now }
         ensures { FindsFalsified I.universe self.now
-            (λ n c. Stands c.required (listing self.now.tracked.now.occurrences variable)) first result }
+            (λ n c. Stands c.requirement (listing self.now.tracked.now.occurrences variable)) first result }
     {
         let mut found = first;
         for requirement in self.tracked.occurrences.listing(variable) {

@@ -2,10 +2,38 @@
 ghost use Rattle.std.specs.Prelude.{◌≡◌, option_map};
 ghost use Rattle.resolvo_queue.specs.Pick.{beats, decided, is_of_root};
 
-use crate::frontier::Frontier;
 use crate::queue_decision::QueueDecision;
 use crate::requires_clause::RequiresClause;
-use typed_ids::DenseIndex;
+use crate::tracked_clause::Position;
+use typed_ids::{DenseIndex, SameClone, SameValue, VariableId, VersionSetId};
+
+/// The first undecided candidate of a requirement, its version set, and how many candidates of that version set are
+/// undecided.
+#[derive(Clone, Copy, Debug, PartialEq, Eq)]
+pub struct Frontier {
+    pub variable: VariableId,
+    pub set: VersionSetId,
+    pub count: usize,
+}
+
+impl SameValue for Frontier {
+    ghost use Rattle.std.proofs.Common.{rules};
+
+    ghost same = { λ a b h. Prim.search rules };
+}
+
+impl SameClone for Frontier {
+    ghost use Rattle.std.proofs.Common.{rules};
+
+    ghost clone_is_same = { λ a b h. Prim.search rules };
+}
+
+/// What an eligible clause offers, and where the clause stands in the scan.
+#[derive(Clone, Copy)]
+pub(crate) struct Candidate {
+    pub(crate) position: Position,
+    pub(crate) offer: Offer,
+}
 
 /// An eligible clause, with its frontier and the score of the frontier's package.
 #[derive(Clone, Copy)]

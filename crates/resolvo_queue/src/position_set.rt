@@ -3,7 +3,7 @@ ghost use Rattle.std.specs.Prelude.{◌≡◌, ◌<◌, false, true, length, if�
 ghost use Rattle.std.specs.Prelude.{OnOk, OnErr, IfErr};
 ghost use Rattle.typed_ids.specs.declared.error.StoreError.TheVariants.{OutOfMemory};
 
-use crate::position::Position;
+use crate::tracked_clause::Position;
 use std::alloc::Allocator;
 use std::collections::BTreeSet;
 use std::marker::Model;
@@ -18,7 +18,7 @@ pub(crate) struct PositionSet<A: Allocator + Copy> {
 
 impl<A: Allocator + Copy> Model for PositionSet<A> {
     ghost use Rattle.std.specs.Prelude.{List};
-    ghost use Rattle.resolvo_queue.specs.declared.position.Position.{Position};
+    ghost use Rattle.resolvo_queue.specs.declared.tracked_clause.Position.{Position};
 
     ghost Value = { List Position };
 
@@ -27,8 +27,8 @@ impl<A: Allocator + Copy> Model for PositionSet<A> {
 
 impl<A: Allocator + Copy> PositionSet<A> {
     ghost use Rattle.std.specs.Prelude.{List};
-    ghost use Rattle.resolvo_queue.specs.Positions.{has, IsBefore, is_after, same_position};
-    ghost use Rattle.resolvo_queue.specs.declared.position.Position.{Position};
+    ghost use Rattle.resolvo_queue.specs.Scan.Positions.{has, IsBefore, is_after, same_position};
+    ghost use Rattle.resolvo_queue.specs.declared.tracked_clause.Position.{Position};
 
     /// The empty set. Takes no memory.
     pub(crate) fn new(alloc: A) -> Self

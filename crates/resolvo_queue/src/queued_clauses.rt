@@ -5,9 +5,8 @@ ghost use Rattle.typed_ids.specs.declared.error.StoreError.TheVariants.{OutOfMem
 ghost use Rattle.decisions.specs.Decisions.{values_in};
 
 use crate::group::Group;
-use crate::position::Position;
 use crate::position_set::PositionSet;
-use crate::tracked_clause::TrackedClause;
+use crate::tracked_clause::{Position, TrackedClause};
 use decisions::DecisionMap;
 use std::alloc::Allocator;
 use std::marker::Model;
@@ -22,7 +21,7 @@ pub(crate) struct QueuedClauses<A: Allocator + Copy> {
 }
 
 impl<A: Allocator + Copy> Model for QueuedClauses<A> {
-    ghost use Rattle.resolvo_queue.specs.Queued.{Queued};
+    ghost use Rattle.resolvo_queue.specs.Parts.Queued.{Queued};
 
     ghost Value = { Queued };
 
@@ -30,10 +29,10 @@ impl<A: Allocator + Copy> Model for QueuedClauses<A> {
 }
 
 impl<A: Allocator + Copy> QueuedClauses<A> {
-    ghost use Rattle.resolvo_queue.specs.Queued.{IsQueued, GrowsBy, LosesOnly, is_empty_queue, set_of, heated};
-    ghost use Rattle.resolvo_queue.specs.Group.{has_of, is_in};
-    ghost use Rattle.resolvo_queue.specs.Positions.{has, is_after, same_position, IsBefore};
-    ghost use Rattle.resolvo_queue.specs.declared.position.Position.{Position};
+    ghost use Rattle.resolvo_queue.specs.Parts.Queued.{IsQueued, GrowsBy, LosesOnly, is_empty_queue, set_of, heated};
+    ghost use Rattle.resolvo_queue.specs.Pick.Groups.{has_of, is_in};
+    ghost use Rattle.resolvo_queue.specs.Scan.Positions.{has, is_after, same_position, IsBefore};
+    ghost use Rattle.resolvo_queue.specs.declared.tracked_clause.Position.{Position};
 
     /// Nothing is queued. Takes no memory.
     pub(crate) fn new(alloc: A) -> Self

@@ -2,10 +2,10 @@
 ghost use Rattle.std.specs.Prelude.{◌≡◌, ◌<◌, ◌≤◌, ◌-◌, ◌^◌, ◌++◌, ◌∷◌, [], true, false, length, OnOk, OnErr, IfErr};
 ghost use Rattle.typed_ids.specs.TotalMaps.{IsUpdate, SameValues};
 ghost use Rattle.typed_ids.specs.declared.error.StoreError.TheVariants.{OutOfMemory};
-ghost use Rattle.resolvo_queue.specs.Index.{list_at};
-ghost use Rattle.resolvo_queue.specs.Positions.{has, same_position};
-ghost use Rattle.resolvo_queue.specs.Queued.{GrowsBy, IsQueued};
-ghost use Rattle.resolvo_queue.specs.Tracking.{IsAsBefore, IsInOrder, Registers, tracking_of};
+ghost use Rattle.resolvo_queue.specs.Rows.ByVariable.{list_at};
+ghost use Rattle.resolvo_queue.specs.Scan.Positions.{has, same_position};
+ghost use Rattle.resolvo_queue.specs.Parts.Queued.{GrowsBy, IsQueued};
+ghost use Rattle.resolvo_queue.specs.Parts.Tracking.{IsAsBefore, IsInOrder, Registers, tracking_of};
 ghost use Rattle.resolvo_queue.specs.WalkCounts.{OwesFirst, owed_in};
 
 use crate::clause_index::add_to_conditions;
@@ -92,8 +92,8 @@ impl<A: Allocator + Copy> TrackedClauses<A> {
         self.index.clauses.reserve(1)?;
         let tracked = TrackedClause {
             parent: clause.parent,
-            required: clause.requirement,
-            requirement: place,
+            requirement: clause.requirement,
+            record: place,
             condition: clause.condition,
             clause_id: clause.clause_id,
             position: self.index.next_position(clause.parent),

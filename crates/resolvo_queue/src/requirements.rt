@@ -4,10 +4,10 @@ ghost use Rattle.std.specs.Prelude.{IfOk, OnOk, OnErr, IfErr};
 ghost use Rattle.std.specs.Option.{option_copied};
 ghost use Rattle.typed_ids.specs.declared.error.StoreError.TheVariants.{OutOfMemory};
 ghost use Rattle.providers.specs.declared.requirement.Requirement.{Requirement as ARequirement};
-ghost use Rattle.resolvo_queue.specs.Records.{tracked};
-ghost use Rattle.resolvo_queue.specs.Tracked.{forgotten, fresh};
+ghost use Rattle.resolvo_queue.specs.Parts.RecordView.{record_seen};
+ghost use Rattle.resolvo_queue.specs.Parts.Records.{forgotten, fresh};
 
-use crate::frontier::Frontier;
+use crate::offer::Frontier;
 use crate::walk_log::WalkLog;
 use providers::{Requirement, RequirementMap};
 use std::alloc::Allocator;
@@ -42,24 +42,24 @@ pub(crate) struct Requirements<A: Allocator + Copy> {
 
 impl<A: Allocator + Copy> Model for Requirements<A> {
     ghost use Rattle.std.specs.Prelude.{List, map};
-    ghost use Rattle.resolvo_queue.specs.Tracked.{Tracked};
+    ghost use Rattle.resolvo_queue.specs.Parts.Records.{Record};
 
-    ghost Value = { List Tracked };
+    ghost Value = { List Record };
 
-    ghost use Rattle.resolvo_queue.specs.Records.{tracked, ArePlaced};
+    ghost use Rattle.resolvo_queue.specs.Parts.RecordView.{record_seen, ArePlaced};
 
-    ghost view = { λ r. map tracked r.records.items };
+    ghost view = { λ r. map record_seen r.records.items };
 
-    ghost invariant = { λ r. ArePlaced (map tracked r.records.items) r.places };
+    ghost invariant = { λ r. ArePlaced (map record_seen r.records.items) r.places };
 }
 
 impl<A: Allocator + Copy> Requirements<A> {
     ghost use Rattle.std.specs.Prelude.{ℕ, slice_get};
-    ghost use Rattle.resolvo_queue.specs.Tracked.{known_at, updated_at, forgotten, fresh, walked, with_clause};
-    ghost use Rattle.resolvo_queue.specs.Tracked.{clauses_at, IsPlaceOf, HasNoPlace, GainsRecord};
-    ghost use Rattle.resolvo_queue.specs.Records.{known_of};
-    ghost use Rattle.resolvo_queue.specs.Order.{Stands};
-    ghost use Rattle.resolvo_queue.specs.Tracking.{GainsClauses};
+    ghost use Rattle.resolvo_queue.specs.Parts.Records.{known_at, updated_at, forgotten, fresh, walked, with_clause};
+    ghost use Rattle.resolvo_queue.specs.Parts.Records.{clauses_at, IsPlaceOf, HasNoPlace, GainsRecord};
+    ghost use Rattle.resolvo_queue.specs.Parts.RecordView.{known_of};
+    ghost use Rattle.resolvo_queue.specs.Members.{Stands};
+    ghost use Rattle.resolvo_queue.specs.Parts.Tracking.{GainsClauses};
     ghost use Rattle.resolvo_queue.specs.WalkCounts.{OwesFirst, owed_in};
 
     /// No requirement has a record. Takes no memory.
@@ -157,7 +157,7 @@ impl<A: Allocator + Copy> Requirements<A> {
     }
 
     /// What is known of the rows.
-    pub(crate) fn walk(&self, place: usize) -> Walk
+    pub(crate) fn known(&self, place: usize) -> Walk
         requires { place < length self.now }
         ensures { known_of result ≡ known_at self.now place }
     {
@@ -195,7 +195,7 @@ impl<A: Allocator + Copy> Requirements<A> {
 
 /// The record of a requirement that no clause has yet.
 fn new_record<A: Allocator + Copy>(alloc: A, requirement: Requirement) -> RequirementRecord<A>
-    ensures { tracked result ≡ fresh requirement }
+    ensures { record_seen result ≡ fresh requirement }
 {
     RequirementRecord {
         requirement,
@@ -207,7 +207,7 @@ fn new_record<A: Allocator + Copy>(alloc: A, requirement: Requirement) -> Requir
 
 /// Nothing is known of the rows of these records.
 fn forget_records<A: Allocator + Copy>(records: &mut [RequirementRecord<A>])
-    ensures { map tracked records.new ≡ map forgotten (map tracked records.old) }
+    ensures { map record_seen records.new ≡ map forgotten (map record_seen records.old) }
 {
     for record in records.iter_mut() {
         record.walk = Walk::Unknown;

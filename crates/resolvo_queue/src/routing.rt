@@ -2,7 +2,7 @@
 ghost use Rattle.std.specs.Prelude.{◌≡◌, ℕ, [], ◌∷◌, OnOk, IfErr};
 ghost use Rattle.typed_ids.specs.declared.error.StoreError.TheVariants.{OutOfMemory};
 ghost use Rattle.resolvo_queue.specs.Occurrences.{listing};
-ghost use Rattle.resolvo_queue.specs.Queued.{GrowsBy, HaveNumbers, IsOfClause};
+ghost use Rattle.resolvo_queue.specs.Parts.Queued.{GrowsBy, HaveNumbers, IsOfClause};
 ghost use Rattle.resolvo_queue.specs.Routing.{AreUnknown, ForgetsAmong, OnlyForgets, Routes, Unrouted, WakesForgotten};
 ghost use Rattle.resolvo_queue.specs.Routing.{variables_of, ways};
 
@@ -45,7 +45,7 @@ fn forget<A: Allocator + Copy>(
         None => return Ok(()),
         Some(place) => place,
     };
-    match requirements.walk(place) {
+    match requirements.known(place) {
         Walk::Unknown => Ok(()),
         Walk::Known(Some(_)) => {
             requirements.forget(place);

@@ -14,15 +14,15 @@ ghost use Rattle.providers.specs.Requirement.{same_requirement};
 ghost use Rattle.providers.specs.declared.requirement.Requirement.{Requirement as ARequirement};
 ghost use Rattle.decisions.specs.Decisions.{values_in};
 ghost use Rattle.decisions.specs.Literals.{known_false};
-ghost use Rattle.resolvo_queue.specs.Allowance.{Leaves};
+ghost use Rattle.resolvo_queue.specs.Falsified.Allowance.{Leaves};
 ghost use Rattle.resolvo_queue.specs.Occurrences.{GrowsWith, HasAll, is_listed, listing};
 ghost use Rattle.resolvo_queue.specs.References.{IsWalkable};
 ghost use Rattle.resolvo_queue.specs.Rows.{candidates, frontier, loaded_rows};
-ghost use Rattle.resolvo_queue.specs.Witnesses.{are_candidates_false, witness};
+ghost use Rattle.resolvo_queue.specs.Falsified.Witnesses.{are_candidates_false, witness};
 
 use crate::allowance::less;
-use crate::frontier::Frontier;
 use crate::lists_by_variable::ListsByVariable;
+use crate::offer::Frontier;
 use crate::row_state::{RowState, requirement_state};
 use crate::walk_log::WalkLog;
 use decisions::DecisionMap;
@@ -125,7 +125,7 @@ pub(crate) struct WitnessMap<A: Allocator + Copy> {
 }
 
 impl<A: Allocator + Copy> Model for WitnessMap<A> {
-    ghost use Rattle.resolvo_queue.specs.Witnesses.{Found};
+    ghost use Rattle.resolvo_queue.specs.Falsified.Witnesses.{Found};
 
     ghost Value = { Found };
 

@@ -5,9 +5,9 @@ ghost use Rattle.std.specs.Prelude.{◌≡◌, ◌+◌, ◌<◌, ◌≤◌, ◌^
 ghost use Rattle.decisions.specs.Decisions.{values_in};
 ghost use Rattle.providers.specs.Provider.{knows_requirement};
 ghost use Rattle.resolvo_queue.specs.Rows.{list_rows, rows, loaded_rows, all_false, candidates};
-ghost use Rattle.resolvo_queue.specs.RowState.{state_of, counted, with_row, with_rows};
+ghost use Rattle.resolvo_queue.specs.Rows.States.{state_of, counted, with_row, with_rows};
 
-use crate::frontier::Frontier;
+use crate::offer::Frontier;
 use decisions::DecisionMap;
 use providers::{Interner, Requirement, RequirementMap};
 use std::alloc::Allocator;

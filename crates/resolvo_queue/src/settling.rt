@@ -6,13 +6,14 @@ ghost use Rattle.typed_ids.specs.declared.error.StoreError.TheVariants.{OutOfMem
 ghost use Rattle.decisions.specs.Decisions.{values_in};
 ghost use Rattle.providers.specs.Requirement.{same_requirement};
 ghost use Rattle.providers.specs.declared.requirement.Requirement.{Requirement as ARequirement};
-ghost use Rattle.resolvo_queue.specs.Listing.{IsListedWell};
-ghost use Rattle.resolvo_queue.specs.Order.{Stands};
-ghost use Rattle.resolvo_queue.specs.Tracked.{Tracked};
-ghost use Rattle.resolvo_queue.specs.Settling.{AreFound, AreSettled, CanSettle, HasWitness, LooksAmong, Settles, basis};
-ghost use Rattle.resolvo_queue.specs.Settling.{basis_of};
-ghost use Rattle.resolvo_queue.specs.Witnesses.{AreCandidates, AreTouching, IsAsked, IsWitness, Touches};
-ghost use Rattle.resolvo_queue.specs.Witnesses.{are_candidates_false, literals_by, witness};
+ghost use Rattle.resolvo_queue.specs.Rows.Listing.{IsListedWell};
+ghost use Rattle.resolvo_queue.specs.Members.{Stands};
+ghost use Rattle.resolvo_queue.specs.Parts.Records.{Record};
+ghost use Rattle.resolvo_queue.specs.Falsified.Settling.{AreFound, AreSettled, CanSettle};
+ghost use Rattle.resolvo_queue.specs.Falsified.Settling.{HasWitness, LooksAmong, Settles, basis};
+ghost use Rattle.resolvo_queue.specs.Falsified.Settling.{basis_of};
+ghost use Rattle.resolvo_queue.specs.Falsified.Witnesses.{AreCandidates, AreTouching, IsAsked, IsWitness, Touches};
+ghost use Rattle.resolvo_queue.specs.Falsified.Witnesses.{are_candidates_false, literals_by, witness};
 
 use crate::clause_index::ClauseIndex;
 use crate::condition::is_met;
@@ -95,21 +96,21 @@ fn settle_clause<A: Allocator + Copy>(
     settling: &Settling<'_, A>,
 ) -> Result<(), StoreError>
     requires condition { IfSome clause.now.condition (λ d. d < length settling.now.disjunctions.now) }
-    requires lists { IsSome (lookup (same_requirement clause.now.required) settling.now.reader.now.lists) }
+    requires lists { IsSome (lookup (same_requirement clause.now.requirement) settling.now.reader.now.lists) }
     requires none_falsified { let lists = settling.now.reader.now.lists in let val = values_in settling.now.map.now in
         IsAsked (literals_by settling.now.disjunctions.now) val clause.now →
-        are_candidates_false lists val clause.now.required ≡ false }
+        are_candidates_false lists val clause.now.requirement ≡ false }
     ensures settles { Settles (basis settling.now) occurrences.old occurrences.new witnesses.old witnesses.new }
     ensures ok { let literals = literals_by settling.now.disjunctions.now in
         OnOk result (IsAsked literals (values_in settling.now.map.now) clause.now →
-        HasWitness (basis settling.now) witnesses.new clause.now.required) }
+        HasWitness (basis settling.now) witnesses.new clause.now.requirement) }
     ensures memory { IfErr result (λ e. e ≡ OutOfMemory) }
 {
     if !is_asked(clause, settling) {
         return Ok(());
     }
-    list_once(occurrences, settling.reader, clause.required)?;
-    settle_requirement(witnesses, clause.required, settling)
+    list_once(occurrences, settling.reader, clause.requirement)?;
+    settle_requirement(witnesses, clause.requirement, settling)
 }
 
 /// Gives the requirement of the clause with a number a witness. A number past the end stands for no clause.
@@ -194,7 +195,7 @@ fn settle_witnessed<A: Allocator + Copy>(
     variable: VariableId,
     settling: &Settling<'_, A>,
 ) -> Result<(), StoreError>
-    requires listed { (ts : List Tracked) × IsListedWell settling.now.reader.now.lists occurrences.now ts }
+    requires listed { (ts : List Record) × IsListedWell settling.now.reader.now.lists occurrences.now ts }
     requires candidates { AreCandidates settling.now.reader.now.lists occurrences.now witnesses.old }
     ensures looks { let is_own = λ (r : ARequirement). witness witnesses.old r ≡ Some variable in
         LooksAmong (basis settling.now) is_own witnesses.old witnesses.new }

@@ -4,10 +4,10 @@ ghost use Rattle.std.specs.Prelude.{OnErr, IfErr};
 ghost use Rattle.typed_ids.specs.declared.error.StoreError.TheVariants.{OutOfMemory};
 ghost use Rattle.decisions.specs.Decisions.{values_in};
 ghost use Rattle.resolvo_queue.specs.Occurrences.{listing};
-ghost use Rattle.resolvo_queue.specs.Queued.{GrowsBy, HaveNumbers, IsOfClause};
+ghost use Rattle.resolvo_queue.specs.Parts.Queued.{GrowsBy, HaveNumbers, IsOfClause};
 ghost use Rattle.resolvo_queue.specs.Routing.{OnlyForgets, Unrouted, variables_of};
-ghost use Rattle.resolvo_queue.specs.Synced.{SyncsTo};
-ghost use Rattle.resolvo_queue.specs.Trails.{decided_value};
+ghost use Rattle.resolvo_queue.specs.Routing.Synced.{SyncsTo};
+ghost use Rattle.resolvo_queue.specs.Routing.Trails.{decided_value};
 
 use crate::routing::{Routing, route_all};
 use crate::tracked_clauses::TrackedClauses;

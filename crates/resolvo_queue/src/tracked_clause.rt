@@ -1,17 +1,25 @@
 //! Requires clauses, as the incremental queue keeps them.
 ghost use Rattle.std.specs.Prelude.{◌≡◌};
 
-use crate::position::Position;
 use providers::Requirement;
 use typed_ids::{ClauseId, DisjunctionId, VariableId};
+
+/// The number of the first clause of a clause's parent, then the clause's own number. Both are numbers of
+/// registration, so positions are stable, and their order is that of the scan: by the parents' first registrations,
+/// then by the order within a parent.
+#[derive(Clone, Copy, Debug, PartialEq, Eq, PartialOrd, Ord)]
+pub(crate) struct Position {
+    pub(crate) first_of_parent: u32,
+    pub(crate) number: u32,
+}
 
 /// A registered clause.
 #[derive(Clone, Copy, Debug, PartialEq, Eq)]
 pub(crate) struct TrackedClause {
     pub(crate) parent: VariableId,
-    pub(crate) required: Requirement,
+    pub(crate) requirement: Requirement,
     /// The place of the requirement's record.
-    pub(crate) requirement: usize,
+    pub(crate) record: usize,
     pub(crate) condition: Option<DisjunctionId>,
     pub(crate) clause_id: ClauseId,
     pub(crate) position: Position,

@@ -3,9 +3,9 @@ ghost use Rattle.std.specs.Prelude.{◌≡◌, true, OnOk, IfErr};
 ghost use Rattle.typed_ids.specs.declared.error.StoreError.TheVariants.{OutOfMemory};
 ghost use Rattle.decisions.specs.Decisions.{values_in};
 ghost use Rattle.decisions.specs.Literals.{known_true};
-ghost use Rattle.resolvo_queue.specs.Positions.{same_position};
-ghost use Rattle.resolvo_queue.specs.Queued.{AreWoken, IsQueued, IsWoken, GrowsBy, HaveNumbers, IsOfClause};
-ghost use Rattle.resolvo_queue.specs.Synced.{AllWoken};
+ghost use Rattle.resolvo_queue.specs.Scan.Positions.{same_position};
+ghost use Rattle.resolvo_queue.specs.Parts.Queued.{AreWoken, IsQueued, IsWoken, GrowsBy, HaveNumbers, IsOfClause};
+ghost use Rattle.resolvo_queue.specs.Routing.Synced.{AllWoken};
 
 use crate::clause_index::ClauseIndex;
 use crate::queued_clauses::QueuedClauses;

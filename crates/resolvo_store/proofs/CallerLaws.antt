@@ -15,13 +15,13 @@ use Rattle.providers.specs.declared.requirement.Requirement.{Requirement}
 use Rattle.decisions.specs.Literals.{known_true}
 use Rattle.decisions.specs.Trail.{Entry, val, kept_until, HasLevel}
 use Rattle.decisions.proofs.TrailLemmas.{val-push}
-use Rattle.resolvo_queue.specs.declared.frontier.Frontier.{Frontier}
+use Rattle.resolvo_queue.specs.declared.offer.Frontier.{Frontier}
 use Rattle.resolvo_queue.specs.declared.requires_clause.RequiresClause.{RequiresClause}
 use Rattle.resolvo_queue.specs.Rows.{has_true_row, frontier}
 use Rattle.resolvo_queue.specs.Scan.{add_parent, parents, clauses_of, scan, are_literals_false, is_open, is_falsified}
 use Rattle.resolvo_queue.specs.declared.offer.Offer.{Offer}
 use Rattle.resolvo_queue.specs.Pick.{decided}
-use Rattle.resolvo_queue.proofs.PickLaws.{none_decided}
+use Rattle.resolvo_queue.proofs.Picks.Unbeaten.{none_decided}
 use Rattle.resolvo_store.specs.Command.{Command, Load, Assign, UndoUntil, Saturate, Decide, Reply, Assigned, Already, Clash, Done, NoDecision, Falsified, Conflict, Refused, IsRefused, is_saturate}
 use Rattle.resolvo_store.specs.Store.{Store, values, lists_of, condition_of, rows_of, score_of}
 use Rattle.resolvo_store.specs.Refusals.{first_refusal}

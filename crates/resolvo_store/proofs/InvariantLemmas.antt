@@ -30,7 +30,7 @@ use Rattle.resolvo_queue.specs.declared.requires_clause.RequiresClause.{Requires
 use Rattle.resolvo_queue.specs.Clear.{RemembersWell, with_last}
 use Rattle.resolvo_queue.specs.Queue.{Queue, IsNew, SameClauses, SameSync, IsUnchanged, IsRegistered, HasTrail, OnlyHotScore, StandsOn}
 use Rattle.resolvo_queue.specs.References.{References, references}
-use Rattle.resolvo_queue.proofs.CallerLaws.{remembers_nothing, remembers_with_disjunction, remembers_with_lists, stands_with_disjunction, stands_with_last, stands_with_lists}
+use Rattle.resolvo_queue.proofs.Clauses.Callers.{remembers_nothing, remembers_with_disjunction, remembers_with_lists, stands_with_disjunction, stands_with_last, stands_with_lists}
 use Rattle.resolvo_store.specs.Lists.{lists_kept, disjunctions_kept, AreAsked, IsConsistent, IsOneMore}
 use Rattle.resolvo_store.specs.Synced.{decisions_of, IsInStep, MayAsk}
 use Rattle.resolvo_store.proofs.SyncedLemmas.{clear-pushed, in_step-new, in_step-with_last, in_step-pushed, in_step-same, in_step-unchanged, in_step-registered, in_step-synced, in_step-refused}

@@ -20,8 +20,8 @@ use Rattle.watch_map.proofs.LiteralLists.{all_at}
 use Rattle.resolvo_queue.specs.declared.requires_clause.RequiresClause.{RequiresClause}
 use Rattle.resolvo_queue.specs.Rows.{Row, list_rows, rows, all_false}
 use Rattle.resolvo_queue.specs.Scan.{parents, clauses_of, scan, are_literals_false, is_falsified}
-use Rattle.resolvo_queue.proofs.FalsifiedLaws.{falsified_by}
-use Rattle.resolvo_queue.proofs.OccurrenceLaws.{same_is}
+use Rattle.resolvo_queue.proofs.Falsified.First.{falsified_by}
+use Rattle.resolvo_queue.proofs.Rows.Occurrences.{same_is}
 use Rattle.resolvo_store.specs.Store.{Store, values, lists_of, kept_literals, clause_literals, condition_of, rows_of}
 use Rattle.resolvo_store.specs.Saturating.{HasSettled}
 use Rattle.resolvo_store.specs.Outcome.{falsified_clause}

@@ -14,8 +14,8 @@ use Rattle.resolvo_queue.specs.References.{References}
 use Rattle.resolvo_queue.specs.declared.last_falsified.LastFalsified.{LastFalsified}
 use Rattle.resolvo_queue.specs.declared.parent_value.ParentValue.{ParentValue}
 use Rattle.resolvo_queue.specs.declared.requires_clause.RequiresClause.{RequiresClause}
-use Rattle.resolvo_queue.proofs.CallerLaws.{remembers_longer, values_of_entries}
-use Rattle.resolvo_queue.proofs.ClearLaws.{take_front, values_before}
+use Rattle.resolvo_queue.proofs.Clauses.Callers.{remembers_longer, values_of_entries}
+use Rattle.resolvo_queue.proofs.Falsified.Clear.{take_front, values_before}
 use Rattle.resolvo_store.specs.Synced.{decisions_of, IsInStep}
 
 -- ---- fronts of lists

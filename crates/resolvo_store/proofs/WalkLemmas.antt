@@ -16,7 +16,7 @@ use Rattle.resolvo_queue.specs.Routing.{variables_of}
 use Rattle.resolvo_queue.specs.Rows.{rows}
 use Rattle.resolvo_queue.specs.WalkCounts.{HasNoneOf, WalksOnce, changed_from, looks, owed, walks}
 use Rattle.resolvo_queue.specs.declared.requires_clause.RequiresClause.{RequiresClause}
-use Rattle.resolvo_queue.proofs.CallerLaws.{walks_within}
+use Rattle.resolvo_queue.proofs.Clauses.Callers.{walks_within}
 use Rattle.resolvo_store.specs.Asked.{Asked, asked_of}
 use Rattle.resolvo_store.specs.Lists.{IsConsistent, lists_kept}
 use Rattle.resolvo_store.specs.Store.{Store, rows_of}

@@ -6,12 +6,12 @@ use Rattle.decisions.specs.Trail.{Trail}
 use Rattle.decisions.specs.declared.decision.Decision.{Decision}
 use Rattle.resolvo_queue.specs.Occurrences.{times}
 use Rattle.resolvo_queue.specs.Queue.{Queue}
-use Rattle.resolvo_queue.specs.Tracked.{Tracked}
+use Rattle.resolvo_queue.specs.Parts.Records.{Record}
 use Rattle.resolvo_queue.specs.WalkCounts.{owed_in, walks_in}
 
 pub record Asked : Type 0 where
   -- for each requirement of a registered clause how often its rows were walked, and what is known of them
-  pub records : List Tracked
+  pub records : List Record
   -- the requirements whose rows were looked at for a witness, oldest first
   pub looked : List Requirement
   -- the trail that the queue was last told of, and whether that was refused

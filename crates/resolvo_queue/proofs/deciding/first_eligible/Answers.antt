@@ -1,67 +1,88 @@
 use Rattle.std.proofs.Common.{◌≡◌, Some, slice_get, subst, sym, ap, ◌∙◌}
 use Rattle.decisions.specs.Decisions.{values_in}
 use Rattle.resolvo_queue.specs.Rows.{loaded_rows}
-use Rattle.resolvo_queue.specs.Inspection.{eligible_frontier}
-use Rattle.resolvo_queue.specs.Question.{clause_literals}
-use Rattle.resolvo_queue.specs.Group.{is_in}
-use Rattle.resolvo_queue.specs.Queued.{IsOfClause}
+use Rattle.resolvo_queue.specs.Pick.Inspection.{eligible_frontier}
+use Rattle.resolvo_queue.specs.Pick.Questions.{clause_literals}
+use Rattle.resolvo_queue.specs.Pick.Groups.{is_in}
+use Rattle.resolvo_queue.specs.Parts.Queued.{IsOfClause}
 use Rattle.resolvo_queue.specs.References.{references, rows_in, score_in}
-use Rattle.resolvo_queue.proofs.AskingLaws.{asked_by, only_walks_along, only_walks_none, ready_by}
-use Rattle.resolvo_queue.proofs.DecisionLaws.{first_found, none_found}
-use Rattle.resolvo_queue.proofs.GroupLaws.{of_both}
-use Rattle.resolvo_queue.proofs.ReadyLaws.{match_none, offer_found}
+use Rattle.resolvo_queue.proofs.Picks.Steps.{asked_by, only_walks_along, only_walks_none, ready_by}
+use Rattle.resolvo_queue.proofs.Picks.Decisions.{first_found, none_found}
+use Rattle.resolvo_queue.proofs.Picks.Groups.{of_both}
+use Rattle.resolvo_queue.proofs.Picks.Ready.{match_none, offer_found}
 use Rattle.resolvo_queue.proofs.deciding.first_eligible.Goals as goal
 
-pub look-requires-clause-of : goal.look-requires-clause-of
-look-requires-clause-of g c =
-    c.loop-position.invariant.asked.ready.all_of c.in-Some.position (of_both c.args.group c.loop-position.tracked.queued.all c.in-Some.position c.in-Some.ensures.none).1
+pub inspect_at-requires-clause-of : goal.inspect_at-requires-clause-of
+inspect_at-requires-clause-of g c =
+    c.loop-position.invariant.asked.ready.all_of c.in-Some.position
+    (of_both c.args.group c.loop-position.tracked.queued.all c.in-Some.position c.in-Some.ensures.none).1
 
-pub look-requires-clause-asked : goal.look-requires-clause-asked
-look-requires-clause-asked g c =
-    asked_by (g.I.Interner.universe c.args.question.now.interner.now) c.args.reader.now.lists c.loop-position.reader.lists c.args.question.now.disjunctions.now (values_in c.args.question.now.map.now) c.loop-position.tracked (sym c.loop-position.invariant.walks.lists) c.loop-position.invariant.asked
+pub inspect_at-requires-clause-asked : goal.inspect_at-requires-clause-asked
+inspect_at-requires-clause-asked g c =
+    asked_by (g.I.Interner.universe c.args.question.now.interner.now) c.args.reader.now.lists
+    c.loop-position.reader.lists c.args.question.now.disjunctions.now
+    (values_in c.args.question.now.map.now) c.loop-position.tracked
+    (sym c.loop-position.invariant.walks.lists) c.loop-position.invariant.asked
 
 pub returns-in-Some-2-clause-picked : goal.returns-in-Some-2-clause-picked
 returns-in-Some-2-clause-picked g c =
-    let refs = (references (g.I.Interner.universe c.args.question.now.interner.now) c.args.reader.now.lists c.args.question.now.disjunctions.now) in
+    let refs = (references (g.I.Interner.universe c.args.question.now.interner.now) c.args.reader.now.lists
+    c.args.question.now.disjunctions.now) in
     let val = values_in c.args.question.now.map.now in
     let score = score_in refs (g.I.NameId.Scores.IdMap.value_at c.args.question.now.scores.now) in
-    first_found c.args.tracked.now.index.clauses.items (clause_literals refs) (rows_in refs) val score c.requires.asked.located c.args.group
+    first_found c.args.tracked.now.index.clauses.items (clause_literals refs)
+    (rows_in refs) val score c.requires.asked.located c.args.group
     c.loop-position.tracked.requirements c.loop-position.tracked.queued
-    (ready_by refs val c.loop-position.tracked c.args.tracked.now c.loop-position.invariant.walks.index c.loop-position.invariant.asked)
+    (ready_by refs val c.loop-position.tracked c.args.tracked.now c.loop-position.invariant.walks.index
+    c.loop-position.invariant.asked)
     c.in-Some.position c.in-Some.ensures.none c.in-Some.ensures.least
     c.candidate_at.result
     (λ d s. let looked : slice_get c.loop-position.tracked.index.clauses.items c.in-Some.position.number ≡ Some d =
-    subst (λ ix. slice_get ix.clauses.items c.in-Some.position.number ≡ Some d) (sym c.loop-position.invariant.walks.index) s in
-    offer_found (clause_literals refs) (rows_in refs) val score c.in_ok-frontier.field-0 c.in-Some-2.frontier c.candidate_at.result.offer d c.in-Some-2.is
+    subst (λ ix. slice_get ix.clauses.items c.in-Some.position.number ≡ Some d)
+    (sym c.loop-position.invariant.walks.index) s in
+    offer_found (clause_literals refs) (rows_in refs) val score c.in_ok-frontier.field-0 c.in-Some-2.frontier
+    c.candidate_at.result.offer d c.in-Some-2.is
     (c.in_ok-frontier.ensures.frontier d looked
-    ∙ ap (λ ls. eligible_frontier val (clause_literals refs) (loaded_rows (g.I.Interner.universe c.args.question.now.interner.now) ls) d) c.loop-position.invariant.walks.lists)
-    (c.candidate_at.ensures.offer d (subst (λ ix. slice_get ix.clauses.items c.in-Some.position.number ≡ Some d) (sym c.look.ensures.walks.index) looked)))
+    ∙ ap (λ ls. eligible_frontier val (clause_literals refs)
+    (loaded_rows (g.I.Interner.universe c.args.question.now.interner.now) ls) d)
+    c.loop-position.invariant.walks.lists)
+    (c.candidate_at.ensures.offer d (subst (λ ix. slice_get ix.clauses.items c.in-Some.position.number ≡ Some d)
+    (sym c.inspect_at.ensures.walks.index) looked)))
     c.candidate_at.ensures.at
 
 pub candidate_at-requires-clause-of : goal.candidate_at-requires-clause-of
 candidate_at-requires-clause-of g c =
-    subst (λ ix. IsOfClause ix.clauses.items c.in-Some.position) (sym c.look.ensures.walks.index)
-    (c.loop-position.invariant.asked.ready.all_of c.in-Some.position (of_both c.args.group c.loop-position.tracked.queued.all c.in-Some.position c.in-Some.ensures.none).1)
+    subst (λ ix. IsOfClause ix.clauses.items c.in-Some.position) (sym c.inspect_at.ensures.walks.index)
+    (c.loop-position.invariant.asked.ready.all_of c.in-Some.position
+    (of_both c.args.group c.loop-position.tracked.queued.all c.in-Some.position c.in-Some.ensures.none).1)
 
 pub returns-in-Some-2-clause-of : goal.returns-in-Some-2-clause-of
 returns-in-Some-2-clause-of g c =
-    ap (is_in c.args.group) c.candidate_at.ensures.at ∙ (of_both c.args.group c.loop-position.tracked.queued.all c.in-Some.position c.in-Some.ensures.none).0
+    ap (is_in c.args.group) c.candidate_at.ensures.at ∙
+    (of_both c.args.group c.loop-position.tracked.queued.all c.in-Some.position c.in-Some.ensures.none).0
 
 pub returns-clause-picked : goal.returns-clause-picked
 returns-clause-picked g c =
-    let refs = (references (g.I.Interner.universe c.args.question.now.interner.now) c.args.reader.now.lists c.args.question.now.disjunctions.now) in
+    let refs = (references (g.I.Interner.universe c.args.question.now.interner.now) c.args.reader.now.lists
+    c.args.question.now.disjunctions.now) in
     let val = values_in c.args.question.now.map.now in
     none_found c.args.tracked.now.index.clauses.items (clause_literals refs) (rows_in refs) val
-    (score_in refs (g.I.NameId.Scores.IdMap.value_at c.args.question.now.scores.now)) c.requires.asked.located c.args.group
+    (score_in refs (g.I.NameId.Scores.IdMap.value_at c.args.question.now.scores.now))
+    c.requires.asked.located c.args.group
     c.loop-position.tracked.requirements c.loop-position.tracked.queued
-    (ready_by refs val c.loop-position.tracked c.args.tracked.now c.loop-position.invariant.walks.index c.loop-position.invariant.asked)
+    (ready_by refs val c.loop-position.tracked c.args.tracked.now c.loop-position.invariant.walks.index
+    c.loop-position.invariant.asked)
     (match_none c.first_of.result _ _ c.in_default.is c.first_of.ensures.none)
 
 pub loop-position-preserved : goal.loop-position-preserved
 loop-position-preserved g c =
     record {
-      asked = asked_by (g.I.Interner.universe c.args.question.now.interner.now) c.loop-position.reader.lists c.args.reader.now.lists c.args.question.now.disjunctions.now (values_in c.args.question.now.map.now) c.look.new.tracked c.loop-position.invariant.walks.lists c.look.ensures.asked;
-      walks = only_walks_along c.args.tracked.now c.loop-position.tracked c.look.new.tracked c.args.reader.now c.loop-position.reader c.look.new.reader c.loop-position.invariant.walks c.look.ensures.walks;
+      asked = asked_by (g.I.Interner.universe c.args.question.now.interner.now) c.loop-position.reader.lists
+          c.args.reader.now.lists c.args.question.now.disjunctions.now
+          (values_in c.args.question.now.map.now) c.inspect_at.new.tracked c.loop-position.invariant.walks.lists
+          c.inspect_at.ensures.asked;
+      walks = only_walks_along c.args.tracked.now c.loop-position.tracked c.inspect_at.new.tracked c.args.reader.now
+          c.loop-position.reader c.inspect_at.new.reader c.loop-position.invariant.walks c.inspect_at.ensures.walks;
     }
 
 pub loop-position-init : goal.loop-position-init
@@ -70,16 +91,24 @@ loop-position-init g c =
 
 pub returns-in-Some-2-clause-asked : goal.returns-in-Some-2-clause-asked
 returns-in-Some-2-clause-asked g c =
-    asked_by (g.I.Interner.universe c.args.question.now.interner.now) c.loop-position.reader.lists c.args.reader.now.lists c.args.question.now.disjunctions.now (values_in c.args.question.now.map.now) c.look.new.tracked c.loop-position.invariant.walks.lists c.look.ensures.asked
+    asked_by (g.I.Interner.universe c.args.question.now.interner.now) c.loop-position.reader.lists
+    c.args.reader.now.lists c.args.question.now.disjunctions.now
+    (values_in c.args.question.now.map.now) c.inspect_at.new.tracked c.loop-position.invariant.walks.lists
+    c.inspect_at.ensures.asked
 
 pub returns-in-Some-2-clause-walks : goal.returns-in-Some-2-clause-walks
 returns-in-Some-2-clause-walks g c =
-    only_walks_along c.args.tracked.now c.loop-position.tracked c.look.new.tracked c.args.reader.now c.loop-position.reader c.look.new.reader c.loop-position.invariant.walks c.look.ensures.walks
+    only_walks_along c.args.tracked.now c.loop-position.tracked c.inspect_at.new.tracked c.args.reader.now
+    c.loop-position.reader c.inspect_at.new.reader c.loop-position.invariant.walks c.inspect_at.ensures.walks
 
 pub returns-in_err-frontier-clause-asked : goal.returns-in_err-frontier-clause-asked
 returns-in_err-frontier-clause-asked g c =
-    asked_by (g.I.Interner.universe c.args.question.now.interner.now) c.loop-position.reader.lists c.args.reader.now.lists c.args.question.now.disjunctions.now (values_in c.args.question.now.map.now) c.look.new.tracked c.loop-position.invariant.walks.lists c.look.ensures.asked
+    asked_by (g.I.Interner.universe c.args.question.now.interner.now) c.loop-position.reader.lists
+    c.args.reader.now.lists c.args.question.now.disjunctions.now
+    (values_in c.args.question.now.map.now) c.inspect_at.new.tracked c.loop-position.invariant.walks.lists
+    c.inspect_at.ensures.asked
 
 pub returns-in_err-frontier-clause-walks : goal.returns-in_err-frontier-clause-walks
 returns-in_err-frontier-clause-walks g c =
-    only_walks_along c.args.tracked.now c.loop-position.tracked c.look.new.tracked c.args.reader.now c.loop-position.reader c.look.new.reader c.loop-position.invariant.walks c.look.ensures.walks
+    only_walks_along c.args.tracked.now c.loop-position.tracked c.inspect_at.new.tracked c.args.reader.now
+    c.loop-position.reader c.inspect_at.new.reader c.loop-position.invariant.walks c.inspect_at.ensures.walks

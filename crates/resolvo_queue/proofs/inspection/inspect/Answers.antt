@@ -1,6 +1,6 @@
 use Rattle.decisions.specs.Decisions.{values_in}
-use Rattle.resolvo_queue.proofs.OfferedLaws.{frontier_set}
-use Rattle.resolvo_queue.proofs.WalkCountLaws.{walks_nothing}
+use Rattle.resolvo_queue.proofs.Rows.KnownSets.{frontier_set}
+use Rattle.resolvo_queue.proofs.Walks.Counts.{walks_nothing}
 use Rattle.resolvo_queue.proofs.inspection.inspect.Goals as goal
 
 pub returns-in_default-clause-once : goal.returns-in_default-clause-once
@@ -11,5 +11,7 @@ returns-then-not-is_met-clause-once g c = walks_nothing c.args.requirements.now 
 
 pub returns-clause-set : goal.returns-clause-set
 returns-clause-set g c =
-    frontier_set (g.I.Interner.universe c.args.question.now.interner.now) c.args.reader.now.lists (values_in c.args.question.now.map.now) c.args.clause.now.required
-    (g.met.I.Interner.union_sets_known c.args.question.now.interner.now) c.requires.walkable.known c.requirement_frontier.result c.requirement_frontier.ensures.frontier
+    frontier_set (g.I.Interner.universe c.args.question.now.interner.now) c.args.reader.now.lists
+    (values_in c.args.question.now.map.now) c.args.clause.now.requirement
+    (g.met.I.Interner.union_sets_known c.args.question.now.interner.now) c.requires.walkable.known
+    c.requirement_frontier.result c.requirement_frontier.ensures.frontier

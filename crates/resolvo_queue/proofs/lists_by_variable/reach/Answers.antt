@@ -1,5 +1,5 @@
 use Rattle.std.proofs.Common.{◌∙◌}
-use Rattle.resolvo_queue.proofs.IndexLaws.{same_with_empty}
+use Rattle.resolvo_queue.proofs.Rows.ByVariable.{same_with_empty}
 use Rattle.resolvo_queue.proofs.lists_by_variable.reach.Goals as goal
 
 pub loop-alloc-preserved : goal.loop-alloc-preserved

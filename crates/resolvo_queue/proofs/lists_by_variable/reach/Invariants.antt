@@ -1,6 +1,6 @@
 use Rattle.std.proofs.Common.{◌+◌, ◌-◌, map, vec_len}
 use Rattle.typed_ids.specs.TotalMaps.{SameValues}
-use Rattle.resolvo_queue.specs.Index.{list_at}
+use Rattle.resolvo_queue.specs.Rows.ByVariable.{list_at}
 use Rattle.resolvo_queue.proofs.lists_by_variable.reach.Given as goal
 
 abbrev pub invariant-loop-alloc : goal.invariant-loop-alloc

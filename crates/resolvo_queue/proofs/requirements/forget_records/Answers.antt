@@ -1,7 +1,7 @@
 use Rattle.std.proofs.Common.{get_or, refl, ap}
-use Rattle.resolvo_queue.specs.Records.{tracked}
-use Rattle.resolvo_queue.specs.Tracked.{forgotten}
-use Rattle.resolvo_queue.proofs.RecordLaws.{all_done, all_left}
+use Rattle.resolvo_queue.specs.Parts.RecordView.{record_seen}
+use Rattle.resolvo_queue.specs.Parts.Records.{forgotten}
+use Rattle.resolvo_queue.proofs.Clauses.Records.{all_done, all_left}
 use Rattle.resolvo_queue.proofs.requirements.forget_records.Goals as goal
 
 pub loop-record-preserved : goal.loop-record-preserved
@@ -9,6 +9,10 @@ loop-record-preserved g c =
     let i = c.loop-record.record-index in
     let r = get_or c.loop-record.records i c.record-item.result in
     record {
-      done = all_done tracked forgotten c.args.records.now c.loop-record.records i r _ c.loop-record-test.true c.loop-record.auto.records (ap (λ x. get_or c.loop-record.records i x) c.record-item.is) refl c.loop-record.invariant.left c.loop-record.invariant.done;
-      left = all_left tracked forgotten c.args.records.now c.loop-record.records i r _ c.loop-record-test.true c.loop-record.auto.records (ap (λ x. get_or c.loop-record.records i x) c.record-item.is) refl c.loop-record.invariant.left;
+      done = all_done record_seen forgotten c.args.records.now c.loop-record.records i r _ c.loop-record-test.true
+          c.loop-record.auto.records (ap (λ x. get_or c.loop-record.records i x) c.record-item.is) refl
+          c.loop-record.invariant.left c.loop-record.invariant.done;
+      left = all_left record_seen forgotten c.args.records.now c.loop-record.records i r _ c.loop-record-test.true
+          c.loop-record.auto.records (ap (λ x. get_or c.loop-record.records i x) c.record-item.is) refl
+          c.loop-record.invariant.left;
     }

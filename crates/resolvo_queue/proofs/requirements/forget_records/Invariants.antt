@@ -1,10 +1,11 @@
 use Rattle.std.proofs.Common.{◌≡◌, take, drop, map}
-use Rattle.resolvo_queue.specs.Records.{tracked}
-use Rattle.resolvo_queue.specs.Tracked.{forgotten}
+use Rattle.resolvo_queue.specs.Parts.RecordView.{record_seen}
+use Rattle.resolvo_queue.specs.Parts.Records.{forgotten}
 use Rattle.resolvo_queue.proofs.requirements.forget_records.Given as goal
 
 abbrev pub invariant-loop-record : goal.invariant-loop-record
 invariant-loop-record g l = record {
-  done : map tracked (take l.record-index l.records) ≡ map forgotten (map tracked (take l.record-index l.initial.records));
+  done : map record_seen (take l.record-index l.records) ≡
+      map forgotten (map record_seen (take l.record-index l.initial.records));
   left : drop l.record-index l.records ≡ drop l.record-index l.initial.records;
 }

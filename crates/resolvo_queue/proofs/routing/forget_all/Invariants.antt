@@ -1,5 +1,5 @@
 use Rattle.std.proofs.Common.{take}
-use Rattle.resolvo_queue.specs.Queued.{GrowsBy, IsOfClause}
+use Rattle.resolvo_queue.specs.Parts.Queued.{GrowsBy, IsOfClause}
 use Rattle.resolvo_queue.specs.Routing.{OnlyForgets, ForgetsAmong, AreUnknown, WakesForgotten, ways}
 use Rattle.resolvo_queue.proofs.routing.forget_all.Given as goal
 

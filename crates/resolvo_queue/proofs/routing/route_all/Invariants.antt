@@ -4,4 +4,5 @@ use Rattle.resolvo_queue.proofs.routing.route_all.Given as goal
 
 abbrev pub invariant-loop-decision : goal.invariant-loop-decision
 invariant-loop-decision g l =
-    Routes (ways l.routing) (variables_of (take l.decision-index l.decisions)) l.initial.requirements l.requirements l.initial.queued l.queued
+    Routes (ways l.routing) (variables_of (take l.decision-index l.decisions)) l.initial.requirements l.requirements
+    l.initial.queued l.queued

@@ -5,4 +5,5 @@ use Rattle.decisions.specs.Literals.{known_false}
 use Rattle.resolvo_queue.proofs.row_reader.not_false_in.Given as goal
 
 abbrev pub invariant-loop-list : goal.invariant-loop-list
-invariant-loop-list g l = list_all (λ x. known_false (values_in l.map x)) (flat_map (λ v. v.items) (take l.list-index l.lists)) ≡ true
+invariant-loop-list g l = list_all (λ x. known_false (values_in l.map x))
+    (flat_map (λ v. v.items) (take l.list-index l.lists)) ≡ true

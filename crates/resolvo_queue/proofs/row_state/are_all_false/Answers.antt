@@ -1,6 +1,6 @@
 use Rattle.providers.specs.Provider.{sets_of}
 use Rattle.decisions.specs.Decisions.{values_in}
-use Rattle.resolvo_queue.proofs.RowLaws.{none_false}
+use Rattle.resolvo_queue.proofs.Rows.States.{none_false}
 use Rattle.resolvo_queue.proofs.row_state.are_all_false.Goals as goal
 
 pub returns-in-None : goal.returns-in-None

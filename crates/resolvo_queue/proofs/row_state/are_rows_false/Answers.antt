@@ -2,7 +2,7 @@ use Rattle.std.proofs.Common.{length, ◌∙◌, rules, tests}
 use Rattle.std.proofs.lemmas.Iterator.{YieldsList-from_slice, YieldsList-from_take}
 use Rattle.std.proofs.lemmas.Iterator.Search.{all_from_yields_List}
 use Rattle.decisions.specs.Decisions.{values_in}
-use Rattle.resolvo_queue.proofs.RowLaws.{false_list, false-rows}
+use Rattle.resolvo_queue.proofs.Rows.States.{false_list, false-rows}
 use Rattle.resolvo_queue.proofs.row_state.are_rows_false.Goals as goal
 
 pub returns : goal.returns

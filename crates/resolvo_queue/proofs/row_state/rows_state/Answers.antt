@@ -3,8 +3,8 @@ use Rattle.std.specs.Prelude.{flat_map}
 use Rattle.std.proofs.lemmas.List.{drop_more, drop_all}
 use Rattle.decisions.specs.Decisions.{values_in}
 use Rattle.resolvo_queue.specs.Rows.{rows, list_rows}
-use Rattle.resolvo_queue.specs.RowState.{with_rows}
-use Rattle.resolvo_queue.proofs.RowLaws.{state-rows, next-list, few-left, no_set, no_list, met-whole}
+use Rattle.resolvo_queue.specs.Rows.States.{with_rows}
+use Rattle.resolvo_queue.proofs.Rows.States.{state-rows, next-list, few-left, no_set, no_list, met-whole}
 use Rattle.resolvo_queue.proofs.row_state.rows_state.Goals as goal
 
 pub returns-in_default : goal.returns-in_default
@@ -22,12 +22,14 @@ returns-in-Met g c =
     let lists = c.args.lists.now in
     let list = c.list-item.result in
     let rest = drop (i + 1) lists in
-    let behind : drop i lists ≡ list ∷ rest = drop_more lists i list c.loop-list-test.true ∙ ap (λ y. y ∷ rest) (sym c.list-item.is) in
+    let behind : drop i lists ≡ list ∷ rest =
+    drop_more lists i list c.loop-list-test.true ∙ ap (λ y. y ∷ rest) (sym c.list-item.is) in
     met-whole val _ c.walk-state.result (rows c.in-Some.others.now (map (λ l. l.items) rest)) c.in-Met.is
     (next-list val _ c.loop-list.state c.walk-state.result c.loop-list.left.now c.in-Some.others.now c.in-Some.set.now
     (map (λ l. l.items) (drop i lists)) (map (λ l. l.items) rest) list.items
     c.in-Some.ensures.cases.0 (ap (map (λ l. l.items)) behind)
-    (c.walk-state.ensures ∙ ap (λ l. with_rows val c.loop-list.state (list_rows c.in-Some.set.now l)) c.deref.ensures.value)
+    (c.walk-state.ensures ∙ ap (λ l. with_rows val c.loop-list.state (list_rows c.in-Some.set.now l))
+    c.deref.ensures.value)
     c.loop-list.invariant.left)
     ∙ state-rows val (rows c.args.sets.now (map (λ l. l.items) lists))
 
@@ -38,15 +40,19 @@ loop-list-preserved g c =
     let lists = c.args.lists.now in
     let list = c.list-item.result in
     let rest = drop (i + 1) lists in
-    let behind : drop i lists ≡ list ∷ rest = drop_more lists i list c.loop-list-test.true ∙ ap (λ y. y ∷ rest) (sym c.list-item.is) in
+    let behind : drop i lists ≡ list ∷ rest =
+    drop_more lists i list c.loop-list-test.true ∙ ap (λ y. y ∷ rest) (sym c.list-item.is) in
     let walked : c.walk-state.result ≡ with_rows val c.loop-list.state (list_rows c.in-Some.set.now list.items) =
-    c.walk-state.ensures ∙ ap (λ l. with_rows val c.loop-list.state (list_rows c.in-Some.set.now l)) c.deref.ensures.value in
+    c.walk-state.ensures ∙ ap (λ l. with_rows val c.loop-list.state (list_rows c.in-Some.set.now l))
+    c.deref.ensures.value in
     record {
-      left = next-list val _ c.loop-list.state c.walk-state.result c.loop-list.left.now c.in-Some.others.now c.in-Some.set.now
+      left = next-list val _ c.loop-list.state c.walk-state.result c.loop-list.left.now c.in-Some.others.now
+          c.in-Some.set.now
           (map (λ l. l.items) (drop i lists)) (map (λ l. l.items) rest) list.items
           c.in-Some.ensures.cases.0 (ap (map (λ l. l.items)) behind) walked c.loop-list.invariant.left;
       few = few-left val c.loop-list.state c.walk-state.result c.in-Some.set.now list.items
-          (flat_map (λ l. l.items) rest) (flat_map (λ l. l.items) (drop i lists)) walked (ap (flat_map (λ l. l.items)) behind) c.loop-list.invariant.few;
+          (flat_map (λ l. l.items) rest) (flat_map (λ l. l.items) (drop i lists)) walked
+          (ap (flat_map (λ l. l.items)) behind) c.loop-list.invariant.few;
     }
 
 pub returns : goal.returns

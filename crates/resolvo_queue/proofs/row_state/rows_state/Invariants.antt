@@ -3,7 +3,7 @@ use Rattle.std.specs.Prelude.{flat_map}
 use Rattle.decisions.specs.Decisions.{values_in}
 use Rattle.resolvo_queue.specs.declared.row_state.RowState.TheVariants.{AllFalse}
 use Rattle.resolvo_queue.specs.Rows.{rows}
-use Rattle.resolvo_queue.specs.RowState.{counted, with_rows}
+use Rattle.resolvo_queue.specs.Rows.States.{counted, with_rows}
 use Rattle.resolvo_queue.proofs.row_state.rows_state.Given as goal
 
 -- the rows that are left lead to what all rows lead to
@@ -12,6 +12,7 @@ invariant-loop-list g l =
     let val = values_in l.decisions in
     let behind = drop l.list-index l.lists in
     record {
-      left : with_rows val l.state (rows l.left (map (λ c. c.items) behind)) ≡ with_rows val AllFalse (rows l.sets (map (λ c. c.items) l.lists));
+      left : with_rows val l.state (rows l.left (map (λ c. c.items) behind)) ≡
+          with_rows val AllFalse (rows l.sets (map (λ c. c.items) l.lists));
       few : counted l.state + length (flat_map (λ c. c.items) behind) < 2 ^ 40;
     }

@@ -1,7 +1,7 @@
 use Rattle.std.proofs.Common.{arith}
 use Rattle.std.proofs.lemmas.Result.{on_ok_weaker}
-use Rattle.resolvo_queue.specs.Settling.{basis}
-use Rattle.resolvo_queue.proofs.SettleLaws.{settled_still, settles_both}
+use Rattle.resolvo_queue.specs.Falsified.Settling.{basis}
+use Rattle.resolvo_queue.proofs.Falsified.Settling.{settled_still, settles_both}
 use Rattle.resolvo_queue.proofs.settling.settle_found.Goals as goal
 
 pub returns-then-is_scan_shorter-clause-ok : goal.returns-then-is_scan_shorter-clause-ok
@@ -18,5 +18,6 @@ returns-clause-settles g c = settles_both c.settle_by_all.ensures.settles c.sett
 -- what the variables find keeps its witnesses
 pub returns-clause-ok : goal.returns-clause-ok
 returns-clause-ok g c =
-    on_ok_weaker c.settle_new-2.result (λ came. settled_still (basis c.args.settling.now) c.settle_by_all.new.witnesses c.settle_new-2.new.witnesses
+    on_ok_weaker c.settle_new-2.result (λ came.
+    settled_still (basis c.args.settling.now) c.settle_by_all.new.witnesses c.settle_new-2.new.witnesses
     c.settle_new-2.ensures.settles.better c.in_ok-settle_by_all.ensures.ok) c.settle_new-2.ensures.ok

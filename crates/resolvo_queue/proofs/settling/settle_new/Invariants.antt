@@ -1,5 +1,5 @@
 use Rattle.std.proofs.Common.{◌<◌, ◌≤◌}
-use Rattle.resolvo_queue.specs.Settling.{AreSettled, Settles, basis}
+use Rattle.resolvo_queue.specs.Falsified.Settling.{AreSettled, Settles, basis}
 use Rattle.resolvo_queue.proofs.settling.settle_new.Given as goal
 
 abbrev pub invariant-loop-number : goal.invariant-loop-number

@@ -1,6 +1,6 @@
 use Rattle.std.proofs.Common.{take}
-use Rattle.resolvo_queue.specs.Order.{Stands}
-use Rattle.resolvo_queue.specs.Settling.{AreSettled, Settles, basis}
+use Rattle.resolvo_queue.specs.Members.{Stands}
+use Rattle.resolvo_queue.specs.Falsified.Settling.{AreSettled, Settles, basis}
 use Rattle.resolvo_queue.proofs.settling.settle_numbers.Given as goal
 
 abbrev pub invariant-loop-number : goal.invariant-loop-number

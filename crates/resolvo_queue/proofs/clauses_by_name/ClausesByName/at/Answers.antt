@@ -1,6 +1,6 @@
 use Rattle.std.proofs.Common.{◌≡◌, Some, sym, ap, ◌∙◌}
-use Rattle.resolvo_queue.specs.ByName.{list_in, numbers_under}
-use Rattle.resolvo_queue.proofs.ByNameLaws.{list_read, place_within}
+use Rattle.resolvo_queue.specs.Parts.ByName.{list_in, numbers_under}
+use Rattle.resolvo_queue.proofs.Clauses.ByName.{list_read, place_within}
 use Rattle.resolvo_queue.proofs.clauses_by_name.ClausesByName.at.Goals as goal
 
 pub returns-in-Some-clause-numbers : goal.returns-in-Some-clause-numbers
@@ -15,4 +15,5 @@ returns-in-Some-clause-numbers g c =
 
 pub returns-in-None-clause-numbers : goal.returns-in-None-clause-numbers
 returns-in-None-clause-numbers g c =
-    sym (ap (list_in _) (sym c.get.ensures ∙ (sym c.number.ensures ∙ c.in-None.is))) ∙ ap (λ b. numbers_under g.N.Slots.IdMap.value_at b c.args.name) c.self.view_is
+    sym (ap (list_in _) (sym c.get.ensures ∙ (sym c.number.ensures ∙ c.in-None.is))) ∙
+    ap (λ b. numbers_under g.N.Slots.IdMap.value_at b c.args.name) c.self.view_is

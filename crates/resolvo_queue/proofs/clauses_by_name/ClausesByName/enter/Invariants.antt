@@ -1,6 +1,6 @@
 use Rattle.std.proofs.Common.{take}
-use Rattle.resolvo_queue.specs.ByName.{IsEntered, KeepsNumbers, numbers_under}
-use Rattle.resolvo_queue.specs.Order.{Stands}
+use Rattle.resolvo_queue.specs.Parts.ByName.{IsEntered, KeepsNumbers, numbers_under}
+use Rattle.resolvo_queue.specs.Members.{Stands}
 use Rattle.resolvo_queue.proofs.clauses_by_name.ClausesByName.enter.Given as goal
 
 abbrev pub invariant-loop-name : goal.invariant-loop-name
@@ -8,5 +8,6 @@ invariant-loop-name g l =
     let under = numbers_under g.N.Slots.IdMap.value_at in
     record {
       kept : KeepsNumbers (under l.initial.self) (under l.self);
-      entered : (name : _) → Stands name (take l.name-index l.names) → IsEntered g.N.Slots.IdMap.is_too_large (under l.self) l.number name;
+      entered : (name : _) → Stands name (take l.name-index l.names) →
+          IsEntered g.N.Slots.IdMap.is_too_large (under l.self) l.number name;
     }

@@ -1,8 +1,8 @@
 use Rattle.std.proofs.Common.{◌<◌, get_or, refl, subst, sym}
 use Rattle.std.specs.Prelude.{sum_by}
-use Rattle.resolvo_queue.specs.Allowance.{Leaves}
-use Rattle.resolvo_queue.specs.ConditionLooks.{read_by, read_of}
-use Rattle.resolvo_queue.proofs.AllowanceLaws.{left_none}
+use Rattle.resolvo_queue.specs.Falsified.Allowance.{Leaves}
+use Rattle.resolvo_queue.specs.Falsified.ConditionLooks.{read_by, read_of}
+use Rattle.resolvo_queue.proofs.Falsified.Allowances.{left_none}
 use Rattle.resolvo_queue.proofs.condition_looks.ConditionLooks.after_variable.Goals as goal
 
 pub returns-in_err-rest : goal.returns-in_err-rest

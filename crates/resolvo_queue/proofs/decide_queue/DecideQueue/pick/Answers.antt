@@ -2,56 +2,71 @@ use Rattle.std.proofs.lemmas.Grind.{common_steps}
 use Rattle.std.proofs.Common.{map, inl, sym, ap, refl, subst, ◌∙◌, arith}
 use Rattle.std.specs.Prelude.{All, option_map}
 use Rattle.decisions.specs.Decisions.{values_in}
-use Rattle.resolvo_queue.specs.Inspection.{clause_of}
+use Rattle.resolvo_queue.specs.Pick.Inspection.{clause_of}
 use Rattle.resolvo_queue.specs.Pick.{decided, eligible, pick}
 use Rattle.resolvo_queue.specs.Queue.{AreNamed, IsSynced, OnlyHotScore, Queue, StandsOn, queue_of}
-use Rattle.resolvo_queue.specs.Question.{clause_literals}
+use Rattle.resolvo_queue.specs.Pick.Questions.{clause_literals}
 use Rattle.resolvo_queue.specs.References.{CanWalk, literals_in, references, rows_in, score_in}
 use Rattle.resolvo_queue.specs.WalkCounts.{WalksOnce, looks, owed}
-use Rattle.resolvo_queue.proofs.AfterLaws.{kept_still, order_asked, ready_asked, stands_asked}
-use Rattle.resolvo_queue.proofs.AskableLaws.{askable_tracked, cold_sets, cold_without_score}
-use Rattle.resolvo_queue.proofs.AskingLaws.{ready_by}
-use Rattle.resolvo_queue.proofs.FindingLaws.{finds_asked}
-use Rattle.resolvo_queue.proofs.PickLaws.{decides_unbeaten, none_decided}
-use Rattle.resolvo_queue.proofs.ScannedLaws.{offered_registered}
+use Rattle.resolvo_queue.proofs.Clauses.Synced.{kept_still, order_asked, ready_asked, stands_asked}
+use Rattle.resolvo_queue.proofs.Picks.Registered.{askable_tracked, cold_sets, cold_without_score}
+use Rattle.resolvo_queue.proofs.Picks.Steps.{ready_by}
+use Rattle.resolvo_queue.proofs.Falsified.Finding.{finds_asked}
+use Rattle.resolvo_queue.proofs.Picks.Unbeaten.{decides_unbeaten, none_decided}
+use Rattle.resolvo_queue.proofs.Picks.Offers.{offered_registered}
 use Rattle.resolvo_queue.proofs.decide_queue.DecideQueue.pick.Goals as goal
 
 pub next_offer-requires-clause-asked : goal.next_offer-requires-clause-asked
 next_offer-requires-clause-asked g c =
     let inside = c.self.inside in
-    let before : Queue g.row.D-NameId.Denot g.row.D-NameId-Set.Denot = queue_of inside.tracked inside.names.items inside.hot_names inside.since.items inside.witnesses in
-    let refs = references (g.D.Interner.universe c.args.question.now.interner.now) c.args.reader.now.lists c.args.question.now.disjunctions.now in
+    let before : Queue g.row.D-NameId.Denot g.row.D-NameId-Set.Denot =
+    queue_of inside.tracked inside.names.items inside.hot_names inside.since.items inside.witnesses in
+    let refs = references (g.D.Interner.universe c.args.question.now.interner.now) c.args.reader.now.lists
+    c.args.question.now.disjunctions.now in
     let stands : StandsOn refs before = subst (StandsOn refs) (sym c.self.view_is) c.requires.stands in
     record {
       located = c.self.invariant.0.order.located;
       first = c.self.invariant.0.order.first;
       askable = askable_tracked refs inside.tracked.index.clauses.items stands.parts
-          (subst (λ (q : Queue g.row.D-NameId.Denot g.row.D-NameId-Set.Denot). All (CanWalk refs) q.clauses) (sym c.self.view_is) c.requires.walkable);
+          (subst (λ (q : Queue g.row.D-NameId.Denot g.row.D-NameId-Set.Denot). All (CanWalk refs) q.clauses)
+          (sym c.self.view_is) c.requires.walkable);
       listed = stands.listed;
       ready = ready_asked g.D.NameId.Set.IdSet.has refs before before c.self.invariant.0 stands refl refl refl
-          (values_in c.args.question.now.map.now) (subst (IsSynced (values_in c.args.question.now.map.now)) (sym c.self.view_is) c.requires.synced);
+          (values_in c.args.question.now.map.now)
+          (subst (IsSynced (values_in c.args.question.now.map.now)) (sym c.self.view_is) c.requires.synced);
     }
 
 pub next_offer-requires-clause-cold : goal.next_offer-requires-clause-cold
 next_offer-requires-clause-cold g c =
     let inside = c.self.inside in
-    let before : Queue g.row.D-NameId.Denot g.row.D-NameId-Set.Denot = queue_of inside.tracked inside.names.items inside.hot_names inside.since.items inside.witnesses in
+    let before : Queue g.row.D-NameId.Denot g.row.D-NameId-Set.Denot =
+    queue_of inside.tracked inside.names.items inside.hot_names inside.since.items inside.witnesses in
     let universe = g.D.Interner.universe c.args.question.now.interner.now in
     let refs = references universe c.args.reader.now.lists c.args.question.now.disjunctions.now in
-    cold_without_score universe c.args.reader.now.lists (values_in c.args.question.now.map.now) (clause_literals refs) (g.D.NameId.Set.IdSet.has inside.hot_names)
+    cold_without_score universe c.args.reader.now.lists (values_in c.args.question.now.map.now) (clause_literals refs)
+    (g.D.NameId.Set.IdSet.has inside.hot_names)
     (g.D.NameId.Scores.IdMap.value_at c.args.question.now.scores.now) inside.tracked.index.clauses.items
-    (cold_sets universe g.D.NameId.Set.IdSet.has before refl (subst (AreNamed universe) (sym c.self.view_is) c.requires.named) c.self.invariant.0)
-    (subst (OnlyHotScore g.D.NameId.Set.IdSet.has (g.D.NameId.Scores.IdMap.value_at c.args.question.now.scores.now)) (sym c.self.view_is) c.requires.hot)
+    (cold_sets universe g.D.NameId.Set.IdSet.has before refl
+    (subst (AreNamed universe) (sym c.self.view_is) c.requires.named) c.self.invariant.0)
+    (subst (OnlyHotScore g.D.NameId.Set.IdSet.has (g.D.NameId.Scores.IdMap.value_at c.args.question.now.scores.now))
+    (sym c.self.view_is) c.requires.hot)
 
 pub invariant_of-self : goal.invariant_of-self
 invariant_of-self g c =
     let inside = c.self.inside in
-    let before : Queue g.row.D-NameId.Denot g.row.D-NameId-Set.Denot = queue_of inside.tracked inside.names.items inside.hot_names inside.since.items inside.witnesses in
-    let after : Queue g.row.D-NameId.Denot g.row.D-NameId-Set.Denot = queue_of c.next_offer.new.tracked inside.names.items inside.hot_names inside.since.items inside.witnesses in
-    let refs = references (g.D.Interner.universe c.args.question.now.interner.now) c.args.reader.now.lists c.args.question.now.disjunctions.now in (
+    let before : Queue g.row.D-NameId.Denot g.row.D-NameId-Set.Denot =
+    queue_of inside.tracked inside.names.items inside.hot_names inside.since.items inside.witnesses in
+    let after : Queue g.row.D-NameId.Denot g.row.D-NameId-Set.Denot =
+    queue_of c.next_offer.new.tracked inside.names.items inside.hot_names inside.since.items inside.witnesses in
+    let refs = references (g.D.Interner.universe c.args.question.now.interner.now) c.args.reader.now.lists
+    c.args.question.now.disjunctions.now in (
       kept_still g.D.NameId.Set.IdSet.has before after c.self.invariant.0
-          (order_asked before.inside after.inside (clause_literals refs) (rows_in refs) (values_in c.args.question.now.map.now)
-          (ap (λ ix. ix.clauses.items) c.next_offer.ensures.walks.index) (ap (λ ix. ix.by_parent) c.next_offer.ensures.walks.index) c.next_offer.ensures.walks.found (ready_by refs (values_in c.args.question.now.map.now) c.next_offer.new.tracked inside.tracked c.next_offer.ensures.walks.index c.next_offer.ensures.asked) c.self.invariant.0.order)
+          (order_asked before.inside after.inside (clause_literals refs) (rows_in refs)
+          (values_in c.args.question.now.map.now)
+          (ap (λ ix. ix.clauses.items) c.next_offer.ensures.walks.index)
+          (ap (λ ix. ix.by_parent) c.next_offer.ensures.walks.index) c.next_offer.ensures.walks.found
+          (ready_by refs (values_in c.args.question.now.map.now) c.next_offer.new.tracked inside.tracked
+          c.next_offer.ensures.walks.index c.next_offer.ensures.asked) c.self.invariant.0.order)
           (ap (λ ix. ix.clauses.items) c.next_offer.ensures.walks.index) refl refl (inl refl),
       c.self.invariant.1,
     )
@@ -59,12 +74,19 @@ invariant_of-self g c =
 pub invariant_of-self-2 : goal.invariant_of-self-2
 invariant_of-self-2 g c =
     let inside = c.self.inside in
-    let before : Queue g.row.D-NameId.Denot g.row.D-NameId-Set.Denot = queue_of inside.tracked inside.names.items inside.hot_names inside.since.items inside.witnesses in
-    let after : Queue g.row.D-NameId.Denot g.row.D-NameId-Set.Denot = queue_of c.next_offer.new.tracked inside.names.items inside.hot_names inside.since.items inside.witnesses in
-    let refs = references (g.D.Interner.universe c.args.question.now.interner.now) c.args.reader.now.lists c.args.question.now.disjunctions.now in (
+    let before : Queue g.row.D-NameId.Denot g.row.D-NameId-Set.Denot =
+    queue_of inside.tracked inside.names.items inside.hot_names inside.since.items inside.witnesses in
+    let after : Queue g.row.D-NameId.Denot g.row.D-NameId-Set.Denot =
+    queue_of c.next_offer.new.tracked inside.names.items inside.hot_names inside.since.items inside.witnesses in
+    let refs = references (g.D.Interner.universe c.args.question.now.interner.now) c.args.reader.now.lists
+    c.args.question.now.disjunctions.now in (
       kept_still g.D.NameId.Set.IdSet.has before after c.self.invariant.0
-          (order_asked before.inside after.inside (clause_literals refs) (rows_in refs) (values_in c.args.question.now.map.now)
-          (ap (λ ix. ix.clauses.items) c.next_offer.ensures.walks.index) (ap (λ ix. ix.by_parent) c.next_offer.ensures.walks.index) c.next_offer.ensures.walks.found (ready_by refs (values_in c.args.question.now.map.now) c.next_offer.new.tracked inside.tracked c.next_offer.ensures.walks.index c.next_offer.ensures.asked) c.self.invariant.0.order)
+          (order_asked before.inside after.inside (clause_literals refs) (rows_in refs)
+          (values_in c.args.question.now.map.now)
+          (ap (λ ix. ix.clauses.items) c.next_offer.ensures.walks.index)
+          (ap (λ ix. ix.by_parent) c.next_offer.ensures.walks.index) c.next_offer.ensures.walks.found
+          (ready_by refs (values_in c.args.question.now.map.now) c.next_offer.new.tracked inside.tracked
+          c.next_offer.ensures.walks.index c.next_offer.ensures.asked) c.self.invariant.0.order)
           (ap (λ ix. ix.clauses.items) c.next_offer.ensures.walks.index) refl refl (inl refl),
       c.self.invariant.1,
     )
@@ -72,87 +94,123 @@ invariant_of-self-2 g c =
 pub returns-in_err-offer-clause-stands : goal.returns-in_err-offer-clause-stands
 returns-in_err-offer-clause-stands g c =
     let inside = c.self.inside in
-    let before : Queue g.row.D-NameId.Denot g.row.D-NameId-Set.Denot = queue_of inside.tracked inside.names.items inside.hot_names inside.since.items inside.witnesses in
-    let after : Queue g.row.D-NameId.Denot g.row.D-NameId-Set.Denot = queue_of c.next_offer.new.tracked inside.names.items inside.hot_names inside.since.items inside.witnesses in
-    let refs = references (g.D.Interner.universe c.args.question.now.interner.now) c.args.reader.now.lists c.args.question.now.disjunctions.now in
+    let before : Queue g.row.D-NameId.Denot g.row.D-NameId-Set.Denot =
+    queue_of inside.tracked inside.names.items inside.hot_names inside.since.items inside.witnesses in
+    let after : Queue g.row.D-NameId.Denot g.row.D-NameId-Set.Denot =
+    queue_of c.next_offer.new.tracked inside.names.items inside.hot_names inside.since.items inside.witnesses in
+    let refs = references (g.D.Interner.universe c.args.question.now.interner.now) c.args.reader.now.lists
+    c.args.question.now.disjunctions.now in
     let index = c.next_offer.ensures.walks.index in
     let stands : StandsOn refs before = subst (StandsOn refs) (sym c.self.view_is) c.requires.stands in
     stands_asked g.D.NameId.Set.IdSet.has refs before after c.self.invariant.0 stands
-    (ap (λ ix. map clause_of ix.clauses.items) index) (ap (λ ix. ix.clauses.items) index) (ap (λ ix. ix.by_condition) index)
-    (values_in c.args.question.now.map.now) (subst (IsSynced (values_in c.args.question.now.map.now)) (sym c.self.view_is) c.requires.synced)
-    (ap (λ t. t.items) c.next_offer.ensures.walks.trail) refl c.next_offer.ensures.asked.listed (ready_by refs (values_in c.args.question.now.map.now) c.next_offer.new.tracked inside.tracked c.next_offer.ensures.walks.index c.next_offer.ensures.asked)
-    (finds_asked refs before after stands.falsified c.next_offer.ensures.walks.keeps_listed (ap (λ ix. ix.clauses.items) index) (ap (λ t. t.items) c.next_offer.ensures.walks.trail) c.next_offer.ensures.walks.anew refl)
+    (ap (λ ix. map clause_of ix.clauses.items) index) (ap (λ ix. ix.clauses.items) index)
+    (ap (λ ix. ix.by_condition) index)
+    (values_in c.args.question.now.map.now)
+    (subst (IsSynced (values_in c.args.question.now.map.now)) (sym c.self.view_is) c.requires.synced)
+    (ap (λ t. t.items) c.next_offer.ensures.walks.trail) refl c.next_offer.ensures.asked.listed
+    (ready_by refs (values_in c.args.question.now.map.now) c.next_offer.new.tracked inside.tracked
+    c.next_offer.ensures.walks.index c.next_offer.ensures.asked)
+    (finds_asked refs before after stands.falsified c.next_offer.ensures.walks.keeps_listed
+    (ap (λ ix. ix.clauses.items) index) (ap (λ t. t.items) c.next_offer.ensures.walks.trail)
+    c.next_offer.ensures.walks.anew refl)
 
 pub returns-clause-stands : goal.returns-clause-stands
 returns-clause-stands g c =
     let inside = c.self.inside in
-    let before : Queue g.row.D-NameId.Denot g.row.D-NameId-Set.Denot = queue_of inside.tracked inside.names.items inside.hot_names inside.since.items inside.witnesses in
-    let after : Queue g.row.D-NameId.Denot g.row.D-NameId-Set.Denot = queue_of c.next_offer.new.tracked inside.names.items inside.hot_names inside.since.items inside.witnesses in
-    let refs = references (g.D.Interner.universe c.args.question.now.interner.now) c.args.reader.now.lists c.args.question.now.disjunctions.now in
+    let before : Queue g.row.D-NameId.Denot g.row.D-NameId-Set.Denot =
+    queue_of inside.tracked inside.names.items inside.hot_names inside.since.items inside.witnesses in
+    let after : Queue g.row.D-NameId.Denot g.row.D-NameId-Set.Denot =
+    queue_of c.next_offer.new.tracked inside.names.items inside.hot_names inside.since.items inside.witnesses in
+    let refs = references (g.D.Interner.universe c.args.question.now.interner.now) c.args.reader.now.lists
+    c.args.question.now.disjunctions.now in
     let index = c.next_offer.ensures.walks.index in
     let stands : StandsOn refs before = subst (StandsOn refs) (sym c.self.view_is) c.requires.stands in
     stands_asked g.D.NameId.Set.IdSet.has refs before after c.self.invariant.0 stands
-    (ap (λ ix. map clause_of ix.clauses.items) index) (ap (λ ix. ix.clauses.items) index) (ap (λ ix. ix.by_condition) index)
-    (values_in c.args.question.now.map.now) (subst (IsSynced (values_in c.args.question.now.map.now)) (sym c.self.view_is) c.requires.synced)
-    (ap (λ t. t.items) c.next_offer.ensures.walks.trail) refl c.next_offer.ensures.asked.listed (ready_by refs (values_in c.args.question.now.map.now) c.next_offer.new.tracked inside.tracked c.next_offer.ensures.walks.index c.next_offer.ensures.asked)
-    (finds_asked refs before after stands.falsified c.next_offer.ensures.walks.keeps_listed (ap (λ ix. ix.clauses.items) index) (ap (λ t. t.items) c.next_offer.ensures.walks.trail) c.next_offer.ensures.walks.anew refl)
+    (ap (λ ix. map clause_of ix.clauses.items) index) (ap (λ ix. ix.clauses.items) index)
+    (ap (λ ix. ix.by_condition) index)
+    (values_in c.args.question.now.map.now)
+    (subst (IsSynced (values_in c.args.question.now.map.now)) (sym c.self.view_is) c.requires.synced)
+    (ap (λ t. t.items) c.next_offer.ensures.walks.trail) refl c.next_offer.ensures.asked.listed
+    (ready_by refs (values_in c.args.question.now.map.now) c.next_offer.new.tracked inside.tracked
+    c.next_offer.ensures.walks.index c.next_offer.ensures.asked)
+    (finds_asked refs before after stands.falsified c.next_offer.ensures.walks.keeps_listed
+    (ap (λ ix. ix.clauses.items) index) (ap (λ t. t.items) c.next_offer.ensures.walks.trail)
+    c.next_offer.ensures.walks.anew refl)
 
 pub returns-clause-picked : goal.returns-clause-picked
 returns-clause-picked g c =
     let val = values_in c.args.question.now.map.now in
-    let refs = references (g.D.Interner.universe c.args.question.now.interner.now) c.args.reader.now.lists c.args.question.now.disjunctions.now in
+    let refs = references (g.D.Interner.universe c.args.question.now.interner.now) c.args.reader.now.lists
+    c.args.question.now.disjunctions.now in
     let score = score_in refs (g.D.NameId.Scores.IdMap.value_at c.args.question.now.scores.now) in
     c.decision_at.ensures ∙ ap (option_map decided) (c.in_ok-offer.ensures.picked
-    ∙ (ap pick (offered_registered val (literals_in refs) (rows_in refs) score c.self.inside.tracked.index.clauses.items)
-    ∙ ap (λ (q : Queue g.row.D-NameId.Denot g.row.D-NameId-Set.Denot). pick (eligible val (literals_in refs) (rows_in refs) score q.clauses)) c.self.view_is))
+    ∙ (ap pick (offered_registered val (literals_in refs)
+    (rows_in refs) score c.self.inside.tracked.index.clauses.items)
+    ∙ ap (λ (q : Queue g.row.D-NameId.Denot g.row.D-NameId-Set.Denot).
+    pick (eligible val (literals_in refs) (rows_in refs) score q.clauses)) c.self.view_is))
 
 pub returns-clause-none : goal.returns-clause-none
 returns-clause-none g c =
     let val = values_in c.args.question.now.map.now in
-    let refs = references (g.D.Interner.universe c.args.question.now.interner.now) c.args.reader.now.lists c.args.question.now.disjunctions.now in
+    let refs = references (g.D.Interner.universe c.args.question.now.interner.now) c.args.reader.now.lists
+    c.args.question.now.disjunctions.now in
     let score = score_in refs (g.D.NameId.Scores.IdMap.value_at c.args.question.now.scores.now) in
     none_decided val (literals_in refs) (rows_in refs) score c.args.self.now.clauses c.decision_at.result
     (c.decision_at.ensures ∙ ap (option_map decided) (c.in_ok-offer.ensures.picked
-    ∙ (ap pick (offered_registered val (literals_in refs) (rows_in refs) score c.self.inside.tracked.index.clauses.items)
-    ∙ ap (λ (q : Queue g.row.D-NameId.Denot g.row.D-NameId-Set.Denot). pick (eligible val (literals_in refs) (rows_in refs) score q.clauses)) c.self.view_is)))
+    ∙ (ap pick (offered_registered val (literals_in refs)
+    (rows_in refs) score c.self.inside.tracked.index.clauses.items)
+    ∙ ap (λ (q : Queue g.row.D-NameId.Denot g.row.D-NameId-Set.Denot).
+    pick (eligible val (literals_in refs) (rows_in refs) score q.clauses)) c.self.view_is)))
 
 pub returns-clause-unbeaten : goal.returns-clause-unbeaten
 returns-clause-unbeaten g c =
     let val = values_in c.args.question.now.map.now in
-    let refs = references (g.D.Interner.universe c.args.question.now.interner.now) c.args.reader.now.lists c.args.question.now.disjunctions.now in
+    let refs = references (g.D.Interner.universe c.args.question.now.interner.now) c.args.reader.now.lists
+    c.args.question.now.disjunctions.now in
     let score = score_in refs (g.D.NameId.Scores.IdMap.value_at c.args.question.now.scores.now) in
     decides_unbeaten (eligible val (literals_in refs) (rows_in refs) score c.args.self.now.clauses) c.decision_at.result
     (c.decision_at.ensures ∙ ap (option_map decided) (c.in_ok-offer.ensures.picked
-    ∙ (ap pick (offered_registered val (literals_in refs) (rows_in refs) score c.self.inside.tracked.index.clauses.items)
-    ∙ ap (λ (q : Queue g.row.D-NameId.Denot g.row.D-NameId-Set.Denot). pick (eligible val (literals_in refs) (rows_in refs) score q.clauses)) c.self.view_is)))
+    ∙ (ap pick (offered_registered val (literals_in refs)
+    (rows_in refs) score c.self.inside.tracked.index.clauses.items)
+    ∙ ap (λ (q : Queue g.row.D-NameId.Denot g.row.D-NameId-Set.Denot).
+    pick (eligible val (literals_in refs) (rows_in refs) score q.clauses)) c.self.view_is)))
 
 pub returns-in_err-offer-clause-walks : goal.returns-in_err-offer-clause-walks
 returns-in_err-offer-clause-walks g c =
-    subst (λ (q : Queue g.row.D-NameId.Denot g.row.D-NameId-Set.Denot). WalksOnce q.inside.requirements c.next_offer.new.tracked.requirements c.args.reader.now.walked c.next_offer.new.reader.walked)
+    subst (λ (q : Queue g.row.D-NameId.Denot g.row.D-NameId-Set.Denot).
+    WalksOnce q.inside.requirements c.next_offer.new.tracked.requirements c.args.reader.now.walked
+    c.next_offer.new.reader.walked)
     c.self.view_is c.next_offer.ensures.walks.once
 
 pub returns-in_err-offer-clause-owed : goal.returns-in_err-offer-clause-owed
-returns-in_err-offer-clause-owed g c = λ r. c.next_offer.ensures.walks.once.owed r ∙ ap (λ (q : Queue g.row.D-NameId.Denot g.row.D-NameId-Set.Denot). owed q r) c.self.view_is
+returns-in_err-offer-clause-owed g c = λ r. c.next_offer.ensures.walks.once.owed r ∙
+    ap (λ (q : Queue g.row.D-NameId.Denot g.row.D-NameId-Set.Denot). owed q r) c.self.view_is
 
 pub returns-clause-walks : goal.returns-clause-walks
 returns-clause-walks g c =
-    subst (λ (q : Queue g.row.D-NameId.Denot g.row.D-NameId-Set.Denot). WalksOnce q.inside.requirements c.next_offer.new.tracked.requirements c.args.reader.now.walked c.next_offer.new.reader.walked)
+    subst (λ (q : Queue g.row.D-NameId.Denot g.row.D-NameId-Set.Denot).
+    WalksOnce q.inside.requirements c.next_offer.new.tracked.requirements c.args.reader.now.walked
+    c.next_offer.new.reader.walked)
     c.self.view_is c.next_offer.ensures.walks.once
 
 pub returns-clause-owed : goal.returns-clause-owed
-returns-clause-owed g c = λ r. c.next_offer.ensures.walks.once.owed r ∙ ap (λ (q : Queue g.row.D-NameId.Denot g.row.D-NameId-Set.Denot). owed q r) c.self.view_is
+returns-clause-owed g c = λ r. c.next_offer.ensures.walks.once.owed r ∙
+    ap (λ (q : Queue g.row.D-NameId.Denot g.row.D-NameId-Set.Denot). owed q r) c.self.view_is
 
 pub returns-in_err-offer-clause-looks : goal.returns-in_err-offer-clause-looks
-returns-in_err-offer-clause-looks g c = λ r. ap (λ (q : Queue g.row.D-NameId.Denot g.row.D-NameId-Set.Denot). looks q r) c.self.view_is
+returns-in_err-offer-clause-looks g c = λ r.
+    ap (λ (q : Queue g.row.D-NameId.Denot g.row.D-NameId-Set.Denot). looks q r) c.self.view_is
 
 pub returns-clause-looks : goal.returns-clause-looks
-returns-clause-looks g c = λ r. ap (λ (q : Queue g.row.D-NameId.Denot g.row.D-NameId-Set.Denot). looks q r) c.self.view_is
+returns-clause-looks g c =
+    λ r. ap (λ (q : Queue g.row.D-NameId.Denot g.row.D-NameId-Set.Denot). looks q r) c.self.view_is
 
 pub next_offer-requires-clause-largest : goal.next_offer-requires-clause-largest
 next_offer-requires-clause-largest g c = grind (arith, common_steps)
 
 pub returns-in_err-offer-clause-last : goal.returns-in_err-offer-clause-last
-returns-in_err-offer-clause-last g c = ap (λ (q : Queue g.row.D-NameId.Denot g.row.D-NameId-Set.Denot). q.last) c.self.view_is
+returns-in_err-offer-clause-last g c =
+    ap (λ (q : Queue g.row.D-NameId.Denot g.row.D-NameId-Set.Denot). q.last) c.self.view_is
 
 pub returns-clause-last : goal.returns-clause-last
 returns-clause-last g c = ap (λ (q : Queue g.row.D-NameId.Denot g.row.D-NameId-Set.Denot). q.last) c.self.view_is

@@ -1,28 +1,33 @@
 use Rattle.std.proofs.lemmas.Grind.{common_steps}
-use Rattle.std.proofs.Common.{◌≡◌, ◌⊎◌, inl, arith, ◌<◌, ◌^◌, ◌-◌, [], ◌∷◌, ◌++◌, map, length, IfSome, sym, ap, refl, subst, ◌∙◌}
+use Rattle.std.proofs.Common.{◌≡◌, ◌⊎◌, inl, arith, ◌<◌, ◌^◌, ◌-◌, [], ◌∷◌, ◌++◌}
+use Rattle.std.proofs.Common.{map, length, IfSome, sym, ap, refl, subst, ◌∙◌}
 use Rattle.std.specs.List.{list_any}
 use Rattle.std.proofs.lemmas.List.{length-map, map-append}
-use Rattle.resolvo_queue.specs.ByName.{IsEntered, numbers_under}
-use Rattle.resolvo_queue.specs.Inspection.{clause_of}
-use Rattle.resolvo_queue.specs.Order.{Stands}
+use Rattle.resolvo_queue.specs.Parts.ByName.{IsEntered, numbers_under}
+use Rattle.resolvo_queue.specs.Pick.Inspection.{clause_of}
+use Rattle.resolvo_queue.specs.Members.{Stands}
 use Rattle.resolvo_queue.specs.Queue.{IsRegistered, Queue, StandsOn, queue_of}
 use Rattle.resolvo_queue.specs.References.{references}
 use Rattle.resolvo_queue.specs.declared.requires_clause.RequiresClause.{RequiresClause}
 use Rattle.resolvo_queue.specs.WalkCounts.{owed, owed_in, walks}
-use Rattle.resolvo_queue.proofs.AfterLaws.{kept_still}
-use Rattle.resolvo_queue.proofs.ByNameLaws.{entered_last, entered_still}
-use Rattle.resolvo_queue.proofs.KeptLaws.{kept_refused, kept_registered, not_full, registered_whole, stands_refused, stands_registered}
+use Rattle.resolvo_queue.proofs.Clauses.Synced.{kept_still}
+use Rattle.resolvo_queue.proofs.Clauses.ByName.{entered_last, entered_still}
+use Rattle.resolvo_queue.proofs.Clauses.Registration.{kept_refused, kept_registered, not_full}
+use Rattle.resolvo_queue.proofs.Clauses.Registration.{registered_whole, stands_refused, stands_registered}
 use Rattle.resolvo_queue.specs.Clear.{IsClear, RemembersWell}
-use Rattle.resolvo_queue.proofs.RememberLaws.{clear_registered, remembered_along}
+use Rattle.resolvo_queue.proofs.Falsified.Remembered.{clear_registered, remembered_along}
 use Rattle.resolvo_queue.proofs.decide_queue.DecideQueue.register_clause.Goals as goal
 
 pub overflow_cast-number : goal.overflow_cast-number
 overflow_cast-number g c =
     let inside = c.self.inside in
     let few : length inside.tracked.index.clauses.items < 2 ^ 32 - 1 =
-    not_full c.is_full.result (length c.args.self.now.clauses) (length inside.tracked.index.clauses.items) c.if-is_full.false c.is_full.ensures
-    (ap (λ (q : Queue g.row.D-NameId.Denot g.row.D-NameId-Set.Denot). length q.clauses) (sym c.self.view_is) ∙ length-map inside.tracked.index.clauses.items clause_of) in
-    let many : length (map (λ own. own.items) inside.names.items) ≡ length inside.tracked.index.clauses.items = c.self.invariant.0.names in
+    not_full c.is_full.result (length c.args.self.now.clauses)
+    (length inside.tracked.index.clauses.items) c.if-is_full.false c.is_full.ensures
+    (ap (λ (q : Queue g.row.D-NameId.Denot g.row.D-NameId-Set.Denot). length q.clauses) (sym c.self.view_is) ∙
+    length-map inside.tracked.index.clauses.items clause_of) in
+    let many : length (map (λ own. own.items) inside.names.items) ≡ length inside.tracked.index.clauses.items =
+    c.self.invariant.0.names in
     let all = length-map inside.names.items (λ own. own.items) in
     let same = ap length c.reserve.ensures.items in
     omega (arith, few, many, all, same, c.len-number.ensures, c.reserve.new.self.ok.0)
@@ -31,71 +36,114 @@ overflow_cast-number g c =
 pub invariant_of-self-in_err-enter : goal.invariant_of-self-in_err-enter
 invariant_of-self-in_err-enter g c =
     let inside = c.self.inside in
-    let before : Queue g.row.D-NameId.Denot g.row.D-NameId-Set.Denot = queue_of inside.tracked inside.names.items inside.hot_names inside.since.items inside.witnesses in
-    let after : Queue g.row.D-NameId.Denot g.row.D-NameId-Set.Denot = queue_of inside.tracked c.reserve.new.self.items inside.hot_names c.reserve-2.new.self.items inside.witnesses in
+    let before : Queue g.row.D-NameId.Denot g.row.D-NameId-Set.Denot =
+    queue_of inside.tracked inside.names.items inside.hot_names inside.since.items inside.witnesses in
+    let after : Queue g.row.D-NameId.Denot g.row.D-NameId-Set.Denot =
+    queue_of inside.tracked c.reserve.new.self.items inside.hot_names c.reserve-2.new.self.items inside.witnesses in
     let names = ap (map (λ own. own.items)) c.reserve.ensures.items in
     let under = numbers_under g.D.NameId.Slots.IdMap.value_at in (
-      kept_still g.D.NameId.Set.IdSet.has before after c.self.invariant.0 c.self.invariant.0.order refl names refl (inl c.reserve-2.ensures.items),
-      entered_still g.D.NameId.Slots.IdMap.is_too_large (under inside.by_name) (under c.enter.new.self) before.names after.names names c.enter.ensures.kept c.self.invariant.1,
+      kept_still g.D.NameId.Set.IdSet.has before after c.self.invariant.0 c.self.invariant.0.order refl names refl
+          (inl c.reserve-2.ensures.items),
+      entered_still g.D.NameId.Slots.IdMap.is_too_large (under inside.by_name)
+          (under c.enter.new.self) before.names after.names names c.enter.ensures.kept c.self.invariant.1,
     )
 
 pub invariant_of-self-in_err-register : goal.invariant_of-self-in_err-register
 invariant_of-self-in_err-register g c =
     let inside = c.self.inside in
-    let before : Queue g.row.D-NameId.Denot g.row.D-NameId-Set.Denot = queue_of inside.tracked inside.names.items inside.hot_names inside.since.items inside.witnesses in
-    let after : Queue g.row.D-NameId.Denot g.row.D-NameId-Set.Denot = queue_of c.register.new.self c.reserve.new.self.items inside.hot_names c.reserve-2.new.self.items inside.witnesses in
+    let before : Queue g.row.D-NameId.Denot g.row.D-NameId-Set.Denot =
+    queue_of inside.tracked inside.names.items inside.hot_names inside.since.items inside.witnesses in
+    let after : Queue g.row.D-NameId.Denot g.row.D-NameId-Set.Denot =
+    queue_of c.register.new.self c.reserve.new.self.items inside.hot_names c.reserve-2.new.self.items
+    inside.witnesses in
     let names = ap (map (λ own. own.items)) c.reserve.ensures.items in
     let under = numbers_under g.D.NameId.Slots.IdMap.value_at in (
-      kept_refused g.D.NameId.Set.IdSet.has before after c.in_err-register.ensures.err c.reserve-2.ensures.items c.self.invariant.0 names refl,
-      entered_still g.D.NameId.Slots.IdMap.is_too_large (under inside.by_name) (under c.enter.new.self) before.names after.names names c.enter.ensures.kept c.self.invariant.1,
+      kept_refused g.D.NameId.Set.IdSet.has before after c.in_err-register.ensures.err c.reserve-2.ensures.items
+          c.self.invariant.0 names refl,
+      entered_still g.D.NameId.Slots.IdMap.is_too_large (under inside.by_name)
+          (under c.enter.new.self) before.names after.names names c.enter.ensures.kept c.self.invariant.1,
     )
 
 pub returns-in_err-register-clause-stands : goal.returns-in_err-register-clause-stands
 returns-in_err-register-clause-stands g c =
     let inside = c.self.inside in
-    let before : Queue g.row.D-NameId.Denot g.row.D-NameId-Set.Denot = queue_of inside.tracked inside.names.items inside.hot_names inside.since.items inside.witnesses in
-    let after : Queue g.row.D-NameId.Denot g.row.D-NameId-Set.Denot = queue_of c.register.new.self c.reserve.new.self.items inside.hot_names c.reserve-2.new.self.items inside.witnesses in
+    let before : Queue g.row.D-NameId.Denot g.row.D-NameId-Set.Denot =
+    queue_of inside.tracked inside.names.items inside.hot_names inside.since.items inside.witnesses in
+    let after : Queue g.row.D-NameId.Denot g.row.D-NameId-Set.Denot =
+    queue_of c.register.new.self c.reserve.new.self.items inside.hot_names c.reserve-2.new.self.items
+    inside.witnesses in
     λ universe lists has s. (let refs = references universe lists c.args.disjunctions.now in
     stands_refused g.D.NameId.Set.IdSet.has before after c.in_err-register.ensures.err c.reserve-2.ensures.items refs
-    (subst (StandsOn refs) (sym c.self.view_is) s) (ap (map clause_of) c.in_err-register.ensures.err.clauses) (ap (λ t. t.items) c.register.ensures.same.1) c.register.ensures.same.2 refl)
+    (subst (StandsOn refs) (sym c.self.view_is) s) (ap (map clause_of) c.in_err-register.ensures.err.clauses)
+    (ap (λ t. t.items) c.register.ensures.same.1) c.register.ensures.same.2 refl)
 
 pub invariant_of-self-2 : goal.invariant_of-self-2
 invariant_of-self-2 g c =
     let inside = c.self.inside in
-    let before : Queue g.row.D-NameId.Denot g.row.D-NameId-Set.Denot = queue_of inside.tracked inside.names.items inside.hot_names inside.since.items inside.witnesses in
-    let after : Queue g.row.D-NameId.Denot g.row.D-NameId-Set.Denot = queue_of c.register.new.self c.push_reserved.new.self.items inside.hot_names c.push_reserved-2.new.self.items inside.witnesses in
+    let before : Queue g.row.D-NameId.Denot g.row.D-NameId-Set.Denot =
+    queue_of inside.tracked inside.names.items inside.hot_names inside.since.items inside.witnesses in
+    let after : Queue g.row.D-NameId.Denot g.row.D-NameId-Set.Denot =
+    queue_of c.register.new.self c.push_reserved.new.self.items inside.hot_names c.push_reserved-2.new.self.items
+    inside.witnesses in
     let few : length inside.tracked.index.clauses.items < 2 ^ 32 - 1 =
-    not_full c.is_full.result (length c.args.self.now.clauses) (length inside.tracked.index.clauses.items) c.if-is_full.false c.is_full.ensures
-    (ap (λ (q : Queue g.row.D-NameId.Denot g.row.D-NameId-Set.Denot). length q.clauses) (sym c.self.view_is) ∙ length-map inside.tracked.index.clauses.items clause_of) in
+    not_full c.is_full.result (length c.args.self.now.clauses)
+    (length inside.tracked.index.clauses.items) c.if-is_full.false c.is_full.ensures
+    (ap (λ (q : Queue g.row.D-NameId.Denot g.row.D-NameId-Set.Denot). length q.clauses) (sym c.self.view_is) ∙
+    length-map inside.tracked.index.clauses.items clause_of) in
     let names : after.names ≡ before.names ++ c.args.names.now ∷ [] =
-    ap (map (λ own. own.items)) (c.push_reserved.ensures.items ∙ ap (λ l. l ++ c.in_ok-names.names ∷ []) c.reserve.ensures.items)
-    ∙ (map-append (λ own. own.items) inside.names.items (c.in_ok-names.names ∷ []) ∙ ap (λ own. map (λ own. own.items) inside.names.items ++ own ∷ []) c.in_ok-names.ensures.ok) in
+    ap (map (λ own. own.items)) (c.push_reserved.ensures.items ∙
+    ap (λ l. l ++ c.in_ok-names.names ∷ []) c.reserve.ensures.items)
+    ∙ (map-append (λ own. own.items) inside.names.items (c.in_ok-names.names ∷ []) ∙
+    ap (λ own. map (λ own. own.items) inside.names.items ++ own ∷ []) c.in_ok-names.ensures.ok) in
     let under = numbers_under g.D.NameId.Slots.IdMap.value_at in
     let is_too_large = g.D.NameId.Slots.IdMap.is_too_large in
     let number : c.len-number.result ≡ length before.names =
-    c.len-number.ensures ∙ (c.reserve.new.self.ok.0 ∙ (ap length c.reserve.ensures.items ∙ sym (length-map inside.names.items (λ own. own.items)))) in (
-      kept_registered g.D.NameId.Set.IdSet.has before after _ c.has_hot_name-is_hot.result c.is_true.result c.condition_of-literals.result.now c.args.names.now
-          (record { parent = c.args.parent; value = c.args.parent_value }) c.self.invariant.0 c.in_ok-register.ensures.ok
-          (c.push_reserved-2.ensures.items ∙ ap (λ l. l ++ (record { parent = c.args.parent; value = c.args.parent_value }) ∷ []) c.reserve-2.ensures.items) refl few
+    c.len-number.ensures ∙ (c.reserve.new.self.ok.0 ∙
+    (ap length c.reserve.ensures.items ∙ sym (length-map inside.names.items (λ own. own.items)))) in (
+      kept_registered g.D.NameId.Set.IdSet.has before after _ c.has_hot_name-is_hot.result c.is_true.result
+          c.condition_of-literals.result.now c.args.names.now
+          (record { parent = c.args.parent; value = c.args.parent_value }) c.self.invariant.0
+          c.in_ok-register.ensures.ok
+          (c.push_reserved-2.ensures.items ∙
+          ap (λ l. l ++ (record { parent = c.args.parent; value = c.args.parent_value }) ∷ [])
+          c.reserve-2.ensures.items) refl few
           names
           (λ n. refl)
-          (c.has_hot_name-is_hot.ensures ∙ ap (list_any (g.D.NameId.Set.IdSet.has inside.hot_names)) (c.as_slice-2.ensures.value ∙ c.in_ok-names.ensures.ok)),
-      entered_last is_too_large (under inside.by_name) (under c.enter.new.self) before.names after.names c.args.names.now names c.enter.ensures.kept c.self.invariant.1
+          (c.has_hot_name-is_hot.ensures ∙ ap (list_any (g.D.NameId.Set.IdSet.has inside.hot_names))
+          (c.as_slice-2.ensures.value ∙ c.in_ok-names.ensures.ok)),
+      entered_last is_too_large (under inside.by_name)
+          (under c.enter.new.self) before.names after.names c.args.names.now names c.enter.ensures.kept
+          c.self.invariant.1
           (λ name s. subst (λ k. IsEntered is_too_large (under c.enter.new.self) k name) number
-          (c.in_ok-enter.ensures.entered name (subst (Stands name) (sym (c.as_slice.ensures.value ∙ c.in_ok-names.ensures.ok)) s))),
+          (c.in_ok-enter.ensures.entered name
+          (subst (Stands name) (sym (c.as_slice.ensures.value ∙ c.in_ok-names.ensures.ok)) s))),
     )
 
 pub returns-clause-ok : goal.returns-clause-ok
 returns-clause-ok g c =
     let inside = c.self.inside in
-    let before : Queue g.row.D-NameId.Denot g.row.D-NameId-Set.Denot = queue_of inside.tracked inside.names.items inside.hot_names inside.since.items inside.witnesses in
-    let after : Queue g.row.D-NameId.Denot g.row.D-NameId-Set.Denot = queue_of c.register.new.self c.push_reserved.new.self.items inside.hot_names c.push_reserved-2.new.self.items inside.witnesses in
-    let clause : RequiresClause = record { parent = c.args.parent; requirement = c.args.requirement; condition = c.args.condition; clause_id = c.args.clause_id } in
-    subst (λ q. IsRegistered g.D.NameId.Set.IdSet.has clause c.args.names.now c.args.parent_value q after) c.self.view_is (record {
-      clauses = registered_whole clause c.has_hot_name-is_hot.result c.is_true.result c.condition_of-literals.result.now before.inside after.inside c.in_ok-register.ensures.ok;
-      names = ap (map (λ own. own.items)) (c.push_reserved.ensures.items ∙ ap (λ l. l ++ c.in_ok-names.names ∷ []) c.reserve.ensures.items)
-          ∙ (map-append (λ own. own.items) inside.names.items (c.in_ok-names.names ∷ []) ∙ ap (λ own. map (λ own. own.items) inside.names.items ++ own ∷ []) c.in_ok-names.ensures.ok);
-      since = c.push_reserved-2.ensures.items ∙ ap (λ l. l ++ (record { parent = c.args.parent; value = c.args.parent_value }) ∷ []) c.reserve-2.ensures.items;
+    let before : Queue g.row.D-NameId.Denot g.row.D-NameId-Set.Denot =
+    queue_of inside.tracked inside.names.items inside.hot_names inside.since.items inside.witnesses in
+    let after : Queue g.row.D-NameId.Denot g.row.D-NameId-Set.Denot =
+    queue_of c.register.new.self c.push_reserved.new.self.items inside.hot_names c.push_reserved-2.new.self.items
+    inside.witnesses in
+    let clause : RequiresClause = record {
+      parent = c.args.parent;
+      requirement = c.args.requirement;
+      condition = c.args.condition;
+      clause_id = c.args.clause_id;
+    } in
+    subst (λ q. IsRegistered g.D.NameId.Set.IdSet.has clause c.args.names.now c.args.parent_value q after)
+    c.self.view_is (record {
+      clauses = registered_whole clause c.has_hot_name-is_hot.result c.is_true.result c.condition_of-literals.result.now
+          before.inside after.inside c.in_ok-register.ensures.ok;
+      names = ap (map (λ own. own.items)) (c.push_reserved.ensures.items ∙
+          ap (λ l. l ++ c.in_ok-names.names ∷ []) c.reserve.ensures.items)
+          ∙ (map-append (λ own. own.items) inside.names.items (c.in_ok-names.names ∷ []) ∙
+          ap (λ own. map (λ own. own.items) inside.names.items ++ own ∷ []) c.in_ok-names.ensures.ok);
+      since = c.push_reserved-2.ensures.items ∙
+          ap (λ l. l ++ (record { parent = c.args.parent; value = c.args.parent_value }) ∷ [])
+          c.reserve-2.ensures.items;
       trail = ap (λ t. t.items) c.register.ensures.same.1;
       must_start_anew = c.register.ensures.same.2;
       hot = λ n. refl;
@@ -104,32 +152,49 @@ returns-clause-ok g c =
 pub returns-clause-stands : goal.returns-clause-stands
 returns-clause-stands g c =
     let inside = c.self.inside in
-    let before : Queue g.row.D-NameId.Denot g.row.D-NameId-Set.Denot = queue_of inside.tracked inside.names.items inside.hot_names inside.since.items inside.witnesses in
-    let after : Queue g.row.D-NameId.Denot g.row.D-NameId-Set.Denot = queue_of c.register.new.self c.push_reserved.new.self.items inside.hot_names c.push_reserved-2.new.self.items inside.witnesses in
-    let clause : RequiresClause = record { parent = c.args.parent; requirement = c.args.requirement; condition = c.args.condition; clause_id = c.args.clause_id } in
+    let before : Queue g.row.D-NameId.Denot g.row.D-NameId-Set.Denot =
+    queue_of inside.tracked inside.names.items inside.hot_names inside.since.items inside.witnesses in
+    let after : Queue g.row.D-NameId.Denot g.row.D-NameId-Set.Denot =
+    queue_of c.register.new.self c.push_reserved.new.self.items inside.hot_names c.push_reserved-2.new.self.items
+    inside.witnesses in
+    let clause : RequiresClause = record {
+      parent = c.args.parent;
+      requirement = c.args.requirement;
+      condition = c.args.condition;
+      clause_id = c.args.clause_id;
+    } in
     λ universe lists has s. (let refs = references universe lists c.args.disjunctions.now in
-    stands_registered g.D.NameId.Set.IdSet.has before after clause c.has_hot_name-is_hot.result c.is_true.result c.condition_of-literals.result.now c.args.names.now
+    stands_registered g.D.NameId.Set.IdSet.has before after clause c.has_hot_name-is_hot.result c.is_true.result
+    c.condition_of-literals.result.now c.args.names.now
     (record { parent = c.args.parent; value = c.args.parent_value }) c.self.invariant.0 c.in_ok-register.ensures.ok
-    (c.push_reserved-2.ensures.items ∙ ap (λ l. l ++ (record { parent = c.args.parent; value = c.args.parent_value }) ∷ []) c.reserve-2.ensures.items) refl
+    (c.push_reserved-2.ensures.items ∙ ap (λ l.
+    l ++ (record { parent = c.args.parent; value = c.args.parent_value }) ∷ []) c.reserve-2.ensures.items) refl
     refs (subst (StandsOn refs) (sym c.self.view_is) s)
-    (registered_whole clause c.has_hot_name-is_hot.result c.is_true.result c.condition_of-literals.result.now before.inside after.inside c.in_ok-register.ensures.ok)
+    (registered_whole clause c.has_hot_name-is_hot.result c.is_true.result c.condition_of-literals.result.now
+    before.inside after.inside c.in_ok-register.ensures.ok)
     (ap (λ t. t.items) c.register.ensures.same.1) c.register.ensures.same.2 c.condition_of-literals.ensures
     (record { lists = has; disjunction = c.requires }) c.is_true.ensures refl)
 
 pub returns-in_err-register-clause-walks : goal.returns-in_err-register-clause-walks
-returns-in_err-register-clause-walks g c = λ r. c.register.ensures.owes.walks r ∙ ap (λ (q : Queue g.row.D-NameId.Denot g.row.D-NameId-Set.Denot). walks q r) c.self.view_is
+returns-in_err-register-clause-walks g c = λ r. c.register.ensures.owes.walks r ∙
+    ap (λ (q : Queue g.row.D-NameId.Denot g.row.D-NameId-Set.Denot). walks q r) c.self.view_is
 
 pub returns-in_err-register-clause-owed : goal.returns-in_err-register-clause-owed
 returns-in_err-register-clause-owed g c = λ r.
-    subst (λ (q : Queue g.row.D-NameId.Denot g.row.D-NameId-Set.Denot). (owed_in c.register.new.self.requirements r ≡ owed q r) ⊎ ((r ≡ c.args.requirement) × (owed q r ≡ 0) × (owed_in c.register.new.self.requirements r ≡ 1)))
+    subst (λ (q : Queue g.row.D-NameId.Denot g.row.D-NameId-Set.Denot).
+    (owed_in c.register.new.self.requirements r ≡ owed q r) ⊎
+    ((r ≡ c.args.requirement) × (owed q r ≡ 0) × (owed_in c.register.new.self.requirements r ≡ 1)))
     c.self.view_is (c.register.ensures.owes.owed r)
 
 pub returns-clause-walks : goal.returns-clause-walks
-returns-clause-walks g c = λ r. c.register.ensures.owes.walks r ∙ ap (λ (q : Queue g.row.D-NameId.Denot g.row.D-NameId-Set.Denot). walks q r) c.self.view_is
+returns-clause-walks g c = λ r. c.register.ensures.owes.walks r ∙
+    ap (λ (q : Queue g.row.D-NameId.Denot g.row.D-NameId-Set.Denot). walks q r) c.self.view_is
 
 pub returns-clause-owed : goal.returns-clause-owed
 returns-clause-owed g c = λ r.
-    subst (λ (q : Queue g.row.D-NameId.Denot g.row.D-NameId-Set.Denot). (owed_in c.register.new.self.requirements r ≡ owed q r) ⊎ ((r ≡ c.args.requirement) × (owed q r ≡ 0) × (owed_in c.register.new.self.requirements r ≡ 1)))
+    subst (λ (q : Queue g.row.D-NameId.Denot g.row.D-NameId-Set.Denot).
+    (owed_in c.register.new.self.requirements r ≡ owed q r) ⊎
+    ((r ≡ c.args.requirement) × (owed q r ≡ 0) × (owed_in c.register.new.self.requirements r ≡ 1)))
     c.self.view_is (c.register.ensures.owes.owed r)
 
 pub invariant_of-self : goal.invariant_of-self
@@ -159,17 +224,22 @@ register-requires-clause-few g c = grind (arith, common_steps)
 pub returns-in_err-register-clause-clear : goal.returns-in_err-register-clause-clear
 returns-in_err-register-clause-clear g c =
     let inside = c.self.inside in
-    let before : Queue g.row.D-NameId.Denot g.row.D-NameId-Set.Denot = queue_of inside.tracked inside.names.items inside.hot_names inside.since.items inside.witnesses in
-    λ refs ds s h. subst (λ cs. IfSome before.last (IsClear refs ds cs before.witnesses.looked)) (sym c.in_err-register.ensures.err.clauses)
+    let before : Queue g.row.D-NameId.Denot g.row.D-NameId-Set.Denot =
+    queue_of inside.tracked inside.names.items inside.hot_names inside.since.items inside.witnesses in
+    λ refs ds s h. subst (λ cs. IfSome before.last (IsClear refs ds cs before.witnesses.looked))
+    (sym c.in_err-register.ensures.err.clauses)
     (subst (RemembersWell refs ds) (sym c.self.view_is) h)
 
 pub returns-clause-clear : goal.returns-clause-clear
 returns-clause-clear g c =
     let inside = c.self.inside in
-    let before : Queue g.row.D-NameId.Denot g.row.D-NameId-Set.Denot = queue_of inside.tracked inside.names.items inside.hot_names inside.since.items inside.witnesses in
+    let before : Queue g.row.D-NameId.Denot g.row.D-NameId-Set.Denot =
+    queue_of inside.tracked inside.names.items inside.hot_names inside.since.items inside.witnesses in
     let registers = c.in_ok-register.ensures.ok in
     let now = c.register.new.self.index.clauses.items in
-    λ refs ds s h. remembered_along (IsClear refs ds before.inside.clauses before.witnesses.looked) (IsClear refs ds now before.witnesses.looked) before.last before.last refl
+    λ refs ds s h. remembered_along (IsClear refs ds before.inside.clauses before.witnesses.looked)
+    (IsClear refs ds now before.witnesses.looked) before.last before.last refl
     (λ last is. subst (λ cs. IsClear refs ds cs before.witnesses.looked last) (sym registers.clauses)
-    (clear_registered before.inside.clauses registers.new refs ds before.witnesses.looked (subst (StandsOn refs) (sym c.self.view_is) s).falsified.looked last is))
+    (clear_registered before.inside.clauses registers.new refs ds before.witnesses.looked
+    (subst (StandsOn refs) (sym c.self.view_is) s).falsified.looked last is))
     (subst (RemembersWell refs ds) (sym c.self.view_is) h)

@@ -1,7 +1,7 @@
 use Rattle.std.proofs.Common.{◌<◌, map, length, ap, ◌∙◌, arith}
 use Rattle.typed_ids.specs.TotalMaps.{SameValues}
-use Rattle.resolvo_queue.specs.Index.{list_at}
-use Rattle.resolvo_queue.proofs.IndexLaws.{put_after, put_nothing}
+use Rattle.resolvo_queue.specs.Rows.ByVariable.{list_at}
+use Rattle.resolvo_queue.proofs.Rows.ByVariable.{put_after, put_nothing}
 use Rattle.resolvo_queue.proofs.lists_by_variable.ListsByVariable.push.Goals as goal
 use Rattle.resolvo_queue.proofs.lists_by_variable.ListsByVariable.push.Goals.{in-Ok, in-Err}
 

@@ -1,5 +1,5 @@
 use Rattle.std.proofs.Common.{arith}
-use Rattle.resolvo_queue.proofs.LookLaws.{finds_along}
+use Rattle.resolvo_queue.proofs.Falsified.Looks.{finds_along}
 use Rattle.resolvo_queue.proofs.looking.Look.first_of_all.Goals as goal
 
 pub returns : goal.returns

@@ -1,6 +1,6 @@
 use Rattle.std.proofs.Common.{◌≡◌, take}
-use Rattle.resolvo_queue.specs.Looking.{FindsFalsified}
-use Rattle.resolvo_queue.proofs.LookLaws.{AnyOf}
+use Rattle.resolvo_queue.specs.Falsified.Looks.{FindsFalsified}
+use Rattle.resolvo_queue.proofs.Falsified.Looks.{AnyOf}
 use Rattle.resolvo_queue.proofs.looking.Look.look_at_all.Given as goal
 
 abbrev pub invariant-loop-number : goal.invariant-loop-number

@@ -1,4 +1,4 @@
-use Rattle.resolvo_queue.proofs.LookLaws.{finds_along}
+use Rattle.resolvo_queue.proofs.Falsified.Looks.{finds_along}
 use Rattle.resolvo_queue.proofs.looking.Look.look_at_requirement.Goals as goal
 
 pub returns : goal.returns

@@ -1,11 +1,12 @@
 use Rattle.std.proofs.Common.{◌≡◌, Some, take}
-use Rattle.resolvo_queue.specs.Looking.{FindsFalsified}
-use Rattle.resolvo_queue.specs.Witnesses.{witness}
-use Rattle.resolvo_queue.proofs.LookLaws.{AnyOf}
+use Rattle.resolvo_queue.specs.Falsified.Looks.{FindsFalsified}
+use Rattle.resolvo_queue.specs.Falsified.Witnesses.{witness}
+use Rattle.resolvo_queue.proofs.Falsified.Looks.{AnyOf}
 use Rattle.resolvo_queue.proofs.looking.Look.look_at_witnessed.Given as goal
 
 abbrev pub invariant-loop-requirement : goal.invariant-loop-requirement
 invariant-loop-requirement g l =
     FindsFalsified g.I.Interner.universe l.self
-    (AnyOf (λ r n c. (c.required ≡ r) × (witness l.self.witnesses.now.of r ≡ Some l.variable)) (take l.requirement-index l.requirement-items))
+    (AnyOf (λ r n c. (c.requirement ≡ r) × (witness l.self.witnesses.now.of r ≡ Some l.variable))
+    (take l.requirement-index l.requirement-items))
     l.fn.first l.found

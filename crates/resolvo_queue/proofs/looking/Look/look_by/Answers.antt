@@ -1,4 +1,4 @@
-use Rattle.resolvo_queue.proofs.LookLaws.{finds_by}
+use Rattle.resolvo_queue.proofs.Falsified.Looks.{finds_by}
 use Rattle.resolvo_queue.proofs.looking.Look.look_by.Goals as goal
 
 pub returns : goal.returns

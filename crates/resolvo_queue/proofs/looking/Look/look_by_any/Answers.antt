@@ -1,4 +1,4 @@
-use Rattle.resolvo_queue.proofs.AgainLaws.{finds_concerned}
+use Rattle.resolvo_queue.proofs.Falsified.Again.{finds_concerned}
 use Rattle.resolvo_queue.proofs.looking.Look.look_by_any.Goals as goal
 
 pub returns : goal.returns

@@ -1,5 +1,5 @@
 use Rattle.std.proofs.Common.{arith}
-use Rattle.resolvo_queue.proofs.LookLaws.{finds_next, finds_rest, finds_start}
+use Rattle.resolvo_queue.proofs.Falsified.Looks.{finds_next, finds_rest, finds_start}
 use Rattle.resolvo_queue.proofs.looking.Look.look_from.Goals as goal
 
 pub loop-number-init : goal.loop-number-init
@@ -12,4 +12,5 @@ loop-number-preserved g c =
 pub returns : goal.returns
 returns g c =
     finds_rest c.args.start c.loop-number.number
-    (omega (arith, c.loop-number-test.false, c.len-number-end.ensures, c.args.self.now.tracked.now.index.clauses.ok)) c.loop-number.invariant
+    (omega (arith, c.loop-number-test.false, c.len-number-end.ensures, c.args.self.now.tracked.now.index.clauses.ok))
+    c.loop-number.invariant

@@ -1,5 +1,5 @@
-use Rattle.resolvo_queue.specs.Looking.{FindsFalsified}
-use Rattle.resolvo_queue.proofs.LookLaws.{IsBetween}
+use Rattle.resolvo_queue.specs.Falsified.Looks.{FindsFalsified}
+use Rattle.resolvo_queue.proofs.Falsified.Looks.{IsBetween}
 use Rattle.resolvo_queue.proofs.looking.Look.look_from.Given as goal
 
 abbrev pub invariant-loop-number : goal.invariant-loop-number

@@ -9,4 +9,5 @@ pub returns-clause-gone : goal.returns-clause-gone
 returns-clause-gone g c = λ p. rw (← c.self.view_is) (c.remove.ensures.updates.0 p)
 
 pub returns-clause-fewer : goal.returns-clause-fewer
-returns-clause-fewer g c = rw (← c.self.view_is) (λ h. fewer_by c.remove.result _ _ (c.remove.ensures.test ∙ h) c.remove.ensures.len)
+returns-clause-fewer g c =
+    rw (← c.self.view_is) (λ h. fewer_by c.remove.result _ _ (c.remove.ensures.test ∙ h) c.remove.ensures.len)

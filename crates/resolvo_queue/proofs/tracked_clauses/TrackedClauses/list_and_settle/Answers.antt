@@ -1,9 +1,9 @@
 use Rattle.std.proofs.Common.{◌≡◌, ◌∙◌, ap, arith, drop, inl, refl, subst, sym}
 use Rattle.decisions.specs.Decisions.{values_in}
-use Rattle.resolvo_queue.specs.Order.{Stands}
-use Rattle.resolvo_queue.specs.Settling.{basis_of}
-use Rattle.resolvo_queue.proofs.ListedLaws.{keeps_settled, on_any, rest_at, stands_from}
-use Rattle.resolvo_queue.proofs.RoutingLaws.{take_rest}
+use Rattle.resolvo_queue.specs.Members.{Stands}
+use Rattle.resolvo_queue.specs.Falsified.Settling.{basis_of}
+use Rattle.resolvo_queue.proofs.Falsified.Listed.{keeps_settled, on_any, rest_at, stands_from}
+use Rattle.resolvo_queue.proofs.Syncs.Forgetting.{take_rest}
 use Rattle.resolvo_queue.proofs.tracked_clauses.TrackedClauses.list_and_settle.Goals as goal
 
 pub settle-requires-clause-found : goal.settle-requires-clause-found
@@ -43,8 +43,10 @@ returns-clause-listed g c =
     let looked = c.args.witnesses.now.looked in
     let ts = c.requires.found.listed.0 in
     on_any c.settle.result (λ n d at from.
-    keeps_settled b c.list_all.new.occurrences c.settle.new.self.occurrences c.args.witnesses.now.of c.settle.new.witnesses.of c.settle.ensures.settles ts
-    (c.list_all.ensures.well ts c.requires.found.listed.1) d.required
+    keeps_settled b c.list_all.new.occurrences c.settle.new.self.occurrences c.args.witnesses.now.of
+    c.settle.new.witnesses.of c.settle.ensures.settles ts
+    (c.list_all.ensures.well ts c.requires.found.listed.1) d.requirement
     (c.in_ok-list_all.ensures.listed d
     (subst (Stands d) (sym (take_rest looked c.as_slice.result.now))
-    (subst (λ xs. Stands d (drop looked xs)) (sym c.as_slice.ensures.value) (stands_from c.args.self.now.index.clauses.items looked n d at from)))))
+    (subst (λ xs. Stands d (drop looked xs)) (sym c.as_slice.ensures.value)
+    (stands_from c.args.self.now.index.clauses.items looked n d at from)))))

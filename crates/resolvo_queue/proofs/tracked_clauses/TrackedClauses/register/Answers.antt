@@ -1,21 +1,22 @@
 use Rattle.std.proofs.Common.{◌≡◌, [], ◌∷◌, ◌++◌, length, MatchOption, slice_get, sym, ap, refl, ◌∙◌, subst, arith}
 use Rattle.typed_ids.specs.TotalMaps.{IsUpdate}
-use Rattle.resolvo_queue.specs.Index.{list_at}
-use Rattle.resolvo_queue.specs.Order.{Stands}
-use Rattle.resolvo_queue.specs.Ready.{at_position}
-use Rattle.resolvo_queue.specs.Registered.{FoundByAll}
-use Rattle.resolvo_queue.specs.ScanOrder.{position_in}
-use Rattle.resolvo_queue.specs.Tracked.{clauses_at}
+use Rattle.resolvo_queue.specs.Rows.ByVariable.{list_at}
+use Rattle.resolvo_queue.specs.Members.{Stands}
+use Rattle.resolvo_queue.specs.Pick.Ready.{at_position}
+use Rattle.resolvo_queue.specs.Parts.Numbers.{FoundByAll}
+use Rattle.resolvo_queue.specs.Scan.Order.{position_in}
+use Rattle.resolvo_queue.specs.Parts.Records.{clauses_at}
 use Rattle.resolvo_queue.specs.declared.tracked_clause.TrackedClause.{TrackedClause}
-use Rattle.resolvo_queue.proofs.InOrderLaws.{next_is}
-use Rattle.resolvo_queue.proofs.QueuedLaws.{not_yet}
-use Rattle.resolvo_queue.proofs.RegisterLaws.{parent_of}
+use Rattle.resolvo_queue.proofs.Clauses.Order.{next_is}
+use Rattle.resolvo_queue.proofs.Syncs.Queued.{not_yet}
+use Rattle.resolvo_queue.proofs.Syncs.NewClause.{parent_of}
 use Rattle.resolvo_queue.proofs.tracked_clauses.TrackedClauses.register.Goals as goal
 
 pub enqueue-requires : goal.enqueue-requires
 enqueue-requires g c =
     let clauses = c.args.self.now.index.clauses.items in
-    let next : c.next_position.result.number ≡ length clauses = c.next_position.ensures.number ∙ ap length c.reserve.ensures.items in
+    let next : c.next_position.result.number ≡ length clauses =
+    c.next_position.ensures.number ∙ ap length c.reserve.ensures.items in
     record {
       new = (
         not_yet clauses c.args.self.now.queued.all c.requires.order.all_of c.next_position.result next,
@@ -30,16 +31,19 @@ returns-clause-ok g c =
     let clause = c.args.clause.now in
     let new : TrackedClause = record {
       parent = clause.parent;
-      required = clause.requirement;
-      requirement = c.in_ok-place.place;
+      requirement = clause.requirement;
+      «record» = c.in_ok-place.place;
       condition = clause.condition;
       clause_id = clause.clause_id;
       position = c.next_position.result;
       is_hot = c.args.is_hot;
     } in
-    let number : c.len-number.result ≡ length clauses = omega (arith, c.len-number.ensures, c.args.self.now.index.clauses.ok) in
-    let next : c.next_position.result.number ≡ length clauses = c.next_position.ensures.number ∙ ap length c.reserve.ensures.items in
-    let more : c.push_reserved.new.self.items ≡ clauses ++ new ∷ [] = c.push_reserved.ensures.items ∙ ap (λ l. l ++ new ∷ []) c.reserve.ensures.items in
+    let number : c.len-number.result ≡ length clauses =
+    omega (arith, c.len-number.ensures, c.args.self.now.index.clauses.ok) in
+    let next : c.next_position.result.number ≡ length clauses =
+    c.next_position.ensures.number ∙ ap length c.reserve.ensures.items in
+    let more : c.push_reserved.new.self.items ≡ clauses ++ new ∷ [] =
+    c.push_reserved.ensures.items ∙ ap (λ l. l ++ new ∷ []) c.reserve.ensures.items in
     record {
       gains = record {
         records = c.enter_clause.ensures.gains;
@@ -50,14 +54,20 @@ returns-clause-ok g c =
       is = refl;
       hot = refl;
       clauses = more;
-      position = subst (λ cs. c.next_position.result ≡ position_in parent_of at_position cs (length clauses, new)) (sym more)
-          (next_is clauses new (slice_get (list_at by_parent clause.parent) 0) (c.requires.order.first clause.parent) next
-          (subst (λ l. MatchOption (slice_get (list_at by_parent clause.parent) 0) (c.next_position.result.first_of_parent ≡ length l) (λ f. c.next_position.result.first_of_parent ≡ f))
+      position = subst (λ cs. c.next_position.result ≡
+          position_in parent_of at_position cs (length clauses, new)) (sym more)
+          (next_is clauses new (slice_get (list_at by_parent clause.parent) 0)
+          (c.requires.order.first clause.parent) next
+          (subst (λ l. MatchOption (slice_get (list_at by_parent clause.parent) 0)
+          (c.next_position.result.first_of_parent ≡ length l) (λ f. c.next_position.result.first_of_parent ≡ f))
           c.reserve.ensures.items c.next_position.ensures.first));
-      by_parent = subst (λ n. IsUpdate (list_at by_parent) clause.parent (list_at by_parent clause.parent ++ n ∷ []) (list_at c.enqueue.new.by_parent)) next
+      by_parent = subst (λ n. IsUpdate (list_at by_parent) clause.parent (list_at by_parent clause.parent ++ n ∷ [])
+          (list_at c.enqueue.new.by_parent)) next
           c.in_ok-enqueue.ensures.found;
-      conditions = subst (λ n. FoundByAll n c.args.literals.now c.add_to_conditions.new.by_condition) number c.in_ok-add_to_conditions.ensures.all;
-      requirements = subst (λ n. Stands n (clauses_at c.enter_clause.new.self c.in_ok-place.place)) number c.in_ok-place.ensures.found;
+      conditions = subst (λ n. FoundByAll n c.args.literals.now c.add_to_conditions.new.by_condition) number
+          c.in_ok-add_to_conditions.ensures.all;
+      requirements = subst (λ n. Stands n (clauses_at c.enter_clause.new.self c.in_ok-place.place)) number
+          c.in_ok-place.ensures.found;
       placed = c.in_ok-place.ensures.placed;
       queued = c.enqueue.ensures.grows;
       counted = c.in_ok-enqueue.ensures.counted;

@@ -2,10 +2,11 @@ use Rattle.std.proofs.Common.{◌≡◌, ℕ, List, [], drop, ◌++◌, false, a
 use Rattle.decisions.specs.Decisions.{values_in}
 use Rattle.resolvo_queue.specs.Occurrences.{listing}
 use Rattle.resolvo_queue.specs.Routing.{Routes, Unrouted, variables_of, ways_of}
-use Rattle.resolvo_queue.specs.Synced.{SyncsTo}
-use Rattle.resolvo_queue.specs.Trails.{decided_value}
-use Rattle.resolvo_queue.proofs.RoutingLaws.{always_ok, none_from, routes_both, routes_none, take_rest, whole_at, unrouted_along, unrouted_more, in_first, in_second}
-use Rattle.resolvo_queue.proofs.SyncedLaws.{changes_sync}
+use Rattle.resolvo_queue.specs.Routing.Synced.{SyncsTo}
+use Rattle.resolvo_queue.specs.Routing.Trails.{decided_value}
+use Rattle.resolvo_queue.proofs.Syncs.Forgetting.{always_ok, none_from, routes_both, routes_none, take_rest}
+use Rattle.resolvo_queue.proofs.Syncs.Forgetting.{whole_at, unrouted_along, unrouted_more, in_first, in_second}
+use Rattle.resolvo_queue.proofs.Syncs.Routes.{changes_sync}
 use Rattle.resolvo_queue.proofs.tracked_clauses.TrackedClauses.route_changes.Goals as goal
 
 pub returns-then-is_whole_at-clause-synced : goal.returns-then-is_whole_at-clause-synced
@@ -13,12 +14,15 @@ returns-then-is_whole_at-clause-synced g c =
     let w = ways_of c.args.self.now.index c.args.self.now.occurrences (values_in c.args.map.now) in
     let before = c.args.self.now.trail.items in
     let ends = c.is_whole_at.ensures.0 c.if-is_whole_at.true in
-    let none : ◌≡◌ {A = List ℕ} [] (variables_of (drop c.args.floor before) ++ variables_of (drop c.args.floor c.args.trail.now)) =
-    sym (ap (λ ds. variables_of ds ++ variables_of (drop c.args.floor c.args.trail.now)) (none_from c.args.floor before ends.0)
+    let none : ◌≡◌ {A = List ℕ} []
+    (variables_of (drop c.args.floor before) ++ variables_of (drop c.args.floor c.args.trail.now)) =
+    sym (ap (λ ds. variables_of ds ++ variables_of (drop c.args.floor c.args.trail.now))
+    (none_from c.args.floor before ends.0)
     ∙ ap variables_of (none_from c.args.floor c.args.trail.now ends.1)) in
     subst (λ vs. SyncsTo w.clauses w.by_parent w.by_condition w.requirements false (decided_value before) w.val vs
     c.args.self.now.requirements c.args.self.now.requirements c.args.self.now.queued c.args.self.now.queued) none
-    (changes_sync w (decided_value before) [] c.args.self.now.requirements c.args.self.now.requirements c.args.self.now.queued c.args.self.now.queued
+    (changes_sync w (decided_value before) [] c.args.self.now.requirements c.args.self.now.requirements
+    c.args.self.now.queued c.args.self.now.queued
     (routes_none w c.args.self.now.requirements c.args.self.now.queued))
 
 pub returns-then-is_whole_at-clause-trail : goal.returns-then-is_whole_at-clause-trail
@@ -31,16 +35,22 @@ returns-clause-synced g c =
     let w = ways_of c.args.self.now.index c.args.self.now.occurrences (values_in c.args.map.now) in
     let before = drop c.args.floor c.args.self.now.trail.items in
     let new = drop c.args.floor c.args.trail.now in
-    let first : Routes w (variables_of before) c.args.self.now.requirements c.route_all.new.requirements c.args.self.now.queued c.route_all.new.queued =
-    subst (λ ds. Routes w (variables_of ds) c.args.self.now.requirements c.route_all.new.requirements c.args.self.now.queued c.route_all.new.queued)
-    (take_rest c.args.floor c.deref.result.now ∙ ap (drop c.args.floor) c.deref.ensures.value) c.in_ok-route_all.ensures.ok in
-    let second : Routes w (variables_of new) c.route_all.new.requirements c.route_all-2.new.requirements c.route_all.new.queued c.route_all-2.new.queued =
-    subst (λ ds. Routes w (variables_of ds) c.route_all.new.requirements c.route_all-2.new.requirements c.route_all.new.queued c.route_all-2.new.queued)
+    let first : Routes w (variables_of before) c.args.self.now.requirements c.route_all.new.requirements
+    c.args.self.now.queued c.route_all.new.queued =
+    subst (λ ds. Routes w (variables_of ds) c.args.self.now.requirements c.route_all.new.requirements
+    c.args.self.now.queued c.route_all.new.queued)
+    (take_rest c.args.floor c.deref.result.now ∙ ap (drop c.args.floor) c.deref.ensures.value)
+    c.in_ok-route_all.ensures.ok in
+    let second : Routes w (variables_of new) c.route_all.new.requirements c.route_all-2.new.requirements
+    c.route_all.new.queued c.route_all-2.new.queued =
+    subst (λ ds. Routes w (variables_of ds) c.route_all.new.requirements c.route_all-2.new.requirements
+    c.route_all.new.queued c.route_all-2.new.queued)
     (take_rest c.args.floor c.args.trail.now) c.in_ok-route_all-2.ensures.ok in
     always_ok _ c.copy_behind.result
     (changes_sync w (decided_value c.args.self.now.trail.items) (variables_of before ++ variables_of new)
     c.args.self.now.requirements c.route_all-2.new.requirements c.args.self.now.queued c.route_all-2.new.queued
-    (routes_both w (variables_of before) (variables_of new) c.args.self.now.requirements c.route_all.new.requirements c.route_all-2.new.requirements
+    (routes_both w (variables_of before) (variables_of new) c.args.self.now.requirements c.route_all.new.requirements
+    c.route_all-2.new.requirements
     c.args.self.now.queued c.route_all.new.queued c.route_all-2.new.queued first second))
 
 pub returns-in_err-route_all-clause-others : goal.returns-in_err-route_all-clause-others
@@ -48,28 +58,38 @@ returns-in_err-route_all-clause-others g c =
     let lists = listing c.args.self.now.occurrences in
     let before = variables_of (drop c.args.floor c.args.self.now.trail.items) in
     let new = variables_of (drop c.args.floor c.args.trail.now) in
-    unrouted_along lists before (before ++ new) (in_first before new) c.args.self.now.requirements c.route_all.new.requirements
+    unrouted_along lists before (before ++ new)
+    (in_first before new) c.args.self.now.requirements c.route_all.new.requirements
     (subst (λ ds. Unrouted lists (variables_of ds) c.args.self.now.requirements c.route_all.new.requirements)
-    (take_rest c.args.floor c.deref.result.now ∙ ap (drop c.args.floor) c.deref.ensures.value) c.route_all.ensures.others)
+    (take_rest c.args.floor c.deref.result.now ∙ ap (drop c.args.floor) c.deref.ensures.value)
+    c.route_all.ensures.others)
 
 pub returns-in_err-route_all-2-clause-others : goal.returns-in_err-route_all-2-clause-others
 returns-in_err-route_all-2-clause-others g c =
     let lists = listing c.args.self.now.occurrences in
     let before = variables_of (drop c.args.floor c.args.self.now.trail.items) in
     let new = variables_of (drop c.args.floor c.args.trail.now) in
-    unrouted_more lists (before ++ new) new (in_second before new) c.args.self.now.requirements c.route_all.new.requirements c.route_all-2.new.requirements
-    (unrouted_along lists before (before ++ new) (in_first before new) c.args.self.now.requirements c.route_all.new.requirements
+    unrouted_more lists (before ++ new) new (in_second before new) c.args.self.now.requirements
+    c.route_all.new.requirements c.route_all-2.new.requirements
+    (unrouted_along lists before (before ++ new)
+    (in_first before new) c.args.self.now.requirements c.route_all.new.requirements
     (subst (λ ds. Unrouted lists (variables_of ds) c.args.self.now.requirements c.route_all.new.requirements)
-    (take_rest c.args.floor c.deref.result.now ∙ ap (drop c.args.floor) c.deref.ensures.value) c.route_all.ensures.others))
-    (subst (λ ds. Unrouted lists (variables_of ds) c.route_all.new.requirements c.route_all-2.new.requirements) (take_rest c.args.floor c.args.trail.now) c.route_all-2.ensures.others)
+    (take_rest c.args.floor c.deref.result.now ∙ ap (drop c.args.floor) c.deref.ensures.value)
+    c.route_all.ensures.others))
+    (subst (λ ds. Unrouted lists (variables_of ds) c.route_all.new.requirements c.route_all-2.new.requirements)
+    (take_rest c.args.floor c.args.trail.now) c.route_all-2.ensures.others)
 
 pub returns-clause-others : goal.returns-clause-others
 returns-clause-others g c =
     let lists = listing c.args.self.now.occurrences in
     let before = variables_of (drop c.args.floor c.args.self.now.trail.items) in
     let new = variables_of (drop c.args.floor c.args.trail.now) in
-    unrouted_more lists (before ++ new) new (in_second before new) c.args.self.now.requirements c.route_all.new.requirements c.route_all-2.new.requirements
-    (unrouted_along lists before (before ++ new) (in_first before new) c.args.self.now.requirements c.route_all.new.requirements
+    unrouted_more lists (before ++ new) new (in_second before new) c.args.self.now.requirements
+    c.route_all.new.requirements c.route_all-2.new.requirements
+    (unrouted_along lists before (before ++ new)
+    (in_first before new) c.args.self.now.requirements c.route_all.new.requirements
     (subst (λ ds. Unrouted lists (variables_of ds) c.args.self.now.requirements c.route_all.new.requirements)
-    (take_rest c.args.floor c.deref.result.now ∙ ap (drop c.args.floor) c.deref.ensures.value) c.route_all.ensures.others))
-    (subst (λ ds. Unrouted lists (variables_of ds) c.route_all.new.requirements c.route_all-2.new.requirements) (take_rest c.args.floor c.args.trail.now) c.route_all-2.ensures.others)
+    (take_rest c.args.floor c.deref.result.now ∙ ap (drop c.args.floor) c.deref.ensures.value)
+    c.route_all.ensures.others))
+    (subst (λ ds. Unrouted lists (variables_of ds) c.route_all.new.requirements c.route_all-2.new.requirements)
+    (take_rest c.args.floor c.args.trail.now) c.route_all-2.ensures.others)

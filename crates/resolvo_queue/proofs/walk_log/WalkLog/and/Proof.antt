@@ -1,4 +1,8 @@
-use Rattle.resolvo_queue.proofs.Walks.{[], ◌∷◌, ◌++◌, refl, proved, ‵, ◌⊛◌, ◌$◌, ◌∵◌, !, qed, done, move, keep, split, join, fjoin, enter, alloc_all, pass_all, sets, agg, no_more, returns, look_at, free_all, suffices, says, ends_at, owned, nothing, shape, Struct, Struct-Makes, vstruct, vnil, ftrue, flft, named, plain, RefOf, ShrRef, shr_vals, shr_Tells, yes, Stays, stay_dropped, Goes-dropped, walk_of}
+use Rattle.resolvo_queue.proofs.ByHand.{[], ◌∷◌, ◌++◌, refl, proved, ‵, ◌⊛◌, ◌$◌, ◌∵◌, !, qed, done, move, keep}
+use Rattle.resolvo_queue.proofs.ByHand.{split, join, fjoin, enter, alloc_all, pass_all, sets, agg, no_more, returns}
+use Rattle.resolvo_queue.proofs.ByHand.{look_at, free_all, suffices, says, ends_at, owned, nothing, shape, Struct}
+use Rattle.resolvo_queue.proofs.ByHand.{Struct-Makes, vstruct, vnil, ftrue, flft, named, plain, RefOf, ShrRef}
+use Rattle.resolvo_queue.proofs.ByHand.{shr_vals, shr_Tells, yes, Stays, stay_dropped, Goes-dropped, walk_of}
 use Rattle.resolvo_queue.specs.contracts.walk_log.WalkLog.and as f
 use Rattle.resolvo_queue.specs.contracts.walk_log.WalkLog.{the_type as Log, the_row as LogRow}
 use Rattle.providers.specs.contracts.requirement.Requirement.{the_row as RequirementRow}
@@ -20,13 +24,16 @@ and_spec 𝓤 𝓛 𝓜 𝓡 wired =
     (λ κs. (shr_Tells (named 0) κs.0 LogRow, (shr_Tells (named 1) κs.1.0 RequirementRow, tt))) (λ κs qs bounds a _ are.
     let log = a.0 in let requirement = a.1.0 in
     let y : W.Ghost = ((κs, qs, bounds, a, (shr_vals log, (shr_vals requirement, tt))), tt) in
-    qed 𝓛 (((‵ (flft κs.0 qs.0) ⊛ ‵ (flft κs.1.0 qs.1.0) ⊛ ‵ ftrue) ⊛ ‵ ((ShrRef (named 0) κs.0 LogRow).own_val log (shr_vals log))
-    ⊛ ‵ ((ShrRef (named 1) κs.1.0 RequirementRow).own_val requirement (shr_vals requirement)) ⊛ ‵ ftrue) ∷ ‵ ftrue ∷ []) ∵
+    qed 𝓛 (((‵ (flft κs.0 qs.0) ⊛ ‵ (flft κs.1.0 qs.1.0) ⊛ ‵ ftrue) ⊛ ‵
+    ((ShrRef (named 0) κs.0 LogRow).own_val log (shr_vals log))
+    ⊛ ‵ ((ShrRef (named 1) κs.1.0 RequirementRow).own_val requirement (shr_vals requirement)) ⊛ ‵ ftrue) ∷ ‵ ftrue ∷ [])
+    ∵
     split ! $ keep ! (0 ∷ []) $
     enter ! _ _ _ _ _ $ alloc_all ! (λ l. pass_all ! refl ((tt, tt), ((tt, tt), tt)) $
     sets ! (agg ! (no_more !)) refl (tt, tt) $
     returns ! (look_at ! 0 refl) $ free_all ! refl $
-    suffices ! _ (ends_at 𝓛 f.ended stayed c y (vstruct vnil) (record { walked = log.now.walked ++ requirement.now ∷ [] }) (tt, (tt, tt)) (tt, (tt, tt))) $
+    suffices ! _ (ends_at 𝓛 f.ended stayed c y (vstruct vnil)
+    (record { walked = log.now.walked ++ requirement.now ∷ [] }) (tt, (tt, tt)) (tt, (tt, tt))) $
     says ! refl $
     nothing ! $ owned ! (Struct (shape Log)) _ (Struct-Makes 𝓛 (shape Log) tt) tt _ (tt, (refl, tt)) $ fjoin ! $
     nothing ! $ nothing ! $ join ! $ nothing ! $ join ! $ move ! (2 ∷ []) $ done !))

@@ -1,4 +1,7 @@
-use Rattle.resolvo_queue.proofs.Walks.{[], ◌∷◌, refl, proved, ‵, raw, ◌$◌, ◌∵◌, !, qed, done, drop, fjoin, enter, alloc_all, pass_all, sets, agg, no_more, returns, look_at, free_all, suffices, says, ends_at, owned, nothing, shape, Struct, Struct-Makes, vstruct, vnil, ftrue, on_entry, walk_of}
+use Rattle.resolvo_queue.proofs.ByHand.{[], ◌∷◌, refl, proved, ‵, raw, ◌$◌, ◌∵◌, !, qed, done, drop}
+use Rattle.resolvo_queue.proofs.ByHand.{fjoin, enter, alloc_all, pass_all, sets, agg, no_more, returns}
+use Rattle.resolvo_queue.proofs.ByHand.{look_at, free_all, suffices, says, ends_at, owned, nothing, shape}
+use Rattle.resolvo_queue.proofs.ByHand.{Struct, Struct-Makes, vstruct, vnil, ftrue, on_entry, walk_of}
 use Rattle.resolvo_queue.specs.contracts.walk_log.WalkLog.new as f
 use Rattle.resolvo_queue.specs.contracts.walk_log.WalkLog.{the_type as Log}
 use Rattle.resolvo_queue.proofs.walk_log.WalkLog.new.Statement.{statement}

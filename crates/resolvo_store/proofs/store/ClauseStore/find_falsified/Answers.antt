@@ -6,7 +6,7 @@ use Rattle.resolvo_queue.specs.Clear.{RemembersWell}
 use Rattle.resolvo_queue.specs.Queue.{AgreesBelow, Queue, StandsOn, values_of}
 use Rattle.resolvo_queue.specs.References.{CanWalk, literals_in, references, rows_in}
 use Rattle.resolvo_queue.specs.Scan.{first_falsified}
-use Rattle.resolvo_queue.proofs.CallerLaws.{values_of_entries}
+use Rattle.resolvo_queue.proofs.Clauses.Callers.{values_of_entries}
 use Rattle.resolvo_store.specs.Asked.{asked_of}
 use Rattle.resolvo_store.specs.Outcome.{falsified_clause}
 use Rattle.resolvo_store.specs.Store.{Kept, Provider, store_of, gathered, kept_literals}

@@ -8,7 +8,7 @@ use Rattle.resolvo_queue.specs.Pick.{decided, pick, eligible, DecidesUnbeaten}
 use Rattle.resolvo_queue.specs.Queue.{HasTrail, StandsOn, values_of}
 use Rattle.resolvo_queue.specs.References.{CanWalk, references}
 use Rattle.resolvo_queue.specs.Scan.{scan, is_eligible, first_falsified}
-use Rattle.resolvo_queue.proofs.CallerLaws.{values_of_entries}
+use Rattle.resolvo_queue.proofs.Clauses.Callers.{values_of_entries}
 use Rattle.resolvo_store.specs.Asked.{asked_of}
 use Rattle.resolvo_store.specs.Lists.{IsConsistent}
 use Rattle.resolvo_store.specs.Outcome.{falsified_clause, is_eligible_clause, offers, picked}

@@ -1,0 +1,257 @@
+-- What a queue's clauses name stays there while other things come to it, and what it remembers stays so; and the values
+-- of a trail.
+use Rattle.std.proofs.Common.{◌≡◌, ℕ, zero, suc, ◌+◌, ◌<◌, ◌≤◌, Bool, true, false, cond, eqb, List, []}
+use Rattle.std.proofs.Common.{◌∷◌, ◌++◌, length, map, flat_map, Option, Some, None, is_some, slice_get}
+use Rattle.std.proofs.Common.{sym, ap, ◌∙◌, subst, refl, arith, length-append, Vec, unwrap_or}
+use Rattle.std.specs.Prelude.{All, Contains, IfSome, IsSome}
+use Rattle.std.specs.Map.{lookup}
+use Rattle.std.proofs.lemmas.List.Elements.{All-weaker}
+use Rattle.decisions.specs.declared.decision.Decision.{Decision}
+use Rattle.providers.specs.Provider.{sets_of}
+use Rattle.providers.specs.Requirement.{same_requirement}
+use Rattle.providers.specs.RequirementMap.{with_entry}
+use Rattle.providers.specs.declared.requirement.Requirement.{Requirement}
+use Rattle.clauses.specs.Clauses.{condition_literals}
+use Rattle.clauses.specs.Stored.{kept_in}
+use Rattle.clauses.specs.declared.disjunction.Disjunction.{Disjunction}
+use Rattle.resolvo_queue.specs.Clear.{IsClear, RemembersWell, with_last}
+use Rattle.resolvo_queue.specs.Pick.Inspection.{clause_of}
+use Rattle.resolvo_queue.specs.Laws.{RemembersLonger, RemembersNothing, RemembersWithDisjunction, RemembersWithLists}
+use Rattle.resolvo_queue.specs.Laws.{StandsWithDisjunction, StandsWithLast, StandsWithLists, ValuesOfEntries}
+use Rattle.resolvo_queue.specs.Rows.Listing.{IsListedWell}
+use Rattle.resolvo_queue.specs.Parts.Names.{counts}
+use Rattle.resolvo_queue.specs.Occurrences.{HasAll, Listed}
+use Rattle.resolvo_queue.specs.Queue.{Queue, StandsOn, values_of}
+use Rattle.resolvo_queue.specs.Pick.Questions.{clause_literals}
+use Rattle.resolvo_queue.specs.References.{HasParts, References, references, rows_in}
+use Rattle.resolvo_queue.specs.Rows.{candidates, lists_or_none, loaded_rows, rows}
+use Rattle.resolvo_queue.specs.Parts.Records.{Record, known_at, owed_of, rows_at, walk_of}
+use Rattle.resolvo_queue.specs.Parts.Records.{rows_in as rows_of_record}
+use Rattle.resolvo_queue.specs.WalkCounts.{owed_in, record_of, walks_in, walks_of}
+use Rattle.resolvo_queue.specs.declared.last_falsified.LastFalsified.{LastFalsified}
+use Rattle.resolvo_queue.specs.declared.tracked_clause.TrackedClause.{TrackedClause}
+use Rattle.resolvo_queue.proofs.Picks.Registered.{all_tracked}
+use Rattle.resolvo_queue.proofs.Falsified.Clear.{clear_longer}
+use Rattle.resolvo_queue.proofs.Clauses.Entries.{looked_up}
+use Rattle.resolvo_queue.proofs.Falsified.Finding.{finds_with_disjunction}
+use Rattle.resolvo_queue.proofs.Rows.Listing.{candidate_has_lists}
+use Rattle.resolvo_queue.proofs.Rows.Occurrences.{same_is}
+use Rattle.resolvo_queue.proofs.Syncs.Queued.{grows_none}
+use Rattle.resolvo_queue.proofs.Falsified.Remembered.{clear_by, remembered_along, remembers_none}
+use Rattle.resolvo_queue.proofs.Syncs.Same.{finds_same, synced_same}
+use Rattle.resolvo_queue.proofs.Falsified.Witnesses.{candidates_with_lists}
+use Rattle.resolvo_queue.proofs.Lists.{differ}
+
+-- ---- walks
+
+-- no requirement was walked that owed no walk
+pub walks_within : (ts : List Record) (r : Requirement) → walks_in ts r ≤ owed_in ts r
+walks_within ts r = go (record_of ts r)
+  where
+    go : (o : Option Record) → walks_of o ≤ owed_of o
+    go None = omega arith
+    go (Some t) = known (is_some t.walk)
+      where
+        known : (b : Bool) → t.walks ≤ t.walks + cond b 0 1
+        known true = omega arith
+        known false = omega arith
+
+-- ---- one disjunction more
+
+some_still : (o : Option ℕ) (m n : ℕ) → n ≡ m + 1 → IfSome o (λ d. d < m) → IfSome o (λ d. d < n)
+some_still None m n e h = tt
+some_still (Some d) m n e h = omega (arith, e, h)
+
+got_still : {X Y : Type 0} (f : X → Y) (xs : List X) (x : X) (i : ℕ) → i < length xs →
+    slice_get (map f (xs ++ x ∷ [])) i ≡ slice_get (map f xs) i
+got_still f [] x i lt = absurd (omega (arith, lt))
+got_still f (y ∷ ys) x zero lt = refl
+got_still f (y ∷ ys) x (suc i) lt = got_still f ys x i (omega (arith, lt))
+
+literals_still : {A : Type 0} (ds : List (Disjunction A)) (d : Disjunction A) (condition : Option ℕ) →
+    IfSome condition (λ i. i < length ds) →
+    condition_literals (kept_in [] [] (ds ++ d ∷ [])) condition ≡ condition_literals (kept_in [] [] ds) condition
+literals_still ds d None h = refl
+literals_still ds d (Some i) h = ap (λ o. unwrap_or o [])
+    (got_still (λ disjunction. disjunction.literals.items) ds d i h)
+
+pub stands_with_disjunction : {N S A H : Type 0} → StandsWithDisjunction N S A H
+stands_with_disjunction refs q d stands =
+    let more = references refs.universe refs.lists (refs.disjunctions ++ d ∷ []) in
+    let same : (n : ℕ) (c : TrackedClause) → slice_get q.inside.clauses n ≡ Some c →
+    clause_literals more c ≡ clause_literals refs c =
+    λ n c e. literals_still refs.disjunctions d c.condition
+    (all_tracked (HasParts refs) q.inside.clauses
+    (subst (All (HasParts refs)) stands.clauses stands.parts) n c e).disjunction in
+    record {
+      clauses = stands.clauses;
+      parts = All-weaker (HasParts refs) (HasParts more)
+          (λ c has. record {
+            lists = has.lists;
+            disjunction = some_still c.condition (length refs.disjunctions) (length (refs.disjunctions ++ d ∷ []))
+                (length-append refs.disjunctions (d ∷ [])) has.disjunction;
+          }) q.clauses stands.parts;
+      conditions = finds_same q.inside.clauses (clause_literals refs)
+          (clause_literals more) same q.inside.by_condition stands.conditions;
+      listed = stands.listed;
+      synced = λ accepted. synced_same q.inside.clauses (clause_literals refs) (clause_literals more) same
+          (rows_in refs) (rows_in more) (values_of q.trail)
+          (counts (values_of q.trail) q.since q.inside.clauses)
+          (counts (values_of q.trail) q.since q.inside.clauses) q.inside.requirements q.inside.requirements
+          (λ p. ⊥) q.inside.queued q.inside.queued (λ n c e. refl) (λ k. refl) (λ k h. refl)
+          (grows_none (λ p. ⊥) q.inside.queued) (stands.synced accepted);
+      falsified = finds_with_disjunction refs q d (λ n c e. sym (same n c e)) stands.falsified;
+    }
+
+-- ---- lists of a requirement that had none
+
+module _ {V : Type 0} (test : Requirement → Bool) where
+  either : (b : Bool) (x y : V) (o p : Option V) → (IsSome o → IsSome p) → IsSome (cond b (Some x) o) →
+      IsSome (cond b (Some y) p)
+  either true x y o p f s = refl
+  either false x y o p f s = f s
+
+  -- what was found is still found beside one entry more
+  some_found : (es : List (Requirement × V)) (r : Requirement) (v : V) → IsSome (lookup test es) →
+      IsSome (lookup test (with_entry es r v))
+  some_found [] r v h = cc
+  some_found (e ∷ es) r v h = go (same_requirement r e.0) (some_found es r v)
+    where
+      go : (t : Bool) → (IsSome (lookup test es) → IsSome (lookup test (with_entry es r v))) →
+          IsSome (lookup test (cond t ((e.0, v) ∷ es) (e ∷ with_entry es r v)))
+      go true more = either (test e.0) e.1 v (lookup test es) (lookup test es) (λ s. s) h
+      go false more = either (test e.0) e.1 e.1 (lookup test es) (lookup test (with_entry es r v)) more h
+
+module _ {A : Type 0} (lists : List (Requirement × Vec (Vec ℕ A) A)) (r : Requirement) (new : Vec (Vec ℕ A) A)
+    (none : lookup (same_requirement r) lists ≡ None) where
+  -- what others find is the same
+  found_same : (q : Requirement) → IsSome (lookup (same_requirement q) lists) →
+      lookup (same_requirement q) (with_entry lists r new) ≡ lookup (same_requirement q) lists
+  found_same q some = looked_up lists r new q ∙ go (same_requirement q r) refl
+    where
+      go : (b : Bool) → same_requirement q r ≡ b →
+          cond b (Some new) (lookup (same_requirement q) lists) ≡ lookup (same_requirement q) lists
+      go true e =
+          let gone : lookup (same_requirement q) lists ≡ None =
+          ap (λ x. lookup (same_requirement x) lists) (same_is q r e) ∙ none in
+          let bad : is_some (lookup (same_requirement q) lists) ≡ false = ap is_some gone in
+          absurd (differ (sym some ∙ bad))
+      go false e = refl
+
+  candidates_same : (q : Requirement) → IsSome (lookup (same_requirement q) lists) →
+      candidates (with_entry lists r new) q ≡ candidates lists q
+  candidates_same q some = ap (λ o. flat_map (λ l. l) (lists_or_none o)) (found_same q some)
+
+  listed_still : (o : Listed) (ts : List Record) → IsListedWell lists o ts → IsListedWell (with_entry lists r new) o ts
+  listed_still o ts w = record {
+    entries = λ q e. some_found (same_requirement q) lists r new (w.entries q e);
+    all = λ q e. subst (λ vs. HasAll q vs o) (sym (candidates_same q (w.entries q e))) (w.all q e);
+    none_else = λ q v s. (let own = w.none_else q v s in
+        subst (λ vs. Contains vs v) (sym (candidates_same q (candidate_has_lists lists q v own))) own);
+    known = w.known;
+  }
+
+pub stands_with_lists : {N S A H : Type 0} → StandsWithLists N S A H
+stands_with_lists {N} {S} {A} refs q r lists none stands =
+    let more = references refs.universe (with_entry refs.lists r lists) refs.disjunctions in
+    record {
+      clauses = stands.clauses;
+      parts = All-weaker (HasParts refs) (HasParts more)
+          (λ c has. record {
+            lists = some_found (same_requirement c.requirement) refs.lists r lists has.lists;
+            disjunction = has.disjunction;
+          }) q.clauses stands.parts;
+      conditions = stands.conditions;
+      listed = listed_still refs.lists r lists none q.inside.occurrences q.inside.requirements stands.listed;
+      synced = λ accepted. synced_same q.inside.clauses (clause_literals refs) (clause_literals more) (λ n c e. refl)
+          (rows_in refs) (rows_in more) (values_of q.trail)
+          (counts (values_of q.trail) q.since q.inside.clauses)
+          (counts (values_of q.trail) q.since q.inside.clauses) q.inside.requirements q.inside.requirements
+          (λ p. ⊥) q.inside.queued q.inside.queued (λ n c e. refl) (λ k. refl) rows_same
+          (grows_none (λ p. ⊥) q.inside.queued) (stands.synced accepted);
+      falsified = record {
+        candidates = candidates_with_lists refs.lists r lists none q.inside.occurrences q.witnesses.of
+            stands.falsified.candidates;
+        looked = stands.falsified.looked;
+        listed = stands.falsified.listed;
+        witnessed = stands.falsified.witnessed;
+      };
+    }
+  where
+    rows_same : (k : ℕ) → is_some (known_at q.inside.requirements k) ≡ true →
+        rows_at (loaded_rows refs.universe (with_entry refs.lists r lists)) q.inside.requirements k ≡
+        rows_at (loaded_rows refs.universe refs.lists) q.inside.requirements k
+    rows_same k h = go (slice_get q.inside.requirements k) refl h
+      where
+        go : (o : Option Record) → slice_get q.inside.requirements k ≡ o → is_some (walk_of o) ≡ true →
+            rows_of_record (loaded_rows refs.universe (with_entry refs.lists r lists)) o ≡
+            rows_of_record (loaded_rows refs.universe refs.lists) o
+        go None e s = refl
+        go (Some t) e s =
+            ap (λ o. rows (sets_of refs.universe t.requirement) (lists_or_none o))
+            (found_same refs.lists r lists none t.requirement
+            (stands.listed.entries t.requirement (stands.listed.known k t e s)))
+
+-- ---- what is remembered of a falsified clause
+
+-- the same clauses by other references
+remembers_by : {N S A H : Type 0} (refs refs' : References N S A) (ds : List Decision) (q : Queue N H) →
+    ((n : ℕ) (c : TrackedClause) → slice_get q.inside.clauses n ≡ Some c →
+    (clause_literals refs' c ≡ clause_literals refs c) ×
+    (rows_in refs' c.requirement ≡ rows_in refs c.requirement)) →
+    RemembersWell refs ds q → RemembersWell refs' ds q
+remembers_by refs refs' ds q same =
+    remembered_along (IsClear refs ds q.inside.clauses q.witnesses.looked)
+    (IsClear refs' ds q.inside.clauses q.witnesses.looked) q.last q.last refl
+    (clear_by refs refs' ds q.inside.clauses q.witnesses.looked same)
+
+parts_of : {N S A H : Type 0} (refs : References N S A) (q : Queue N H) → StandsOn refs q →
+    (n : ℕ) (c : TrackedClause) → slice_get q.inside.clauses n ≡ Some c → HasParts refs (clause_of c)
+parts_of refs q stands = all_tracked (HasParts refs) q.inside.clauses
+    (subst (All (HasParts refs)) stands.clauses stands.parts)
+
+pub stands_with_last : {N S A H : Type 0} → StandsWithLast N S A H
+stands_with_last refs q last stands = record {
+  clauses = stands.clauses;
+  parts = stands.parts;
+  conditions = stands.conditions;
+  listed = stands.listed;
+  synced = stands.synced;
+  falsified = record {
+    candidates = stands.falsified.candidates;
+    looked = stands.falsified.looked;
+    listed = stands.falsified.listed;
+    witnessed = stands.falsified.witnessed;
+  };
+}
+
+pub remembers_nothing : {N S A H : Type 0} → RemembersNothing N S A H
+remembers_nothing refs ds q none = remembers_none (IsClear refs ds q.inside.clauses q.witnesses.looked) q.last none
+
+pub remembers_longer : {N S A H : Type 0} → RemembersLonger N S A H
+remembers_longer refs ds more q =
+    remembered_along (IsClear refs ds q.inside.clauses q.witnesses.looked)
+    (IsClear refs (ds ++ more) q.inside.clauses q.witnesses.looked) q.last q.last refl
+    (λ last. clear_longer refs ds more)
+
+pub remembers_with_disjunction : {N S A H : Type 0} → RemembersWithDisjunction N S A H
+remembers_with_disjunction refs ds q d stands =
+    remembers_by refs (references refs.universe refs.lists (refs.disjunctions ++ d ∷ [])) ds q
+    (λ n c e. (literals_still refs.disjunctions d c.condition (parts_of refs q stands n c e).disjunction, refl))
+
+pub remembers_with_lists : {N S A H : Type 0} → RemembersWithLists N S A H
+remembers_with_lists refs ds q r lists none stands =
+    remembers_by refs (references refs.universe (with_entry refs.lists r lists) refs.disjunctions) ds q
+    (λ n c e. (
+      refl,
+      ap (λ o. rows (sets_of refs.universe c.requirement) (lists_or_none o))
+          (found_same refs.lists r lists none c.requirement (parts_of refs q stands n c e).lists),
+    ))
+
+-- ---- trails
+
+-- the values of a trail's entries are those of its decisions
+pub values_of_entries : ValuesOfEntries
+values_of_entries [] x = refl
+values_of_entries (e ∷ es) x = ap (λ o. cond (eqb e.decision.variable x) (Some e.decision.value) o)
+    (values_of_entries es x)

@@ -1,0 +1,116 @@
+-- A queue after clauses became hot.
+use Rattle.std.proofs.Common.{◌≡◌, ◌≢◌, ℕ, ◌+◌, ◌-◌, ◌≤◌, Bool, true, false, List, get_or, length}
+use Rattle.std.proofs.Common.{Some, Result, Ok, Err, slice_get, sym, ap, refl, ◌∙◌, subst}
+use Rattle.std.specs.Prelude.{All}
+use Rattle.std.proofs.lemmas.List.{length-map}
+use Rattle.typed_ids.specs.TotalMaps.{IsUpdate, SameValues}
+use Rattle.typed_ids.specs.declared.error.StoreError.{StoreError}
+use Rattle.typed_ids.specs.declared.error.StoreError.TheVariants.{IdSpace}
+use Rattle.decisions.specs.Literals.{Values, known_true, variable_of}
+use Rattle.resolvo_queue.specs.Rows.ByVariable.{list_at}
+use Rattle.resolvo_queue.specs.Pick.Inspection.{clause_of}
+use Rattle.resolvo_queue.specs.Rows.Listing.{IsListedWell}
+use Rattle.resolvo_queue.specs.Parts.Names.{AreCold, AreLast, ColdLack, counted_value, counts, names_at}
+use Rattle.resolvo_queue.specs.Members.{Stands}
+use Rattle.resolvo_queue.specs.Scan.Positions.{has}
+use Rattle.resolvo_queue.specs.Queue.{IsKept, Queue, StandsOn, values_of}
+use Rattle.resolvo_queue.specs.Pick.Questions.{clause_literals}
+use Rattle.resolvo_queue.specs.References.{HasParts, References, rows_in}
+use Rattle.resolvo_queue.specs.Routing.Synced.{KeepsQueued}
+use Rattle.resolvo_queue.specs.Parts.Tracking.{Heats}
+use Rattle.resolvo_queue.specs.declared.parent_value.ParentValue.{ParentValue}
+use Rattle.resolvo_queue.specs.declared.tracked_clause.TrackedClause.{TrackedClause}
+use Rattle.resolvo_queue.proofs.Falsified.Finding.{finds_still, keeps_same}
+use Rattle.resolvo_queue.proofs.Lists.{at_mapped}
+
+module _ {N H : Type 0} (has : H → N → Bool) (q q' : Queue N H) (heats : Heats q.inside q'.inside)
+    (since : q'.since ≡ q.since) where
+  same_length : length q'.inside.clauses ≡ length q.inside.clauses
+  same_length = sym (length-map q'.inside.clauses clause_of) ∙
+      (ap length heats.clauses ∙ length-map q.inside.clauses clause_of)
+
+  pub kept_heated : IsKept has q → q'.names ≡ q.names → q'.hot ≡ q.hot → IsKept has q'
+  kept_heated kept names hot = record {
+    order = heats.in_order kept.order;
+    names = ap length names ∙ (kept.names ∙ sym same_length);
+    since = subst (λ ps. AreLast ps q'.inside.clauses) (sym since) (
+      subst (λ n. length q.since ≤ n) (sym same_length) kept.since.0,
+      λ k p e. (let was = kept.since.1 k p e in
+          let at : slice_get q.inside.clauses (length q'.inside.clauses - length q.since + k) ≡ Some was.0 =
+          ap (λ n. slice_get q.inside.clauses (n - length q.since + k)) same_length ∙ was.1 in
+          let now = at_mapped clause_of q'.inside.clauses q.inside.clauses
+          (length q'.inside.clauses - length q.since + k) was.0 heats.clauses at in
+          (now.0, now.1, ap (λ (c : _). c.parent) now.2 ∙ was.2)),
+    );
+    cold = λ n c e cool. subst (All (λ m. has q'.hot m ≡ false)) (ap (λ l. names_at l n) (sym names))
+        (subst (λ h. All (λ m. has h m ≡ false) (names_at q.names n)) (sym hot)
+        (kept.cold n c (heats.cold n c e cool) cool));
+  }
+
+  pub stands_heated : {S A : Type 0} (refs : References N S A) → StandsOn refs q → q'.clauses ≡ q.clauses →
+      q'.trail ≡ q.trail → q'.must_start_anew ≡ q.must_start_anew →
+      q'.witnesses ≡ q.witnesses → StandsOn refs q'
+  stands_heated refs stands clauses trail anew witnesses = record {
+    clauses = clauses ∙ (stands.clauses ∙ sym heats.clauses);
+    parts = subst (All (HasParts refs)) (sym clauses) stands.parts;
+    conditions = λ n c e l s. (let was = heats.finds (clause_literals refs) (λ d. refl) n c e in
+        subst (λ lists. Stands n (list_at lists (variable_of l))) (sym heats.by_condition)
+        (stands.conditions n was.0 was.1 l (subst (Stands l) was.2 s)));
+    listed = subst (λ o. IsListedWell refs.lists o q'.inside.requirements) (sym heats.occurrences)
+        (subst (IsListedWell refs.lists q.inside.occurrences) (sym heats.requirements) stands.listed);
+    synced = λ accepted.
+        subst (λ (x : Values × (List ParentValue × ℕ)).
+        KeepsQueued q'.inside.clauses (clause_literals refs)
+        (rows_in refs) x.0 (λ c. known_true (counted_value x.0 (x.1.1 - length x.1.0) x.1.0 c))
+        q'.inside.requirements q'.inside.queued)
+        (λ i. (ap values_of (sym trail) i, (sym since i, sym same_length i)))
+        (heats.synced (clause_literals refs) (rows_in refs) (values_of q.trail)
+        (counts (values_of q.trail) q.since q.inside.clauses) (λ d. refl) (λ d. refl)
+        (stands.synced (sym anew ∙ accepted)));
+    falsified = finds_still refs q q' stands.falsified (ap (λ w. w.of) witnesses) (ap (λ w. w.looked) witnesses)
+        (keeps_same q.inside.occurrences q'.inside.occurrences heats.occurrences) anew trail
+        (ap (λ w. w.changed) witnesses) heats.clauses;
+  }
+
+-- names of clauses that aren't hot stay cold where one more name is hot that they lack
+pub cold_still : {N : Type 0} (hot hot' : N → Bool) (name : N) (names : List (List N)) (cs : List TrackedClause) →
+    IsUpdate hot name true hot' → AreCold hot names cs →
+    ColdLack name names cs → AreCold hot' names cs
+cold_still hot hot' name names cs update cold lacks n c e cool k d lt =
+    update.1 (get_or (names_at names n) k d) (lacks n c e cool k d lt) ∙ cold n c e cool k d lt
+
+-- a name that was hot is lacked by all that aren't
+pub lacks_hot : {N : Type 0} (hot : N → Bool) (name : N) → hot name ≡ true → (names : List N) →
+    All (λ m. hot m ≡ false) names → All (λ m. m ≢ name) names
+lacks_hot hot name is names cold k d lt same = let bad : hot name ≡ false = ap hot (sym same) ∙ cold k d lt in cc
+
+-- a name that came to a set isn't too large for it
+pub fits_if_ok : {T : Type 0} (is_too_large : Bool) (res : Result T StoreError) (x : T) → res ≡ Ok x →
+    (is_too_large ≡ true → res ≡ Err IdSpace) → is_too_large ≡ false
+fits_if_ok true res x ok large = let bad : Ok x ≡ Err IdSpace = sym ok ∙ large refl in cc
+fits_if_ok false res x ok large = refl
+
+-- one name more is hot, or its insertion was refused
+pub kept_hot : {N H : Type 0} (has : H → N → Bool) (q : Queue N H) (hot : H) → IsKept has q →
+    AreCold (has hot) q.names q.inside.clauses → IsKept has (record q { hot = hot })
+kept_hot has q hot kept cold = record { order = kept.order; names = kept.names; since = kept.since; cold = cold }
+
+pub cold_same : {N H : Type 0} (has : H → N → Bool) (q : Queue N H) (hot : H) → SameValues (has q.hot) (has hot) →
+    IsKept has q → AreCold (has hot) q.names q.inside.clauses
+cold_same has q hot same kept n c e cool k d lt = same (get_or (names_at q.names n) k d) ∙ kept.cold n c e cool k d lt
+
+pub stands_hot : {N S A H : Type 0} (refs : References N S A) (q : Queue N H) (hot : H) → StandsOn refs q →
+    StandsOn refs (record q { hot = hot })
+stands_hot refs q hot stands = record {
+  clauses = stands.clauses;
+  parts = stands.parts;
+  conditions = stands.conditions;
+  listed = stands.listed;
+  synced = stands.synced;
+  falsified = record {
+    candidates = stands.falsified.candidates;
+    looked = stands.falsified.looked;
+    listed = stands.falsified.listed;
+    witnessed = stands.falsified.witnessed;
+  };
+}

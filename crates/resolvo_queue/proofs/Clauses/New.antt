@@ -1,0 +1,78 @@
+-- The queue without clauses.
+use Rattle.std.proofs.Common.{◌≡◌, ℕ, ◌<◌, ◌^◌, Bool, IfSome, true, false, List, [], map, length}
+use Rattle.std.proofs.Common.{Option, None, Some, MatchOption, slice_get, sym, ap, ◌∙◌, subst, arith}
+use Rattle.std.specs.Prelude.{All, Contains}
+use Rattle.std.specs.List.{list_any}
+use Rattle.providers.specs.Requirement.{same_requirement}
+use Rattle.std.proofs.lemmas.List.Elements.{All-nil}
+use Rattle.resolvo_queue.specs.Rows.ByVariable.{list_at}
+use Rattle.resolvo_queue.specs.Pick.Inspection.{clause_of}
+use Rattle.resolvo_queue.specs.Parts.Names.{AreLast}
+use Rattle.resolvo_queue.specs.Scan.Positions.{has}
+use Rattle.resolvo_queue.specs.Queue.{IsKept, Queue, StandsOn, values_of}
+use Rattle.resolvo_queue.specs.Parts.Queued.{is_empty_queue}
+use Rattle.resolvo_queue.specs.References.{HasParts, References, rows_in}
+use Rattle.resolvo_queue.specs.Rows.{frontier}
+use Rattle.resolvo_queue.specs.Parts.Records.{Record, known_at, rows_at}
+use Rattle.resolvo_queue.specs.Parts.Tracking.{HasNoClause, IsFirstOf, IsInOrder, Tracking}
+use Rattle.resolvo_queue.specs.declared.tracked_clause.TrackedClause.{TrackedClause}
+use Rattle.resolvo_queue.proofs.Falsified.Finding.{finds_new}
+use Rattle.resolvo_queue.proofs.Clauses.Counts.{last_none}
+use Rattle.resolvo_queue.proofs.Lists.{stands_if_contains}
+
+-- no clause
+no_clause : (cs : List TrackedClause) (P : Type 0) → cs ≡ [] → (n : ℕ) (c : TrackedClause) → slice_get cs n ≡ Some c → P
+no_clause cs P none n c e = let bad : None ≡ Some c = ap (λ l. slice_get l n) (sym none) ∙ e in cc
+
+differ : (P : Type 0) → false ≡ true → P
+differ P d = cc
+
+order_new : (t : Tracking) → t.clauses ≡ [] → t.by_parent ≡ [] → is_empty_queue t.queued → IsInOrder t
+order_new t none lists empty = record {
+  few = subst (λ cs. length cs < 2 ^ 32) (sym none) (omega arith);
+  located = λ n c e. no_clause t.clauses _ none n c e;
+  first = λ parent. subst (λ l. MatchOption (slice_get (list_at l parent) 0) (HasNoClause t.clauses parent)
+      (IsFirstOf t.clauses parent)) (sym lists)
+      (λ n c e. no_clause t.clauses _ none n c e);
+  parents = λ n c e. no_clause t.clauses _ none n c e;
+  requirements = λ n c e. no_clause t.clauses _ none n c e;
+  placed = λ n c e. no_clause t.clauses _ none n c e;
+  all_of = λ p e. differ _ (sym (empty p).0 ∙ e);
+  hot_of = λ p e. differ _ (sym (empty p).1 ∙ e);
+}
+
+pub kept_new : {N H : Type 0} (has : H → N → Bool) (q : Queue N H) → q.inside.clauses ≡ [] → q.inside.by_parent ≡ [] →
+    is_empty_queue q.inside.queued → q.names ≡ [] → q.since ≡ [] →
+    IsKept has q
+kept_new has q none lists empty names since = record {
+  order = order_new q.inside none lists empty;
+  names = ap length names ∙ ap length (sym none);
+  since = subst (λ ps. AreLast ps q.inside.clauses) (sym since) (last_none q.inside.clauses);
+  cold = λ n c e cool. no_clause q.inside.clauses _ none n c e;
+}
+
+pub stands_new : {N S A H : Type 0} (refs : References N S A) (q : Queue N H) → q.clauses ≡ [] → q.inside.clauses ≡ [] →
+    q.inside.requirements ≡ [] →
+    q.inside.occurrences.listed ≡ [] → q.inside.occurrences.by_variable ≡ [] → q.witnesses.of.entries ≡ [] →
+    q.witnesses.looked ≡ 0 → StandsOn refs q
+stands_new refs q whole none records listed lists of looked = record {
+  clauses = whole ∙ ap (map clause_of) (sym none);
+  parts = subst (All (HasParts refs)) (sym whole) (All-nil (HasParts refs));
+  conditions = λ n c e l s. no_clause q.inside.clauses _ none n c e;
+  listed = record {
+    entries = λ r e. differ _ (sym (ap (list_any (same_requirement r)) listed) ∙ e);
+    all = λ r e. differ _ (sym (ap (list_any (same_requirement r)) listed) ∙ e);
+    none_else = λ r v s. elim (stands_if_contains [] r (subst (λ l. Contains (list_at l v) r) lists s)) [ ];
+    known = λ k t e h. no_record t k (ap (λ l. slice_get l k) (sym records) ∙ e);
+  };
+  synced = λ accepted. record {
+    all = λ c reg e. no_clause q.inside.clauses _ none reg.0 c reg.1;
+    hot = λ c reg e. no_clause q.inside.clauses _ none reg.0.0 c reg.0.1;
+    right = λ k. subst (λ ts.
+        IfSome (known_at ts k) (λ f. f ≡ frontier (values_of q.trail) (rows_at (rows_in refs) ts k))) (sym records) tt;
+  };
+  falsified = finds_new refs q none of looked;
+}
+  where
+    no_record : {P : Type 0} (t : Record) (k : ℕ) → ◌≡◌ {A = Option Record} None (Some t) → P
+    no_record t k e = cc

@@ -1,0 +1,233 @@
+-- A queue after a registration, accepted or refused, and after clauses became hot.
+use Rattle.std.proofs.Common.{◌≡◌, ℕ, zero, suc, ◌+◌, ◌-◌, ◌<◌, ◌^◌, ltb, Bool, true, false}
+use Rattle.std.proofs.Common.{◌||◌, ◌⊎◌, inl, inr, List, [], ◌∷◌, ◌++◌, map, length, Some}
+use Rattle.std.proofs.Common.{slice_get, sym, ap, refl, ◌∙◌, subst, arith, length-append}
+use Rattle.std.specs.Prelude.{All, IsTrue, ◌↔◌, ◌≤◌}
+use Rattle.std.proofs.lemmas.Bool.{ltb-false, ltb-true}
+use Rattle.std.specs.List.{list_any}
+use Rattle.std.proofs.lemmas.List.{map-append}
+use Rattle.std.proofs.lemmas.List.Elements.{All-cons, All-nil, All-push, All-weaker}
+use Rattle.std.proofs.lemmas.Option.{slice_get_within}
+use Rattle.typed_ids.specs.TotalMaps.{SameValues}
+use Rattle.decisions.specs.Literals.{Lit, Values, known_true, variable_of}
+use Rattle.resolvo_queue.specs.Rows.ByVariable.{list_at}
+use Rattle.resolvo_queue.specs.Pick.Inspection.{clause_of}
+use Rattle.resolvo_queue.specs.Parts.Names.{AreCold, AreLast, counts, names_at}
+use Rattle.resolvo_queue.specs.Members.{Stands}
+use Rattle.resolvo_queue.specs.Scan.Positions.{same_position}
+use Rattle.resolvo_queue.specs.Queue.{IsKept, Queue, StandsOn, values_of}
+use Rattle.resolvo_queue.specs.Pick.Questions.{clause_literals}
+use Rattle.resolvo_queue.specs.References.{HasParts, References, literals_in, rows_in}
+use Rattle.resolvo_queue.specs.Routing.Synced.{KeepsQueued}
+use Rattle.resolvo_queue.specs.Parts.Tracking.{IsAsBefore, Registers, Tracking}
+use Rattle.resolvo_queue.specs.declared.parent_value.ParentValue.{ParentValue}
+use Rattle.resolvo_queue.specs.declared.tracked_clause.Position.{Position}
+use Rattle.resolvo_queue.specs.declared.requires_clause.RequiresClause.{RequiresClause}
+use Rattle.resolvo_queue.specs.declared.tracked_clause.TrackedClause.{TrackedClause}
+use Rattle.resolvo_queue.proofs.Clauses.Counts.{counts_more, counts_new, last_more}
+use Rattle.resolvo_queue.proofs.Clauses.Entries.{earlier_or_last}
+use Rattle.resolvo_queue.proofs.Falsified.Finding.{finds_registered, finds_still, keeps_same}
+use Rattle.resolvo_queue.proofs.Clauses.Order.{refused_in_order, registers_in_order}
+use Rattle.resolvo_queue.proofs.Syncs.Queued.{grows_none}
+use Rattle.resolvo_queue.proofs.Syncs.NewClause.{registered_synced}
+use Rattle.resolvo_queue.proofs.Syncs.Same.{listed_gained, rows_stay, synced_same}
+use Rattle.resolvo_queue.proofs.Lists.{differ}
+
+-- ---- names
+
+names_before : {N : Type 0} (names : List (List N)) (own : List N) (n : ℕ) → n < length names →
+    names_at (names ++ own ∷ []) n ≡ names_at names n
+names_before [] own n lt = absurd (omega (arith, lt))
+names_before (x ∷ xs) own zero lt = refl
+names_before (x ∷ xs) own (suc n) lt = names_before xs own n (omega (arith, lt))
+
+names_last : {N : Type 0} (names : List (List N)) (own : List N) → names_at (names ++ own ∷ []) (length names) ≡ own
+names_last [] own = refl
+names_last (x ∷ xs) own = names_last xs own
+
+-- none is hot
+none_hot : {N : Type 0} (hot : N → Bool) (names : List N) → list_any hot names ≡ false → All (λ m. hot m ≡ false) names
+none_hot hot [] h = All-nil (λ m. hot m ≡ false)
+none_hot hot (x ∷ xs) h = go (hot x) refl h (none_hot hot xs)
+  where
+    go : (b : Bool) → hot x ≡ b → (b || list_any hot xs) ≡ false →
+        (list_any hot xs ≡ false → All (λ m. hot m ≡ false) xs) → All (λ m. hot m ≡ false) (x ∷ xs)
+    go true e f more = cc
+    go false e f more = All-cons (λ m. hot m ≡ false) x xs e (more f)
+
+-- ---- a clause that is registered
+
+pub not_full : (b : Bool) (n m : ℕ) → b ≡ false → (IsTrue b ↔ (2 ^ 32 - 1 ≤ n)) → n ≡ m → m < 2 ^ 32 - 1
+not_full b n m e full same = elim (le_or_lt (2 ^ 32 - 1) m) [
+  | inl le ↦ (let bad : b ≡ true = full.1 (subst (λ k. 2 ^ 32 - 1 ≤ k) (sym same) le) in absurd (differ (sym bad ∙ e)))
+  | inr lt ↦ lt
+]
+  where
+    le_or_lt : (a b : ℕ) → (a ≤ b) ⊎ (b < a)
+    le_or_lt a b = go (ltb b a) refl
+      where
+        go : (t : Bool) → ltb b a ≡ t → (a ≤ b) ⊎ (b < a)
+        go true e = inr (ltb-true b a e)
+        go false e = inl (ltb-false b a e)
+
+-- the clauses that contracts see
+pub registered_whole : (clause : RequiresClause) (is_hot counted : Bool) (literals : List Lit) (old now : Tracking) →
+    Registers clause is_hot counted literals old now →
+    map clause_of now.clauses ≡ map clause_of old.clauses ++ clause ∷ []
+registered_whole clause is_hot counted literals old now r =
+    ap (map clause_of) r.clauses ∙
+    (map-append clause_of old.clauses (r.new ∷ []) ∙ ap (λ c. map clause_of old.clauses ++ c ∷ []) r.is)
+
+module _ {N H : Type 0} (has : H → N → Bool) (q q' : Queue N H) (clause : RequiresClause) (is_hot counted : Bool)
+    (literals : List Lit) (its_names : List N) (value : ParentValue)
+    (kept : IsKept has q) (registers : Registers clause is_hot counted literals q.inside q'.inside)
+    (since : q'.since ≡ q.since ++ value ∷ []) (parent : clause.parent ≡ value.parent) where
+  abbrev cs : List TrackedClause
+  cs = q.inside.clauses
+
+  abbrev new : TrackedClause
+  new = registers.new
+
+  own_parent : new.parent ≡ value.parent
+  own_parent = ap (λ (c : RequiresClause). c.parent) registers.is ∙ parent
+
+  pub kept_registered : length q.inside.clauses < 2 ^ 32 - 1 → q'.names ≡ q.names ++ its_names ∷ [] →
+      SameValues (has q.hot) (has q'.hot) → is_hot ≡ list_any (has q.hot) its_names →
+      IsKept has q'
+  kept_registered few names hot is = record {
+    order = registers_in_order clause is_hot counted literals q.inside q'.inside few kept.order registers;
+    names = (
+        ap length names ∙ (length-append q.names (its_names ∷ []) ∙ (ap (λ n. n + 1) kept.names
+        ∙ (sym (length-append cs (new ∷ [])) ∙ ap length (sym registers.clauses)))));
+    since = subst (λ ps. AreLast ps q'.inside.clauses) (sym since)
+        (subst (AreLast (q.since ++ value ∷ [])) (sym registers.clauses)
+        (last_more q.since value cs new own_parent kept.since));
+    cold = λ n c e cool. go n c cool
+        (earlier_or_last cs new n c (subst (λ l. slice_get l n ≡ Some c) registers.clauses e));
+  }
+    where
+      same_hot : (names : List N) → All (λ m. has q.hot m ≡ false) names → All (λ m. has q'.hot m ≡ false) names
+      same_hot names a = All-weaker (λ m. has q.hot m ≡ false) (λ m. has q'.hot m ≡ false) (λ m h. hot m ∙ h) names a
+
+      go : (n : ℕ) (c : TrackedClause) → c.is_hot ≡ false →
+          ((slice_get cs n ≡ Some c) ⊎ ((c ≡ new) × (n ≡ length cs))) →
+          All (λ m. has q'.hot m ≡ false) (names_at q'.names n)
+      go n c cool (inl was) =
+          let within : n < length q.names = subst (λ k. n < k) (sym kept.names) (slice_get_within cs n c was) in
+          subst (All (λ m. has q'.hot m ≡ false))
+          (sym (ap (λ l. names_at l n) names ∙ names_before q.names its_names n within))
+          (same_hot (names_at q.names n) (kept.cold n c was cool))
+      go n c cool (inr own) =
+          let at : names_at q'.names n ≡ its_names =
+          ap (λ l. names_at l n) names ∙
+          (ap (names_at (q.names ++ its_names ∷ [])) (own.1 ∙ sym kept.names) ∙ names_last q.names its_names) in
+          let cold : list_any (has q.hot) its_names ≡ false =
+          sym is ∙ (sym registers.hot ∙ (ap (λ (x : TrackedClause). x.is_hot) (sym own.0) ∙ cool)) in
+          subst (All (λ m. has q'.hot m ≡ false)) (sym at) (same_hot its_names (none_hot (has q.hot) its_names cold))
+
+  module _ {S A : Type 0} (refs : References N S A) (stands : StandsOn refs q) where
+    pub stands_registered : q'.clauses ≡ q.clauses ++ clause ∷ [] → q'.trail ≡ q.trail →
+        q'.must_start_anew ≡ q.must_start_anew →
+        literals ≡ literals_in refs clause.condition → HasParts refs clause → counted ≡ known_true value.value →
+        q'.witnesses ≡ q.witnesses → StandsOn refs q'
+    stands_registered clauses trail anew condition parts counts_as witnesses = record {
+      clauses = clauses ∙ (ap (λ l. l ++ clause ∷ []) stands.clauses ∙
+          (ap (λ c. map clause_of cs ++ c ∷ []) (sym registers.is)
+          ∙ (sym (map-append clause_of cs (new ∷ [])) ∙ ap (map clause_of) (sym registers.clauses))));
+      parts = subst (All (HasParts refs)) (sym clauses) (All-push (HasParts refs) q.clauses clause stands.parts parts);
+      conditions = λ n c e l s.
+          find n c l s (earlier_or_last cs new n c (subst (λ xs. slice_get xs n ≡ Some c) registers.clauses e));
+      listed = listed_gained refs.lists q.inside q'.inside registers.gains stands.listed;
+      synced = λ accepted. again (stands.synced (sym anew ∙ accepted));
+      falsified = finds_registered refs q q' stands.falsified (ap (λ w. w.of) witnesses) (ap (λ w. w.looked) witnesses)
+          (keeps_same q.inside.occurrences q'.inside.occurrences registers.gains.occurrences) anew trail
+          (ap (λ w. w.changed) witnesses) new registers.clauses;
+    }
+      where
+        find : (n : ℕ) (c : TrackedClause) (l : Lit) → Stands l (clause_literals refs c) →
+            ((slice_get cs n ≡ Some c) ⊎ ((c ≡ new) × (n ≡ length cs))) →
+            Stands n (list_at q'.inside.by_condition (variable_of l))
+        find n c l s (inl was) = registers.gains.conditions (variable_of l) n (stands.conditions n c was l s)
+        find n c l s (inr own) =
+            let same : clause_literals refs c ≡ literals =
+            ap (clause_literals refs) own.0 ∙
+            (ap (λ (d : RequiresClause). literals_in refs d.condition) registers.is ∙ sym condition) in
+            subst (λ k. Stands k (list_at q'.inside.by_condition (variable_of l))) (sym own.1)
+            (registers.conditions l (subst (Stands l) same s))
+
+        val : Values
+        val = values_of q.trail
+
+        again : KeepsQueued cs (clause_literals refs) (rows_in refs) val
+            (counts val q.since cs) q.inside.requirements q.inside.queued →
+            KeepsQueued q'.inside.clauses (clause_literals refs) (rows_in refs) (values_of q'.trail)
+            (counts (values_of q'.trail) q'.since q'.inside.clauses) q'.inside.requirements q'.inside.queued
+        again old =
+            let own : new.position.number ≡ length cs = ap (λ (p : Position). p.number) registers.position in
+            let before = synced_same cs (clause_literals refs) (clause_literals refs) (λ n c e. refl) (rows_in refs)
+            (rows_in refs) val
+            (counts val q.since cs) (counts val (q.since ++ value ∷ []) (cs ++ new ∷ [])) q.inside.requirements
+            q.inside.requirements
+            (λ p. ⊥) q.inside.queued q.inside.queued
+            (counts_more val q.since value cs new kept.order.located kept.since) (λ k. refl) (λ k h. refl)
+            (grows_none (λ p. ⊥) q.inside.queued) old in
+            let after = registered_synced cs (clause_literals refs) (rows_in refs) val
+            (counts val (q.since ++ value ∷ []) (cs ++ new ∷ [])) q.inside.requirements q'.inside.requirements
+            (λ p. same_position new.position p ≡ true) q.inside.queued q'.inside.queued new
+            registers.gains.records.known
+            (rows_stay (rows_in refs) q.inside.requirements q'.inside.requirements registers.gains.records)
+            registers.queued
+            (λ t. registers.counted (counts_as ∙ (sym (counts_new val q.since value cs new own kept.since) ∙ t)))
+            before in
+            subst (λ (x : Values × (List ParentValue × List TrackedClause)). KeepsQueued x.1.1 (clause_literals refs)
+            (rows_in refs) x.0 (counts x.0 x.1.0 x.1.1) q'.inside.requirements q'.inside.queued)
+            (λ i. (ap values_of (sym trail) i, (sym since i, sym registers.clauses i))) after
+
+-- ---- a registration that is refused
+
+module _ {N H : Type 0} (has : H → N → Bool) (q q' : Queue N H) (before : IsAsBefore q.inside q'.inside)
+    (since : q'.since ≡ q.since) where
+  pub kept_refused : IsKept has q → q'.names ≡ q.names → q'.hot ≡ q.hot → IsKept has q'
+  kept_refused kept names hot = record {
+    order = refused_in_order q.inside q'.inside kept.order before;
+    names = ap length names ∙ (kept.names ∙ ap length (sym before.clauses));
+    since = subst (λ ps. AreLast ps q'.inside.clauses) (sym since)
+        (subst (AreLast q.since) (sym before.clauses) kept.since);
+    cold = subst (λ cs. AreCold (has q'.hot) q'.names cs) (sym before.clauses)
+        (subst (λ ns. AreCold (has q'.hot) ns q.inside.clauses) (sym names)
+        (subst (λ h. AreCold (has h) q.names q.inside.clauses) (sym hot) kept.cold));
+  }
+
+  pub stands_refused : {S A : Type 0} (refs : References N S A) → StandsOn refs q → q'.clauses ≡ q.clauses →
+      q'.trail ≡ q.trail → q'.must_start_anew ≡ q.must_start_anew →
+      q'.witnesses ≡ q.witnesses → StandsOn refs q'
+  stands_refused refs stands clauses trail anew witnesses = record {
+    clauses = clauses ∙ (stands.clauses ∙ ap (map clause_of) (sym before.clauses));
+    parts = subst (All (HasParts refs)) (sym clauses) stands.parts;
+    conditions = λ n c e l s. before.gains.conditions (variable_of l) n
+        (stands.conditions n c (subst (λ xs. slice_get xs n ≡ Some c) before.clauses e) l s);
+    listed = listed_gained refs.lists q.inside q'.inside before.gains stands.listed;
+    synced = λ accepted. again (stands.synced (sym anew ∙ accepted));
+    falsified = finds_still refs q q' stands.falsified (ap (λ w. w.of) witnesses) (ap (λ w. w.looked) witnesses)
+        (keeps_same q.inside.occurrences q'.inside.occurrences before.gains.occurrences) anew trail
+        (ap (λ w. w.changed) witnesses) (ap (map clause_of) before.clauses);
+  }
+    where
+      val : Values
+      val = values_of q.trail
+
+      again : KeepsQueued q.inside.clauses (clause_literals refs) (rows_in refs) val
+          (counts val q.since q.inside.clauses) q.inside.requirements q.inside.queued →
+          KeepsQueued q'.inside.clauses (clause_literals refs) (rows_in refs) (values_of q'.trail)
+          (counts (values_of q'.trail) q'.since q'.inside.clauses) q'.inside.requirements q'.inside.queued
+      again old =
+          subst (λ (x : Values × (List ParentValue × List TrackedClause)). KeepsQueued x.1.1 (clause_literals refs)
+          (rows_in refs) x.0 (counts x.0 x.1.0 x.1.1) q'.inside.requirements q'.inside.queued)
+          (λ i. (ap values_of (sym trail) i, (sym since i, sym before.clauses i)))
+          (synced_same q.inside.clauses (clause_literals refs) (clause_literals refs) (λ n c e. refl) (rows_in refs)
+          (rows_in refs) val
+          (counts val q.since q.inside.clauses) (counts val q.since q.inside.clauses) q.inside.requirements
+          q'.inside.requirements (λ p. ⊥) q.inside.queued q'.inside.queued
+          (λ n c e. refl) before.gains.records.known
+          (rows_stay (rows_in refs) q.inside.requirements q'.inside.requirements before.gains.records)
+          before.queued old)

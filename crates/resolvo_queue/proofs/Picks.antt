@@ -1,0 +1,11 @@
+-- The scan, and the pick along it.
+pub mod Behind
+pub mod Decisions
+pub mod Groups
+pub mod NumberedScan
+pub mod Offers
+pub mod Positions
+pub mod Ready
+pub mod Registered
+pub mod Steps
+pub mod Unbeaten

@@ -1,0 +1,205 @@
+-- Groups of clauses, and the root's clauses as one.
+use Rattle.std.proofs.Common.{◌≡◌, ℕ, ◌+◌, Bool, true, false, ◌&&◌, cond, eqb, eqb-true, eq-eqb, List, []}
+use Rattle.std.proofs.Common.{◌∷◌, filter, filter_map, Option, Some, None, IfOk, IfSome, MatchOption}
+use Rattle.std.proofs.Common.{Result, Ok, Err, option_map, slice_get, sym, ap, ap₂, refl, ◌∙◌, subst, arith}
+use Rattle.std.specs.List.{cons_option}
+use Rattle.decisions.specs.Literals.{Lit, Values}
+use Rattle.providers.specs.declared.requirement.Requirement.{Requirement}
+use Rattle.typed_ids.specs.declared.error.StoreError.{StoreError}
+use Rattle.typed_ids.specs.declared.version_set_id.VersionSetId.{VersionSetId}
+use Rattle.resolvo_queue.specs.Pick.Groups.{Group, group_at, has_of, is_in, offers_of, only_in}
+use Rattle.resolvo_queue.specs.Rows.ByVariable.{list_at}
+use Rattle.resolvo_queue.specs.Pick.Inspection.{eligible_frontier, offer_of, offer_with}
+use Rattle.resolvo_queue.specs.Members.{Stands, here, there}
+use Rattle.resolvo_queue.specs.Pick.{Offer, best_offer, is_of_root, pick}
+use Rattle.resolvo_queue.specs.Scan.Positions.{has, is_after, position_cmp}
+use Rattle.resolvo_queue.specs.Pick.Ready.{AreLocated, offered, place_of, rest_picked, scanned}
+use Rattle.resolvo_queue.specs.Rows.{Row}
+use Rattle.resolvo_queue.specs.Scan.Order.{first_from}
+use Rattle.resolvo_queue.specs.Pick.Behind.{behind}
+use Rattle.resolvo_queue.specs.Parts.Tracking.{BeginFirst, HasNoClause, IsFirstOf}
+use Rattle.resolvo_queue.specs.declared.offer.Candidate.{Candidate}
+use Rattle.resolvo_queue.specs.declared.offer.Frontier.{Frontier}
+use Rattle.resolvo_queue.specs.declared.group.Group.TheVariants.{OfParent}
+use Rattle.resolvo_queue.specs.declared.tracked_clause.Position.{Position}
+use Rattle.resolvo_queue.specs.declared.tracked_clause.TrackedClause.{TrackedClause}
+use Rattle.resolvo_queue.proofs.Picks.Unbeaten.{picks_started}
+use Rattle.resolvo_queue.proofs.Picks.NumberedScan.{first_is_own, scanned_at}
+use Rattle.resolvo_queue.proofs.Lists.{same_some}
+
+-- what is of a group, and in a set, is in the set
+pub of_both : (group : Group) (set : List Position) (p : Position) → has_of group set p ≡ true →
+    (is_in group p ≡ true) × (has set p ≡ true)
+of_both group set p e = go (is_in group p) (has set p) e
+  where
+    go : (a b : Bool) → (a && b) ≡ true → (a ≡ true) × (b ≡ true)
+    go true b h = (refl, h)
+    go false b h = cc
+
+-- what a clause of the group offers is its offer
+pub own_offer : (group : Group) (offers : TrackedClause → Option Offer) (c : TrackedClause) (p : Position) →
+    c.position ≡ p → is_in group p ≡ true →
+    offers_of group offers c ≡ offers c
+own_offer group offers c p at of = ap (λ b. cond b (offers c) None) (ap (is_in group) at ∙ of)
+
+-- the first that counts, kept if it is of the group, is the first of the group that counts
+pub only_least : (group : Group) (set : List Position) (Counts : Position → Type 0) (found : Option Position) →
+    IfSome found (λ f. (p : Position) → has set p ≡ true → Counts p → is_after f p ≡ false) →
+    IfSome (only_in group found) (λ f. (p : Position) → has_of group set p ≡ true → Counts p → is_after f p ≡ false)
+only_least group set Counts None least = tt
+only_least group set Counts (Some f) least = go (is_in group f)
+  where
+    go : (b : Bool) → IfSome (cond b (Some f) None) (λ x. (p : Position) → has_of group set p ≡ true → Counts p →
+        is_after x p ≡ false)
+    go true = λ p h c. least p (of_both group set p h).1 c
+    go false = tt
+
+-- ---- the root's clauses
+
+module _ (clauses : List TrackedClause) (located : AreLocated clauses) (by_parent : List (List ℕ))
+    (begin : BeginFirst clauses by_parent)
+    (offers : TrackedClause → Option Offer) (owned : (c : TrackedClause) →
+    IfSome (offers c) (λ o. o.clause.parent ≡ c.parent)) where
+  -- who begins as the root's first clause is one of the root's, and nobody else
+  begins_alike : (first : ℕ) → IsFirstOf clauses 0 first → (n : ℕ) (c : TrackedClause) → slice_get clauses n ≡ Some c →
+      is_in (OfParent first) c.position ≡ eqb c.parent 0
+  begins_alike first is n c e = go (eqb c.parent 0) refl
+    where
+      begins : c.position.first_of_parent ≡ first_from (λ (d : TrackedClause). d.parent) 0 clauses c.parent
+      begins = ap (λ (p : Position). p.first_of_parent) (located n c e)
+
+      go : (b : Bool) → eqb c.parent 0 ≡ b → eqb c.position.first_of_parent first ≡ b
+      go true h =
+          eq-eqb c.position.first_of_parent first (begins
+          ∙ (ap (first_from (λ (d : TrackedClause). d.parent) 0 clauses) (eqb-true c.parent 0 h) ∙ sym is.first))
+      go false h = no (eqb c.position.first_of_parent first) refl
+        where
+          no : (b : Bool) → eqb c.position.first_of_parent first ≡ b → b ≡ false
+          no false q = refl
+          no true q =
+              let same : c.position.first_of_parent ≡ first = eqb-true c.position.first_of_parent first q in
+              let own : is.clause.parent ≡ c.parent =
+              first_is_own (λ (d : TrackedClause). d.parent) 0 clauses n c e first is.clause
+              (let from : 0 + first ≡ first = omega arith in from ∙ (sym same ∙ begins)) is.at in
+              let bad : eqb c.parent 0 ≡ true = eq-eqb c.parent 0 (sym own ∙ is.own) in
+              cc
+
+  -- what the clauses of a group offer, where these are the root's
+  kept_of : (group : Group) (xs : List (ℕ × TrackedClause)) →
+      ((x : ℕ × TrackedClause) → Stands x xs → is_in group x.1.position ≡ eqb x.1.parent 0) →
+      filter_map (λ x. offers_of group offers x.1) xs ≡
+      filter is_of_root (filter_map (λ (x : ℕ × TrackedClause). offers x.1) xs)
+  kept_of group [] alike = refl
+  kept_of group (x ∷ xs) alike =
+      ap₂ cons_option (ap (λ b. cond b (offers x.1) None) (alike x here)) (kept_of group xs (λ y s. alike y (there s)))
+      ∙ one (offers x.1) (owned x.1) (filter_map (λ (y : ℕ × TrackedClause). offers y.1) xs)
+    where
+      one : (o : Option Offer) → IfSome o (λ f. f.clause.parent ≡ x.1.parent) → (es : List Offer) →
+          cons_option (cond (eqb x.1.parent 0) o None) (filter is_of_root es) ≡ filter is_of_root (cons_option o es)
+      one None own es = none (eqb x.1.parent 0)
+        where
+          none : (b : Bool) → cons_option (cond b None None) (filter is_of_root es) ≡ filter is_of_root es
+          none true = refl
+          none false = refl
+      one (Some f) own es = some (eqb x.1.parent 0) (ap (λ p. eqb p 0) own)
+        where
+          some : (b : Bool) → is_of_root f ≡ b → cons_option (cond b (Some f) None) (filter is_of_root es) ≡
+              cond (is_of_root f) (f ∷ filter is_of_root es) (filter is_of_root es)
+          some true h = sym (ap (λ b. cond b (f ∷ filter is_of_root es) (filter is_of_root es)) h)
+          some false h = sym (ap (λ b. cond b (f ∷ filter is_of_root es) (filter is_of_root es)) h)
+
+  item_at : (x : ℕ × TrackedClause) → Stands x (scanned clauses) → slice_get clauses x.0 ≡ Some x.1
+  item_at x s = scanned_at (λ (c : TrackedClause). c.parent) clauses x s
+
+  -- the root's clauses as a group
+  of_root : (o : Option ℕ) (group : Group) → slice_get (list_at by_parent 0) 0 ≡ o →
+      option_map OfParent o ≡ Some group →
+      offered clauses (offers_of group offers) ≡ filter is_of_root (offered clauses offers)
+  of_root None group e is = cc
+  of_root (Some first) group e is =
+      subst (λ g. offered clauses (offers_of g offers) ≡ filter is_of_root (offered clauses offers))
+      (same_some (OfParent first) group is)
+      (kept_of (OfParent first) (scanned clauses)
+      (λ x s. begins_alike first (subst (λ o. MatchOption o (HasNoClause clauses 0) (IsFirstOf clauses 0)) e (begin 0))
+      x.0 x.1 (item_at x s)))
+
+  -- nothing is of the root, where it has no clause
+  none_of_root : (xs : List (ℕ × TrackedClause)) → ((x : ℕ × TrackedClause) → Stands x xs → eqb x.1.parent 0 ≡ false) →
+      filter is_of_root (filter_map (λ (x : ℕ × TrackedClause). offers x.1) xs) ≡ []
+  none_of_root [] others = refl
+  none_of_root (x ∷ xs) others =
+      one (offers x.1) (filter_map (λ (y : ℕ × TrackedClause). offers y.1) xs) (owned x.1)
+      (none_of_root xs (λ y s. others y (there s)))
+    where
+      one : (o : Option Offer) (es : List Offer) → IfSome o (λ f. f.clause.parent ≡ x.1.parent) →
+          filter is_of_root es ≡ [] → filter is_of_root (cons_option o es) ≡ []
+      one None es own rest = rest
+      one (Some f) es own rest = ap (λ b. cond b (f ∷ filter is_of_root es) (filter is_of_root es))
+          (ap (λ p. eqb p 0) own ∙ others x here) ∙ rest
+
+  without_root : slice_get (list_at by_parent 0) 0 ≡ None → filter is_of_root (offered clauses offers) ≡ []
+  without_root e =
+      let none : HasNoClause clauses 0 =
+      subst (λ o. MatchOption o (HasNoClause clauses 0) (IsFirstOf clauses 0)) e (begin 0) in
+      none_of_root (scanned clauses) (λ x s. none x.0 x.1 (item_at x s))
+
+  -- the best of the root's, by what was found of its clauses as a group, or where it has none
+  pub best_of_group : (of : Option Group) (group : Group) →
+      of ≡ option_map OfParent (slice_get (list_at by_parent 0) 0) → of ≡ Some group →
+      best_offer (offered clauses (offers_of group offers)) ≡ best_offer (filter is_of_root (offered clauses offers))
+  best_of_group of group first is = ap best_offer
+      (of_root (slice_get (list_at by_parent 0) 0) group refl (sym first ∙ is))
+
+  -- the first of them as a candidate, of whose own group it is the first
+  pub first_of_group : (of : Option Group) (group : Group) →
+      of ≡ option_map OfParent (slice_get (list_at by_parent 0) 0) → of ≡ Some group →
+      (found : Result (Option Candidate) StoreError) →
+      IfOk found (λ o. MatchOption o (best_offer (offered clauses (offers_of group offers)) ≡ None)
+      (λ b. best_offer (offered clauses (offers_of group offers)) ≡
+      rest_picked clauses (offers_of group offers) b.offer b.position)) →
+      IfOk found (λ o. IfSome o (λ b. is_in group b.position ≡ true)) →
+      IfOk found (λ o. MatchOption o (best_offer (filter is_of_root (offered clauses offers)) ≡ None)
+      (λ b. best_offer (filter is_of_root (offered clauses offers)) ≡
+      rest_picked clauses (offers_of (group_at b.position) offers) b.offer b.position))
+  first_of_group of group first is (Err e) best own = tt
+  first_of_group of group first is (Ok None) best own = sym (best_of_group of group first is) ∙ best
+  first_of_group of group first is (Ok (Some b)) best own =
+      sym (best_of_group of group first is) ∙ (best
+      ∙ ap (λ at. rest_picked clauses (offers_of at offers) b.offer b.position)
+      (own_group (slice_get (list_at by_parent 0) 0) (sym first ∙ is)))
+    where
+      own_group : (o : Option ℕ) → option_map OfParent o ≡ Some group → group ≡ group_at b.position
+      own_group None e = cc
+      own_group (Some n) e = at n (same_some (OfParent n) group e)
+        where
+          at : (n : ℕ) → OfParent n ≡ group → group ≡ group_at b.position
+          at n h =
+              sym h ∙ ap OfParent (sym
+              (eqb-true b.position.first_of_parent n (subst (λ x. is_in x b.position ≡ true) (sym h) own)))
+
+  pub best_of_none : (of : Option Group) → of ≡ option_map OfParent (slice_get (list_at by_parent 0) 0) → of ≡ None →
+      best_offer (filter is_of_root (offered clauses offers)) ≡ None
+  best_of_none of first none = ap best_offer
+      (without_root (unmapped (slice_get (list_at by_parent 0) 0) (sym first ∙ none)))
+    where
+      unmapped : (o : Option ℕ) → option_map OfParent o ≡ None → o ≡ None
+      unmapped None e = refl
+      unmapped (Some n) e = cc
+
+-- what a clause offers is its own
+pub offers_own : (val : Values) (literals : TrackedClause → List Lit) (rows_of : Requirement → List Row)
+    (score : VersionSetId → ℕ) (c : TrackedClause) →
+    IfSome (offer_of val literals rows_of score c) (λ o. o.clause.parent ≡ c.parent)
+offers_own val literals rows_of score c = go (eligible_frontier val literals rows_of c)
+  where
+    go : (o : Option Frontier) → IfSome (option_map (offer_with score c) o) (λ f. f.clause.parent ≡ c.parent)
+    go None = tt
+    go (Some f) = refl
+
+-- what the clauses behind the root's first make of it is the pick, where it is the best of the root's
+pub picks_rest : (clauses : List TrackedClause) (offers own : TrackedClause → Option Offer) (b : Offer) (p : Position) →
+    best_offer (filter is_of_root (offered clauses offers)) ≡ rest_picked clauses own b p →
+    pick (offered clauses offers) ≡ rest_picked clauses own b p
+picks_rest clauses offers own b p =
+    picks_started (offered clauses offers) b
+    (filter_map (λ x. own x.1) (behind position_cmp (place_of clauses) (λ x. own x.1) p (scanned clauses)))

@@ -1,0 +1,35 @@
+-- The clauses that a question goes through at a time, by their positions.
+use Rattle.std.specs.Prelude.{Bool, true, ◌==◌, ◌&&◌, if◌then◌else◌, List, Option, None, Some}
+use Rattle.resolvo_queue.specs.Pick.{Offer}
+use Rattle.resolvo_queue.specs.Scan.Positions.{has}
+pub use Rattle.resolvo_queue.specs.declared.group.Group.{Group}
+use Rattle.resolvo_queue.specs.declared.group.Group.TheVariants.{OfParent, OfAllParents}
+use Rattle.resolvo_queue.specs.declared.tracked_clause.Position.{Position}
+use Rattle.resolvo_queue.specs.declared.tracked_clause.TrackedClause.{TrackedClause}
+
+-- a clause at the position is one of the group
+abbrev pub is_in : Group → Position → Bool
+is_in (OfParent first) p = p.first_of_parent == first
+is_in OfAllParents p = true
+
+-- the clauses of the parent whose clause is at the position
+abbrev pub group_at : Position → Group
+group_at p = OfParent p.first_of_parent
+
+-- no position of the group is before this one
+abbrev pub start_of : Group → Position
+start_of (OfParent first) = record { first_of_parent = first; number = 0 }
+start_of OfAllParents = record { first_of_parent = 0; number = 0 }
+
+-- the position, if it is of the group
+abbrev pub only_in : Group → Option Position → Option Position
+only_in group None = None
+only_in group (Some p) = if is_in group p then Some p else None
+
+-- the position is in the set, and of the group
+abbrev pub has_of : Group → List Position → Position → Bool
+has_of group set p = is_in group p && has set p
+
+-- what the clauses of the group offer, and nothing of the others
+abbrev pub offers_of : Group → (TrackedClause → Option Offer) → TrackedClause → Option Offer
+offers_of group offers c = if is_in group c.position then offers c else None

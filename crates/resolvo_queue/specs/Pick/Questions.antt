@@ -1,0 +1,29 @@
+-- What a question asks of the clauses, and of the scores.
+use Rattle.std.specs.Prelude.{◌≡◌, ℕ, ◌<◌, ◌≤◌, List, slice_get, length, Option, Some, IfSome}
+use Rattle.typed_ids.specs.declared.version_set_id.VersionSetId.{VersionSetId}
+use Rattle.decisions.specs.Literals.{Lit, Values}
+use Rattle.resolvo_queue.specs.Pick.Inspection.{offer_of}
+use Rattle.resolvo_queue.specs.Pick.{Offer}
+use Rattle.resolvo_queue.specs.References.{References, IsWalkable, literals_in, rows_in, score_in}
+use Rattle.resolvo_queue.specs.declared.tracked_clause.TrackedClause.{TrackedClause}
+
+-- no score is above this
+abbrev pub AreUpTo : ℕ → (VersionSetId → ℕ) → Type 0
+AreUpTo largest score = (set : VersionSetId) → score set ≤ largest
+
+module _ {N S A : Type 0} (refs : References N S A) where
+  -- the literals of a clause's condition
+  abbrev pub clause_literals : TrackedClause → List Lit
+  clause_literals c = literals_in refs c.condition
+
+  -- what a clause offers, by the scores of names
+  abbrev pub offers_in : Values → (N → ℕ) → TrackedClause → Option Offer
+  offers_in val scores = offer_of val clause_literals (rows_in refs) (score_in refs scores)
+
+  -- what the code needs to look at a clause
+  pub record IsAskable (c : TrackedClause) : Type 0 where
+    pub condition : IfSome c.condition (λ d. d < length refs.disjunctions)
+    pub walkable : IsWalkable refs.universe refs.lists c.requirement
+
+  abbrev pub AreAskable : List TrackedClause → Type 0
+  AreAskable clauses = (n : ℕ) (c : TrackedClause) → slice_get clauses n ≡ Some c → IsAskable c

@@ -1,0 +1,24 @@
+-- Positions, in the order of the scan.
+use Rattle.std.specs.Prelude.{◌≡◌, Bool, List}
+use Rattle.std.specs.List.{list_any}
+use Rattle.std.specs.Ordering.{nat_cmp, is_eq, is_gt, on, then_cmp}
+use Rattle.std.specs.declared.cmp.Ordering.{Ordering}
+use Rattle.std.specs.declared.cmp.Ordering.TheVariants.{Less}
+use Rattle.resolvo_queue.specs.declared.tracked_clause.Position.{Position}
+
+-- by the parents' first numbers, then by the clauses' own
+abbrev pub position_cmp : Position → Position → Ordering
+position_cmp = then_cmp (on (λ (p : Position). p.first_of_parent) nat_cmp) (on (λ p. p.number) nat_cmp)
+
+abbrev pub IsBefore : Position → Position → Type 0
+IsBefore p q = position_cmp p q ≡ Less
+
+abbrev pub is_after : Position → Position → Bool
+is_after p q = is_gt (position_cmp p q)
+
+abbrev pub same_position : Position → Position → Bool
+same_position p q = is_eq (position_cmp p q)
+
+-- the position is in the set
+abbrev pub has : List Position → Position → Bool
+has ps p = list_any (same_position p) ps
