@@ -82,11 +82,10 @@ ghost use Rattle.resolvo_queue.specs.Falsified.Witnesses.{AreCandidates, HaveEnt
 
 mod finding;
 
-use crate::asked::{Asked, Question};
+use crate::asked::Question;
 use crate::clauses_by_name::ClausesByName;
 use crate::condition::condition_of;
 use crate::deciding::next_offer;
-use crate::falsification::{falsified_clause, id_of};
 use crate::names::{copied, has_hot_name};
 use crate::offer::decision_at;
 use crate::parent_value::{ParentValue, is_true};
@@ -99,7 +98,7 @@ use clauses::Disjunction;
 use decisions::{Decision, DecisionMap};
 use id_maps::{IdSet, SolverId};
 use id_storage::Arena;
-use providers::{DependencyProvider, Requirement, RequirementMap};
+use providers::{DependencyProvider, Requirement};
 use std::alloc::Allocator;
 use std::marker::Model;
 use typed_ids::{ClauseId, DisjunctionId, StoreError, VariableId};
@@ -489,63 +488,5 @@ impl<D: DependencyProvider> DecideQueue<D> {
             interner: provider,
         };
         self.pick(reader, &question)
-    }
-
-    /// The first falsified clause of the scan, if there is one. Takes no memory; linear in all clauses, and in the rows
-    /// of those whose parents are true, of each up to the first row that isn't false.
-    pub fn falsified<'q>(
-        &self,
-        map: &'q DecisionMap<D::Alloc>,
-        lists: &'q RequirementMap<Vec<Vec<VariableId, D::Alloc>, D::Alloc>, D::Alloc>,
-        disjunctions: &'q Arena<DisjunctionId, Disjunction<D::Alloc>, D::Alloc>,
-        provider: &'q D,
-    ) -> Option<ClauseId>
-        requires stands { StandsOn (references (D.universe provider.now) lists.now disjunctions.now) self.now }
-        requires walkable { All (CanWalk (references (D.universe provider.now) lists.now disjunctions.now))
-            self.now.clauses }
-        ensures { let refs = references (D.universe provider.now) lists.now disjunctions.now in
-            result ≡ option_map (λ c. c.clause_id)
-            (first_falsified (values_in map.now) (literals_in refs) (rows_in refs) self.now.clauses) }
-    {
-        let asked = Asked {
-            map,
-            lists,
-            disjunctions,
-            interner: provider,
-        };
-        id_of(falsified_clause(self.tracked.index.clauses.as_slice(), &asked))
-    }
-
-    /// What [`DecideQueue::falsified`] answers. The trail's values are the map's, and the trail is that of the last
-    /// accepted sync below the floor. Takes no memory, and changes nothing; linear in what changed since the last
-    /// decision or the last accepted sync, in the clauses that this finds, and in their candidates up to the first that
-    /// isn't false; after a refused sync, and where long conditions find their clauses again and again, as `falsified`.
-    pub fn falsified_since<'q>(
-        &'q self,
-        floor: usize,
-        trail: &[Decision],
-        map: &'q DecisionMap<D::Alloc>,
-        lists: &'q RequirementMap<Vec<Vec<VariableId, D::Alloc>, D::Alloc>, D::Alloc>,
-        disjunctions: &'q Arena<DisjunctionId, Disjunction<D::Alloc>, D::Alloc>,
-        provider: &'q D,
-    ) -> Option<ClauseId>
-        requires values { SameValues (values_of trail.now) (values_in map.now) }
-        requires agrees { self.now.must_start_anew ≡ false → AgreesBelow floor trail.now self.now }
-        requires stands { StandsOn (references (D.universe provider.now) lists.now disjunctions.now) self.now }
-        requires walkable { All (CanWalk (references (D.universe provider.now) lists.now disjunctions.now))
-            self.now.clauses }
-        ensures { let refs = references (D.universe provider.now) lists.now disjunctions.now in
-            result ≡ option_map (λ c. c.clause_id)
-            (first_falsified (values_in map.now) (literals_in refs) (rows_in refs) self.now.clauses) }
-    {
-        let asked = Asked {
-            map,
-            lists,
-            disjunctions,
-            interner: provider,
-        };
-        // What is true of each queue is true of this one: a look at a field tells it.
-        let _tracked = &self.tracked;
-        id_of(self.first_falsified(None, floor, trail, asked))
     }
 }

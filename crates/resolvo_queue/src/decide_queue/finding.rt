@@ -1,4 +1,4 @@
-//! Finding the first falsified clause by what changed, and remembering it.
+//! The first falsified clause: by a look at all clauses, or by what changed; and remembering it.
 ghost use Rattle.std.specs.Prelude.{◌≡◌, IfSome, List, All, false, option_map, take};
 ghost use Rattle.typed_ids.specs.TotalMaps.{SameValues};
 ghost use Rattle.decisions.specs.Decisions.{values_in};
@@ -11,7 +11,7 @@ ghost use Rattle.resolvo_queue.specs.Scan.{first_falsified};
 
 use crate::asked::Asked;
 use crate::decide_queue::DecideQueue;
-use crate::falsification::id_of;
+use crate::falsification::{falsified_clause, id_of};
 use crate::last_falsified::{LastFalsified, cut_last, remembered};
 use crate::looking::Look;
 use crate::tracked_clause::TrackedClause;
@@ -22,6 +22,64 @@ use providers::{DependencyProvider, RequirementMap};
 use typed_ids::{ClauseId, DisjunctionId, VariableId};
 
 impl<D: DependencyProvider> DecideQueue<D> {
+    /// The first falsified clause of the scan, if there is one. Takes no memory; linear in all clauses, and in the rows
+    /// of those whose parents are true, of each up to the first row that isn't false.
+    pub fn falsified<'q>(
+        &self,
+        map: &'q DecisionMap<D::Alloc>,
+        lists: &'q RequirementMap<Vec<Vec<VariableId, D::Alloc>, D::Alloc>, D::Alloc>,
+        disjunctions: &'q Arena<DisjunctionId, Disjunction<D::Alloc>, D::Alloc>,
+        provider: &'q D,
+    ) -> Option<ClauseId>
+        requires stands { StandsOn (references (D.universe provider.now) lists.now disjunctions.now) self.now }
+        requires walkable { All (CanWalk (references (D.universe provider.now) lists.now disjunctions.now))
+            self.now.clauses }
+        ensures { let refs = references (D.universe provider.now) lists.now disjunctions.now in
+            result ≡ option_map (λ c. c.clause_id)
+            (first_falsified (values_in map.now) (literals_in refs) (rows_in refs) self.now.clauses) }
+    {
+        let asked = Asked {
+            map,
+            lists,
+            disjunctions,
+            interner: provider,
+        };
+        id_of(falsified_clause(self.tracked.index.clauses.as_slice(), &asked))
+    }
+
+    /// What [`DecideQueue::falsified`] answers. The trail's values are the map's, and the trail is that of the last
+    /// accepted sync below the floor. Takes no memory, and changes nothing; linear in what changed since the last
+    /// decision or the last accepted sync, in the clauses that this finds, and in their candidates up to the first that
+    /// isn't false; after a refused sync, and where long conditions find their clauses again and again, as `falsified`.
+    pub fn falsified_since<'q>(
+        &'q self,
+        floor: usize,
+        trail: &[Decision],
+        map: &'q DecisionMap<D::Alloc>,
+        lists: &'q RequirementMap<Vec<Vec<VariableId, D::Alloc>, D::Alloc>, D::Alloc>,
+        disjunctions: &'q Arena<DisjunctionId, Disjunction<D::Alloc>, D::Alloc>,
+        provider: &'q D,
+    ) -> Option<ClauseId>
+        requires values { SameValues (values_of trail.now) (values_in map.now) }
+        requires agrees { self.now.must_start_anew ≡ false → AgreesBelow floor trail.now self.now }
+        requires stands { StandsOn (references (D.universe provider.now) lists.now disjunctions.now) self.now }
+        requires walkable { All (CanWalk (references (D.universe provider.now) lists.now disjunctions.now))
+            self.now.clauses }
+        ensures { let refs = references (D.universe provider.now) lists.now disjunctions.now in
+            result ≡ option_map (λ c. c.clause_id)
+            (first_falsified (values_in map.now) (literals_in refs) (rows_in refs) self.now.clauses) }
+    {
+        let asked = Asked {
+            map,
+            lists,
+            disjunctions,
+            interner: provider,
+        };
+        // What is true of each queue is true of this one: a look at a field tells it.
+        let _tracked = &self.tracked;
+        id_of(self.first_falsified(None, floor, trail, asked))
+    }
+
     /// What [`DecideQueue::falsified_since`] answers. It is remembered: while that clause is falsified, the next call
     /// looks only at the clauses that came since a decision was last asked for, and at those that a decision is of
     /// which wasn't in the trail then, or was taken back since: as their parent, in their condition or in a row.
@@ -70,7 +128,7 @@ impl<D: DependencyProvider> DecideQueue<D> {
     }
 
     /// The first falsified clause of the scan, by the one that was answered last if that is falsified still.
-    pub(super) fn first_falsified(
+    fn first_falsified(
         &self,
         last: Option<LastFalsified>,
         floor: usize,
