@@ -162,6 +162,23 @@ impl<A: Allocator + Copy> DecisionTracker<A> {
         }
     }
 
+    /// Makes a decision about a variable without a value: what [`DecisionTracker::try_add_decision`] does of one, without
+    /// a look at its value.
+    pub fn push(&mut self, decision: Decision, level: u32) -> Result<(), StoreError>
+        requires level { (1 ≤ level) × (level < 2 ^ 31) }
+        requires undecided { val self.old.entries decision.variable ≡ None }
+        ensures ok { OnOk result
+            (self.new ≡ pushed self.old (record { decision = decision; level = level })) }
+        ensures err { OnErr result (self.new ≡ self.old) }
+        ensures memory { IfErr result (λ e. e ≡ OutOfMemory) }
+    {
+        // The room on the stack comes first, so that a refusal changes nothing.
+        self.stack.reserve(1)?;
+        self.map.set(decision.variable, decision.value, level)?;
+        self.stack.push_reserved(decision);
+        Ok(())
+    }
+
     /// Takes back the newest decision, of which there must be one: [`DecisionTracker::assignments`] has it last.
     /// Answers the decision, and the level of the one that is the newest then, 0 if none is left. Takes no memory, and
     /// constant time.
@@ -241,21 +258,5 @@ impl<A: Allocator + Copy> DecisionTracker<A> {
             self.propagate_index = self.propagate_index.min(len);
             self.sync_floor = self.sync_floor.min(len);
         }
-    }
-
-    /// Makes a decision about a variable without a value. The room on the stack comes first, so that a refusal changes
-    /// nothing.
-    fn push(&mut self, decision: Decision, level: u32) -> Result<(), StoreError>
-        requires level { (1 ≤ level) × (level < 2 ^ 31) }
-        requires undecided { val self.old.entries decision.variable ≡ None }
-        ensures ok { OnOk result
-            (self.new ≡ pushed self.old (record { decision = decision; level = level })) }
-        ensures err { OnErr result (self.new ≡ self.old) }
-        ensures memory { IfErr result (λ e. e ≡ OutOfMemory) }
-    {
-        self.stack.reserve(1)?;
-        self.map.set(decision.variable, decision.value, level)?;
-        self.stack.push_reserved(decision);
-        Ok(())
     }
 }
