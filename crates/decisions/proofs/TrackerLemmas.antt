@@ -1,5 +1,5 @@
 -- What a tracker's fields show after a decision is added or taken back.
-use Rattle.std.specs.Prelude.{◌≡◌, ◌≢◌, ℕ, ◌-◌, ◌≤◌, min, ◌==◌, if◌then◌else◌, Bool, true, false, refl}
+use Rattle.std.specs.Prelude.{◌≡◌, ◌≢◌, ℕ, ◌-◌, ◌≤◌, ◌==◌, if◌then◌else◌, Bool, true, false, refl}
 use Rattle.std.specs.Prelude.{List, [], ◌∷◌, ◌++◌, map, length, take, Option, Some, None, option_map}
 use Rattle.std.specs.List.{find}
 use Rattle.std.specs.Option.{option_map_or}
@@ -9,10 +9,10 @@ use Rattle.std.proofs.lemmas.List.{map-append, length-map}
 use Rattle.typed_ids.specs.TotalMaps.{IsUpdate}
 use Rattle.decisions.specs.Decisions.{decision_in, values_in, level_in}
 use Rattle.decisions.specs.Tracker.{entries_of, IsTracked}
-use Rattle.decisions.specs.Trail.{Entry, Trail, val, level_of, clause_of, HasLevel, IsTrail, IsWithin, undo_last}
+use Rattle.decisions.specs.Trail.{Entry, Trail, val, level_of, clause_of, HasLevel, IsTrail, IsWithin}
 use Rattle.decisions.specs.declared.decision.Decision.{Decision}
 use Rattle.decisions.proofs.TrailLemmas.{none_by_variable, val-push, take-push}
-use Rattle.decisions.proofs.TrailLemmas.{IsOnce-pop, IsTrail-push, IsTrail-pop, same_trail}
+use Rattle.decisions.proofs.TrailLemmas.{IsOnce-pop, IsTrail-push, IsTrail-pop}
 
 -- what a decision map holds
 abbrev MapItems : Type 0
@@ -141,14 +141,6 @@ module _ (old new : MapItems) (ds : List Decision) (d : Decision)
   -- the trail is what it was, without the newest entry
   pub entries_of-pop : entries_of new ds ≡ take (length (entries_of old (ds ++ d ∷ [])) - 1) (entries_of old (ds ++ d ∷ []))
   entries_of-pop = rw (split, take-push (entries_of old ds) (entry old d)) unchanged
-
-  -- with the place and the floor it is what it was, without that entry
-  pub undo_last-trail_of : (place floor p f : ℕ) → p ≡ min place (length ds) → f ≡ min floor (length ds)
-      → trail_of new ds p f ≡ undo_last (trail_of old (ds ++ d ∷ []) place floor)
-  undo_last-trail_of place floor p f is_place is_floor =
-      let left = ap length entries_of-pop in
-      let count = length-entries_of new ds in
-      same_trail entries_of-pop (omega (arith, left, count)) (omega (arith, left, count))
 
   -- the values without it
   values-pop : (x : ℕ) (b : Bool) → (d.variable == x) ≡ b → values_in new x ≡ val (entries_of old ds) x

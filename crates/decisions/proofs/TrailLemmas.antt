@@ -1,8 +1,7 @@
 -- What a trail is with an entry added or taken back.
 use Rattle.std.specs.Prelude.{◌≡◌, ◌≢◌, ℕ, ◌<◌, ◌≤◌, ◌-◌, ◌==◌, nat_lt, if◌then◌else◌}
 use Rattle.std.specs.Prelude.{Bool, true, false, refl, List, [], ◌∷◌, ◌++◌, length, take, slice_get, All, Option, Some, None}
-use Rattle.std.specs.List.{list_all}
-use Rattle.std.proofs.Common.{arith, ap, sym, ◌∙◌, length-append, get_or, ◌⊎◌, inl, inr}
+use Rattle.std.proofs.Common.{arith, ap, sym, length-append, get_or, ◌⊎◌, inl, inr}
 use Rattle.std.proofs.Math.Bool.{and-true, and-false}
 use Rattle.std.proofs.Math.Seq.{take-append_seam, get_or-append_seam}
 use Rattle.std.proofs.lemmas.List.Elements.{All-push, All-take}
@@ -10,7 +9,7 @@ use Rattle.std.proofs.lemmas.Bool.{eqb-false, lt-ltb, le-ltb}
 use Rattle.std.proofs.lemmas.List.Folds.{list_all-append}
 use Rattle.std.proofs.lemmas.Bool.Decides.{nat_tests}
 use Rattle.decisions.specs.Trail.{Entry, Trail, val, top_level, kept_until, IsOnce, HasLevel, IsTrail, IsWithin}
-use Rattle.decisions.specs.Trail.{empty_trail, cut_to, undo_last, undo_until}
+use Rattle.decisions.specs.Trail.{empty_trail}
 
 -- a test that gives no value failed
 none_by_test : {X : Type 0} (b : Bool) (y : X) (o : Option X) → (if b then Some y else o) ≡ None
@@ -109,7 +108,7 @@ newest_or_none (f ∷ es) = elim (newest_or_none es) [
 ]
 
 -- a trail whose top is above the level keeps what it keeps without the newest entry
-undo_step : (l : ℕ) (es : List Entry) → l < top_level es
+pub undo_step : (l : ℕ) (es : List Entry) → l < top_level es
     → (kept_until l (take (length es - 1) es) ≡ kept_until l es) × (length (take (length es - 1) es) < length es)
 undo_step l es above = elim (newest_or_none es) [
   | inl none ↦ absurd (omega (arith, ap top_level none))
@@ -122,7 +121,7 @@ undo_step l es above = elim (newest_or_none es) [
 ]
 
 -- a trail whose top isn't above the level is kept
-undo_done : (l : ℕ) (es : List Entry) → top_level es ≤ l → kept_until l es ≡ es
+pub undo_done : (l : ℕ) (es : List Entry) → top_level es ≤ l → kept_until l es ≡ es
 undo_done l es within = elim (newest_or_none es) [
   | inl none ↦ rw none refl
   | inr some ↦
@@ -147,17 +146,6 @@ top_level-positive es all some = elim (newest_or_none es) [
       omega (arith, ap (λ (f : Entry). f.level) read, ap top_level is, top_level-push front e)
 ]
 
--- no more entries are kept than there were
-kept_by_test : (b : Bool) (e : Entry) (kept es : List Entry) → length kept ≤ length es
-    → length (if b then [] else e ∷ kept) ≤ length (e ∷ es)
-kept_by_test true e kept es h = omega arith
-kept_by_test false e kept es h = omega arith
-
-length-kept_until : (l : ℕ) (es : List Entry) → length (kept_until l es) ≤ length es
-length-kept_until l [] = omega arith
-length-kept_until l (e ∷ es) =
-    kept_by_test (list_all (λ x. nat_lt l x.level) (e ∷ es)) e (kept_until l es) es (length-kept_until l es)
-
 -- ---- the place and the floor
 
 -- a trail by its parts
@@ -168,15 +156,6 @@ trail es place floor = record { entries = es; place = place; floor = floor }
 pub same_trail : {es fs : List Entry} {p q m n : ℕ} → es ≡ fs → p ≡ q → m ≡ n → trail es p m ≡ trail fs q n
 same_trail entries place floor = cc
 
--- a trail that is cut twice is cut to the fewer entries
-cut_to-cut_to : (t : Trail) (more fewer : List Entry) → length fewer ≤ length more
-    → cut_to (cut_to t more) fewer ≡ cut_to t fewer
-cut_to-cut_to t more fewer h = same_trail refl (omega arith) (omega arith)
-
--- a trail that is cut to all its entries stays
-cut_to-all : (t : Trail) → IsWithin t → cut_to t t.entries ≡ t
-cut_to-all t within = same_trail refl (omega arith) (omega arith)
-
 -- a list of length 0 is empty
 none_at_zero : (es : List Entry) → length es ≡ 0 → es ≡ []
 none_at_zero [] h = refl
@@ -185,16 +164,3 @@ none_at_zero (e ∷ es) h = absurd (omega (arith, h))
 -- a trail without entries is the empty one
 pub empty_at_zero : (t : Trail) → IsWithin t → length t.entries ≡ 0 → t ≡ empty_trail
 empty_at_zero t within h = same_trail (none_at_zero t.entries h) (omega arith) (omega arith)
-
--- to take back the newest entry first, if its level is above, changes nothing of what is left
-pub undo_until-step : (l : ℕ) (t : Trail) → l < top_level t.entries
-    → (undo_until l (undo_last t) ≡ undo_until l t) × (length (undo_last t).entries < length t.entries)
-undo_until-step l t above =
-    let step = undo_step l t.entries above in
-    let rest : List Entry = take (length t.entries - 1) t.entries in
-    let cut = cut_to-cut_to t rest (kept_until l rest) (length-kept_until l rest) in
-    (cut ∙ ap (λ kept. cut_to t kept) step.0, step.1)
-
--- a trail whose top isn't above the level stays
-pub undo_until-done : (l : ℕ) (t : Trail) → IsWithin t → top_level t.entries ≤ l → undo_until l t ≡ t
-undo_until-done l t is within = ap (λ kept. cut_to t kept) (undo_done l t.entries within) ∙ cut_to-all t is

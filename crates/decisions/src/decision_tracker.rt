@@ -14,10 +14,12 @@
 //! `undo_until`, `propagated` and `floor_taken` are what the other calls leave. Every trail keeps to `IsTrail`: each
 //! variable at most once, and levels from 1 to below 2^31; and to `IsWithin`: neither number is above that of the
 //! entries.
-ghost use Rattle.std.specs.Prelude.{◌≡◌, ◌<◌, ◌≤◌, ◌^◌, ◌↔◌, Some, None, length, map, option_map};
+ghost use Rattle.std.specs.Prelude.{◌≡◌, ◌<◌, ◌≤◌, ◌^◌, ◌↔◌, ◌-◌, Some, None, length, take, map, option_map};
 ghost use Rattle.std.specs.Prelude.{IsTrue, OnOk, OnErr, IfErr};
 ghost use Rattle.typed_ids.specs.declared.error.StoreError.TheVariants.{OutOfMemory};
 ghost use Rattle.decisions.specs.Decisions.{values_in, level_in};
+ghost use Rattle.decisions.specs.Tracker.{entries_of, IsTracked};
+ghost use Rattle.decisions.specs.Trail.{top_level, kept_until};
 
 use crate::decision::Decision;
 use crate::decision_map::DecisionMap;
@@ -199,9 +201,10 @@ impl<A: Allocator + Copy> DecisionTracker<A> {
         ensures kept { self.new ≡ undo_until level self.old }
         ensures cleared { level ≡ 0 → self.new ≡ empty_trail }
     {
-        while self.top_level() > level {
-            self.drop_newest();
-        }
+        drop_above(&mut self.map, &mut self.stack, level);
+        let left = self.stack.len();
+        self.propagate_index = self.propagate_index.min(left);
+        self.sync_floor = self.sync_floor.min(left);
     }
 
     /// The oldest decision that the search hasn't propagated yet, which counts as propagated from now on; none if it
@@ -238,25 +241,56 @@ impl<A: Allocator + Copy> DecisionTracker<A> {
 
     /// The level of the newest decision, 0 if there is none.
     fn top_level(&self) -> u32
-        ensures value { result ≡ top_level self.now.entries }
-        ensures positive { 0 < length self.now.entries → 1 ≤ top_level self.now.entries }
-        ensures within { IsWithin self.now }
+        ensures { result ≡ top_level self.now.entries }
     {
-        match self.stack.last() {
-            Some(decision) => self.map.level(decision.variable),
-            None => 0,
-        }
+        top_level(&self.map, &self.stack)
     }
 
     /// Takes back the newest decision, if there is one.
     fn drop_newest(&mut self)
         ensures { self.new ≡ undo_last self.old }
     {
-        if let Some(decision) = self.stack.pop() {
-            self.map.reset(decision.variable);
-            let len = self.stack.len();
-            self.propagate_index = self.propagate_index.min(len);
-            self.sync_floor = self.sync_floor.min(len);
-        }
+        drop_newest(&mut self.map, &mut self.stack);
+        let len = self.stack.len();
+        self.propagate_index = self.propagate_index.min(len);
+        self.sync_floor = self.sync_floor.min(len);
+    }
+}
+
+/// Takes back the newest decisions while they are above this level.
+fn drop_above<A: Allocator + Copy>(
+    map: &mut DecisionMap<A>,
+    stack: &mut Vec<Decision, A>,
+    level: u32,
+)
+    requires tracked { IsTracked map.old stack.old.items }
+    ensures tracked { IsTracked map.new stack.new.items }
+    ensures kept { entries_of map.new stack.new.items ≡ kept_until level (entries_of map.old stack.old.items) }
+    ensures within { top_level (entries_of map.new stack.new.items) ≤ level }
+{
+    while top_level(map, stack) > level {
+        drop_newest(map, stack);
+    }
+}
+
+/// The level of the newest decision, 0 if there is none.
+fn top_level<A: Allocator + Copy>(map: &DecisionMap<A>, stack: &[Decision]) -> u32
+    ensures { result ≡ top_level (entries_of map.now stack.now) }
+{
+    match stack.last() {
+        Some(decision) => map.level(decision.variable),
+        None => 0,
+    }
+}
+
+/// Takes back the newest decision, if there is one.
+fn drop_newest<A: Allocator + Copy>(map: &mut DecisionMap<A>, stack: &mut Vec<Decision, A>)
+    requires tracked { IsTracked map.old stack.old.items }
+    ensures tracked { IsTracked map.new stack.new.items }
+    ensures entries { entries_of map.new stack.new.items
+        ≡ take (length stack.old.items - 1) (entries_of map.old stack.old.items) }
+{
+    if let Some(decision) = stack.pop() {
+        map.reset(decision.variable);
     }
 }
