@@ -10,7 +10,7 @@ ghost use Rattle.clauses.specs.Stored.{kept_in, lists_found};
 ghost use Rattle.clauses.specs.Walks.{IsFirstTrue, literals_in};
 
 use crate::disjunction::Disjunction;
-use crate::literal_walk::{LiteralWalk, negative, positive};
+use crate::literal_walk::{LiteralWalk, find_among, negative, positive};
 use decisions::Literal;
 use id_storage::Arena;
 use providers::{Requirement, RequirementMap};
@@ -98,7 +98,11 @@ impl<N> Clause<N> {
         ensures tested { (passes : Lit → Bool) → ((l : Lit) (b : Bool) → F.post test l b → b ≡ passes l) →
             result ≡ find passes (literals_of (kept_in learnt.now lists.now disjunctions.now) self.now) }
     {
-        self.walk(learnt, lists, disjunctions).find(test)
+        match self {
+            // Each of its literals is kept: it is no use to look at the other places.
+            Clause::Learnt(_) => find_among(self.stored_literals(learnt, disjunctions), test),
+            _ => self.walk(learnt, lists, disjunctions).find(test),
+        }
     }
 
     /// Where the clause's literals are.

@@ -83,6 +83,16 @@ pub fn negative(variable: VariableId) -> Literal
     Literal::new(variable, true)
 }
 
+/// The first of these literals that passes the test.
+pub(crate) fn find_among<F: Fn(Literal) -> bool>(literals: &[Literal], test: F) -> Option<Literal>
+    requires { F.IsAlwaysCallable test }
+    ensures first { IsFirstTrue (λ l b. F.post test l b) literals.now result }
+    ensures tested { (passes : Lit → Bool) → ((l : Lit) (b : Bool) → F.post test l b → b ≡ passes l) →
+        result ≡ find passes literals.now }
+{
+    find_kept(literals, &test)
+}
+
 fn find_own<F: Fn(Literal) -> bool>(literal: Option<Literal>, test: &F) -> Option<Literal>
     requires { F.IsAlwaysCallable test.now }
     ensures { IsFirstTrue (λ l b. F.post test.now l b) (option_to_list literal) result }
