@@ -1,5 +1,5 @@
 -- Calls of a device, one after the other.
-use Rattle.std.proofs.Common.{◌≡◌, ℕ, zero, suc, ◌+◌, ◌-◌, ◌<◌, ◌≤◌, Result, Ok, Err, List, ◌++◌, take, drop}
+use Rattle.std.proofs.Common.{◌≡◌, ℕ, zero, suc, ◌+◌, ◌-◌, ◌<◌, ◌≤◌, Err, List, ◌++◌, take, drop}
 use Rattle.std.proofs.Common.{length, arith, sym, ap, subst, inl, inr, ◌∙◌, add-one, append_assoc, take-append-drop}
 use Rattle.std.proofs.lemmas.List.{take_rest}
 use Rattle.script_text.specs.declared.fault.ScriptFault.{ScriptFault}

@@ -16,6 +16,7 @@ pub(crate) struct FirstLine<'a> {
 
 /// The first line of a text. Up to the first byte that isn't printed it is looked at once, and mostly that byte ends
 /// it.
+#[inline(always)]
 pub(crate) fn first_line(text: &[u8]) -> FirstLine<'_>
     requires { 0 < length text.now }
     ensures first { lines text.now ≡ result.line.now ∷ lines result.rest.now }
@@ -34,6 +35,7 @@ pub(crate) fn first_line(text: &[u8]) -> FirstLine<'_>
 }
 
 /// What is after a line's end, where the text begins with one.
+#[inline(always)]
 fn after_end(text: &[u8]) -> Option<&[u8]>
     ensures { IfSome result (λ rest. (text.now ≡ 10 ∷ rest.now) ⊎ (text.now ≡ 13 ∷ 10 ∷ rest.now)) }
 {
@@ -45,6 +47,7 @@ fn after_end(text: &[u8]) -> Option<&[u8]>
 }
 
 /// The first line of a text, if it isn't printed, or ends with the text.
+#[inline(never)]
 fn other_line(text: &[u8]) -> FirstLine<'_>
     requires { 0 < length text.now }
     ensures first { lines text.now ≡ result.line.now ∷ lines result.rest.now }

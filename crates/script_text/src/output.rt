@@ -13,6 +13,7 @@ use std::io::ErrorKind;
 const PIECE: usize = 65536;
 
 /// Writes what waits, once that is much.
+#[inline(always)]
 pub fn write_much<W: Sink>(waiting: &mut Vec<u8>, writer: &mut W) -> Result<(), ScriptFault>
     ensures ok { OnOk result
         (Writes (W.contents writer.old) waiting.old.items (W.contents writer.new) waiting.new.items []) }
@@ -29,6 +30,7 @@ pub fn write_much<W: Sink>(waiting: &mut Vec<u8>, writer: &mut W) -> Result<(), 
 }
 
 /// Writes what waits.
+#[inline(never)]
 fn write_waiting<W: Sink>(waiting: &mut Vec<u8>, writer: &mut W) -> Result<(), ScriptFault>
     ensures ok { OnOk result
         (Writes (W.contents writer.old) waiting.old.items (W.contents writer.new) waiting.new.items []) }

@@ -11,6 +11,7 @@ const TILDE: u8 = b'~' - b' ';
 
 /// How many bytes of ASCII's printed characters and blanks a text begins with. Sixteen bytes are looked at in one step,
 /// and the last ones, where there are no sixteen, one by one.
+#[inline(always)]
 pub(crate) fn printed_length(text: &[u8]) -> usize
     ensures { result ≡ prefix_len is_printed text.now }
 {

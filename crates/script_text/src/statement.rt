@@ -27,6 +27,7 @@ pub struct Statement<'a> {
 
 /// What the first line of a text says, and what is after the line; none where no line is left. A printed line is looked
 /// at once for its end, and a second time for its words only if it says something.
+#[inline(always)]
 pub fn next_statement(text: &[u8]) -> Option<(Line<Statement<'_>>, &[u8])>
     ensures first { MatchOption result (lines text.now ≡ []) (λ r. FirstMeans (lines text.now) r.0 (lines r.1.now)) }
     ensures printed { IfSome result (λ r. IsRestPrinted r.0) }
@@ -40,6 +41,7 @@ pub fn next_statement(text: &[u8]) -> Option<(Line<Statement<'_>>, &[u8])>
 }
 
 /// The line as a statement, where it is known whether the line is printed.
+#[inline(always)]
 fn meaning(line: &[u8], all_printed: bool) -> Line<Statement<'_>>
     requires { all_printed ≡ list_all is_printed line.now }
     ensures means { MeansWords line.now result }

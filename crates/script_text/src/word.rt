@@ -8,6 +8,7 @@ ghost use Rattle.script_text.specs.Words.{words, words_from, begun_word, ArePrin
 use std::str;
 
 /// The first word of a line, and what is after it; none where no word is left.
+#[inline(always)]
 pub fn next_word(line: &[u8]) -> Option<(&[u8], &[u8])>
     ensures first { MatchOption result (words line.now ≡ []) (λ r. words line.now ≡ r.0.now ∷ words r.1.now) }
     ensures shorter { MatchOption result (words line.now ≡ []) (λ r. length r.1.now < length line.now) }
@@ -20,14 +21,24 @@ pub fn next_word(line: &[u8]) -> Option<(&[u8], &[u8])>
     Some(split_word(text))
 }
 
-/// Whether a word reads so.
+/// Whether a word reads so. Where the text is fixed, its bytes are compared one by one with no call.
+#[inline(always)]
 pub fn is_word(word: &[u8], text: &[u8]) -> bool
     ensures { result ≡ bytes_eq word.now text.now }
 {
-    word == text
+    if word.len() != text.len() {
+        return false;
+    }
+    for (i, byte) in text.iter().enumerate() {
+        if word[i] != *byte {
+            return false;
+        }
+    }
+    true
 }
 
 /// A line from its first word on.
+#[inline(always)]
 fn without_blanks(line: &[u8]) -> &[u8]
     ensures words { words result.now ≡ words line.now }
     ensures begins { IfSome (slice_get result.now 0) (λ b. b ≢ 32) }
@@ -42,6 +53,7 @@ fn without_blanks(line: &[u8]) -> &[u8]
 }
 
 /// The bytes up to the first blank or the end, and those from there on.
+#[inline(always)]
 #[tactic(auto, using(crate::proofs::Printing::printed_parts))]
 fn split_word(text: &[u8]) -> (&[u8], &[u8])
     requires some { 0 < length text.now }

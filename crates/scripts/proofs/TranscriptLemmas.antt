@@ -31,18 +31,18 @@ refused_begins now new (Says c) w w' after h = tt
 unreadable_lacks_nothing : (number : ℕ) → fault_at number OfLine.Unreadable ≡ OfScript.Memory → ⊥
 unreadable_lacks_nothing number h = cc
 
-module _ {N S : Type 0} (A T : Type 0) (read : List ℕ → List (List ℕ) → Option (Command N S)) (st : Store N S) (fault : LineFault) (text : List ℕ) where
-  unread : (f : LineFault) (given : Option (Command N S)) → IsRead {A = A} given (Err f) → ObeysLine {T = T} st (says read given) text (Err f) text st
+module _ {N S : Type 0} (A T : Type 0) (read : List ℕ → List (List ℕ) → Option (Command N S)) (st : Store N S) (text : List ℕ) where
+  -- words that weren't read as a command are obeyed so
+  pub unread : (f : LineFault) (given : Option (Command N S)) → IsRead {A = A} given (Err f) → ObeysLine {T = T} st (says read given) text (Err f) text st
   unread OfLine.Unreadable None h = (refl, refl)
   unread OfLine.Unreadable (Some c) h = cc
   unread OfLine.Memory None h = let no : false ≡ true = h in cc
   unread OfLine.Memory (Some c) h = inl refl
 
-  -- a line that wasn't read as a command is obeyed so
-  pub obeys_unread : (said : Line Statement) (s : Statement) → said ≡ Says s → IsRead {A = A} (read s.keyword.now (words s.rest.now)) (Err fault)
-      → ObeysLine {T = T} st (statement_says read said) text (Err fault) text st
-  obeys_unread said s is h =
-      subst (λ l. ObeysLine {T = T} st (statement_says read l) text (Err fault) text st) (sym is) (unread fault (read s.keyword.now (words s.rest.now)) h)
+  -- a line is obeyed as the words that it says
+  pub obeys_said : (r : Result T LineFault) (text' : List ℕ) (new : Store N S) (said : Line Statement) (s : Statement) → said ≡ Says s
+      → ObeysLine st (says read (read s.keyword.now (words s.rest.now))) text r text' new → ObeysLine st (statement_says read said) text r text' new
+  obeys_said r text' new said s is h = subst (λ l. ObeysLine st (statement_says read l) text r text' new) (sym is) h
 
 module _ {N S : Type 0} (ids : Ids N S) where
   -- lines were obeyed so far, with this text: however some lines go on from the store of now, so they do after those

@@ -385,6 +385,7 @@ fn saturate<N, S, A: Allocator>(text: &[u8]) -> Option<Command<N, S, A>>
 }
 
 /// `true` or `false`
+#[inline(always)]
 fn truth(word: &[u8]) -> Option<bool>
     ensures { result ≡ truth_of word.now }
 {

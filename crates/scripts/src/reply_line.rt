@@ -3,8 +3,8 @@
 
 ghost use Rattle.std.specs.Prelude.{◌++◌, codes, decimal, map, flat_map};
 ghost use Rattle.resolvo_store.specs.Command.{reply_of};
-ghost use Rattle.resolvo_store.specs.ReplyTexts.{field, reply_words, list_text, others_text, lists_text, conflict_text};
-ghost use Rattle.resolvo_store.specs.ReplyTexts.{tracked_text, decision_text, undone_text, next_text, assignment_text};
+ghost use Rattle.resolvo_store.specs.ReplyTexts.{field, list_text, others_text, lists_text, conflict_text};
+ghost use Rattle.resolvo_store.specs.ReplyTexts.{tracked_text, decision_text, undone_text, next_text};
 ghost use Rattle.resolvo_store.specs.ReplyTexts.{truth_text, words_text};
 ghost use Rattle.scripts.specs.Replies.{Pushes, reply_text, unreadable_text};
 
@@ -19,33 +19,39 @@ use typed_ids::{ClauseId, DenseIndex, VariableId};
 pub fn push_reply<A: Allocator>(text: &mut Vec<u8>, reply: &Reply<A>) -> Result<(), AllocError>
     ensures { Pushes result text.old.items text.new.items (reply_text (reply_of reply.now)) }
 {
-    push_words(text, reply)?;
-    text.extend_from_slice(b"\n")
-}
-
-fn push_words<A: Allocator>(text: &mut Vec<u8>, reply: &Reply<A>) -> Result<(), AllocError>
-    ensures { Pushes result text.old.items text.new.items (reply_words (reply_of reply.now)) }
-{
     match reply {
-        Reply::Variable(variable) => push_field(text, b"variable ", variable.to_index()),
-        Reply::Loaded(lists) => push_lists(text, lists),
-        Reply::Disjunction(disjunction) => {
-            push_field(text, b"disjunction ", disjunction.to_index())
-        }
+        Reply::Assigned => text.extend_from_slice(b"assigned\n"),
+        Reply::Already => text.extend_from_slice(b"already\n"),
+        Reply::Clash => text.extend_from_slice(b"clash\n"),
+        Reply::Done => text.extend_from_slice(b"done\n"),
+        Reply::NoDecision => text.extend_from_slice(b"no decision\n"),
+        Reply::Variable(variable) => push_line(text, b"variable ", variable.to_index()),
+        Reply::Disjunction(disjunction) => push_line(text, b"disjunction ", disjunction.to_index()),
+        Reply::Falsified(clause) => push_line(text, b"falsified ", clause.to_index()),
+        Reply::Conflict(clause) => push_line(text, b"conflict ", clause.to_index()),
+        Reply::Refused(e) => push_line(text, b"refused ", e.code() as usize),
         Reply::Clause(clause, conflict) => push_clause(text, *clause, *conflict),
         Reply::Tracked(new, clauses) => push_tracked(text, *new, *clauses),
-        Reply::Assigned => text.extend_from_slice(b"assigned"),
-        Reply::Already => text.extend_from_slice(b"already"),
-        Reply::Clash => text.extend_from_slice(b"clash"),
-        Reply::Undone(last) => push_undone(text, *last),
-        Reply::Next(decision) => push_next(text, *decision),
-        Reply::Done => text.extend_from_slice(b"done"),
-        Reply::Watchers(clauses) => push_watchers(text, clauses),
-        Reply::Decided(decision) => push_decision(text, decision),
-        Reply::NoDecision => text.extend_from_slice(b"no decision"),
-        Reply::Falsified(clause) => push_field(text, b"falsified ", clause.to_index()),
-        Reply::Conflict(clause) => push_field(text, b"conflict ", clause.to_index()),
-        Reply::Refused(e) => push_field(text, b"refused ", e.code() as usize),
+        Reply::Undone(last) => {
+            push_undone(text, *last)?;
+            push_end(text)
+        }
+        Reply::Next(decision) => {
+            push_next(text, *decision)?;
+            push_end(text)
+        }
+        Reply::Decided(decision) => {
+            push_decision(text, decision)?;
+            push_end(text)
+        }
+        Reply::Loaded(lists) => {
+            push_lists(text, lists)?;
+            push_end(text)
+        }
+        Reply::Watchers(clauses) => {
+            push_watchers(text, clauses)?;
+            push_end(text)
+        }
     }
 }
 
@@ -58,14 +64,27 @@ pub fn push_unreadable(text: &mut Vec<u8>, number: u64) -> Result<(), AllocError
     text.extend_from_slice(b" unreadable\n")
 }
 
-/// A number; one of a single digit, as most are, needs no buffer.
+/// The end of a line.
+#[inline(always)]
+fn push_end(text: &mut Vec<u8>) -> Result<(), AllocError>
+    ensures { Pushes result text.old.items text.new.items (codes "\n") }
+{
+    text.push(b'\n')?;
+    Ok(())
+}
+
+/// A number; one of one digit or two, as most are, needs no buffer.
 #[inline(never)]
-#[tactic(auto, using(std::proofs::lemmas::Fmt::decimal_digit, crate::proofs::Beginnings::begins_more, crate::proofs::Beginnings::begins_whole))]
+#[tactic(auto, using(std::proofs::lemmas::Fmt::decimal_digit, crate::proofs::Digits::two_digits, crate::proofs::Beginnings::begins_more, crate::proofs::Beginnings::begins_whole))]
 fn push_number(text: &mut Vec<u8>, number: u64) -> Result<(), AllocError>
     ensures { Pushes result text.old.items text.new.items (decimal number) }
 {
     if number < 10 {
-        text.extend_from_slice(&[b'0' + number as u8])
+        text.push(b'0' + number as u8)?;
+        Ok(())
+    } else if number < 100 {
+        let (tens, ones) = ((number / 10) as u8, (number % 10) as u8);
+        text.extend_from_slice(&[b'0' + tens, b'0' + ones])
     } else {
         push_digits(text, number)
     }
@@ -89,46 +108,48 @@ fn push_field(text: &mut Vec<u8>, name: &[u8], number: usize) -> Result<(), Allo
     push_number(text, number as u64)
 }
 
+/// A text, a number directly after it, and the end of the line.
+fn push_line(text: &mut Vec<u8>, name: &[u8], number: usize) -> Result<(), AllocError>
+    ensures { Pushes result text.old.items text.new.items ((name.now ++ decimal number) ++ codes "\n") }
+{
+    push_field(text, name, number)?;
+    push_end(text)
+}
+
+/// A clause, whether it is a conflict, and the end of the line.
 fn push_clause(text: &mut Vec<u8>, clause: ClauseId, conflict: bool) -> Result<(), AllocError>
-    ensures { Pushes result text.old.items text.new.items (field (codes "clause ") clause ++ conflict_text conflict) }
+    ensures { Pushes result text.old.items text.new.items
+        ((field (codes "clause ") clause ++ conflict_text conflict) ++ codes "\n") }
 {
     push_field(text, b"clause ", clause.to_index())?;
     if conflict {
-        text.extend_from_slice(b" conflict")?;
+        text.extend_from_slice(b" conflict\n")
+    } else {
+        push_end(text)
     }
-    Ok(())
 }
 
-/// Whether a variable is new, and the number of clauses.
+/// Whether a variable is new, the number of clauses, and the end of the line.
 fn push_tracked(text: &mut Vec<u8>, new: bool, clauses: usize) -> Result<(), AllocError>
-    ensures { Pushes result text.old.items text.new.items (tracked_text new clauses) }
+    ensures { Pushes result text.old.items text.new.items (tracked_text new clauses ++ codes "\n") }
 {
     if new {
-        push_field(text, b"tracked yes ", clauses)
+        push_line(text, b"tracked yes ", clauses)
     } else {
-        push_field(text, b"tracked no ", clauses)
-    }
-}
-
-fn push_truth(text: &mut Vec<u8>, value: bool) -> Result<(), AllocError>
-    ensures { Pushes result text.old.items text.new.items (truth_text value) }
-{
-    if value {
-        text.extend_from_slice(b" true")
-    } else {
-        text.extend_from_slice(b" false")
+        push_line(text, b"tracked no ", clauses)
     }
 }
 
 fn push_undone(text: &mut Vec<u8>, last: Option<(Decision, u32)>) -> Result<(), AllocError>
     ensures { Pushes result text.old.items text.new.items (undone_text last) }
 {
-    text.extend_from_slice(b"undone")?;
-    if let Some((decision, level)) = last {
-        push_assignment(text, decision)?;
-        push_field(text, b" ", level as usize)?;
+    match last {
+        None => text.extend_from_slice(b"undone"),
+        Some((decision, level)) => {
+            push_assignment(text, b"undone ", decision)?;
+            push_field(text, b" ", level as usize)
+        }
     }
-    Ok(())
 }
 
 fn push_next(text: &mut Vec<u8>, decision: Option<Decision>) -> Result<(), AllocError>
@@ -136,20 +157,22 @@ fn push_next(text: &mut Vec<u8>, decision: Option<Decision>) -> Result<(), Alloc
 {
     match decision {
         None => text.extend_from_slice(b"next none"),
-        Some(decision) => {
-            text.extend_from_slice(b"next")?;
-            push_assignment(text, decision)
-        }
+        Some(decision) => push_assignment(text, b"next ", decision),
     }
 }
 
-/// A variable, its value, and the clause that gave it, each after a blank.
-fn push_assignment(text: &mut Vec<u8>, decision: Decision) -> Result<(), AllocError>
-    ensures { Pushes result text.old.items text.new.items (assignment_text decision) }
+/// A text, a variable directly after it, and its value and the clause that gave it, each after a blank.
+fn push_assignment(text: &mut Vec<u8>, name: &[u8], decision: Decision) -> Result<(), AllocError>
+    ensures { Pushes result text.old.items text.new.items
+        (field name.now decision.variable ++ (truth_text decision.value ++ field (codes " ") decision.derived_from)) }
 {
-    push_field(text, b" ", decision.variable.to_index())?;
-    push_truth(text, decision.value)?;
-    push_field(text, b" ", decision.derived_from.to_index())
+    push_field(text, name, decision.variable.to_index())?;
+    let clause = decision.derived_from.to_index();
+    if decision.value {
+        push_field(text, b" true ", clause)
+    } else {
+        push_field(text, b" false ", clause)
+    }
 }
 
 fn push_decision(text: &mut Vec<u8>, decision: &QueueDecision) -> Result<(), AllocError>

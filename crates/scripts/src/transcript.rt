@@ -4,7 +4,9 @@ ghost use Rattle.script_text.specs.declared.fault.ScriptFault.TheVariants.{Devic
 ghost use Rattle.script_text.specs.Lines.{lines as lines_of};
 ghost use Rattle.std.specs.Io.{StartsWith};
 ghost use Rattle.script_text.specs.Output.{Writes};
-ghost use Rattle.scripts.specs.Commands.{ids_at, command_meant};
+ghost use Rattle.script_text.specs.Statements.{says};
+ghost use Rattle.script_text.specs.Words.{words};
+ghost use Rattle.scripts.specs.Commands.{ids_at, command_meant, command_said};
 ghost use Rattle.resolvo_store.specs.Store.{new_store};
 ghost use Rattle.scripts.specs.Ends.{HandsAnswer, named_text, TakesBeginning, WriterEnds, DevicesEnd};
 ghost use Rattle.scripts.specs.Scripts.{ScriptAnswered, faulty_text};
@@ -164,6 +166,7 @@ fn obey_lines<D: DependencyProvider<NameId: DenseIndex, SolvableId: DenseIndex> 
 }
 
 /// Obeys a line that says this, and puts the line of the reply after what waits.
+#[inline(always)]
 pub fn obey_line<D: DependencyProvider<NameId: DenseIndex, SolvableId: DenseIndex> + Drop>(
     alloc: D::Alloc,
     store: &mut ClauseStore<D>,
@@ -177,13 +180,32 @@ pub fn obey_line<D: DependencyProvider<NameId: DenseIndex, SolvableId: DenseInde
     match said {
         Line::Skipped => Ok(()),
         Line::Unreadable => Err(LineFault::Unreadable),
-        Line::Says(said) => match command(alloc, said) {
-            Ok(command) => {
-                let reply = store.step(&command);
-                push_reply(waiting, &reply)?;
-                Ok(())
-            }
-            Err(fault) => Err(fault),
-        },
+        Line::Says(said) => obey_words(alloc, store, said.keyword, said.rest, waiting),
+    }
+}
+
+/// Obeys the command that a first word and those after it give, and puts the line of the reply after what waits. So a
+/// line that is skipped costs no call.
+#[inline(never)]
+fn obey_words<D: DependencyProvider<NameId: DenseIndex, SolvableId: DenseIndex> + Drop>(
+    alloc: D::Alloc,
+    store: &mut ClauseStore<D>,
+    keyword: &[u8],
+    rest: &[u8],
+    waiting: &mut Vec<u8>,
+) -> Result<(), LineFault>
+    ensures { ObeysLine (⟦<D as AbstractStore>⟧.store store.old)
+        (says (command_said (ids_at D.NameId.limit D.NameId.id_at D.SolvableId.limit D.SolvableId.id_at))
+        (command_said (ids_at D.NameId.limit D.NameId.id_at D.SolvableId.limit D.SolvableId.id_at) keyword.now
+        (words rest.now)))
+        waiting.old.items result waiting.new.items (⟦<D as AbstractStore>⟧.store store.new) }
+{
+    match command(alloc, Statement { keyword, rest }) {
+        Ok(command) => {
+            let reply = store.step(&command);
+            push_reply(waiting, &reply)?;
+            Ok(())
+        }
+        Err(fault) => Err(fault),
     }
 }

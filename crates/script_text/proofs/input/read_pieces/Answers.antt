@@ -1,4 +1,4 @@
-use Rattle.std.proofs.Common.{Bool, arith}
+use Rattle.std.proofs.Common.{Bool}
 use Rattle.script_text.proofs.Calls.{read_ended}
 use Rattle.script_text.proofs.input.read_pieces.Goals as goal
 

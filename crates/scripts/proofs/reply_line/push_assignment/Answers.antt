@@ -9,7 +9,3 @@ pub returns-in_err-push_field : goal.returns-in_err-push_field
 returns-in_err-push_field c =
     let left = truth_text c.args.decision.value ++ field (codes " ") c.args.decision.derived_from in
     grind (arith, common_steps, begins_more _ left _ c.in_err-push_field.ensures)
-
-pub returns-in_err-push_truth : goal.returns-in_err-push_truth
-returns-in_err-push_truth c =
-    grind (arith, common_steps, begins_more _ (field (codes " ") c.args.decision.derived_from) _ c.in_err-push_truth.ensures)
