@@ -1,12 +1,12 @@
 -- What a forced literal is, and what entries that clauses force leave.
-use Rattle.std.proofs.Common.{◌≡◌, ℕ, ◌+◌, ◌<◌, ◌≤◌, Bool, true, false, ◌&&◌, ◌||◌, List, [], ◌∷◌, ◌++◌, length, take}
-use Rattle.std.proofs.Common.{Some, None, refl, sym, ap, subst, ◌∙◌, arith, append_assoc, append-nil, length-append}
-use Rattle.std.specs.Prelude.{Ok}
+use Rattle.std.proofs.Common.{◌≡◌, ℕ, ◌+◌, ◌<◌, ◌≤◌, Bool, true, false, ◌&&◌, ◌||◌, List, [], ◌∷◌, ◌++◌}
+use Rattle.std.proofs.Common.{length, take, Some, None, refl, sym, ap, subst, ◌∙◌, arith}
+use Rattle.std.proofs.Common.{append_assoc, append-nil, length-append}
 use Rattle.std.proofs.lemmas.Bool.{and_parts, and_from, or_left, or_right, false_from_ne_true}
 use Rattle.std.proofs.lemmas.List.{take-append-le}
 use Rattle.decisions.specs.Literals.{Lit, Values, variable_of, satisfying_value, truth, undecided, is_false_literal}
 use Rattle.decisions.specs.declared.decision.Decision.{Decision}
-use Rattle.decisions.specs.Trail.{Entry, Trail, val, pushed, AddsEntry}
+use Rattle.decisions.specs.Trail.{Entry, Trail, val, pushed}
 use Rattle.clauses.specs.Clauses.{same_literal}
 use Rattle.watch_map.specs.Watching.{is_literal_in}
 use Rattle.watch_map.specs.Forcing.{are_others_false, forces, decided_literal, IsForced, AreForced}
@@ -58,21 +58,18 @@ forces_untrue now ls l f m there t =
     (λ same. true_is_decided now l (subst (λ x. is_true_literal now x ≡ true) (same_is m l same) t) f.is_open)
     (λ apart. true_is_not_false now m t (f.others m there apart))
 
--- an entry that is added for an undecided literal makes it true
-pub added_true : (t t' : Trail) (l : Lit) (d : Decision) (id level : ℕ) (v : ℕ) (b : Bool)
-    → d ≡ record { variable = v; value = b; derived_from = id } → v ≡ variable_of l → b ≡ satisfying_value l
-    → undecided (truth (val t.entries) l) ≡ true
-    → (added : Bool) → AddsEntry (val t.entries d.variable) t (record { decision = d; level = level }) (Ok added) t'
-    → is_true_literal (val t'.entries) l ≡ true
-added_true t t' l d id level v b ed ev eb open_l added adds =
-    let e : Entry = record { decision = d; level = level } in
-    let dv : d.variable ≡ variable_of l = ap (λ (x : Decision). x.variable) ed ∙ ev in
-    let db : d.value ≡ satisfying_value l = ap (λ (x : Decision). x.value) ed ∙ eb in
-    let none : val t.entries d.variable ≡ None = ap (val t.entries) dv ∙ open_variable (val t.entries) l open_l in
-    let pushed_is = subst (λ o. AddsEntry o t e (Ok added) t') none adds in
-    subst (λ (x : Trail). is_true_literal (val x.entries) l ≡ true) (sym pushed_is.1)
-    (true_of (val (t.entries ++ e ∷ [])) l
-    (ap (val (t.entries ++ e ∷ [])) (sym dv) ∙ val_added t.entries e none ∙ ap Some db))
+-- the variable of an undecided literal has no value, and an entry that is added for it makes the literal true
+module _ (es : List Entry) (l : Lit) (d : Decision) (variable : d.variable ≡ variable_of l)
+    (is_open : undecided (truth (val es) l) ≡ true) where
+  pub deciding_open : val es d.variable ≡ None
+  deciding_open = ap (val es) variable ∙ open_variable (val es) l is_open
+
+  pub deciding_true : (level : ℕ) → d.value ≡ satisfying_value l
+      → is_true_literal (val (es ++ record { decision = d; level = level } ∷ [])) l ≡ true
+  deciding_true level value =
+      let e : Entry = record { decision = d; level = level } in
+      true_of (val (es ++ e ∷ [])) l
+      (ap (val (es ++ e ∷ [])) (sym variable) ∙ val_added es e deciding_open ∙ ap Some value)
 
 -- ---- a forced entry
 

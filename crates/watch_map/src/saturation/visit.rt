@@ -13,7 +13,7 @@ ghost use Rattle.watch_map.specs.Visits.{literals_at, IsWatching, IsLook, IsVisi
 use crate::cursor::WatchMapCursor;
 use crate::saturation::given::{Given, clause_at};
 use crate::watched_literals::WatchedLiterals;
-use decisions::{AddFault, Decision, DecisionMap, DecisionTracker, Literal};
+use decisions::{Decision, DecisionMap, DecisionTracker, Literal};
 use std::alloc::Allocator;
 use typed_ids::{ClauseId, StoreError};
 
@@ -117,11 +117,8 @@ pub(crate) fn force<N: Copy, A: Allocator + Copy>(
     ensures memory { IfErr result (λ e. e ≡ OutOfMemory) }
 {
     let decision = Decision::new(literal.variable(), literal.satisfying_value(), id);
-    match trail.try_add_decision(decision, given.level) {
-        Ok(true) => Ok(()),
-        Err(AddFault::Store(error)) => Err(error),
-        Ok(false) | Err(AddFault::Clash) => unreachable!(),
-    }
+    trail.push(decision, given.level)?;
+    Ok(())
 }
 
 /// Whether the literal is true.

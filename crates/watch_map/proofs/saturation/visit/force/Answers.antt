@@ -1,12 +1,24 @@
-use Rattle.decisions.specs.Trail.{val}
+use Rattle.std.proofs.Common.{◌≡◌, true, sym, ap, subst, ◌∙◌}
+use Rattle.decisions.specs.declared.decision.Decision.{Decision}
+use Rattle.decisions.specs.Trail.{Trail, val}
 use Rattle.watch_map.specs.Visits.{literals_at}
-use Rattle.watch_map.proofs.ForcingLaws.{forces_parts, added_true}
+use Rattle.watch_map.specs.WatchInvariant.{is_true_literal}
+use Rattle.watch_map.proofs.ForcingLaws.{forces_parts, deciding_open, deciding_true}
 use Rattle.watch_map.proofs.saturation.visit.force.Goals as goal
 
-pub returns-in-Ok-true-clause-ok : goal.returns-in-Ok-true-clause-ok
-returns-in-Ok-true-clause-ok g c =
-    added_true c.args.trail.now c.try_add_decision.new.self c.args.literal c.new-decision.result c.args.id
-    c.args.given.now.level c.variable.result c.satisfying_value.result
-    c.new-decision.ensures c.variable.ensures c.satisfying_value.ensures
-    (forces_parts (val c.args.trail.now.entries) (literals_at c.args.given.now c.args.id) c.args.literal
-    c.requires.forces).is_open c.in-Ok-true.field-0 c.in-Ok-true.ensures
+pub push-requires-clause-undecided : goal.push-requires-clause-undecided
+push-requires-clause-undecided g c =
+    let es = c.args.trail.now.entries in
+    deciding_open es c.args.literal c.new-decision.result
+    (ap (λ (d : Decision). d.variable) c.new-decision.ensures ∙ c.variable.ensures)
+    (forces_parts (val es) (literals_at c.args.given.now c.args.id) c.args.literal c.requires.forces).is_open
+
+pub returns-clause-ok : goal.returns-clause-ok
+returns-clause-ok g c =
+    let t = c.args.trail.now in
+    let made = c.new-decision.ensures in
+    subst (λ (x : Trail). is_true_literal (val x.entries) c.args.literal ≡ true) (sym c.in_ok-push.ensures.ok)
+    (deciding_true t.entries c.args.literal c.new-decision.result
+    (ap (λ (d : Decision). d.variable) made ∙ c.variable.ensures)
+    (forces_parts (val t.entries) (literals_at c.args.given.now c.args.id) c.args.literal c.requires.forces).is_open
+    c.args.given.now.level (ap (λ (d : Decision). d.value) made ∙ c.satisfying_value.ensures))
