@@ -1,7 +1,9 @@
 -- Values that only grow, and the values that entries give.
 use Rattle.std.proofs.Common.{◌≡◌, ℕ, zero, suc, Bool, true, false, not, cond, ◌⊎◌, inl, inr, List, [], ◌∷◌, ◌++◌}
 use Rattle.std.proofs.Common.{take, drop, Option, Some, None, refl, sym, ap, subst, ◌∙◌, nat_eq, eq-eqb, eqb-true}
-use Rattle.std.specs.Prelude.{slice_get, option_map}
+use Rattle.std.specs.Prelude.{slice_get, option_map, is_some}
+use Rattle.std.specs.Bool.{beq}
+use Rattle.std.specs.Option.{option_eq}
 use Rattle.std.proofs.lemmas.Bool.{true≢false}
 use Rattle.std.proofs.lemmas.List.{take-append-drop}
 use Rattle.decisions.specs.Literals.{Lit, Pos, Neg, Values, variable_of, satisfying_value, truth, known_true, known_false, undecided, is_false_literal}
@@ -75,6 +77,21 @@ pub open_if : (o : Option Bool) → known_true o ≡ false → known_false o ≡
 open_if None t f = refl
 open_if (Some true) t f = absurd (let z : true ≡ false = t in cc)
 open_if (Some false) t f = absurd (let z : true ≡ false = f in cc)
+
+-- what is told of a value by comparing it with true, and by whether there is one
+pub compared : (o : Option Bool) → known_true o ≡ option_eq beq o (Some true)
+compared None = refl
+compared (Some true) = refl
+compared (Some false) = refl
+
+pub false_if_not_true : (o : Option Bool) → known_true o ≡ false → is_some o ≡ true → known_false o ≡ true
+false_if_not_true None t s = absurd (let z : false ≡ true = s in cc)
+false_if_not_true (Some true) t s = absurd (let z : true ≡ false = t in cc)
+false_if_not_true (Some false) t s = refl
+
+pub none_not_false : (o : Option Bool) → is_some o ≡ false → known_false o ≡ false
+none_not_false None s = refl
+none_not_false (Some b) s = absurd (let z : true ≡ false = s in cc)
 
 -- ---- values of entries
 

@@ -1,5 +1,5 @@
 //! What a saturation is given.
-ghost use Rattle.std.specs.Prelude.{◌≡◌, ◌≤◌, ◌<◌, ◌^◌, slice_get};
+ghost use Rattle.std.specs.Prelude.{◌≡◌, ◌≤◌, ◌<◌, ◌^◌, slice_get, option_copied};
 
 use clauses::{Clause, Disjunction};
 use decisions::Literal;
@@ -24,11 +24,11 @@ pub(crate) struct Given<'a, N: Copy, A: Allocator + Copy> {
 }
 
 /// The clause of this id, if there is one.
-pub(crate) fn clause_at<N: Copy, A: Allocator + Copy>(
-    given: &Given<N, A>,
+pub(crate) fn clause_at<'a, N: Copy, A: Allocator + Copy>(
+    given: &Given<'a, N, A>,
     id: ClauseId,
-) -> Option<Clause<N>>
-    ensures { result ≡ slice_get given.now.clauses.now id }
+) -> Option<&'a Clause<N>>
+    ensures { option_copied result ≡ slice_get given.now.clauses.now id }
 {
-    given.clauses.get(id.to_index()).copied()
+    given.clauses.get(id.to_index())
 }

@@ -81,14 +81,15 @@ fn look<N: Copy, A: Allocator + Copy>(
     let index = at.watch_index();
     let watched = at.watched_literals(watches);
     let other = watched.watched_literals[1 - index];
-    if is_true(map, other) {
+    let value = other.eval(map);
+    if value == Some(true) {
         return Sight::Met;
     }
     let Some(clause) = clause_at(given, at.clause_id()) else {
         unreachable!();
     };
     let next = watched.next_unwatched_literal(
-        &clause,
+        clause,
         given.learnt,
         given.lists,
         given.disjunctions,
@@ -97,7 +98,7 @@ fn look<N: Copy, A: Allocator + Copy>(
     );
     match next {
         Some(next) => Sight::Moves(next),
-        None if is_false(map, other) => Sight::Conflict,
+        None if value.is_some() => Sight::Conflict,
         None => Sight::Forces(other),
     }
 }

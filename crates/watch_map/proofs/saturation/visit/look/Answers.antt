@@ -1,7 +1,7 @@
 use Rattle.std.proofs.Common.{rules, ◌≡◌, true, false, sym, ap, subst, ◌∙◌}
-use Rattle.std.specs.Prelude.{slice_get}
+use Rattle.std.specs.Prelude.{slice_get, option_copied}
 use Rattle.decisions.specs.Decisions.{values_in}
-use Rattle.decisions.specs.Literals.{is_false_literal}
+use Rattle.decisions.specs.Literals.{known_true, known_false, is_false_literal}
 use Rattle.clauses.specs.Stored.{kept_in}
 use Rattle.watch_map.specs.Watching.{is_literal_in}
 use Rattle.watch_map.specs.WatchLists.{literals_in, watched_by, clause_of, index_of, literal_of}
@@ -10,11 +10,12 @@ use Rattle.watch_map.specs.WatchInvariant.{is_true_literal}
 use Rattle.watch_map.specs.Visits.{literals_at, IsWatching, MayWatch, ForcesOther}
 use Rattle.watch_map.proofs.LiteralLists.{read_in}
 use Rattle.watch_map.proofs.GivenLaws.{literals_there, literals_nowhere}
+use Rattle.watch_map.proofs.ValueLaws.{compared, false_if_not_true, none_not_false}
 use Rattle.watch_map.proofs.VisitLaws.{pair_read, next_read, look_met, look_moves, look_forces, look_conflicts}
 use Rattle.watch_map.proofs.saturation.visit.look.Goals as goal
 
-pub returns-then-is_true : goal.returns-then-is_true
-returns-then-is_true g c =
+pub returns-then-eq : goal.returns-then-eq
+returns-then-eq g c =
     let at = c.args.at.now in
     let now = values_in c.args.map.now in
     let literals = literals_at c.args.given.now (clause_of at) in
@@ -27,7 +28,7 @@ returns-then-is_true g c =
     c.requires.node.watch (search rules) c.index-watched-index.is in
     look_met now watched (index_of at) (literal_of at) other pair
     (subst (λ x. is_true_literal now x ≡ true) (sym c.index-watched-index.is)
-    (sym c.is_true.ensures ∙ c.if-is_true.true))
+    (ap known_true (sym c.eval-value.ensures) ∙ compared c.eval-value.result ∙ sym c.eq.ensures ∙ c.if-eq.true))
 
 pub unreachable-requires : goal.unreachable-requires
 unreachable-requires g c =
@@ -36,7 +37,7 @@ unreachable-requires g c =
     let watched = watched_by c.args.watches.now (clause_of at) in
     let here = read_in watched (index_of at) (literal_of at) c.requires.node.within c.requires.node.watch in
     let gone = literals_nowhere given (clause_of at)
-    (ap (slice_get given.clauses.now) (sym c.clause_id.ensures) ∙ sym c.clause_at.ensures ∙ c.in_default.is) in
+    (ap (slice_get given.clauses.now) (sym c.clause_id.ensures) ∙ sym c.clause_at.ensures ∙ ap option_copied c.in_default.is) in
     let z : false ≡ true = subst (λ ls. is_literal_in (literal_of at) ls ≡ true) gone
     (c.requires.own.own (literal_of at) here) in
     cc
@@ -52,16 +53,16 @@ returns-in-Some-next g c =
     let index = c.watch_index-index.result in
     let other = c.index-watched-index.result in
     let e_ws = ap literals_in c.watched_literals-watched.ensures in
-    let there = literals_there given (clause_of at) c.in-Some.clause
-    (ap (slice_get given.clauses.now) (sym c.clause_id.ensures) ∙ sym c.clause_at.ensures ∙ c.in-Some.is) in
+    let there = literals_there given (clause_of at) c.in-Some.clause.now
+    (ap (slice_get given.clauses.now) (sym c.clause_id.ensures) ∙ sym c.clause_at.ensures ∙ ap option_copied c.in-Some.is) in
     let pair = pair_read (literals_at given (clause_of at)) watched ws (index_of at) index (literal_of at) other e_ws
     c.watch_index-index.ensures c.requires.own c.requires.node.within c.requires.node.watch
     (search rules) c.index-watched-index.is in
     let own = subst (λ ls. IsWatching ls watched) there c.requires.own in
-    let next = next_read k now c.in-Some.clause watched ws (index_of at) index c.next_unwatched_literal-next.result e_ws
+    let next = next_read k now c.in-Some.clause.now watched ws (index_of at) index c.next_unwatched_literal-next.result e_ws
     c.watch_index-index.ensures c.next_unwatched_literal-next.ensures ∙ c.in-Some-next.is in
     subst (λ ls. MayWatch now ls watched c.in-Some-next.next) (sym there)
-    (look_moves k now c.in-Some.clause watched (index_of at)
+    (look_moves k now c.in-Some.clause.now watched (index_of at)
     (literal_of at) other pair own c.requires.is_false c.in-Some-next.next next)
 
 pub returns-in-None : goal.returns-in-None
@@ -75,18 +76,20 @@ returns-in-None g c =
     let index = c.watch_index-index.result in
     let other = c.index-watched-index.result in
     let e_ws = ap literals_in c.watched_literals-watched.ensures in
-    let there = literals_there given (clause_of at) c.in-Some.clause
-    (ap (slice_get given.clauses.now) (sym c.clause_id.ensures) ∙ sym c.clause_at.ensures ∙ c.in-Some.is) in
+    let there = literals_there given (clause_of at) c.in-Some.clause.now
+    (ap (slice_get given.clauses.now) (sym c.clause_id.ensures) ∙ sym c.clause_at.ensures ∙ ap option_copied c.in-Some.is) in
     let pair = pair_read (literals_at given (clause_of at)) watched ws (index_of at) index (literal_of at) other e_ws
     c.watch_index-index.ensures c.requires.own c.requires.node.within c.requires.node.watch
     (search rules) c.index-watched-index.is in
     let own = subst (λ ls. IsWatching ls watched) there c.requires.own in
-    let next = next_read k now c.in-Some.clause watched ws (index_of at) index c.next_unwatched_literal-next.result e_ws
+    let next = next_read k now c.in-Some.clause.now watched ws (index_of at) index c.next_unwatched_literal-next.result e_ws
     c.watch_index-index.ensures c.next_unwatched_literal-next.ensures ∙ c.in-None.is in
     subst (λ ls. is_false now ls ≡ true) (sym there)
-    (look_conflicts k now c.in-Some.clause watched (index_of at) (literal_of at) other pair own c.requires.is_false next
+    (look_conflicts k now c.in-Some.clause.now watched (index_of at) (literal_of at) other pair own c.requires.is_false next
     (subst (λ x. is_false_literal now x ≡ true) (sym c.index-watched-index.is)
-    (sym c.is_false.ensures ∙ c.if-is_false.true)))
+    (ap known_false (sym c.eval-value.ensures)
+    ∙ false_if_not_true c.eval-value.result (compared c.eval-value.result ∙ sym c.eq.ensures ∙ c.if-eq.false)
+    (sym c.is_some.ensures ∙ c.if-is_some.true))))
 
 pub returns-in-None-2 : goal.returns-in-None-2
 returns-in-None-2 g c =
@@ -99,18 +102,19 @@ returns-in-None-2 g c =
     let index = c.watch_index-index.result in
     let other = c.index-watched-index.result in
     let e_ws = ap literals_in c.watched_literals-watched.ensures in
-    let there = literals_there given (clause_of at) c.in-Some.clause
-    (ap (slice_get given.clauses.now) (sym c.clause_id.ensures) ∙ sym c.clause_at.ensures ∙ c.in-Some.is) in
+    let there = literals_there given (clause_of at) c.in-Some.clause.now
+    (ap (slice_get given.clauses.now) (sym c.clause_id.ensures) ∙ sym c.clause_at.ensures ∙ ap option_copied c.in-Some.is) in
     let pair = pair_read (literals_at given (clause_of at)) watched ws (index_of at) index (literal_of at) other e_ws
     c.watch_index-index.ensures c.requires.own c.requires.node.within c.requires.node.watch
     (search rules) c.index-watched-index.is in
     let own = subst (λ ls. IsWatching ls watched) there c.requires.own in
-    let next = next_read k now c.in-Some.clause watched ws (index_of at) index c.next_unwatched_literal-next.result e_ws
+    let next = next_read k now c.in-Some.clause.now watched ws (index_of at) index c.next_unwatched_literal-next.result e_ws
     c.watch_index-index.ensures c.next_unwatched_literal-next.ensures ∙ c.in-None-2.is in
     subst (λ x. ForcesOther now (literals_at given (clause_of at)) watched (literal_of at) x) c.index-watched-index.is
     (subst (λ ls. ForcesOther now ls watched (literal_of at) other) (sym there)
-    (look_forces k now c.in-Some.clause watched (index_of at) (literal_of at) other pair own c.requires.is_false next
+    (look_forces k now c.in-Some.clause.now watched (index_of at) (literal_of at) other pair own c.requires.is_false next
     (subst (λ x. is_true_literal now x ≡ false) (sym c.index-watched-index.is)
-    (sym c.is_true.ensures ∙ c.if-is_true.false))
+    (ap known_true (sym c.eval-value.ensures) ∙ compared c.eval-value.result ∙ sym c.eq.ensures ∙ c.if-eq.false))
     (subst (λ x. is_false_literal now x ≡ false) (sym c.index-watched-index.is)
-    (sym c.is_false.ensures ∙ c.if-is_false.false))))
+    (ap known_false (sym c.eval-value.ensures)
+    ∙ none_not_false c.eval-value.result (sym c.is_some.ensures ∙ c.if-is_some.false)))))
