@@ -1,12 +1,13 @@
 -- What a forced literal is, and what entries that clauses force leave.
-use Rattle.std.proofs.Common.{◌≡◌, ℕ, ◌+◌, ◌<◌, ◌≤◌, Bool, true, false, ◌&&◌, ◌||◌, List, [], ◌∷◌, ◌++◌}
-use Rattle.std.proofs.Common.{length, take, Some, None, refl, sym, ap, subst, ◌∙◌, arith}
+use Rattle.std.proofs.Common.{◌≡◌, ℕ, ◌+◌, ◌<◌, ◌≤◌, Bool, true, false, ◌&&◌, ◌||◌, cond, List, [], ◌∷◌, ◌++◌}
+use Rattle.std.proofs.Common.{length, take, drop, Some, None, refl, sym, ap, subst, ◌∙◌, arith, nat_eq}
 use Rattle.std.proofs.Common.{append_assoc, append-nil, length-append}
 use Rattle.std.proofs.lemmas.Bool.{and_parts, and_from, or_left, or_right, false_from_ne_true}
 use Rattle.std.proofs.lemmas.List.{take-append-le}
+use Rattle.std.proofs.Math.Seq.{drop-append_seam}
 use Rattle.decisions.specs.Literals.{Lit, Values, variable_of, satisfying_value, truth, undecided, is_false_literal}
 use Rattle.decisions.specs.declared.decision.Decision.{Decision}
-use Rattle.decisions.specs.Trail.{Entry, Trail, val, pushed}
+use Rattle.decisions.specs.Trail.{Entry, Trail, val, level_of, pushed}
 use Rattle.clauses.specs.Clauses.{same_literal}
 use Rattle.watch_map.specs.Watching.{is_literal_in}
 use Rattle.watch_map.specs.Forcing.{are_others_false, forces, decided_literal, IsForced, AreForced}
@@ -111,6 +112,16 @@ module _ (literals : ℕ → List Lit) (level : ℕ) where
         (subst (λ xs. AreForced literals level xs gs) (sym (append_assoc es (e ∷ []) fs)) g),
   )
 
+  -- none is above the level
+  pub forced_levels : (es fs : List Entry) (x : ℕ) → AreForced literals level es fs → level_of fs x ≤ level
+  forced_levels es [] x f = omega arith
+  forced_levels es (e ∷ fs) x f =
+      by_head (nat_eq e.decision.variable x) f.0.at_level (forced_levels (es ++ e ∷ []) fs x f.1)
+    where
+      by_head : (t : Bool) → e.level ≡ level → level_of fs x ≤ level → cond t e.level (level_of fs x) ≤ level
+      by_head true same rest = omega (arith, same)
+      by_head false same rest = rest
+
   -- each forced entry makes one clause more true
   module _ (clauses : ℕ) (within : (c : ℕ) (l : Lit) → is_literal_in l (literals c) ≡ true → c < clauses) where
     pub forced_counts : (es fs : List Entry) → AreForced literals level es fs
@@ -163,6 +174,13 @@ module _ (literals : ℕ → List Lit) (level : ℕ) where
         none : (es : List Entry) → length es ≡ 0 → es ≡ []
         none [] h = refl
         none (e ∷ es) h = absurd (omega (arith, h))
+
+    -- what was added isn't above the level
+    pub added_levels : (x : ℕ) → level_of (drop (length a.entries) b.entries) x ≤ level
+    added_levels x =
+        subst (λ es. level_of es x ≤ level)
+        (sym (ap (drop (length a.entries)) f.entries ∙ drop-append_seam a.entries f.added))
+        (forced_levels literals level a.entries f.added x f.forced)
 
     -- what stood before a place stands there
     pub forced_take : (place : ℕ) → place ≤ length a.entries → take place b.entries ≡ take place a.entries

@@ -1,6 +1,6 @@
 -- What a mark gives a saturation, what keeps it, and how one is made.
 use Rattle.std.proofs.Common.{◌≡◌, ℕ, zero, suc, ◌+◌, ◌-◌, ◌<◌, ◌≤◌, Bool, true, false, not, ◌&&◌, ◌||◌}
-use Rattle.std.proofs.Common.{inl, inr, cond, List, [], ◌∷◌, ◌++◌, length, get_or, take, Some, None}
+use Rattle.std.proofs.Common.{inl, inr, cond, List, [], ◌∷◌, ◌++◌, length, get_or, take, drop, Some, None}
 use Rattle.std.proofs.Common.{refl, sym, ap, subst, ◌∙◌, arith, nat_eq, eqb-true, length-append, take_all}
 use Rattle.std.specs.Prelude.{All, filter, nat_le}
 use Rattle.std.proofs.lemmas.Bool.{true≢false, eqb-false, false_from_ne_true}
@@ -77,6 +77,20 @@ levels_more es place e level highest within at before le own x =
     let other = ap (λ xs. level_of xs x) more ∙ level_elsewhere (take place es) e x t in
     let old = before x in
     omega (arith, other, old, le))
+
+-- a level that none of the first entries is above, nor one of the others
+pub levels_split : (es : List Entry) (place x level : ℕ) → level_of (take place es) x ≤ level
+    → level_of (drop place es) x ≤ level → level_of es x ≤ level
+levels_split [] place x level first others = omega arith
+levels_split (e ∷ es) zero x level first others = others
+levels_split (e ∷ es) (suc place) x level first others =
+    by_head (nat_eq e.decision.variable x) first others (levels_split es place x level)
+  where
+    by_head : (t : Bool) → cond t e.level (level_of (take place es) x) ≤ level → level_of (drop place es) x ≤ level
+        → (level_of (take place es) x ≤ level → level_of (drop place es) x ≤ level → level_of es x ≤ level)
+        → cond t e.level (level_of es x) ≤ level
+    by_head true m n later = m
+    by_head false m n later = later m n
 
 -- a variable of a level above that of the first entries has no value by them
 open_above : (es : List Entry) (place level x : ℕ) → level_of (take place es) x ≤ level → level < level_of es x

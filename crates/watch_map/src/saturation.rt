@@ -107,11 +107,12 @@ pub(crate) fn saturate<N: Copy, A: Allocator + Copy>(
     ensures marks { AreMarks (literals_at given.now) (watched_by watches.new) trail.new.entries marks.new }
 {
     let from = marks.newest();
+    let before = trail.assignments().len();
     let conflict = saturate_from(given, map, watches, trail, &from)?;
     if conflict.is_some() {
         return Ok(conflict);
     }
-    marks.push(mark_at_end(given, watches, trail, &from));
+    marks.push(mark_at_end(given, watches, trail, &from, before));
     Ok(None)
 }
 

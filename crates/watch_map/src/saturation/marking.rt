@@ -1,5 +1,5 @@
 //! The mark at a saturation's end.
-ghost use Rattle.std.specs.Prelude.{ℕ, ◌≤◌, length, take};
+ghost use Rattle.std.specs.Prelude.{ℕ, ◌≤◌, length, take, drop};
 ghost use Rattle.decisions.specs.Trail.{val, level_of};
 ghost use Rattle.watch_map.specs.WatchLists.{watched_by};
 ghost use Rattle.watch_map.specs.WatchInvariant.{AreMet};
@@ -15,16 +15,19 @@ use decisions::DecisionTracker;
 use std::alloc::Allocator;
 
 /// The mark of the trail's end, where all that is false is met. The mark from which the saturation went on tells the
-/// beginning: it reads what came behind alone.
+/// beginning: it reads what came behind alone. Of how many entries the trail had before, the saturation added the rest.
 pub(crate) fn mark_at_end<N: Copy, A: Allocator + Copy>(
     given: &Given<N, A>,
     watches: &[Option<WatchedLiterals>],
     trail: &DecisionTracker<A>,
     from: &Mark,
+    before: usize,
 ) -> Mark
     requires unwatched { AreUnwatched (watched_by watches.now) (length given.now.clauses.now) given.now.unwatched.now }
     requires from { IsMark (literals_at given.now) (watched_by watches.now) trail.now.entries from.now }
     requires met { AreMet (val trail.now.entries) (val trail.now.entries) (watched_by watches.now) }
+    requires before { (from.now.place ≤ before) × (before ≤ length trail.now.entries) }
+    requires added { (x : ℕ) → level_of (drop before trail.now.entries) x ≤ given.now.level }
     ensures mark { IsMark (literals_at given.now) (watched_by watches.now) trail.now.entries result }
     ensures behind { IsBehind from.now result }
 {
@@ -32,22 +35,32 @@ pub(crate) fn mark_at_end<N: Copy, A: Allocator + Copy>(
     Mark {
         place: trail.assignments().len(),
         clauses: bound_of_true(given, trail.map(), first),
-        level: highest_level(trail, from),
+        level: highest_level(trail, from, before, given.level),
     }
 }
 
-/// The highest level of an entry, that of the mark if no later one is higher.
-fn highest_level<A: Allocator + Copy>(trail: &DecisionTracker<A>, from: &Mark) -> u32
+/// The highest level of an entry, that of the mark if no later one is higher. Those that were added, if any, are of the
+/// level that is given: it reads only those between the mark and these.
+fn highest_level<A: Allocator + Copy>(
+    trail: &DecisionTracker<A>,
+    from: &Mark,
+    before: usize,
+    added: u32,
+) -> u32
     requires levels { (x : ℕ) → level_of (take from.now.place trail.now.entries) x ≤ from.now.level }
-    requires within { from.now.place ≤ length trail.now.entries }
+    requires before { (from.now.place ≤ before) × (before ≤ length trail.now.entries) }
+    requires added { (x : ℕ) → level_of (drop before trail.now.entries) x ≤ added }
     ensures highest { (x : ℕ) → level_of trail.now.entries x ≤ result }
     ensures behind { from.now.level ≤ result }
 {
     let decisions = trail.assignments();
     let mut level = from.level;
-    for index in from.place..decisions.len() {
+    for index in from.place..before {
         let own = trail.level(decisions[index].variable);
         level = level.max(own);
+    }
+    if before < decisions.len() {
+        level = level.max(added);
     }
     level
 }

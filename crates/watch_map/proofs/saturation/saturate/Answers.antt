@@ -1,13 +1,14 @@
-use Rattle.std.proofs.Common.{length, sym, subst, ◌∙◌}
-use Rattle.decisions.specs.Trail.{val}
+use Rattle.std.proofs.Common.{◌≤◌, length, drop, sym, subst, ◌∙◌, arith}
+use Rattle.decisions.specs.Trail.{val, level_of}
 use Rattle.watch_map.specs.WatchLists.{watched_by}
 use Rattle.watch_map.specs.Forcing.{AreSettled, IsConflict}
 use Rattle.watch_map.specs.WatchInvariant.{AreMet}
 use Rattle.watch_map.specs.Visits.{literals_at}
 use Rattle.watch_map.specs.Marks.{IsMark, IsBehind}
 use Rattle.watch_map.specs.declared.marks.Mark.{Mark}
+use Rattle.watch_map.proofs.ForcingLaws.{forced_longer, added_levels}
 use Rattle.watch_map.proofs.MarkLaws.{newest_is_mark, mark_saturated, marks_saturated, marks_remembered}
-use Rattle.watch_map.proofs.RoundLaws.{none_case, some_case}
+use Rattle.watch_map.proofs.RoundLaws.{none_case, some_case, as_many_decisions}
 use Rattle.watch_map.proofs.UnwatchedLaws.{unwatched_alike}
 use Rattle.watch_map.proofs.saturation.saturate.Goals as goal
 
@@ -61,6 +62,28 @@ mark_at_end-requires-clause-met g c =
     (none_case (AreSettled literals clauses now × AreMet now now (watched_by call.new.watches))
     (IsConflict literals clauses now) c.in_ok-conflict.conflict c.in_ok-conflict.ensures.ok
     (sym c.is_some.ensures ∙ c.if-is_some.false)).1
+
+pub mark_at_end-requires-clause-before : goal.mark_at_end-requires-clause-before
+mark_at_end-requires-clause-before g c =
+    let literals = literals_at c.args.given.now in
+    let watched = watched_by c.args.watches.now in
+    let call = c.saturate_from in
+    let from = subst (IsMark literals watched c.args.trail.now.entries) (sym c.newest-from.ensures)
+    (newest_is_mark literals watched c.args.trail.now.entries c.args.marks.now c.requires.marks) in
+    let many = as_many_decisions c.assignments-before.result.now c.args.trail.now.entries
+    c.assignments-before.ensures.decisions in
+    let longer = forced_longer literals c.args.given.now.level c.args.trail.now call.new.trail call.ensures.forced in
+    let within = from.within in
+    (omega (arith, within, many), omega (arith, longer, many))
+
+pub mark_at_end-requires-clause-added : goal.mark_at_end-requires-clause-added
+mark_at_end-requires-clause-added g c x =
+    let call = c.saturate_from in
+    let level = c.args.given.now.level in
+    let many = as_many_decisions c.assignments-before.result.now c.args.trail.now.entries
+    c.assignments-before.ensures.decisions in
+    subst (λ n. level_of (drop n call.new.trail.entries) x ≤ level) (sym many)
+    (added_levels (literals_at c.args.given.now) level c.args.trail.now call.new.trail call.ensures.forced x)
 
 pub mark_at_end-requires-clause-unwatched : goal.mark_at_end-requires-clause-unwatched
 mark_at_end-requires-clause-unwatched g c =
