@@ -81,7 +81,7 @@ impl WatchMapCursor {
     pub fn watch_index(&self) -> usize
         ensures { result ≡ index_of self.now }
     {
-        self.place.current.watch_index
+        self.place.current.watch_index as usize
     }
 
     /// The record of the clause at which it stands. Takes no memory.

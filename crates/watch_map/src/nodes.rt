@@ -13,7 +13,7 @@ use typed_ids::{ClauseId, DenseIndex};
 pub(crate) struct WatchNode {
     pub(crate) clause_id: ClauseId,
     /// Which of the clause's watches has the list.
-    pub(crate) watch_index: usize,
+    pub(crate) watch_index: u32,
 }
 
 /// A place in the list of a literal.
@@ -53,7 +53,7 @@ pub(crate) fn next_of(watches: &[Option<WatchedLiterals>], node: &WatchNode) -> 
     ensures { result ≡ next_at (record_of watches.now node.now.clause_id) node.now.watch_index }
 {
     match &watches[node.clause_id.to_index()] {
-        Some(watched) => watched.next_watches[node.watch_index],
+        Some(watched) => watched.next_watches[node.watch_index as usize],
         None => unreachable!(),
     }
 }
@@ -69,7 +69,7 @@ pub(crate) fn set_next(
         (with_next node.now.watch_index next (record_of watches.old node.now.clause_id)) (record_of watches.new) }
 {
     if let Some(watched) = &mut watches[node.clause_id.to_index()] {
-        watched.next_watches[node.watch_index] = next;
+        watched.next_watches[node.watch_index as usize] = next;
     }
 }
 
@@ -86,7 +86,8 @@ pub(crate) fn set_watch(
         (record_of watches.new) }
 {
     if let Some(watched) = &mut watches[node.clause_id.to_index()] {
-        watched.watched_literals[node.watch_index] = literal;
-        watched.next_watches[node.watch_index] = next;
+        let index = node.watch_index as usize;
+        watched.watched_literals[index] = literal;
+        watched.next_watches[index] = next;
     }
 }
