@@ -15,7 +15,7 @@ use decisions::DecisionTracker;
 use std::alloc::Allocator;
 
 /// The mark of the trail's end, where all that is false is met. The mark from which the saturation went on tells the
-/// beginning: it reads what came behind alone. Of how many entries the trail had before, the saturation added the rest.
+/// beginning: it reads what came behind alone. The entries from the place `before` on are what the saturation added.
 pub(crate) fn mark_at_end<N: Copy, A: Allocator + Copy>(
     given: &Given<N, A>,
     watches: &[Option<WatchedLiterals>],
@@ -39,8 +39,8 @@ pub(crate) fn mark_at_end<N: Copy, A: Allocator + Copy>(
     }
 }
 
-/// The highest level of an entry, that of the mark if no later one is higher. Those that were added, if any, are of the
-/// level that is given: it reads only those between the mark and these.
+/// The highest level of an entry, that of the mark if no later one is higher. The entries from the place `before` on
+/// are of the level `added`, if there are any, so it reads only those between the mark and that place.
 fn highest_level<A: Allocator + Copy>(
     trail: &DecisionTracker<A>,
     from: &Mark,
