@@ -1,7 +1,7 @@
 //! Reply lines.
 #![tactic(auto, using(crate::proofs::Beginnings::begins_more, crate::proofs::Beginnings::begins_whole))]
 
-ghost use Rattle.std.specs.Prelude.{◌++◌, codes, decimal, map, flat_map};
+ghost use Rattle.std.specs.Prelude.{◌++◌, ◌<◌, codes, decimal, map, flat_map};
 ghost use Rattle.resolvo_store.specs.Command.{reply_of};
 ghost use Rattle.resolvo_store.specs.ReplyTexts.{field, list_text, others_text, lists_text, conflict_text};
 ghost use Rattle.resolvo_store.specs.ReplyTexts.{tracked_text, decision_text, undone_text, next_text};
@@ -75,18 +75,28 @@ fn push_end(text: &mut Vec<u8>) -> Result<(), AllocError>
 
 /// A number; one of one digit or two, as most are, needs no buffer.
 #[inline(never)]
-#[tactic(auto, using(std::proofs::lemmas::Fmt::decimal_digit, crate::proofs::Digits::two_digits, crate::proofs::Beginnings::begins_more, crate::proofs::Beginnings::begins_whole))]
 fn push_number(text: &mut Vec<u8>, number: u64) -> Result<(), AllocError>
     ensures { Pushes result text.old.items text.new.items (decimal number) }
 {
-    if number < 10 {
-        text.push(b'0' + number as u8)?;
-        Ok(())
-    } else if number < 100 {
-        let (tens, ones) = ((number / 10) as u8, (number % 10) as u8);
-        text.extend_from_slice(&[b'0' + tens, b'0' + ones])
+    if number < 100 {
+        push_short(text, number as u8)
     } else {
         push_digits(text, number)
+    }
+}
+
+/// A number of one digit or two.
+#[tactic(auto, using(std::proofs::lemmas::Fmt::decimal_digit, crate::proofs::Digits::two_digits, crate::proofs::Beginnings::begins_whole))]
+fn push_short(text: &mut Vec<u8>, number: u8) -> Result<(), AllocError>
+    requires { number < 100 }
+    ensures { Pushes result text.old.items text.new.items (decimal number) }
+{
+    let (tens, ones) = (b'0' + number / 10, b'0' + number % 10);
+    if number < 10 {
+        text.push(ones)?;
+        Ok(())
+    } else {
+        text.extend_from_slice(&[tens, ones])
     }
 }
 
