@@ -48,6 +48,7 @@ impl Model for WatchMapCursor {
 
 impl WatchMapCursor {
     /// The position at this clause of a literal's list, behind the node `previous`, if there is a clause.
+    #[inline(always)]
     pub(crate) fn at_clause(
         watches: &[Option<WatchedLiterals>],
         literal: Literal,
@@ -99,6 +100,7 @@ impl WatchMapCursor {
     }
 
     /// The position behind it, `None` at the end of the list. Constant time; takes no memory.
+    #[inline(always)]
     pub fn next<A: Allocator + Copy>(
         self,
         map: &WatchMap<A>,
@@ -117,6 +119,8 @@ impl WatchMapCursor {
     /// `None` at the end of the list. A refusal gives the position back.
     ///
     /// Constant time, at any place of the list. Takes memory where the other literal's list has no room.
+    // Most clauses that a walk visits stay. Out of line, a move takes no registers from what is done with those.
+    #[inline(never)]
     pub fn update<A: Allocator + Copy>(
         self,
         map: &mut WatchMap<A>,
@@ -145,6 +149,7 @@ impl WatchMapCursor {
 }
 
 /// The position behind this place.
+#[inline(always)]
 fn next_place<A: Allocator + Copy>(
     map: &WatchMap<A>,
     watches: &[Option<WatchedLiterals>],
