@@ -1,3 +1,4 @@
+pub mod DecisionCode
 pub mod Decisions
 pub mod Floor
 pub mod LiteralIndex

@@ -1,5 +1,6 @@
 //! The values of variables, and the levels at which they got them.
-ghost use Rattle.std.specs.Prelude.{◌≡◌, [], Some, None, OnOk, OnErr, IfErr};
+ghost use Rattle.std.specs.Prelude.{◌≡◌, [], true, false, Some, None, option_map, OnOk, OnErr, IfErr};
+ghost use Rattle.std.specs.Option.{option_map_or};
 ghost use Rattle.std.specs.List.{list_all};
 ghost use Rattle.typed_ids.specs.declared.error.StoreError.TheVariants.{OutOfMemory};
 ghost use Rattle.typed_ids.specs.TotalMaps.{IsUpdate, SameValues};
@@ -9,29 +10,70 @@ ghost use Rattle.decisions.specs.Literals.{known_false};
 use id_maps::IdMap;
 use std::alloc::Allocator;
 use std::marker::Model;
-use typed_ids::{DefaultValue, StoreError, VariableId};
+use typed_ids::{DefaultValue, DenseIndex, StoreError, VariableId};
 
-/// The value of a variable and the level at which it got it, or neither.
+/// The value of a variable and the level at which it got it, or neither, kept as one number: 0 is neither, else it is
+/// twice the level and two, and one more if the value is true.
 #[derive(Clone, Copy, Debug, PartialEq, Eq)]
-struct DecisionAndLevel {
-    decided: Option<(bool, u32)>,
-}
+struct DecisionAndLevel(u64);
 
 impl Model for DecisionAndLevel {
-    ghost use Rattle.std.specs.Prelude.{ℕ, Bool, Option};
+    ghost use Rattle.std.specs.Prelude.{◌≢◌, ◌<◌, ◌+◌, ◌^◌, ℕ, Bool, Option};
+    ghost use Rattle.std.proofs.Common.{ap};
+    ghost use Rattle.decisions.specs.DecisionCode.{decision_at, code_of, code_of-decision_at};
 
     ghost Value = { Option (Bool × ℕ) };
 
-    ghost view = { λ a. a.decided };
+    ghost view = { λ a. decision_at a.0 };
 
-    ghost inverse = { λ d. record { decided = d } };
+    ghost invariant = { λ a. (a.0 ≢ 1) × (a.0 < 2 ^ 33 + 2) };
+
+    ghost inverse = { λ d. record { 0 = code_of d } };
+
+    ghost inverse_ok = { λ a h. ap (λ (n : ℕ). record { 0 = n }) (code_of-decision_at a.0 h.0) };
+}
+
+impl DecisionAndLevel {
+    /// Neither a value nor a level.
+    fn undecided() -> DecisionAndLevel
+        ensures { result ≡ None }
+    {
+        DecisionAndLevel(0)
+    }
+
+    /// A value, and the level at which the variable got it.
+    fn decided(value: bool, level: u32) -> DecisionAndLevel
+        ensures { result ≡ Some (value, level) }
+    {
+        DecisionAndLevel(2 * (u64::from(level) + 1) + u64::from(value))
+    }
+
+    /// The value, if there is one.
+    fn value(self) -> Option<bool>
+        ensures { result ≡ option_map (λ d. d.0) self }
+    {
+        if self.0 == 0 {
+            return None;
+        }
+        Some(self.0 % 2 == 1)
+    }
+
+    /// The level, 0 if there is none.
+    fn level(self) -> u32
+        ensures { result ≡ option_map_or (λ d. d.1) self 0 }
+    {
+        if self.0 == 0 {
+            return 0;
+        }
+        (self.0 / 2 - 1) as u32
+    }
 }
 
 impl Default for DecisionAndLevel {
     ghost is_default = { λ d. d ≡ None };
 
     fn default() -> DecisionAndLevel {
-        DecisionAndLevel { decided: None }
+        DecisionAndLevel::undecided()
     }
 }
 
@@ -71,8 +113,8 @@ impl<A: Allocator + Copy> DecisionMap<A> {
     pub fn reset(&mut self, variable: VariableId)
         ensures { IsUpdate (decision_in self.old) variable None (decision_in self.new) }
     {
-        if self.decision(variable).decided.is_some() {
-            let undecided = DecisionAndLevel { decided: None };
+        if self.decision(variable).value().is_some() {
+            let undecided = DecisionAndLevel::undecided();
             IdMap::<VariableId, DecisionAndLevel, A>::put(&mut self.map, variable, undecided);
         }
     }
@@ -84,30 +126,36 @@ impl<A: Allocator + Copy> DecisionMap<A> {
         ensures err { OnErr result (SameValues (decision_in self.old) (decision_in self.new)) }
         ensures memory { IfErr result (λ e. e ≡ OutOfMemory) }
     {
-        let decided = DecisionAndLevel {
-            decided: Some((value, level)),
-        };
+        let decided = DecisionAndLevel::decided(value, level);
         IdMap::<VariableId, DecisionAndLevel, A>::set(&mut self.map, variable, decided)
+    }
+
+    /// Gives the variable a value, at a level, where that takes no memory. Answers whether it did.
+    pub(crate) fn set_in_place(&mut self, variable: VariableId, value: bool, level: u32) -> bool
+        ensures set { result ≡ true →
+            IsUpdate (decision_in self.old) variable (Some (value, level)) (decision_in self.new) }
+        ensures left { result ≡ false → self.new ≡ self.old }
+    {
+        if variable.to_index() >= self.map.len() {
+            return false;
+        }
+        let decided = DecisionAndLevel::decided(value, level);
+        IdMap::<VariableId, DecisionAndLevel, A>::put(&mut self.map, variable, decided);
+        true
     }
 
     /// The level at which the variable got its value, 0 if it has none.
     pub fn level(&self, variable: VariableId) -> u32
         ensures { result ≡ level_in self.now variable }
     {
-        match self.decision(variable).decided {
-            Some((_, level)) => level,
-            None => 0,
-        }
+        self.decision(variable).level()
     }
 
     /// The value of the variable, if it has one.
     pub fn value(&self, variable: VariableId) -> Option<bool>
         ensures { result ≡ values_in self.now variable }
     {
-        match self.decision(variable).decided {
-            Some((value, _)) => Some(value),
-            None => None,
-        }
+        self.decision(variable).value()
     }
 
     /// Whether all of these variables are false. Reads them up to the first that isn't.

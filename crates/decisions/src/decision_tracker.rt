@@ -174,11 +174,15 @@ impl<A: Allocator + Copy> DecisionTracker<A> {
         ensures err { OnErr result (self.new ≡ self.old) }
         ensures memory { IfErr result (λ e. e ≡ OutOfMemory) }
     {
-        // The room on the stack comes first, so that a refusal changes nothing.
-        self.stack.reserve(1)?;
-        self.map.set(decision.variable, decision.value, level)?;
-        self.stack.push_reserved(decision);
-        Ok(())
+        if self.stack.len() < self.stack.capacity()
+            && self
+                .map
+                .set_in_place(decision.variable, decision.value, level)
+        {
+            self.stack.push_reserved(decision);
+            return Ok(());
+        }
+        self.push_growing(decision, level)
     }
 
     /// Takes back the newest decision, of which there must be one: [`DecisionTracker::assignments`] has it last.
@@ -237,6 +241,23 @@ impl<A: Allocator + Copy> DecisionTracker<A> {
         let floor = self.sync_floor;
         self.sync_floor = self.stack.len();
         floor
+    }
+
+    /// What [`DecisionTracker::push`] does where it takes memory: apart, so that a push that takes none makes no call. The
+    /// room on the stack comes first, so that a refusal changes nothing.
+    #[inline(never)]
+    fn push_growing(&mut self, decision: Decision, level: u32) -> Result<(), StoreError>
+        requires level { (1 ≤ level) × (level < 2 ^ 31) }
+        requires undecided { val self.old.entries decision.variable ≡ None }
+        ensures ok { OnOk result
+            (self.new ≡ pushed self.old (record { decision = decision; level = level })) }
+        ensures err { OnErr result (self.new ≡ self.old) }
+        ensures memory { IfErr result (λ e. e ≡ OutOfMemory) }
+    {
+        self.stack.reserve(1)?;
+        self.map.set(decision.variable, decision.value, level)?;
+        self.stack.push_reserved(decision);
+        Ok(())
     }
 
     /// The level of the newest decision, 0 if there is none.

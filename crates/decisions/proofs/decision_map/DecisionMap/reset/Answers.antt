@@ -10,4 +10,4 @@ put-requires g c =
     let no : ⊥ = search rules in no)
 
 pub returns-then-is_some : goal.returns-then-is_some
-returns-then-is_some g c = rw (← c.self.view_is) c.put.ensures.put
+returns-then-is_some g c = rw (← c.self.view_is) (rw c.undecided-undecided.ensures at c.put.ensures.put)
