@@ -1,5 +1,5 @@
 -- From the parts of a script to the whole.
-use Rattle.std.proofs.Common.{◌≡◌, ℕ, ◌+◌, List, [], ◌∷◌, ◌++◌, ◌⊎◌, Option, None, Some, Result, Ok, Err, IfSome}
+use Rattle.std.proofs.Common.{◌≡◌, ℕ, ◌+◌, List, [], ◌∷◌, ◌++◌, Option, None, Some, Result, Ok, Err, IfSome}
 use Rattle.std.proofs.Common.{length, drop, refl, sym, ap, subst, inl, inr, ◌∙◌, append_assoc, append-nil}
 use Rattle.std.specs.Io.{StartsWith}
 use Rattle.std.proofs.KnownBytes.{Appends-nil, starts_with_rest}

@@ -7,4 +7,4 @@ use Rattle.scripts.proofs.reply_line.push_undone.Goals as goal
 
 pub returns-in_err-push_assignment-in-Some : goal.returns-in_err-push_assignment-in-Some
 returns-in_err-push_assignment-in-Some c =
-    grind (arith, common_steps, begins_more _ (field (codes " ") c.in-Some.level) _ c.in_err-push_assignment.ensures)
+    grind (arith, common_steps, begins_more _ (field (codes " ") c.in-Some.level) _ c.in_err-push_assignment-in-Some.ensures)
