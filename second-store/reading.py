@@ -98,9 +98,9 @@ def words(line):
 def number(word, limit, what):
     """The number that a word is, without leading zeros."""
     if len(word) > 20:
-        raise Unreadable(f"{what} {word}: twenty digits at most")
+        raise Unreadable(f"{what} {word}: it may have twenty digits at most")
     if not word.isdigit() or int(word) >= limit:
-        raise Unreadable(f"{what} {word or 'without digits'}: a number below {shown(limit)}")
+        raise Unreadable(f"{what} {word or 'without digits'}: it has to be a number below {shown(limit)}")
     return str(int(word))
 
 
@@ -121,7 +121,7 @@ def one(form, word):
             raise Unreadable(f"requirement {word}: `s` and a version set's number, or `u` and a union's")
         return word[0] + number(word[1:], LIMITS["SET"], "requirement's number")
     if form == "BOOL" and word not in ("true", "false"):
-        raise Unreadable(f"{word}: `true` or `false`")
+        raise Unreadable(f"{word}: it has to be `true` or `false`")
     if form == "VERSION" and word.endswith("*"):
         return number(word[:-1], LIMITS[form], "version") + "*"
     if form in LIMITS:
