@@ -1,5 +1,5 @@
 -- Marks of a list to which clauses were added.
-use Rattle.std.proofs.Common.{◌≡◌, ℕ, true, List, [], ◌∷◌, ◌++◌, length, sym, subst, append_assoc, append-nil, arith}
+use Rattle.std.proofs.Common.{◌≡◌, ℕ, true, List, [], ◌∷◌, ◌++◌, length, refl, sym, ap, ◌∙◌, subst, append_assoc, append-nil, arith}
 use Rattle.decisions.specs.Literals.{Lit}
 use Rattle.decisions.specs.Trail.{Entry}
 use Rattle.watch_map.specs.Watching.{is_literal_in}
@@ -29,3 +29,12 @@ pub marks_added : (literals literals' : ℕ → List Lit) (es : List Entry) (ws 
 marks_added literals literals' es ws more marks grown are =
     marks_grown literals (watched_at (ws ++ more)) es (none_watched_false es marks more)
     (watching_more literals es ws more marks are) literals' grown
+
+-- where there are no marks none is forgotten
+none_of_literals : (es : List Entry) (ls : List Lit) → none_false_at es [] ls ≡ []
+none_of_literals es [] = refl
+none_of_literals es (l ∷ ls) = none_of_literals es ls
+
+pub none_of_clauses : (es : List Entry) (ws : List (List Lit)) → none_watched_false es [] ws ≡ []
+none_of_clauses es [] = refl
+none_of_clauses es (w ∷ ws) = ap (λ marks. none_watched_false es marks ws) (none_of_literals es w) ∙ none_of_clauses es ws

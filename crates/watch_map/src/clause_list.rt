@@ -278,6 +278,9 @@ impl<N: Copy, A: Allocator + Copy> ClauseList<N, A> {
     pub fn forget_false_from(&self, first: usize, marks: &mut Marks<A>, trail: &DecisionTracker<A>)
         ensures { marks.new ≡ none_watched_false trail.now.entries marks.old (drop first (contents self.now).watches) }
     {
+        if marks.is_empty() {
+            return;
+        }
         for index in first..self.clauses.len() {
             self.forget_false(ClauseId::from_index(index), marks, trail);
         }

@@ -16,7 +16,7 @@
 //!
 //! A mark is worth time alone: one that is forgotten, or was left out as memory for it was refused, makes the next
 //! saturation longer, and changes no answer. What a mark says is in `specs/Marks`.
-ghost use Rattle.std.specs.Prelude.{◌≡◌, ◌⊎◌, ◌+◌, ◌-◌, ◌&&◌, ◌++◌, ◌∷◌, [], nat_lt, length, take, All};
+ghost use Rattle.std.specs.Prelude.{◌≡◌, ◌↔◌, IsTrue, ◌⊎◌, ◌+◌, ◌-◌, ◌&&◌, ◌++◌, ◌∷◌, [], nat_lt, length, take, All};
 ghost use Rattle.watch_map.specs.Marks.{newest_mark, marks_below, is_from, not_false_at, none_false_at, IsBehind};
 ghost use Rattle.watch_map.specs.Marks.{IsRemembered, AreRising};
 
@@ -73,6 +73,13 @@ impl<A: Allocator + Copy> Marks<A> {
         Marks {
             marks: Vec::new(alloc),
         }
+    }
+
+    /// Whether there are no marks.
+    pub fn is_empty(&self) -> bool
+        ensures { IsTrue result ↔ (self.now ≡ []) }
+    {
+        self.marks.is_empty()
     }
 
     /// Forgets all. Takes no memory.
