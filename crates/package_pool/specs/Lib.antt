@@ -4,3 +4,4 @@ pub mod PoolIds
 pub mod PoolLaws
 pub mod PoolProps
 pub mod PoolView
+pub mod UnionSetsView

@@ -10,6 +10,6 @@ lists_in p = record {
   names = p.names.keys;
   solvables = p.solvables;
   version_sets = p.version_sets.keys;
-  unions = map (λ u. u.items) p.unions;
+  unions = p.unions;
   conditions = p.conditions.keys;
 }

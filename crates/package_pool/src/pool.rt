@@ -22,7 +22,7 @@ ghost use Rattle.std.specs.Prelude.{◌≡◌, ◌<◌, ◌^◌, ◌-◌, ◌∷
 ghost use Rattle.std.specs.Prelude.{option_map, IsTrue, IsOk, IfOk, OnOk, IfErr, OnErr, IsErrAnd};
 ghost use Rattle.std.specs.List.{position};
 ghost use Rattle.id_storage.specs.Arena.{pairs_from};
-ghost use Rattle.typed_ids.specs.declared.error.StoreError.TheVariants.{IdSpace, OutOfMemory};
+ghost use Rattle.typed_ids.specs.declared.error.StoreError.TheVariants.{IdSpace};
 ghost use Rattle.typed_ids.specs.Refusals.{IsGrowthRefusal, are_ids_out};
 ghost use Rattle.package_pool.specs.Interned.{has_same, interned, interned_place};
 ghost use Rattle.package_pool.specs.Pool.{nothing, IsSound, IsMadeBelow, AreSetsHere, same_set, same_condition};
@@ -31,6 +31,7 @@ ghost use Rattle.package_pool.specs.Pool.{with_condition};
 
 use crate::interned::intern;
 use crate::solvable::Solvable;
+use crate::union_sets::UnionSets;
 use crate::version_set::VersionSet;
 use id_storage::{Arena, ArenaIter};
 use indexmap::IndexSet;
@@ -52,7 +53,7 @@ pub struct Pool<VS: VersionSet, N: Eq + Hash = String, A: Allocator = Global> {
     names: IndexSet<N, BuildHasherDefault<FoldHasher>, A>,
     solvables: Arena<SolvableId, Solvable<VS::V>, A>,
     version_sets: IndexSet<(NameId, VS), BuildHasherDefault<FoldHasher>, A>,
-    unions: Arena<VersionSetUnionId, Vec<VersionSetId, A>, A>,
+    unions: Arena<VersionSetUnionId, UnionSets<A>, A>,
     conditions: IndexSet<Condition, BuildHasherDefault<FoldHasher>, A>,
 }
 
@@ -321,7 +322,7 @@ impl<VS: VersionSet + Drop, N: Eq + Hash + Drop, A: Allocator + Copy> Pool<VS, N
         if !VersionSetUnionId::in_range(self.unions.len()) {
             return Err(StoreError::IdSpace);
         }
-        let sets = union_of(*self.conditions.allocator(), first, others)?;
+        let sets = UnionSets::new(*self.conditions.allocator(), first, others)?;
         Ok(self.unions.alloc(sets)?)
     }
 
@@ -340,19 +341,4 @@ impl<VS: VersionSet + Drop, N: Eq + Hash + Drop, A: Allocator + Copy> Pool<VS, N
     {
         Ok(intern(&mut self.conditions, condition)?)
     }
-}
-
-/// The version sets of a union.
-fn union_of<A: Allocator + Copy>(
-    alloc: A,
-    first: VersionSetId,
-    others: &[VersionSetId],
-) -> Result<Vec<VersionSetId, A>, StoreError>
-    ensures ok { IfOk result (λ sets. sets.items ≡ first ∷ others.now) }
-    ensures memory { IfErr result (λ e. e ≡ OutOfMemory) }
-{
-    let mut sets = Vec::with_capacity(alloc, others.len() + 1)?;
-    sets.push(first)?;
-    sets.extend_from_slice(others)?;
-    Ok(sets)
 }

@@ -41,7 +41,7 @@ returns-clause-ok g c =
       names = c.self.inside.names.keys;
       solvables = c.self.inside.solvables;
       version_sets = c.self.inside.version_sets.keys;
-      unions = map (λ u. u.items) c.self.inside.unions;
+      unions = c.self.inside.unions;
       conditions = keys;
     }) (c.in_ok-intern.ensures.ok ∙ interned_condition c.self.inside.conditions.keys c.args.condition))
 

@@ -13,7 +13,7 @@ returns-clause-ok g c =
       names = keys;
       solvables = c.self.inside.solvables;
       version_sets = c.self.inside.version_sets.keys;
-      unions = map (λ u. u.items) c.self.inside.unions;
+      unions = c.self.inside.unions;
       conditions = c.self.inside.conditions.keys;
     }) h) c.intern.ensures.ok)
 

@@ -1,15 +1,14 @@
-use Rattle.std.proofs.Common.{◌<◌, ◌^◌, rules, arith, sym, subst, ap, ◌∙◌, map, string_bytes, length, length-append, [], ◌∷◌, ◌++◌}
-use Rattle.std.proofs.lemmas.List.{map-append, length-map}
+use Rattle.std.proofs.Common.{◌<◌, ◌^◌, rules, arith, sym, subst, length, length-append, [], ◌∷◌}
 use Rattle.package_pool.specs.Pool.{IsSound, AreSetsHere}
 use Rattle.package_pool.specs.PoolView.{lists_in}
 use Rattle.package_pool.proofs.PoolLemmas.{own_with_union}
 use Rattle.package_pool.proofs.pool.Pool.intern_version_set_union.Goals as goal
 
-sound : (g : _) (c : goal.In_ok-alloc g) → IsSound (record (lists_in c.self.inside) { unions = map (λ u. u.items) c.alloc.new.self })
+sound : (g : _) (c : goal.In_ok-alloc g) → IsSound (record (lists_in c.self.inside) { unions = c.alloc.new.self })
 sound g c =
     let sets = c.in_ok-sets.sets in
     let unions = c.self.inside.unions in
-    let here : AreSetsHere (lists_in c.self.inside) sets.items =
+    let here : AreSetsHere (lists_in c.self.inside) sets =
     rw c.in_ok-sets.ensures.ok
     (subst (λ p. AreSetsHere p (c.args.first ∷ c.args.others.now)) (sym c.self.view_is) c.requires) in
     let room : length unions < 2 ^ 32 = search rules in
@@ -19,11 +18,10 @@ sound g c =
         names = c.self.invariant.fits.names;
         solvables = c.self.invariant.fits.solvables;
         version_sets = c.self.invariant.fits.version_sets;
-        unions = rw (c.in_ok-alloc.ensures.ok, length-map) (omega (arith, room, length-append unions (sets ∷ [])));
+        unions = rw c.in_ok-alloc.ensures.ok (omega (arith, room, length-append unions (sets ∷ [])));
         conditions = c.self.invariant.fits.conditions;
       };
-      own = rw (c.in_ok-alloc.ensures.ok, map-append (λ u. u.items) unions (sets ∷ []))
-          (own_with_union (lists_in c.self.inside) c.self.invariant.own sets.items here);
+      own = rw c.in_ok-alloc.ensures.ok (own_with_union (lists_in c.self.inside) c.self.invariant.own sets here);
     }
 
 pub invariant_of-self-2 : goal.invariant_of-self-2
@@ -31,20 +29,6 @@ invariant_of-self-2 g c = sound g c
 
 pub invariant_of-self : goal.invariant_of-self
 invariant_of-self g c = rw c.in_err-alloc.ensures.err c.self.invariant
-
-pub returns-clause-ok : goal.returns-clause-ok
-returns-clause-ok g c =
-    let unions = c.self.inside.unions in
-    rw (← c.self.view_is)
-    (ap (λ all. record {
-      strings = map string_bytes c.self.inside.strings.keys;
-      names = c.self.inside.names.keys;
-      solvables = c.self.inside.solvables;
-      version_sets = c.self.inside.version_sets.keys;
-      unions = all;
-      conditions = c.self.inside.conditions.keys;
-    }) (ap (map (λ u. u.items)) c.in_ok-alloc.ensures.ok ∙ (map-append (λ u. u.items) unions (c.in_ok-sets.sets ∷ [])
-    ∙ ap (λ union. map (λ u. u.items) unions ++ union ∷ []) c.in_ok-sets.ensures.ok)))
 
 pub returns-clause-sound : goal.returns-clause-sound
 returns-clause-sound g c = sound g c
