@@ -3,6 +3,7 @@ pub mod ClauseListView
 pub mod Forcing
 pub mod Laws
 pub mod Marks
+pub mod NextCode
 pub mod Saturation
 pub mod Visits
 pub mod Walks

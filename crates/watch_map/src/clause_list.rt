@@ -43,7 +43,7 @@ const LIMIT: usize = u32::MAX as usize;
 /// All clauses of a store, with what each of them watches, the clauses that watch each literal, and the literals of the
 /// learnt ones. `N` are the names of packages.
 ///
-/// Where names are ids of 32 bits, a clause's record has 24 bytes, beside 12 for what it watches.
+/// Where names are ids of 32 bits, a clause's record has 24 bytes, beside 20 for what it watches.
 #[derive(Drop)]
 pub struct ClauseList<N: Copy, A: Allocator + Copy> {
     clauses: Vec<Clause<N>, A>,

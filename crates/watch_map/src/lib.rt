@@ -57,6 +57,7 @@ mod clause_list;
 mod cursor;
 mod lists;
 mod marks;
+mod next_clause;
 mod nodes;
 mod saturation;
 mod unwatched;

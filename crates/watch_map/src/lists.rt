@@ -11,6 +11,7 @@ ghost use Rattle.watch_map.specs.WatchLists.{HasRoom, AreWatched, CanBeLinked, I
 ghost use Rattle.watch_map.specs.WatchCalls.{SameLists, Starts, KeepsRoom, UsesRoom, HaveRoom, StandsBehind, remaining};
 
 use crate::cursor::WatchMapCursor;
+use crate::next_clause::NextClause;
 use crate::nodes::{Place, next_of, set_next};
 use crate::watched_literals::WatchedLiterals;
 use decisions::Literal;
@@ -110,7 +111,10 @@ impl<A: Allocator + Copy> WatchMap<A> {
         let next_of_second = self.put_first(second, clause_id);
         *clause = WatchedLiterals {
             watched_literals: [first, second],
-            next_watches: [next_of_first, next_of_second],
+            next_watches: [
+                NextClause::new(next_of_first),
+                NextClause::new(next_of_second),
+            ],
         };
         Ok(())
     }

@@ -4,6 +4,7 @@ ghost use Rattle.typed_ids.specs.TotalMaps.{IsUpdate};
 ghost use Rattle.watch_map.specs.Watching.{AreTwoOrNone, is_literal_in};
 ghost use Rattle.watch_map.specs.WatchLists.{watched_by, record_of, next_at, with_next, with_watch, CanBeLinked};
 
+use crate::next_clause::NextClause;
 use crate::watched_literals::WatchedLiterals;
 use decisions::Literal;
 use typed_ids::{ClauseId, DenseIndex};
@@ -53,7 +54,7 @@ pub(crate) fn next_of(watches: &[Option<WatchedLiterals>], node: &WatchNode) -> 
     ensures { result ≡ next_at (record_of watches.now node.now.clause_id) node.now.watch_index }
 {
     match &watches[node.clause_id.to_index()] {
-        Some(watched) => watched.next_watches[node.watch_index as usize],
+        Some(watched) => watched.next_watches[node.watch_index as usize].clause_id(),
         None => unreachable!(),
     }
 }
@@ -69,7 +70,7 @@ pub(crate) fn set_next(
         (with_next node.now.watch_index next (record_of watches.old node.now.clause_id)) (record_of watches.new) }
 {
     if let Some(watched) = &mut watches[node.clause_id.to_index()] {
-        watched.next_watches[node.watch_index as usize] = next;
+        watched.next_watches[node.watch_index as usize] = NextClause::new(next);
     }
 }
 
@@ -88,6 +89,6 @@ pub(crate) fn set_watch(
     if let Some(watched) = &mut watches[node.clause_id.to_index()] {
         let index = node.watch_index as usize;
         watched.watched_literals[index] = literal;
-        watched.next_watches[index] = next;
+        watched.next_watches[index] = NextClause::new(next);
     }
 }

@@ -13,14 +13,13 @@ ghost use Rattle.clauses.specs.declared.clause.Clause.TheVariants.{InstallRoot, 
 ghost use Rattle.clauses.specs.declared.clause.Clause.TheVariants.{Constrains, ConstrainsExcluded};
 ghost use Rattle.clauses.specs.declared.clause.Clause.TheVariants.{ConstrainsParent, Lock, Learnt, Excluded, AnyOf};
 
+use crate::next_clause::NextClause;
 use clauses::{Clause, Disjunction, LiteralWalk, negative, positive};
 use decisions::{DecisionMap, DecisionTracker, Literal};
 use id_storage::Arena;
 use providers::{Requirement, RequirementMap};
 use std::alloc::Allocator;
-use typed_ids::{
-    ClauseId, DisjunctionId, LearntClauseId, SameClone, StringId, VariableId, VersionSetId,
-};
+use typed_ids::{DisjunctionId, LearntClauseId, SameClone, StringId, VariableId, VersionSetId};
 
 /// The two literals that a clause watches: while neither is false, nothing follows from the clause.
 ///
@@ -31,7 +30,7 @@ pub struct WatchedLiterals {
     /// Two different literals of the clause.
     pub watched_literals: [Literal; 2],
     /// The next clause in the list of each of them.
-    pub(crate) next_watches: [Option<ClauseId>; 2],
+    pub(crate) next_watches: [NextClause; 2],
 }
 
 impl WatchedLiterals {
@@ -42,7 +41,7 @@ impl WatchedLiterals {
     {
         WatchedLiterals {
             watched_literals: [first, second],
-            next_watches: [None, None],
+            next_watches: [NextClause::new(None), NextClause::new(None)],
         }
     }
 

@@ -1,4 +1,4 @@
-use Rattle.std.proofs.Common.{slice_index_or}
+use Rattle.std.proofs.Common.{◌∙◌, slice_index_or}
 use Rattle.watch_map.proofs.StartLaws.{are_apart, room_b, starts, started_rooms}
 use Rattle.watch_map.proofs.lists.WatchMap.start_watching.Goals as goal
 
@@ -20,8 +20,9 @@ returns-clause-ok g c =
     c.in_ok-make_room.ensures.lists c.in_ok-make_room-2.ensures.lists c.in_ok-make_room.ensures.rooms
     c.in_ok-make_room-2.ensures.rooms c.in_ok-make_room-2.ensures.room c.put_first-next_of_first.ensures.slots
     c.put_first-next_of_first.ensures.first c.put_first-next_of_second.new.self c.put_first-next_of_second.ensures.first
-    c.put_first-next_of_second.ensures.slots c.put_first-next_of_first.result c.put_first-next_of_second.result
-    c.put_first-next_of_first.ensures.earlier c.put_first-next_of_second.ensures.earlier
+    c.put_first-next_of_second.ensures.slots c.new.result c.new-2.result
+    (c.new.ensures ∙ c.put_first-next_of_first.ensures.earlier)
+    (c.new-2.ensures ∙ c.put_first-next_of_second.ensures.earlier)
 
 pub returns-clause-ok_rooms : goal.returns-clause-ok_rooms
 returns-clause-ok_rooms g c =
