@@ -2,7 +2,7 @@
 pub mod Possible
 pub mod Synced
 pub mod Trails
-use Rattle.std.specs.Prelude.{◌≡◌, ℕ, ◌⊎◌, List, Some, None, option_map, map, slice_get}
+use Rattle.std.specs.Prelude.{◌≡◌, ℕ, ◌⊎◌, true, List, Some, None, is_some, option_map, map, slice_get}
 use Rattle.decisions.specs.Decisions.{values_in}
 use Rattle.decisions.specs.Literals.{Values}
 use Rattle.decisions.specs.declared.decision.Decision.{Decision}
@@ -67,7 +67,8 @@ module _ (w : Ways) where
     pub grows : GrowsBy (IsOfClause w.clauses) q q'
     pub only : OnlyForgets ts ts'
     pub parents : (v : ℕ) → Stands v variables → AreWoken w.clauses w.val (list_at w.by_parent v) q'
-    pub conditions : (v : ℕ) → Stands v variables → AreWoken w.clauses w.val (list_at w.by_condition v) q'
+    pub conditions : (v : ℕ) → Stands v variables → is_some (w.val v) ≡ true →
+        AreWoken w.clauses w.val (list_at w.by_condition v) q'
     pub unknown : (v : ℕ) → Stands v variables → AreUnknown (w.requirements v) ts'
     pub woken : WakesForgotten ts ts' q'
     pub others : Unrouted w.requirements variables ts ts'

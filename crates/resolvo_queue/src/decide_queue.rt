@@ -25,7 +25,7 @@
 //! ```text
 //!                 its parent's clauses                      queued, if their parent is true
 //!               /
-//!     variable -- clauses with it in their condition        queued, if their parent is true
+//!     variable -- clauses with it in their condition        queued, if their parent is true and it has a value
 //!               \
 //!                 requirements with it in a listed row      what was known of their rows is forgotten; if they were
 //!                                                           known to have no frontier, their clauses are queued

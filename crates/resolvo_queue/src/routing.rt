@@ -1,8 +1,10 @@
 //! Routing variables whose values may have changed.
-ghost use Rattle.std.specs.Prelude.{◌≡◌, ℕ, [], ◌∷◌, OnOk, IfErr};
+ghost use Rattle.std.specs.Prelude.{◌≡◌, ℕ, [], ◌∷◌, true, is_some, OnOk, IfErr};
 ghost use Rattle.typed_ids.specs.declared.error.StoreError.TheVariants.{OutOfMemory};
 ghost use Rattle.resolvo_queue.specs.Occurrences.{listing};
-ghost use Rattle.resolvo_queue.specs.Parts.Queued.{GrowsBy, HaveNumbers, IsOfClause};
+ghost use Rattle.decisions.specs.Decisions.{values_in};
+ghost use Rattle.resolvo_queue.specs.Rows.ByVariable.{list_at};
+ghost use Rattle.resolvo_queue.specs.Parts.Queued.{AreWoken, GrowsBy, HaveNumbers, IsOfClause};
 ghost use Rattle.resolvo_queue.specs.Routing.{AreUnknown, ForgetsAmong, OnlyForgets, Routes, Unrouted, WakesForgotten};
 ghost use Rattle.resolvo_queue.specs.Routing.{variables_of, ways};
 
@@ -85,6 +87,27 @@ fn forget_all<A: Allocator + Copy>(
     Ok(())
 }
 
+/// Wakes the clauses in whose condition the variable stands, where it has a value: a condition is met only where each of
+/// its variables has one. So what is taken back wakes no clause by its condition.
+fn wake_by_condition<A: Allocator + Copy>(
+    queued: &mut QueuedClauses<A>,
+    variable: VariableId,
+    routing: &Routing<'_, A>,
+) -> Result<(), StoreError>
+    requires { HaveNumbers routing.now.index.now.clauses.items }
+    ensures grows { GrowsBy (IsOfClause routing.now.index.now.clauses.items) queued.old queued.new }
+    ensures woken { OnOk result (is_some (values_in routing.now.map.now variable) ≡ true →
+        AreWoken routing.now.index.now.clauses.items (values_in routing.now.map.now)
+        (list_at routing.now.index.now.by_condition variable) queued.new) }
+    ensures memory { IfErr result (λ e. e ≡ OutOfMemory) }
+{
+    if routing.map.value(variable).is_none() {
+        return Ok(());
+    }
+    let numbers = routing.index.by_condition.at(variable);
+    wake_clauses(queued, routing.index, numbers, routing.map)
+}
+
 /// Routes one variable: wakes the clauses of which it is the parent or a variable of the condition, and forgets what is
 /// known of the requirements that have it in a row.
 fn route<A: Allocator + Copy>(
@@ -103,7 +126,7 @@ fn route<A: Allocator + Copy>(
 {
     let index = routing.index;
     wake_clauses(queued, index, index.by_parent.at(variable), routing.map)?;
-    wake_clauses(queued, index, index.by_condition.at(variable), routing.map)?;
+    wake_by_condition(queued, variable, routing)?;
     let listed = routing.occurrences.listing(variable);
     forget_all(queued, requirements, listed, routing)
 }

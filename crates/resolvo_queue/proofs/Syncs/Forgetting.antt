@@ -1,7 +1,7 @@
 -- What forgetting and routing leave.
 use Rattle.std.proofs.Common.{◌≡◌, ◌≢◌, ℕ, zero, suc, ◌+◌, ◌-◌, ◌<◌, drop, take_all, take-append-drop}
-use Rattle.std.proofs.Common.{length-drop, Bool, true, false, eqb, eqb-true, eq-eqb, ◌⊎◌, inl, inr}
-use Rattle.std.proofs.Common.{List, [], ◌∷◌, ◌++◌, take, length, get_or, Option, Some, None, option_map}
+use Rattle.std.proofs.Common.{length-drop, true, false, ◌⊎◌, inl, inr}
+use Rattle.std.proofs.Common.{List, [], ◌∷◌, ◌++◌, take, length, get_or, Option, Some, None, is_some, option_map}
 use Rattle.std.proofs.Common.{slice_get, Result, Ok, Err, OnOk, sym, ap, refl, ◌∙◌, subst, arith}
 use Rattle.std.proofs.Math.Seq.{drop-length}
 use Rattle.std.proofs.lemmas.List.{take_more, map-append}
@@ -232,8 +232,8 @@ module _ (w : Ways) where
       | inr y ↦ g.parents v y
     ];
     conditions = λ v s. elim (which vs v s) [
-      | inl x ↦ woken_stays w.clauses (IsOfClause w.clauses) w.val (list_at w.by_condition v) p r g.grows
-          (f.conditions v x)
+      | inl x ↦ (λ e. woken_stays w.clauses (IsOfClause w.clauses) w.val (list_at w.by_condition v) p r g.grows
+          (f.conditions v x e))
       | inr y ↦ g.conditions v y
     ];
     unknown = λ v s. elim (which vs v s) [
@@ -253,7 +253,8 @@ module _ (w : Ways) where
   -- one variable
   pub routes_one : {T E : Type 0} (result : Result T E) (v : ℕ) (ts ts' : List Record) (q0 q1 q2 q3 : Queued) →
       GrowsBy (IsOfClause w.clauses) q0 q1 → AreWoken w.clauses w.val (list_at w.by_parent v) q1 →
-      GrowsBy (IsOfClause w.clauses) q1 q2 → AreWoken w.clauses w.val (list_at w.by_condition v) q2 →
+      GrowsBy (IsOfClause w.clauses) q1 q2 →
+      (is_some (w.val v) ≡ true → AreWoken w.clauses w.val (list_at w.by_condition v) q2) →
       GrowsBy (IsOfClause w.clauses) q2 q3 → OnlyForgets ts ts' → ForgetsAmong (w.requirements v) ts ts' →
       OnOk result (AreUnknown (w.requirements v) ts') → OnOk result (WakesForgotten w ts ts' q3) →
       OnOk result (Routes w (v ∷ []) ts ts' q0 q3)
@@ -264,8 +265,9 @@ module _ (w : Ways) where
     parents = λ a s. just (λ b. AreWoken w.clauses w.val (list_at w.by_parent b) q3) v a s
         (woken_stays w.clauses (IsOfClause w.clauses) w.val (list_at w.by_parent v) q1 q3
         (grows_both (IsOfClause w.clauses) q1 q2 q3 g h) by_p);
-    conditions = λ a s. just (λ b. AreWoken w.clauses w.val (list_at w.by_condition b) q3) v a s
-        (woken_stays w.clauses (IsOfClause w.clauses) w.val (list_at w.by_condition v) q2 q3 h by_c);
+    conditions = λ a s. just (λ b. is_some (w.val b) ≡ true → AreWoken w.clauses w.val (list_at w.by_condition b) q3)
+        v a s
+        (λ e. woken_stays w.clauses (IsOfClause w.clauses) w.val (list_at w.by_condition v) q2 q3 h (by_c e));
     unknown = λ a s. just (λ b. AreUnknown (w.requirements b) ts') v a s u;
     woken = y;
     others = λ k t e n. m k t e (n v here);

@@ -16,15 +16,16 @@ abbrev pub routes_condition : (ℕ → Bool) → List Lit → Bool
 routes_condition routed literals = list_any (λ l. routed (variable_of l)) literals
 
 module _ {C R : Type 0} (parent : C → ℕ) (condition : C → List Lit) (requirement : C → R) (rows_of : R → List Row) where
-  -- what routing variables does: nothing leaves the queue, and whose parent is true is queued where its parent or a
-  -- variable of its condition is routed, or its requirement was known to have no frontier and isn't any more
+  -- what routing variables does: nothing leaves the queue, and whose parent is true is queued where its parent is
+  -- routed, or its condition is met and a variable of it routed, or its requirement was known to have no frontier and
+  -- isn't any more
   pub record WakesRouted (registered : C → Type 0) (now : Values) (routed : ℕ → Bool) (known known' : R → Known)
       (queued queued' : C → Bool) : Type 0 where
     pub kept : (c : C) → queued c ≡ true → queued' c ≡ true
     pub by_parent : (c : C) → registered c → known_true (now (parent c)) ≡ true →
         routed (parent c) ≡ true → queued' c ≡ true
     pub by_condition : (c : C) → registered c → known_true (now (parent c)) ≡ true →
-        routes_condition routed (condition c) ≡ true → queued' c ≡ true
+        are_literals_false now (condition c) ≡ true → routes_condition routed (condition c) ≡ true → queued' c ≡ true
     pub by_requirement : (c : C) → registered c → known_true (now (parent c)) ≡ true →
         known (requirement c) ≡ Some None → known' (requirement c) ≡ None → queued' c ≡ true
 
@@ -43,18 +44,6 @@ all_of : (a b c : Bool) → a ≡ true → b ≡ true → c ≡ true → (a && (
 all_of true true c e f g = g
 all_of true false c e f g = cc
 all_of false b c e f g = cc
-
-right_of : (a b : Bool) → b ≡ true → (a || b) ≡ true
-right_of true b e = refl
-right_of false b e = e
-
-left_of : (a b : Bool) → a ≡ true → (a || b) ≡ true
-left_of true b e = refl
-left_of false b e = cc
-
-one_of : (a b : Bool) → (a || b) ≡ true → (a ≡ true) ⊎ (b ≡ true)
-one_of true b e = inl refl
-one_of false b e = inr e
 
 -- ---- conditions
 
@@ -156,99 +145,13 @@ module _ {C R : Type 0} (parent : C → ℕ) (condition : C → List Lit) (requi
           may_have_frontier (known' (requirement c)) ≡ true → counted c ≡ true →
           (b : Bool) → are_literals_false before (condition c) ≡ b → queued' c ≡ true
       by_condition p h m k true g = by_known p m k g (may_have_frontier (known (requirement c))) refl
-      by_condition p h m k false g = w.by_condition c reg p (condition_routed before now routed same (condition c) g h)
+      by_condition p h m k false g =
+          w.by_condition c reg p h (condition_routed before now routed same (condition c) g h)
 
       by_counted : now_true now c ≡ true → are_literals_false now (condition c) ≡ true →
           may_have_frontier (known' (requirement c)) ≡ true → (b : Bool) → counted c ≡ b → queued' c ≡ true
       by_counted p h m true k = by_condition p h m k (are_literals_false before (condition c)) refl
       by_counted p h m false k = w.by_parent c reg p (parents c reg k p)
-
-  -- routing some variables, and then others
-  pub wakes_both : (registered : C → Type 0) (now : Values) (p q : ℕ → Bool) (k l m : R → Known) (a b c : C → Bool) →
-      Forgets p k l → Forgets q l m → Wakes registered now p k l a b → Wakes registered now q l m b c →
-      Wakes registered now (λ x. p x || q x) k m a c
-  wakes_both registered now p q k l m a b c f g v w = record {
-    kept = λ d h. w.kept d (v.kept d h);
-    by_parent = λ d reg t e. elim (one_of (p (parent d)) (q (parent d)) e) [
-      | inl x ↦ w.kept d (v.by_parent d reg t x)
-      | inr y ↦ w.by_parent d reg t y
-    ];
-    by_condition = λ d reg t e. elim (split (condition d) e) [
-      | inl x ↦ w.kept d (v.by_condition d reg t x)
-      | inr y ↦ w.by_condition d reg t y
-    ];
-    by_requirement = λ d reg t was is. elim (f.only_forgets (requirement d)) [
-      | inl x ↦ w.by_requirement d reg t (x ∙ was) is
-      | inr y ↦ w.kept d (v.by_requirement d reg t was y)
-    ];
-  }
-    where
-      split : (ls : List Lit) → routes_condition (λ x. p x || q x) ls ≡ true →
-          (routes_condition p ls ≡ true) ⊎ (routes_condition q ls ≡ true)
-      split [] e = cc
-      split (x ∷ xs) e =
-          elim (one_of (p (variable_of x) || q (variable_of x)) (routes_condition (λ x. p x || q x) xs) e) [
-            | inl h ↦ elim (one_of (p (variable_of x)) (q (variable_of x)) h) [
-              | inl i ↦ inl (left_of (p (variable_of x)) (routes_condition p xs) i)
-              | inr i ↦ inr (left_of (q (variable_of x)) (routes_condition q xs) i)
-            ]
-            | inr h ↦ elim (split xs h) [
-              | inl i ↦ inl (right_of (p (variable_of x)) (routes_condition p xs) i)
-              | inr i ↦ inr (right_of (q (variable_of x)) (routes_condition q xs) i)
-            ]
-          ]
-
-  pub forgets_both : (p q : ℕ → Bool) (k l m : R → Known) → Forgets p k l → Forgets q l m →
-      Forgets (λ x. p x || q x) k m
-  forgets_both p q k l m f g = record {
-    only_forgets = λ r. elim (g.only_forgets r) [
-      | inl e ↦ elim (f.only_forgets r) [ inl d ↦ inl (e ∙ d) | inr d ↦ inr (e ∙ d) ]
-      | inr e ↦ inr e
-    ];
-    forgets = λ r e. elim (split (rows_of r) e) [
-      | inl d ↦ elim (g.only_forgets r) [ inl h ↦ h ∙ f.forgets r d | inr h ↦ h ]
-      | inr d ↦ g.forgets r d
-    ];
-  }
-    where
-      split : (rs : List Row) → routes_rows (λ x. p x || q x) rs ≡ true →
-          (routes_rows p rs ≡ true) ⊎ (routes_rows q rs ≡ true)
-      split [] e = cc
-      split (x ∷ xs) e =
-          elim (one_of (p x.variable || q x.variable) (routes_rows (λ x. p x || q x) xs) e) [
-            | inl h ↦ elim (one_of (p x.variable) (q x.variable) h) [
-              | inl i ↦ inl (left_of (p x.variable) (routes_rows p xs) i)
-              | inr i ↦ inr (left_of (q x.variable) (routes_rows q xs) i)
-            ]
-            | inr h ↦ elim (split xs h) [
-              | inl i ↦ inl (right_of (p x.variable) (routes_rows p xs) i)
-              | inr i ↦ inr (right_of (q x.variable) (routes_rows q xs) i)
-            ]
-          ]
-
-  -- nothing is routed
-  pub wakes_none : (registered : C → Type 0) (now : Values) (k : R → Known) (a : C → Bool) →
-      Wakes registered now (λ x. false) k k a a
-  wakes_none registered now k a = record {
-    kept = λ d h. h;
-    by_parent = λ d reg t e. cc;
-    by_condition = λ d reg t e. let bad : false ≡ true = sym (nothing (condition d)) ∙ e in cc;
-    by_requirement = λ d reg t was is. let bad : Some None ≡ None = sym was ∙ is in cc;
-  }
-    where
-      nothing : (ls : List Lit) → routes_condition (λ x. false) ls ≡ false
-      nothing [] = refl
-      nothing (l ∷ ls) = nothing ls
-
-  pub forgets_none : (k : R → Known) → Forgets (λ x. false) k k
-  forgets_none k = record {
-    only_forgets = λ r. inl refl;
-    forgets = λ r e. let bad : false ≡ true = sym (nothing (rows_of r)) ∙ e in cc;
-  }
-    where
-      nothing : (rs : List Row) → routes_rows (λ x. false) rs ≡ false
-      nothing [] = refl
-      nothing (r ∷ rs) = nothing rs
 
   -- ---- after a refusal
 

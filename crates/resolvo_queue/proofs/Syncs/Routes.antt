@@ -6,7 +6,8 @@ use Rattle.std.proofs.lemmas.List.Folds.{list_any-append}
 use Rattle.decisions.specs.declared.decision.Decision.{Decision}
 use Rattle.resolvo_queue.specs.Routing.Trails.{decided_value}
 use Rattle.resolvo_queue.proofs.Syncs.Trails.{same_elsewhere, stands_in, routed_in}
-use Rattle.decisions.specs.Literals.{Lit, Values, variable_of, known_true}
+use Rattle.decisions.specs.Literals.{Lit, Pos, Neg, Values, variable_of, known_true, known_false, truth}
+use Rattle.decisions.specs.Literals.{is_false_literal}
 use Rattle.providers.specs.declared.requirement.Requirement.{Requirement}
 use Rattle.resolvo_queue.specs.Rows.{Row}
 use Rattle.resolvo_queue.specs.Members.{Stands, here, there}
@@ -17,10 +18,11 @@ use Rattle.resolvo_queue.specs.Parts.Records.{Record, walk_of, rows_in, known_at
 use Rattle.resolvo_queue.specs.Routing.{OnlyForgets, Routes, Ways, variables_of}
 use Rattle.resolvo_queue.specs.Routing.Synced.{is_among, IsOneOf, IsHot, FindsAll}
 use Rattle.resolvo_queue.specs.Routing.Synced.{ListsKnown, KeepsQueued, SyncsTo, AllWoken}
+use Rattle.resolvo_queue.specs.Scan.{are_literals_false}
 use Rattle.resolvo_queue.specs.declared.tracked_clause.TrackedClause.{TrackedClause}
 use Rattle.resolvo_queue.proofs.Syncs.Forgetting.{known_only_forgotten}
 use Rattle.resolvo_queue.proofs.Syncs.Law.{sync_holds, sync_knows, anew_holds, anew_knows}
-use Rattle.resolvo_queue.proofs.Syncs.Law.{routes_condition, WakesRouted, ForgetsRouted}
+use Rattle.resolvo_queue.proofs.Syncs.Law.{both_of, routes_condition, WakesRouted, ForgetsRouted}
 use Rattle.resolvo_queue.proofs.Rows.Frontiers.{routes_rows}
 
 pub among_stands : (vs : List ℕ) (x : ℕ) → is_among vs x ≡ true → Stands x vs
@@ -42,6 +44,28 @@ literal_among routed (l ∷ ls) e = go (routed (variable_of l)) refl e (literal_
         (m : Lit) × Stands m (l ∷ ls) × (routed (variable_of m) ≡ true)
     go true h f more = (l, here, h)
     go false h f more = let m = more f in (m.0, there m.1, m.2)
+
+-- a literal that is false has a value
+false_decided : (val : Values) (l : Lit) → is_false_literal val l ≡ true → is_some (val (variable_of l)) ≡ true
+false_decided val (Pos x) e = go (val x) e
+  where
+    go : (o : Option Bool) → known_false o ≡ true → is_some o ≡ true
+    go None f = cc
+    go (Some b) f = refl
+false_decided val (Neg x) e = go (val x) e
+  where
+    go : (o : Option Bool) → known_false (truth (λ y. o) (Neg x)) ≡ true → is_some o ≡ true
+    go None f = cc
+    go (Some b) f = refl
+
+-- so each variable of a condition that is met has one
+met_decided : (val : Values) (ls : List Lit) → are_literals_false val ls ≡ true → (l : Lit) → Stands l ls →
+    is_some (val (variable_of l)) ≡ true
+met_decided val [] e l s = elim s [ ]
+met_decided val (x ∷ xs) e l here =
+    false_decided val x (both_of (is_false_literal val x) (are_literals_false val xs) e).0
+met_decided val (x ∷ xs) e l (there s) =
+    met_decided val xs (both_of (is_false_literal val x) (are_literals_false val xs) e).1 l s
 
 row_among : (routed : ℕ → Bool) (rs : List Row) → routes_rows routed rs ≡ true →
     (row : Row) × Stands row rs × (routed row.variable ≡ true)
@@ -109,8 +133,9 @@ module _ (w : Ways) (literals : TrackedClause → List Lit) (rows_of : Requireme
     kept = λ c h. routes.grows.all_kept c.position h;
     by_parent = λ c reg t e.
         (routes.parents c.parent (among_stands vs c.parent e) reg.0 c (finds.parents reg.0 c reg.1) reg.1 t).all;
-    by_condition = λ c reg t e. (let l = literal_among (is_among vs) (literals c) e in
-        (routes.conditions (variable_of l.0) (among_stands vs (variable_of l.0) l.2) reg.0 c
+    by_condition = λ c reg t met e. (let l = literal_among (is_among vs) (literals c) e in
+        (routes.conditions (variable_of l.0) (among_stands vs (variable_of l.0) l.2)
+        (met_decided w.val (literals c) met l.0 l.1) reg.0 c
         (finds.conditions reg.0 c reg.1 l.0 l.1) reg.1 t).all);
     by_requirement = λ c reg t was is.
         (routes.woken c.record was is reg.0 c (finds.requirements reg.0 c reg.1) reg.1 t).all;
@@ -124,8 +149,9 @@ module _ (w : Ways) (literals : TrackedClause → List Lit) (rows_of : Requireme
     by_parent = λ c reg t e.
         (routes.parents c.parent (among_stands vs c.parent e) reg.0.0 c
         (finds.parents reg.0.0 c reg.0.1) reg.0.1 t).hot reg.1;
-    by_condition = λ c reg t e. (let l = literal_among (is_among vs) (literals c) e in
-        (routes.conditions (variable_of l.0) (among_stands vs (variable_of l.0) l.2) reg.0.0 c
+    by_condition = λ c reg t met e. (let l = literal_among (is_among vs) (literals c) e in
+        (routes.conditions (variable_of l.0) (among_stands vs (variable_of l.0) l.2)
+        (met_decided w.val (literals c) met l.0 l.1) reg.0.0 c
         (finds.conditions reg.0.0 c reg.0.1 l.0 l.1) reg.0.1 t).hot reg.1);
     by_requirement = λ c reg t was is.
         (routes.woken c.record was is reg.0.0 c (finds.requirements reg.0.0 c reg.0.1) reg.0.1 t).hot reg.1;

@@ -8,13 +8,11 @@ pub returns-clause-ok : goal.returns-clause-ok
 returns-clause-ok g c =
     let w = ways c.args.routing.now in
     routes_one w c.forget_all.result c.args.variable c.args.requirements.now c.forget_all.new.requirements
-    c.args.queued.now c.wake_clauses.new.queued c.wake_clauses-2.new.queued c.forget_all.new.queued
+    c.args.queued.now c.wake_clauses.new.queued c.wake_by_condition.new.queued c.forget_all.new.queued
     c.wake_clauses.ensures.grows
     (subst (λ ns. AreWoken w.clauses w.val ns c.wake_clauses.new.queued) c.at.ensures
     c.in_ok-wake_clauses.ensures.woken)
-    c.wake_clauses-2.ensures.grows
-    (subst (λ ns. AreWoken w.clauses w.val ns c.wake_clauses-2.new.queued) c.at-2.ensures
-    c.in_ok-wake_clauses-2.ensures.woken)
+    c.wake_by_condition.ensures.grows c.in_ok-wake_by_condition.ensures.woken
     c.forget_all.ensures.grows c.forget_all.ensures.only
     (subst (λ rs. ForgetsAmong rs c.args.requirements.now c.forget_all.new.requirements) c.listing-listed.ensures
     c.forget_all.ensures.others)
