@@ -40,11 +40,6 @@ growth_refusal false OutOfMemory h k = refl
 growth_refusal false IdSpace h k = (let no : false ≡ true = h in cc)
 growth_refusal false _ h k = absurd h
 
-pub refused_growth : {T : Type 0} (out : Bool) (result : Result T StoreError) → IfErr result (IsGrowthRefusal out) → (IsTrue out → result ≡ Err IdSpace)
-    → IfErr result (λ e. e ≡ cond out IdSpace OutOfMemory)
-refused_growth out (Ok x) h k = tt
-refused_growth out (Err e) h k = growth_refusal out e h (λ t. cc (k t))
-
 -- what is true of a refusal is true of the answer that hands it on
 pub err_answer : {A : Type 0} (P : Reply → Type 0) (result : Result (ProgramReply A) StoreError) (e : StoreError) → IsErrAnd result (λ x. x ≡ e) → P (Refused e)
     → P (answer_of result)

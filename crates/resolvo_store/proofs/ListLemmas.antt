@@ -8,7 +8,6 @@ use Rattle.std.specs.Option.{option_copied}
 use Rattle.std.specs.declared.vec.Vec.{Vec}
 use Rattle.std.proofs.Math.Path.{fun_ext}
 use Rattle.std.proofs.lemmas.List.{length-map}
-use Rattle.std.proofs.lemmas.List.Folds.{flat_map-map}
 use Rattle.std.proofs.lemmas.Map.Made.{lookup-map_values}
 use Rattle.providers.specs.RequirementMap.{with_entry}
 use Rattle.providers.specs.declared.requirement.Requirement.{Requirement}
@@ -152,7 +151,3 @@ length-mapped members f (l ∷ ls) =
     ∙ ap (λ n. n + length (flat_map (λ l. map f (members l)) ls)) (length-map (members l) f)
     ∙ ap (λ n. length (members l) + n) (length-mapped members f ls)
     ∙ sym (length-append (members l) (flat_map members ls))
-
--- equal lists of lists have the same members one after another
-pub same-joined : {X Y Z : Type 0} (f : X → List Z) (g : Y → List Z) (xs : List X) (ys : List Y) → map f xs ≡ map g ys → flat_map f xs ≡ flat_map g ys
-same-joined f g xs ys e = sym (flat_map-map (λ l. l) f xs) ∙ ap (flat_map (λ l. l)) e ∙ flat_map-map (λ l. l) g ys

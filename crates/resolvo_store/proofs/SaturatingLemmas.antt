@@ -1,6 +1,6 @@
 -- What the list of clauses leaves where it is asked to saturate makes a step, and keeps the store in order. N are the names,
 -- S the solvables.
-use Rattle.std.proofs.Common.{◌≡◌, ℕ, ◌<◌, ◌≤◌, ◌^◌, true, false, not, List, [], ◌∷◌, ◌++◌, length, Option, None, Some, Result, Ok, Err, refl, sym, subst, ap, ◌∙◌}
+use Rattle.std.proofs.Common.{◌≡◌, ℕ, ◌<◌, ◌≤◌, ◌^◌, true, not, List, [], ◌∷◌, ◌++◌, length, Option, None, Some, Result, Ok, Err, sym, subst, ap, ◌∙◌}
 use Rattle.std.specs.Prelude.{MatchOption, Bool, IfOk, IfErr}
 use Rattle.std.specs.declared.vec.Vec.{Vec}
 use Rattle.typed_ids.specs.declared.error.StoreError.{StoreError}
@@ -29,12 +29,6 @@ use Rattle.resolvo_queue.specs.References.{references}
 use Rattle.resolvo_store.proofs.SyncedLemmas.{clear-forced, in_step-forced}
 
 module _ {N S : Type 0} (st : Store N S) where
-  -- a step at a level that isn't in range
-  pub step_bad_level : (level : ℕ) → is_level level ≡ false → Step st (Saturate level) (Refused LevelOutOfRange) st
-  step_bad_level level bad =
-      subst (λ b. MatchOption (first_of ((not b, LevelOutOfRange) ∷ [])) (Saturates level st (Refused LevelOutOfRange) st) (λ e. (Refused LevelOutOfRange ≡ Refused e) × (st ≡ st)))
-      (sym bad) (refl, refl)
-
   -- and at one that is
   pub step_saturates : (level : ℕ) (reply : Reply) (after : Store N S) → is_level level ≡ true → Saturates level st reply after → Step st (Saturate level) reply after
   step_saturates level reply after good is =

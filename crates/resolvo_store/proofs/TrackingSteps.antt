@@ -46,18 +46,6 @@ module _ {N S : Type 0} (st : Store N S) (name : N) (v : ℕ) where
   answered known reply after is =
       subst (λ o. MatchOption o (IsAnswered st command reply after) (λ e. (reply ≡ Refused e) × (after ≡ st))) (sym (first_of_tracking known)) is
 
-  -- it was tracked before
-  pub step_already : (st.provider.universe.knows_name name && (knows_variable st v && not (is_helper_among st.origins v))) ≡ true → tracked ≡ true
-      → Step st command (TrackedAs false 0) st
-  step_already known before =
-      let same : outcome st command ≡ record { reply = TrackedAs false 0; store = st } =
-      ap (λ b. cond b (let o : Outcome N S = record { reply = TrackedAs false 0; store = st } in o) (record { reply = TrackedAs true (length (tracking st name v)); store = with_tracked st name v })) before in
-      answered known (TrackedAs false 0) st (
-        ap (λ b. not b && (st.provider.is_large_name name || lacks_others)) before,
-        sym (ap (λ o. o.reply) same),
-        sym (ap (λ o. o.store) same),
-      )
-
   -- it is tracked from now on, or that was refused
   pub step_tracked : {A : Type 0} (result : Result (ProgramReply A) StoreError) (after : Store N S)
       → (st.provider.universe.knows_name name && (knows_variable st v && not (is_helper_among st.origins v))) ≡ true → tracked ≡ false

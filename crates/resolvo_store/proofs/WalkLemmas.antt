@@ -7,7 +7,7 @@ use Rattle.typed_ids.specs.TotalMaps.{SameValues}
 use Rattle.providers.specs.Provider.{sets_of}
 use Rattle.providers.specs.Requirement.{same_requirement}
 use Rattle.providers.specs.declared.requirement.Requirement.{Requirement}
-use Rattle.decisions.specs.Trail.{Entry, Trail, floor_taken}
+use Rattle.decisions.specs.Trail.{Trail, floor_taken}
 use Rattle.decisions.specs.declared.decision.Decision.{Decision}
 use Rattle.clauses.specs.declared.disjunction.Disjunction.{Disjunction}
 use Rattle.resolvo_queue.specs.Queue.{Queue, HasTrail, IsRegistered, IsUnchanged, SameSync, StandsOn}
@@ -41,10 +41,6 @@ owes_nothing own a = record { walks = λ r. refl; looks = λ r. refl; owed = λ 
 
 pub walks_no_more : (a : Asked) → WalksNothing a a
 walks_no_more a = record { walks = λ r. refl; looks = λ r. refl; owed = λ r. refl; told = told_nothing a }
-
--- another trail, with the same floor
-pub asked_still : {N Q : Type 0} (q : Queue N Q) (t t' : Trail) → t'.floor ≡ t.floor → asked_of q t' ≡ asked_of q t
-asked_still q t t' same = ap (λ n. record { records = q.inside.requirements; looked = q.witnesses.of.looks; trail = q.trail; must_start_anew = q.must_start_anew; floor = n }) same
 
 module _ {N Q : Type 0} (queue q : Queue N Q) (trail : Trail) where
   told_still : SameSync queue q → ToldNothing (asked_of queue trail) (asked_of q trail)

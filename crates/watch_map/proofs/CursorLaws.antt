@@ -1,24 +1,20 @@
 -- A cursor at a clause of a chain.
-use Rattle.std.proofs.Common.{◌≡◌, ℕ, ◌<◌, true, nat_eq, List, [], ◌∷◌, ◌++◌, Option, Some, None, length, slice_index_or, sym, ap, refl, subst, ◌∙◌, arith}
+use Rattle.std.proofs.Common.{◌≡◌, ℕ, ◌<◌, true, nat_eq, List, [], ◌∷◌, ◌++◌, Option, Some, None, length, slice_index_or, sym, ap, refl, subst, ◌∙◌}
 use Rattle.std.specs.List.{IsDistinct}
 use Rattle.std.specs.Prelude.{IfSome}
 use Rattle.decisions.specs.Literals.{Lit}
 use Rattle.watch_map.specs.WatchLists.{Position}
 use Rattle.watch_map.specs.declared.nodes.WatchNode.{WatchNode}
-use Rattle.watch_map.specs.Watching.{is_literal_in, is_clause_in, AreTwoOrNone, before, behind}
-use Rattle.watch_map.specs.WatchLists.{WatchLists, Watches, record_of, literals_in, watched_by}
-use Rattle.watch_map.specs.WatchLists.{link, IsChain, watchers, HasTwoLinks, AreWatched}
-use Rattle.watch_map.specs.WatchLists.{IsPrevious, IsCursorAt, CanBeLinked, clause_of, index_of}
+use Rattle.watch_map.specs.Watching.{is_literal_in, is_clause_in, before, behind}
+use Rattle.watch_map.specs.WatchLists.{WatchLists, Watches, watched_by}
+use Rattle.watch_map.specs.WatchLists.{link, IsChain, watchers, AreWatched}
+use Rattle.watch_map.specs.WatchLists.{IsPrevious, IsCursorAt, clause_of, index_of}
 use Rattle.watch_map.specs.WatchCalls.{StandsBehind, remaining}
 use Rattle.watch_map.proofs.WatchingLaws.{parts}
 use Rattle.watch_map.proofs.ChainLaws.{in_middle}
 
 module _ (map : WatchLists) (ws : Watches) (watched : AreWatched map ws) (l : Lit) (previous : Option WatchNode) (front back : List ℕ)
     (list : watchers map ws l ≡ front ++ back) where
-  -- the clause that comes next watches the literal
-  pub next_two : (next : Option ℕ) → IsChain (link ws l) next back → (c : ℕ) → next ≡ Some c → AreTwoOrNone (watched_by ws c)
-  next_two next linked c e = watched.exact.two c
-
   starts_with : (xs : List ℕ) (next : Option ℕ) → IsChain (link ws l) next xs → (c : ℕ) → next ≡ Some c → (ys : List ℕ) × (xs ≡ c ∷ ys)
   starts_with [] next linked c e = absurd (let z : None ≡ Some c = sym linked ∙ e in cc)
   starts_with (x ∷ xs) next linked c e = let z : Some x ≡ Some c = sym linked.0 ∙ e in let k : x ≡ c = cc in (xs, ap (λ y. y ∷ xs) k)
@@ -66,18 +62,3 @@ module _ (map : WatchLists) (ws : Watches) (watched : AreWatched map ws) (l : Li
     arrived (Some c) (Some cursor) linked at =
         let s = starts_with back (Some c) linked c refl in
         at_clause c s.0 s.1 cursor at.0 at.1 at.2 at.3.within at.3.watch
-
--- a clause that watches has two links
-pub can_be_linked : (ws : Watches) (node : WatchNode) → AreTwoOrNone (watched_by ws node.clause_id) → node.watch_index < length (watched_by ws node.clause_id) →
-    HasTwoLinks (record_of ws node.clause_id) → CanBeLinked node (record_of ws node.clause_id)
-can_be_linked ws node = go (record_of ws node.clause_id)
-  where
-    go : (r : Option _) → AreTwoOrNone (literals_in r) → node.watch_index < length (literals_in r) → HasTwoLinks r → CanBeLinked node r
-    go None two h k = absurd (omega arith)
-    go (Some w) two h k = pair w.watched_literals two h
-      where
-        pair : (ls : List Lit) → AreTwoOrNone ls → node.watch_index < length ls → (node.watch_index < 2) × (length ls ≡ 2) × (length w.next_watches ≡ 2)
-        pair [] two h = absurd (omega arith)
-        pair (a ∷ []) two h = absurd two
-        pair (a ∷ b ∷ []) two h = (h, refl, k)
-        pair (a ∷ b ∷ c ∷ ls) two h = absurd two

@@ -7,7 +7,7 @@ use Rattle.std.proofs.lemmas.List.{take-append-le}
 use Rattle.std.proofs.Math.Seq.{drop-append_seam}
 use Rattle.decisions.specs.Literals.{Lit, Values, variable_of, satisfying_value, truth, undecided, is_false_literal}
 use Rattle.decisions.specs.declared.decision.Decision.{Decision}
-use Rattle.decisions.specs.Trail.{Entry, Trail, val, level_of, pushed}
+use Rattle.decisions.specs.Trail.{Entry, Trail, val, level_of}
 use Rattle.clauses.specs.Clauses.{same_literal}
 use Rattle.watch_map.specs.Watching.{is_literal_in}
 use Rattle.watch_map.specs.Forcing.{are_others_false, forces, decided_literal, IsForced, AreForced}
@@ -142,10 +142,6 @@ module _ (literals : ℕ → List Lit) (level : ℕ) where
 module _ (literals : ℕ → List Lit) (level : ℕ) where
   pub forced_none : (t : Trail) → HasForced literals level t t
   forced_none t = record { added = []; forced = tt; entries = sym (append-nil t.entries); place = refl; floor = refl }
-
-  pub forced_one : (t : Trail) (e : Entry) → IsForced literals level t.entries e
-      → HasForced literals level t (pushed t e)
-  forced_one t e f = record { added = e ∷ []; forced = (f, tt); entries = refl; place = refl; floor = refl }
 
   pub forced_then : (a b c : Trail) → HasForced literals level a b → HasForced literals level b c
       → HasForced literals level a c

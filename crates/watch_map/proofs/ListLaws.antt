@@ -14,17 +14,17 @@ use Rattle.std.proofs.lemmas.Bool.{eqb-true, eqb-false}
 use Rattle.std.proofs.lemmas.List.{ext_get_or, get_or_default, length-map, length-set, map-append}
 use Rattle.typed_ids.specs.TotalMaps.{IsUpdate}
 use Rattle.decisions.specs.Literals.{Lit, Pos, Neg, Values}
-use Rattle.clauses.specs.Clauses.{Kept as KeptLiterals, same_literal}
+use Rattle.clauses.specs.Clauses.{Kept as KeptLiterals}
 use Rattle.clauses.specs.declared.clause.Clause.{Clause}
 use Rattle.clauses.specs.declared.clause.Clause.TheVariants.{ForbidMultipleInstances}
 use Rattle.watch_map.specs.declared.watched_literals.WatchedLiterals.{WatchedLiterals}
-use Rattle.watch_map.specs.Watching.{is_literal_in, AreTwoOrNone, IsExact, started}
+use Rattle.watch_map.specs.Watching.{is_literal_in, IsExact, started}
 use Rattle.watch_map.specs.WatchLists.{WatchLists, Watches, literals_in, watched_by, watchers, HasRoom, AreWatched, Position, clause_of, literal_of, index_of}
 use Rattle.watch_map.specs.WatchCalls.{SameLists, KeepsRoom, UsesRoom, HaveRooms, Starts, StandsIn, Moves}
 use Rattle.watch_map.proofs.WatchingLaws.{exact_same}
 use Rattle.watch_map.proofs.CallerLaws.{same_records_belong, new_clauses_join, records_skip, room_is_for_fewer}
 use Rattle.watch_map.specs.ClauseList.{Clauses, IsClauseList, is_full, literals_watched, two_or_none}
-use Rattle.watch_map.specs.ClauseList.{rewatched, with_clause, with_rewatched, can_rewatch, Kept}
+use Rattle.watch_map.specs.ClauseList.{rewatched, with_clause, with_rewatched, Kept}
 use Rattle.watch_map.specs.ClauseList.{helper_literal, bit_watches, with_forbidden_one, with_forbidden}
 use Rattle.watch_map.specs.ClauseList.{HasRoomFor, HasRoom as HasRoomOf, KeepsRoom as KeepsRoomOf}
 use Rattle.watch_map.specs.Walks.{StartsAtEnd, IsRewatched, may_rewatch}
@@ -143,11 +143,6 @@ module _ {N : Type 0} where
       ap (λ watches. f watches (watchers new ws')) (rewatched_records ws ws' clause from to may is.as_many is.literals)
       ∙ ap (f now) (fun_ext is.lists)
 
-  pub can_be : (cs : List (Clause N)) (ws : Watches) (learnt : List (List Lit)) (lists : WatchLists) (clause : ℕ) (from to : Lit)
-      → can_rewatch (contents_of cs ws learnt lists) clause from to ≡ may_rewatch ws clause from to
-  can_be cs ws learnt lists clause from to =
-      ap (λ ls. is_literal_in from ls && not (is_literal_in to ls)) (literals_at ws clause)
-
   -- ---- what stays true of the list
 
   -- other records and lists, for the same clauses
@@ -212,12 +207,6 @@ module _ {N : Type 0} where
 
 -- ---- room for clauses of helpers
 
-pub same_lists_trans : (a b c : WatchLists) → SameLists a b → SameLists b c → SameLists a c
-same_lists_trans a b c first second ws watched =
-    let mid = first ws watched in
-    let last = second ws mid.0 in
-    (last.0, λ l. last.1 l ∙ mid.1 l)
-
 -- room for one more addition is used by one
 pub room_used : (literals : List Lit) (old new : WatchLists) (l : Lit) (n : ℕ) → UsesRoom literals old new → HasRoom old l (n + 1) → HasRoom new l n
 room_used literals old new l n uses room = uses l n (by (is_literal_in l literals))
@@ -236,14 +225,6 @@ no_literals = record { learnt = []; lists = λ r. []; disjunctions = [] }
 
 abbrev pub no_values : Values
 no_values v = None
-
-pub two_of_bit : (bit : ℕ × ℕ × Bool) → AreTwoOrNone (two_or_none (bit_watches bit))
-two_of_bit bit = by (same_literal (Neg bit.0) (helper_literal bit)) refl
-  where
-    by : (b : Bool) → same_literal (Neg bit.0) (helper_literal bit) ≡ b →
-        AreTwoOrNone (two_or_none (if b then None else Some (Neg bit.0 ∷ helper_literal bit ∷ [])))
-    by true e = tt
-    by false e = e
 
 module _ {N : Type 0} where
   -- the same clauses, with the same room or more

@@ -216,13 +216,6 @@ read_in (w ∷ ws) zero l h e = or_left (same_literal l w) (is_literal_in l ws)
 read_in (w ∷ ws) (suc index) l h e = or_right (same_literal l w) (is_literal_in l ws)
     (read_in ws index l (omega (arith, h)) e)
 
--- two watches have the indexes 0 and 1
-pub two_long : (ws : List Lit) (index : ℕ) → AreTwoOrNone ws → index < length ws → index < 2
-two_long [] index two h = absurd (omega (arith, h))
-two_long (a ∷ []) index two h = absurd two
-two_long (a ∷ b ∷ []) index two h = h
-two_long (a ∷ b ∷ c ∷ ws) index two h = absurd two
-
 -- ---- lists of clauses
 
 -- a clause that isn't the first is in the list if it is in the rest

@@ -9,7 +9,7 @@ use Rattle.typed_ids.specs.TotalMaps.{IsUpdate}
 use Rattle.decisions.specs.Literals.{Lit, Pos, Neg, Values, is_false_literal}
 use Rattle.decisions.specs.Trail.{Entry, val}
 use Rattle.clauses.specs.Clauses.{same_literal}
-use Rattle.watch_map.specs.Watching.{is_literal_in, AreTwoOrNone, IsExact}
+use Rattle.watch_map.specs.Watching.{is_literal_in, AreTwoOrNone}
 use Rattle.watch_map.specs.Forcing.{is_false, forces}
 use Rattle.watch_map.specs.Saturation.{WatchOwn}
 use Rattle.watch_map.specs.WatchInvariant.{Extends, refuted_literal, is_true_literal, has_true_beside, AreMet, AreMetBut, val_before}
@@ -66,11 +66,6 @@ pub met_but_kept : (ahead : List ℕ) (l : Lit) (a b : Values) (watched : ℕ �
 met_but_kept ahead l a b watched ex met c there gone = beside_kept a b ex (watched c) l (met c there gone)
 
 -- ---- a walk
-
--- it begins: a clause that isn't in the list doesn't watch the literal
-pub met_but_all : (l : Lit) (now : Values) (watched : ℕ → List Lit) (lists : Lit → List ℕ) → IsExact watched lists
-    → AreMetBut (lists l) l now watched
-met_but_all l now watched lists exact c there gone = absurd (true≢false (sym there ∙ sym (exact.stands l c) ∙ gone))
 
 -- it goes on past a clause that is met
 pub met_but_next : (c : ℕ) (rest : List ℕ) (l : Lit) (now : Values) (watched : ℕ → List Lit)

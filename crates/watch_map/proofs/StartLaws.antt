@@ -83,12 +83,6 @@ empty_watched map empty = record {
 
 -- ---- a clause that starts to watch
 
-pub two_are : (ls : List Lit) → AreTwo ls → (d e : Lit) → ls ≡ slice_index_or ls 0 d ∷ slice_index_or ls 1 e ∷ []
-two_are [] two d e = absurd two
-two_are (a ∷ []) two d e = absurd two
-two_are (a ∷ b ∷ []) two d e = refl
-two_are (a ∷ b ∷ c ∷ ls) two d e = absurd two
-
 pub are_apart : (ls : List Lit) → AreTwo ls → (d e : Lit) → same_literal (slice_index_or ls 0 d) (slice_index_or ls 1 e) ≡ false
 are_apart [] two d e = absurd two
 are_apart (a ∷ []) two d e = absurd two

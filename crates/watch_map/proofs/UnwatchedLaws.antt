@@ -25,14 +25,6 @@ use Rattle.watch_map.proofs.MarkLaws.{true_is_settled}
 -- ---- the list
 
 module _ (watched : ℕ → List Lit) where
-  pub unwatched_none : AreUnwatched watched 0 []
-  unwatched_none = record {
-    all = λ c h none. absurd (omega (arith, h));
-    within = λ k d h. absurd (omega (arith, h));
-    unwatched = λ k d h. absurd (omega (arith, h));
-    ascending = λ i j d. λ e h. absurd (omega (arith, h));
-  }
-
   module _ (bound : ℕ) (ids : List ℕ) (are : AreUnwatched watched bound ids) where
     within_more : All (λ c. c < bound + 1) ids
     within_more k d h = (let below = are.within k d h in omega (arith, below))

@@ -3,7 +3,7 @@ use Rattle.std.specs.Prelude.{IfSome}
 use Rattle.std.proofs.Common.{◌≡◌, ℕ, true, List, ◌∷◌, slice_index_or, Option, Some, None, subst, ◌∙◌}
 use Rattle.decisions.specs.Literals.{Lit, is_false_literal}
 use Rattle.decisions.specs.Trail.{Trail, val}
-use Rattle.watch_map.specs.WatchLists.{WatchLists, Watches, Position, watched_by, AreWatched, IsNode, clause_of, index_of, literal_of}
+use Rattle.watch_map.specs.WatchLists.{WatchLists, Watches, Position, watched_by, AreWatched, clause_of, index_of, literal_of}
 use Rattle.watch_map.specs.WatchCalls.{StandsIn, StandsBehind, Moves, rest}
 use Rattle.watch_map.specs.Saturation.{HasForced, IsRearranged}
 use Rattle.watch_map.specs.WatchInvariant.{has_true_beside, KeepsMet, AreMetBut}
@@ -107,7 +107,3 @@ module _ (literals : ℕ → List Lit) (level : ℕ) (l : Lit) (t : Trail) (w : 
       → IsWalked literals level l t w map watches t' ahead → IsWatching (literals c) (watched_by watches c)
   walked_watching map watches t' ahead c walked = record
       { two = walked.watched.exact.two c; own = walked.rearranged.own c }
-
-pub stands_node : (cursor : Position) (map : WatchLists) (watches : Watches) → StandsIn cursor map watches
-    → IsNode watches (literal_of cursor) cursor.current
-stands_node cursor map watches stands = record { within = stands.within; watch = stands.watch }

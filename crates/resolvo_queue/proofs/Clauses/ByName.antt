@@ -1,9 +1,9 @@
 -- How numbers come under names, and what a name's numbers tell.
 use Rattle.std.proofs.Common.{◌≡◌, ℕ, zero, suc, ◌+◌, ◌<◌, Bool, true, false, true≢false, ◌⊎◌, inl, inr}
-use Rattle.std.proofs.Common.{List, [], ◌∷◌, ◌++◌, map, take, length, length-append, length-set, get_or}
+use Rattle.std.proofs.Common.{List, [], ◌∷◌, ◌++◌, map, take, length, length-append, get_or}
 use Rattle.std.proofs.Common.{set, Option, Some, None, IfSome, slice_get, sym, ap, refl, ◌∙◌, subst, arith}
 use Rattle.std.proofs.lemmas.List.{get_or-map, get_or_past, length-map, take_more}
-use Rattle.typed_ids.specs.TotalMaps.{IsUpdate, SameValues}
+use Rattle.typed_ids.specs.TotalMaps.{IsUpdate}
 use Rattle.resolvo_queue.specs.Parts.ByName.{AreEntered, HaveLists, IsEntered, KeepsNumbers, list_in}
 use Rattle.resolvo_queue.specs.Rows.ByVariable.{list_at}
 use Rattle.resolvo_queue.specs.Parts.Names.{ColdLack, names_at}
@@ -20,14 +20,6 @@ use Rattle.resolvo_queue.proofs.Clauses.Numbers.{gains_each, stands_cases, stand
 pub place_within : {N X : Type 0} (places : N → Option ℕ) (lists : List X) (name : N) (p : ℕ) → HaveLists places lists →
     places name ≡ Some p → p < length lists
 place_within places lists name p have is = subst (λ o. IfSome o (λ q. q < length lists)) is (have name)
-
-pub have_same : {N X : Type 0} (f g : N → Option ℕ) (lists : List X) → SameValues f g → HaveLists f lists →
-    HaveLists g lists
-have_same f g lists same have name = subst (λ o. IfSome o (λ p. p < length lists)) (sym (same name)) (have name)
-
-pub have_set : {N X : Type 0} (f : N → Option ℕ) (lists : List X) (n : ℕ) (x : X) → HaveLists f lists →
-    HaveLists f (set lists n x)
-have_set f lists n x have name = subst (λ k. IfSome (f name) (λ p. p < k)) (sym (length-set lists n x)) (have name)
 
 -- the list of a name's place
 pub list_read : {X : Type 0} (items : X → List ℕ) (lists : List X) (p : ℕ) (x : X) (o : Option ℕ) → p < length lists →

@@ -1,9 +1,9 @@
 -- A queue after clauses became hot.
-use Rattle.std.proofs.Common.{◌≡◌, ◌≢◌, ℕ, ◌+◌, ◌-◌, ◌≤◌, Bool, true, false, List, get_or, length}
+use Rattle.std.proofs.Common.{◌≡◌, ℕ, ◌+◌, ◌-◌, ◌≤◌, Bool, true, false, List, get_or, length}
 use Rattle.std.proofs.Common.{Some, Result, Ok, Err, slice_get, sym, ap, refl, ◌∙◌, subst}
 use Rattle.std.specs.Prelude.{All}
 use Rattle.std.proofs.lemmas.List.{length-map}
-use Rattle.typed_ids.specs.TotalMaps.{IsUpdate, SameValues}
+use Rattle.typed_ids.specs.TotalMaps.{IsUpdate}
 use Rattle.typed_ids.specs.declared.error.StoreError.{StoreError}
 use Rattle.typed_ids.specs.declared.error.StoreError.TheVariants.{IdSpace}
 use Rattle.decisions.specs.Literals.{Values, known_true, variable_of}
@@ -79,11 +79,6 @@ pub cold_still : {N : Type 0} (hot hot' : N → Bool) (name : N) (names : List (
 cold_still hot hot' name names cs update cold lacks n c e cool k d lt =
     update.1 (get_or (names_at names n) k d) (lacks n c e cool k d lt) ∙ cold n c e cool k d lt
 
--- a name that was hot is lacked by all that aren't
-pub lacks_hot : {N : Type 0} (hot : N → Bool) (name : N) → hot name ≡ true → (names : List N) →
-    All (λ m. hot m ≡ false) names → All (λ m. m ≢ name) names
-lacks_hot hot name is names cold k d lt same = let bad : hot name ≡ false = ap hot (sym same) ∙ cold k d lt in cc
-
 -- a name that came to a set isn't too large for it
 pub fits_if_ok : {T : Type 0} (is_too_large : Bool) (res : Result T StoreError) (x : T) → res ≡ Ok x →
     (is_too_large ≡ true → res ≡ Err IdSpace) → is_too_large ≡ false
@@ -94,10 +89,6 @@ fits_if_ok false res x ok large = refl
 pub kept_hot : {N H : Type 0} (has : H → N → Bool) (q : Queue N H) (hot : H) → IsKept has q →
     AreCold (has hot) q.names q.inside.clauses → IsKept has (record q { hot = hot })
 kept_hot has q hot kept cold = record { order = kept.order; names = kept.names; since = kept.since; cold = cold }
-
-pub cold_same : {N H : Type 0} (has : H → N → Bool) (q : Queue N H) (hot : H) → SameValues (has q.hot) (has hot) →
-    IsKept has q → AreCold (has hot) q.names q.inside.clauses
-cold_same has q hot same kept n c e cool k d lt = same (get_or (names_at q.names n) k d) ∙ kept.cold n c e cool k d lt
 
 pub stands_hot : {N S A H : Type 0} (refs : References N S A) (q : Queue N H) (hot : H) → StandsOn refs q →
     StandsOn refs (record q { hot = hot })

@@ -28,9 +28,6 @@ stands_cases (z ∷ zs) y x (there s) = elim (stands_cases zs y x s) [ inl h ↦
 -- ---- numbers in lists
 
 module _ (number : ℕ) where
-  pub gains_none : (a : List (List ℕ)) → GainsNumber number a a
-  gains_none a = record { kept = λ v n s. s; added = λ v n s. inl s }
-
   pub gains_both : (a b c : List (List ℕ)) → GainsNumber number a b → GainsNumber number b c → GainsNumber number a c
   gains_both a b c f g = record {
     kept = λ v n s. g.kept v n (f.kept v n s);

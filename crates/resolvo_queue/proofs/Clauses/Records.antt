@@ -44,11 +44,6 @@ is_elsewhere f (x ∷ xs) zero (suc j) ne = refl
 is_elsewhere f (x ∷ xs) (suc place) zero ne = refl
 is_elsewhere f (x ∷ xs) (suc place) (suc j) ne = is_elsewhere f xs place j (λ e. ne (ap suc e))
 
-pub length_updated : (f : Record → Record) (ts : List Record) (place : ℕ) → length (updated_at f ts place) ≡ length ts
-length_updated f [] place = refl
-length_updated f (t ∷ ts) zero = refl
-length_updated f (t ∷ ts) (suc place) = ap suc (length_updated f ts place)
-
 -- ---- places
 
 pub placed_updated : (f : Record → Record) → ((t : Record) → (f t).requirement ≡ t.requirement) →
@@ -101,13 +96,6 @@ no_place ts places r a e place t s = go (same_requirement r t.requirement) refl
         let bad : None ≡ Some place = e ∙ found in cc
 
 -- ---- as their code keeps them
-
-pub tracked_read : {A : Type 0} (rs : List (RequirementRecord A)) (k : ℕ) (r : RequirementRecord A) → k < length rs →
-    r ≡ get_or rs k r →
-    slice_get (map record_seen rs) k ≡ Some (record_seen r)
-tracked_read [] k r h e = absurd (omega arith)
-tracked_read (x ∷ xs) zero r h e = ap (λ y. Some (record_seen y)) (sym e)
-tracked_read (x ∷ xs) (suc k) r h e = tracked_read xs k r (omega arith) e
 
 pub tracked_set : {A : Type 0} (f : Record → Record) (rs : List (RequirementRecord A)) (k : ℕ)
     (r s : RequirementRecord A) → k < length rs → r ≡ get_or rs k r →

@@ -6,15 +6,14 @@ use Rattle.std.specs.declared.cmp.Ordering.{Ordering}
 use Rattle.std.specs.declared.cmp.Ordering.TheVariants.{Less, Equal, Greater}
 use Rattle.std.proofs.lemmas.List.{take_more}
 use Rattle.std.proofs.lemmas.Option.{slice_get_within}
-use Rattle.decisions.specs.Decisions.{values_in}
 use Rattle.decisions.specs.Literals.{Lit, Values}
 use Rattle.decisions.specs.declared.decision.Decision.{Decision}
 use Rattle.providers.specs.Provider.{Universe}
 use Rattle.providers.specs.Requirement.{same_requirement}
 use Rattle.providers.specs.declared.requirement.Requirement.{Requirement}
-use Rattle.resolvo_queue.specs.Falsified.{comes_first, Covers, falsified_id, Finds, is_falsified_in, refs_of}
+use Rattle.resolvo_queue.specs.Falsified.{comes_first, Covers, falsified_id, Finds, is_falsified_in}
 use Rattle.resolvo_queue.specs.Rows.ByVariable.{list_at}
-use Rattle.resolvo_queue.specs.Falsified.Looks.{AreToLookAt, CanLook, FindsFalsified, clauses_of, literals_of}
+use Rattle.resolvo_queue.specs.Falsified.Looks.{CanLook, FindsFalsified, clauses_of, literals_of}
 use Rattle.resolvo_queue.specs.Occurrences.{listing}
 use Rattle.resolvo_queue.specs.Members.{Stands, here, there}
 use Rattle.resolvo_queue.specs.Scan.Positions.{position_cmp, is_after}

@@ -1,5 +1,5 @@
 -- Listing and walking a requirement keep occurrences and records in line; a walk owes no more.
-use Rattle.std.proofs.Common.{◌≡◌, ℕ, zero, suc, ◌+◌, ◌≤◌, option_map, Bool, true, false, cond}
+use Rattle.std.proofs.Common.{◌≡◌, ℕ, zero, suc, ◌+◌, option_map, true, false, cond}
 use Rattle.std.proofs.Common.{◌⊎◌, inl, inr, List, [], ◌∷◌, ◌++◌, flat_map, Option, Some, None}
 use Rattle.std.proofs.Common.{is_some, slice_get, sym, ap, refl, ◌∙◌, subst, arith, Vec}
 use Rattle.std.specs.Prelude.{Contains, IsSome}
@@ -14,15 +14,10 @@ use Rattle.resolvo_queue.specs.Pick.Inspection.{ListsOnly}
 use Rattle.resolvo_queue.specs.Rows.Listing.{IsListedWell}
 use Rattle.resolvo_queue.specs.Occurrences.{Listed, is_listed, listing, GrowsWith, HasAll}
 use Rattle.resolvo_queue.specs.Members.{Stands, here, there}
-use Rattle.resolvo_queue.specs.Routing.Synced.{ListsKnown, KeepsQueued}
-use Rattle.resolvo_queue.specs.Parts.Records.{Record, known_at, updated_at, walked, owed_of}
+use Rattle.resolvo_queue.specs.Routing.Synced.{ListsKnown}
+use Rattle.resolvo_queue.specs.Parts.Records.{Record, known_at, updated_at, walked}
 use Rattle.resolvo_queue.specs.Parts.Records.{OwesSame, SameFound, IsPlaceOf, forgotten}
-use Rattle.decisions.specs.Literals.{Values, known_true}
-use Rattle.resolvo_queue.specs.Scan.Positions.{has}
-use Rattle.resolvo_queue.specs.Parts.Queued.{Queued, GrowsBy, IsOfClause}
-use Rattle.resolvo_queue.specs.Pick.Ready.{IsReady}
 use Rattle.resolvo_queue.specs.Routing.{OnlyForgets}
-use Rattle.resolvo_queue.specs.declared.tracked_clause.Position.{Position}
 use Rattle.resolvo_queue.specs.declared.tracked_clause.TrackedClause.{TrackedClause}
 use Rattle.decisions.specs.Literals.{Lit}
 use Rattle.resolvo_queue.proofs.Lists.{contains_if_stands, stands_if_contains, differ, same_some}
@@ -138,23 +133,6 @@ lists_known universe lists clauses literals o ts w k t e h row s =
 
 -- ---- after a sync
 
--- w(r) rises by at most one
-pub owes_after_sync : (a b : List Record) → OnlyForgets a b → (k : ℕ) →
-    owed_of (slice_get b k) ≤ owed_of (slice_get a k) + 1
-owes_after_sync a b f k = go (slice_get a k) (slice_get b k) (f k)
-  where
-    forgetting : (t : Record) → owed_of (Some (forgotten t)) ≤ owed_of (Some t) + 1
-    forgetting t = by (is_some t.walk)
-      where
-        by : (x : Bool) → t.walks + 1 ≤ t.walks + cond x 0 1 + 1
-        by true = omega arith
-        by false = omega arith
-
-    go : (o n : Option Record) → ((n ≡ o) ⊎ (n ≡ option_map forgotten o)) → owed_of n ≤ owed_of o + 1
-    go o n (inl e) = let h : owed_of n ≡ owed_of o = ap owed_of e in omega arith
-    go None n (inr e) = let h : owed_of n ≡ 0 = ap owed_of e in omega arith
-    go (Some t) n (inr e) = subst (λ x. owed_of x ≤ owed_of (Some t) + 1) (sym e) (forgetting t)
-
 pub listed_after_sync : {A : Type 0} (lists : List (Requirement × Vec (Vec ℕ A) A)) (o : Listed) (a b : List Record) →
     OnlyForgets a b → IsListedWell lists o a → IsListedWell lists o b
 listed_after_sync lists o a b f w = record {
@@ -173,38 +151,3 @@ listed_after_sync lists o a b f w = record {
         let is : forgotten s ≡ t = same_some (forgotten s) t (sym same ∙ e) in
         let unknown : is_some t.walk ≡ false = ap (λ (x : Record). is_some x.walk) (sym is) in
         absurd (differ (sym h ∙ unknown))
-
--- a synced queue is ready, if its positions and places were right before
-pub ready_after_sync : (clauses : List TrackedClause) (literals : TrackedClause → List Lit)
-    (rows_of : Requirement → List Row) (before now : Values) (a b : List Record) (q p : Queued) →
-    OnlyForgets a b → GrowsBy (IsOfClause clauses) q p →
-    ((n : ℕ) (c : TrackedClause) → slice_get clauses n ≡ Some c → IsPlaceOf a c.requirement c.record) →
-    ((x : Position) → has q.all x ≡ true → IsOfClause clauses x) →
-    ((x : Position) → has q.hot x ≡ true → IsOfClause clauses x) →
-    KeepsQueued clauses literals rows_of now (λ c. known_true (now c.parent)) b p →
-    IsReady clauses literals rows_of now b p
-ready_after_sync clauses literals rows_of before now a b q p f g placed all hot synced = record {
-  synced = synced;
-  placed = λ n c e. (let m = placed n c e in still c.requirement c.record m (f c.record));
-  all_of = λ x e. elim (g.all_new x e) [ inl was ↦ all x was | inr new ↦ new ];
-  hot_of = λ x e. elim (g.hot_new x e) [ inl was ↦ hot x was | inr new ↦ new ];
-}
-  where
-    still : (r : Requirement) (k : ℕ) → IsPlaceOf a r k →
-        ((slice_get b k ≡ slice_get a k) ⊎ (slice_get b k ≡ option_map forgotten (slice_get a k))) → IsPlaceOf b r k
-    still r k m (inl e) = (m.0, e ∙ m.1, m.2)
-    still r k m (inr e) = (forgotten m.0, e ∙ ap (option_map forgotten) m.1, m.2)
-
--- ---- the queue without clauses is ready at any values, and listed well: what is asked can be met
-pub ready_empty : (literals : TrackedClause → List Lit) (rows_of : Requirement → List Row) (val : Values) (q : Queued) →
-    ((p : Position) → (has q.all p ≡ false) × (has q.hot p ≡ false)) → IsReady [] literals rows_of val [] q
-ready_empty literals rows_of val q empty = record {
-  synced = record {
-    all = λ c reg e. let bad : None ≡ Some c = reg.1 in cc;
-    hot = λ c reg e. let bad : None ≡ Some c = reg.0.1 in cc;
-    right = λ k. tt;
-  };
-  placed = λ n c e. let bad : None ≡ Some c = e in cc;
-  all_of = λ p e. let bad : has q.all p ≡ false = (empty p).0 in cc;
-  hot_of = λ p e. let bad : has q.hot p ≡ false = (empty p).1 in cc;
-}

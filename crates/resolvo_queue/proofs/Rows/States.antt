@@ -43,9 +43,6 @@ module _ (val : Values) where
   abbrev count_from : VersionSetId → ℕ → List Row → ℕ
   count_from set n rs = fold (λ m (row : Row). m + cond (eqb row.set.0 set.0 && is_undecided_row val row) 1 0) n rs
 
-  abbrev counting : Frontier → ℕ → RowState
-  counting f n = Undecided (record { variable = f.variable; set = f.set; count = n })
-
   and-true : (b : Bool) → (b && true) ≡ b
   and-true true = refl
   and-true false = refl

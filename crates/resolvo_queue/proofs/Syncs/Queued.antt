@@ -79,9 +79,6 @@ module _ (clauses : List TrackedClause) where
       AreWoken clauses val ns a → AreWoken clauses val ns b
   woken_stays New val ns a b g w n c s e t = queued_stays New a b c g (w n c s e t)
 
-  pub woken_none : (val : Values) (q : Queued) → AreWoken clauses val [] q
-  woken_none val q n c s e t = elim s [ ]
-
   -- one number more
   pub woken_more : (val : Values) (ns : List ℕ) (m : ℕ) (q : Queued) → AreWoken clauses val ns q →
       ((c : TrackedClause) → slice_get clauses m ≡ Some c → known_true (val c.parent) ≡ true → IsQueued q c) →

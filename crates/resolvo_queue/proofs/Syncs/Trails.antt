@@ -2,7 +2,6 @@
 use Rattle.std.proofs.Common.{◌≡◌, ℕ, Bool, true, false, ◌||◌, cond, eqb, List, [], ◌∷◌, ◌++◌}
 use Rattle.std.proofs.Common.{take, drop, Some, None, sym, ap, refl, ◌∙◌, take-append-drop}
 use Rattle.std.specs.Option.{option_or}
-use Rattle.decisions.specs.Trail.{Entry, val}
 use Rattle.decisions.specs.declared.decision.Decision.{Decision}
 use Rattle.resolvo_queue.specs.Routing.Possible.{SameElsewhere}
 use Rattle.resolvo_queue.specs.Queue.{values_of}
@@ -60,11 +59,6 @@ module _ {E : Type 0} (variable : E → ℕ) (value : E → Bool) where
       let both = either (stands_in variable (drop floor before) x) (stands_in variable (drop floor now) x) h in
       below_only floor before x both.0
       ∙ (ap (λ l. option_or (value_in variable value l x) None) agree ∙ sym (below_only floor now x both.1))
-
--- the project's words for entries and for decisions
-pub val_is : (es : List Entry) (x : ℕ) → val es x ≡ value_in (λ e. e.decision.variable) (λ e. e.decision.value) es x
-val_is [] x = refl
-val_is (e ∷ es) x = ap (λ o. cond (eqb e.decision.variable x) (Some e.decision.value) o) (val_is es x)
 
 pub decided_is : (ds : List Decision) (x : ℕ) → decided_value ds x ≡ values_of ds x
 decided_is [] x = refl
