@@ -2,7 +2,7 @@
 #![tactic(auto, using(crate::proofs::Beginnings::begins_more, crate::proofs::Beginnings::begins_whole))]
 
 ghost use Rattle.std.specs.Prelude.{◌++◌, ◌<◌, codes, decimal, map, flat_map};
-ghost use Rattle.resolvo_store.specs.Command.{reply_of};
+ghost use Rattle.resolvo_store.specs.Command.{LoadedAs, reply_of};
 ghost use Rattle.resolvo_store.specs.ReplyTexts.{field, list_text, others_text, lists_text, conflict_text};
 ghost use Rattle.resolvo_store.specs.ReplyTexts.{tracked_text, decision_text, undone_text, next_text};
 ghost use Rattle.resolvo_store.specs.ReplyTexts.{truth_text, words_text};
@@ -44,15 +44,23 @@ pub fn push_reply<A: Allocator>(text: &mut Vec<u8>, reply: &Reply<A>) -> Result<
             push_decision(text, decision)?;
             push_end(text)
         }
-        Reply::Loaded(lists) => {
-            push_lists(text, lists)?;
-            push_end(text)
-        }
+        Reply::Loaded(lists) => push_loaded(text, lists),
         Reply::Watchers(clauses) => {
             push_watchers(text, clauses)?;
             push_end(text)
         }
     }
+}
+
+/// Puts the line that tells a requirement's lists after the text.
+pub(crate) fn push_loaded<A: Allocator>(
+    text: &mut Vec<u8>,
+    lists: &[Vec<VariableId, A>],
+) -> Result<(), AllocError>
+    ensures { Pushes result text.old.items text.new.items (reply_text (LoadedAs (map (λ l. l.items) lists.now))) }
+{
+    push_lists(text, lists)?;
+    push_end(text)
 }
 
 /// Puts the line that names an unreadable line after the text.

@@ -7,15 +7,17 @@ ghost use Rattle.script_text.specs.Output.{Writes};
 ghost use Rattle.script_text.specs.Statements.{says};
 ghost use Rattle.script_text.specs.Words.{words};
 ghost use Rattle.scripts.specs.Commands.{ids_at, command_meant, command_said};
+ghost use Rattle.resolvo_store.specs.Command.{Load, command_of};
 ghost use Rattle.resolvo_store.specs.Store.{new_store};
+ghost use Rattle.script_text.specs.declared.statement.Line.TheVariants.{Says};
 ghost use Rattle.scripts.specs.Ends.{HandsAnswer, named_text, TakesBeginning, WriterEnds, DevicesEnd};
 ghost use Rattle.scripts.specs.Scripts.{ScriptAnswered, faulty_text};
 ghost use Rattle.scripts.specs.Transcript.{ObeysLine, Answered, HasCommand, IfRead};
 
 use crate::command_line::command;
-use crate::reply_line::{push_reply, push_unreadable};
-use providers::DependencyProvider;
-use resolvo_store::{AbstractStore, ClauseStore};
+use crate::reply_line::{push_loaded, push_reply, push_unreadable};
+use providers::{DependencyProvider, Requirement};
+use resolvo_store::{AbstractStore, ClauseStore, Command};
 use script_packages::read_catalogue;
 use script_text::{
     Line, LineFault, ScriptFault, Sink, Source, Statement, next_statement, read_whole, write_much,
@@ -201,11 +203,41 @@ fn obey_words<D: DependencyProvider<NameId: DenseIndex, SolvableId: DenseIndex> 
         waiting.old.items result waiting.new.items (⟦<D as AbstractStore>⟧.store store.new) }
 {
     match command(alloc, Statement { keyword, rest }) {
-        Ok(command) => {
-            let reply = store.step(&command);
-            push_reply(waiting, &reply)?;
+        Ok(Command::Load(requirement)) => obey_load(store, requirement, waiting),
+        Ok(command) => obey(store, &command, waiting),
+        Err(fault) => Err(fault),
+    }
+}
+
+/// Obeys a command, and puts the line of the reply after what waits.
+fn obey<D: DependencyProvider + Drop>(
+    store: &mut ClauseStore<D>,
+    command: &Command<D::NameId, D::SolvableId, D::Alloc>,
+    waiting: &mut Vec<u8>,
+) -> Result<(), LineFault>
+    ensures { ObeysLine (⟦<D as AbstractStore>⟧.store store.old) (Says (command_of command.now))
+        waiting.old.items result waiting.new.items (⟦<D as AbstractStore>⟧.store store.new) }
+{
+    let reply = store.step(command);
+    push_reply(waiting, &reply)?;
+    Ok(())
+}
+
+/// Loads a requirement, and puts the line of the reply after what waits. What is loaded already is answered from where
+/// it lies, with no copy.
+fn obey_load<D: DependencyProvider + Drop>(
+    store: &mut ClauseStore<D>,
+    requirement: Requirement,
+    waiting: &mut Vec<u8>,
+) -> Result<(), LineFault>
+    ensures { ObeysLine (⟦<D as AbstractStore>⟧.store store.old) (Says (Load requirement))
+        waiting.old.items result waiting.new.items (⟦<D as AbstractStore>⟧.store store.new) }
+{
+    match store.loaded(requirement) {
+        Some(lists) => {
+            push_loaded(waiting, lists)?;
             Ok(())
         }
-        Err(fault) => Err(fault),
+        None => obey(store, &Command::Load(requirement), waiting),
     }
 }

@@ -1,6 +1,6 @@
 //! The commands that bring variables: `Variable`, `Helper` and `Load`.
 ghost use Rattle.std.specs.Prelude.{◌≡◌, ◌∷◌, ◌++◌, [], None, true, false, map, option_map};
-ghost use Rattle.std.specs.Prelude.{length, take, Err, IsTrue, IfOk, OnOk, OnErr, IfErr};
+ghost use Rattle.std.specs.Prelude.{length, take, Some, Err, IsTrue, IfSome, IfOk, OnOk, OnErr, IfErr};
 ghost use Rattle.std.specs.Map.{lookup};
 ghost use Rattle.providers.specs.Provider.{knows_requirement};
 ghost use Rattle.providers.specs.Requirement.{same_requirement};
@@ -21,7 +21,7 @@ use crate::store::known::knows_requirement;
 use id_maps::SolverId;
 use providers::{DependencyProvider, Interner, Requirement, RequirementMap};
 use std::alloc::Allocator;
-use typed_ids::StoreError;
+use typed_ids::{StoreError, VariableId};
 use variables::{VariableLists, VariableMap};
 
 impl<D: DependencyProvider + Drop> ClauseStore<D> {
@@ -81,6 +81,25 @@ impl<D: DependencyProvider + Drop> ClauseStore<D> {
             None => self.load_new(requirement)?,
         };
         Ok(Reply::Loaded(lists))
+    }
+
+    /// The candidates' variables of a requirement that is loaded, which is what a `Load` of it answers again: lent, and
+    /// not copied. None of one that isn't loaded, or that the provider doesn't know. Takes constant time.
+    pub fn loaded(&self, requirement: Requirement) -> Option<&[Vec<VariableId, D::Alloc>]>
+        ensures lists { IfSome result (λ lists. lists_of (⟦<D as AbstractStore>⟧.store self.now) requirement ≡
+            Some (map (λ l. l.items) lists.now)) }
+        ensures again { IfSome result (λ lists. Step (⟦<D as AbstractStore>⟧.store self.now) (Load requirement)
+            (LoadedAs (map (λ l. l.items) lists.now)) (⟦<D as AbstractStore>⟧.store self.now)) }
+        ensures none { result ≡ None → knows_requirement (D.universe self.now.provider) requirement ≡ true →
+            lists_of (⟦<D as AbstractStore>⟧.store self.now) requirement ≡ None }
+    {
+        if !knows_requirement(self.cache.provider(), requirement) {
+            return None;
+        }
+        match lists(&self.loaded, requirement) {
+            Some(lists) => Some(lists.as_slice()),
+            None => None,
+        }
     }
 
     /// Loads a requirement. Where it is refused, the variables that its candidates got are taken back.
