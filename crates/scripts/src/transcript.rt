@@ -210,6 +210,7 @@ fn obey_words<D: DependencyProvider<NameId: DenseIndex, SolvableId: DenseIndex> 
 }
 
 /// Obeys a command, and puts the line of the reply after what waits.
+#[inline(always)]
 fn obey<D: DependencyProvider + Drop>(
     store: &mut ClauseStore<D>,
     command: &Command<D::NameId, D::SolvableId, D::Alloc>,
@@ -225,6 +226,7 @@ fn obey<D: DependencyProvider + Drop>(
 
 /// Loads a requirement, and puts the line of the reply after what waits. What is loaded already is answered from where
 /// it lies, with no copy.
+#[inline(never)]
 fn obey_load<D: DependencyProvider + Drop>(
     store: &mut ClauseStore<D>,
     requirement: Requirement,

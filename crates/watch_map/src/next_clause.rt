@@ -1,11 +1,12 @@
 //! What comes next in a list of clauses.
 ghost use Rattle.std.specs.Prelude.{◌≡◌};
 
+use std::fmt;
 use std::marker::Model;
 use typed_ids::{ClauseId, DenseIndex, SameClone};
 
 /// The next clause of a list, or none, in four bytes: 0 is none, else it is the clause's index and one.
-#[derive(Clone, Copy, Debug)]
+#[derive(Clone, Copy)]
 pub(crate) struct NextClause(u32);
 
 impl Model for NextClause {
@@ -43,6 +44,13 @@ impl NextClause {
             return None;
         }
         Some(ClauseId::from_index((self.0 - 1) as usize))
+    }
+}
+
+/// Writes as the clause, if there is one, does.
+impl fmt::Debug for NextClause {
+    fn fmt<W: fmt::Write>(&self, f: &mut fmt::Formatter<W>) -> fmt::Result {
+        self.clause_id().fmt(f)
     }
 }
 
