@@ -164,8 +164,8 @@ impl<A: Allocator + Copy> DecisionTracker<A> {
         }
     }
 
-    /// Makes a decision about a variable without a value: what [`DecisionTracker::try_add_decision`] does of one, without
-    /// a look at its value.
+    /// Makes a decision about a variable without a value: what [`DecisionTracker::try_add_decision`] does of one,
+    /// without a look at its value.
     pub fn push(&mut self, decision: Decision, level: u32) -> Result<(), StoreError>
         requires level { (1 ≤ level) × (level < 2 ^ 31) }
         requires undecided { val self.old.entries decision.variable ≡ None }
@@ -243,8 +243,8 @@ impl<A: Allocator + Copy> DecisionTracker<A> {
         floor
     }
 
-    /// What [`DecisionTracker::push`] does where it takes memory: apart, so that a push that takes none makes no call. The
-    /// room on the stack comes first, so that a refusal changes nothing.
+    /// What [`DecisionTracker::push`] does where it takes memory: apart, so that a push that takes none makes no call.
+    /// The room on the stack comes first, so that a refusal changes nothing.
     #[inline(never)]
     fn push_growing(&mut self, decision: Decision, level: u32) -> Result<(), StoreError>
         requires level { (1 ≤ level) × (level < 2 ^ 31) }

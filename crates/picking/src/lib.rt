@@ -4,10 +4,11 @@
 //! candidate, each picked version's needs are given, nothing is picked that another one's constraints rule out, and at
 //! most one version of a package is picked. `serving`'s `specs/Serves` says so in the words of the provider alone.
 //!
-//! The search owes nothing (`search`; `encoding` for what it tells the store, `learning` for conflicts, `explaining` for
-//! why nothing serves, which it tells as a list of [`Reason`]s). What it answers is checked once at the end by the crate
-//! `serving`, which looks at the provider and at no store: what is picked by its `serves`, and that nothing serves by its
-//! `refutes`, which replays what the search learnt. `lent` makes a provider that a store can own of one that is lent.
+//! The search owes nothing (`search`; `encoding` for what it tells the store, `learning` for conflicts, `explaining`
+//! for why nothing serves, which it tells as a list of [`Reason`]s). What it answers is checked once at the end by the
+//! crate `serving`, which looks at the provider and at no store: what is picked by its `serves`, and that nothing serves
+//! by its `refutes`, which replays what the search learnt. `lent` makes a provider that a store can own of one that is
+//! lent.
 #![tactic(auto)]
 
 mod encoding;

@@ -2,7 +2,7 @@
 //!
 //! | room | what it holds |
 //! |---|---|
-//! | `providers` | requirements and conditions, with their normal form; the traits of interner and provider; the texts of ids |
+//! | `providers` | requirements and conditions, with their normal form; interner and provider as traits; texts of ids |
 //! | `package_pool` | the pool, where an ecosystem keeps what its ids stand for |
 //! | `solver_cache` | the cache, by which a resolver asks each question once |
 //!

@@ -1,7 +1,6 @@
 -- What contracts see of a queue, and how its calls change it. N are the names of packages, H the sets of them.
 use Rattle.std.specs.Prelude.{◌≡◌, ℕ, Bool, true, false, ◌==◌, ◌<◌, ◌≤◌, if◌then◌else◌, List, []}
 use Rattle.std.specs.Prelude.{◌∷◌, ◌++◌, map, take, length, All, Option, Some, None, slice_get}
-use Rattle.std.specs.declared.vec.Vec.{Vec}
 use Rattle.typed_ids.specs.TotalMaps.{SameValues}
 use Rattle.providers.specs.Provider.{Universe, sets_of}
 use Rattle.decisions.specs.Literals.{Values, known_true}
@@ -44,11 +43,11 @@ abbrev pub witnessed : {A : Type 0} → Witnesses A → Witnessed
 witnessed w = record { of = w.of; changed = w.changed.items; looked = w.looked }
 
 -- a queue's value, by what it keeps
-abbrev pub queue_of : {N H A : Type 0} → TrackedClauses A → List (Vec N A) → H → List ParentValue →
+abbrev pub queue_of : {N H A : Type 0} → TrackedClauses A → List (List N) → H → List ParentValue →
     Witnesses A → Queue N H
 queue_of tracked names hot since witnesses = record {
   clauses = map clause_of tracked.index.clauses.items;
-  names = map (λ own. own.items) names;
+  names = names;
   trail = tracked.trail.items;
   since = since;
   must_start_anew = tracked.must_start_anew;

@@ -86,7 +86,7 @@ use crate::asked::Question;
 use crate::clauses_by_name::ClausesByName;
 use crate::condition::condition_of;
 use crate::deciding::next_offer;
-use crate::names::{copied, has_hot_name};
+use crate::names::{NameLog, has_hot_name};
 use crate::offer::decision_at;
 use crate::parent_value::{ParentValue, is_true};
 use crate::queue_decision::QueueDecision;
@@ -110,8 +110,8 @@ const MAX_CLAUSES: usize = u32::MAX as usize;
 #[derive(Drop)]
 pub struct DecideQueue<D: DependencyProvider> {
     tracked: TrackedClauses<D::Alloc>,
-    /// The names that were handed in with each clause.
-    names: Vec<Vec<D::NameId, D::Alloc>, D::Alloc>,
+    /// The names that were handed in with each clause. It takes no bytes.
+    names: NameLog<D::NameId>,
     /// Who has a name. Numbers of clauses that were refused may be among them.
     by_name: ClausesByName<D::NameId, D::Alloc>,
     hot_names: <D::NameId as SolverId<D::Alloc>>::Set,
@@ -132,8 +132,7 @@ impl<D: DependencyProvider> Model for DecideQueue<D> {
 
     ghost invariant = { λ q. IsKept D.NameId.Set.has
         (queue_of q.tracked q.names.items q.hot_names q.since.items q.witnesses)
-        × AreEntered D.NameId.Slots.is_too_large (numbers_under D.NameId.Slots.value_at q.by_name)
-        (map (λ own. own.items) q.names.items) };
+        × AreEntered D.NameId.Slots.is_too_large (numbers_under D.NameId.Slots.value_at q.by_name) q.names.items };
 }
 
 impl<D: DependencyProvider> DecideQueue<D> {
@@ -147,7 +146,7 @@ impl<D: DependencyProvider> DecideQueue<D> {
     {
         DecideQueue {
             tracked: TrackedClauses::new(alloc),
-            names: Vec::new(alloc),
+            names: NameLog::new(),
             by_name: ClausesByName::new(alloc),
             hot_names: <<D::NameId as SolverId<D::Alloc>>::Set as IdSet<D::NameId, D::Alloc>>::new(
                 alloc,
@@ -241,16 +240,14 @@ impl<D: DependencyProvider> DecideQueue<D> {
             condition,
             clause_id,
         };
-        let names = copied(*self.names.allocator(), names)?;
-        self.names.reserve(1)?;
         self.since.reserve(1)?;
-        let number = self.names.len() as u32;
-        self.by_name.enter(names.as_slice(), number)?;
-        let is_hot = has_hot_name(&self.hot_names, names.as_slice());
+        let number = self.tracked.index.clauses.len() as u32;
+        self.by_name.enter(names, number)?;
+        let is_hot = has_hot_name(&self.hot_names, names);
         let literals = condition_of(&condition, disjunctions);
         self.tracked
             .register(&clause, literals, is_hot, is_true(parent_value))?;
-        self.names.push_reserved(names);
+        self.names = self.names.and(names);
         self.since.push_reserved(ParentValue {
             parent,
             value: parent_value,

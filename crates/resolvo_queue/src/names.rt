@@ -1,23 +1,39 @@
-//! The names that come with a clause.
-ghost use Rattle.std.specs.Prelude.{◌≡◌, IfOk, IfErr};
+//! The names that come with clauses.
+ghost use Rattle.std.specs.Prelude.{◌≡◌, [], ◌∷◌, ◌++◌, List};
+ghost use Rattle.std.specs.Borrow.{ftrue};
 ghost use Rattle.std.specs.List.{list_any};
-ghost use Rattle.typed_ids.specs.declared.error.StoreError.TheVariants.{OutOfMemory};
 
 use id_maps::{IdSet, SolverId};
 use std::alloc::Allocator;
-use typed_ids::StoreError;
+use std::marker::{Model, PhantomData};
 
-/// A copy of items.
-pub(crate) fn copied<T: Copy + Drop, A: Allocator + Copy>(
-    alloc: A,
-    items: &[T],
-) -> Result<Vec<T, A>, StoreError>
-    ensures ok { IfOk result (λ copy. copy.items ≡ items.now) }
-    ensures memory { IfErr result (λ e. e ≡ OutOfMemory) }
-{
-    let mut copy = Vec::with_capacity(alloc, items.len())?;
-    copy.extend_from_slice(items)?;
-    Ok(copy)
+/// The names that were handed in with each clause, the first clause's first. Only proofs read it: it takes no bytes,
+/// and its calls do nothing when a program runs. By their names a program finds clauses in
+/// [`ClausesByName`](crate::clauses_by_name::ClausesByName).
+#[derive(Drop)]
+pub(crate) struct NameLog<N> {
+    of: PhantomData<N>,
+    pub ghost items: { List (List N) },
+}
+
+impl<N> Model for NameLog<N> {
+    ghost also_owns = { λ _. ftrue };
+}
+
+impl<N> NameLog<N> {
+    /// No clause yet.
+    pub(crate) fn new() -> NameLog<N>
+        ensures { result.items ≡ [] }
+    {
+        NameLog { of: PhantomData }
+    }
+
+    /// The names of one clause more.
+    pub(crate) fn and(&self, names: &[N]) -> NameLog<N>
+        ensures { result.items ≡ self.now.items ++ names.now ∷ [] }
+    {
+        NameLog { of: PhantomData }
+    }
 }
 
 /// Whether a name is hot.

@@ -87,8 +87,8 @@ fn forget_all<A: Allocator + Copy>(
     Ok(())
 }
 
-/// Wakes the clauses in whose condition the variable stands, where it has a value: a condition is met only where each of
-/// its variables has one. So what is taken back wakes no clause by its condition.
+/// Wakes the clauses in whose condition the variable stands, where it has a value: a condition is met only where each
+/// of its variables has one. So what is taken back wakes no clause by its condition.
 fn wake_by_condition<A: Allocator + Copy>(
     queued: &mut QueuedClauses<A>,
     variable: VariableId,

@@ -4,3 +4,4 @@ pub mod Preferences
 pub mod Sorting
 pub mod Spans
 pub mod Unread
+pub mod Versioned

@@ -3,6 +3,7 @@ use Rattle.std.specs.Prelude.{ℕ, List, [], ◌∷◌, slice_get, Option, None,
 use Rattle.std.specs.declared.cmp.Ordering.{Ordering}
 use Rattle.std.specs.Ordering.{nat_cmp, ordering_then, is_lt}
 use Rattle.package_pool.specs.declared.solvable.Solvable.{Solvable}
+use Rattle.script_packages.specs.declared.order.Versioned.{Versioned}
 
 -- the version of a solvable, 0 where there is none
 abbrev pub version_or_zero : Option (Solvable ℕ) → ℕ
@@ -15,6 +16,13 @@ version_at all s = version_or_zero (slice_get all s)
 -- a higher version comes first, and of one version the smaller number
 abbrev pub preference : List (Solvable ℕ) → ℕ → ℕ → Ordering
 preference all s t = ordering_then (nat_cmp (version_at all t) (version_at all s)) (nat_cmp s t)
+
+-- a solvable with its version, and the same order of them
+abbrev pub with_version : List (Solvable ℕ) → ℕ → Versioned
+with_version all s = record { version = version_at all s; solvable = s }
+
+abbrev pub versioned_preference : Versioned → Versioned → Ordering
+versioned_preference v w = ordering_then (nat_cmp w.version v.version) (nat_cmp v.solvable w.solvable)
 
 -- x behind those at the front that are less
 abbrev pub insert_sorted : {X : Type 0} → (X → X → Ordering) → X → List X → List X

@@ -183,10 +183,10 @@ impl DependencyProvider for Packages {
 
     fn sort_candidates(
         &self,
-        _alloc: Global,
+        alloc: Global,
         solvables: &mut [SolvableId],
     ) -> Result<(), StoreError> {
-        sort_best_first(&self.pool, solvables);
+        sort_best_first(alloc, &self.pool, solvables);
         Ok(())
     }
 

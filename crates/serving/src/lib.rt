@@ -4,8 +4,8 @@
 //!
 //! - [`serves`] checks what was picked: each requirement has a picked candidate, each picked version's needs are given,
 //!   nothing is picked that another one's constraints rule out, and at most one version of a package is picked.
-//! - [`refutes`] checks that nothing serves, by a list of nogoods that a search kept: solvables that can't all be picked
-//!   together, each for what the packages say and the nogoods before it.
+//! - [`refutes`] checks that nothing serves, by a list of nogoods that a search kept: solvables that can't all be
+//!   picked together, each for what the packages say and the nogoods before it.
 //!
 //! `specs/Serves` says both in the words of the provider alone. A choice is asked its questions in `choice`, and
 //! `serving` asks them. What the packages say is written as clauses (`encoding`, over `asking`) about facts of a choice

@@ -8,8 +8,8 @@
 //! A line has a name and a version, and then what the version asks for: `needs NAME RANGE`, perhaps `| NAME RANGE`
 //! behind it for what does as well, once or several times, and perhaps `if NAME RANGE`, where it is asked for only if a
 //! version of that range is picked; and `limits NAME RANGE`, where nothing of that name outside the range may be picked
-//! with it. Conditions are joined by `and` and `or`, as `if a 1..2 and b 1..2 or c 1..2`; `and` binds closer. A range is
-//! from its first number to below its last one; numbers are below 2^32. Words are what is between blanks, tabs and
+//! with it. Conditions are joined by `and` and `or`, as `if a 1..2 and b 1..2 or c 1..2`; `and` binds closer. A range
+//! is from its first number to below its last one; numbers are below 2^32. Words are what is between blanks, tabs and
 //! carriage returns. A line whose first word begins with `#` is skipped. A text may have several indexes, with lines
 //! without words between one and the next.
 //!

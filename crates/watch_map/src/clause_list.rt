@@ -292,10 +292,10 @@ impl<N: Copy, A: Allocator + Copy> ClauseList<N, A> {
     /// literals that aren't false.
     ///
     /// Reads the trail from the newest mark on, and goes once through the list of each literal that the entries there
-    /// make false; then reads the clauses that watch nothing, from the mark's bound on. Looks once at the record of each
-    /// clause that is new. Remembers a mark of the end where all clauses are settled. Takes memory for each entry, for
-    /// new clauses that watch nothing, for the mark, which is left out where that is refused, and where a watch moves to
-    /// a literal that nothing ever watched; refused, what was forced so far stays.
+    /// make false; then reads the clauses that watch nothing, from the mark's bound on. Looks once at the record of
+    /// each clause that is new. Remembers a mark of the end where all clauses are settled. Takes memory for each entry,
+    /// for new clauses that watch nothing, for the mark, which is left out where that is refused, and where a watch
+    /// moves to a literal that nothing ever watched; refused, what was forced so far stays.
     pub fn saturate(
         &mut self,
         lists: &RequirementMap<Vec<Vec<VariableId, A>, A>, A>,

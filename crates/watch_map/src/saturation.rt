@@ -16,7 +16,7 @@
 //! │                        the other watch is undecided:        forced: an entry more, and then met
 //! │                        the other watch is false as well:    a conflict
 //! │
-//! └── visit_all_unwatched    each clause that watches nothing, from a place in their list on: its literals are looked at
+//! └── visit_all_unwatched    each clause that watches nothing, from a place in their list on: its literals are read
 //! ```
 //!
 //! A place divides the trail: what the entries before it make false is met. Here `a` was assigned, and both clauses

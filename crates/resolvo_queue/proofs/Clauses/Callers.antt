@@ -14,7 +14,7 @@ use Rattle.providers.specs.declared.requirement.Requirement.{Requirement}
 use Rattle.clauses.specs.Clauses.{condition_literals}
 use Rattle.clauses.specs.Stored.{kept_in}
 use Rattle.clauses.specs.declared.disjunction.Disjunction.{Disjunction}
-use Rattle.resolvo_queue.specs.Clear.{IsClear, RemembersWell, with_last}
+use Rattle.resolvo_queue.specs.Clear.{IsClear, RemembersWell}
 use Rattle.resolvo_queue.specs.Pick.Inspection.{clause_of}
 use Rattle.resolvo_queue.specs.Laws.{RemembersLonger, RemembersNothing, RemembersWithDisjunction, RemembersWithLists}
 use Rattle.resolvo_queue.specs.Laws.{StandsWithDisjunction, StandsWithLast, StandsWithLists, ValuesOfEntries}
@@ -28,7 +28,6 @@ use Rattle.resolvo_queue.specs.Rows.{candidates, lists_or_none, loaded_rows, row
 use Rattle.resolvo_queue.specs.Parts.Records.{Record, known_at, owed_of, rows_at, walk_of}
 use Rattle.resolvo_queue.specs.Parts.Records.{rows_in as rows_of_record}
 use Rattle.resolvo_queue.specs.WalkCounts.{owed_in, record_of, walks_in, walks_of}
-use Rattle.resolvo_queue.specs.declared.last_falsified.LastFalsified.{LastFalsified}
 use Rattle.resolvo_queue.specs.declared.tracked_clause.TrackedClause.{TrackedClause}
 use Rattle.resolvo_queue.proofs.Picks.Registered.{all_tracked}
 use Rattle.resolvo_queue.proofs.Falsified.Clear.{clear_longer}

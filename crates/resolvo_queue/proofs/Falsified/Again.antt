@@ -1,14 +1,14 @@
 -- Looking where the falsified clause that was answered last is falsified still: what single looks find comes together.
 use Rattle.std.proofs.Common.{◌≡◌, ℕ, ◌<◌, ◌≤◌, Bool, true, false, ◌⊎◌, inl, inr, List}
-use Rattle.std.proofs.Common.{◌++◌, drop, length, take, take_all, arith, Option, Some, None}
+use Rattle.std.proofs.Common.{◌++◌, drop, length, take_all, arith, Option, Some, None}
 use Rattle.std.proofs.Common.{option_map, slice_get, sym, ap, refl, ◌∙◌, subst, IfSome}
 use Rattle.typed_ids.specs.TotalMaps.{SameValues}
 use Rattle.decisions.specs.Decisions.{values_in}
-use Rattle.decisions.specs.Literals.{Values, variable_of}
+use Rattle.decisions.specs.Literals.{Values}
 use Rattle.decisions.specs.declared.decision.Decision.{Decision}
 use Rattle.providers.specs.Provider.{Universe}
 use Rattle.resolvo_queue.specs.Clear.{AreConcerning, Concerns, IsClear, of_condition, of_parent, of_row}
-use Rattle.resolvo_queue.specs.Falsified.{Covers, Finds, FindsFirst, comes_first, is_falsified_in, refs_of}
+use Rattle.resolvo_queue.specs.Falsified.{Covers, FindsFirst, comes_first, is_falsified_in, refs_of}
 use Rattle.resolvo_queue.specs.Rows.ByVariable.{list_at}
 use Rattle.resolvo_queue.specs.Falsified.Looks.{AreListed, AreToLookAt, CanLook, FindsFalsified}
 use Rattle.resolvo_queue.specs.Falsified.Looks.{clauses_of, is_falsified_by, literals_of}
@@ -26,7 +26,7 @@ use Rattle.resolvo_queue.specs.declared.tracked_clause.TrackedClause.{TrackedCla
 use Rattle.resolvo_queue.proofs.Falsified.Clear.{concerned}
 use Rattle.resolvo_queue.proofs.Falsified.First.{behind_is_after, less_by_test, not_before_is_after, not_both}
 use Rattle.resolvo_queue.proofs.Falsified.Listed.{below_or_from}
-use Rattle.resolvo_queue.proofs.Falsified.Looks.{FindsBy, finds_along, finds_both, finds_either, not_after_both}
+use Rattle.resolvo_queue.proofs.Falsified.Looks.{FindsBy, finds_both, finds_either, not_after_both}
 use Rattle.resolvo_queue.proofs.Lists.{no_or_yes, same_some}
 
 module _ {N S I A : Type 0} {universe : I → Universe N S} (look : Look I A) (can : CanLook universe look) where

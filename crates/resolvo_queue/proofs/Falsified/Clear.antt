@@ -1,15 +1,14 @@
 -- What is remembered of a falsified clause stays so while the trail grows and is cut, and tells where to look for an
 -- earlier one.
-use Rattle.std.proofs.Common.{◌≡◌, ℕ, zero, suc, ◌<◌, ◌≤◌, ◌+◌, Bool, true, false, not, ◌&&◌, cond, eqb}
-use Rattle.std.proofs.Common.{eqb-true, ◌⊎◌, inl, inr, List, [], ◌∷◌, ◌++◌, length, map, take, drop, min, Option}
+use Rattle.std.proofs.Common.{◌≡◌, ℕ, zero, suc, ◌≤◌, Bool, true, false, not, ◌&&◌, cond, eqb}
+use Rattle.std.proofs.Common.{eqb-true, ◌⊎◌, inl, inr, List, [], ◌∷◌, ◌++◌, length, take, drop, min, Option}
 use Rattle.std.proofs.Common.{Some, None, option_map, slice_get, sym, ap, refl, ◌∙◌, subst, arith, IfSome}
 use Rattle.std.specs.List.{list_all}
 use Rattle.std.proofs.lemmas.List.{length-append, take-append-le}
 use Rattle.decisions.specs.Literals.{Lit, Pos, Neg, Values, is_false_literal}
-use Rattle.decisions.specs.Literals.{known_false, known_true, truth, variable_of}
+use Rattle.decisions.specs.Literals.{known_false, known_true, variable_of}
 use Rattle.decisions.specs.declared.decision.Decision.{Decision}
-use Rattle.providers.specs.declared.requirement.Requirement.{Requirement}
-use Rattle.resolvo_queue.specs.Clear.{AreConcerning, Concerns, IsClear, NoneBefore, of_condition, of_parent, of_row}
+use Rattle.resolvo_queue.specs.Clear.{AreConcerning, IsClear, NoneBefore, of_condition, of_parent, of_row}
 use Rattle.resolvo_queue.specs.Falsified.{is_falsified_in}
 use Rattle.resolvo_queue.specs.Pick.Inspection.{clause_of}
 use Rattle.resolvo_queue.specs.Rows.Listing.{IsListedWell}
@@ -20,7 +19,7 @@ use Rattle.resolvo_queue.specs.Queue.{values_of}
 use Rattle.resolvo_queue.specs.References.{References, literals_in, rows_in}
 use Rattle.resolvo_queue.specs.Routing.{variables_of}
 use Rattle.resolvo_queue.specs.Rows.{Row, all_false, candidates}
-use Rattle.resolvo_queue.specs.Scan.{are_literals_false, is_falsified}
+use Rattle.resolvo_queue.specs.Scan.{are_literals_false}
 use Rattle.resolvo_queue.specs.Parts.Records.{Record}
 use Rattle.resolvo_queue.specs.Falsified.Witnesses.{are_candidates_false}
 use Rattle.resolvo_queue.specs.declared.last_falsified.LastFalsified.{LastFalsified}

@@ -1,5 +1,5 @@
 -- What changed finds all clauses that may be falsified, after each call of a queue.
-use Rattle.std.proofs.Common.{◌≡◌, ◌<◌, ◌≤◌, ◌⊎◌, inl, inr, ℕ, length, length-append, arith, Bool, true, false, List}
+use Rattle.std.proofs.Common.{◌≡◌, ◌<◌, ◌≤◌, inl, inr, ℕ, length, length-append, arith, Bool, true, false, List}
 use Rattle.std.proofs.Common.{[], ◌∷◌, ◌++◌, map, None, Some, Result, Ok, Err, slice_get, sym, ap, refl, ◌∙◌, subst}
 use Rattle.std.specs.Prelude.{OnErr, OnOk}
 use Rattle.std.specs.Map.{lookup}

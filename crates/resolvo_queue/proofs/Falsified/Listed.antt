@@ -1,6 +1,6 @@
 -- What is listed stays so while witnesses are looked for.
 use Rattle.std.proofs.Common.{◌≡◌, ◌⊎◌, inl, inr, ℕ, zero, suc, ◌<◌, ◌≤◌, Bool, true, false, ltb, List, [], ◌∷◌}
-use Rattle.std.proofs.Common.{drop, length, is_some, Some, None, slice_get, Result, Ok, Err, subst, sym, refl, arith}
+use Rattle.std.proofs.Common.{drop, is_some, Some, None, slice_get, Result, Ok, Err, subst, refl, arith}
 use Rattle.std.specs.Prelude.{OnOk}
 use Rattle.std.proofs.lemmas.Bool.{ltb-false, ltb-true}
 use Rattle.providers.specs.declared.requirement.Requirement.{Requirement}

@@ -1,15 +1,15 @@
 -- What a queue remembers of a falsified clause stays so while clauses come or become hot, and while other things come.
-use Rattle.std.proofs.Common.{◌≡◌, ℕ, suc, ◌<◌, ◌≤◌, ◌&&◌, Bool, true, false, not, cond, eqb}
+use Rattle.std.proofs.Common.{◌≡◌, ℕ, suc, ◌≤◌, ◌&&◌, not, cond, eqb}
 use Rattle.std.proofs.Common.{inl, inr, List, [], ◌∷◌, ◌++◌, length, map, take, Option, Some}
 use Rattle.std.proofs.Common.{None, is_none, slice_get, sym, ap, refl, ◌∙◌, subst, arith, IfSome}
 use Rattle.decisions.specs.Literals.{Lit, Values, known_true}
 use Rattle.decisions.specs.declared.decision.Decision.{Decision}
-use Rattle.resolvo_queue.specs.Clear.{IsClear, RemembersWell}
-use Rattle.resolvo_queue.specs.Falsified.{comes_first, is_falsified_in}
+use Rattle.resolvo_queue.specs.Clear.{IsClear}
+use Rattle.resolvo_queue.specs.Falsified.{is_falsified_in}
 use Rattle.resolvo_queue.specs.Pick.Inspection.{clause_of}
 use Rattle.resolvo_queue.specs.Scan.Positions.{position_cmp}
 use Rattle.std.specs.Ordering.{is_lt}
-use Rattle.resolvo_queue.specs.Queue.{Queue, values_of}
+use Rattle.resolvo_queue.specs.Queue.{values_of}
 use Rattle.resolvo_queue.specs.Pick.Questions.{clause_literals}
 use Rattle.resolvo_queue.specs.Pick.Ready.{AreLocated, at_position}
 use Rattle.resolvo_queue.specs.References.{References, literals_in, rows_in}

@@ -1,4 +1,4 @@
-use Rattle.std.proofs.Common.{◌≡◌, ◌∙◌, ap, option_map, sym, subst}
+use Rattle.std.proofs.Common.{◌∙◌, ap, option_map, sym, subst}
 use Rattle.decisions.specs.Decisions.{values_in}
 use Rattle.resolvo_queue.specs.Falsified.{FindsFirst, is_falsified_in}
 use Rattle.resolvo_queue.specs.Queue.{Queue, queue_of}

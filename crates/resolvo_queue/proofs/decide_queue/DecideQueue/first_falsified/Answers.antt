@@ -1,4 +1,4 @@
-use Rattle.std.proofs.Common.{IfSome, ◌≡◌, ◌∙◌, ◌++◌, ◌≤◌, false, drop, option_map, sym, ap, refl, subst, arith}
+use Rattle.std.proofs.Common.{IfSome, ◌≡◌, ◌++◌, ◌≤◌, false, drop, sym, refl, subst, arith}
 use Rattle.std.specs.Prelude.{All}
 use Rattle.decisions.specs.Decisions.{values_in}
 use Rattle.resolvo_queue.specs.Clear.{IsClear}
@@ -6,9 +6,8 @@ use Rattle.resolvo_queue.specs.Falsified.{refs_of}
 use Rattle.resolvo_queue.specs.Routing.Possible.{SameElsewhere}
 use Rattle.resolvo_queue.specs.Queue.{AgreesBelow, Queue, StandsOn, queue_of, values_of}
 use Rattle.resolvo_queue.specs.Pick.Questions.{clause_literals}
-use Rattle.resolvo_queue.specs.References.{CanWalk, literals_in, references, rows_in}
+use Rattle.resolvo_queue.specs.References.{CanWalk}
 use Rattle.resolvo_queue.specs.Routing.{variables_of}
-use Rattle.resolvo_queue.specs.Scan.{first_falsified}
 use Rattle.resolvo_queue.specs.Routing.Synced.{is_among}
 use Rattle.resolvo_queue.specs.Falsified.Witnesses.{Witnessed}
 use Rattle.resolvo_queue.proofs.Clauses.Synced.{elsewhere}

@@ -11,11 +11,11 @@ pub invariant_of-result : goal.invariant_of-result
 invariant_of-result g c =
     let made : Queue g.row.D-NameId.Denot g.row.D-NameId-Set.Denot =
     queue_of c.new.result c.new-2.result.items c.new-4.result c.new-5.result.items c.new-6.result in
-    let names = ap (map (λ own. own.items)) c.new-2.ensures.items in (
+    let names = c.new-2.ensures in (
       kept_new g.D.NameId.Set.IdSet.has made c.new.ensures.clauses c.new.ensures.by_parent c.new.ensures.queued names
           c.new-5.ensures.items,
       entered_none g.D.NameId.Slots.IdMap.is_too_large (numbers_under g.D.NameId.Slots.IdMap.value_at c.new-3.result)
-          (map (λ own. own.items) c.new-2.result.items) names,
+          c.new-2.result.items names,
     )
 
 pub returns-clause-stands : goal.returns-clause-stands

@@ -1,11 +1,9 @@
 use Rattle.std.proofs.lemmas.Grind.{common_steps}
 use Rattle.std.proofs.Common.{◌≡◌, ◌⊎◌, inl, arith, ◌<◌, ◌^◌, ◌-◌, [], ◌∷◌, ◌++◌}
 use Rattle.std.proofs.Common.{map, length, IfSome, sym, ap, refl, subst, ◌∙◌}
-use Rattle.std.specs.List.{list_any}
-use Rattle.std.proofs.lemmas.List.{length-map, map-append}
+use Rattle.std.proofs.lemmas.List.{length-map}
 use Rattle.resolvo_queue.specs.Parts.ByName.{IsEntered, numbers_under}
 use Rattle.resolvo_queue.specs.Pick.Inspection.{clause_of}
-use Rattle.resolvo_queue.specs.Members.{Stands}
 use Rattle.resolvo_queue.specs.Queue.{IsRegistered, Queue, StandsOn, queue_of}
 use Rattle.resolvo_queue.specs.References.{references}
 use Rattle.resolvo_queue.specs.declared.requires_clause.RequiresClause.{RequiresClause}
@@ -26,11 +24,7 @@ overflow_cast-number g c =
     (length inside.tracked.index.clauses.items) c.if-is_full.false c.is_full.ensures
     (ap (λ (q : Queue g.row.D-NameId.Denot g.row.D-NameId-Set.Denot). length q.clauses) (sym c.self.view_is) ∙
     length-map inside.tracked.index.clauses.items clause_of) in
-    let many : length (map (λ own. own.items) inside.names.items) ≡ length inside.tracked.index.clauses.items =
-    c.self.invariant.0.names in
-    let all = length-map inside.names.items (λ own. own.items) in
-    let same = ap length c.reserve.ensures.items in
-    omega (arith, few, many, all, same, c.len-number.ensures, c.reserve.new.self.ok.0)
+    omega (arith, few, c.len-number.ensures, inside.tracked.index.clauses.ok.0)
 
 -- the names were refused
 pub invariant_of-self-in_err-enter : goal.invariant_of-self-in_err-enter
@@ -39,13 +33,12 @@ invariant_of-self-in_err-enter g c =
     let before : Queue g.row.D-NameId.Denot g.row.D-NameId-Set.Denot =
     queue_of inside.tracked inside.names.items inside.hot_names inside.since.items inside.witnesses in
     let after : Queue g.row.D-NameId.Denot g.row.D-NameId-Set.Denot =
-    queue_of inside.tracked c.reserve.new.self.items inside.hot_names c.reserve-2.new.self.items inside.witnesses in
-    let names = ap (map (λ own. own.items)) c.reserve.ensures.items in
+    queue_of inside.tracked inside.names.items inside.hot_names c.reserve.new.self.items inside.witnesses in
     let under = numbers_under g.D.NameId.Slots.IdMap.value_at in (
-      kept_still g.D.NameId.Set.IdSet.has before after c.self.invariant.0 c.self.invariant.0.order refl names refl
-          (inl c.reserve-2.ensures.items),
+      kept_still g.D.NameId.Set.IdSet.has before after c.self.invariant.0 c.self.invariant.0.order refl refl refl
+          (inl c.reserve.ensures.items),
       entered_still g.D.NameId.Slots.IdMap.is_too_large (under inside.by_name)
-          (under c.enter.new.self) before.names after.names names c.enter.ensures.kept c.self.invariant.1,
+          (under c.enter.new.self) before.names after.names refl c.enter.ensures.kept c.self.invariant.1,
     )
 
 pub invariant_of-self-in_err-register : goal.invariant_of-self-in_err-register
@@ -54,14 +47,13 @@ invariant_of-self-in_err-register g c =
     let before : Queue g.row.D-NameId.Denot g.row.D-NameId-Set.Denot =
     queue_of inside.tracked inside.names.items inside.hot_names inside.since.items inside.witnesses in
     let after : Queue g.row.D-NameId.Denot g.row.D-NameId-Set.Denot =
-    queue_of c.register.new.self c.reserve.new.self.items inside.hot_names c.reserve-2.new.self.items
+    queue_of c.register.new.self inside.names.items inside.hot_names c.reserve.new.self.items
     inside.witnesses in
-    let names = ap (map (λ own. own.items)) c.reserve.ensures.items in
     let under = numbers_under g.D.NameId.Slots.IdMap.value_at in (
-      kept_refused g.D.NameId.Set.IdSet.has before after c.in_err-register.ensures.err c.reserve-2.ensures.items
-          c.self.invariant.0 names refl,
+      kept_refused g.D.NameId.Set.IdSet.has before after c.in_err-register.ensures.err c.reserve.ensures.items
+          c.self.invariant.0 refl refl,
       entered_still g.D.NameId.Slots.IdMap.is_too_large (under inside.by_name)
-          (under c.enter.new.self) before.names after.names names c.enter.ensures.kept c.self.invariant.1,
+          (under c.enter.new.self) before.names after.names refl c.enter.ensures.kept c.self.invariant.1,
     )
 
 pub returns-in_err-register-clause-stands : goal.returns-in_err-register-clause-stands
@@ -70,10 +62,10 @@ returns-in_err-register-clause-stands g c =
     let before : Queue g.row.D-NameId.Denot g.row.D-NameId-Set.Denot =
     queue_of inside.tracked inside.names.items inside.hot_names inside.since.items inside.witnesses in
     let after : Queue g.row.D-NameId.Denot g.row.D-NameId-Set.Denot =
-    queue_of c.register.new.self c.reserve.new.self.items inside.hot_names c.reserve-2.new.self.items
+    queue_of c.register.new.self inside.names.items inside.hot_names c.reserve.new.self.items
     inside.witnesses in
     λ universe lists has s. (let refs = references universe lists c.args.disjunctions.now in
-    stands_refused g.D.NameId.Set.IdSet.has before after c.in_err-register.ensures.err c.reserve-2.ensures.items refs
+    stands_refused g.D.NameId.Set.IdSet.has before after c.in_err-register.ensures.err c.reserve.ensures.items refs
     (subst (StandsOn refs) (sym c.self.view_is) s) (ap (map clause_of) c.in_err-register.ensures.err.clauses)
     (ap (λ t. t.items) c.register.ensures.same.1) c.register.ensures.same.2 refl)
 
@@ -83,40 +75,33 @@ invariant_of-self-2 g c =
     let before : Queue g.row.D-NameId.Denot g.row.D-NameId-Set.Denot =
     queue_of inside.tracked inside.names.items inside.hot_names inside.since.items inside.witnesses in
     let after : Queue g.row.D-NameId.Denot g.row.D-NameId-Set.Denot =
-    queue_of c.register.new.self c.push_reserved.new.self.items inside.hot_names c.push_reserved-2.new.self.items
+    queue_of c.register.new.self c.and-self-inside.result.items inside.hot_names c.push_reserved.new.self.items
     inside.witnesses in
     let few : length inside.tracked.index.clauses.items < 2 ^ 32 - 1 =
     not_full c.is_full.result (length c.args.self.now.clauses)
     (length inside.tracked.index.clauses.items) c.if-is_full.false c.is_full.ensures
     (ap (λ (q : Queue g.row.D-NameId.Denot g.row.D-NameId-Set.Denot). length q.clauses) (sym c.self.view_is) ∙
     length-map inside.tracked.index.clauses.items clause_of) in
-    let names : after.names ≡ before.names ++ c.args.names.now ∷ [] =
-    ap (map (λ own. own.items)) (c.push_reserved.ensures.items ∙
-    ap (λ l. l ++ c.in_ok-names.names ∷ []) c.reserve.ensures.items)
-    ∙ (map-append (λ own. own.items) inside.names.items (c.in_ok-names.names ∷ []) ∙
-    ap (λ own. map (λ own. own.items) inside.names.items ++ own ∷ []) c.in_ok-names.ensures.ok) in
+    let names : after.names ≡ before.names ++ c.args.names.now ∷ [] = c.and-self-inside.ensures in
     let under = numbers_under g.D.NameId.Slots.IdMap.value_at in
     let is_too_large = g.D.NameId.Slots.IdMap.is_too_large in
     let number : c.len-number.result ≡ length before.names =
-    c.len-number.ensures ∙ (c.reserve.new.self.ok.0 ∙
-    (ap length c.reserve.ensures.items ∙ sym (length-map inside.names.items (λ own. own.items)))) in (
+    c.len-number.ensures ∙ (inside.tracked.index.clauses.ok.0 ∙ sym c.self.invariant.0.names) in (
       kept_registered g.D.NameId.Set.IdSet.has before after _ c.has_hot_name-is_hot.result c.is_true.result
           c.condition_of-literals.result.now c.args.names.now
           (record { parent = c.args.parent; value = c.args.parent_value }) c.self.invariant.0
           c.in_ok-register.ensures.ok
-          (c.push_reserved-2.ensures.items ∙
+          (c.push_reserved.ensures.items ∙
           ap (λ l. l ++ (record { parent = c.args.parent; value = c.args.parent_value }) ∷ [])
-          c.reserve-2.ensures.items) refl few
+          c.reserve.ensures.items) refl few
           names
           (λ n. refl)
-          (c.has_hot_name-is_hot.ensures ∙ ap (list_any (g.D.NameId.Set.IdSet.has inside.hot_names))
-          (c.as_slice-2.ensures.value ∙ c.in_ok-names.ensures.ok)),
+          c.has_hot_name-is_hot.ensures,
       entered_last is_too_large (under inside.by_name)
           (under c.enter.new.self) before.names after.names c.args.names.now names c.enter.ensures.kept
           c.self.invariant.1
           (λ name s. subst (λ k. IsEntered is_too_large (under c.enter.new.self) k name) number
-          (c.in_ok-enter.ensures.entered name
-          (subst (Stands name) (sym (c.as_slice.ensures.value ∙ c.in_ok-names.ensures.ok)) s))),
+          (c.in_ok-enter.ensures.entered name s)),
     )
 
 pub returns-clause-ok : goal.returns-clause-ok
@@ -125,7 +110,7 @@ returns-clause-ok g c =
     let before : Queue g.row.D-NameId.Denot g.row.D-NameId-Set.Denot =
     queue_of inside.tracked inside.names.items inside.hot_names inside.since.items inside.witnesses in
     let after : Queue g.row.D-NameId.Denot g.row.D-NameId-Set.Denot =
-    queue_of c.register.new.self c.push_reserved.new.self.items inside.hot_names c.push_reserved-2.new.self.items
+    queue_of c.register.new.self c.and-self-inside.result.items inside.hot_names c.push_reserved.new.self.items
     inside.witnesses in
     let clause : RequiresClause = record {
       parent = c.args.parent;
@@ -137,13 +122,10 @@ returns-clause-ok g c =
     c.self.view_is (record {
       clauses = registered_whole clause c.has_hot_name-is_hot.result c.is_true.result c.condition_of-literals.result.now
           before.inside after.inside c.in_ok-register.ensures.ok;
-      names = ap (map (λ own. own.items)) (c.push_reserved.ensures.items ∙
-          ap (λ l. l ++ c.in_ok-names.names ∷ []) c.reserve.ensures.items)
-          ∙ (map-append (λ own. own.items) inside.names.items (c.in_ok-names.names ∷ []) ∙
-          ap (λ own. map (λ own. own.items) inside.names.items ++ own ∷ []) c.in_ok-names.ensures.ok);
-      since = c.push_reserved-2.ensures.items ∙
+      names = c.and-self-inside.ensures;
+      since = c.push_reserved.ensures.items ∙
           ap (λ l. l ++ (record { parent = c.args.parent; value = c.args.parent_value }) ∷ [])
-          c.reserve-2.ensures.items;
+          c.reserve.ensures.items;
       trail = ap (λ t. t.items) c.register.ensures.same.1;
       must_start_anew = c.register.ensures.same.2;
       hot = λ n. refl;
@@ -155,7 +137,7 @@ returns-clause-stands g c =
     let before : Queue g.row.D-NameId.Denot g.row.D-NameId-Set.Denot =
     queue_of inside.tracked inside.names.items inside.hot_names inside.since.items inside.witnesses in
     let after : Queue g.row.D-NameId.Denot g.row.D-NameId-Set.Denot =
-    queue_of c.register.new.self c.push_reserved.new.self.items inside.hot_names c.push_reserved-2.new.self.items
+    queue_of c.register.new.self c.and-self-inside.result.items inside.hot_names c.push_reserved.new.self.items
     inside.witnesses in
     let clause : RequiresClause = record {
       parent = c.args.parent;
@@ -167,8 +149,8 @@ returns-clause-stands g c =
     stands_registered g.D.NameId.Set.IdSet.has before after clause c.has_hot_name-is_hot.result c.is_true.result
     c.condition_of-literals.result.now c.args.names.now
     (record { parent = c.args.parent; value = c.args.parent_value }) c.self.invariant.0 c.in_ok-register.ensures.ok
-    (c.push_reserved-2.ensures.items ∙ ap (λ l.
-    l ++ (record { parent = c.args.parent; value = c.args.parent_value }) ∷ []) c.reserve-2.ensures.items) refl
+    (c.push_reserved.ensures.items ∙ ap (λ l.
+    l ++ (record { parent = c.args.parent; value = c.args.parent_value }) ∷ []) c.reserve.ensures.items) refl
     refs (subst (StandsOn refs) (sym c.self.view_is) s)
     (registered_whole clause c.has_hot_name-is_hot.result c.is_true.result c.condition_of-literals.result.now
     before.inside after.inside c.in_ok-register.ensures.ok)
@@ -200,17 +182,14 @@ returns-clause-owed g c = λ r.
 pub invariant_of-self : goal.invariant_of-self
 invariant_of-self g c = grind (arith, common_steps)
 
-pub invariant_of-self-in_err-reserve-2 : goal.invariant_of-self-in_err-reserve-2
-invariant_of-self-in_err-reserve-2 g c = grind (arith, common_steps)
+pub returns-in_err-reserve-clause-walks : goal.returns-in_err-reserve-clause-walks
+returns-in_err-reserve-clause-walks g c = grind (arith, common_steps)
 
-pub returns-in_err-reserve-2-clause-walks : goal.returns-in_err-reserve-2-clause-walks
-returns-in_err-reserve-2-clause-walks g c = grind (arith, common_steps)
+pub returns-in_err-reserve-clause-owed : goal.returns-in_err-reserve-clause-owed
+returns-in_err-reserve-clause-owed g c = grind (arith, common_steps)
 
-pub returns-in_err-reserve-2-clause-owed : goal.returns-in_err-reserve-2-clause-owed
-returns-in_err-reserve-2-clause-owed g c = grind (arith, common_steps)
-
-pub returns-in_err-reserve-2-clause-stands : goal.returns-in_err-reserve-2-clause-stands
-returns-in_err-reserve-2-clause-stands g c = grind (arith, common_steps)
+pub returns-in_err-reserve-clause-stands : goal.returns-in_err-reserve-clause-stands
+returns-in_err-reserve-clause-stands g c = grind (arith, common_steps)
 
 pub returns-in_err-enter-clause-walks : goal.returns-in_err-enter-clause-walks
 returns-in_err-enter-clause-walks g c = grind (arith, common_steps)

@@ -1,4 +1,4 @@
-use Rattle.std.proofs.Common.{◌≡◌, ◌∙◌, ap, arith, drop, inl, refl, subst, sym}
+use Rattle.std.proofs.Common.{arith, drop, inl, refl, subst, sym}
 use Rattle.decisions.specs.Decisions.{values_in}
 use Rattle.resolvo_queue.specs.Members.{Stands}
 use Rattle.resolvo_queue.specs.Falsified.Settling.{basis_of}

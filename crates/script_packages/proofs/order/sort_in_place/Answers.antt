@@ -2,7 +2,7 @@ use Rattle.std.proofs.Common.{rules, of_calls}
 use Rattle.std.proofs.lemmas.Fn.{always_returns_same}
 use Rattle.std.proofs.lemmas.List.MinMax.{ranks_by}
 use Rattle.script_packages.proofs.Preferences.{preference_total, sorted_is-best_first}
-use Rattle.script_packages.proofs.order.sort_best_first.Goals as goal
+use Rattle.script_packages.proofs.order.sort_in_place.Goals as goal
 
 pub returns-clause-sorted : goal.returns-clause-sorted
 returns-clause-sorted c =
