@@ -30,6 +30,9 @@ pub(crate) fn favored_place(text: &[u8]) -> Result<Option<usize>, LineFault>
     ensures ok { IfOk result (λ place. favored_place (words text.now) ≡ Some place) }
     ensures err { IfErr result (λ e. (e ≡ Unreadable) × (favored_place (words text.now) ≡ None)) }
 {
+    if !text.contains(&b'*') {
+        return Ok(None);
+    }
     let mut favored = None;
     let mut place = 0;
     let mut rest = text;

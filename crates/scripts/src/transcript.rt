@@ -1,5 +1,6 @@
 //! Scripts: a catalogue, and then commands, each of which is answered by a line.
-ghost use Rattle.std.specs.Prelude.{◌≡◌, ℕ, true, List, [], ◌++◌, ◌+◌, ◌^◌, ◌<◌, ◌⊎◌, length, IfSome, IfOk, IfErr};
+ghost use Rattle.std.specs.Prelude.{◌≡◌, ℕ, true, List, [], ◌++◌, ◌+◌, ◌^◌, ◌<◌, ◌⊎◌, length, map, IfSome, IfOk};
+ghost use Rattle.std.specs.Prelude.{IfErr};
 ghost use Rattle.script_text.specs.declared.fault.ScriptFault.TheVariants.{Device, Memory};
 ghost use Rattle.script_text.specs.Lines.{lines as lines_of};
 ghost use Rattle.std.specs.Io.{StartsWith};
@@ -7,7 +8,8 @@ ghost use Rattle.script_text.specs.Output.{Writes};
 ghost use Rattle.script_text.specs.Statements.{says};
 ghost use Rattle.script_text.specs.Words.{words};
 ghost use Rattle.scripts.specs.Commands.{ids_at, command_meant, command_said};
-ghost use Rattle.resolvo_store.specs.Command.{Load, command_of};
+ghost use Rattle.resolvo_store.specs.Command.{Load, LoadedAs, command_of};
+ghost use Rattle.resolvo_store.specs.Step.{Step};
 ghost use Rattle.resolvo_store.specs.Store.{new_store};
 ghost use Rattle.script_text.specs.declared.statement.Line.TheVariants.{Says};
 ghost use Rattle.scripts.specs.Ends.{HandsAnswer, named_text, TakesBeginning, WriterEnds, DevicesEnd};
@@ -25,7 +27,7 @@ use script_text::{
 };
 use solver_cache::ProviderFunctions;
 use std::alloc::Global;
-use typed_ids::DenseIndex;
+use typed_ids::{DenseIndex, VariableId};
 
 /// Reads a whole script, obeys its commands in turn, and writes a line for each reply. At the first unreadable line the
 /// line that names it is written, and nothing more is read. All that was to be written is written and flushed at every
@@ -203,14 +205,13 @@ fn obey_words<D: DependencyProvider<NameId: DenseIndex, SolvableId: DenseIndex> 
         waiting.old.items result waiting.new.items (⟦<D as AbstractStore>⟧.store store.new) }
 {
     match command(alloc, Statement { keyword, rest }) {
-        Ok(Command::Load(requirement)) => obey_load(store, requirement, waiting),
         Ok(command) => obey(store, &command, waiting),
         Err(fault) => Err(fault),
     }
 }
 
-/// Obeys a command, and puts the line of the reply after what waits.
-#[inline(always)]
+/// Obeys a command, and puts the line of the reply after what waits. What is loaded already is answered from where it
+/// lies, with no copy.
 fn obey<D: DependencyProvider + Drop>(
     store: &mut ClauseStore<D>,
     command: &Command<D::NameId, D::SolvableId, D::Alloc>,
@@ -219,27 +220,26 @@ fn obey<D: DependencyProvider + Drop>(
     ensures { ObeysLine (⟦<D as AbstractStore>⟧.store store.old) (Says (command_of command.now))
         waiting.old.items result waiting.new.items (⟦<D as AbstractStore>⟧.store store.new) }
 {
+    if let Command::Load(requirement) = command {
+        if let Some(lists) = known_lists(store, *requirement) {
+            push_loaded(waiting, lists)?;
+            return Ok(());
+        }
+    }
     let reply = store.step(command);
     push_reply(waiting, &reply)?;
     Ok(())
 }
 
-/// Loads a requirement, and puts the line of the reply after what waits. What is loaded already is answered from where
-/// it lies, with no copy.
+/// What a load of the requirement answers, if it is loaded already. It is apart from `obey` so that no other command
+/// pays for it.
 #[inline(never)]
-fn obey_load<D: DependencyProvider + Drop>(
-    store: &mut ClauseStore<D>,
+fn known_lists<D: DependencyProvider + Drop>(
+    store: &ClauseStore<D>,
     requirement: Requirement,
-    waiting: &mut Vec<u8>,
-) -> Result<(), LineFault>
-    ensures { ObeysLine (⟦<D as AbstractStore>⟧.store store.old) (Says (Load requirement))
-        waiting.old.items result waiting.new.items (⟦<D as AbstractStore>⟧.store store.new) }
+) -> Option<&[Vec<VariableId, D::Alloc>]>
+    ensures { IfSome result (λ lists. Step (⟦<D as AbstractStore>⟧.store store.now) (Load requirement)
+        (LoadedAs (map (λ l. l.items) lists.now)) (⟦<D as AbstractStore>⟧.store store.now)) }
 {
-    match store.loaded(requirement) {
-        Some(lists) => {
-            push_loaded(waiting, lists)?;
-            Ok(())
-        }
-        None => obey(store, &Command::Load(requirement), waiting),
-    }
+    store.loaded(requirement)
 }

@@ -1,0 +1,56 @@
+-- Where a line has no star, none of its words has one.
+use Rattle.std.proofs.Common.{◌≡◌, ℕ, suc, ◌-◌, ◌+◌, ◌==◌, ◌&&◌, ◌++◌, Bool, true, false, cond, List, [], ◌∷◌, refl}
+use Rattle.std.proofs.Common.{ap, ◌∙◌, arith, length, filter, None, Some}
+use Rattle.std.specs.Prelude.{drop, nat_eq, nat_lt, codes, if◌then◌else◌}
+use Rattle.std.specs.List.{list_any, position_from}
+use Rattle.std.specs.Str.{bytes_eq}
+use Rattle.std.proofs.lemmas.Bool.{or_from, or_parts}
+use Rattle.std.proofs.lemmas.List.Folds.{list_any-append}
+use Rattle.script_text.specs.Words.{begun_word, words, words_from}
+use Rattle.script_packages.specs.Versions.{is_starred, favored_place}
+
+abbrev is_star : ℕ → Bool
+is_star b = nat_eq b 42
+
+unstarred : (word : List ℕ) → list_any is_star word ≡ false → is_starred word ≡ false
+unstarred [] none = refl
+unstarred (x ∷ []) none = ap (λ t. t && true) (or_parts _ _ none).0
+unstarred (x ∷ y ∷ ys) none =
+    let shorter : length (x ∷ y ∷ ys) - 1 ≡ suc (length (y ∷ ys) - 1) = omega arith in
+    ap (λ n. bytes_eq (drop n (x ∷ y ∷ ys)) (codes "*")) shorter ∙ unstarred (y ∷ ys) (or_parts _ _ none).1
+
+begun_unstarred : (begun : List ℕ) → list_any is_star begun ≡ false → list_any is_starred (begun_word begun) ≡ false
+begun_unstarred [] none = refl
+begun_unstarred (b ∷ bs) none = or_from _ _ (unstarred (b ∷ bs) none) refl
+
+words_unstarred : (begun line : List ℕ) → list_any is_star begun ≡ false → list_any is_star line ≡ false →
+    list_any is_starred (words_from begun line) ≡ false
+words_unstarred begun [] none left = begun_unstarred begun none
+words_unstarred begun (b ∷ bs) none left =
+    elim (b == 32) as (λ t. list_any is_starred
+    (if t then begun_word begun ++ words_from [] bs else words_from (begun ++ b ∷ []) bs) ≡ false) [
+      | true ↦ list_any-append is_starred (begun_word begun) (words_from [] bs)
+          ∙ or_from _ _ (begun_unstarred begun none) (words_unstarred [] bs refl (or_parts _ _ left).1)
+      | false ↦ words_unstarred (begun ++ b ∷ []) bs
+          (list_any-append is_star begun (b ∷ []) ∙ or_from _ _ none (or_from _ _ (or_parts _ _ left).0 refl))
+          (or_parts _ _ left).1
+    ]
+
+none_filtered : (all : List (List ℕ)) → list_any is_starred all ≡ false → filter is_starred all ≡ []
+none_filtered [] none = refl
+none_filtered (w ∷ ws) none =
+    ap (λ t. if t then w ∷ filter is_starred ws else filter is_starred ws) (or_parts _ _ none).0
+    ∙ none_filtered ws (or_parts _ _ none).1
+
+none_placed : (n : ℕ) (all : List (List ℕ)) → list_any is_starred all ≡ false → position_from is_starred n all ≡ None
+none_placed n [] none = refl
+none_placed n (w ∷ ws) none =
+    ap (λ t. cond t (Some n) (position_from is_starred (n + 1) ws)) (or_parts _ _ none).0
+    ∙ none_placed (n + 1) ws (or_parts _ _ none).1
+
+pub no_star : (line : List ℕ) → list_any is_star line ≡ false → favored_place (words line) ≡ Some None
+no_star line none =
+    let unstarred = words_unstarred [] line refl none in
+    ap (λ l. if nat_lt 1 (length l) then None else Some (position_from is_starred 0 (words line)))
+    (none_filtered (words line) unstarred)
+    ∙ ap Some (none_placed 0 (words line) unstarred)
