@@ -81,24 +81,33 @@ pub(crate) fn search_for<D: DependencyProvider + Drop>(
     wanted: &[ConditionalRequirement],
     steps: u64,
 ) -> Result<SearchEnd<D::NameId, D::SolvableId, D::Alloc>> {
-    let mut search = Search {
-        store: ClauseStore::new(alloc, provider)?,
-        candidates: Vec::new(alloc),
-        gates: Mapping::new(alloc)?,
-        choices: Vec::new(alloc),
-        trail: Vec::new(alloc),
-        told: Mapping::new(alloc)?,
-        nogoods: Vec::new(alloc),
-        derived: Mapping::new(alloc)?,
-        root_cause: Vec::new(alloc),
-        alloc,
-    };
+    let mut search = Search::new(alloc, provider)?;
     let end = search.find(wanted, steps);
     drop(search);
     end
 }
 
 impl<D: DependencyProvider + Drop> Search<D> {
+    /// A search that was told nothing. The store comes last, so that no refusal lets one go.
+    fn new(alloc: D::Alloc, provider: D) -> Result<Self> {
+        let gates = Mapping::new(alloc)?;
+        let told = Mapping::new(alloc)?;
+        let derived = Mapping::new(alloc)?;
+        let store = ClauseStore::new(alloc, provider)?;
+        Ok(Search {
+            store,
+            candidates: Vec::new(alloc),
+            gates,
+            choices: Vec::new(alloc),
+            trail: Vec::new(alloc),
+            told,
+            nogoods: Vec::new(alloc),
+            derived,
+            root_cause: Vec::new(alloc),
+            alloc,
+        })
+    }
+
     /// Encodes what is wanted, and runs.
     fn find(
         &mut self,
