@@ -55,7 +55,8 @@
 //! A sync that is refused is remembered: the next one forgets all that is known and queues all clauses whose parent is
 //! true, whatever was done before. A registration that is refused may leave a number in a list that belongs to no
 //! clause yet, which wakes one clause too many later, or makes it hot.
-ghost use Rattle.std.specs.Prelude.{◌≡◌, ◌⊎◌, ◌+◌, ◌-◌, ◌<◌, ◌≤◌, ◌^◌, ◌↔◌, ◌≢◌, [], length, take, All, IsTrue, IsOk};
+ghost use Rattle.std.specs.Prelude.{◌≡◌, ◌⊎◌, ◌+◌, ◌-◌, ◌<◌, ◌≤◌, ◌^◌, ◌↔◌, ◌≢◌};
+ghost use Rattle.std.specs.Prelude.{[], length, take, All, IsTrue, IsOk};
 ghost use Rattle.std.specs.Prelude.{IsSome, IfSome, List, None, true, false, option_map, OnOk, OnErr, IfOk, IfErr};
 ghost use Rattle.std.specs.Map.{lookup};
 ghost use Rattle.std.specs.Ordering.{nat_cmp};
