@@ -1,5 +1,6 @@
 pub mod Calls
 pub mod FirstLines
+pub mod FirstWords
 pub mod Handing
 pub mod Lanes
 pub mod Prefixes

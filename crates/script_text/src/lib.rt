@@ -8,6 +8,7 @@
 mod decimal;
 mod device;
 mod fault;
+mod first_word;
 mod input;
 mod line;
 mod output;

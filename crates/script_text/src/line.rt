@@ -1,5 +1,5 @@
 //! Lines of a text.
-ghost use Rattle.std.specs.Prelude.{◌≡◌, ◌<◌, ◌∷◌, length, IfSome, ◌⊎◌};
+ghost use Rattle.std.specs.Prelude.{◌≡◌, ◌<◌, ◌∷◌, take, length, IfSome, ◌⊎◌};
 ghost use Rattle.std.specs.List.{list_all};
 ghost use Rattle.script_text.specs.Lines.{lines, lines_from, without_return, is_printed};
 
@@ -20,6 +20,7 @@ pub(crate) struct FirstLine<'a> {
 pub(crate) fn first_line(text: &[u8]) -> FirstLine<'_>
     requires { 0 < length text.now }
     ensures first { lines text.now ≡ result.line.now ∷ lines result.rest.now }
+    ensures begins { result.line.now ≡ take (length result.line.now) text.now }
     ensures printed { result.is_printed ≡ list_all is_printed result.line.now }
     ensures shorter { length result.rest.now < length text.now }
 {
@@ -51,6 +52,7 @@ fn after_end(text: &[u8]) -> Option<&[u8]>
 fn other_line(text: &[u8]) -> FirstLine<'_>
     requires { 0 < length text.now }
     ensures first { lines text.now ≡ result.line.now ∷ lines result.rest.now }
+    ensures begins { result.line.now ≡ take (length result.line.now) text.now }
     ensures printed { result.is_printed ≡ list_all is_printed result.line.now }
     ensures shorter { length result.rest.now < length text.now }
 {
@@ -67,6 +69,7 @@ fn other_line(text: &[u8]) -> FirstLine<'_>
 fn split_line(text: &[u8]) -> (&[u8], &[u8])
     requires { 0 < length text.now }
     ensures first { lines text.now ≡ without_return result.0.now ∷ lines result.1.now }
+    ensures begins { result.0.now ≡ take (length result.0.now) text.now }
     ensures shorter { length result.1.now < length text.now }
 {
     for (i, byte) in text.iter().enumerate() {
@@ -79,7 +82,8 @@ fn split_line(text: &[u8]) -> (&[u8], &[u8])
 
 /// A line but for the carriage return at its end.
 fn without_return(line: &[u8]) -> &[u8]
-    ensures { result.now ≡ without_return line.now }
+    ensures without { result.now ≡ without_return line.now }
+    ensures begins { result.now ≡ take (length result.now) line.now }
 {
     match line {
         [before @ .., b'\r'] => before,

@@ -1,11 +1,11 @@
 //! Lines that say something.
-ghost use Rattle.std.specs.Prelude.{◌≡◌, ◌<◌, [], length, IfSome, MatchOption};
+ghost use Rattle.std.specs.Prelude.{◌≡◌, ◌<◌, [], take, length, IfSome, MatchOption};
 ghost use Rattle.std.specs.List.{list_all};
 ghost use Rattle.script_text.specs.Lines.{lines, is_printed};
 ghost use Rattle.script_text.specs.Statements.{MeansWords, FirstMeans, IsRestPrinted};
 
+use crate::first_word::first_word;
 use crate::line::first_line;
-use crate::word::next_word;
 use typed_ids::{SameClone, SameValue};
 
 /// What a line says.
@@ -37,20 +37,21 @@ pub fn next_statement(text: &[u8]) -> Option<(Line<Statement<'_>>, &[u8])>
         return None;
     }
     let first = first_line(text);
-    Some((meaning(first.line, first.is_printed), first.rest))
+    Some((meaning(first.line, first.is_printed, text), first.rest))
 }
 
-/// The line as a statement, where it is known whether the line is printed.
+/// The line with which a text begins as a statement, where it is known whether the line is printed.
 #[inline(always)]
-fn meaning(line: &[u8], all_printed: bool) -> Line<Statement<'_>>
-    requires { all_printed ≡ list_all is_printed line.now }
+fn meaning<'a>(line: &'a [u8], all_printed: bool, text: &[u8]) -> Line<Statement<'a>>
+    requires printed { all_printed ≡ list_all is_printed line.now }
+    requires begins { line.now ≡ take (length line.now) text.now }
     ensures means { MeansWords line.now result }
     ensures printed { IsRestPrinted result }
 {
     if !all_printed {
         return Line::Unreadable;
     }
-    match next_word(line) {
+    match first_word(line, text) {
         None | Some(([b'#', ..], _)) => Line::Skipped,
         Some((keyword, rest)) => Line::Says(Statement { keyword, rest }),
     }

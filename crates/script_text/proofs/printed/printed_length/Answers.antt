@@ -8,20 +8,20 @@ use Rattle.script_text.proofs.printed.printed_length.Goals as goal
 pub overflow_add-length : goal.overflow_add-length
 overflow_add-length c =
     let room : c.loop-length.length + 16 ≤ length c.args.text.now = omega arith in
-    omega (arith, found_of_sixteen c.args.text.now c.loop-length.length c.printed_of_sixteen-found.result room c.printed_of_sixteen-found.ensures)
+    omega (arith, found_of_sixteen is_printed c.args.text.now c.loop-length.length c.printed_of_sixteen-found.result room c.printed_of_sixteen-found.ensures)
 
 pub returns-then-found-lt16 : goal.returns-then-found-lt16
 returns-then-found-lt16 c =
     let room : c.loop-length.length + 16 ≤ length c.args.text.now = omega arith in
-    let ends = ends_in_sixteen c.args.text.now c.loop-length.length c.printed_of_sixteen-found.result room
+    let ends = ends_in_sixteen is_printed c.args.text.now c.loop-length.length c.printed_of_sixteen-found.result room
     c.printed_of_sixteen-found.ensures c.if-found-lt16.true in
     omega (arith, ends, c.loop-length.invariant.counted)
 
 pub loop-length-preserved : goal.loop-length-preserved
 loop-length-preserved c =
     let room : c.loop-length.length + 16 ≤ length c.args.text.now = omega arith in
-    let found = found_of_sixteen c.args.text.now c.loop-length.length c.printed_of_sixteen-found.result room c.printed_of_sixteen-found.ensures in
-    let goes_on = goes_on_after_sixteen c.args.text.now c.loop-length.length c.printed_of_sixteen-found.result room
+    let found = found_of_sixteen is_printed c.args.text.now c.loop-length.length c.printed_of_sixteen-found.result room c.printed_of_sixteen-found.ensures in
+    let goes_on = goes_on_after_sixteen is_printed c.args.text.now c.loop-length.length c.printed_of_sixteen-found.result room
     c.printed_of_sixteen-found.ensures c.if-found-lt16.false in
     record { within = omega (arith, found, room); counted = omega (arith, goes_on, c.loop-length.invariant.counted) }
 
