@@ -1,5 +1,5 @@
 -- Sixteen bytes in the lanes of a vector: which of them are printed.
-use Rattle.std.proofs.Common.{◌≡◌, ℕ, ◌+◌, ◌-◌, ◌*◌, ◌%◌, ◌^◌, ◌<◌, ◌⊎◌, inl, inr, Bool, true, false, not, nat_eq, nat_lt, List, []}
+use Rattle.std.proofs.Common.{◌≡◌, ℕ, ◌+◌, ◌-◌, ◌*◌, ◌%◌, ◌^◌, ◌<◌, ◌⊎◌, inl, inr, Bool, true, false, not, nat_lt, List, []}
 use Rattle.std.proofs.Common.{◌∷◌, length, map, replicate, cond, arith, refl, sym, ap, ◌∙◌, Fits, w8, w64}
 use Rattle.std.proofs.lemmas.Bool.Decides.{nat_tests}
 use Rattle.std.proofs.lemmas.List.{length-map}
@@ -10,75 +10,75 @@ use Rattle.std.proofs.lemmas.Simd.{leading_from_mask_l, trailing_mask_l, zip2_sp
 use Rattle.std.specs.Int.{trailing_zeros}
 use Rattle.std.specs.Simd.Lanes.{zip2, mask_l, top, Each1}
 use Rattle.script_text.specs.Lines.{is_printed}
-use Rattle.script_text.specs.Words.{is_blank, is_of_word}
+use Rattle.script_text.specs.Words.{is_graphic}
 
--- a byte counted from the blank, and round by 256 below it
-abbrev pub from_blank : ℕ → ℕ → ℕ
-from_blank b blank = (b + (256 - blank)) % 256
+-- a byte counted from another one, and round by 256 below it
+abbrev pub from_low : ℕ → ℕ → ℕ
+from_low b low = (b + (256 - low)) % 256
 
-byte_above : (b : ℕ) → b < 256 → nat_lt 94 (from_blank b 32) ≡ not (is_printed b)
-byte_above b small = grind (arith, nat_tests, small)
+-- bytes of a range of characters: counted from the lowest, all others are above its span
+module _ (p : ℕ → Bool) (low span : ℕ) (byte_above : (b : ℕ) → b < 256 → nat_lt span (from_low b low) ≡ not (p b)) where
+  bytes_above : (bytes : List ℕ) → Each1 (Fits w8) bytes → map (λ b. nat_lt span (from_low b low)) bytes ≡ map (λ b. not (p b)) bytes
+  bytes_above [] fit = refl
+  bytes_above (b ∷ bytes) fit = λ i. byte_above b fit.0.fits i ∷ bytes_above bytes fit.1 i
 
-bytes_above : (bytes : List ℕ) → Each1 (Fits w8) bytes → map (λ b. nat_lt 94 (from_blank b 32)) bytes ≡ map (λ b. not (is_printed b)) bytes
-bytes_above [] fit = refl
-bytes_above (b ∷ bytes) fit = λ i. byte_above b fit.0.fits i ∷ bytes_above bytes fit.1 i
+  outside_mask : (bytes : List ℕ) → length bytes ≡ 16 → Each1 (Fits w8) bytes
+      → mask_l (map (top 7) (zip2 (λ a b. cond (nat_lt a b) 255 0) (replicate 16 span) (zip2 from_low bytes (replicate 16 low)))) % 2 ^ 64
+      ≡ mask_l (map (λ b. not (p b)) bytes)
+  outside_mask bytes long fit =
+      let counted : zip2 from_low bytes (replicate 16 low) ≡ map (λ b. from_low b low) bytes = zip2_splat from_low bytes 16 low long in
+      let lanes = λ (bs : List ℕ). mask_l (map (top 7) (zip2 (λ a b. cond (nat_lt a b) 255 0) (replicate 16 span) bs)) % 2 ^ 64 in
+      let above = map (λ b. from_low b low) bytes in
+      ap lanes counted
+      ∙ ap (λ ms. mask_l ms % 2 ^ 64) (tops_compared w8 nat_lt (replicate 16 span) above
+      ∙ zip2_splat_left nat_lt span 16 above (length-map bytes _ ∙ long)
+      ∙ map-map _ _ bytes
+      ∙ bytes_above bytes fit)
+      ∙ mask_l-mod (map (λ b. not (p b)) bytes) 64 (omega (arith, length-map bytes (λ b. not (p b)), long))
 
 pub unprinted_mask : (bytes : List ℕ) → length bytes ≡ 16 → Each1 (Fits w8) bytes
-    → mask_l (map (top 7) (zip2 (λ a b. cond (nat_lt a b) 255 0) (replicate 16 94) (zip2 from_blank bytes (replicate 16 32)))) % 2 ^ 64
+    → mask_l (map (top 7) (zip2 (λ a b. cond (nat_lt a b) 255 0) (replicate 16 94) (zip2 from_low bytes (replicate 16 32)))) % 2 ^ 64
     ≡ mask_l (map (λ b. not (is_printed b)) bytes)
-unprinted_mask bytes long fit =
-    let counted : zip2 from_blank bytes (replicate 16 32) ≡ map (λ b. from_blank b 32) bytes = zip2_splat from_blank bytes 16 32 long in
-    let lanes = λ (bs : List ℕ). mask_l (map (top 7) (zip2 (λ a b. cond (nat_lt a b) 255 0) (replicate 16 94) bs)) % 2 ^ 64 in
-    let above = map (λ b. from_blank b 32) bytes in
-    ap lanes counted
-    ∙ ap (λ ms. mask_l ms % 2 ^ 64) (tops_compared w8 nat_lt (replicate 16 94) above
-    ∙ zip2_splat_left nat_lt 94 16 above (length-map bytes _ ∙ long)
-    ∙ map-map _ _ bytes
-    ∙ bytes_above bytes fit)
-    ∙ mask_l-mod (map (λ b. not (is_printed b)) bytes) 64 (omega (arith, length-map bytes (λ b. not (is_printed b)), long))
+unprinted_mask = outside_mask is_printed 32 94 (λ b small. grind (arith, nat_tests, small))
+
+pub ungraphic_mask : (bytes : List ℕ) → length bytes ≡ 16 → Each1 (Fits w8) bytes
+    → mask_l (map (top 7) (zip2 (λ a b. cond (nat_lt a b) 255 0) (replicate 16 93) (zip2 from_low bytes (replicate 16 33)))) % 2 ^ 64
+    ≡ mask_l (map (λ b. not (is_graphic b)) bytes)
+ungraphic_mask = outside_mask is_graphic 33 93 (λ b small. grind (arith, nat_tests, small))
 
 not_not : (b : Bool) → not (not b) ≡ b
 not_not true = refl
 not_not false = refl
 
--- sixteen bytes of which one is a blank
-pub blank_mask : (bytes : List ℕ) → length bytes ≡ 16
-    → mask_l (map (top 7) (zip2 (λ a b. cond (nat_eq a b) 255 0) bytes (replicate 16 32))) % 2 ^ 64 ≡ mask_l (map is_blank bytes)
-blank_mask bytes long =
-    ap (λ ms. mask_l ms % 2 ^ 64) (tops_compared w8 nat_eq bytes (replicate 16 32) ∙ zip2_splat nat_eq bytes 16 32 long)
-    ∙ mask_l-mod (map is_blank bytes) 64 (omega (arith, length-map bytes is_blank, long))
+-- of sixteen bytes a bit is set for each that fails a test
+module _ (p : ℕ → Bool) (bytes : List ℕ) (long : length bytes ≡ 16) (mask : ℕ) (is : mask ≡ mask_l (map (λ b. not (p b)) bytes)) where
+  passed_before : prefix_len (λ b. not (not (p b))) bytes ≡ prefix_len p bytes
+  passed_before = λ i. prefix_len (λ b. not_not (p b) i) bytes
 
--- where every byte is of a word, no bit is set
-no_blank : (bytes : List ℕ) → prefix_len is_of_word bytes ≡ length bytes → mask_l (map is_blank bytes) ≡ 0
-no_blank [] h = refl
-no_blank (b ∷ bytes) h = by_test (is_blank b) refl (no_blank bytes)
-  where
-    by_test : (v : Bool) → is_blank b ≡ v → (prefix_len is_of_word bytes ≡ length bytes → mask_l (map is_blank bytes) ≡ 0) → mask_l (map is_blank (b ∷ bytes)) ≡ 0
-    by_test true e rest = absurd (omega (arith, sym (ap (λ v. cond (not v) (1 + prefix_len is_of_word bytes) 0) e) ∙ h))
-    by_test false e rest =
-        ap (λ v. mask_l (v ∷ map is_blank bytes)) e
-        ∙ ap (λ n. cond false 1 0 + 2 * n) (rest (omega (arith, sym (ap (λ v. cond (not v) (1 + prefix_len is_of_word bytes) 0) e) ∙ h)))
+  pub all_pass : mask ≡ 0 → 16 ≡ prefix_len p bytes
+  all_pass none = sym long ∙ sym (leading_from_mask_l (λ b. not (p b)) bytes (sym is ∙ none)) ∙ passed_before
 
-pub blank_within : (bytes : List ℕ) → length bytes ≡ 16 → (mask_l (map is_blank bytes) ≡ 0 → ⊥)
-    → (trailing_zeros w64 (mask_l (map is_blank bytes)) ≡ prefix_len is_of_word bytes) × (prefix_len is_of_word bytes < 16)
-blank_within bytes long some = (
-  trailing_mask_l is_blank 64 bytes (omega (arith, long)) (omega (arith, some)),
-  by_length (eq-or-lt_of_le (prefix_len-le-length is_of_word bytes)),
-)
-  where
-    by_length : (prefix_len is_of_word bytes ≡ length bytes) ⊎ (prefix_len is_of_word bytes < length bytes) → prefix_len is_of_word bytes < 16
-    by_length (inl whole) = absurd (some (no_blank bytes whole))
-    by_length (inr less) = omega (arith, less, long)
-
-module _ (bytes : List ℕ) (long : length bytes ≡ 16) (mask : ℕ) (is : mask ≡ mask_l (map (λ b. not (is_printed b)) bytes)) where
-  printed_before : prefix_len (λ b. not (not (is_printed b))) bytes ≡ prefix_len is_printed bytes
-  printed_before = λ i. prefix_len (λ b. not_not (is_printed b) i) bytes
-
-  pub all_printed : mask ≡ 0 → 16 ≡ prefix_len is_printed bytes
-  all_printed none = sym long ∙ sym (leading_from_mask_l (λ b. not (is_printed b)) bytes (sym is ∙ none)) ∙ printed_before
-
-  pub printed_up_to : (mask ≡ 0 → ⊥) → trailing_zeros w64 mask ≡ prefix_len is_printed bytes
-  printed_up_to some =
+  pub pass_up_to : (mask ≡ 0 → ⊥) → trailing_zeros w64 mask ≡ prefix_len p bytes
+  pass_up_to some =
       ap (trailing_zeros w64) is
-      ∙ trailing_mask_l (λ b. not (is_printed b)) 64 bytes (omega (arith, long)) (omega (arith, some, is))
-      ∙ printed_before
+      ∙ trailing_mask_l (λ b. not (p b)) 64 bytes (omega (arith, long)) (omega (arith, some, is))
+      ∙ passed_before
+
+-- where every byte passes, no bit is set
+none_fails : (p : ℕ → Bool) (bytes : List ℕ) → prefix_len p bytes ≡ length bytes → mask_l (map (λ b. not (p b)) bytes) ≡ 0
+none_fails p [] h = refl
+none_fails p (b ∷ bytes) h = by_test (p b) refl (none_fails p bytes)
+  where
+    by_test : (v : Bool) → p b ≡ v → (prefix_len p bytes ≡ length bytes → mask_l (map (λ c. not (p c)) bytes) ≡ 0) → mask_l (map (λ c. not (p c)) (b ∷ bytes)) ≡ 0
+    by_test false e rest = absurd (omega (arith, sym (ap (λ v. cond v (1 + prefix_len p bytes) 0) e) ∙ h))
+    by_test true e rest =
+        ap (λ v. mask_l (not v ∷ map (λ c. not (p c)) bytes)) e
+        ∙ ap (λ n. cond false 1 0 + 2 * n) (rest (omega (arith, sym (ap (λ v. cond v (1 + prefix_len p bytes) 0) e) ∙ h)))
+
+-- where a bit is set, one of sixteen bytes fails
+pub fails_within : (p : ℕ → Bool) (bytes : List ℕ) → length bytes ≡ 16 → (mask_l (map (λ b. not (p b)) bytes) ≡ 0 → ⊥) → prefix_len p bytes < 16
+fails_within p bytes long some = by_length (eq-or-lt_of_le (prefix_len-le-length p bytes))
+  where
+    by_length : (prefix_len p bytes ≡ length bytes) ⊎ (prefix_len p bytes < length bytes) → prefix_len p bytes < 16
+    by_length (inl whole) = absurd (some (none_fails p bytes whole))
+    by_length (inr less) = omega (arith, less, long)

@@ -1,13 +1,10 @@
 -- The words of a line.
-use Rattle.std.specs.Prelude.{ℕ, ◌==◌, Bool, not, List, [], ◌∷◌, ◌++◌, if◌then◌else◌}
+use Rattle.std.specs.Prelude.{ℕ, ◌==◌, Bool, ◌&&◌, nat_le, List, [], ◌∷◌, ◌++◌, if◌then◌else◌}
 use Rattle.script_text.specs.Lines.{IsPrinted}
 
--- a blank, which is in no word
-abbrev pub is_blank : ℕ → Bool
-is_blank b = b == 32
-
-abbrev pub is_of_word : ℕ → Bool
-is_of_word b = not (is_blank b)
+-- a byte of ASCII's printed characters: a word of a printed line has these alone
+abbrev pub is_graphic : ℕ → Bool
+is_graphic b = nat_le 33 b && nat_le b 126
 
 -- the word that a blank or the end leaves: none where there is no byte of it
 abbrev pub begun_word : List ℕ → List (List ℕ)
@@ -17,7 +14,7 @@ begun_word (b ∷ bs) = (b ∷ bs) ∷ []
 -- the words of a line, of whose first word these bytes were read
 abbrev pub words_from : List ℕ → List ℕ → List (List ℕ)
 words_from begun [] = begun_word begun
-words_from begun (b ∷ bs) = if is_blank b then begun_word begun ++ words_from [] bs else words_from (begun ++ b ∷ []) bs
+words_from begun (b ∷ bs) = if b == 32 then begun_word begun ++ words_from [] bs else words_from (begun ++ b ∷ []) bs
 
 -- the words of a line: what is between its blanks
 abbrev pub words : List ℕ → List (List ℕ)
