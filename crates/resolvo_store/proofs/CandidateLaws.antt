@@ -87,7 +87,7 @@ found_entry {X} P r (e ∷ es) x all h =
     ]) refl h
 
 -- what wasn't found is found once it stands at the end
-found_last : {X : Type 0} (r : Requirement) (es : List (Requirement × X)) (x : X) → lookup (same_requirement r) es ≡ None → lookup (same_requirement r) (es ++ (r, x) ∷ []) ≡ Some x
+pub found_last : {X : Type 0} (r : Requirement) (es : List (Requirement × X)) (x : X) → lookup (same_requirement r) es ≡ None → lookup (same_requirement r) (es ++ (r, x) ∷ []) ≡ Some x
 found_last r [] x none = ap (λ b. cond b (Some x) None) (same_requirement-equivalence.refl r)
 found_last r (e ∷ es) x none =
     (elim (same_requirement r e.0) as (λ b. cond b (Some e.1) (lookup (same_requirement r) es) ≡ None → cond b (Some e.1) (lookup (same_requirement r) (es ++ (r, x) ∷ [])) ≡ Some x)

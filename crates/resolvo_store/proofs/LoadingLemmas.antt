@@ -1,5 +1,5 @@
 -- Loading a requirement.
-use Rattle.std.proofs.Common.{◌≡◌, ℕ, ◌^◌, ◌<◌, Bool, true, false, not, arith, ◌||◌, List, [], ◌∷◌, length, None, Some, Result, Ok, Err, ◌∙◌, ap, subst, sym, leb, refl, true≢false}
+use Rattle.std.proofs.Common.{◌≡◌, ℕ, ◌^◌, ◌<◌, Bool, true, false, not, arith, ◌||◌, List, [], ◌∷◌, length, Option, None, Some, Result, Ok, Err, ◌∙◌, ap, subst, sym, leb, refl, true≢false}
 use Rattle.std.specs.Prelude.{is_none, ◌&&◌, All, find, option_map, MatchOption, IfErr}
 use Rattle.std.specs.List.{list_any, list_all}
 use Rattle.std.proofs.Math.Bool.{or-true, and-false}
@@ -18,8 +18,9 @@ use Rattle.resolvo_store.specs.Command.{Reply, Load, LoadedAs, Refused}
 use Rattle.resolvo_store.specs.LoadRefusals.{IsLoadRefusal}
 use Rattle.resolvo_store.specs.Lists.{AreAsked}
 use Rattle.resolvo_store.specs.Store.{Store, lists_of, all_candidates}
-use Rattle.resolvo_store.specs.Outcome.{load}
+use Rattle.resolvo_store.specs.Outcome.{load, variables_loaded}
 use Rattle.resolvo_store.specs.Step.{is_named, lacks_ids, may_be_refused, IsAnswered, Step}
+use Rattle.resolvo_store.proofs.CandidateLaws.{found_last}
 
 -- what follows of a refusal
 pub if_refused : {T E : Type 0} (P Q : E → Type 0) (result : Result T E) → ((e : E) → P e → Q e) → IfErr result P → IfErr result Q
@@ -188,3 +189,19 @@ module _ {N S : Type 0} (st : Store N S) (r : Requirement) where
     sym (ap (λ o. (load st r o).reply) old),
     sym (ap (λ o. (load st r o).store) old),
   )
+
+  -- what a Load answered is loaded then
+  pub loaded-now : (after : Store N S) → knows_requirement st.provider.universe r ≡ true → IsAnswered st (Load r) (LoadedAs (variables_loaded st r)) after
+      → MatchOption (lists_of after r) ⊥ (λ lists. Step st (Load r) (LoadedAs lists) after)
+  loaded-now after known answered = by_lists (lists_of st r) refl answered.2
+    where
+      AreAnswered : Option (List (List ℕ)) → Type 0
+      AreAnswered found = MatchOption found ⊥ (λ lists. Step st (Load r) (LoadedAs lists) after)
+
+      by_lists : (before : Option (List (List ℕ))) → lists_of st r ≡ before → after ≡ (load st r before).store → AreAnswered (lists_of after r)
+      by_lists None e is =
+          subst AreAnswered (sym (ap (λ s. lists_of s r) is ∙ found_last r st.loaded (variables_loaded st r) e))
+          (step-known (LoadedAs (variables_loaded st r)) after known answered)
+      by_lists (Some lists) e is =
+          subst AreAnswered (sym (ap (λ s. lists_of s r) is ∙ e))
+          (step-known (LoadedAs lists) after known (subst (λ reply. IsAnswered st (Load r) reply after) (answered.1 ∙ ap (λ o. (load st r o).reply) e) answered))

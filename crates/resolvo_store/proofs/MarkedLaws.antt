@@ -1,6 +1,6 @@
 -- The marks of a store: which of them are marks after each command. N are the names, S the solvables.
 use Rattle.std.proofs.Common.{◌≡◌, ℕ, ◌+◌, true, List, [], ◌∷◌, ◌++◌, length, map, Result, Ok, Err, refl}
-use Rattle.std.proofs.Common.{sym, subst, ap, ◌∙◌, ◌⊎◌, inl, inr, set, arith, append-nil, append_assoc}
+use Rattle.std.proofs.Common.{sym, subst, ap, ◌∙◌, inl, inr, set, arith, append-nil, append_assoc}
 use Rattle.std.specs.Prelude.{Option, Some, None, Bool, not, take, drop, slice_get}
 use Rattle.std.specs.Prelude.{slice_index_or, unwrap_or, IsTrue, OnOk, OnErr}
 use Rattle.std.proofs.lemmas.List.{map-append}

@@ -1,7 +1,7 @@
 -- What clauses force is so in each of their models, and where one is false there is none. N are the names, S the solvables.
 use Rattle.std.proofs.Common.{◌≡◌, ℕ, zero, suc, ◌<◌, Bool, true, false, cond, not, List, [], ◌∷◌, ◌++◌, length, Option, Some, None, refl, sym, ap, subst, ◌∙◌, inl, inr, arith}
 use Rattle.std.specs.Prelude.{All, ◌&&◌, ◌||◌, slice_get, option_map, unwrap_or}
-use Rattle.std.specs.List.{list_all, list_any}
+use Rattle.std.specs.List.{list_any}
 use Rattle.std.proofs.lemmas.List.{append-nil, append_assoc}
 use Rattle.std.proofs.lemmas.List.Elements.{All-head, All-tail}
 use Rattle.decisions.specs.Literals.{Lit, Pos, Neg, Values, truth, known_false, undecided, is_false_literal}
@@ -10,7 +10,7 @@ use Rattle.decisions.specs.declared.decision.Decision.{Decision}
 use Rattle.clauses.specs.declared.clause.Clause.{Clause}
 use Rattle.clauses.specs.Clauses.{same_literal, literals_of}
 use Rattle.watch_map.specs.Watching.{is_literal_in}
-use Rattle.watch_map.specs.Forcing.{is_false, are_others_false, forces, decided_literal, IsForced, AreForced}
+use Rattle.watch_map.specs.Forcing.{is_false, are_others_false, decided_literal, IsForced, AreForced}
 use Rattle.watch_map.proofs.ForcingLaws.{forced_is_own}
 use Rattle.watch_map.proofs.ValueLaws.{val_of_more}
 use Rattle.watch_map.proofs.WatchingLaws.{same_is}

@@ -1,20 +1,19 @@
 -- What a Saturate answers, and that it leaves a sound store sound. N are the names, S the solvables.
-use Rattle.std.proofs.Common.{◌≡◌, ℕ, ◌<◌, ◌≤◌, ◌^◌, Bool, true, false, not, List, [], ◌∷◌, ◌++◌, length, refl, sym, subst, ◌∙◌, ap, ◌⊎◌, inl, inr, Option, None, Some, Result, Ok, Err}
-use Rattle.std.specs.Prelude.{MatchOption, OnErr}
+use Rattle.std.proofs.Common.{◌≡◌, ℕ, ◌<◌, ◌≤◌, ◌^◌, Bool, true, false, not, List, [], ◌∷◌, ◌++◌, length, refl, sym, subst, ◌∙◌, ap, ◌⊎◌, inl, inr, Option, None, Some}
+use Rattle.std.specs.Prelude.{MatchOption}
 use Rattle.std.proofs.lemmas.List.{append-nil, append_assoc}
 use Rattle.std.proofs.lemmas.List.Elements.{All-weaker}
 use Rattle.typed_ids.specs.declared.error.StoreError.{StoreError}
 use Rattle.typed_ids.specs.declared.error.StoreError.TheVariants.{OutOfMemory, LevelOutOfRange}
-use Rattle.decisions.specs.Literals.{Lit, variable_of}
+use Rattle.decisions.specs.Literals.{Lit}
 use Rattle.decisions.specs.Trail.{Entry, HasLevel}
 use Rattle.watch_map.specs.Watching.{IsExact}
 use Rattle.watch_map.specs.Forcing.{IsForced, AreForced, decided_literal}
 use Rattle.watch_map.specs.Saturation.{IsRearranged}
 use Rattle.watch_map.proofs.ForcingLaws.{forced_was_open, forced_is_own}
 use Rattle.watch_map.proofs.ValueLaws.{decided_variable}
-use Rattle.resolvo_store.specs.Command.{Command, Saturate, Reply, Done, Conflict, Refused, answer_of, is_saturate}
-use Rattle.resolvo_store.specs.declared.reply.Reply.{Reply as ProgramReply}
-use Rattle.resolvo_store.specs.Store.{Store, values, clause_literals, watched_by}
+use Rattle.resolvo_store.specs.Command.{Command, Saturate, Reply, Done, Conflict, Refused, IsRefused, is_saturate}
+use Rattle.resolvo_store.specs.Store.{Store, clause_literals, watched_by}
 use Rattle.resolvo_store.specs.Refusals.{is_level, first_refusal}
 use Rattle.resolvo_store.specs.Saturating.{IsSaturated, RefusalLeaves, Saturates}
 use Rattle.resolvo_store.specs.Step.{IsAnswered, Step}
@@ -109,10 +108,8 @@ module _ {N S : Type 0} where
   }
 
   -- what a refused command leaves
-  pub refusal_leaves : {A : Type 0} (old new : Store N S) (c : Command N S) (result : Result (ProgramReply A) StoreError) → IsSound old → Step old c (answer_of result) new
-      → OnErr result (RefusalLeaves c old new)
-  refusal_leaves old new c (Ok reply) sound step = tt
-  refusal_leaves old new c (Err e) sound step = by_command c step
+  pub refusal_leaves : (old new : Store N S) (c : Command N S) (reply : Reply) → IsSound old → Step old c reply new → IsRefused reply → RefusalLeaves c old new
+  refusal_leaves old new c (Refused e) sound step refused = by_command c step
     where
       plainly : (d : Command N S) → is_saturate d ≡ false → Step old d (Refused e) new → new ≡ old
       plainly d plain s = by_refusal (first_refusal old d) s
@@ -127,3 +124,4 @@ module _ {N S : Type 0} where
         | inr is ↦ saturated_so_far level old new (Refused e) is.1
       ]
       by_command d s = plainly d refl s
+  refusal_leaves old new c _ sound step refused = absurd refused

@@ -1,6 +1,6 @@
 -- A queue stays in step with a trail, whatever is done with either. N are the names of packages, H the sets of them.
 use Rattle.std.proofs.Common.{◌≡◌, ℕ, zero, suc, ◌≤◌, Bool, true, false, cond, List, [], ◌∷◌, ◌++◌, length, Option, Some, None, refl, arith, sym, subst, ap, ◌∙◌}
-use Rattle.std.specs.Prelude.{◌-◌, ◌==◌, min, take, All, nat_lt}
+use Rattle.std.specs.Prelude.{◌-◌, min, take, All, nat_lt}
 use Rattle.std.specs.List.{list_all}
 use Rattle.std.proofs.lemmas.List.{length-map, length-append, take-append-le, take-map, map-append, append-nil, append_assoc}
 use Rattle.std.proofs.lemmas.List.Elements.{All-nil, All-push, All-weaker}

@@ -1,6 +1,6 @@
 -- Where all clauses are settled and the store is solved, the truth values that the trail says, all else false, are a model. N
 -- are the names, S the solvables.
-use Rattle.std.proofs.Common.{◌≡◌, ℕ, zero, suc, ◌+◌, ◌<◌, Bool, true, false, not, List, [], ◌∷◌, ◌++◌, length, map, Option, Some, None, refl, sym, ap, subst, ◌∙◌, arith}
+use Rattle.std.proofs.Common.{◌≡◌, ℕ, suc, ◌+◌, ◌<◌, Bool, true, false, not, List, [], ◌∷◌, ◌++◌, length, map, Option, Some, None, refl, sym, ap, subst, ◌∙◌, arith}
 use Rattle.std.specs.Prelude.{All, ◌&&◌, ◌||◌, slice_get, flat_map, option_map, unwrap_or}
 use Rattle.std.specs.List.{list_any, list_all}
 use Rattle.std.proofs.lemmas.List.Folds.{list_any-append}
@@ -16,9 +16,9 @@ use Rattle.watch_map.specs.Watching.{is_literal_in}
 use Rattle.watch_map.proofs.LiteralLists.{any_at}
 use Rattle.watch_map.proofs.WatchingLaws.{same_is, same_self}
 use Rattle.resolvo_queue.specs.declared.requires_clause.RequiresClause.{RequiresClause}
-use Rattle.resolvo_queue.specs.Rows.{Row, list_rows, rows, has_true_row}
+use Rattle.resolvo_queue.specs.Rows.{list_rows, rows, has_true_row}
 use Rattle.resolvo_queue.specs.Scan.{are_literals_false}
-use Rattle.resolvo_store.specs.Store.{Store, values, lists_of, kept_literals, clause_literals, condition_of, rows_of}
+use Rattle.resolvo_store.specs.Store.{Store, values, lists_of, kept_literals, condition_of, rows_of}
 use Rattle.resolvo_store.specs.ForbidsTwo.{is_true_literal, is_met}
 use Rattle.resolvo_store.specs.Models.{IsModel, true_alone, is_negation, MayLeaveFalse}
 use Rattle.resolvo_store.specs.Saturating.{HasSettled}

@@ -24,6 +24,7 @@ ghost use Rattle.std.specs.Prelude.{◌≡◌, map, length, vec_len, IfOk, IfErr
 ghost use Rattle.typed_ids.specs.declared.error.StoreError.TheVariants.{OutOfMemory};
 ghost use Rattle.decisions.specs.Trail.{val};
 ghost use Rattle.providers.specs.declared.requirement.Requirement.{Requirement as ARequirement};
+ghost use Rattle.resolvo_store.specs.Command.{reply_of, answer_of, IsRefused};
 
 mod adding;
 mod assigning;
@@ -48,6 +49,7 @@ use id_storage::Arena;
 use providers::{DependencyProvider, RequirementMap};
 use resolvo_queue::DecideQueue;
 use solver_cache::SolverCache;
+use std::alloc::Allocator;
 use std::marker::Model;
 use typed_ids::{DisjunctionId, StoreError, VariableId};
 use variables::VariableMap;
@@ -125,7 +127,7 @@ impl<D: DependencyProvider> Model for ClauseStore<D> {
 }
 
 impl<D: DependencyProvider + Drop> ClauseStore<D> {
-    ghost use Rattle.resolvo_store.specs.Command.{command_of, reply_of, answer_of, IsRefused};
+    ghost use Rattle.resolvo_store.specs.Command.{command_of};
     ghost use Rattle.resolvo_store.specs.Store.{new_store};
     ghost use Rattle.resolvo_store.specs.Saturating.{RefusalLeaves};
     ghost use Rattle.resolvo_store.specs.Step.{Step, Run};
@@ -179,10 +181,9 @@ impl<D: DependencyProvider + Drop> ClauseStore<D> {
         ensures was_sound { IsSound (⟦<D as AbstractStore>⟧.store self.old) }
         ensures sound { IsSound (⟦<D as AbstractStore>⟧.store self.new) }
     {
-        match self.obey(command) {
-            Ok(reply) => reply,
-            Err(e) => Reply::Refused(e),
-        }
+        // What is true of each store is true of this one: a look at a field tells it.
+        let _cache = &self.cache;
+        self.dispatch(command)
     }
 
     /// Obeys a command: its reply, or the refusal, which changes nothing, but for a `Saturate`, which keeps what it
@@ -203,60 +204,58 @@ impl<D: DependencyProvider + Drop> ClauseStore<D> {
         ensures was_sound { IsSound (⟦<D as AbstractStore>⟧.store self.old) }
         ensures sound { IsSound (⟦<D as AbstractStore>⟧.store self.new) }
     {
-        // What is true of each store is true of this one: a look at a field tells it.
-        let _cache = &self.cache;
-        self.dispatch(command)
+        answered(self.step(command))
     }
 
     /// Hands a command to the method that obeys it.
-    fn dispatch(
-        &mut self,
-        command: &Command<D::NameId, D::SolvableId, D::Alloc>,
-    ) -> Result<Reply<D::Alloc>, StoreError>
+    fn dispatch(&mut self, command: &Command<D::NameId, D::SolvableId, D::Alloc>) -> Reply<D::Alloc>
         ensures step { Step (⟦<D as AbstractStore>⟧.store self.old) (command_of command.now)
-            (answer_of result) (⟦<D as AbstractStore>⟧.store self.new) }
-        ensures answered { IfOk result (λ reply. IsRefused (reply_of reply) → ⊥) }
+            (reply_of result) (⟦<D as AbstractStore>⟧.store self.new) }
         ensures provider { self.new.provider ≡ self.old.provider }
         ensures asked { let new = ⟦<D as AbstractStore>⟧.store self.new in
-            Asks (⟦<D as AbstractStore>⟧.store self.old) (command_of command.now) (answer_of result) new.trail
+            Asks (⟦<D as AbstractStore>⟧.store self.old) (command_of command.now) (reply_of result) new.trail
             self.old.asked self.new.asked }
     {
         match command {
-            Command::Variable(solvable) => self.variable(*solvable),
-            Command::Helper(origin) => self.helper(*origin),
-            Command::Load(requirement) => self.load(*requirement),
+            Command::Variable(solvable) => replied(self.variable(*solvable)),
+            Command::Helper(origin) => replied(self.helper(*origin)),
+            Command::Load(requirement) => replied(self.load(*requirement)),
             Command::Requires(parent, requirement, disjunction) => {
-                self.requires_clause(*parent, *requirement, *disjunction)
+                replied(self.requires_clause(*parent, *requirement, *disjunction))
             }
-            Command::Root => self.add(Clause::InstallRoot),
+            Command::Root => replied(self.add(Clause::InstallRoot)),
             Command::Constrains(parent, forbidden, set) => {
-                self.add(Clause::Constrains(*parent, *forbidden, *set))
+                replied(self.add(Clause::Constrains(*parent, *forbidden, *set)))
             }
             Command::ConstrainsExcluded(candidate, aux, set) => {
-                self.add(Clause::ConstrainsExcluded(*candidate, *aux, *set))
+                replied(self.add(Clause::ConstrainsExcluded(*candidate, *aux, *set)))
             }
             Command::ConstrainsParent(parent, aux, set) => {
-                self.add(Clause::ConstrainsParent(*parent, *aux, *set))
+                replied(self.add(Clause::ConstrainsParent(*parent, *aux, *set)))
             }
-            Command::Lock(locked, other) => self.add(Clause::Lock(*locked, *other)),
-            Command::Exclude(variable, reason) => self.add(Clause::Excluded(*variable, *reason)),
-            Command::AnyOf(selected, other) => self.add(Clause::AnyOf(*selected, *other)),
-            Command::Learnt(literals) => self.learnt(literals),
+            Command::Lock(locked, other) => replied(self.add(Clause::Lock(*locked, *other))),
+            Command::Exclude(variable, reason) => replied(self.add(Clause::Excluded(
+                *variable, *reason,
+            ))),
+            Command::AnyOf(selected, other) => replied(self.add(Clause::AnyOf(*selected, *other))),
+            Command::Learnt(literals) => replied(self.learnt(literals)),
             Command::Assign(variable, value, clause, level) => {
-                self.assign(*variable, *value, *clause, *level)
+                replied(self.assign(*variable, *value, *clause, *level))
             }
-            Command::UndoLast => self.undo_last(),
-            Command::UndoUntil(level) => Ok(self.undo_until(*level)),
-            Command::Unpropagated => Ok(self.unpropagated()),
-            Command::Rewatch(clause, from, to) => self.rewatch(*clause, *from, *to),
-            Command::Watchers(literal) => self.watchers_of(*literal),
-            Command::Saturate(level) => self.saturate(*level),
-            Command::Decide => self.decide(),
-            Command::Disjunction(literals, condition) => self.disjunction(literals, *condition),
-            Command::AtMostOnce(name, variable) => self.at_most_once(*name, *variable),
-            Command::Bump(name, amount) => self.bump(*name, *amount),
-            Command::Decay(numerator, denominator) => self.decay(*numerator, *denominator),
-            Command::Standard(standard) => Ok(self.standard(*standard)),
+            Command::UndoLast => replied(self.undo_last()),
+            Command::UndoUntil(level) => self.undo_until(*level),
+            Command::Unpropagated => self.unpropagated(),
+            Command::Rewatch(clause, from, to) => replied(self.rewatch(*clause, *from, *to)),
+            Command::Watchers(literal) => replied(self.watchers_of(*literal)),
+            Command::Saturate(level) => replied(self.saturate(*level)),
+            Command::Decide => replied(self.decide()),
+            Command::Disjunction(literals, condition) => replied(self.disjunction(
+                literals, *condition,
+            )),
+            Command::AtMostOnce(name, variable) => replied(self.at_most_once(*name, *variable)),
+            Command::Bump(name, amount) => replied(self.bump(*name, *amount)),
+            Command::Decay(numerator, denominator) => replied(self.decay(*numerator, *denominator)),
+            Command::Standard(standard) => self.standard(*standard),
         }
     }
 
@@ -289,5 +288,26 @@ impl<D: DependencyProvider + Drop> ClauseStore<D> {
         ensures sound { IsSound (⟦<D as AbstractStore>⟧.store self.now) }
     {
         self.trail.assigned_value(variable)
+    }
+}
+
+/// An answer as a reply: a refusal is one too.
+fn replied<A: Allocator>(answer: Result<Reply<A>, StoreError>) -> Reply<A>
+    ensures { reply_of result ≡ answer_of answer }
+{
+    match answer {
+        Ok(reply) => reply,
+        Err(e) => Reply::Refused(e),
+    }
+}
+
+/// A reply as an answer, with a refusal apart.
+fn answered<A: Allocator>(reply: Reply<A>) -> Result<Reply<A>, StoreError>
+    ensures same { answer_of result ≡ reply_of reply }
+    ensures ok { IfOk result (λ reply. IsRefused (reply_of reply) → ⊥) }
+{
+    match reply {
+        Reply::Refused(e) => Err(e),
+        reply => Ok(reply),
     }
 }

@@ -2,7 +2,7 @@
 #![tactic(auto, using(crate::proofs::Beginnings::begins_more, crate::proofs::Beginnings::begins_whole))]
 
 ghost use Rattle.std.specs.Prelude.{◌++◌, ◌<◌, codes, decimal, map, flat_map};
-ghost use Rattle.resolvo_store.specs.Command.{LoadedAs, reply_of};
+ghost use Rattle.resolvo_store.specs.Command.{LoadedAs, Refused, reply_of};
 ghost use Rattle.resolvo_store.specs.ReplyTexts.{field, list_text, others_text, lists_text, conflict_text};
 ghost use Rattle.resolvo_store.specs.ReplyTexts.{tracked_text, decision_text, undone_text, next_text};
 ghost use Rattle.resolvo_store.specs.ReplyTexts.{truth_text, words_text};
@@ -13,7 +13,7 @@ use itoa::Buffer;
 use resolvo_queue::QueueDecision;
 use resolvo_store::Reply;
 use std::alloc::{AllocError, Allocator};
-use typed_ids::{ClauseId, DenseIndex, VariableId};
+use typed_ids::{ClauseId, DenseIndex, StoreError, VariableId};
 
 /// Puts the line of a reply after the text.
 pub fn push_reply<A: Allocator>(text: &mut Vec<u8>, reply: &Reply<A>) -> Result<(), AllocError>
@@ -29,7 +29,7 @@ pub fn push_reply<A: Allocator>(text: &mut Vec<u8>, reply: &Reply<A>) -> Result<
         Reply::Disjunction(disjunction) => push_line(text, b"disjunction ", disjunction.to_index()),
         Reply::Falsified(clause) => push_line(text, b"falsified ", clause.to_index()),
         Reply::Conflict(clause) => push_line(text, b"conflict ", clause.to_index()),
-        Reply::Refused(e) => push_line(text, b"refused ", e.code() as usize),
+        Reply::Refused(e) => push_refused(text, *e),
         Reply::Clause(clause, conflict) => push_clause(text, *clause, *conflict),
         Reply::Tracked(new, clauses) => push_tracked(text, *new, *clauses),
         Reply::Undone(last) => {
@@ -61,6 +61,13 @@ pub(crate) fn push_loaded<A: Allocator>(
 {
     push_lists(text, lists)?;
     push_end(text)
+}
+
+/// Puts the line of a refusal after the text.
+pub(crate) fn push_refused(text: &mut Vec<u8>, refusal: StoreError) -> Result<(), AllocError>
+    ensures { Pushes result text.old.items text.new.items (reply_text (Refused refusal)) }
+{
+    push_line(text, b"refused ", refusal.code() as usize)
 }
 
 /// Puts the line that names an unreadable line after the text.
@@ -180,6 +187,7 @@ fn push_next(text: &mut Vec<u8>, decision: Option<Decision>) -> Result<(), Alloc
 }
 
 /// A text, a variable directly after it, and its value and the clause that gave it, each after a blank.
+#[inline(always)]
 fn push_assignment(text: &mut Vec<u8>, name: &[u8], decision: Decision) -> Result<(), AllocError>
     ensures { Pushes result text.old.items text.new.items
         (field name.now decision.variable ++ (truth_text decision.value ++ field (codes " ") decision.derived_from)) }

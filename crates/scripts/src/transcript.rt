@@ -1,5 +1,5 @@
 //! Scripts: a catalogue, and then commands, each of which is answered by a line.
-ghost use Rattle.std.specs.Prelude.{◌≡◌, ℕ, true, List, [], ◌++◌, ◌+◌, ◌^◌, ◌<◌, ◌⊎◌, length, map, IfSome, IfOk};
+ghost use Rattle.std.specs.Prelude.{◌≡◌, ℕ, true, List, [], ◌++◌, ◌+◌, ◌^◌, ◌<◌, ◌⊎◌, length, IfSome, IfOk};
 ghost use Rattle.std.specs.Prelude.{IfErr};
 ghost use Rattle.script_text.specs.declared.fault.ScriptFault.TheVariants.{Device, Memory};
 ghost use Rattle.script_text.specs.Lines.{lines as lines_of};
@@ -8,8 +8,7 @@ ghost use Rattle.script_text.specs.Output.{Writes};
 ghost use Rattle.script_text.specs.Statements.{says};
 ghost use Rattle.script_text.specs.Words.{words};
 ghost use Rattle.scripts.specs.Commands.{ids_at, command_meant, command_said};
-ghost use Rattle.resolvo_store.specs.Command.{Load, LoadedAs, command_of};
-ghost use Rattle.resolvo_store.specs.Step.{Step};
+ghost use Rattle.resolvo_store.specs.Command.{Load, command_of};
 ghost use Rattle.resolvo_store.specs.Store.{new_store};
 ghost use Rattle.script_text.specs.declared.statement.Line.TheVariants.{Says};
 ghost use Rattle.scripts.specs.Ends.{HandsAnswer, named_text, TakesBeginning, WriterEnds, DevicesEnd};
@@ -17,7 +16,7 @@ ghost use Rattle.scripts.specs.Scripts.{ScriptAnswered, faulty_text};
 ghost use Rattle.scripts.specs.Transcript.{ObeysLine, Answered, HasCommand, IfRead};
 
 use crate::command_line::command;
-use crate::reply_line::{push_loaded, push_reply, push_unreadable};
+use crate::reply_line::{push_loaded, push_refused, push_reply, push_unreadable};
 use providers::{DependencyProvider, Requirement};
 use resolvo_store::{AbstractStore, ClauseStore, Command};
 use script_packages::read_catalogue;
@@ -27,7 +26,7 @@ use script_text::{
 };
 use solver_cache::ProviderFunctions;
 use std::alloc::Global;
-use typed_ids::{DenseIndex, VariableId};
+use typed_ids::DenseIndex;
 
 /// Reads a whole script, obeys its commands in turn, and writes a line for each reply. At the first unreadable line the
 /// line that names it is written, and nothing more is read. All that was to be written is written and flushed at every
@@ -210,8 +209,8 @@ fn obey_words<D: DependencyProvider<NameId: DenseIndex, SolvableId: DenseIndex> 
     }
 }
 
-/// Obeys a command, and puts the line of the reply after what waits. What is loaded already is answered from where it
-/// lies, with no copy.
+/// Obeys a command, and puts the line of the reply after what waits.
+#[inline(always)]
 fn obey<D: DependencyProvider + Drop>(
     store: &mut ClauseStore<D>,
     command: &Command<D::NameId, D::SolvableId, D::Alloc>,
@@ -221,25 +220,37 @@ fn obey<D: DependencyProvider + Drop>(
         waiting.old.items result waiting.new.items (⟦<D as AbstractStore>⟧.store store.new) }
 {
     if let Command::Load(requirement) = command {
-        if let Some(lists) = known_lists(store, *requirement) {
-            push_loaded(waiting, lists)?;
-            return Ok(());
-        }
+        return load(store, *requirement, waiting);
     }
     let reply = store.step(command);
     push_reply(waiting, &reply)?;
     Ok(())
 }
 
-/// What a load of the requirement answers, if it is loaded already. It is apart from `obey` so that no other command
-/// pays for it.
+/// Loads a requirement, and puts the line of the reply after what waits, from where its lists lie, with no copy. It is
+/// apart from `obey` so that no other command pays for it.
 #[inline(never)]
-fn known_lists<D: DependencyProvider + Drop>(
-    store: &ClauseStore<D>,
+fn load<D: DependencyProvider + Drop>(
+    store: &mut ClauseStore<D>,
     requirement: Requirement,
-) -> Option<&[Vec<VariableId, D::Alloc>]>
-    ensures { IfSome result (λ lists. Step (⟦<D as AbstractStore>⟧.store store.now) (Load requirement)
-        (LoadedAs (map (λ l. l.items) lists.now)) (⟦<D as AbstractStore>⟧.store store.now)) }
+    waiting: &mut Vec<u8>,
+) -> Result<(), LineFault>
+    ensures { ObeysLine (⟦<D as AbstractStore>⟧.store store.old) (Says (Load requirement))
+        waiting.old.items result waiting.new.items (⟦<D as AbstractStore>⟧.store store.new) }
 {
-    store.loaded(requirement)
+    if let Some(lists) = store.loaded(requirement) {
+        push_loaded(waiting, lists)?;
+        return Ok(());
+    }
+    if let Err(refusal) = store.keep_loaded(requirement) {
+        push_refused(waiting, refusal)?;
+        return Ok(());
+    }
+    match store.loaded(requirement) {
+        Some(lists) => {
+            push_loaded(waiting, lists)?;
+            Ok(())
+        }
+        None => unreachable!(),
+    }
 }

@@ -1,11 +1,11 @@
 //! The commands that bring variables: `Variable`, `Helper` and `Load`.
 ghost use Rattle.std.specs.Prelude.{◌≡◌, ◌∷◌, ◌++◌, [], None, true, false, map, option_map};
-ghost use Rattle.std.specs.Prelude.{length, take, Some, Err, IsTrue, IfSome, IfOk, OnOk, OnErr, IfErr};
+ghost use Rattle.std.specs.Prelude.{length, take, Some, Err, IsTrue, IfSome, IfOk, OnOk, OnErr, IfErr, MatchOption};
 ghost use Rattle.std.specs.Map.{lookup};
 ghost use Rattle.providers.specs.Provider.{knows_requirement};
 ghost use Rattle.providers.specs.Requirement.{same_requirement};
 ghost use Rattle.typed_ids.specs.Refusals.{IsGrowthRefusal};
-ghost use Rattle.typed_ids.specs.declared.error.StoreError.TheVariants.{IdSpace};
+ghost use Rattle.typed_ids.specs.declared.error.StoreError.TheVariants.{IdSpace, OutOfMemory};
 ghost use Rattle.variables.specs.Variables.{are_variables_out};
 ghost use Rattle.resolvo_store.specs.Helpers.{is_helper_known};
 ghost use Rattle.resolvo_store.specs.Command.{VariableIs, reply_of};
@@ -78,7 +78,7 @@ impl<D: DependencyProvider + Drop> ClauseStore<D> {
         }
         let lists = match lists(&self.loaded, requirement) {
             Some(lists) => lists.clone()?,
-            None => self.load_new(requirement)?,
+            None => self.load_new(requirement, true)?,
         };
         Ok(Reply::Loaded(lists))
     }
@@ -102,12 +102,41 @@ impl<D: DependencyProvider + Drop> ClauseStore<D> {
         }
     }
 
-    /// Loads a requirement. Where it is refused, the variables that its candidates got are taken back.
-    fn load_new(&mut self, requirement: Requirement) -> Result<VariableLists<D::Alloc>, StoreError>
+    /// Loads a requirement that isn't loaded yet, as a `Load` does, and copies no lists: [`ClauseStore::loaded`] lends
+    /// them then. One that is loaded takes constant time.
+    pub fn keep_loaded(&mut self, requirement: Requirement) -> Result<(), StoreError>
+        ensures kept { OnOk result (MatchOption (lists_of (⟦<D as AbstractStore>⟧.store self.new) requirement) ⊥
+            (λ lists. Step (⟦<D as AbstractStore>⟧.store self.old) (Load requirement) (LoadedAs lists)
+            (⟦<D as AbstractStore>⟧.store self.new))) }
+        ensures known { OnOk result (knows_requirement (D.universe self.new.provider) requirement ≡ true) }
+        ensures refused { IfErr result (λ e. Step (⟦<D as AbstractStore>⟧.store self.old) (Load requirement) (Refused e)
+            (⟦<D as AbstractStore>⟧.store self.new)) }
+        ensures provider { self.new.provider ≡ self.old.provider }
+        ensures asked { self.new.asked ≡ self.old.asked }
+    {
+        if !knows_requirement(self.cache.provider(), requirement) {
+            return Err(StoreError::UnknownId);
+        }
+        if lists(&self.loaded, requirement).is_some() {
+            return Ok(());
+        }
+        drop(self.load_new(requirement, false)?);
+        Ok(())
+    }
+
+    /// Loads a requirement, and answers a copy of its lists, if one is asked for. Where it is refused, the variables
+    /// that its candidates got are taken back.
+    fn load_new(
+        &mut self,
+        requirement: Requirement,
+        copied: bool,
+    ) -> Result<VariableLists<D::Alloc>, StoreError>
         requires known { knows_requirement (D.universe self.old.provider) requirement ≡ true }
         requires new { lists_of (⟦<D as AbstractStore>⟧.store self.old) requirement ≡ None }
-        ensures ok { IfOk result (λ lists. IsAnswered (⟦<D as AbstractStore>⟧.store self.old) (Load requirement)
-            (LoadedAs (map (λ l. l.items) lists.items))
+        ensures lists { IfOk result (λ lists. IsTrue copied → map (λ l. l.items) lists.items ≡
+            variables_loaded (⟦<D as AbstractStore>⟧.store self.old) requirement) }
+        ensures ok { OnOk result (IsAnswered (⟦<D as AbstractStore>⟧.store self.old) (Load requirement)
+            (LoadedAs (variables_loaded (⟦<D as AbstractStore>⟧.store self.old) requirement))
             (⟦<D as AbstractStore>⟧.store self.new)) }
         ensures err { IfErr result (λ e. IsAnswered (⟦<D as AbstractStore>⟧.store self.old)
             (Load requirement) (Refused e)
@@ -116,26 +145,31 @@ impl<D: DependencyProvider + Drop> ClauseStore<D> {
         ensures asked { self.new.asked ≡ self.old.asked }
     {
         let before = self.variables.count();
-        let kept = self.keep_candidates(requirement);
+        let kept = self.keep_candidates(requirement, copied);
         if kept.is_err() {
             self.variables.forget_from(before);
         }
         kept
     }
 
-    /// Gives a requirement's candidates variables, and keeps their lists as the requirement's. A refusal keeps no
-    /// lists, and leaves the variables that were there in front.
+    /// Gives a requirement's candidates variables, and keeps their lists as the requirement's; answers a copy of them,
+    /// if one is asked for. A refusal keeps no lists, and leaves the variables that were there in front.
     fn keep_candidates(
         &mut self,
         requirement: Requirement,
+        copied: bool,
     ) -> Result<VariableLists<D::Alloc>, StoreError>
         requires known { knows_requirement (D.universe self.old.provider) requirement ≡ true }
         requires new { lists_of (⟦<D as AbstractStore>⟧.store self.old) requirement ≡ None }
-        ensures lists { IfOk result (λ lists. map (λ l. l.items) lists.items ≡
+        ensures lists { IfOk result (λ lists. IsTrue copied → map (λ l. l.items) lists.items ≡
             variables_loaded (⟦<D as AbstractStore>⟧.store self.old) requirement) }
-        ensures ok { IfOk result (λ lists. self.new ≡ record self.old {
+        ensures ok { OnOk result (self.new ≡ record self.old {
           origins = origins_loaded (⟦<D as AbstractStore>⟧.store self.old) requirement;
-          loaded = self.old.loaded ++ (requirement, map (λ l. l.items) lists.items) ∷ [];
+          loaded = self.old.loaded ++ (
+            requirement,
+            variables_loaded (⟦<D as AbstractStore>⟧.store self.old)
+                requirement,
+          ) ∷ [];
         }) }
         ensures fit { OnOk result (lacks_ids (⟦<D as AbstractStore>⟧.store self.old) (Load requirement) ≡ false) }
         ensures err { OnErr result (self.new ≡ record self.old { origins = self.new.origins }) }
@@ -144,9 +178,25 @@ impl<D: DependencyProvider + Drop> ClauseStore<D> {
             (Load requirement) e ≡ true) }
     {
         let lists = load_lists(&mut self.cache, &mut self.variables, requirement)?;
-        let reply = lists.clone()?;
+        let reply = copy_of(&lists, copied)?;
         self.loaded.insert(requirement, lists)?;
         Ok(reply)
+    }
+}
+
+/// A copy of the lists, if one is asked for, else none.
+fn copy_of<A: Allocator + Copy>(
+    lists: &VariableLists<A>,
+    copied: bool,
+) -> Result<VariableLists<A>, StoreError>
+    ensures ok { IfOk result (λ copy. IsTrue copied →
+        map (λ l. l.items) copy.items ≡ map (λ l. l.items) lists.now.items) }
+    ensures memory { IfErr result (λ e. e ≡ OutOfMemory) }
+{
+    if copied {
+        Ok(lists.clone()?)
+    } else {
+        Ok(Vec::new(*lists.allocator()))
     }
 }
 

@@ -17,7 +17,7 @@ use Rattle.resolvo_store.specs.Store.{Store, Provider, Kept, store_of, gathered}
 use Rattle.resolvo_store.proofs.InvariantLemmas.{after_variables, after_load, store_with}
 use Rattle.resolvo_store.proofs.CallerLaws.{store_in, left_of}
 use Rattle.resolvo_store.proofs.KnownLemmas.{IsLawful, IsKnownSolvable, all_known}
-use Rattle.resolvo_store.proofs.ListLemmas.{insert-kept, items_of, items-cloned}
+use Rattle.resolvo_store.proofs.ListLemmas.{insert-kept, items_of}
 use Rattle.resolvo_store.proofs.LoadingLemmas.{lacks_nothing, load_refused}
 use Rattle.resolvo_store.proofs.MarkedLaws.{marks_loaded}
 use Rattle.resolvo_store.proofs.store.ClauseStore.keep_candidates.Given.{Over}
@@ -98,29 +98,31 @@ invariant_of-self-2 g c =
 
 pub returns-clause-lists : goal.returns-clause-lists
 returns-clause-lists g c =
-    let inside = c.self.inside in
     let r = c.args.requirement in
-    let p = given g inside.cache.provider in
-    subst (λ kept. items_of c.in_ok-reply.reply ≡ variables_loaded (store g kept) r) c.self.view_is
-    (items-cloned c.in_ok-lists.lists.items c.in_ok-reply.reply.items c.in_ok-reply.ensures.cases.0 ∙ c.in_ok-lists.ensures.lists
+    let p = given g c.self.inside.cache.provider in
+    λ is_copied. subst (λ kept. items_of c.in_ok-reply.reply ≡ variables_loaded (store g kept) r) c.self.view_is
+    (c.in_ok-reply.ensures.ok is_copied ∙ c.in_ok-lists.ensures.lists
     ∙ ap (λ os. map (λ v. map (interned_variable g.D.SolvableId.PartialEq.eq os) (sorted_of_set p v)) (sets_of p.universe r)) c.in_ok-lists.ensures.ok)
 
 pub returns-clause-ok : goal.returns-clause-ok
 returns-clause-ok g c =
     let inside = c.self.inside in
     let r = c.args.requirement in
+    let p = given g inside.cache.provider in
     let new = c.load_lists.new.cache in
-    let lists = items_of c.in_ok-reply.reply in
+    let was = left_of c.self.view_is in
     let fresh : lookup (same_requirement r) (lists_kept inside.loaded) ≡ None =
     subst (λ kept. lookup (same_requirement r) kept.loaded ≡ None) (sym c.self.view_is) c.requires.new in
-    let loaded : lists_kept c.insert.new.self ≡ lists_kept inside.loaded ++ (r, lists) ∷ [] =
+    let lists : items_of c.in_ok-lists.lists ≡ variables_loaded (store g was) r =
+    c.in_ok-lists.ensures.lists
+    ∙ ap (λ os. map (λ v. map (interned_variable g.D.SolvableId.PartialEq.eq os) (sorted_of_set p v)) (sets_of p.universe r)) c.in_ok-lists.ensures.ok in
+    let loaded : lists_kept c.insert.new.self ≡ lists_kept inside.loaded ++ (r, variables_loaded (store g was) r) ∷ [] =
     ap lists_kept c.in_ok-insert.ensures.ok ∙ insert-kept inside.loaded r c.in_ok-lists.lists fresh
-    ∙ ap (λ ls. lists_kept inside.loaded ++ (r, ls) ∷ []) (sym (items-cloned c.in_ok-lists.lists.items c.in_ok-reply.reply.items c.in_ok-reply.ensures.cases.0)) in
-    let was = left_of c.self.view_is in
+    ∙ ap (λ ls. lists_kept inside.loaded ++ (r, ls) ∷ []) lists in
     let Made : Kept g.row.D.Denot g.row.D-NameId.Denot g.row.D-SolvableId.Denot g.row.D-NameId-Scores.Denot → Type 0 = λ kept.
     ◌≡◌ {A = Kept g.row.D.Denot g.row.D-NameId.Denot g.row.D-SolvableId.Denot g.row.D-NameId-Scores.Denot}
     (record was { provider = new.provider; origins = c.load_lists.new.variables; loaded = lists_kept c.insert.new.self })
-    (record kept { origins = origins_loaded (store g kept) r; loaded = kept.loaded ++ (r, lists) ∷ [] }) in
+    (record kept { origins = origins_loaded (store g kept) r; loaded = kept.loaded ++ (r, variables_loaded (store g kept) r) ∷ [] }) in
     subst Made c.self.view_is
     (ap (λ q. record was { provider = q; origins = c.load_lists.new.variables; loaded = lists_kept c.insert.new.self }) c.in_ok-lists.ensures.later.provider
     ∙ ap (λ os. record was { origins = os; loaded = lists_kept c.insert.new.self }) c.in_ok-lists.ensures.ok

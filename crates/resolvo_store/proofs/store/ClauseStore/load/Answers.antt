@@ -1,4 +1,4 @@
-use Rattle.std.proofs.Common.{◌≡◌, ◌∙◌, sym, ap, subst, Some, ℕ, List, true}
+use Rattle.std.proofs.Common.{◌≡◌, ◌∙◌, sym, ap, subst, Some, ℕ, List, true, refl}
 use Rattle.std.specs.Prelude.{option_map}
 use Rattle.providers.specs.Provider.{knows_requirement}
 use Rattle.resolvo_store.specs.Command.{Load, LoadedAs}
@@ -30,6 +30,6 @@ returns-clause-step g c =
           (subst (λ lists. Answered lists c.args.self.now) (sym same) (loaded-again old r (items_of w.in-Some.lists.now) found))
       | in-None+in_ok-lists-in-None w ↦
           subst (Answered (items_of c.match-lists.lists)) (sym w.self-is)
-          (subst (λ lists. Answered (items_of lists) w.load_new.new.self) (sym w.lists-is) w.in_ok-lists-in-None.ensures.ok)
+          (subst (λ lists. Answered lists w.load_new.new.self) (sym (ap items_of w.lists-is ∙ w.in_ok-lists-in-None.ensures.lists refl)) w.in_ok-lists-in-None.ensures.ok)
     ] in
     step-known old r (LoadedAs (items_of c.match-lists.lists)) (store c.match-lists.self) known answered

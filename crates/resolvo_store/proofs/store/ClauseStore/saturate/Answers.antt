@@ -1,4 +1,4 @@
-use Rattle.std.proofs.Common.{◌≡◌, ◌∙◌, refl, sym, subst, ap, arith, rules, true, []}
+use Rattle.std.proofs.Common.{◌≡◌, refl, sym, subst, ap, arith, rules, true, []}
 use Rattle.std.proofs.lemmas.Bool.Decides.{nat_tests}
 use Rattle.clauses.specs.Clauses.{Kept as KeptLiterals}
 use Rattle.watch_map.specs.ClauseList.{contents, watched_by}

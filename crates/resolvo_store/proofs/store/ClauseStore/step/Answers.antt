@@ -1,12 +1,12 @@
 use Rattle.std.proofs.Common.{subst}
-use Rattle.resolvo_store.specs.Command.{command_of, answer_of}
+use Rattle.resolvo_store.specs.Command.{command_of, reply_of}
 use Rattle.resolvo_store.specs.Sound.{IsSound}
 use Rattle.resolvo_store.specs.Store.{Store, Provider, Kept, store_of, gathered}
 use Rattle.resolvo_store.proofs.KnownLemmas.{IsLawful}
 use Rattle.resolvo_store.proofs.SaturatedLaws.{refusal_leaves}
 use Rattle.resolvo_store.proofs.SoundSteps.{IsSound-step}
-use Rattle.resolvo_store.proofs.store.ClauseStore.obey.Given.{Over}
-use Rattle.resolvo_store.proofs.store.ClauseStore.obey.Goals as goal
+use Rattle.resolvo_store.proofs.store.ClauseStore.step.Given.{Over}
+use Rattle.resolvo_store.proofs.store.ClauseStore.step.Goals as goal
 
 -- the provider's functions
 abbrev given : (g : Over) → g.row.D.Denot → Provider g.row.D-NameId.Denot g.row.D-SolvableId.Denot
@@ -27,10 +27,11 @@ lawful g p = record {
 abbrev store : (g : Over) → Kept g.row.D.Denot g.row.D-NameId.Denot g.row.D-SolvableId.Denot g.row.D-NameId-Scores.Denot → Store g.row.D-NameId.Denot g.row.D-SolvableId.Denot
 store g = store_of (given g) g.D.NameId.Scores.IdMap.value_at
 
+pub returns-clause-refused : goal.returns-clause-refused
+returns-clause-refused g c =
+    refusal_leaves (store g c.args.self.now) (store g c.dispatch.new.self) (command_of c.args.command.now) (reply_of c.dispatch.result)
+    (subst (λ k. IsSound (store g k)) c.self.view_is c.self.invariant.consistent.sound) c.dispatch.ensures.step
+
 pub returns-clause-sound : goal.returns-clause-sound
 returns-clause-sound g c =
-    IsSound-step (command_of c.args.command.now) (answer_of c.dispatch.result) (lawful g c.args.self.now.provider) (subst (λ k. IsSound (store g k)) c.self.view_is c.self.invariant.consistent.sound) c.dispatch.ensures.step
-
-pub returns-clause-err : goal.returns-clause-err
-returns-clause-err g c =
-    refusal_leaves (store g c.args.self.now) (store g c.dispatch.new.self) (command_of c.args.command.now) c.dispatch.result (subst (λ k. IsSound (store g k)) c.self.view_is c.self.invariant.consistent.sound) c.dispatch.ensures.step
+    IsSound-step (command_of c.args.command.now) (reply_of c.dispatch.result) (lawful g c.args.self.now.provider) (subst (λ k. IsSound (store g k)) c.self.view_is c.self.invariant.consistent.sound) c.dispatch.ensures.step
