@@ -3,6 +3,7 @@ pub mod FirstLines
 pub mod FirstWords
 pub mod Handing
 pub mod Lanes
+pub mod NumberWords
 pub mod Prefixes
 pub mod Printing
 pub mod Statements

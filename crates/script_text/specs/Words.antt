@@ -1,5 +1,5 @@
 -- The words of a line.
-use Rattle.std.specs.Prelude.{ℕ, ◌==◌, Bool, ◌&&◌, nat_le, List, [], ◌∷◌, ◌++◌, if◌then◌else◌}
+use Rattle.std.specs.Prelude.{ℕ, ◌==◌, Bool, true, ◌&&◌, nat_le, List, [], ◌∷◌, ◌++◌, if◌then◌else◌}
 use Rattle.script_text.specs.Lines.{IsPrinted}
 
 -- a byte of ASCII's printed characters: a word of a printed line has these alone
@@ -19,6 +19,11 @@ words_from begun (b ∷ bs) = if b == 32 then begun_word begun ++ words_from [] 
 -- the words of a line: what is between its blanks
 abbrev pub words : List ℕ → List (List ℕ)
 words line = words_from [] line
+
+-- whether a word ends before these bytes: at a blank or the end
+abbrev pub ends_word : List ℕ → Bool
+ends_word [] = true
+ends_word (b ∷ bs) = b == 32
 
 -- a word and what is after it
 abbrev pub ArePrinted : List ℕ → List ℕ → Type 0

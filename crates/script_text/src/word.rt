@@ -39,7 +39,7 @@ pub fn is_word(word: &[u8], text: &[u8]) -> bool
 
 /// A line from its first word on.
 #[inline(always)]
-fn without_blanks(line: &[u8]) -> &[u8]
+pub(crate) fn without_blanks(line: &[u8]) -> &[u8]
     ensures words { words result.now ≡ words line.now }
     ensures begins { IfSome (slice_get result.now 0) (λ b. b ≢ 32) }
     ensures shorter { length result.now ≤ length line.now }
@@ -55,7 +55,7 @@ fn without_blanks(line: &[u8]) -> &[u8]
 /// The bytes up to the first blank or the end, and those from there on.
 #[inline(always)]
 #[tactic(auto, using(crate::proofs::Printing::printed_parts))]
-fn split_word(text: &[u8]) -> (&[u8], &[u8])
+pub(crate) fn split_word(text: &[u8]) -> (&[u8], &[u8])
     requires some { 0 < length text.now }
     requires begins { IfSome (slice_get text.now 0) (λ b. b ≢ 32) }
     ensures first { words text.now ≡ result.0.now ∷ words result.1.now }
