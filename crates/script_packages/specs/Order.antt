@@ -1,5 +1,6 @@
 -- The order of preference.
-use Rattle.std.specs.Prelude.{ℕ, List, [], ◌∷◌, slice_get, Option, None, Some, if◌then◌else◌}
+use Rattle.std.specs.Prelude.{ℕ, Bool, false, ◌&&◌, nat_lt, nat_le, List, [], ◌∷◌, length, reverse, slice_get, Option, None}
+use Rattle.std.specs.Prelude.{Some, if◌then◌else◌}
 use Rattle.std.specs.declared.cmp.Ordering.{Ordering}
 use Rattle.std.specs.Ordering.{nat_cmp, ordering_then, is_lt}
 use Rattle.package_pool.specs.declared.solvable.Solvable.{Solvable}
@@ -23,6 +24,16 @@ with_version all s = record { version = version_at all s; solvable = s }
 
 abbrev pub versioned_preference : Versioned → Versioned → Ordering
 versioned_preference v w = ordering_then (nat_cmp w.version v.version) (nat_cmp v.solvable w.solvable)
+
+-- whether the second version is above the first
+abbrev pub rises : List Versioned → Bool
+rises [] = false
+rises (v ∷ []) = false
+rises (v ∷ w ∷ list) = nat_lt v.version w.version
+
+-- a list, turned round if it is short and rises
+abbrev pub turned : List Versioned → List Versioned
+turned list = if nat_le (length list) 20 && rises list then reverse list else list
 
 -- x behind those at the front that are less
 abbrev pub insert_sorted : {X : Type 0} → (X → X → Ordering) → X → List X → List X

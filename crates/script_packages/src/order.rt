@@ -1,13 +1,13 @@
 //! The order of preference: a higher version comes first, and of one version the solvable with the lower number.
-ghost use Rattle.std.specs.Prelude.{◌≡◌, IfOk, OnOk, OnErr, IsPermutation, IsSorted, length, map};
+ghost use Rattle.std.specs.Prelude.{◌≡◌, ◌≤◌, IfOk, OnOk, OnErr, IsPermutation, IsSorted, length, map};
 ghost use Rattle.script_packages.specs.Order.{version_at, preference, best_first};
-ghost use Rattle.script_packages.specs.Order.{with_version, versioned_preference};
+ghost use Rattle.script_packages.specs.Order.{with_version, versioned_preference, rises, turned};
 
 use crate::packages::VersionRange;
 use package_pool::Pool;
 use std::alloc::{AllocError, Global};
 use std::cmp::Ordering;
-use typed_ids::SolvableId;
+use typed_ids::{DenseIndex, SolvableId};
 
 /// The version of a solvable; 0 where there is no such solvable.
 pub(crate) fn version_at(pool: &Pool<VersionRange>, solvable: SolvableId) -> u32
@@ -28,8 +28,14 @@ fn preference(pool: &Pool<VersionRange>, one: SolvableId, other: SolvableId) -> 
     than.cmp(&version).then(one.cmp(&other))
 }
 
-/// Of more solvables than so many a sort looks up each version once beforehand.
-const FEW: usize = 6;
+/// So many solvables at most are put in order where they are; of more each version is looked up once beforehand.
+const FEW: usize = 3;
+
+/// So many solvables at most are sorted with no memory of the heap.
+const SHORT: usize = 64;
+
+/// So many solvables at most are sorted one by one, which takes long where they come in the opposite order.
+const ONE_BY_ONE: usize = 20;
 
 /// A solvable, with its version.
 #[derive(Clone, Copy)]
@@ -38,8 +44,8 @@ struct Versioned {
     solvable: SolvableId,
 }
 
-/// Puts solvables in order, the best first. Takes time n log n with their number, and memory where they are more than a
-/// few; where that is refused, it does without.
+/// Puts solvables in order, the best first. Takes time n log n with their number, and memory where they are many; where
+/// that is refused, it does without.
 pub(crate) fn sort_best_first(
     alloc: Global,
     pool: &Pool<VersionRange>,
@@ -48,7 +54,11 @@ pub(crate) fn sort_best_first(
     ensures order { solvables.new ≡ best_first pool.now.solvables solvables.old }
     ensures sorted { IsSorted (preference pool.now.solvables) solvables.new }
 {
-    if solvables.len() <= FEW || sort_looked_up(alloc, pool, solvables).is_err() {
+    if solvables.len() <= FEW {
+        sort_in_place(pool, solvables);
+    } else if solvables.len() <= SHORT {
+        sort_short(pool, solvables);
+    } else if sort_looked_up(alloc, pool, solvables).is_err() {
         sort_in_place(pool, solvables);
     }
 }
@@ -59,6 +69,43 @@ fn sort_in_place(pool: &Pool<VersionRange>, solvables: &mut [SolvableId])
     ensures sorted { IsSorted (preference pool.now.solvables) solvables.new }
 {
     solvables.sort_unstable_by(|one, other| preference(pool, *one, *other));
+}
+
+/// Puts not too many solvables in order, and looks up each version once. Takes no memory.
+fn sort_short(pool: &Pool<VersionRange>, solvables: &mut [SolvableId])
+    requires { length solvables.old ≤ 64 }
+    ensures order { solvables.new ≡ best_first pool.now.solvables solvables.old }
+    ensures sorted { IsSorted (preference pool.now.solvables) solvables.new }
+{
+    let none = Versioned {
+        version: 0,
+        solvable: SolvableId::from_index(0),
+    };
+    let mut places = [none; SHORT];
+    let list = &mut places[..solvables.len()];
+    look_up(pool, solvables, list);
+    sort_versioned(list);
+    put(list, solvables);
+}
+
+/// Puts solvables in a list, each with its version.
+fn look_up(pool: &Pool<VersionRange>, solvables: &[SolvableId], list: &mut [Versioned])
+    requires { length list.old ≡ length solvables.now }
+    ensures { list.new ≡ map (with_version pool.now.solvables) solvables.now }
+{
+    for i in 0..solvables.len() {
+        list[i] = with_version(pool, solvables[i]);
+    }
+}
+
+/// A solvable with its version.
+fn with_version(pool: &Pool<VersionRange>, solvable: SolvableId) -> Versioned
+    ensures { result ≡ with_version pool.now.solvables solvable }
+{
+    Versioned {
+        version: version_at(pool, solvable),
+        solvable,
+    }
 }
 
 /// Puts solvables in order, and looks up each version once.
@@ -87,10 +134,7 @@ fn with_versions(
 {
     let mut list = Vec::with_capacity(alloc, solvables.len())?;
     for solvable in solvables {
-        list.push(Versioned {
-            version: version_at(pool, *solvable),
-            solvable: *solvable,
-        })?;
+        list.push(with_version(pool, *solvable))?;
     }
     Ok(list)
 }
@@ -100,12 +144,40 @@ fn sort_versioned(list: &mut [Versioned])
     ensures permutation { IsPermutation list.old list.new }
     ensures sorted { IsSorted versioned_preference list.new }
 {
-    list.sort_unstable_by(|one, other| {
-        other
-            .version
-            .cmp(&one.version)
-            .then(one.solvable.cmp(&other.solvable))
-    });
+    turn_round(list);
+    list.sort_unstable_by(|one, other| versioned_preference(one, other));
+}
+
+/// Turns a short list round, if its second version is above the first: mostly the lowest version is listed first, and
+/// then the list is in order.
+fn turn_round(list: &mut [Versioned])
+    ensures { list.new ≡ turned list.old }
+{
+    if list.len() <= ONE_BY_ONE && rises(list) {
+        list.reverse();
+    }
+}
+
+/// Whether the second version is above the first.
+fn rises(list: &[Versioned]) -> bool
+    ensures { result ≡ rises list.now }
+{
+    match list {
+        [first, second, ..] => first.version < second.version,
+        _ => false,
+    }
+}
+
+/// Which of two solvables stands first. The numbers are compared only where the versions are the same.
+#[inline(always)]
+fn versioned_preference(one: &Versioned, other: &Versioned) -> Ordering
+    ensures { result ≡ versioned_preference one.now other.now }
+{
+    if one.version == other.version {
+        one.solvable.cmp(&other.solvable)
+    } else {
+        other.version.cmp(&one.version)
+    }
 }
 
 /// Puts the solvables of a list in the places of as many others.
