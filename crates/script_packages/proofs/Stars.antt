@@ -1,13 +1,17 @@
 -- Where a line has no star, none of its words has one.
 use Rattle.std.proofs.Common.{◌≡◌, ℕ, suc, ◌-◌, ◌+◌, ◌==◌, ◌&&◌, ◌++◌, Bool, true, false, cond, List, [], ◌∷◌, refl}
 use Rattle.std.proofs.Common.{ap, ◌∙◌, arith, length, filter, None, Some}
-use Rattle.std.specs.Prelude.{drop, nat_eq, nat_lt, codes, if◌then◌else◌}
+use Rattle.std.specs.Prelude.{take, drop, nat_eq, nat_lt, codes, Option, option_and_then, if◌then◌else◌}
 use Rattle.std.specs.List.{list_any, position_from}
 use Rattle.std.specs.Str.{bytes_eq}
 use Rattle.std.proofs.lemmas.Bool.{or_from, or_parts}
+use Rattle.std.proofs.lemmas.Bool.Decides.{nat_tests}
 use Rattle.std.proofs.lemmas.List.Folds.{list_any-append}
+use Rattle.script_text.specs.Numbers.{is_digit, number_of, value_from, with_digit}
 use Rattle.script_text.specs.Words.{begun_word, words, words_from}
-use Rattle.script_packages.specs.Versions.{is_starred, favored_place}
+use Rattle.script_text.proofs.NumberWords.{digit_of}
+use Rattle.script_packages.specs.Ids.{number_32}
+use Rattle.script_packages.specs.Versions.{is_starred, favored_place, version_of}
 
 abbrev is_star : ℕ → Bool
 is_star b = nat_eq b 42
@@ -54,3 +58,29 @@ no_star line none =
     ap (λ l. if nat_lt 1 (length l) then None else Some (position_from is_starred 0 (words line)))
     (none_filtered (words line) unstarred)
     ∙ ap Some (none_placed 0 (words line) unstarred)
+
+is_no_star : (b : ℕ) → is_digit b ≡ true → is_star b ≡ false
+is_no_star b digit = grind (arith, nat_tests, digit)
+
+-- digits have no star
+digits_unstarred : (n v : ℕ) (word : List ℕ) → value_from n word ≡ Some v → list_any is_star word ≡ false
+digits_unstarred n v [] h = refl
+digits_unstarred n v (b ∷ word) h = by_digit (with_digit n b) (λ m k. digits_unstarred m v word k) refl h
+  where
+    by_digit : (o : Option ℕ) → ((m : ℕ) → value_from m word ≡ Some v → list_any is_star word ≡ false) → with_digit n b ≡ o →
+        option_and_then (λ m. value_from m word) o ≡ Some v → list_any is_star (b ∷ word) ≡ false
+    by_digit None later e k = cc
+    by_digit (Some m) later e k = or_from _ _ (is_no_star b (digit_of n b m e)) (later m k)
+
+number_unstarred : (v : ℕ) (word : List ℕ) → number_of word ≡ Some v → list_any is_star word ≡ false
+number_unstarred v [] h = refl
+number_unstarred v (b ∷ word) h = by_length (nat_lt 20 (length (b ∷ word))) h
+  where
+    by_length : (long : Bool) → (if long then None else value_from 0 (b ∷ word)) ≡ Some v → list_any is_star (b ∷ word) ≡ false
+    by_length true k = cc
+    by_length false k = digits_unstarred 0 v (b ∷ word) k
+
+pub version_of_number : (v : ℕ) (word : List ℕ) → number_of word ≡ Some v → version_of word ≡ number_32 word
+version_of_number v word h =
+    ap (λ t. if t then number_32 (take (length word - 1) word) else number_32 word)
+    (unstarred word (number_unstarred v word h))

@@ -4,7 +4,7 @@ ghost use Rattle.script_text.specs.Numbers.{number_of, below};
 ghost use Rattle.script_packages.specs.Ids.{requirement_of};
 
 use providers::Requirement;
-use script_text::number;
+use script_text::{NumberWord, number};
 use typed_ids::{DenseIndex, VersionSetId, VersionSetUnionId};
 
 /// The id that a word stands for: its number is an index in range.
@@ -12,6 +12,19 @@ pub fn id<I: DenseIndex>(word: &[u8]) -> Option<I>
     ensures { result ≡ option_map I.id_at (below I.limit (number_of word.now)) }
 {
     let index = number(word)? as usize;
+    if I::in_range(index) {
+        Some(I::from_index(index))
+    } else {
+        None
+    }
+}
+
+/// The id that a word stands for whose number was read with it.
+#[inline(always)]
+pub fn id_of<I: DenseIndex>(word: &NumberWord<'_>) -> Option<I>
+    ensures { result ≡ option_map I.id_at (below I.limit word.now.number) }
+{
+    let index = word.number? as usize;
     if I::in_range(index) {
         Some(I::from_index(index))
     } else {

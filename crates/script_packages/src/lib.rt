@@ -14,5 +14,5 @@ mod provider;
 mod versions;
 
 pub use catalogue::{Catalogue, list_line, read_catalogue};
-pub use ids::{id, requirement};
+pub use ids::{id, id_of, requirement};
 pub use packages::{Packages, Span, VersionRange};

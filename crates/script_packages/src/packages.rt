@@ -12,11 +12,11 @@ ghost use Rattle.script_packages.specs.Versions.{are_versions};
 
 use crate::catalogue_line::CatalogueLine;
 use crate::ids::id;
-use crate::versions::{are_versions, favored_place, version};
+use crate::versions::{are_versions, favored_place, version_of};
 use id_storage::FrozenCopyMap;
 use package_pool::{Pool, VersionSet};
 use providers::Condition;
-use script_text::{LineFault, next_word};
+use script_text::{LineFault, next_number, next_word};
 use std::alloc::Global;
 use typed_ids::{DenseIndex, NameId, SolvableId, VersionSetId};
 
@@ -192,10 +192,10 @@ impl Packages {
             return Err(LineFault::Unreadable);
         }
         let favored = favored_place(versions)?;
-        let Some((word, others)) = next_word(versions) else {
+        let Some((word, others)) = next_number(versions) else {
             return Err(LineFault::Unreadable);
         };
-        let Some(version) = version(word) else {
+        let Some(version) = version_of(&word) else {
             return Err(LineFault::Unreadable);
         };
         let first = self.add_version(name, version)?;
@@ -225,8 +225,8 @@ impl Packages {
             listed_versions (listing_of self.old) name (words text.now) ≡ None) }
     {
         let mut rest = text;
-        while let Some((word, others)) = next_word(rest) {
-            match version(word) {
+        while let Some((word, others)) = next_number(rest) {
+            match version_of(&word) {
                 Some(version) => last = self.add_version(name, version)?,
                 None => return Err(LineFault::Unreadable),
             }

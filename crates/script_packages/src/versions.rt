@@ -1,12 +1,13 @@
 //! The versions of a package line, as words of a text. One of them may have a star directly behind it: it is the
 //! favored one.
 ghost use Rattle.std.specs.Prelude.{◌≡◌, Some, None, IfOk, IfErr};
+ghost use Rattle.script_text.specs.Numbers.{number_of};
 ghost use Rattle.script_text.specs.Words.{words};
 ghost use Rattle.script_text.specs.declared.fault.LineFault.TheVariants.{Unreadable};
 ghost use Rattle.script_packages.specs.Versions.{is_starred, version_of, favored_place, are_versions, each_is_version};
 
-use crate::ids::id;
-use script_text::{LineFault, next_word};
+use crate::ids::{id, id_of};
+use script_text::{LineFault, NumberWord, next_word};
 
 /// Whether a word ends with a star.
 fn is_starred(word: &[u8]) -> bool
@@ -16,12 +17,25 @@ fn is_starred(word: &[u8]) -> bool
 }
 
 /// The version that a word stands for, with a star behind it or without.
-pub(crate) fn version(word: &[u8]) -> Option<u32>
+#[inline(never)]
+fn version(word: &[u8]) -> Option<u32>
     ensures { result ≡ version_of word.now }
 {
     match word.strip_suffix(b"*") {
         Some(number) => id(number),
         None => id(word),
+    }
+}
+
+/// The version that a word stands for whose number was read with it. Only where it writes no number can it have a star.
+#[inline(always)]
+pub(crate) fn version_of(word: &NumberWord<'_>) -> Option<u32>
+    requires { word.now.number ≡ number_of word.now.word.now }
+    ensures { result ≡ version_of word.now.word.now }
+{
+    match word.number {
+        Some(_) => id_of(word),
+        None => version(word.word),
     }
 }
 

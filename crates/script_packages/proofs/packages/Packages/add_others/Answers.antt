@@ -12,8 +12,8 @@ loop-word-preserved c =
     let name = c.args.name in
     let old = listing_of c.loop-word.self in
     let left = words c.in-Some.others.now in
-    let more = c.in_ok-last-in-Some-version.ensures in
-    let number : version_of c.in-Some.word.now ≡ Some c.in-Some-version.version = search rules in
+    let more = c.in_ok-last-in-Some-version_of.ensures in
+    let number : version_of c.in-Some.word.word.now ≡ Some c.in-Some-version_of.version = search rules in
     let solvables : length c.add_version.new.self.pool.solvables ≡ length c.loop-word.self.pool.solvables + 1 =
     ap (λ (l : Listing). length l.pool.solvables) more.ok ∙ length-append c.loop-word.self.pool.solvables _ in
     let names : length c.add_version.new.self.pool.names ≡ length c.loop-word.self.pool.names =
