@@ -1,19 +1,15 @@
 -- What changes of kept trackers make of the function from names to trackers.
-use Rattle.std.proofs.Common.{◌≡◌, ℕ, ◌<◌, ◌^◌, ◌||◌, Bool, true, false, cond, List, [], ◌∷◌, ◌++◌}
-use Rattle.std.proofs.Common.{is_some, Option, None, Some, refl, sym, ◌∙◌, ap, subst, arith, true≢false}
-use Rattle.std.specs.Prelude.{nat_eq, nat_le, ◌&&◌, min, IsTrue, MatchOption}
+use Rattle.std.proofs.Common.{◌≡◌, ℕ, ◌<◌, ◌≤◌, ◌^◌, Bool, true, false, cond, List, [], ◌∷◌, ◌++◌, length, get_or}
+use Rattle.std.proofs.Common.{set, slice_get, is_some, Option, None, Some, refl, sym, ◌∙◌, ap, subst, arith, true≢false}
+use Rattle.std.specs.Prelude.{nat_eq, ◌==◌, IsTrue, MatchOption}
 use Rattle.std.proofs.Math.Path.{fun_ext}
 use Rattle.std.specs.Option.{option_map, unwrap_or}
 use Rattle.std.specs.Cmp.{IsEquivalence}
 use Rattle.std.specs.Map.{lookup, set_value}
-use Rattle.std.proofs.lemmas.Bool.Decides.{nat_tests}
 use Rattle.std.proofs.lemmas.Map.{lookup-set_value}
-use Rattle.typed_ids.specs.Refusals.{IsGrowthRefusal}
-use Rattle.typed_ids.specs.declared.error.StoreError.{StoreError}
-use Rattle.typed_ids.specs.declared.error.StoreError.TheVariants.{OutOfMemory, IdSpace, UnknownId, LevelOutOfRange}
-use Rattle.typed_ids.specs.declared.error.StoreError.TheVariants.{NotLoaded, NegatesParent, BadWatch, BadLearnt}
-use Rattle.typed_ids.specs.declared.error.StoreError.TheVariants.{EmptyTrail, BadFraction, TooManyClauses, Cancelled}
-use Rattle.id_storage.specs.KeptAnswers.{lacks_answer}
+use Rattle.std.proofs.lemmas.Option.{slice_get_read}
+use Rattle.id_storage.specs.KeptAnswers.{AreKept, place_of}
+use Rattle.id_storage.proofs.AnswerLemmas.{place_below, answer_earlier, answer_replaced, AreKept-replaced}
 use Rattle.at_most_once.specs.AtMostOne.{Tracker, Kept, HasRoom, KeepsRoom, empty, with_variable}
 use Rattle.at_most_once.specs.NameTrackers.{tracker_of, with_tracked, KeepsRoomFor, lacks_tracker}
 
@@ -83,45 +79,27 @@ module _ {N : Type 0} (same : N → N → Bool) (laws : IsEquivalence same) wher
   still_found kept name t some =
       found_put kept name t name some ∙ ap (λ b. cond b (Some t) (lookup (same name) kept)) (laws.refl name)
 
-  found_exchanged : (kept : List (N × Kept ℕ)) (name : N) (between after : Kept ℕ) (other : N) → is_some (lookup (same name) kept) ≡ true
-      → lookup (same other) (set_value (same name) (set_value (same name) kept between) after) ≡ cond (same other name) (Some after) (lookup (same other) kept)
-  found_exchanged kept name between after other some =
-      found_put (set_value (same name) kept between) name after other (ap is_some (still_found kept name between some))
-      ∙ ap (cond (same other name) (Some after)) (found_put kept name between other some)
-      ∙ (elim (same other name) as (λ b. cond b (Some after) (cond b (Some between) (lookup (same other) kept)) ≡
-      cond b (Some after) (lookup (same other) kept))
-      [ true ↦ refl | false ↦ refl ])
-
-  -- the tracker that came last is found
-  pub last_found : (kept : List (N × Kept ℕ)) (name : N) (between after : Kept ℕ) → is_some (lookup (same name) kept) ≡ true
-      → lookup (same name) (set_value (same name) (set_value (same name) kept between) after) ≡ Some after
-  last_found kept name between after some =
-      still_found (set_value (same name) kept between) name after (ap is_some (still_found kept name between some))
-
   module _ (is_sameness : (a b : N) → same a b ≡ true → a ≡ b) (kept : List (N × Kept ℕ)) (name : N)
-      (earlier between after : Kept ℕ) (is : lookup (same name) kept ≡ Some earlier) where
+      (earlier after : Kept ℕ) (is : lookup (same name) kept ≡ Some earlier) where
     -- a tracker that tracks the same
-    pub tracker_kept : after.tracker ≡ earlier.tracker
-        → tracker_of same (set_value (same name) (set_value (same name) kept between) after) ≡ tracker_of same kept
+    pub tracker_kept : after.tracker ≡ earlier.tracker → tracker_of same (set_value (same name) kept after) ≡ tracker_of same kept
     unfolding tracker_of
-    tracker_kept e = fun_ext (λ other. ap tracker_in (found_exchanged kept name between after other (ap is_some is)) ∙ by other (same other name) refl)
+    tracker_kept e = fun_ext (λ other. ap tracker_in (found_put kept name after other (ap is_some is)) ∙ by other (same other name) refl)
       where
         by : (other : N) (b : Bool) → same other name ≡ b → tracker_in (cond b (Some after) (lookup (same other) kept)) ≡ tracker_in (lookup (same other) kept)
         by other true t = e ∙ sym (ap tracker_in (subst (λ n. lookup (same n) kept ≡ Some earlier) (sym (is_sameness other name t)) is))
         by other false t = refl
 
     -- another name has the room that it had
-    pub room_of_others : (other : N) → same other name ≡ false
-        → KeepsRoomFor same other kept (set_value (same name) (set_value (same name) kept between) after)
+    pub room_of_others : (other : N) → same other name ≡ false → KeepsRoomFor same other kept (set_value (same name) kept after)
     room_of_others other differs with_helper h =
         subst (λ o. MatchOption o ⊥ (λ t. HasRoom t with_helper))
-        (sym (found_exchanged kept name between after other (ap is_some is) ∙ ap (λ b. cond b (Some after) (lookup (same other) kept)) differs)) h
+        (sym (found_put kept name after other (ap is_some is) ∙ ap (λ b. cond b (Some after) (lookup (same other) kept)) differs)) h
 
     -- a tracker with the same room, or more
-    pub room_kept : KeepsRoom earlier after → (other : N)
-        → KeepsRoomFor same other kept (set_value (same name) (set_value (same name) kept between) after)
+    pub room_kept : KeepsRoom earlier after → (other : N) → KeepsRoomFor same other kept (set_value (same name) kept after)
     room_kept keeps other with_helper h =
-        subst (λ o. MatchOption o ⊥ (λ t. HasRoom t with_helper)) (sym (found_exchanged kept name between after other (ap is_some is)))
+        subst (λ o. MatchOption o ⊥ (λ t. HasRoom t with_helper)) (sym (found_put kept name after other (ap is_some is)))
         (by (same other name) refl h)
       where
         by : (b : Bool) → same other name ≡ b → MatchOption (lookup (same other) kept) ⊥ (λ t. HasRoom t with_helper)
@@ -132,53 +110,43 @@ module _ {N : Type 0} (same : N → N → Bool) (laws : IsEquivalence same) wher
 
     -- a tracker with one variable more
     pub variable_tracked : (variable : ℕ) (helper : Option ℕ) → after.tracker ≡ with_variable nat_eq earlier.tracker helper variable
-        → tracker_of same (set_value (same name) (set_value (same name) kept between) after) ≡ with_tracked same name variable helper (tracker_of same kept)
+        → tracker_of same (set_value (same name) kept after) ≡ with_tracked same name variable helper (tracker_of same kept)
     unfolding tracker_of
     variable_tracked variable helper e = fun_ext (λ other.
-        ap tracker_in (found_exchanged kept name between after other (ap is_some is)) ∙ by other (same other name))
+        ap tracker_in (found_put kept name after other (ap is_some is)) ∙ by other (same other name))
       where
         by : (other : N) (b : Bool) → tracker_in (cond b (Some after) (lookup (same other) kept))
             ≡ cond b (with_variable nat_eq (tracker_in (lookup (same name) kept)) helper variable) (tracker_in (lookup (same other) kept))
         by other true = e ∙ ap (λ o. with_variable nat_eq (tracker_in o) helper variable) (sym is)
         by other false = refl
 
+-- ---- the tracker at a name's place
+
+module _ {N : Type 0} (same : N → N → Bool) (IsId : N → Type 0) (places : N → Option ℕ) (kept : List (N × Kept ℕ)) (name : N) (p : ℕ)
+    (are : AreKept same IsId (2 ^ 32) places kept) (at : place_of same kept name ≡ Some p) where
+  pub place_within : p < length kept
+  place_within = (place_below same IsId (2 ^ 32) places kept name p are at).0
+
+  module _ (x : N × Kept ℕ) (read : x ≡ get_or kept p x) where
+    stands : slice_get kept p ≡ Some x
+    stands = slice_get_read kept (length kept) p x refl place_within read
+
+    pub is_found : lookup (same name) kept ≡ Some x.1
+    is_found = answer_earlier same kept name p x at stands
+
+    -- another tracker in its place
+    pub put_there : (after : Kept ℕ) → set kept p (x.0, after) ≡ set_value (same name) kept after
+    put_there after = answer_replaced same kept name p x after at stands
+
+    pub still_kept : (after : Kept ℕ) → AreKept same IsId (2 ^ 32) places (set kept p (x.0, after))
+    still_kept after =
+        subst (AreKept same IsId (2 ^ 32) places) (sym (put_there after)) (AreKept-replaced same IsId (2 ^ 32) places kept (same name) after are)
+
 -- ---- why a tracker is refused
 
-counts_out : (many : Bool) (count : ℕ) → (many ≡ false → count < 2 ^ 32) → nat_le (min (2 ^ 32) (2 ^ 32)) count ≡ true → many ≡ true
-counts_out true count few out = refl
-counts_out false count few out = (let below = few refl in grind (arith, nat_tests))
-
-lacking : {N : Type 0} (is_large : N → Bool) (many : Bool) (count : ℕ) (name : N) → (many ≡ false → count < 2 ^ 32)
-    → IsTrue (lacks_answer (2 ^ 32) is_large count name) → IsTrue (is_large name || many && true)
-lacking is_large many count name few lacks =
-    by (nat_le (min (2 ^ 32) (2 ^ 32)) count) refl (is_large name) lacks
-  where
-    by : (b : Bool) → nat_le (min (2 ^ 32) (2 ^ 32)) count ≡ b → (large : Bool) → IsTrue (b || large) → IsTrue (large || many && true)
-    by b e true h = refl
-    by true e false h = ap (λ m. m && true) (counts_out many count few e)
-    by false e false h = absurd (true≢false (sym h))
-
-pub tracker_refused : {N : Type 0} (is_large : N → Bool) (many : Bool) (count : ℕ) (name : N) (t : Tracker ℕ)
-    (e : StoreError) → (many ≡ false → count < 2 ^ 32) → t ≡ empty
-    → IsGrowthRefusal (lacks_answer (2 ^ 32) is_large count name) e → IsGrowthRefusal (lacks_tracker (is_large name) many t) e
-tracker_refused is_large many count name t OutOfMemory few none h = tt
-tracker_refused is_large many count name t IdSpace few none h =
-    subst (λ t. IsTrue (lacks_tracker (is_large name) many t)) (sym none) (lacking is_large many count name few h)
-tracker_refused is_large many count name t UnknownId few none h = h
-tracker_refused is_large many count name t LevelOutOfRange few none h = h
-tracker_refused is_large many count name t NotLoaded few none h = h
-tracker_refused is_large many count name t NegatesParent few none h = h
-tracker_refused is_large many count name t BadWatch few none h = h
-tracker_refused is_large many count name t BadLearnt few none h = h
-tracker_refused is_large many count name t EmptyTrail few none h = h
-tracker_refused is_large many count name t BadFraction few none h = h
-tracker_refused is_large many count name t TooManyClauses few none h = h
-tracker_refused is_large many count name t Cancelled few none h = h
-
-pub large_is_lacking : {N : Type 0} (limit : ℕ) (is_large : N → Bool) (count : ℕ) (name : N) → IsTrue (is_large name) →
-    IsTrue (lacks_answer limit is_large count name)
-large_is_lacking limit is_large count name large = by (nat_le (min limit (2 ^ 32)) count)
-  where
-    by : (b : Bool) → IsTrue (b || is_large name)
-    by true = refl
-    by false = large
+-- nothing is tracked yet, and there are 2^32 trackers
+pub too_many : (is_large many : Bool) (count : ℕ) (t : Tracker ℕ) → (many ≡ false → count < 2 ^ 32) → 2 ^ 32 ≤ count → t ≡ empty
+    → IsTrue (lacks_tracker is_large many t)
+too_many true many count t few out none = refl
+too_many false true count t few out none = ap (λ t. length t.variables == 0) none
+too_many false false count t few out none = (let below = few refl in let no : ⊥ = omega arith in absurd no)

@@ -1,15 +1,15 @@
 //! Trackers, each found by the name of a package.
-ghost use Rattle.std.specs.Prelude.{◌≡◌, ◌++◌, is_some, nat_eq, true, false, IfSome};
-ghost use Rattle.std.specs.Prelude.{IfNone, IsTrue, IsOk, OnOk, OnErr, IfErr, Err};
+ghost use Rattle.std.specs.Prelude.{◌≡◌, ◌++◌, is_some, nat_eq, true, false, IfSome, Some, None};
+ghost use Rattle.std.specs.Prelude.{IfNone, IsTrue, IsOk, OnOk, IfOk, OnErr, IfErr, Err};
 ghost use Rattle.std.specs.Map.{lookup};
 ghost use Rattle.typed_ids.specs.Refusals.{IsGrowthRefusal};
 ghost use Rattle.typed_ids.specs.declared.error.StoreError.TheVariants.{IdSpace, OutOfMemory};
+ghost use Rattle.id_storage.specs.KeptAnswers.{place_of};
 ghost use Rattle.at_most_once.specs.AtMostOne.{empty, HasRoom, is_tracked, needs_helper, clauses_for, with_variable};
 ghost use Rattle.at_most_once.specs.NameTrackers.{tracker_of, with_tracked, HasRoomFor, KeepsRoomFor, lacks_tracker};
 
 use crate::tracker::AtMostOnceTracker;
-use id_maps::SolverId;
-use id_storage::KeptAnswers;
+use id_maps::{IdMap, Slot, SolverId};
 use std::alloc::Allocator;
 use std::marker::Model;
 use typed_ids::{StoreError, VariableId};
@@ -19,18 +19,22 @@ use typed_ids::{StoreError, VariableId};
 /// A name has a tracker from the first room on that is made for it, and all names without one share the empty one.
 #[derive(Drop)]
 pub struct NameTrackers<N: SolverId<A>, A: Allocator + Copy> {
-    trackers: KeptAnswers<u32, N, AtMostOnceTracker<VariableId, A>, A>,
-    alloc: A,
+    /// Where each name's tracker stands.
+    places: N::Slots,
+    list: Vec<(N, AtMostOnceTracker<VariableId, A>), A>,
 }
 
 /// The names that have trackers, with what these track and the room in them.
 impl<N: SolverId<A>, A: Allocator + Copy> Model for NameTrackers<N, A> {
-    ghost use Rattle.std.specs.Prelude.{ℕ, List};
+    ghost use Rattle.std.specs.Prelude.{ℕ, ◌^◌, List};
+    ghost use Rattle.id_storage.specs.KeptAnswers.{AreKept};
     ghost use Rattle.at_most_once.specs.AtMostOne.{Kept};
 
     ghost Value = { List (N × Kept ℕ) };
 
-    ghost view = { λ t. t.trackers };
+    ghost view = { λ t. t.list.items };
+
+    ghost invariant = { λ t. AreKept N.eq N.is_id (2 ^ 32) (N.Slots.value_at t.places) t.list.items };
 }
 
 impl<N: SolverId<A>, A: Allocator + Copy> NameTrackers<N, A> {
@@ -39,8 +43,8 @@ impl<N: SolverId<A>, A: Allocator + Copy> NameTrackers<N, A> {
         ensures { tracker_of N.eq result ≡ (λ name. empty) }
     {
         NameTrackers {
-            trackers: KeptAnswers::new(alloc),
-            alloc,
+            places: <N::Slots as IdMap<N, Slot, A>>::new(alloc),
+            list: Vec::new(alloc),
         }
     }
 
@@ -80,7 +84,9 @@ impl<N: SolverId<A>, A: Allocator + Copy> NameTrackers<N, A> {
     {
         match self.tracker(name) {
             Some(tracker) => tracker.clauses_for(&variable, helper, clauses),
-            None => AtMostOnceTracker::new(self.alloc).clauses_for(&variable, helper, clauses),
+            None => AtMostOnceTracker::new(*self.list.allocator()).clauses_for(
+                &variable, helper, clauses,
+            ),
         }
     }
 
@@ -95,13 +101,8 @@ impl<N: SolverId<A>, A: Allocator + Copy> NameTrackers<N, A> {
             (IsGrowthRefusal (lacks_tracker (N.Slots.is_too_large name) N.are_many (tracker_of N.eq self.old name))) }
         ensures too_large { IsTrue (N.Slots.is_too_large name) → result ≡ Err IdSpace }
     {
-        self.start(name)?;
-        let mut tracker = self
-            .trackers
-            .replace(name, AtMostOnceTracker::new(self.alloc));
-        let made = tracker.make_room(with_helper);
-        drop(self.trackers.replace(name, tracker));
-        made
+        let place = self.reach(name)?;
+        self.list[place].1.make_room(with_helper)
     }
 
     /// Tracks a variable under the name, for which there is room, with the helper that is given with it. One that is
@@ -111,34 +112,50 @@ impl<N: SolverId<A>, A: Allocator + Copy> NameTrackers<N, A> {
         ensures added { tracker_of N.eq self.new ≡ with_tracked N.eq name variable helper (tracker_of N.eq self.old) }
         ensures keeps { (other : N) → N.eq other name ≡ false → KeepsRoomFor N.eq other self.old self.new }
     {
-        let mut tracker = self
-            .trackers
-            .replace(name, AtMostOnceTracker::new(self.alloc));
-        track(&mut tracker, variable, helper);
-        drop(self.trackers.replace(name, tracker));
+        match self.places.get(name).number() {
+            Some(place) => track(&mut self.list[place as usize].1, variable, helper),
+            None => unreachable!(),
+        }
     }
 
-    /// Gives the name a tracker if it has none.
-    fn start(&mut self, name: N) -> Result<(), StoreError>
+    /// The place of the name's tracker, which comes if there was none. One look-up where there was one.
+    fn reach(&mut self, name: N) -> Result<usize, StoreError>
         ensures same { tracker_of N.eq self.new ≡ tracker_of N.eq self.old }
-        ensures there { OnOk result (is_some (lookup (N.eq name) self.new) ≡ true) }
+        ensures place { IfOk result (λ place. place_of N.eq self.new name ≡ Some place) }
         ensures known { is_some (lookup (N.eq name) self.old) ≡ true → IsOk result }
         ensures keeps { (other : N) → KeepsRoomFor N.eq other self.old self.new }
         ensures refused { IfErr result
             (IsGrowthRefusal (lacks_tracker (N.Slots.is_too_large name) N.are_many (tracker_of N.eq self.old name))) }
         ensures too_large { IsTrue (N.Slots.is_too_large name) → result ≡ Err IdSpace }
     {
-        if self.trackers.find(name).is_some() {
-            return Ok(());
+        match self.places.get(name).number() {
+            Some(place) => Ok(place as usize),
+            None => self.start(name),
         }
-        match self
-            .trackers
-            .insert(name, AtMostOnceTracker::new(self.alloc))
-        {
-            Ok(_) => {}
-            Err(refusal) => return Err(refusal),
+    }
+
+    /// Gives the name a tracker, which it lacks, and answers its place.
+    fn start(&mut self, name: N) -> Result<usize, StoreError>
+        requires { lookup (N.eq name) self.old ≡ None }
+        ensures same { tracker_of N.eq self.new ≡ tracker_of N.eq self.old }
+        ensures place { IfOk result (λ place. place_of N.eq self.new name ≡ Some place) }
+        ensures keeps { (other : N) → KeepsRoomFor N.eq other self.old self.new }
+        ensures refused { IfErr result
+            (IsGrowthRefusal (lacks_tracker (N.Slots.is_too_large name) N.are_many (tracker_of N.eq self.old name))) }
+        ensures too_large { IsTrue (N.Slots.is_too_large name) → result ≡ Err IdSpace }
+    {
+        name.attest();
+        let place = self.list.len();
+        if place > u32::MAX as usize {
+            return Err(StoreError::IdSpace);
         }
-        Ok(())
+        let alloc = *self.list.allocator();
+        self.places.make_room(name)?;
+        self.list.reserve(1)?;
+        self.list
+            .push_reserved((name, AtMostOnceTracker::new(alloc)));
+        self.places.put(name, Slot::new(Some(place as u32)));
+        Ok(place)
     }
 
     /// The tracker of a name, where it has one.
@@ -146,8 +163,8 @@ impl<N: SolverId<A>, A: Allocator + Copy> NameTrackers<N, A> {
         ensures some { IfSome result (λ tracker. tracker_of N.eq self.now name ≡ tracker.now.tracker) }
         ensures none { IfNone result (tracker_of N.eq self.now name ≡ empty) }
     {
-        match self.trackers.find(name) {
-            Some(id) => Some(&self.trackers[id]),
+        match self.places.get(name).number() {
+            Some(place) => Some(&self.list[place as usize].1),
             None => None,
         }
     }
