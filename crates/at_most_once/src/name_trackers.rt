@@ -84,9 +84,10 @@ impl<N: SolverId<A>, A: Allocator + Copy> NameTrackers<N, A> {
     {
         match self.tracker(name) {
             Some(tracker) => tracker.clauses_for(&variable, helper, clauses),
-            None => AtMostOnceTracker::new(*self.list.allocator()).clauses_for(
-                &variable, helper, clauses,
-            ),
+            None => {
+                let tracker = AtMostOnceTracker::new(*self.list.allocator());
+                tracker.clauses_for(&variable, helper, clauses)
+            }
         }
     }
 

@@ -53,11 +53,12 @@ impl<V: Eq + Hash + Copy, A: Allocator + Copy> AtMostOnceTracker<V, A> {
         self.variables.contains(variable)
     }
 
-    /// Whether the addition of this variable needs a helper more. Constant time.
+    /// Whether the addition of this variable needs a helper more. Constant time. It is looked up only where the numbers
+    /// are used up.
     pub fn needs_helper(&self, variable: &V) -> bool
         ensures { result ≡ needs_helper V.eq self.now.tracker variable.now }
     {
-        !self.variables.contains(variable) && is_past(self.variables.len(), self.helpers.len())
+        is_past(self.variables.len(), self.helpers.len()) && !self.variables.contains(variable)
     }
 
     /// Appends the clauses that [`AtMostOnceTracker::add`] would append. Takes time and memory for these alone.
@@ -129,15 +130,13 @@ impl<V: Eq + Hash + Copy, A: Allocator + Copy> AtMostOnceTracker<V, A> {
         requires { HasRoom self.old (is_some helper) }
         ensures { self.new.tracker ≡ with_variable V.eq self.old.tracker helper variable }
     {
-        if self.is_tracked(&variable) {
-            return;
+        match self.variables.insert(variable) {
+            Ok(true) => {}
+            Ok(false) => return,
+            Err(_) => unreachable!(),
         }
         if let Some(helper) = helper {
             self.helpers.push_reserved(helper);
-        }
-        match self.variables.insert(variable) {
-            Ok(_) => {}
-            Err(_) => unreachable!(),
         }
     }
 
