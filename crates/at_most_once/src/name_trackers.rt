@@ -19,8 +19,9 @@ use typed_ids::{StoreError, VariableId};
 /// A name has a tracker from the first room on that is made for it, and all names without one share the empty one.
 #[derive(Drop)]
 pub struct NameTrackers<N: SolverId<A>, A: Allocator + Copy> {
-    /// Where each name's tracker stands.
+    /// The place of each name's tracker.
     places: N::Slots,
+    /// The trackers with their names, in the order in which they came. One is changed where it stands.
     list: Vec<(N, AtMostOnceTracker<VariableId, A>), A>,
 }
 
@@ -58,7 +59,7 @@ impl<N: SolverId<A>, A: Allocator + Copy> NameTrackers<N, A> {
         }
     }
 
-    /// Whether the addition of the variable under the name needs a helper more. Two look-ups.
+    /// Whether the addition of the variable under the name needs a helper more. At most two look-ups.
     pub fn needs_helper(&self, name: N, variable: VariableId) -> bool
         ensures { result ≡ needs_helper nat_eq (tracker_of N.eq self.now name) variable }
     {
