@@ -15,8 +15,8 @@ ghost use Rattle.scripts.specs.Transcript.{IsRead};
 
 use crate::literal_words::{literal, literals};
 use resolvo_store::{Command, HelperOrigin};
-use script_packages::{id, requirement};
-use script_text::{LineFault, Statement, is_word, next_word, number};
+use script_packages::{id, id_of, requirement};
+use script_text::{LineFault, Statement, is_word, next_number, next_word, number};
 use std::alloc::Allocator;
 use typed_ids::{DenseIndex, VariableId, VersionSetId};
 
@@ -175,11 +175,11 @@ fn only_word(text: &[u8]) -> Option<&[u8]>
 fn pair(text: &[u8]) -> Option<(VariableId, VariableId)>
     ensures { result ≡ pair_of (words text.now) }
 {
-    let (first, text) = next_word(text)?;
-    let (second, text) = next_word(text)?;
+    let (first, text) = next_number(text)?;
+    let (second, text) = next_number(text)?;
     match next_word(text) {
         Some(_) => None,
-        None => Some((id(first)?, id(second)?)),
+        None => Some((id_of(&first)?, id_of(&second)?)),
     }
 }
 
@@ -187,12 +187,12 @@ fn pair(text: &[u8]) -> Option<(VariableId, VariableId)>
 fn pair_and_set(text: &[u8]) -> Option<(VariableId, VariableId, VersionSetId)>
     ensures { result ≡ pair_and_set_of (words text.now) }
 {
-    let (first, text) = next_word(text)?;
-    let (second, text) = next_word(text)?;
-    let (set, text) = next_word(text)?;
+    let (first, text) = next_number(text)?;
+    let (second, text) = next_number(text)?;
+    let (set, text) = next_number(text)?;
     match next_word(text) {
         Some(_) => None,
-        None => Some((id(first)?, id(second)?, id(set)?)),
+        None => Some((id_of(&first)?, id_of(&second)?, id_of(&set)?)),
     }
 }
 
@@ -258,14 +258,14 @@ fn load<N, S, A: Allocator>(text: &[u8]) -> Option<Command<N, S, A>>
 fn requires_clause<N, S, A: Allocator>(text: &[u8]) -> Option<Command<N, S, A>>
     ensures { option_map command_of result ≡ requires_command (words text.now) }
 {
-    let (parent, text) = next_word(text)?;
+    let (parent, text) = next_number(text)?;
     let (required, text) = next_word(text)?;
     match next_word(text) {
-        None => Some(Command::Requires(id(parent)?, requirement(required)?, None)),
+        None => Some(Command::Requires(id_of(&parent)?, requirement(required)?, None)),
         Some((disjunction, text)) => match next_word(text) {
             Some(_) => None,
             None => {
-                let (parent, required) = (id(parent)?, requirement(required)?);
+                let (parent, required) = (id_of(&parent)?, requirement(required)?);
                 Some(Command::Requires(parent, required, Some(id(disjunction)?)))
             }
         },
@@ -276,11 +276,11 @@ fn requires_clause<N, S, A: Allocator>(text: &[u8]) -> Option<Command<N, S, A>>
 fn exclude<N, S, A: Allocator>(text: &[u8]) -> Option<Command<N, S, A>>
     ensures { option_map command_of result ≡ exclude_command (words text.now) }
 {
-    let (variable, text) = next_word(text)?;
-    let (reason, text) = next_word(text)?;
+    let (variable, text) = next_number(text)?;
+    let (reason, text) = next_number(text)?;
     match next_word(text) {
         Some(_) => None,
-        None => Some(Command::Exclude(id(variable)?, id(reason)?)),
+        None => Some(Command::Exclude(id_of(&variable)?, id_of(&reason)?)),
     }
 }
 
@@ -289,11 +289,11 @@ fn at_most_once<N: DenseIndex, S: DenseIndex, A: Allocator>(text: &[u8]) -> Opti
     ensures { option_map command_of result
         ≡ at_most_once_command (ids_at N.limit N.id_at S.limit S.id_at) (words text.now) }
 {
-    let (name, text) = next_word(text)?;
-    let (variable, text) = next_word(text)?;
+    let (name, text) = next_number(text)?;
+    let (variable, text) = next_number(text)?;
     match next_word(text) {
         Some(_) => None,
-        None => Some(Command::AtMostOnce(id(name)?, id(variable)?)),
+        None => Some(Command::AtMostOnce(id_of(&name)?, id_of(&variable)?)),
     }
 }
 
@@ -301,15 +301,15 @@ fn at_most_once<N: DenseIndex, S: DenseIndex, A: Allocator>(text: &[u8]) -> Opti
 fn assign<N, S, A: Allocator>(text: &[u8]) -> Option<Command<N, S, A>>
     ensures { option_map command_of result ≡ assign_command (words text.now) }
 {
-    let (variable, text) = next_word(text)?;
+    let (variable, text) = next_number(text)?;
     let (value, text) = next_word(text)?;
-    let (clause, text) = next_word(text)?;
-    let (level, text) = next_word(text)?;
+    let (clause, text) = next_number(text)?;
+    let (level, text) = next_number(text)?;
     match next_word(text) {
         Some(_) => None,
         None => {
-            let (variable, value) = (id(variable)?, truth(value)?);
-            Some(Command::Assign(variable, value, id(clause)?, id(level)?))
+            let (variable, value) = (id_of(&variable)?, truth(value)?);
+            Some(Command::Assign(variable, value, id_of(&clause)?, id_of(&level)?))
         }
     }
 }
@@ -327,11 +327,11 @@ fn bump<N: DenseIndex, S: DenseIndex, A: Allocator>(text: &[u8]) -> Option<Comma
     ensures { option_map command_of result
         ≡ bump_command (ids_at N.limit N.id_at S.limit S.id_at) (words text.now) }
 {
-    let (name, text) = next_word(text)?;
+    let (name, text) = next_number(text)?;
     let (amount, text) = next_word(text)?;
     match next_word(text) {
         Some(_) => None,
-        None => Some(Command::Bump(id(name)?, number(amount)?)),
+        None => Some(Command::Bump(id_of(&name)?, number(amount)?)),
     }
 }
 
@@ -359,12 +359,12 @@ fn standard<N, S, A: Allocator>(text: &[u8]) -> Option<Command<N, S, A>>
 fn rewatch<N, S, A: Allocator>(text: &[u8]) -> Option<Command<N, S, A>>
     ensures { option_map command_of result ≡ rewatch_command (words text.now) }
 {
-    let (clause, text) = next_word(text)?;
+    let (clause, text) = next_number(text)?;
     let (from, text) = next_word(text)?;
     let (to, text) = next_word(text)?;
     match next_word(text) {
         Some(_) => None,
-        None => Some(Command::Rewatch(id(clause)?, literal(from)?, literal(to)?)),
+        None => Some(Command::Rewatch(id_of(&clause)?, literal(from)?, literal(to)?)),
     }
 }
 
