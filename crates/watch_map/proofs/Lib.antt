@@ -4,6 +4,7 @@ mod CountLaws
 mod CursorLaws
 pub mod ForcingLaws
 mod GivenLaws
+mod LargestLaws
 mod LinkLaws
 pub mod ListCallerLaws
 mod ListLaws

@@ -14,7 +14,7 @@ use Rattle.clauses.specs.Clauses.{same_literal}
 use Rattle.watch_map.specs.Watching.{is_literal_in, is_clause_in, AreTwo, IsExact, started}
 use Rattle.watch_map.specs.WatchLists.{WatchLists, Watches, record_of, literals_in, watched_by, next_in}
 use Rattle.watch_map.specs.WatchLists.{link, chain, IsChain, watchers, HasTwoLinks, HasRoom, AreWatched}
-use Rattle.watch_map.specs.WatchCalls.{SameLists, Starts, KeepsRoom, UsesRoom}
+use Rattle.watch_map.specs.WatchCalls.{SameLists, Starts, KeepsRoom, UsesRoom, HaveRoom}
 use Rattle.watch_map.proofs.WatchingLaws.{same_is, same_self, same_swap, exact_same, started_exact}
 use Rattle.watch_map.proofs.ChainLaws.{chain_same}
 use Rattle.watch_map.proofs.LinkLaws.{lists_made}
@@ -89,8 +89,8 @@ are_apart (a ∷ []) two d e = absurd two
 are_apart (a ∷ b ∷ []) two d e = two
 are_apart (a ∷ b ∷ c ∷ ls) two d e = absurd two
 
-module _ (clause : ℕ) (a b : Lit) (two : same_literal a b ≡ false) (r0 r1 r2 r3 : WatchLists) (same1 : SameLists r0 r1) (same2 : SameLists r1 r2)
-    (keeps1 : KeepsRoom r0 r1) (keeps2 : KeepsRoom r1 r2) (room2 : HasRoom r2 b 1) (slots3 : length r3 ≡ length r2) where
+module _ (clause : ℕ) (a b : Lit) (two : same_literal a b ≡ false) (r2 r3 : WatchLists) (room2 : HasRoom r2 b 1)
+    (slots3 : length r3 ≡ length r2) where
   pub room_b : HasRoom r3 b 1
   room_b = room_by_length r2 r3 b 1 1 (omega (arith, slots3)) room2
 
@@ -103,14 +103,8 @@ module _ (clause : ℕ) (a b : Lit) (two : same_literal a b ≡ false) (r0 r1 r2
     b_a : same_literal b a ≡ false
     b_a = same_swap b a ∙ two
 
-    module _ (before after : Watches) (watched0 : AreWatched r0 before) (none : watched_by before clause ≡ [])
+    module _ (before after : Watches) (watched2 : AreWatched r2 before) (none : watched_by before clause ≡ [])
         (update : IsUpdate (record_of before) clause (Some made) (record_of after)) where
-      watched2 : AreWatched r2 before
-      watched2 = (same2 before (same1 before watched0).0).0
-
-      lists2 : (l : Lit) → watchers r2 before l ≡ watchers r0 before l
-      lists2 l = (same2 before (same1 before watched0).0).1 l ∙ (same1 before watched0).1 l
-
       kept : (l : Lit) (c : ℕ) → is_clause_in c (watchers r2 before l) ≡ true → link after l c ≡ link before l c
       kept l c m = ap (λ r. next_in r l) (update.1 c ne)
         where
@@ -163,15 +157,35 @@ module _ (clause : ℕ) (a b : Lit) (two : same_literal a b ≡ false) (r0 r1 r2
         linked = λ l. subst (IsChain (link after l) (value_at r4 (literal_index l))) (sym (lists l)) (linked l);
       }
 
-      lists0 : (l : Lit) → watchers r4 after l ≡ started clause (a ∷ b ∷ []) (watchers r0 before) l
-      lists0 l = lists l ∙ ap (λ xs. cond (is_literal_in l (a ∷ b ∷ [])) (clause ∷ xs) xs) (lists2 l)
+    pub starts : Starts r2 made clause r4
+    starts before after watched none update = (watched4 before after watched none update, lists before after watched none update)
 
-    pub starts : Starts r0 made clause r4
-    starts before after watched0 none update = (watched4 before after watched0 none update, lists0 before after watched0 none update)
+    pub started_rooms : (ls : List Lit) → UsesRoom ls r2 r4
+    started_rooms ls l n room = room_by_length r2 r4 l (cond (is_literal_in l ls) (n + 1) n) n (omega (arith, slots3, slots4)) room
 
-    pub started_rooms : (ls : List Lit) → UsesRoom ls r0 r4
-    started_rooms ls l n room =
-        room_by_length r2 r4 l (cond (is_literal_in l ls) (n + 1) n) n (omega (arith, slots3, slots4)) (keeps2 l _ (keeps1 l _ room))
+-- a clause starts to watch in lists that are the same as earlier ones
+module _ (old one two new : WatchLists) where
+  pub starts_since : (w : WatchedLiterals) (clause : ℕ) → SameLists old one → SameLists one two → Starts two w clause new
+      → Starts old w clause new
+  starts_since w clause same1 same2 starts before after watched none update =
+      let first = same1 before watched in
+      let second = same2 before first.0 in
+      let begun = starts before after second.0 none update in
+      (begun.0, λ l. begun.1 l ∙ ap (λ xs. cond (is_literal_in l w.watched_literals) (clause ∷ xs) xs) (second.1 l ∙ first.1 l))
+
+  pub uses_room_since : (ls : List Lit) → KeepsRoom old one → KeepsRoom one two → UsesRoom ls two new → UsesRoom ls old new
+  uses_room_since ls keeps1 keeps2 uses l n room = uses l n (keeps2 l _ (keeps1 l _ room))
+
+-- two literals in whose lists there is room
+pub rooms_of_two : (map : WatchLists) (ls : List Lit) → AreTwo ls → HaveRoom map ls → (d e : Lit)
+    → HasRoom map (slice_index_or ls 0 d) 1 × HasRoom map (slice_index_or ls 1 e) 1
+rooms_of_two map [] two rooms d e = absurd two
+rooms_of_two map (a ∷ []) two rooms d e = absurd two
+rooms_of_two map (a ∷ b ∷ c ∷ ls) two rooms d e = absurd two
+rooms_of_two map (a ∷ b ∷ []) two rooms d e = (
+  rooms a (rw (same_self a) refl),
+  rooms b (rw (same_swap b a ∙ two, same_self b) refl),
+)
 
 -- a slot serves any number of additions
 pub uses_room : (literals : List Lit) (old middle new : WatchLists) → KeepsRoom old middle → KeepsRoom middle new → UsesRoom literals old new

@@ -1,5 +1,5 @@
 -- What the walks over watch lists promise, over the map and the records of all clauses.
-use Rattle.std.specs.Prelude.{◌≡◌, ℕ, Bool, not, ◌&&◌, [], ◌∷◌, ◌++◌, length, Option}
+use Rattle.std.specs.Prelude.{◌≡◌, ℕ, Bool, not, ◌&&◌, List, [], ◌∷◌, ◌++◌, length, Option, fold, max}
 use Rattle.typed_ids.specs.TotalMaps.{IsUpdate}
 use Rattle.decisions.specs.Literals.{Lit}
 use Rattle.watch_map.specs.declared.watched_literals.WatchedLiterals.{WatchedLiterals}
@@ -27,3 +27,11 @@ pub record IsRewatched (map : WatchLists) (watches : Watches) (clause : ℕ) (fr
   pub as_many : length watches' ≡ length watches
   pub literals : IsUpdate (watched_by watches) clause (rewatched from to (watched_by watches clause))
       (watched_by watches')
+
+-- the larger one of a variable, and the variable and the helper of a clause
+abbrev pub larger_variable : ℕ → ℕ × ℕ × Bool → ℕ
+larger_variable largest bit = max largest (max bit.0 bit.1)
+
+-- the largest of the variables and helpers of these clauses; the root's where there is none
+abbrev pub largest_variable : List (ℕ × ℕ × Bool) → ℕ
+largest_variable bits = fold larger_variable 0 bits

@@ -1,9 +1,11 @@
 //! For each literal the list of the clauses that watch it.
-ghost use Rattle.std.specs.Prelude.{◌≡◌, ℕ, [], length, Some, OnOk, OnErr, IfOk, IfErr, IsOk, IfSome};
+ghost use Rattle.std.specs.Prelude.{◌≡◌, ℕ, false, List, [], ◌∷◌, length, Some, OnOk, OnErr, IfOk, IfErr, IsOk, IfSome};
 ghost use Rattle.std.specs.Option.{ForSome};
 ghost use Rattle.typed_ids.specs.declared.error.StoreError.TheVariants.{OutOfMemory};
 ghost use Rattle.typed_ids.specs.TotalMaps.{IsUpdate};
+ghost use Rattle.decisions.specs.Literals.{Lit};
 ghost use Rattle.decisions.specs.LiteralIndex.{literal_index};
+ghost use Rattle.clauses.specs.Clauses.{same_literal};
 ghost use Rattle.id_storage.specs.Mapping.{value_at};
 ghost use Rattle.watch_map.specs.Watching.{AreTwo, IsListCount};
 ghost use Rattle.watch_map.specs.WatchLists.{Watches, watchers, record_of, next_at};
@@ -107,16 +109,34 @@ impl<A: Allocator + Copy> WatchMap<A> {
         let [first, second] = clause.watched_literals;
         self.make_room(first)?;
         self.make_room(second)?;
+        *clause = self.started(first, second, clause_id);
+        Ok(())
+    }
+
+    /// Puts a clause at the front of the lists of two literals, in which there is room. It stands in no list before,
+    /// and the record that it answers belongs at its id from then on. Takes no memory.
+    pub(crate) fn started(
+        &mut self,
+        first: Literal,
+        second: Literal,
+        clause_id: ClauseId,
+    ) -> WatchedLiterals
+        requires two { same_literal first second ≡ false }
+        requires room_first { HasRoom self.old first 1 }
+        requires room_second { HasRoom self.old second 1 }
+        ensures literals { result.watched_literals ≡ first ∷ second ∷ [] }
+        ensures starts { Starts self.old result clause_id self.new }
+        ensures rooms { (literals : List Lit) → UsesRoom literals self.old self.new }
+    {
         let next_of_first = self.put_first(first, clause_id);
         let next_of_second = self.put_first(second, clause_id);
-        *clause = WatchedLiterals {
+        WatchedLiterals {
             watched_literals: [first, second],
             next_watches: [
                 NextClause::new(next_of_first),
                 NextClause::new(next_of_second),
             ],
-        };
-        Ok(())
+        }
     }
 
     /// The position at the front of the literal's list, `None` where nothing watches it. Takes no memory.

@@ -7,7 +7,7 @@ ghost use Rattle.watch_map.specs.WatchLists.{literals_in, watchers, AreWatched, 
 ghost use Rattle.watch_map.specs.WatchCalls.{SameLists, KeepsRoom, UsesRoom, HaveRoom, HaveRooms, StandsIn};
 ghost use Rattle.watch_map.specs.ClauseList.{helper_literal, bit_watches, literals_watched, two_or_none};
 ghost use Rattle.clauses.specs.declared.clause.Clause.TheVariants.{ForbidMultipleInstances};
-ghost use Rattle.watch_map.specs.Walks.{StartsAtEnd, IsRewatched, may_rewatch};
+ghost use Rattle.watch_map.specs.Walks.{StartsAtEnd, IsRewatched, may_rewatch, largest_variable};
 
 use crate::cursor::WatchMapCursor;
 use crate::lists::WatchMap;
@@ -49,11 +49,8 @@ pub(crate) fn started<A: Allocator + Copy>(
     ensures starts { StartsAtEnd map.old result id map.new }
     ensures rooms { UsesRoom (literals_in watches) map.old map.new }
 {
-    let mut watched = watches?;
-    match map.start_watching(&mut watched, id) {
-        Ok(()) => Some(watched),
-        Err(_) => unreachable!(),
-    }
+    let [first, second] = watches?.watched_literals;
+    Some(map.started(first, second, id))
 }
 
 /// The clause "not x or h" of a variable x, a helper h and `true`, or "not x or not h" of these and `false`, with what
@@ -69,7 +66,8 @@ pub(crate) fn forbidden<N>(
     WatchedLiterals::forbid_multiple(variable, Literal::new(helper, !is_positive), name)
 }
 
-/// Makes room in the lists of what each of these clauses watches, for as many additions as there are clauses.
+/// Makes room in the lists of what each of these clauses watches, for as many additions as there are clauses: the slots
+/// up to the last of the literals of their largest variable serve all.
 pub(crate) fn make_rooms<A: Allocator + Copy>(
     map: &mut WatchMap<A>,
     clauses: &[(VariableId, VariableId, bool)],
@@ -80,27 +78,20 @@ pub(crate) fn make_rooms<A: Allocator + Copy>(
         (All (λ bit. HaveRooms map.new (length clauses.now) (two_or_none (bit_watches bit))) clauses.now) }
     ensures memory { IfErr result (λ e. e ≡ OutOfMemory) }
 {
-    for clause in clauses {
-        make_rooms_of(map, *clause, clauses.len())?;
-    }
-    Ok(())
+    let largest = largest_variable(clauses);
+    map.make_room_many(Literal::new(largest, true), clauses.len())
 }
 
-/// Makes room for so many additions in the lists of what a clause watches.
-fn make_rooms_of<A: Allocator + Copy>(
-    map: &mut WatchMap<A>,
-    clause: (VariableId, VariableId, bool),
-    additions: usize,
-) -> Result<(), StoreError>
-    ensures lists { SameLists map.old map.new }
-    ensures rooms { KeepsRoom map.old map.new }
-    ensures room { OnOk result (HaveRooms map.new additions (two_or_none (bit_watches clause))) }
-    ensures memory { IfErr result (λ e. e ≡ OutOfMemory) }
+/// The largest of the variables and helpers of these clauses; the root's where there is no clause.
+fn largest_variable(clauses: &[(VariableId, VariableId, bool)]) -> VariableId
+    ensures { result ≡ largest_variable clauses.now }
 {
-    let (variable, helper, is_positive) = clause;
-    map.make_room_many(Literal::new(variable, true), additions)?;
-    map.make_room_many(Literal::new(helper, !is_positive), additions)?;
-    Ok(())
+    let mut largest = 0;
+    for clause in clauses {
+        let (variable, helper, _) = *clause;
+        largest = largest.max(variable.to_index().max(helper.to_index()));
+    }
+    VariableId::from_index(largest)
 }
 
 /// Lets a clause watch another literal in the place of one, if it watches the one and not the other.

@@ -1,11 +1,9 @@
-use Rattle.std.proofs.Common.{ℕ, Bool, false, length, subst, arith}
-use Rattle.std.proofs.lemmas.List.{get_or_default}
-use Rattle.watch_map.specs.WatchCalls.{HaveRooms}
-use Rattle.watch_map.specs.ClauseList.{bit_watches, two_or_none}
+use Rattle.std.proofs.Common.{length}
+use Rattle.watch_map.proofs.LargestLaws.{rooms_for_all}
 use Rattle.watch_map.proofs.walks.make_rooms.Goals as goal
 
 pub returns-clause-room : goal.returns-clause-room
-returns-clause-room g c k d within =
-    let past = c.loop-clause-test.false in
-    subst (λ (bit : ℕ × ℕ × Bool). HaveRooms c.loop-clause.map (length c.args.clauses.now) (two_or_none (bit_watches bit)))
-    (get_or_default c.args.clauses.now k (0, 0, false) d within) (c.loop-clause.invariant.rooms k (omega (arith, past, within)))
+returns-clause-room g c =
+    rooms_for_all c.make_room_many.result c.make_room_many.new.self c.new.result (length c.args.clauses.now)
+    c.largest_variable-largest.result c.args.clauses.now c.new.ensures c.largest_variable-largest.ensures
+    c.make_room_many.ensures.room

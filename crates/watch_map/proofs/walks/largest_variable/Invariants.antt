@@ -1,0 +1,9 @@
+use Rattle.std.proofs.Common.{◌≡◌, ◌-◌, ◌<◌, ◌^◌, take}
+use Rattle.watch_map.specs.Walks.{largest_variable}
+use Rattle.watch_map.proofs.walks.largest_variable.Given as goal
+
+abbrev pub invariant-loop-clause : goal.invariant-loop-clause
+invariant-loop-clause l = record {
+  largest : l.largest ≡ largest_variable (take l.clause-index l.clauses);
+  below : l.largest < 2 ^ 31 - 1;
+}
