@@ -81,6 +81,7 @@ impl<N: Copy, S: SolverId<A>, A: Allocator + Copy> VariableMap<N, S, A> {
     }
 
     /// The variable of the solvable. One that has none yet gets the next.
+    #[inline(always)]
     pub fn intern_solvable(&mut self, solvable: S) -> Result<VariableId, StoreError>
         ensures variable { IfOk result (λ v. v ≡ interned_variable S.eq self.old solvable) }
         ensures ok { OnOk result (self.new ≡ with_variable S.eq self.old solvable) }
