@@ -34,7 +34,7 @@ use crate::solvable::Solvable;
 use crate::union_sets::UnionSets;
 use crate::version_set::VersionSet;
 use id_storage::{Arena, ArenaIter};
-use indexmap::IndexSet;
+use indexmap::{Equivalent, IndexSet};
 use providers::Condition;
 use std::alloc::{Allocator, Global};
 use std::hash::{BuildHasherDefault, FoldHasher, Hash};
@@ -154,6 +154,14 @@ impl<VS: VersionSet, N: Eq + Hash, A: Allocator + Copy> Pool<VS, N, A> {
     /// The id of a name, if an equal one is in the pool.
     pub fn lookup_package_name(&self, name: &N) -> Option<NameId>
         ensures { result ≡ position (N.eq name.now) self.now.names }
+    {
+        self.find_package_name(name)
+    }
+
+    /// The id of a name that this stands for, if it is in the pool: of names that are strings, a `&str` asks for one
+    /// with no `String` made.
+    pub fn find_package_name<Q: Equivalent<N>>(&self, name: Q) -> Option<NameId>
+        ensures { result ≡ position (Q.equivalent name) self.now.names }
     {
         let index = self.names.get_index_of(name)?;
         Some(NameId::from_index(index))
