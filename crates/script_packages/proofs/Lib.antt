@@ -1,3 +1,4 @@
+pub mod Found
 pub mod Names
 pub mod Numbering
 pub mod Preferences

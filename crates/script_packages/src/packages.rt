@@ -106,7 +106,7 @@ impl Packages {
         match line {
             CatalogueLine::Package { name, versions } => self.add_package(name, versions),
             CatalogueLine::Set { name, low, high } => {
-                let name = self.name(name)?;
+                let name = self.known_or_new(name)?;
                 let (low, high) = (*low, *high);
                 self.add_set(name, VersionRange { low, high })
             }
@@ -358,6 +358,20 @@ impl Packages {
             .insert_copy(name, span)
             .map_err(|_| LineFault::Memory)?;
         Ok(())
+    }
+
+    /// The id of a name, which gets one if it has none. No text is made of a known one.
+    fn known_or_new(&mut self, name: &str) -> Result<NameId, LineFault>
+        ensures number { IfOk result (λ n. n ≡ name_number (listing_of self.old) name.now) }
+        ensures ok { OnOk result (listing_of self.new ≡ named (listing_of self.old) name.now) }
+        ensures known { IfOk result (λ n. n < length self.new.pool.names) }
+        ensures err { IfErr result (λ e. e ≡ Memory) }
+        ensures kept { OnErr result (listing_of self.new ≡ listing_of self.old) }
+    {
+        match self.pool.find_package_name(name) {
+            Some(known) => Ok(known),
+            None => self.name(name),
+        }
     }
 
     /// The id of a name, which gets one if it has none.
