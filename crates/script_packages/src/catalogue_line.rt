@@ -7,9 +7,9 @@ ghost use Rattle.script_packages.specs.CatalogueLines.{plain_line, plain, entry_
 ghost use Rattle.script_packages.specs.CatalogueLines.{said_of, package_of, set_of, union_of, condition_of, string_of};
 ghost use Rattle.script_packages.specs.CatalogueLines.{set_condition, operator_of, joined_condition, begin_of};
 
-use crate::ids::id;
+use crate::ids::{id, id_of};
 use providers::{Condition, LogicalOperator};
-use script_text::{Line, Statement, is_word, next_word, text_of};
+use script_text::{Line, Statement, is_word, next_number, next_word, text_of};
 use typed_ids::VersionSetId;
 
 /// What a line up to `begin` says.
@@ -85,13 +85,13 @@ fn set(text: &[u8]) -> Option<CatalogueLine<'_>>
     ensures { plain result ≡ set_of (words text.now) }
 {
     let (name, text) = next_word(text)?;
-    let (low, text) = next_word(text)?;
-    let (high, text) = next_word(text)?;
+    let (low, text) = next_number(text)?;
+    let (high, text) = next_number(text)?;
     match next_word(text) {
         Some(_) => None,
         None => {
             let name = text_of(name);
-            let (low, high) = (id(low)?, id(high)?);
+            let (low, high) = (id_of(&low)?, id_of(&high)?);
             Some(CatalogueLine::Set { name, low, high })
         }
     }
