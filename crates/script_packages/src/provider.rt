@@ -207,7 +207,7 @@ fn numbers(alloc: Global, span: Span) -> Result<Vec<SolvableId>, StoreError>
     let end = span.last.to_index() + 1;
     let mut found = Vec::with_capacity(alloc, end.saturating_sub(first))?;
     for i in first..end {
-        found.push(SolvableId::from_index(i))?;
+        found.push_reserved(SolvableId::from_index(i));
     }
     Ok(found)
 }
