@@ -2,6 +2,7 @@ pub mod Found
 pub mod Names
 pub mod Numbering
 pub mod Preferences
+pub mod Ranges
 pub mod Sorting
 pub mod Spans
 pub mod Stars

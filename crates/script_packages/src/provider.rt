@@ -1,5 +1,5 @@
 //! The provider of a script's packages.
-ghost use Rattle.std.specs.Prelude.{◌≡◌, ◌+◌, ◌-◌, [], IfSome, length, slice_get};
+ghost use Rattle.std.specs.Prelude.{◌≡◌, ◌≤◌, ◌+◌, ◌-◌, [], IfSome, length, slice_get, take};
 ghost use Rattle.std.specs.Prelude.{option_and_then, IfOk, OnOk, OnErr, IfErr};
 ghost use Rattle.typed_ids.specs.declared.error.StoreError.TheVariants.{OutOfMemory};
 ghost use Rattle.providers.specs.Provider.{candidates_of, favored_of, filtered};
@@ -19,6 +19,9 @@ use typed_ids::{
     ConditionId, DenseIndex, NameId, SolvableId, StoreError, StringId, VersionSetId,
     VersionSetUnionId,
 };
+
+/// Of so many candidates at most, those in a range are put on the stack first, so that each is looked at once.
+const SHORT: usize = 128;
 
 impl Interner for Packages {
     ghost use Rattle.script_packages.specs.PackageAnswers.{universe_of, texts_of};
@@ -221,6 +224,67 @@ fn solvable_at(solvables: &[SolvableId], place: Option<usize>) -> Option<Solvabl
 
 /// The solvables whose versions are in the range, or, if `inverse`, the others. They get the room that they need.
 fn within(
+    alloc: Global,
+    pool: &Pool<VersionRange>,
+    candidates: &[SolvableId],
+    range: VersionRange,
+    inverse: bool,
+) -> Result<Vec<SolvableId>, StoreError>
+    ensures ok { IfOk result (λ found. found.items ≡
+        filtered (λ s. is_within range (version_at pool.now.solvables s)) inverse candidates.now) }
+    ensures err { IfErr result (λ e. e ≡ OutOfMemory) }
+{
+    if candidates.len() <= SHORT {
+        short_within(alloc, pool, candidates, range, inverse)
+    } else {
+        long_within(alloc, pool, candidates, range, inverse)
+    }
+}
+
+/// The same of a short list, whose members are looked at once.
+fn short_within(
+    alloc: Global,
+    pool: &Pool<VersionRange>,
+    candidates: &[SolvableId],
+    range: VersionRange,
+    inverse: bool,
+) -> Result<Vec<SolvableId>, StoreError>
+    requires { length candidates.now ≤ 128 }
+    ensures ok { IfOk result (λ found. found.items ≡
+        filtered (λ s. is_within range (version_at pool.now.solvables s)) inverse candidates.now) }
+    ensures err { IfErr result (λ e. e ≡ OutOfMemory) }
+{
+    let mut places = [SolvableId::from_index(0); SHORT];
+    let count = put_within(pool, candidates, range, inverse, &mut places);
+    Ok(Vec::from_slice(alloc, &places[..count])?)
+}
+
+/// Puts those that are within in the first places, and answers how many they are.
+fn put_within(
+    pool: &Pool<VersionRange>,
+    candidates: &[SolvableId],
+    range: VersionRange,
+    inverse: bool,
+    places: &mut [SolvableId],
+) -> usize
+    requires { length candidates.now ≤ length places.old }
+    ensures count { result ≤ length candidates.now }
+    ensures within { take result places.new ≡
+        filtered (λ s. is_within range (version_at pool.now.solvables s)) inverse candidates.now }
+{
+    let mut count = 0;
+    for solvable in candidates {
+        if holds(pool, range, *solvable) != inverse {
+            places[count] = *solvable;
+            count += 1;
+        }
+    }
+    count
+}
+
+/// The same of a long list, whose members are looked at twice: first they are counted.
+#[inline(never)]
+fn long_within(
     alloc: Global,
     pool: &Pool<VersionRange>,
     candidates: &[SolvableId],

@@ -1,6 +1,6 @@
 use Rattle.std.proofs.Common.{arith}
 use Rattle.std.proofs.lemmas.Grind.{common_steps}
-use Rattle.script_packages.proofs.provider.within.Goals as goal
+use Rattle.script_packages.proofs.provider.long_within.Goals as goal
 
 pub returns-in_err-push-clause-ok : goal.returns-in_err-push-clause-ok
 returns-in_err-push-clause-ok c = grind (arith, common_steps)
