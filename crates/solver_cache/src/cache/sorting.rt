@@ -146,15 +146,42 @@ impl<D: DependencyProvider + Drop> SolverCache<D> {
             D.SolvableId.Set.has self.old
             (sets_of (D.universe self.old.provider) requirement) e self.new) }
     {
-        let sets = Vec::from_slice(
-            self.alloc,
-            requirement.version_sets(&self.provider).as_slice(),
-        )?;
         let mut ids = Vec::new(self.alloc);
-        self.sort_all(&sets, &mut ids)?;
+        self.sort_each(requirement, &mut ids)?;
         // What is true of each cache is true of this one: a look at a field tells it.
         let _provider = &self.provider;
         Ok(ids)
+    }
+
+    /// Sorts the candidates of a requirement's version sets, and notes where each list is kept. Of one version set it
+    /// takes no memory for the list of sets.
+    fn sort_each(
+        &mut self,
+        requirement: Requirement,
+        ids: &mut Vec<ListId, D::Alloc>,
+    ) -> Result<(), CacheError<D::Cancel>>
+        requires known { knows_requirement (D.universe self.old.provider) requirement ≡ true }
+        requires empty { ids.old.items ≡ [] }
+        ensures sorted { OnOk result (SortsSets
+            (⟦<D as ProviderFunctions>⟧.functions self.old.provider) (D.may_answer self.old.provider)
+            D.SolvableId.Set.has self.old
+            (sets_of (D.universe self.old.provider) requirement) self.new) }
+        ensures lists { OnOk result
+            (AreListed (⟦<D as ProviderFunctions>⟧.functions self.old.provider) self.new ids.new.items
+            (sets_of (D.universe self.old.provider) requirement)) }
+        ensures refused { IfErr result (λ e. RefusesSets
+            (⟦<D as ProviderFunctions>⟧.functions self.old.provider) (D.may_answer self.old.provider)
+            D.SolvableId.Set.has self.old
+            (sets_of (D.universe self.old.provider) requirement) e self.new) }
+    {
+        match requirement {
+            Requirement::Single(set) => self.sort_all(&[set], ids),
+            Requirement::Union(_) => {
+                let sets = requirement.version_sets(&self.provider);
+                let sets = Vec::from_slice(self.alloc, sets.as_slice())?;
+                self.sort_all(&sets, ids)
+            }
+        }
     }
 
     /// Sorts the candidates of version sets in turn, and notes where each list is kept.

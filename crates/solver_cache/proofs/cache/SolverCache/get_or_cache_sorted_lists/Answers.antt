@@ -5,11 +5,7 @@ use Rattle.std.specs.Prelude.{All}
 use Rattle.providers.specs.Provider.{sets_of}
 use Rattle.solver_cache.specs.Cache.{is_set_asked}
 use Rattle.solver_cache.specs.Functions.{gathered}
-use Rattle.typed_ids.specs.declared.error.StoreError.TheVariants.{OutOfMemory}
-use Rattle.solver_cache.specs.declared.error.CacheError.TheVariants.{Store}
-use Rattle.solver_cache.proofs.CacheLemmas.{handed_on, later_same}
 use Rattle.solver_cache.proofs.IdLemmas.{all_asked_fit}
-use Rattle.solver_cache.proofs.UnansweredLemmas.{none_sorted}
 use Rattle.solver_cache.proofs.cache.SolverCache.get_or_cache_sorted_lists.Goals as goal
 
 pub returns-clause-answered : goal.returns-clause-answered
@@ -19,8 +15,8 @@ returns-clause-answered g c =
     D.SolvableId.Set.IdSet.is_too_large D.NameId.SolverId.are_many D.Interner.universe D.DependencyProvider.answers in
     let r = c.args.requirement in
     let old = c.args.self.now in
-    let new = c.sort_all.new.self in
-    let done = c.in_ok-sort_all.ensures.sorted in
+    let new = c.sort_each.new.self in
+    let done = c.in_ok-sort_each.ensures.sorted in
     let inside = c.self-2.inside.provider in
     let same : inside ≡ old.provider = ap (λ v. v.provider) c.self-2.view_is ∙ done.later.provider in
     let asked : All (λ v. is_set_asked (provided old.provider) new v ≡ true) (sets_of (D.Interner.universe old.provider) r) = search rules in
@@ -34,11 +30,3 @@ returns-clause-answered g c =
           (subst (λ st. All (λ v. is_set_asked (provided inside) st v ≡ true) (sets_of (D.Interner.universe inside) r)) (sym c.self-2.view_is)
           (subst (λ q. All (λ v. is_set_asked (provided q) new v ≡ true) (sets_of (D.Interner.universe q) r)) (sym same) asked)));
     }
-
-pub returns-in_err-sets-clause-refused : goal.returns-in_err-sets-clause-refused
-returns-in_err-sets-clause-refused g c =
-    handed_on _ c.from_residual.result (Store OutOfMemory) c.from_residual.ensures.1 (rw (sym c.self.view_is) (record {
-      reason = tt;
-      left = none_sorted _ _ _ _ _;
-      later = later_same _ _;
-    }))

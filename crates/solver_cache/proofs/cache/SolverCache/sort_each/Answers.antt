@@ -1,0 +1,14 @@
+use Rattle.std.proofs.Common.{rules, sym}
+use Rattle.typed_ids.specs.declared.error.StoreError.TheVariants.{OutOfMemory}
+use Rattle.solver_cache.specs.declared.error.CacheError.TheVariants.{Store}
+use Rattle.solver_cache.proofs.CacheLemmas.{handed_on, later_same}
+use Rattle.solver_cache.proofs.UnansweredLemmas.{none_sorted}
+use Rattle.solver_cache.proofs.cache.SolverCache.sort_each.Goals as goal
+
+pub returns-in_err-sets-in-Union-clause-refused : goal.returns-in_err-sets-in-Union-clause-refused
+returns-in_err-sets-in-Union-clause-refused g c =
+    handed_on _ c.from_residual.result (Store OutOfMemory) c.from_residual.ensures.1 (rw (sym c.self.view_is) (record {
+      reason = tt;
+      left = none_sorted _ _ _ _ _;
+      later = later_same _ _;
+    }))
