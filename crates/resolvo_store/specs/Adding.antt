@@ -25,6 +25,17 @@ module _ {N S : Type 0} where
   adding (Kind.AnyOf selected other) = AnyOf selected other
   adding _ = Decide
 
+  -- a command names a clause whole
+  abbrev pub names_clause : Command N S → Bool
+  names_clause Root = true
+  names_clause (Constrains a b v) = true
+  names_clause (ConstrainsExcluded a aux v) = true
+  names_clause (ConstrainsParent a aux v) = true
+  names_clause (Lock locked other) = true
+  names_clause (Exclude a reason) = true
+  names_clause (AnyOf selected other) = true
+  names_clause _ = false
+
   -- whether all is known that it names, where there are so many variables
   abbrev pub names_known : Universe N S → ℕ → Clause N → Bool
   names_known universe variables Kind.InstallRoot = true

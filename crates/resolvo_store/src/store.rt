@@ -42,7 +42,7 @@ use crate::abstract_store::AbstractStore;
 use crate::command::Command;
 use crate::reply::Reply;
 use at_most_once::NameTrackers;
-use clauses::{Clause, Disjunction};
+use clauses::Disjunction;
 use decisions::DecisionTracker;
 use id_maps::{IdMap, IdSet, Scores, SolverId};
 use id_storage::Arena;
@@ -223,21 +223,13 @@ impl<D: DependencyProvider + Drop> ClauseStore<D> {
             Command::Requires(parent, requirement, disjunction) => {
                 replied(self.requires_clause(*parent, *requirement, *disjunction))
             }
-            Command::Root => replied(self.add(Clause::InstallRoot)),
-            Command::Constrains(parent, forbidden, set) => {
-                replied(self.add(Clause::Constrains(*parent, *forbidden, *set)))
-            }
-            Command::ConstrainsExcluded(candidate, aux, set) => {
-                replied(self.add(Clause::ConstrainsExcluded(*candidate, *aux, *set)))
-            }
-            Command::ConstrainsParent(parent, aux, set) => {
-                replied(self.add(Clause::ConstrainsParent(*parent, *aux, *set)))
-            }
-            Command::Lock(locked, other) => replied(self.add(Clause::Lock(*locked, *other))),
-            Command::Exclude(variable, reason) => replied(self.add(Clause::Excluded(
-                *variable, *reason,
-            ))),
-            Command::AnyOf(selected, other) => replied(self.add(Clause::AnyOf(*selected, *other))),
+            Command::Root
+            | Command::Constrains(_, _, _)
+            | Command::ConstrainsExcluded(_, _, _)
+            | Command::ConstrainsParent(_, _, _)
+            | Command::Lock(_, _)
+            | Command::Exclude(_, _)
+            | Command::AnyOf(_, _) => self.add_named(command),
             Command::Learnt(literals) => replied(self.learnt(literals)),
             Command::Assign(variable, value, clause, level) => {
                 replied(self.assign(*variable, *value, *clause, *level))

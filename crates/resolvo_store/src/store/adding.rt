@@ -1,5 +1,5 @@
 //! The commands that add clauses of any kind but `Requires`.
-ghost use Rattle.std.specs.Prelude.{◌≡◌, ◌<◌, true, false, length, Err, IsTrue, IfOk, OnOk, OnErr, IfErr};
+ghost use Rattle.std.specs.Prelude.{◌≡◌, ◌<◌, true, false, length, Err, None, IsTrue, IfSome, IfOk, OnOk, OnErr, IfErr};
 ghost use Rattle.typed_ids.specs.declared.error.StoreError.TheVariants.{IdSpace};
 ghost use Rattle.typed_ids.specs.Refusals.{IsGrowthRefusal};
 ghost use Rattle.decisions.specs.Trail.{val};
@@ -7,14 +7,15 @@ ghost use Rattle.clauses.specs.Clauses.{Kept, first_watches, is_conflict};
 ghost use Rattle.watch_map.specs.Watching.{AreTwoOrNone};
 ghost use Rattle.watch_map.specs.ClauseList.{contents, literals_watched, two_or_none, is_full, is_learnt_full};
 ghost use Rattle.watch_map.specs.ClauseList.{with_clause, with_learnt};
-ghost use Rattle.resolvo_store.specs.Adding.{is_direct, names_known};
-ghost use Rattle.resolvo_store.specs.Command.{ClauseIs, reply_of};
+ghost use Rattle.resolvo_store.specs.Adding.{adding, is_direct, names_clause, names_known};
+ghost use Rattle.resolvo_store.specs.Command.{ClauseIs, command_of, reply_of};
 ghost use Rattle.resolvo_store.specs.Refusals.{is_bad_learnt};
 
 use crate::abstract_store::AbstractStore;
+use crate::command::Command;
 use crate::reply::Reply;
-use crate::store::ClauseStore;
 use crate::store::known::{are_below, knows_literals};
+use crate::store::{ClauseStore, replied};
 use clauses::Clause;
 use decisions::{DecisionTracker, Literal};
 use providers::{DependencyProvider, Interner};
@@ -23,17 +24,33 @@ use typed_ids::{DenseIndex, StoreError, VariableId};
 use watch_map::{ClauseList, WatchedLiterals};
 
 impl<D: DependencyProvider + Drop> ClauseStore<D> {
-    ghost use Rattle.resolvo_store.specs.Adding.{adding};
-    ghost use Rattle.resolvo_store.specs.Command.{Learnt, answer_of, IsRefused};
+    ghost use Rattle.resolvo_store.specs.Command.{Learnt, answer_of};
     ghost use Rattle.resolvo_store.specs.Step.{Step};
+
+    /// Adds the clause that a command names whole. It is apart from `dispatch` so that no other command pays for it.
+    #[inline(never)]
+    pub(super) fn add_named(
+        &mut self,
+        command: &Command<D::NameId, D::SolvableId, D::Alloc>,
+    ) -> Reply<D::Alloc>
+        requires { names_clause (command_of command.now) ≡ true }
+        ensures step { Step (⟦<D as AbstractStore>⟧.store self.old) (command_of command.now)
+            (reply_of result) (⟦<D as AbstractStore>⟧.store self.new) }
+        ensures provider { self.new.provider ≡ self.old.provider }
+        ensures asked { self.new.asked ≡ self.old.asked }
+    {
+        match clause_named(command) {
+            Some(clause) => replied(self.add(clause)),
+            None => unreachable!(),
+        }
+    }
 
     /// Adds a clause that its command names whole: one that is neither registered for decisions, nor tracked, nor
     /// learnt.
-    pub(super) fn add(&mut self, clause: Clause<D::NameId>) -> Result<Reply<D::Alloc>, StoreError>
+    fn add(&mut self, clause: Clause<D::NameId>) -> Result<Reply<D::Alloc>, StoreError>
         requires { is_direct clause ≡ true }
         ensures step { Step (⟦<D as AbstractStore>⟧.store self.old) (adding clause)
             (answer_of result) (⟦<D as AbstractStore>⟧.store self.new) }
-        ensures answered { IfOk result (λ reply. IsRefused (reply_of reply) → ⊥) }
         ensures provider { self.new.provider ≡ self.old.provider }
         ensures asked { self.new.asked ≡ self.old.asked }
     {
@@ -52,7 +69,6 @@ impl<D: DependencyProvider + Drop> ClauseStore<D> {
     pub(super) fn learnt(&mut self, literals: &[Literal]) -> Result<Reply<D::Alloc>, StoreError>
         ensures step { Step (⟦<D as AbstractStore>⟧.store self.old) (Learnt literals.now)
             (answer_of result) (⟦<D as AbstractStore>⟧.store self.new) }
-        ensures answered { IfOk result (λ reply. IsRefused (reply_of reply) → ⊥) }
         ensures provider { self.new.provider ≡ self.old.provider }
         ensures asked { self.new.asked ≡ self.old.asked }
     {
@@ -67,6 +83,29 @@ impl<D: DependencyProvider + Drop> ClauseStore<D> {
         self.clauses
             .forget_false_from(first, &mut self.marks, &self.trail);
         reply
+    }
+}
+
+/// The clause that a command names whole, if it does.
+fn clause_named<N: Copy, S, A: Allocator>(command: &Command<N, S, A>) -> Option<Clause<N>>
+    ensures named { IfSome result (λ clause. (is_direct clause ≡ true) × (adding clause ≡ command_of command.now)) }
+    ensures none { result ≡ None → names_clause (command_of command.now) ≡ false }
+{
+    match command {
+        Command::Root => Some(Clause::InstallRoot),
+        Command::Constrains(parent, forbidden, set) => {
+            Some(Clause::Constrains(*parent, *forbidden, *set))
+        }
+        Command::ConstrainsExcluded(candidate, aux, set) => {
+            Some(Clause::ConstrainsExcluded(*candidate, *aux, *set))
+        }
+        Command::ConstrainsParent(parent, aux, set) => {
+            Some(Clause::ConstrainsParent(*parent, *aux, *set))
+        }
+        Command::Lock(locked, other) => Some(Clause::Lock(*locked, *other)),
+        Command::Exclude(variable, reason) => Some(Clause::Excluded(*variable, *reason)),
+        Command::AnyOf(selected, other) => Some(Clause::AnyOf(*selected, *other)),
+        _ => None,
     }
 }
 

@@ -1,5 +1,5 @@
 //! The commands that change the trail: `Assign`, `UndoLast`, `UndoUntil` and `Unpropagated`.
-ghost use Rattle.std.specs.Prelude.{◌≡◌, IfOk};
+ghost use Rattle.std.specs.Prelude.{◌≡◌};
 
 use crate::abstract_store::AbstractStore;
 use crate::reply::Reply;
@@ -10,7 +10,6 @@ use typed_ids::{ClauseId, DenseIndex, StoreError, VariableId};
 
 impl<D: DependencyProvider + Drop> ClauseStore<D> {
     ghost use Rattle.resolvo_store.specs.Command.{Assign, UndoLast, UndoUntil, Unpropagated, answer_of, reply_of};
-    ghost use Rattle.resolvo_store.specs.Command.{IsRefused};
     ghost use Rattle.resolvo_store.specs.Step.{Step};
     ghost use Rattle.resolvo_store.specs.Walks.{taken_back};
 
@@ -24,7 +23,6 @@ impl<D: DependencyProvider + Drop> ClauseStore<D> {
     ) -> Result<Reply<D::Alloc>, StoreError>
         ensures step { Step (⟦<D as AbstractStore>⟧.store self.old) (Assign variable value clause level)
             (answer_of result) (⟦<D as AbstractStore>⟧.store self.new) }
-        ensures answered { IfOk result (λ reply. IsRefused (reply_of reply) → ⊥) }
         ensures provider { self.new.provider ≡ self.old.provider }
         ensures asked { self.new.asked ≡ self.old.asked }
     {
@@ -49,7 +47,6 @@ impl<D: DependencyProvider + Drop> ClauseStore<D> {
     pub(super) fn undo_last(&mut self) -> Result<Reply<D::Alloc>, StoreError>
         ensures step { Step (⟦<D as AbstractStore>⟧.store self.old) UndoLast
             (answer_of result) (⟦<D as AbstractStore>⟧.store self.new) }
-        ensures answered { IfOk result (λ reply. IsRefused (reply_of reply) → ⊥) }
         ensures provider { self.new.provider ≡ self.old.provider }
         ensures asked { self.new.asked ≡ taken_back (⟦<D as AbstractStore>⟧.store self.new).trail self.old.asked }
     {
@@ -66,7 +63,6 @@ impl<D: DependencyProvider + Drop> ClauseStore<D> {
     pub(super) fn undo_until(&mut self, level: u32) -> Reply<D::Alloc>
         ensures step { Step (⟦<D as AbstractStore>⟧.store self.old) (UndoUntil level)
             (reply_of result) (⟦<D as AbstractStore>⟧.store self.new) }
-        ensures answered { IsRefused (reply_of result) → ⊥ }
         ensures provider { self.new.provider ≡ self.old.provider }
         ensures asked { self.new.asked ≡ taken_back (⟦<D as AbstractStore>⟧.store self.new).trail self.old.asked }
     {
@@ -80,7 +76,6 @@ impl<D: DependencyProvider + Drop> ClauseStore<D> {
     pub(super) fn unpropagated(&mut self) -> Reply<D::Alloc>
         ensures step { Step (⟦<D as AbstractStore>⟧.store self.old) Unpropagated
             (reply_of result) (⟦<D as AbstractStore>⟧.store self.new) }
-        ensures answered { IsRefused (reply_of result) → ⊥ }
         ensures provider { self.new.provider ≡ self.old.provider }
         ensures asked { self.new.asked ≡ self.old.asked }
     {

@@ -12,7 +12,7 @@ use resolvo_queue::{QueueDecision, RowReader};
 use typed_ids::{ClauseId, StoreError};
 
 impl<D: DependencyProvider + Drop> ClauseStore<D> {
-    ghost use Rattle.resolvo_store.specs.Command.{Decide, answer_of, reply_of, IsRefused};
+    ghost use Rattle.resolvo_store.specs.Command.{Decide, answer_of};
     ghost use Rattle.resolvo_store.specs.Outcome.{falsified_clause, is_eligible_clause, offers, picked};
     ghost use Rattle.resolvo_store.specs.Step.{Step};
     ghost use Rattle.resolvo_store.specs.Walks.{Asks, AsksOnce, IsTold};
@@ -21,7 +21,6 @@ impl<D: DependencyProvider + Drop> ClauseStore<D> {
     pub(super) fn decide(&mut self) -> Result<Reply<D::Alloc>, StoreError>
         ensures step { Step (⟦<D as AbstractStore>⟧.store self.old) Decide
             (answer_of result) (⟦<D as AbstractStore>⟧.store self.new) }
-        ensures answered { IfOk result (λ reply. IsRefused (reply_of reply) → ⊥) }
         ensures provider { self.new.provider ≡ self.old.provider }
         ensures asked { let old = ⟦<D as AbstractStore>⟧.store self.old in
             Asks old Decide (answer_of result) old.trail self.old.asked self.new.asked }

@@ -25,7 +25,7 @@ use typed_ids::{StoreError, VariableId};
 use variables::{VariableLists, VariableMap};
 
 impl<D: DependencyProvider + Drop> ClauseStore<D> {
-    ghost use Rattle.resolvo_store.specs.Command.{Variable, Helper, Load, answer_of, LoadedAs, Refused, IsRefused};
+    ghost use Rattle.resolvo_store.specs.Command.{Variable, Helper, Load, answer_of, LoadedAs, Refused};
     ghost use Rattle.resolvo_store.specs.Store.{lists_of};
     ghost use Rattle.resolvo_store.specs.Step.{Step, IsAnswered, lacks_ids, may_be_refused};
     ghost use Rattle.resolvo_store.specs.Outcome.{origins_loaded, variables_loaded};
@@ -37,7 +37,6 @@ impl<D: DependencyProvider + Drop> ClauseStore<D> {
     ) -> Result<Reply<D::Alloc>, StoreError>
         ensures step { Step (⟦<D as AbstractStore>⟧.store self.old) (Variable solvable)
             (answer_of result) (⟦<D as AbstractStore>⟧.store self.new) }
-        ensures answered { IfOk result (λ reply. IsRefused (reply_of reply) → ⊥) }
         ensures provider { self.new.provider ≡ self.old.provider }
         ensures asked { self.new.asked ≡ self.old.asked }
     {
@@ -55,7 +54,6 @@ impl<D: DependencyProvider + Drop> ClauseStore<D> {
     ) -> Result<Reply<D::Alloc>, StoreError>
         ensures step { Step (⟦<D as AbstractStore>⟧.store self.old) (Helper origin)
             (answer_of result) (⟦<D as AbstractStore>⟧.store self.new) }
-        ensures answered { IfOk result (λ reply. IsRefused (reply_of reply) → ⊥) }
         ensures provider { self.new.provider ≡ self.old.provider }
         ensures asked { self.new.asked ≡ self.old.asked }
     {
@@ -69,7 +67,6 @@ impl<D: DependencyProvider + Drop> ClauseStore<D> {
     pub(super) fn load(&mut self, requirement: Requirement) -> Result<Reply<D::Alloc>, StoreError>
         ensures step { Step (⟦<D as AbstractStore>⟧.store self.old) (Load requirement)
             (answer_of result) (⟦<D as AbstractStore>⟧.store self.new) }
-        ensures answered { IfOk result (λ reply. IsRefused (reply_of reply) → ⊥) }
         ensures provider { self.new.provider ≡ self.old.provider }
         ensures asked { self.new.asked ≡ self.old.asked }
     {

@@ -1,6 +1,6 @@
 //! The command that assigns what clauses force: `Saturate`.
-ghost use Rattle.std.specs.Prelude.{◌≡◌, IfOk};
-ghost use Rattle.resolvo_store.specs.Command.{answer_of, reply_of, IsRefused};
+ghost use Rattle.std.specs.Prelude.{◌≡◌};
+ghost use Rattle.resolvo_store.specs.Command.{answer_of};
 ghost use Rattle.resolvo_store.specs.Saturating.{found_answer};
 
 use crate::abstract_store::AbstractStore;
@@ -12,14 +12,13 @@ use std::alloc::Allocator;
 use typed_ids::{ClauseId, StoreError};
 
 impl<D: DependencyProvider + Drop> ClauseStore<D> {
-    ghost use Rattle.resolvo_store.specs.Command.{Saturate, answer_of, reply_of, IsRefused};
+    ghost use Rattle.resolvo_store.specs.Command.{Saturate, answer_of};
     ghost use Rattle.resolvo_store.specs.Step.{Step};
 
     /// Assigns what clauses force. A refusal of memory takes nothing back.
     pub(super) fn saturate(&mut self, level: u32) -> Result<Reply<D::Alloc>, StoreError>
         ensures step { Step (⟦<D as AbstractStore>⟧.store self.old) (Saturate level)
             (answer_of result) (⟦<D as AbstractStore>⟧.store self.new) }
-        ensures answered { IfOk result (λ reply. IsRefused (reply_of reply) → ⊥) }
         ensures provider { self.new.provider ≡ self.old.provider }
         ensures asked { self.new.asked ≡ self.old.asked }
     {
@@ -43,7 +42,6 @@ fn answered<A: Allocator>(
     found: Result<Option<ClauseId>, StoreError>,
 ) -> Result<Reply<A>, StoreError>
     ensures value { answer_of result ≡ found_answer found }
-    ensures answered { IfOk result (λ reply. IsRefused (reply_of reply) → ⊥) }
 {
     match found? {
         Some(clause) => Ok(Reply::Conflict(clause)),

@@ -20,7 +20,7 @@ use resolvo_queue::DecideQueue;
 use typed_ids::StoreError;
 
 impl<D: DependencyProvider + Drop> ClauseStore<D> {
-    ghost use Rattle.resolvo_store.specs.Command.{Bump, Decay, Standard, answer_of, reply_of, IsRefused};
+    ghost use Rattle.resolvo_store.specs.Command.{Bump, Decay, Standard, answer_of, reply_of};
     ghost use Rattle.resolvo_store.specs.Refusals.{is_bad_fraction};
     ghost use Rattle.resolvo_store.specs.Step.{Step};
     ghost use Rattle.resolvo_store.specs.Walks.{WalksNothing};
@@ -33,7 +33,6 @@ impl<D: DependencyProvider + Drop> ClauseStore<D> {
     ) -> Result<Reply<D::Alloc>, StoreError>
         ensures step { Step (⟦<D as AbstractStore>⟧.store self.old) (Bump name amount)
             (answer_of result) (⟦<D as AbstractStore>⟧.store self.new) }
-        ensures answered { IfOk result (λ reply. IsRefused (reply_of reply) → ⊥) }
         ensures provider { self.new.provider ≡ self.old.provider }
         ensures asked { WalksNothing self.old.asked self.new.asked }
     {
@@ -51,7 +50,6 @@ impl<D: DependencyProvider + Drop> ClauseStore<D> {
     ) -> Result<Reply<D::Alloc>, StoreError>
         ensures step { Step (⟦<D as AbstractStore>⟧.store self.old) (Decay numerator denominator)
             (answer_of result) (⟦<D as AbstractStore>⟧.store self.new) }
-        ensures answered { IfOk result (λ reply. IsRefused (reply_of reply) → ⊥) }
         ensures provider { self.new.provider ≡ self.old.provider }
         ensures asked { self.new.asked ≡ self.old.asked }
     {
@@ -66,7 +64,6 @@ impl<D: DependencyProvider + Drop> ClauseStore<D> {
     pub(super) fn standard(&mut self, standard: bool) -> Reply<D::Alloc>
         ensures step { Step (⟦<D as AbstractStore>⟧.store self.old) (Standard standard)
             (reply_of result) (⟦<D as AbstractStore>⟧.store self.new) }
-        ensures answered { IsRefused (reply_of result) → ⊥ }
         ensures provider { self.new.provider ≡ self.old.provider }
         ensures asked { WalksNothing self.old.asked self.new.asked }
     {

@@ -23,7 +23,7 @@ use variables::{VariableMap, VariableOrigin};
 use watch_map::ClauseList;
 
 impl<D: DependencyProvider + Drop> ClauseStore<D> {
-    ghost use Rattle.resolvo_store.specs.Command.{AtMostOnce, answer_of, IsRefused};
+    ghost use Rattle.resolvo_store.specs.Command.{AtMostOnce, answer_of};
     ghost use Rattle.resolvo_store.specs.Step.{Step};
 
     /// Tracks a variable under a name. The clauses are made first, then room for them and for the variable, so that
@@ -35,7 +35,6 @@ impl<D: DependencyProvider + Drop> ClauseStore<D> {
     ) -> Result<Reply<D::Alloc>, StoreError>
         ensures step { Step (⟦<D as AbstractStore>⟧.store self.old) (AtMostOnce name variable)
             (answer_of result) (⟦<D as AbstractStore>⟧.store self.new) }
-        ensures answered { IfOk result (λ reply. IsRefused (reply_of reply) → ⊥) }
         ensures provider { self.new.provider ≡ self.old.provider }
         ensures asked { self.new.asked ≡ self.old.asked }
     {

@@ -1,5 +1,5 @@
 //! The commands about watches: `Rewatch` and `Watchers`.
-ghost use Rattle.std.specs.Prelude.{◌≡◌, ◌&&◌, [], length, nat_lt, option_map, slice_get, unwrap_or, IfOk};
+ghost use Rattle.std.specs.Prelude.{◌≡◌, ◌&&◌, [], length, nat_lt, option_map, slice_get, unwrap_or};
 ghost use Rattle.decisions.specs.Literals.{variable_of};
 ghost use Rattle.clauses.specs.Clauses.{literals_of, same_literal};
 ghost use Rattle.clauses.specs.Stored.{kept_in};
@@ -21,7 +21,7 @@ use variables::{VariableLists, VariableMap};
 use watch_map::ClauseList;
 
 impl<D: DependencyProvider + Drop> ClauseStore<D> {
-    ghost use Rattle.resolvo_store.specs.Command.{Rewatch, Watchers, answer_of, reply_of, IsRefused};
+    ghost use Rattle.resolvo_store.specs.Command.{Rewatch, Watchers, answer_of};
     ghost use Rattle.resolvo_store.specs.Step.{Step};
 
     /// Lets a clause watch another of its literals in the place of one that it watches.
@@ -33,7 +33,6 @@ impl<D: DependencyProvider + Drop> ClauseStore<D> {
     ) -> Result<Reply<D::Alloc>, StoreError>
         ensures step { Step (⟦<D as AbstractStore>⟧.store self.old) (Rewatch clause from to)
             (answer_of result) (⟦<D as AbstractStore>⟧.store self.new) }
-        ensures answered { IfOk result (λ reply. IsRefused (reply_of reply) → ⊥) }
         ensures provider { self.new.provider ≡ self.old.provider }
         ensures asked { self.new.asked ≡ self.old.asked }
     {
@@ -53,7 +52,6 @@ impl<D: DependencyProvider + Drop> ClauseStore<D> {
     pub(super) fn watchers_of(&self, literal: Literal) -> Result<Reply<D::Alloc>, StoreError>
         ensures step { Step (⟦<D as AbstractStore>⟧.store self.now) (Watchers literal)
             (answer_of result) (⟦<D as AbstractStore>⟧.store self.now) }
-        ensures answered { IfOk result (λ reply. IsRefused (reply_of reply) → ⊥) }
     {
         if !knows_variable(&self.variables, literal.variable()) {
             return Err(StoreError::UnknownId);
