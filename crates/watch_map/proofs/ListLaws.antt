@@ -2,8 +2,10 @@
 use Rattle.std.proofs.Common.{◌≡◌, ℕ, Bool, true, false, not, List, [], ◌∷◌, ◌++◌, length, map}
 use Rattle.std.proofs.Common.{set, Option, Some, None, refl, sym, ap, subst, ◌∙◌, arith, nat_eq}
 use Rattle.std.proofs.Common.{◌+◌, ◌<◌, ◌≤◌, take, drop, get_or, length-append, Result, Ok, Err}
-use Rattle.std.specs.Prelude.{◌&&◌, ◌-◌, ◌^◌, nat_lt, if◌then◌else◌, IsTrue, OnOk, OnErr}
-use Rattle.typed_ids.specs.Refusals.{are_ids_out}
+use Rattle.std.specs.Prelude.{All, slice_get, ◌&&◌, ◌||◌, ◌-◌, ◌^◌, nat_lt, if◌then◌else◌, IsTrue, OnOk, OnErr, IfErr, IsErrAnd}
+use Rattle.typed_ids.specs.Refusals.{are_ids_out, IsGrowthRefusal}
+use Rattle.typed_ids.specs.declared.error.StoreError.{StoreError}
+use Rattle.typed_ids.specs.declared.error.StoreError.TheVariants.{OutOfMemory, IdSpace}
 use Rattle.std.proofs.lemmas.List.Sums.{fold_more}
 use Rattle.std.proofs.lemmas.List.Elements.{All-get_or, All-from_get_or}
 use Rattle.std.proofs.Math.Seq.{take-append_seam}
@@ -14,17 +16,17 @@ use Rattle.std.proofs.lemmas.Bool.{eqb-true, eqb-false}
 use Rattle.std.proofs.lemmas.List.{ext_get_or, get_or_default, length-map, length-set, map-append}
 use Rattle.typed_ids.specs.TotalMaps.{IsUpdate}
 use Rattle.decisions.specs.Literals.{Lit, Pos, Neg, Values}
-use Rattle.clauses.specs.Clauses.{Kept as KeptLiterals}
+use Rattle.clauses.specs.Clauses.{Kept as KeptLiterals, same_literal, watch_pair, watch_beside, watch_ends}
 use Rattle.clauses.specs.declared.clause.Clause.{Clause}
 use Rattle.clauses.specs.declared.clause.Clause.TheVariants.{ForbidMultipleInstances}
 use Rattle.watch_map.specs.declared.watched_literals.WatchedLiterals.{WatchedLiterals}
-use Rattle.watch_map.specs.Watching.{is_literal_in, IsExact, started}
+use Rattle.watch_map.specs.Watching.{is_literal_in, AreTwoOrNone, IsExact, started}
 use Rattle.watch_map.specs.WatchLists.{WatchLists, Watches, literals_in, watched_by, watchers, HasRoom, AreWatched, Position, clause_of, literal_of, index_of}
-use Rattle.watch_map.specs.WatchCalls.{SameLists, KeepsRoom, UsesRoom, HaveRooms, Starts, StandsIn, Moves}
+use Rattle.watch_map.specs.WatchCalls.{SameLists, KeepsRoom, UsesRoom, HaveRoom, HaveRooms, Starts, StandsIn, Moves}
 use Rattle.watch_map.proofs.WatchingLaws.{exact_same}
 use Rattle.watch_map.proofs.CallerLaws.{same_records_belong, new_clauses_join, records_skip, room_is_for_fewer}
-use Rattle.watch_map.specs.ClauseList.{Clauses, IsClauseList, is_full, literals_watched, two_or_none}
-use Rattle.watch_map.specs.ClauseList.{rewatched, with_clause, with_rewatched, Kept}
+use Rattle.watch_map.specs.ClauseList.{Clauses, IsClauseList, is_full, is_learnt_full, literals_watched, two_or_none}
+use Rattle.watch_map.specs.ClauseList.{rewatched, with_clause, with_rewatched, can_rewatch, contents, Kept}
 use Rattle.watch_map.specs.ClauseList.{helper_literal, bit_watches, with_forbidden_one, with_forbidden}
 use Rattle.watch_map.specs.ClauseList.{HasRoomFor, HasRoom as HasRoomOf, KeepsRoom as KeepsRoomOf}
 use Rattle.watch_map.specs.Walks.{StartsAtEnd, IsRewatched, may_rewatch}
@@ -38,6 +40,22 @@ literals_are (Some w) = refl
 -- what a clause watches, read from the literals of all records
 pub literals_at : (ws : Watches) (c : ℕ) → watched_at (map literals_in ws) c ≡ watched_by ws c
 literals_at ws c = get_or-map literals_in ws c None
+
+-- two literals, or none, are what a learnt clause watches at first
+two_of_pair : (l m : Lit) → AreTwoOrNone (two_or_none (watch_pair l m))
+two_of_pair l m = by (same_literal l m) refl
+  where
+    by : (b : Bool) → same_literal l m ≡ b → AreTwoOrNone (two_or_none (if b then None else Some (l ∷ m ∷ [])))
+    by true is = tt
+    by false is = is
+
+two_beside : (l : Lit) (o : Option Lit) → AreTwoOrNone (two_or_none (watch_beside l o))
+two_beside l None = tt
+two_beside l (Some m) = two_of_pair l m
+
+pub two_of_ends : (ls : List Lit) → AreTwoOrNone (two_or_none (watch_ends ls))
+two_of_ends [] = tt
+two_of_ends (l ∷ ls) = two_beside l (slice_get (l ∷ ls) (length ls))
 
 pub exact_here : (lists : WatchLists) (ws : Watches) → AreWatched lists ws → IsExact (watched_at (map literals_in ws)) (watchers lists ws)
 exact_here lists ws watched =
@@ -132,6 +150,17 @@ module _ {N : Type 0} where
       ap (λ watches. f watches (watchers new (ws ++ made ∷ []))) records
       ∙ ap (f (map literals_in ws ++ two_or_none (literals_watched given) ∷ [])) lists
 
+  -- the same clauses and records, and lists that show the same
+  pub seen_alike : (cs cs' : List (Clause N)) (ws ws' : Watches) (learnt : List (List Lit)) (old new : WatchLists) → AreWatched old ws
+      → cs' ≡ cs → ws' ≡ ws → SameLists old new → contents_of cs' ws' learnt new ≡ contents_of cs ws learnt old
+  seen_alike cs cs' ws ws' learnt old new watched same_clauses same_records same =
+      ap (λ (c : List (Clause N)). contents_of c ws' learnt new) same_clauses
+      ∙ ap (λ (r : Watches). contents_of cs r learnt new) same_records ∙ same_contents cs ws learnt old new watched same
+
+  -- what a clause may watch in the place of one, by its record
+  pub can_rewatch_is : (k : Kept N) (clause : ℕ) (from to : Lit) → can_rewatch (contents k) clause from to ≡ may_rewatch k.records clause from to
+  can_rewatch_is k clause from to = ap (λ ls. is_literal_in from ls && not (is_literal_in to ls)) (literals_at k.records clause)
+
   -- ---- a watch moved
 
   pub rewatched_contents : (cs : List (Clause N)) (ws ws' : Watches) (learnt : List (List Lit)) (old new : WatchLists) (clause : ℕ) (from to : Lit)
@@ -205,6 +234,28 @@ module _ {N : Type 0} where
   err_rewatch (Err e) cs learnt ws ws' old new watched err =
       ap (λ rs. contents_of cs rs learnt new) err.1 ∙ same_contents cs ws learnt old new watched err.0
 
+-- ---- ids that are left, and refusals
+
+-- where so many clauses come to no more than there are ids left, all of them have ids
+pub ids_are_left : (many after count len : ℕ) → count ≤ (2 ^ 32 - 1) - len → len ≡ many → after ≡ many → many ≤ 2 ^ 32 - 1 → after + count ≤ 2 ^ 32 - 1
+ids_are_left many after count len left is same few = omega arith
+
+-- a refusal of a growth is one of a growth for which ids may be out elsewhere
+refused_too : (more out : Bool) (e : StoreError) → IsGrowthRefusal out e → IsGrowthRefusal (more || out) e
+refused_too false out e refused = refused
+refused_too true out OutOfMemory refused = tt
+refused_too true out IdSpace refused = refl
+refused_too true out _ refused = absurd refused
+
+-- a refusal of the literals of a learnt clause is handed on
+pub learnt_refused : {N T : Type 0} (r : Result T StoreError) (cs : Clauses N) (count : ℕ) (e : StoreError) → count ≡ length cs.learnt
+    → IsGrowthRefusal (are_ids_out (2 ^ 32) count) e → IsErrAnd r (λ f. f ≡ e) → IfErr r (IsGrowthRefusal (is_learnt_full cs))
+learnt_refused (Ok x) cs count e as_many refused is = tt
+learnt_refused (Err f) cs count e as_many refused is =
+    subst (IsGrowthRefusal (is_learnt_full cs)) (sym is)
+    (refused_too (is_full cs) (are_ids_out (2 ^ 32) (length cs.learnt)) e
+    (subst (λ n. IsGrowthRefusal (are_ids_out (2 ^ 32) n) e) as_many refused))
+
 -- ---- room for clauses of helpers
 
 -- room for one more addition is used by one
@@ -258,6 +309,30 @@ module _ {N : Type 0} where
         room_used literals old.lists new.lists l count uses
         (All-get_or (λ (bit : ℕ × ℕ × Bool). HaveRooms old.lists (count + 1) (two_or_none (bit_watches bit))) bits i
         (0, 0, false) within room.lists l among));
+  }
+
+  -- ids, room in both vectors and room in the lists are room
+  pub room_is_made : {T E : Type 0} (result : Result T E) (old new : Kept N) (watched : List Lit) → is_full (contents old) ≡ false
+      → new.clauses ≡ old.clauses → length new.records ≡ length new.clauses → length new.clauses + 1 ≤ new.clause_room
+      → length new.records + 1 ≤ new.record_room → OnOk result (HaveRoom new.lists watched) → OnOk result (HasRoomOf new watched)
+  room_is_made (Err e) old new watched ids same as_many clauses records lists = tt
+  room_is_made (Ok x) old new watched ids same as_many clauses records lists = record {
+    id = ap (λ cs. are_ids_out (2 ^ 32 - 1) (length cs)) same ∙ ids;
+    clause = omega (arith, clauses);
+    watch = omega (arith, records, as_many);
+    lists = lists;
+  }
+
+  pub rooms_are_made : {T E : Type 0} (result : Result T E) (new : Kept N) (count : ℕ) (bits : List (ℕ × ℕ × Bool))
+      → length new.clauses + count ≤ 2 ^ 32 - 1 → length new.records ≡ length new.clauses → length new.clauses + count ≤ new.clause_room
+      → length new.records + count ≤ new.record_room → OnOk result (All (λ bit. HaveRooms new.lists count (two_or_none (bit_watches bit))) bits)
+      → OnOk result (HasRoomFor count bits new)
+  rooms_are_made (Err e) new count bits few as_many clauses records lists = tt
+  rooms_are_made (Ok x) new count bits few as_many clauses records lists = record {
+    ids = grind (arith, nat_tests, few);
+    clauses = clauses;
+    records = omega (arith, records, as_many);
+    lists = lists;
   }
 
   -- room for some, of which this is one, is room for it

@@ -1,5 +1,6 @@
 pub mod ClauseList
 pub mod ClauseListView
+pub mod ClauseRecord
 pub mod Forcing
 pub mod Laws
 pub mod Marks

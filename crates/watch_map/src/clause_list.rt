@@ -26,6 +26,7 @@ ghost use Rattle.watch_map.specs.Marks.{AreMarks, none_false_at, none_watched_fa
 use crate::lists::WatchMap;
 use crate::marks::Marks;
 use crate::saturation::{self, Given};
+use crate::stored_clause::StoredClause;
 use crate::unwatched::UnwatchedClauses;
 use crate::walks;
 use crate::watched_literals::WatchedLiterals;
@@ -43,10 +44,10 @@ const LIMIT: usize = u32::MAX as usize;
 /// All clauses of a store, with what each of them watches, the clauses that watch each literal, and the literals of the
 /// learnt ones. `N` are the names of packages.
 ///
-/// Where names are ids of 32 bits, a clause's record has 24 bytes, beside 20 for what it watches.
+/// Where names are ids of 32 bits, a clause's record has 16 bytes, beside 20 for what it watches.
 #[derive(Drop)]
 pub struct ClauseList<N: Copy, A: Allocator + Copy> {
-    clauses: Vec<Clause<N>, A>,
+    clauses: Vec<StoredClause<N>, A>,
     /// What each clause watches.
     watches: Vec<Option<WatchedLiterals>, A>,
     /// The clauses that watch each literal.
@@ -112,7 +113,8 @@ impl<N: Copy, A: Allocator + Copy> ClauseList<N, A> {
     pub fn get(&self, id: ClauseId) -> Option<Clause<N>>
         ensures { result ≡ slice_get (contents self.now).clauses id }
     {
-        self.clauses.get(id.to_index()).copied()
+        let stored = self.clauses.get(id.to_index())?;
+        Some(stored.clause())
     }
 
     /// What the clause watches, if there is one of this id and it watches something.
@@ -153,16 +155,23 @@ impl<N: Copy, A: Allocator + Copy> ClauseList<N, A> {
         }
         self.clauses.reserve(1)?;
         self.watches.reserve(1)?;
-        if let Some(watched) = watches {
-            let [first, second] = watched.watched_literals;
-            self.map.make_room(first)?;
-            self.map.make_room(second)?;
-        }
-        Ok(())
+        walks::make_room(&mut self.map, watches)
     }
 
     /// Adds a clause for which there is room, with what it watches, and answers its id. Takes no memory.
     pub fn push_reserved(&mut self, clause: Clause<N>, watches: Option<WatchedLiterals>) -> ClauseId
+        requires room { HasRoom self.old (two_or_none (literals_watched watches)) }
+        requires two { AreTwoOrNone (two_or_none (literals_watched watches)) }
+        ensures id { result ≡ length (contents self.old).clauses }
+        ensures added { contents self.new ≡ with_clause (contents self.old) clause (literals_watched watches) }
+        ensures rooms { (count : ℕ) (bits : List (ℕ × ℕ × Bool)) → HasRoomFor (count + 1) bits self.old →
+            HasRoomFor count bits self.new }
+    {
+        self.push_stored(StoredClause::new(clause), watches)
+    }
+
+    /// The same of a clause as it is kept.
+    fn push_stored(&mut self, clause: StoredClause<N>, watches: Option<WatchedLiterals>) -> ClauseId
         requires room { HasRoom self.old (two_or_none (literals_watched watches)) }
         requires two { AreTwoOrNone (two_or_none (literals_watched watches)) }
         ensures id { result ≡ length (contents self.old).clauses }
@@ -206,7 +215,7 @@ impl<N: Copy, A: Allocator + Copy> ClauseList<N, A> {
     {
         for clause in clauses {
             let (watches, clause) = walks::forbidden(name, *clause);
-            self.push_reserved(clause, watches);
+            self.push_stored(StoredClause::new(clause), watches);
         }
     }
 

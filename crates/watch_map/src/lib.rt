@@ -60,6 +60,7 @@ mod marks;
 mod next_clause;
 mod nodes;
 mod saturation;
+mod stored_clause;
 mod unwatched;
 mod walks;
 mod watched_literals;

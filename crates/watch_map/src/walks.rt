@@ -66,6 +66,24 @@ pub(crate) fn forbidden<N>(
     WatchedLiterals::forbid_multiple(variable, Literal::new(helper, !is_positive), name)
 }
 
+/// Makes room in the lists of what a clause watches, for one addition.
+pub(crate) fn make_room<A: Allocator + Copy>(
+    map: &mut WatchMap<A>,
+    watches: &Option<WatchedLiterals>,
+) -> Result<(), StoreError>
+    ensures lists { SameLists map.old map.new }
+    ensures rooms { KeepsRoom map.old map.new }
+    ensures room { OnOk result (HaveRoom map.new (two_or_none (literals_watched watches.now))) }
+    ensures memory { IfErr result (λ e. e ≡ OutOfMemory) }
+{
+    if let Some(watched) = watches {
+        let [first, second] = watched.watched_literals;
+        map.make_room(first)?;
+        map.make_room(second)?;
+    }
+    Ok(())
+}
+
 /// Makes room in the lists of what each of these clauses watches, for as many additions as there are clauses: the slots
 /// up to the last of the literals of their largest variable serve all.
 pub(crate) fn make_rooms<A: Allocator + Copy>(

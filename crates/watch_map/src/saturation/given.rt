@@ -1,6 +1,7 @@
 //! What a saturation is given.
-ghost use Rattle.std.specs.Prelude.{◌≡◌, ◌≤◌, ◌<◌, ◌^◌, slice_get, option_copied};
+ghost use Rattle.std.specs.Prelude.{◌≡◌, ◌≤◌, ◌<◌, ◌^◌, slice_get};
 
+use crate::stored_clause::StoredClause;
 use clauses::{Clause, Disjunction};
 use decisions::Literal;
 use id_storage::Arena;
@@ -11,7 +12,7 @@ use typed_ids::{ClauseId, DenseIndex, DisjunctionId, LearntClauseId, VariableId}
 /// All clauses, what they refer to by ids, and the level of the entries that they force.
 #[derive(Drop)]
 pub(crate) struct Given<'a, N: Copy, A: Allocator + Copy> {
-    pub(crate) clauses: &'a [Clause<N>],
+    pub(crate) clauses: &'a [StoredClause<N>],
     /// Those that watch nothing, ascending.
     pub(crate) unwatched: &'a [ClauseId],
     pub(crate) learnt: &'a Arena<LearntClauseId, Vec<Literal, A>, A>,
@@ -24,11 +25,13 @@ pub(crate) struct Given<'a, N: Copy, A: Allocator + Copy> {
 }
 
 /// The clause of this id, if there is one.
-pub(crate) fn clause_at<'a, N: Copy, A: Allocator + Copy>(
-    given: &Given<'a, N, A>,
+#[inline(always)]
+pub(crate) fn clause_at<N: Copy, A: Allocator + Copy>(
+    given: &Given<N, A>,
     id: ClauseId,
-) -> Option<&'a Clause<N>>
-    ensures { option_copied result ≡ slice_get given.now.clauses.now id }
+) -> Option<Clause<N>>
+    ensures { result ≡ slice_get given.now.clauses.now id }
 {
-    given.clauses.get(id.to_index())
+    let stored = given.clauses.get(id.to_index())?;
+    Some(stored.clause())
 }

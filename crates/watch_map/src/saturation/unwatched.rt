@@ -130,7 +130,7 @@ fn visit_unwatched<N: Copy, A: Allocator + Copy>(
     let Some(clause) = clause_at(given, id) else {
         unreachable!();
     };
-    match find_forced(given, clause, trail.map()) {
+    match find_forced(given, &clause, trail.map()) {
         Finding::Settled => Ok(false),
         Finding::Conflict => Ok(true),
         Finding::Forces(literal) => {

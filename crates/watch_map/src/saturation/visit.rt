@@ -89,7 +89,7 @@ fn look<N: Copy, A: Allocator + Copy>(
         unreachable!();
     };
     let next = watched.next_unwatched_literal(
-        clause,
+        &clause,
         given.learnt,
         given.lists,
         given.disjunctions,

@@ -1,12 +1,12 @@
-use Rattle.std.proofs.lemmas.Grind.{common_steps}
-use Rattle.std.proofs.Common.{◌≡◌, sym, subst, map, List, length, arith}
-use Rattle.std.specs.Prelude.{OnOk, OnErr, IsTrue}
+use Rattle.std.proofs.Common.{◌≡◌, Bool, sym, ap, subst, ◌∙◌, map, List, length}
+use Rattle.std.specs.Prelude.{OnOk, OnErr, IfErr, IsTrue, if◌then◌else◌}
+use Rattle.typed_ids.specs.declared.error.StoreError.TheVariants.{OutOfMemory, BadWatch}
 use Rattle.decisions.specs.Literals.{Lit}
-use Rattle.watch_map.specs.WatchLists.{AreWatched, AreUnwatchedBelow}
+use Rattle.watch_map.specs.WatchLists.{Watches, AreWatched, AreUnwatchedBelow}
 use Rattle.watch_map.specs.WatchCalls.{SameLists}
 use Rattle.watch_map.specs.ClauseList.{IsClauseList, Kept, contents, with_rewatched}
 use Rattle.watch_map.specs.Walks.{IsRewatched, may_rewatch}
-use Rattle.watch_map.proofs.ListLaws.{contents_of, after_rewatch, ok_rewatch, err_rewatch, whole}
+use Rattle.watch_map.proofs.ListLaws.{contents_of, can_rewatch_is, after_rewatch, ok_rewatch, err_rewatch, whole}
 use Rattle.watch_map.proofs.UnwatchedLaws.{below_rewatched}
 use Rattle.watch_map.proofs.clause_list.ClauseList.rewatch.Goals as goal
 
@@ -65,7 +65,16 @@ returns-clause-err g c =
     (err_rewatch c.rewatch.result inside.clauses.items learnt ws ws' inside.map new c.self.invariant.1 err))
 
 pub returns-clause-refused : goal.returns-clause-refused
-returns-clause-refused g c = grind (arith, common_steps)
+returns-clause-refused g c =
+    let can = ap (λ (rs : Watches). may_rewatch rs c.args.id c.args.from c.args.to) c.as_mut_slice.ensures.value
+    ∙ ap (λ (k : Kept g.row.N.Denot). may_rewatch k.records c.args.id c.args.from c.args.to) c.self.view_is
+    ∙ sym (can_rewatch_is c.args.self.now c.args.id c.args.from c.args.to) in
+    subst (λ (b : Bool). IfErr c.rewatch.result (λ e. e ≡ (if b then OutOfMemory else BadWatch))) can
+    c.rewatch.ensures.refused
 
 pub returns-clause-can : goal.returns-clause-can
-returns-clause-can g c = grind (arith, common_steps)
+returns-clause-can g c =
+    let can = ap (λ (rs : Watches). may_rewatch rs c.args.id c.args.from c.args.to) c.as_mut_slice.ensures.value
+    ∙ ap (λ (k : Kept g.row.N.Denot). may_rewatch k.records c.args.id c.args.from c.args.to) c.self.view_is
+    ∙ sym (can_rewatch_is c.args.self.now c.args.id c.args.from c.args.to) in
+    subst (λ (b : Bool). OnOk c.rewatch.result (IsTrue b)) can c.rewatch.ensures.can

@@ -6,7 +6,7 @@ use Rattle.watch_map.specs.ClauseList.{IsClauseList, Kept, contents, with_clause
 use Rattle.watch_map.specs.Walks.{StartsAtEnd}
 use Rattle.watch_map.proofs.ListLaws.{contents_of, as_many_records, more_list, pushed_contents, room_after}
 use Rattle.watch_map.proofs.UnwatchedLaws.{below_longer}
-use Rattle.watch_map.proofs.clause_list.ClauseList.push_reserved.Goals as goal
+use Rattle.watch_map.proofs.clause_list.ClauseList.push_stored.Goals as goal
 
 pub invariant_of-self : goal.invariant_of-self
 invariant_of-self g c =
