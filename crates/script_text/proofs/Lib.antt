@@ -2,7 +2,6 @@ pub mod Calls
 pub mod FirstLines
 pub mod FirstWords
 pub mod Handing
-pub mod Lanes
 pub mod NumberWords
 pub mod Prefixes
 pub mod Printing

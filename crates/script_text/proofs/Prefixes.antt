@@ -6,16 +6,12 @@ use Rattle.std.proofs.lemmas.Bool.Decides.{nat_tests}
 use Rattle.std.proofs.lemmas.Bool.{eq-eqb, ne_eqb}
 use Rattle.std.proofs.lemmas.List.{take-append-drop, length-take-le, length-drop, drop-drop}
 use Rattle.std.proofs.lemmas.List.Folds.{prefix_len-append}
-use Rattle.std.proofs.lemmas.List.Sums.{prefix_len-le-length}
 use Rattle.script_text.specs.Lines.{is_printed}
 
 -- of sixteen bytes of a text, so many come before the first that fails a test
 module _ (p : ℕ → Bool) (text : List ℕ) (at found : ℕ) (room : at + 16 ≤ length text) (is : found ≡ prefix_len p (take 16 (drop at text))) where
   long : length (take 16 (drop at text)) ≡ 16
   long = length-take-le 16 (drop at text) (omega (arith, length-drop at text, room))
-
-  pub found_of_sixteen : found ≤ 16
-  found_of_sixteen = omega (arith, is, long, prefix_len-le-length p (take 16 (drop at text)))
 
   parts : prefix_len p (drop at text) ≡ cond (eqb found 16) (16 + prefix_len p (drop 16 (drop at text))) found
   parts =
@@ -28,11 +24,9 @@ module _ (p : ℕ → Bool) (text : List ℕ) (at found : ℕ) (room : at + 16 �
       let other : eqb found 16 ≡ false = ne_eqb found 16 (omega (arith, short)) in
       parts ∙ ap (λ all. cond all (16 + prefix_len p (drop 16 (drop at text))) found) other
 
-  pub goes_on_after_sixteen : 16 ≤ found → found + prefix_len p (drop (at + found) text) ≡ prefix_len p (drop at text)
-  goes_on_after_sixteen far =
-      let whole : found ≡ 16 = omega (arith, far, found_of_sixteen) in
-      (λ i. whole i + prefix_len p (drop (at + whole i) text))
-      ∙ ap (λ l. 16 + prefix_len p l) (sym (drop-drop 16 at text))
+  pub goes_on_after_sixteen : found ≡ 16 → 16 + prefix_len p (drop (at + 16) text) ≡ prefix_len p (drop at text)
+  goes_on_after_sixteen whole =
+      ap (λ l. 16 + prefix_len p l) (sym (drop-drop 16 at text))
       ∙ sym (parts ∙ ap (λ all. cond all (16 + prefix_len p (drop 16 (drop at text))) found) (eq-eqb found 16 whole))
 
 one_more : (b : Bool) (n l : ℕ) → nat_eq (cond b (1 + n) 0) (suc l) ≡ (b && nat_eq n l)

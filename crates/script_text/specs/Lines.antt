@@ -21,9 +21,13 @@ lines_from begun (b ∷ bs) = if b == 10 then without_return begun ∷ lines_fro
 abbrev pub lines : List ℕ → List (List ℕ)
 lines text = lines_from [] text
 
+-- a character of ASCII from this one to the tilde
+abbrev pub is_from : ℕ → ℕ → Bool
+is_from first b = nat_le first b && nat_le b 126
+
 -- a byte of ASCII's printed characters, or the blank
 abbrev pub is_printed : ℕ → Bool
-is_printed b = nat_le 32 b && nat_le b 126
+is_printed = is_from 32
 
 abbrev pub IsPrinted : List ℕ → Type 0
 IsPrinted bytes = list_all is_printed bytes ≡ true

@@ -1,10 +1,10 @@
 -- The words of a line.
-use Rattle.std.specs.Prelude.{ℕ, ◌==◌, Bool, true, ◌&&◌, nat_le, List, [], ◌∷◌, ◌++◌, if◌then◌else◌}
-use Rattle.script_text.specs.Lines.{IsPrinted}
+use Rattle.std.specs.Prelude.{ℕ, ◌==◌, Bool, true, List, [], ◌∷◌, ◌++◌, if◌then◌else◌}
+use Rattle.script_text.specs.Lines.{is_from, IsPrinted}
 
 -- a byte of ASCII's printed characters: a word of a printed line has these alone
 abbrev pub is_graphic : ℕ → Bool
-is_graphic b = nat_le 33 b && nat_le b 126
+is_graphic = is_from 33
 
 -- the word that a blank or the end leaves: none where there is no byte of it
 abbrev pub begun_word : List ℕ → List (List ℕ)

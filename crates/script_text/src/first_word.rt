@@ -1,15 +1,12 @@
 //! The first word of a line, which is looked for in sixteen bytes at once.
-ghost use Rattle.std.specs.Prelude.{◌≡◌, ◌<◌, ◌≤◌, ◌⊎◌, [], ◌∷◌, not, map, take, length, MatchOption, IfSome};
+ghost use Rattle.std.specs.Prelude.{◌≡◌, ◌<◌, ◌≤◌, ◌⊎◌, [], ◌∷◌, take, length, MatchOption, IfSome};
 ghost use Rattle.std.specs.List.{prefix_len};
-ghost use Rattle.std.specs.Simd.Lanes.{mask_l};
 ghost use Rattle.script_text.specs.Lines.{IsPrinted};
 ghost use Rattle.script_text.specs.Words.{words, is_graphic, ArePrinted};
 
+use crate::sixteen::length_in_sixteen;
 use crate::word::next_word;
 use std::simd::prelude::*;
-
-/// The first character but the blank.
-const FIRST: u8 = b'!';
 
 /// The first word of a printed line with which a text begins, and what is after it; none where the line has no word.
 /// Where the text goes on after the line, bytes behind it may be looked at too.
@@ -37,28 +34,5 @@ fn short_length(text: &[u8]) -> usize
     if text.len() < 16 {
         return 0;
     }
-    length_in_sixteen(u8x16::from_slice(text))
-}
-
-/// How many of sixteen bytes are before the first that no printed word has; 0 where there is none.
-#[inline(always)]
-fn length_in_sixteen(bytes: u8x16) -> usize
-    ensures { (result ≡ 0) ⊎ ((result ≡ prefix_len is_graphic bytes) × (result < 16)) }
-{
-    let others = other_bits(bytes);
-    if others == 0 {
-        0
-    } else {
-        others.trailing_zeros() as usize
-    }
-}
-
-/// A bit for each byte, the lowest for the first: whether no printed word has it. Counted from the first character, and
-/// round by 256 below it, such a byte is above the tilde.
-#[inline(always)]
-fn other_bits(bytes: u8x16) -> u64
-    ensures { result ≡ mask_l (map (λ b. not (is_graphic b)) bytes) }
-{
-    let above_first = bytes - u8x16::splat(FIRST);
-    above_first.simd_gt(u8x16::splat(b'~' - FIRST)).to_bitmask()
+    length_in_sixteen(u8x16::from_slice(text), b'!').unwrap_or(0)
 }

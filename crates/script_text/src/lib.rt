@@ -14,6 +14,7 @@ mod line;
 mod number_word;
 mod output;
 mod printed;
+mod sixteen;
 mod statement;
 mod word;
 
