@@ -1,4 +1,4 @@
-use Rattle.std.proofs.Common.{◌≡◌, ◌≤◌, ◌++◌, drop, take, length}
+use Rattle.std.proofs.Common.{◌≡◌, ◌≤◌, ◌++◌, drop, take}
 use Rattle.providers.specs.Provider.{filtered}
 use Rattle.script_packages.proofs.Ranges.{holds}
 use Rattle.script_packages.proofs.provider.put_within.Given as goal
