@@ -11,8 +11,10 @@ mod ids;
 mod order;
 mod packages;
 mod provider;
+mod span_map;
 mod versions;
 
 pub use catalogue::{Catalogue, list_line, read_catalogue};
 pub use ids::{id, id_of, requirement};
 pub use packages::{Packages, Span, VersionRange};
+pub use span_map::SpanMap;

@@ -12,8 +12,8 @@ ghost use Rattle.script_packages.specs.Versions.{are_versions};
 
 use crate::catalogue_line::CatalogueLine;
 use crate::ids::id;
+use crate::span_map::SpanMap;
 use crate::versions::{are_versions, favored_place, version_of};
-use id_storage::FrozenCopyMap;
 use package_pool::{Pool, VersionSet};
 use providers::Condition;
 use script_text::{LineFault, next_number, next_word};
@@ -49,7 +49,7 @@ pub struct Packages {
     /// Names, solvables with their versions, and all else by its id.
     pub pool: Pool<VersionRange>,
     /// The solvables of each name that a package line listed.
-    pub spans: FrozenCopyMap<NameId, Span>,
+    pub spans: SpanMap,
     alloc: Global,
     ghost of_itself: { IsOfItself pool } by { Prim.hlevel pool_props },
 }
@@ -73,7 +73,7 @@ impl Packages {
     {
         Packages {
             pool: Pool::new(alloc),
-            spans: FrozenCopyMap::new(alloc),
+            spans: SpanMap::new(alloc),
             alloc,
         }
     }
@@ -82,7 +82,7 @@ impl Packages {
     pub fn span(&self, name: NameId) -> Option<Span>
         ensures { result ≡ span_of self.now.spans (length self.now.pool.solvables) name }
     {
-        match self.spans.get_copy(&name) {
+        match self.spans.get_copy(name) {
             Some(span) if self.pool.knows_solvable(span.last) => Some(span),
             _ => None,
         }
@@ -92,7 +92,7 @@ impl Packages {
     fn has_span(&self, name: NameId) -> bool
         ensures { result ≡ has_span (listing_of self.now) name }
     {
-        self.spans.get_copy(&name).is_some()
+        self.spans.get_copy(name).is_some()
     }
 
     /// Adds what a line says. Where memory is refused, the words that are left are read all the same, so that a line
