@@ -3,7 +3,7 @@ ghost use Rattle.std.specs.Prelude.{◌≡◌, ◌<◌, ◌^◌, ◌↔◌, ℕ,
 ghost use Rattle.std.proofs.Common.{arith};
 ghost use Rattle.std.proofs.lemmas.Bool.Decides.{nat_tests};
 ghost use Rattle.typed_ids.specs.Refusals.{is_too_dense};
-ghost use Rattle.typed_ids.specs.TotalMaps.{kept, kept_within};
+ghost use Rattle.typed_ids.specs.TotalMaps.{kept, kept_within, not_default};
 
 use crate::id_map::IdMap;
 use std::alloc::Allocator;
@@ -18,7 +18,8 @@ impl<K: DenseIndex, V: DefaultValue, A: Allocator + Copy> IdMap<K, V, A> for Vec
 
     ghost is_too_large = { λ k. is_too_dense (K.index_of k) };
 
-    ghost written = { λ m k h. kept_within K.limit m.items V.default_value (K.index_of k) (vec_len m) m.ok.0 h };
+    ghost written = { λ m k h. kept_within K.limit m.items V.default_value (K.index_of k) (vec_len m) m.ok.0
+        (not_default V.is_default V.default_is h) };
 
     ghost room_fits = { λ m k h. Prim.grind (arith, nat_tests, h.1) };
 

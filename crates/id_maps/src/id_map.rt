@@ -1,17 +1,17 @@
 //! Total maps that are kept by ids.
-ghost use Rattle.std.specs.Prelude.{◌≡◌, ◌≢◌, Bool, false, IsTrue, IsOk, OnOk, OnErr, IfErr};
+ghost use Rattle.std.specs.Prelude.{◌≡◌, Bool, false, IsTrue, IsOk, OnOk, OnErr, IfErr};
 ghost use Rattle.typed_ids.specs.declared.error.StoreError.TheVariants.{IdSpace};
 ghost use Rattle.typed_ids.specs.Refusals.{IsGrowthRefusal};
 ghost use Rattle.typed_ids.specs.TotalMaps.{IsUpdate, SameValues, IsLargest};
 
 use std::alloc::Allocator;
-use typed_ids::{DefaultValue, StoreError};
+use typed_ids::StoreError;
 
-/// A total map: a key that was never written has the default value.
+/// A total map: a key that was never written has the default.
 ///
 /// A change that must not be refused half way takes its room first, by [`IdMap::make_room`], and writes by
 /// [`IdMap::put`]. Room lasts: no call takes it away again.
-pub trait IdMap<K, V: DefaultValue, A: Allocator + Copy>: Drop {
+pub trait IdMap<K, V: Copy + Default, A: Allocator + Copy>: Drop {
     /// The value at a key.
     ghost value_at: { Self → K → V };
 
@@ -21,9 +21,9 @@ pub trait IdMap<K, V: DefaultValue, A: Allocator + Copy>: Drop {
     /// The map can't hold the key: what would write there is refused `IdSpace`.
     ghost is_too_large: { K → Bool };
 
-    /// The map that has the default value at each key. Takes no memory.
+    /// The map that has the default at each key. Takes no memory.
     fn new(alloc: A) -> Self
-        ensures { (k : K) → value_at result k ≡ V.default_value };
+        ensures { (k : K) → V.is_default (value_at result k) };
 
     /// The value at the key.
     fn get(&self, key: K) -> V
@@ -58,7 +58,7 @@ pub trait IdMap<K, V: DefaultValue, A: Allocator + Copy>: Drop {
     /// stored. Takes no memory.
     fn update_all<F: Fn(V) -> V>(&mut self, f: F)
         requires callable { F.IsAlwaysCallable f }
-        requires keeps_default { F.post f V.default_value V.default_value }
+        requires keeps_default { (default : V) → V.is_default default → F.post f default default }
         ensures changed { (k : K) → F.post f (value_at self.old k) (value_at self.new k) }
         ensures keeps { (k : K) → has_room self.old k → has_room self.new k };
 
@@ -66,10 +66,10 @@ pub trait IdMap<K, V: DefaultValue, A: Allocator + Copy>: Drop {
     fn largest(&self) -> V
     where
         V: Ord,
-        ensures { IsLargest V.cmp V.default_value (value_at self.now) result };
+        ensures { (default : V) → V.is_default default → IsLargest V.cmp default (value_at self.now) result };
 
-    /// There is room at each key whose value isn't the default.
-    ghost written: { (m : Self) (k : K) → value_at m k ≢ V.default_value → has_room m k };
+    /// There is room at each key whose value isn't a default.
+    ghost written: { (m : Self) (k : K) → (V.is_default (value_at m k) → ⊥) → has_room m k };
 
     /// A key for which there is room isn't too large.
     ghost room_fits: { (m : Self) (k : K) → has_room m k → is_too_large k ≡ false };

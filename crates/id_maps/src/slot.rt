@@ -47,9 +47,11 @@ impl Default for Slot {
 }
 
 impl DefaultValue for Slot {
-    ghost use Rattle.std.specs.Prelude.{None};
+    ghost use Rattle.std.specs.Prelude.{None, refl};
 
     ghost default_value = { None };
+
+    ghost default_is = { refl };
 
     ghost only_default = { λ s h. h };
 }

@@ -2,7 +2,7 @@
 ghost use Rattle.std.specs.Prelude.{◌≡◌, true, false, is_some, refl};
 ghost use Rattle.std.specs.Option.{unwrap_or};
 ghost use Rattle.indexmap.specs.IndexMap.{get};
-ghost use Rattle.typed_ids.specs.TotalMaps.{some_is_stored};
+ghost use Rattle.typed_ids.specs.TotalMaps.{some_is_stored, not_default};
 
 use crate::id_map::IdMap;
 use indexmap::IndexMap;
@@ -23,7 +23,7 @@ impl<K: SameId, V: DefaultValue, S: BuildHasher + Default + Drop, A: Allocator +
 
     ghost is_too_large = { λ k. false };
 
-    ghost written = { λ m k h. some_is_stored (get K.eq m k) V.default_value h };
+    ghost written = { λ m k h. some_is_stored (get K.eq m k) V.default_value (not_default V.is_default V.default_is h) };
 
     ghost room_fits = { λ m k h. refl };
 

@@ -147,5 +147,7 @@ impl DefaultValue for Requirement {
 
     ghost default_value = { Single (record { 0 = 0 }) };
 
+    ghost default_is = { Prim.search rules };
+
     ghost only_default = { λ x h. h };
 }

@@ -4,7 +4,7 @@ use Rattle.std.specs.Prelude.{take, slice_index_or, Option, None, Some, is_some,
 use Rattle.std.specs.Option.{unwrap_or}
 use Rattle.std.specs.Ordering.{is_gt}
 use Rattle.std.specs.declared.cmp.Ordering.{Ordering}
-use Rattle.std.proofs.Common.{arith}
+use Rattle.std.proofs.Common.{arith, sym, subst}
 use Rattle.std.proofs.lemmas.List.{get_or_past, length-take}
 
 -- the new map has the value at the key, and elsewhere what the old one has
@@ -40,3 +40,8 @@ pub some_is_stored : {V : Type 0} (stored : Option V) (default : V) → unwrap_o
     is_some stored ≡ true
 some_is_stored None default h = absurd (h refl)
 some_is_stored (Some value) default h = refl
+
+-- what isn't a default isn't this one
+pub not_default : {V : Type 0} (is_default : V → Type 0) {default value : V} → is_default default →
+    (is_default value → ⊥) → value ≢ default
+not_default is_default default_is not_one e = not_one (subst is_default (sym e) default_is)

@@ -7,7 +7,8 @@
 //! or sparse (`sparse_id`); `dense_index` and `same_id` have the traits. Four more traits are laws of a type's derives:
 //! `same_value` of `==`, `same_clone` of `clone`, `ordered_by_parts` of the order, `default_value` of the default. The
 //! refusals are in `error`, and `insert_error` hands back what was refused. `specs/Refusals` and `specs/TotalMaps` have
-//! the words by which contracts of all crates speak of them and of total maps.
+//! the words by which contracts of all crates speak of them and of total maps. `memory_size` tells that a type fits in
+//! memory.
 #![tactic(auto)]
 
 mod candidates_id;
@@ -21,6 +22,7 @@ mod disjunction_id;
 mod error;
 mod insert_error;
 mod learnt_clause_id;
+mod memory_size;
 mod ordered_by_parts;
 mod same_clone;
 mod same_id;
@@ -43,6 +45,7 @@ pub use disjunction_id::DisjunctionId;
 pub use error::StoreError;
 pub use insert_error::InsertError;
 pub use learnt_clause_id::LearntClauseId;
+pub use memory_size::{fits_in_memory, type_fits};
 pub use ordered_by_parts::OrderedByParts;
 pub use same_clone::SameClone;
 pub use same_id::SameId;

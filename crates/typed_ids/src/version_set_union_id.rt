@@ -63,5 +63,7 @@ impl DefaultValue for VersionSetUnionId {
 
     ghost default_value = { record { 0 = 0 } };
 
+    ghost default_is = { Prim.search rules };
+
     ghost only_default = { λ x h. Prim.search rules };
 }

@@ -29,7 +29,8 @@ whole g c =
 
 pub returns-clause-changed : goal.returns-clause-changed
 returns-clause-changed g c k =
-    changed_value (goal.F-post g c.args.f) (g.K.PartialEq.eq k) g.V.DefaultValue.default_value c.requires.keeps_default _ _ (whole g c)
+    changed_value (goal.F-post g c.args.f) (g.K.PartialEq.eq k) g.V.DefaultValue.default_value
+    (c.requires.keeps_default g.V.DefaultValue.default_value g.met.V.DefaultValue.default_is) _ _ (whole g c)
 
 pub returns-clause-keeps : goal.returns-clause-keeps
 returns-clause-keeps g c k h = changed_keys (goal.F-post g c.args.f) (g.K.PartialEq.eq k) _ _ (whole g c) ∙ h
