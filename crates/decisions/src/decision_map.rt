@@ -1,5 +1,5 @@
 //! The values of variables, and the levels at which they got them.
-ghost use Rattle.std.specs.Prelude.{◌≡◌, [], true, false, Some, None, option_map, OnOk, OnErr, IfErr};
+ghost use Rattle.std.specs.Prelude.{◌≡◌, [], true, false, Some, None, option_map, OnOk, OnErr, IfErr, refl};
 ghost use Rattle.std.specs.Option.{option_map_or};
 ghost use Rattle.std.specs.List.{list_all};
 ghost use Rattle.typed_ids.specs.declared.error.StoreError.TheVariants.{OutOfMemory};
@@ -79,6 +79,8 @@ impl Default for DecisionAndLevel {
 
 impl DefaultValue for DecisionAndLevel {
     ghost default_value = { None };
+
+    ghost default_is = { refl };
 
     ghost only_default = { λ d h. h };
 }
