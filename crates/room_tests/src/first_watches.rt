@@ -5,7 +5,7 @@ use providers::Requirement;
 use std::alloc::Allocator;
 use std::test::Fail;
 use test_support::is_same;
-use typed_ids::{ClauseId, DenseIndex, VariableId, VersionSetId};
+use typed_ids::{ClauseId, DenseIndex, DisjunctionId, VariableId, VersionSetId};
 use watch_map::WatchedLiterals;
 
 /// What a new clause watches, and whether it is a conflict.
@@ -50,6 +50,46 @@ fn a_clause_that_requires_watches_what_is_not_false(rt: HostRuntime) -> Result<(
 }
 
 #[test]
+fn a_clause_with_a_condition_watches_its_literals_before_candidates(
+    rt: HostRuntime,
+) -> Result<(), Fail> {
+    let wanted = [
+        watching(minus(3), false),
+        watching(plus(2), false),
+        watching(minus(3), true),
+        watching(minus(3), false),
+    ];
+    let decisions = [(3, true), (2, false), (1, false)];
+    is_same(
+        seen_between(rt.alloc(), &Kind::RequiresIf, decisions),
+        wanted,
+    )
+}
+
+#[test]
+fn a_clause_without_two_literals_watches_nothing(rt: HostRuntime) -> Result<(), Fail> {
+    let wanted = [(None, false), (None, false), (None, false)];
+    let tracker = DecisionTracker::new(rt.alloc());
+    let seen = seen_without_candidates(&tracker);
+    drop(tracker);
+    is_same(seen, wanted)
+}
+
+#[test]
+fn a_clause_has_its_parent_condition_and_requirement(rt: HostRuntime) -> Result<(), Fail> {
+    let tracker = DecisionTracker::new(rt.alloc());
+    let (_, _, clause) = required(&tracker, &[], &condition(&[]));
+    drop(tracker);
+    match clause {
+        Clause::Requires(parent, disjunction, requirement) => is_same(
+            (parent, disjunction, requirement),
+            (variable(1), Some(DisjunctionId::from_index(4)), single()),
+        ),
+        _ => Err(Fail::new(format_args!("another kind of clause"))),
+    }
+}
+
+#[test]
 fn a_clause_that_constrains_watches_both(rt: HostRuntime) -> Result<(), Fail> {
     let wanted = [
         watching(minus(2), false),
@@ -64,9 +104,10 @@ fn a_clause_that_constrains_watches_both(rt: HostRuntime) -> Result<(), Fail> {
     )
 }
 
-/// A clause of variable 1: that it requires 2 or 3, or that it forbids 2.
+/// A clause of variable 1: that it requires 2 or 3, that it requires 2 if 3 is true, or that it forbids 2.
 enum Kind {
     Requires,
+    RequiresIf,
     Constrains,
 }
 
@@ -111,26 +152,49 @@ fn decided<A: Allocator + Copy>(
 pub(crate) fn seen_where_nothing_is_decided<A: Allocator + Copy>(tracker: &DecisionTracker<A>) {
     let _seen = [
         made(tracker, &Kind::Requires),
+        made(tracker, &Kind::RequiresIf),
         made(tracker, &Kind::Constrains),
     ];
 }
 
 fn made<A: Allocator + Copy>(tracker: &DecisionTracker<A>, kind: &Kind) -> New {
-    let (first, second) = (variable(1), variable(2));
+    let two = variable(2);
     match kind {
-        Kind::Requires => seen(WatchedLiterals::requires_clause::<u32, A>(
-            first,
-            Requirement::Single(VersionSetId(0)),
-            &[second, variable(3)],
-            None,
-            &[],
-            tracker,
-        )),
-        Kind::Constrains => seen(WatchedLiterals::constrains::<u32, A>(
-            first,
-            second,
+        Kind::Requires => seen(required(tracker, &[two, variable(3)], &None)),
+        Kind::RequiresIf => seen(required(tracker, &[two], &condition(&[minus(3)]))),
+        Kind::Constrains => seen(WatchedLiterals::constrains(
+            variable(1),
+            two,
             VersionSetId(0),
             tracker,
         )),
     }
+}
+
+/// Clauses that require what has no candidates: with no condition, with an empty one, and with one that negates the
+/// parent.
+fn seen_without_candidates<A: Allocator + Copy>(tracker: &DecisionTracker<A>) -> [New; 3] {
+    [
+        seen(required(tracker, &[], &None)),
+        seen(required(tracker, &[], &condition(&[]))),
+        seen(required(tracker, &[], &condition(&[minus(1)]))),
+    ]
+}
+
+/// The clause that variable 1 requires one of the candidates under the condition.
+fn required<A: Allocator + Copy>(
+    tracker: &DecisionTracker<A>,
+    candidates: &[VariableId],
+    condition: &Option<(DisjunctionId, &[Literal])>,
+) -> (Option<WatchedLiterals>, bool, Clause<u32>) {
+    WatchedLiterals::requires_clause(variable(1), single(), candidates, condition, tracker)
+}
+
+/// The condition with these literals.
+fn condition(literals: &[Literal]) -> Option<(DisjunctionId, &[Literal])> {
+    Some((DisjunctionId::from_index(4), literals))
+}
+
+fn single() -> Requirement {
+    Requirement::Single(VersionSetId(0))
 }

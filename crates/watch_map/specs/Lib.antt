@@ -1,6 +1,7 @@
 pub mod ClauseList
 pub mod ClauseListView
 pub mod ClauseRecord
+pub mod Conditions
 pub mod Forcing
 pub mod Laws
 pub mod Marks

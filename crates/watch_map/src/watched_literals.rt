@@ -3,11 +3,12 @@ ghost use Rattle.std.specs.Prelude.{◌≡◌, ◌<◌, ◌&&◌, not, [], ◌�
 ghost use Rattle.decisions.specs.Decisions.{values_in};
 ghost use Rattle.decisions.specs.Literals.{Pos, Neg, Values, known_true, known_false, is_false_literal};
 ghost use Rattle.decisions.specs.Trail.{val};
-ghost use Rattle.clauses.specs.Clauses.{Kept, condition_literals, asked_literals};
+ghost use Rattle.clauses.specs.Clauses.{Kept};
 ghost use Rattle.clauses.specs.Clauses.{same_literal, watch_pair, watch_beside, watch_ends};
 ghost use Rattle.clauses.specs.Clauses.{first_not_false, first_watches, is_met_by_parent, is_conflict, next_unwatched};
 ghost use Rattle.clauses.specs.Stored.{kept_in};
 ghost use Rattle.clauses.specs.Walks.{literals_in};
+ghost use Rattle.watch_map.specs.Conditions.{given_disjunction, given_literals, given_others, AreKept};
 ghost use Rattle.watch_map.specs.WatchLists.{IsUnlinked};
 ghost use Rattle.clauses.specs.declared.clause.Clause.TheVariants.{InstallRoot, Requires, ForbidMultipleInstances};
 ghost use Rattle.clauses.specs.declared.clause.Clause.TheVariants.{Constrains, ConstrainsExcluded};
@@ -53,33 +54,36 @@ impl WatchedLiterals {
         (None, Clause::InstallRoot)
     }
 
-    /// The clause that the parent requires one of the candidates, unless one of the disjunction's literals is true, and
-    /// whether it is a conflict. Without a disjunction there are no such literals.
+    /// The clause that the parent requires one of the candidates, unless one of the condition's literals is true, and
+    /// whether it is a conflict. A condition is the id of a disjunction and its literals.
     pub fn requires_clause<N, A: Allocator + Copy>(
         parent: VariableId,
         requirement: Requirement,
         candidates: &[VariableId],
-        disjunction: Option<DisjunctionId>,
-        literals: &[Literal],
+        condition: &Option<(DisjunctionId, &[Literal])>,
         tracker: &DecisionTracker<A>,
     ) -> (Option<Self>, bool, Clause<N>)
-        requires { disjunction ≡ None → literals.now ≡ [] }
-        ensures clause { result.2 ≡ Requires parent disjunction requirement }
-        ensures watches { option_map (λ w. w.watched_literals) result.0
-            ≡ watch_beside (Neg parent)
-            (first_not_false (val tracker.now.entries) (asked_literals literals.now (candidates.now ∷ []))) }
+        ensures clause { result.2 ≡ Requires parent (given_disjunction condition.now) requirement }
+        ensures watches { option_map (λ w. w.watched_literals) result.0 ≡ watch_beside (Neg parent)
+            (first_not_false (val tracker.now.entries) (given_others condition.now (candidates.now ∷ []))) }
         ensures conflict { result.1 ≡ is_met_by_parent (val tracker.now.entries) parent
-            (asked_literals literals.now (candidates.now ∷ [])) }
+            (given_others condition.now (candidates.now ∷ [])) }
         ensures unlinked { IfSome result.0 IsUnlinked }
     {
         let others = LiteralWalk {
             first: None,
             second: None,
-            kept: literals,
+            kept: literals_of(condition),
             candidates,
             lists: &[],
         };
-        Self::requires_others(parent, requirement, disjunction, &others, tracker)
+        Self::requires_others(
+            parent,
+            requirement,
+            disjunction_of(condition),
+            &others,
+            tracker,
+        )
     }
 
     /// The same clause, of candidates that are kept in lists.
@@ -87,31 +91,34 @@ impl WatchedLiterals {
         parent: VariableId,
         requirement: Requirement,
         lists: &[Vec<VariableId, A>],
-        disjunction: Option<DisjunctionId>,
-        literals: &[Literal],
+        condition: &Option<(DisjunctionId, &[Literal])>,
         tracker: &DecisionTracker<A>,
     ) -> (Option<Self>, bool, Clause<N>)
-        requires { disjunction ≡ None → literals.now ≡ [] }
-        ensures clause { result.2 ≡ Requires parent disjunction requirement }
-        ensures watches { option_map (λ w. w.watched_literals) result.0
-            ≡ watch_beside (Neg parent) (first_not_false (val tracker.now.entries)
-            (asked_literals literals.now (map (λ list. list.items) lists.now))) }
+        ensures clause { result.2 ≡ Requires parent (given_disjunction condition.now) requirement }
+        ensures watches { option_map (λ w. w.watched_literals) result.0 ≡ watch_beside (Neg parent)
+            (first_not_false (val tracker.now.entries) (given_others condition.now (map (λ l. l.items) lists.now))) }
         ensures conflict { result.1 ≡ is_met_by_parent (val tracker.now.entries) parent
-            (asked_literals literals.now (map (λ list. list.items) lists.now)) }
-        ensures kept { (k : Kept) → condition_literals k disjunction ≡ literals.now →
-            k.lists requirement ≡ map (λ list. list.items) lists.now →
-            (option_map (λ w. w.watched_literals) result.0 ≡ first_watches k (val tracker.now.entries) result.2) ×
-            (result.1 ≡ is_conflict k (val tracker.now.entries) result.2) }
+            (given_others condition.now (map (λ l. l.items) lists.now)) }
+        ensures kept { (k : Kept) → AreKept k condition.now requirement (map (λ l. l.items) lists.now) →
+            option_map (λ w. w.watched_literals) result.0 ≡ first_watches k (val tracker.now.entries) result.2 }
+        ensures kept_conflict { (k : Kept) → AreKept k condition.now requirement (map (λ l. l.items) lists.now) →
+            result.1 ≡ is_conflict k (val tracker.now.entries) result.2 }
         ensures unlinked { IfSome result.0 IsUnlinked }
     {
         let others = LiteralWalk {
             first: None,
             second: None,
-            kept: literals,
+            kept: literals_of(condition),
             candidates: &[],
             lists,
         };
-        Self::requires_others(parent, requirement, disjunction, &others, tracker)
+        Self::requires_others(
+            parent,
+            requirement,
+            disjunction_of(condition),
+            &others,
+            tracker,
+        )
     }
 
     /// The clause that the parent forbids the other solvable, and whether it is a conflict.
@@ -325,6 +332,26 @@ fn is_false<A: Allocator + Copy>(map: &DecisionMap<A>, literal: Literal) -> bool
     ensures { result ≡ is_false_literal (values_in map.now) literal }
 {
     literal.eval(map) == Some(false)
+}
+
+/// The id of a condition's disjunction.
+fn disjunction_of(condition: &Option<(DisjunctionId, &[Literal])>) -> Option<DisjunctionId>
+    ensures { result ≡ given_disjunction condition.now }
+{
+    match condition {
+        Some((id, _)) => Some(*id),
+        None => None,
+    }
+}
+
+/// The literals of a condition's disjunction.
+fn literals_of<'c>(condition: &Option<(DisjunctionId, &'c [Literal])>) -> &'c [Literal]
+    ensures { result.now ≡ given_literals condition.now }
+{
+    match condition {
+        Some((_, literals)) => *literals,
+        None => &[],
+    }
 }
 
 /// Whether it is another literal than the other watch, and isn't false.

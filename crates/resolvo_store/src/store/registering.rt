@@ -218,7 +218,11 @@ fn clause_of<N, A: Allocator + Copy>(
 {
     let lists = candidates(loaded, requirement);
     let literals = literals_of(disjunctions, disjunction);
-    WatchedLiterals::requires_of_lists(parent, requirement, lists, *disjunction, literals, trail)
+    let condition = match *disjunction {
+        Some(id) => Some((id, literals)),
+        None => None,
+    };
+    WatchedLiterals::requires_of_lists(parent, requirement, lists, &condition, trail)
 }
 
 /// Keeps one disjunction more, and answers its id. Takes memory for a copy of the literals, and where there is no room
