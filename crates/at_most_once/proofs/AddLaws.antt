@@ -2,20 +2,30 @@
 -- needed, and the clauses are counted.
 use Rattle.std.proofs.Common.{◌≡◌, ℕ, suc, ◌+◌, ◌-◌, ◌*◌, ◌^◌, ◌<◌, ◌≤◌, Bool, true, false}
 use Rattle.std.proofs.Common.{◌&&◌, ◌||◌, ltb, List, [], ◌∷◌, ◌++◌, Option, Some, None, ◌⊎◌}
-use Rattle.std.proofs.Common.{inl, inr, sym, ap, refl, subst, ◌∙◌, arith, length, length-append}
-use Rattle.std.specs.Prelude.{map, IfSome, is_some}
+use Rattle.std.proofs.Common.{not, inl, inr, sym, ap, refl, subst, ◌∙◌, arith, length, length-append}
+use Rattle.std.specs.Prelude.{map, IfSome, is_some, if◌then◌else◌}
 use Rattle.std.specs.List.{enumerate_from, list_any}
 use Rattle.std.proofs.lemmas.Bool.Decides.{nat_tests}
 use Rattle.std.proofs.lemmas.Nat.{pow_pos}
 use Rattle.std.proofs.lemmas.Bool.{cases_lt}
+use Rattle.std.proofs.lemmas.List.{append-nil}
 use Rattle.std.proofs.Math.Nat.{pow-suc}
 use Rattle.std.proofs.Math.Numerals.{add-one}
 use Rattle.std.proofs.Math.Pow.{pow_mono}
 use Rattle.std.specs.Cmp.{IsEquivalence}
-use Rattle.at_most_once.specs.AtMostOne.{Tracker, BitClause, Adds, none, more, with_new}
-use Rattle.at_most_once.specs.AtMostOne.{with_helper, new_clauses, given_clauses, variable_clauses}
-use Rattle.at_most_once.specs.AtMostOne.{is_full, has_bit, IsFresh, IsLeastPower, ClausesAreCounted}
+use Rattle.at_most_once.specs.AtMostOne.{Tracker, BitClause, Adds, none, more, is_tracked, with_variable, with_new}
+use Rattle.at_most_once.specs.AtMostOne.{with_helper, clauses_for, new_clauses, given_clauses, variable_clauses}
+use Rattle.at_most_once.specs.AtMostOne.{is_full, has_bit, IsFresh, IsLeastPower}
 use Rattle.at_most_once.proofs.Places.{At, here, there, at_within, at_cases}
+
+-- what holds before an addition holds after it, if it does where the variable is new
+pub after_addition : {V : Type 0} (same : V → V → Bool) (P : Tracker V → List (BitClause V) → Type 0) (t : Tracker V) (cs : List (BitClause V)) (h : Option V) (v : V) →
+    P t cs → (is_tracked same t v ≡ false → P (with_new t h v) (cs ++ new_clauses t h v)) → P (with_variable same t h v) (cs ++ clauses_for same t h v)
+after_addition same P t cs h v before new = by_tracked (is_tracked same t v) refl
+  where
+    by_tracked : (b : Bool) → is_tracked same t v ≡ b → P (if b then t else with_new t h v) (cs ++ (if b then [] else new_clauses t h v))
+    by_tracked true e = subst (P t) (sym (append-nil cs)) before
+    by_tracked false e = new e
 
 -- ---- no variable stands twice, and none is a helper
 
@@ -23,7 +33,7 @@ use Rattle.at_most_once.proofs.Places.{At, here, there, at_within, at_cases}
 abbrev pub Once : {V : Type 0} → (V → V → Bool) → List V → Type 0
 Once {V} same xs = (i j : ℕ) (x y : V) → i < j → At xs i x → At xs j y → same y x ≡ false
 
-none_same : {V : Type 0} (p : V → Bool) (xs : List V) → list_any p xs ≡ false → {i : ℕ} {x : V} → At xs i x → p x ≡ false
+pub none_same : {V : Type 0} (p : V → Bool) (xs : List V) → list_any p xs ≡ false → {i : ℕ} {x : V} → At xs i x → p x ≡ false
 none_same p xs e m = of_at m e
   where
     first : (a b : Bool) → (a || b) ≡ false → a ≡ false
@@ -37,6 +47,10 @@ none_same p xs e m = of_at m e
     of_at : {ys : List _} {i : ℕ} {x : _} → At ys i x → list_any p ys ≡ false → p x ≡ false
     of_at (here {x = x} {xs = zs}) q = first (p x) (list_any p zs) q
     of_at (there {y = y} {xs = zs} n) q = of_at n (later (p y) (list_any p zs) q)
+
+pub any_none : {V : Type 0} (p : V → Bool) (xs : List V) → ((i : ℕ) (x : V) → At xs i x → p x ≡ false) → list_any p xs ≡ false
+any_none p [] out = refl
+any_none p (x ∷ xs) out = rw (out 0 x here) (any_none p xs (λ i y m. out (suc i) y (there m)))
 
 once_pushed : {V : Type 0} (same : V → V → Bool) (xs : List V) (v : V) → Once same xs → list_any (same v) xs ≡ false → Once same (xs ++ v ∷ [])
 once_pushed {V} same xs v o out i j x y l m n =
@@ -56,19 +70,20 @@ pub record Apart {V : Type 0} (same : V → V → Bool) (t : Tracker V) : Type 0
 
 pub apart : {V : Type 0} (same : V → V → Bool) → IsEquivalence same → {t : Tracker V} {cs : List (BitClause V)} → Adds same t cs → Apart same t
 apart same laws none = record { tracked_once = λ i j x y l m n. elim m [ ]; helpers_once = λ i j x y l m n. elim m [ ]; no_helper = λ i b x h m n. elim m [ ] }
-apart {V} same laws (more {t = t} {cs = cs} h v adds asked) = with_given h asked.fresh (apart same laws adds)
+apart {V} same laws (more {t = t} {cs = cs} h v adds asked) =
+    let before = apart same laws adds in after_addition same (λ u ds. Apart same u) t cs h v before (λ new. with_given h asked.fresh new before)
   where
-    with_given : (h : Option V) → IfSome h (λ x. IsFresh same t x × (same x v ≡ false)) → Apart same t → Apart same (with_new t h v)
-    with_given None f before = record {
-      tracked_once = once_pushed same t.variables v before.tracked_once asked.new.0;
+    with_given : (h : Option V) → IfSome h (λ x. IsFresh same t x × (same x v ≡ false)) → is_tracked same t v ≡ false → Apart same t → Apart same (with_new t h v)
+    with_given None f new before = record {
+      tracked_once = once_pushed same t.variables v before.tracked_once new;
       helpers_once = before.helpers_once;
       no_helper = λ i b x k m n. elim (at_cases t.variables v m) [
         | inl m' ↦ before.no_helper i b x k m' n
-        | inr e ↦ subst (λ z. same z k ≡ false) (sym e.1) (none_same (same v) t.helpers asked.new.1 n)
+        | inr e ↦ subst (λ z. same z k ≡ false) (sym e.1) (none_same (same v) t.helpers asked.no_helper n)
       ];
     }
-    with_given (Some g) f before = record {
-      tracked_once = once_pushed same t.variables v before.tracked_once asked.new.0;
+    with_given (Some g) f new before = record {
+      tracked_once = once_pushed same t.variables v before.tracked_once new;
       helpers_once = once_pushed same t.helpers g before.helpers_once f.0.1;
       no_helper = λ i b x k m n. elim (at_cases t.variables v m) [
         | inl m' ↦ elim (at_cases t.helpers g n) [
@@ -76,7 +91,7 @@ apart {V} same laws (more {t = t} {cs = cs} h v adds asked) = with_given h asked
           | inr e ↦ subst (λ z. same x z ≡ false) (sym e.1) (turned same laws g x (none_same (same g) t.variables f.0.0 m'))
         ]
         | inr e ↦ elim (at_cases t.helpers g n) [
-          | inl n' ↦ subst (λ z. same z k ≡ false) (sym e.1) (none_same (same v) t.helpers asked.new.1 n')
+          | inl n' ↦ subst (λ z. same z k ≡ false) (sym e.1) (none_same (same v) t.helpers asked.no_helper n')
           | inr e' ↦ subst (λ z. same z k ≡ false) (sym e.1) (subst (λ z. same v z ≡ false) (sym e'.1) (turned same laws g v f.1))
         ]
       ];
@@ -117,7 +132,9 @@ power_more n k e =
 pub has_enough : {V : Type 0} {same : V → V → Bool} {t : Tracker V} {cs : List (BitClause V)} → Adds same t cs →
     IsLeastPower (length t.helpers) (length t.variables)
 has_enough none = record { enough = omega arith; least = λ j h. omega arith }
-has_enough {V} (more {t = t} {cs = cs} h v adds asked) = with_given h asked.needed (has_enough adds)
+has_enough {V} {same} (more {t = t} {cs = cs} h v adds asked) =
+    after_addition same (λ u ds. IsLeastPower (length u.helpers) (length u.variables)) t cs h v (has_enough adds)
+    (λ new. with_given h (asked.needed ∙ ap (λ b. not b && is_full t) new) (has_enough adds))
   where
     with_given : (h : Option V) → is_some h ≡ is_full t → IsLeastPower (length t.helpers) (length t.variables) →
         IsLeastPower (length (with_new t h v).helpers) (length (with_new t h v).variables)
@@ -139,9 +156,10 @@ length-enumerated f n (x ∷ xs) = ap suc (length-enumerated f (n + 1) xs)
 counted : (cs n k given k' : ℕ) → cs ≡ n * k → given + n * k ≡ n * k' → cs + (given + k') ≡ (n + 1) * k'
 counted cs n k given k' e f = omega arith
 
-clause_count : {V : Type 0} {same : V → V → Bool} {t : Tracker V} {cs : List (BitClause V)} → Adds same t cs → length cs ≡ length t.variables * length t.helpers
+pub clause_count : {V : Type 0} {same : V → V → Bool} {t : Tracker V} {cs : List (BitClause V)} → Adds same t cs → length cs ≡ length t.variables * length t.helpers
 clause_count none = omega arith
-clause_count {V} (more {t = t} {cs = cs} h v adds asked) = with_given h (clause_count adds)
+clause_count {V} {same} (more {t = t} {cs = cs} h v adds asked) =
+    after_addition same (λ u ds. length ds ≡ length u.variables * length u.helpers) t cs h v (clause_count adds) (λ new. with_given h (clause_count adds))
   where
     given_count : (h : Option V) → length (given_clauses t h) + length t.variables * length t.helpers ≡ length t.variables * length (with_helper t.helpers h)
     given_count None = omega arith
@@ -158,6 +176,3 @@ clause_count {V} (more {t = t} {cs = cs} h v adds asked) = with_given h (clause_
           length-pushed t.variables v,
         )
         (counted (length cs) (length t.variables) (length t.helpers) (length (given_clauses t h)) (length (with_helper t.helpers h)) e (given_count h))
-
-pub clauses_counted : {V : Type 0} (same : V → V → Bool) → ClausesAreCounted same
-clauses_counted same t cs adds = (clause_count adds, has_enough adds)

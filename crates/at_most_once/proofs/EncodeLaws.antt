@@ -1,15 +1,17 @@
 -- The helpers encode "at most one": they spell the number of each true variable.
 use Rattle.std.proofs.Common.{◌≡◌, ℕ, zero, suc, ◌+◌, ◌^◌, ◌<◌, ◌≤◌, Bool, true, false, not, ◌||◌, cond, List}
 use Rattle.std.proofs.Common.{[], ◌∷◌, ◌⊎◌, inl, inr, sym, ap, refl, subst, ◌∙◌, arith, length, add-zero}
+use Rattle.std.specs.Prelude.{Contains}
 use Rattle.std.specs.Bool.{beq}
+use Rattle.std.specs.List.{list_any}
 use Rattle.std.specs.Int.{bit_at}
 use Rattle.std.proofs.lemmas.Bool.Decides.{nat_tests}
 use Rattle.std.proofs.lemmas.Nat.Bits.{same_from_bits_below, bit_at-lt}
 use Rattle.std.specs.Cmp.{IsEquivalence}
-use Rattle.at_most_once.specs.AtMostOne.{Tracker, BitClause, Adds, has_bit, AtMostOne, CanBeMet, HelpersEncode}
+use Rattle.at_most_once.specs.AtMostOne.{Tracker, BitClause, Adds, has_bit, is_met, AtMostOne, CanBeMet}
 use Rattle.at_most_once.proofs.Places.{At, here, there, at_within, at_one, contains_at, at_contained}
 use Rattle.at_most_once.proofs.GridLaws.{Grid, grid_from_met, met_from_grid}
-use Rattle.at_most_once.proofs.AddLaws.{Once, apart, one_place, has_enough}
+use Rattle.at_most_once.proofs.AddLaws.{Once, none_same, any_none, apart, one_place, has_enough}
 
 -- a met c of a true variable: the helper has the bit
 met_spells : (x h bit : Bool) → (not x || beq h bit) ≡ true → x ≡ true → h ≡ bit
@@ -88,24 +90,32 @@ same_is_met true false false e = refl
 same_is_met true true false e = cc
 same_is_met true false true e = cc
 
+module _ {V : Type 0} (same : V → V → Bool) (laws : IsEquivalence same) (t : Tracker V) (cs : List (BitClause V)) (adds : Adds same t cs) where
+  pub no_helpers : (v : V) → Contains t.variables v → list_any (same v) t.helpers ≡ false
+  no_helpers v c =
+      let p = at_contained t.variables v c in any_none (same v) t.helpers (λ b h n. (apart same laws adds).no_helper p.0 b v h p.1 n)
+
 module _ {V : Type 0} (same : V → V → Bool) (laws : IsEquivalence same) (t : Tracker V) (cs : List (BitClause V)) (adds : Adds same t cs) (x : V → Bool) where
-  -- the helpers spelling the number i; tracked variables as given
+  -- the helpers spelling the number i; all else as given
   choice : ℕ → V → Bool
   choice i = spelled same x i 0 t.helpers
 
-  choice-tracked : (i j : ℕ) (v : V) → At t.variables j v → choice i v ≡ x v
+  choice-other : (i : ℕ) (v : V) → list_any (same v) t.helpers ≡ false → choice i v ≡ x v
   unfolding choice
-  choice-tracked i j v m = spelled_other same laws x i 0 t.helpers v (λ b h n. (apart same laws adds).no_helper j b v h m n)
+  choice-other i v e = spelled_other same laws x i 0 t.helpers v (λ b h n. none_same (same v) t.helpers e n)
+
+  choice-tracked : (i j : ℕ) (v : V) → At t.variables j v → choice i v ≡ x v
+  choice-tracked i j v m = choice-other i v (no_helpers same laws t cs adds v (contains_at m))
 
   choice-helper : (i b : ℕ) (h : V) → At t.helpers b h → choice i h ≡ has_bit i b
   unfolding choice
   choice-helper i b h n = spelled_helper same laws x i 0 t.helpers b h n (apart same laws adds).helpers_once ∙
       (let e : 0 + b ≡ b = omega arith in ap (has_bit i) e)
 
-  choice-meets : (i : ℕ) → ((j : ℕ) (v : V) → At t.variables j v → (x v ≡ false) ⊎ (j ≡ i)) → CanBeMet x t.variables cs
+  choice-meets : (i : ℕ) → ((j : ℕ) (v : V) → At t.variables j v → (x v ≡ false) ⊎ (j ≡ i)) → CanBeMet same is_met x t.helpers cs
   choice-meets i only = (
     choice i,
-    (λ v c. let p = at_contained t.variables v c in choice-tracked i p.0 v p.1),
+    choice-other i,
     met_from_grid same (choice i) adds (λ j b v h m n.
         elim (only j v m) [
           | inl e ↦ false_is_met (choice i h) (has_bit j b) (choice i v) (choice-tracked i j v m ∙ e)
@@ -113,7 +123,7 @@ module _ {V : Type 0} (same : V → V → Bool) (laws : IsEquivalence same) (t :
         ]),
   )
 
-  can_be_met : AtMostOne x t.variables → CanBeMet x t.variables cs
+  pub can_be_met : AtMostOne x t.variables → CanBeMet same is_met x t.helpers cs
   can_be_met one =
       elim (true_one x t.variables) [
         | inl f ↦ choice-meets f.0 (λ j v m. decided j v m (x v) refl f.0 f.1 f.2 f.3)
@@ -126,13 +136,11 @@ module _ {V : Type 0} (same : V → V → Bool) (laws : IsEquivalence same) (t :
           inr (one_place same laws t.variables (apart same laws adds).tracked_once j i v m
           (subst (At t.variables i) (sym (one v w (contains_at m) (contains_at n) e p)) n))
 
-  at_most_one : CanBeMet x t.variables cs → AtMostOne x t.variables
+  pub at_most_one : CanBeMet same is_met x t.helpers cs → AtMostOne x t.variables
   at_most_one met v w c d p q =
+      let others = no_helpers same laws t cs adds in
       let m = at_contained t.variables v c in
       let n = at_contained t.variables w d in
       let e : m.0 ≡ n.0 = one_number met.0 t.variables t.helpers (has_enough adds).enough
-      (grid_from_met same met.0 adds met.2) m.0 n.0 v w m.1 n.1 (met.1 v c ∙ p) (met.1 w d ∙ q) in
+      (grid_from_met same met.0 adds met.2) m.0 n.0 v w m.1 n.1 (met.1 v (others v c) ∙ p) (met.1 w (others w d) ∙ q) in
       at_one (subst (λ k. At t.variables k v) e m.1) n.1
-
-pub helpers_encode : {V : Type 0} (same : V → V → Bool) → HelpersEncode same
-helpers_encode same laws t cs adds x = (at_most_one same laws t cs adds x, can_be_met same laws t cs adds x)

@@ -5,7 +5,6 @@ use Rattle.std.specs.Prelude.{Some, None, is_some, IsTrue, Contains, IfSome, if�
 use Rattle.std.specs.List.{list_any, AllByRecursion, enumerate_from}
 use Rattle.std.specs.Bool.{beq}
 use Rattle.std.specs.Int.{bit_at}
-use Rattle.std.specs.Cmp.{IsEquivalence}
 
 -- ---- a tracker, and the clauses of what is added to it
 
@@ -93,19 +92,17 @@ with_variable same t h v = if is_tracked same t v then t else with_new t h v
 abbrev pub IsFresh : {V : Type 0} → (V → V → Bool) → Tracker V → V → Type 0
 IsFresh same t v = (is_tracked same t v ≡ false) × (list_any (same v) t.helpers ≡ false)
 
--- what an addition of a new variable asks: it is no helper, and a helper is given exactly where one is needed, and is
--- fresh
+-- what an addition asks: the variable is no helper, and a helper is given exactly where one is needed, and is fresh
 pub record IsAllowed {V : Type 0} (same : V → V → Bool) (t : Tracker V) (h : Option V) (v : V) : Type 0 where
-  pub new : IsFresh same t v
-  pub needed : is_some h ≡ is_full t
+  pub no_helper : list_any (same v) t.helpers ≡ false
+  pub needed : is_some h ≡ needs_helper same t v
   pub fresh : IfSome h (λ x. IsFresh same t x × (same x v ≡ false))
 
--- from an empty tracker a list of additions leads to this one, and appends these clauses; those of tracked variables
--- change nothing, and don't count
+-- from an empty tracker a list of additions leads to this one, and appends these clauses
 pub data Adds {V : Type 0} (same : V → V → Bool) : Tracker V → List (BitClause V) → Type 0 where
   none : Adds same empty []
   more : {t : Tracker V} {cs : List (BitClause V)} (h : Option V) (v : V) → Adds same t cs → IsAllowed same t h v →
-      Adds same (with_new t h v) (cs ++ new_clauses t h v)
+      Adds same (with_variable same t h v) (cs ++ clauses_for same t h v)
 
 -- ---- what the clauses say
 
@@ -113,28 +110,40 @@ pub data Adds {V : Type 0} (same : V → V → Bool) : Tracker V → List (BitCl
 abbrev pub is_met : {V : Type 0} → (V → Bool) → BitClause V → Bool
 is_met a c = not (a c.0) || beq (a c.1) c.2
 
-abbrev pub AreMet : {V : Type 0} → (V → Bool) → List (BitClause V) → Type 0
-AreMet a cs = AllByRecursion (λ c. is_met a c ≡ true) cs
-
 -- no two different variables of the list are true
 abbrev pub AtMostOne : {V : Type 0} → (V → Bool) → List V → Type 0
 AtMostOne {V} x vs = (v w : V) → Contains vs v → Contains vs w → x v ≡ true → x w ≡ true → v ≡ w
 
--- some values of all else meet the clauses, where the listed variables have these
-abbrev pub CanBeMet : {V : Type 0} → (V → Bool) → List V → List (BitClause V) → Type 0
-CanBeMet {V} x vs cs = (a : V → Bool) × ((v : V) → Contains vs v → a v ≡ x v) × AreMet a cs
-
--- the clauses can be met by choosing helpers exactly when at most one tracked variable is true
-abbrev pub HelpersEncode : {V : Type 0} → (V → V → Bool) → Type 0
-HelpersEncode {V} same = IsEquivalence same → (t : Tracker V) (cs : List (BitClause V)) → Adds same t cs →
-    (x : V → Bool) → CanBeMet x t.variables cs ↔ AtMostOne x t.variables
+-- these truth values are the given ones but for the helpers
+abbrev pub ChoosesHelpers : {V : Type 0} → (V → V → Bool) → List V → (V → Bool) → (V → Bool) → Type 0
+ChoosesHelpers {V} same helpers given a = (v : V) → list_any (same v) helpers ≡ false → a v ≡ given v
 
 -- k is the least number with n ≤ 2 ^ k
 pub record IsLeastPower (k n : ℕ) : Type 0 where
   pub enough : n ≤ 2 ^ k
   pub least : (j : ℕ) → n ≤ 2 ^ j → k ≤ j
 
--- n variables have k helpers and n * k clauses, k the least number with n ≤ 2 ^ k
-abbrev pub ClausesAreCounted : {V : Type 0} → (V → V → Bool) → Type 0
-ClausesAreCounted {V} same = (t : Tracker V) (cs : List (BitClause V)) → Adds same t cs →
-    (length cs ≡ length t.variables * length t.helpers) × IsLeastPower (length t.helpers) (length t.variables)
+-- these truth values meet all clauses, where a test tells whether they meet one
+abbrev pub AreMet : {V C : Type 0} → ((V → Bool) → C → Bool) → (V → Bool) → List C → Type 0
+AreMet meets a cs = AllByRecursion (λ c. meets a c ≡ true) cs
+
+-- what clauses of any kind say
+module _ {V C : Type 0} (same : V → V → Bool) (meets : (V → Bool) → C → Bool) where
+  -- the clauses can be met by choosing helpers, where all else has these values
+  abbrev pub CanBeMet : (V → Bool) → List V → List C → Type 0
+  CanBeMet x helpers cs = (a : V → Bool) × ChoosesHelpers same helpers x a × AreMet meets a cs
+
+  -- the clauses say that at most one tracked variable is true
+  pub record SaysAtMostOne (t : Tracker V) (cs : List C) : Type 0 where
+    -- no tracked variable is a helper
+    pub apart : (v : V) → Contains t.variables v → list_any (same v) t.helpers ≡ false
+    -- the clauses can be met by choosing helpers exactly when at most one tracked variable is true
+    pub at_most_one : (x : V → Bool) → CanBeMet x t.helpers cs ↔ AtMostOne x t.variables
+    -- n variables have k helpers and n * k clauses, k the least number with n ≤ 2 ^ k
+    pub count : length cs ≡ length t.variables * length t.helpers
+    pub least : IsLeastPower (length t.helpers) (length t.variables)
+
+-- a tracker with all its clauses: a list of additions to an empty tracker leaves both
+pub record IsEncoding {V : Type 0} (same : V → V → Bool) (t : Tracker V) (cs : List (BitClause V)) : Type 0 where
+  pub adds : Adds same t cs
+  pub says : SaysAtMostOne same is_met t cs

@@ -19,8 +19,8 @@
 //! Variables come one by one. One that fills the numbers which the helpers can spell comes with a helper more, and then
 //! each earlier variable gets a clause with that helper; no clause that was made is ever changed.
 //!
-//! The definitions are in `specs/AtMostOne`: what an addition appends, and, by `HelpersEncode` and `ClausesAreCounted`,
-//! what all clauses say together and how many they are.
+//! The definitions are in `specs/AtMostOne`: what an addition appends, and, by `SaysAtMostOne`, what all clauses say
+//! together and how many they are.
 //!
 //! `tracker` is one tracker, and `name_trackers` has one for each name of a package. The words of the latter's
 //! contracts are in `specs/NameTrackers`: what is tracked is a function from names to trackers.

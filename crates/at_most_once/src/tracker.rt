@@ -1,9 +1,10 @@
 //! The variables of which at most one may be true, and their helpers.
-ghost use Rattle.std.specs.Prelude.{◌≡◌, ◌≤◌, ◌+◌, ◌-◌, ◌^◌, ◌++◌, ◌&&◌, not, nat_lt, length, vec_len};
+ghost use Rattle.std.specs.Prelude.{◌≡◌, ◌≤◌, ◌+◌, ◌-◌, ◌^◌, ◌++◌, [], ◌&&◌, not, nat_lt, length, vec_len};
 ghost use Rattle.std.specs.Prelude.{vec_capacity, is_some, IsTrue, IsOk, IfOk, OnOk, IfErr, OnErr};
 ghost use Rattle.typed_ids.specs.declared.error.StoreError.TheVariants.{OutOfMemory};
 ghost use Rattle.at_most_once.specs.AtMostOne.{empty, HasRoom, KeepsRoom, is_tracked, needs_helper, clauses_for};
 ghost use Rattle.at_most_once.specs.AtMostOne.{with_variable, new_clauses, helper_clauses, variable_clauses};
+ghost use Rattle.at_most_once.specs.AtMostOne.{IsAllowed, IsEncoding};
 ghost use Rattle.at_most_once.specs.AtMostOne as def;
 
 use indexmap::IndexSet;
@@ -38,7 +39,8 @@ impl<V: Eq + Hash + Copy, A: Allocator> Model for AtMostOnceTracker<V, A> {
 impl<V: Eq + Hash + Copy, A: Allocator + Copy> AtMostOnceTracker<V, A> {
     /// Nothing is tracked. Takes no memory.
     pub fn new(alloc: A) -> Self
-        ensures { result.tracker ≡ empty }
+        ensures empty { result.tracker ≡ empty }
+        ensures at_most_one { IsEncoding V.eq result.tracker [] }
     {
         AtMostOnceTracker {
             variables: IndexSet::new(alloc),
@@ -83,15 +85,17 @@ impl<V: Eq + Hash + Copy, A: Allocator + Copy> AtMostOnceTracker<V, A> {
     /// each earlier variable, then its own with each helper. Answers whether it is new; one that is tracked changes
     /// nothing.
     ///
-    /// That at most one variable can be true holds where a helper is given exactly if
-    /// [`AtMostOnceTracker::needs_helper`] says so, and is itself neither tracked nor a helper before. Takes time for
-    /// the clauses that it appends.
+    /// A helper is given exactly if [`AtMostOnceTracker::needs_helper`] says so, and is neither tracked nor a helper
+    /// before. Then all clauses that a tracker appended, from the empty one on, can be met by choosing helpers exactly
+    /// when at most one tracked variable is true. Takes time for the clauses that it appends.
     pub fn add(
         &mut self,
         variable: V,
         helper: Option<V>,
         clauses: &mut Vec<(V, V, bool), A>,
     ) -> Result<bool, StoreError>
+        ensures at_most_one { IsEncoding V.eq self.old.tracker clauses.old.items
+            → IsAllowed V.eq self.old.tracker helper variable → IsEncoding V.eq self.new.tracker clauses.new.items }
         ensures added { IfOk result (λ added. added ≡ not (is_tracked V.eq self.old.tracker variable)) }
         ensures ok { OnOk result (self.new.tracker ≡ with_variable V.eq self.old.tracker helper variable) }
         ensures ok_clauses { OnOk result (clauses.new.items ≡

@@ -47,7 +47,7 @@ returns-clause-same g c =
     let same = g.N.PartialEq.eq in
     ap (tracker_of same)
     (c.push_reserved.ensures.items ∙ ap (λ l. l ++ (c.args.name, c.new.result) ∷ []) c.reserve.ensures.items)
-    ∙ tracker_started same c.self.inside.list.items c.args.name c.new.result c.new.ensures
+    ∙ tracker_started same c.self.inside.list.items c.args.name c.new.result c.new.ensures.empty
     ∙ ap (tracker_of same) c.self.view_is
 
 pub returns-clause-place : goal.returns-clause-place
