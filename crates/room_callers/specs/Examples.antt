@@ -1,5 +1,6 @@
--- Worked examples: what some new clauses watch, whether they are conflicts, their literals, and what replaces a watch.
-use Rattle.std.specs.Prelude.{◌≡◌, ℕ, Bool, true, false, ◌==◌, if◌then◌else◌, List, [], ◌∷◌, Option, Some, None}
+-- Worked examples: what some new clauses watch, whether they are conflicts, their literals, and what replaces a watch;
+-- and the clauses of four tracked variables.
+use Rattle.std.specs.Prelude.{◌≡◌, ℕ, Bool, true, false, nat_eq, ◌==◌, if◌then◌else◌, List, [], ◌∷◌, Option, Some, None}
 use Rattle.typed_ids.specs.declared.version_set_id.VersionSetId.{VersionSetId}
 use Rattle.providers.specs.declared.requirement.Requirement.TheVariants.{Single}
 use Rattle.decisions.specs.Literals.{Lit, Pos, Neg, Values}
@@ -7,6 +8,7 @@ use Rattle.clauses.specs.declared.clause.Clause.{Clause}
 use Rattle.clauses.specs.declared.clause.Clause.TheVariants.{Requires, Constrains, ConstrainsExcluded}
 use Rattle.clauses.specs.declared.clause.Clause.TheVariants.{ConstrainsParent, Lock, Learnt}
 use Rattle.clauses.specs.Clauses.{Kept, literals_of, first_watches, is_conflict, next_unwatched}
+use Rattle.at_most_once.specs.AtMostOne.{Adds}
 
 -- a learnt clause, lists of every requirement, and a disjunction
 abbrev pub shelf : Kept
@@ -60,3 +62,7 @@ pub record Examples : Type 0 where
   pub none_left : next_unwatched {N = ℕ} shelf (given ((2, true) ∷ (3, false) ∷ [])) (Learnt 0)
       (Pos 1 ∷ Neg 2 ∷ []) 1 ≡ None
   pub binary_has_none : next_unwatched {N = ℕ} shelf (given []) (Constrains 1 2 set) (Neg 1 ∷ Neg 2 ∷ []) 0 ≡ None
+  -- 1 to 4 are tracked, one after another, with 11 as a helper from the second on, and 12 from the third on
+  pub four_tracked : Adds nat_eq (record { variables = 1 ∷ 2 ∷ 3 ∷ 4 ∷ []; helpers = 11 ∷ 12 ∷ [] })
+      ((1, 11, false) ∷ (2, 11, true) ∷ (1, 12, false) ∷ (2, 12, false) ∷
+      (3, 11, false) ∷ (3, 12, true) ∷ (4, 11, true) ∷ (4, 12, true) ∷ [])

@@ -38,7 +38,7 @@ pub use kinds::{Kind, Seen};
 pub use map_callers::{clear_requirement, count_requirement};
 pub use mapping_callers::{clear, count_up, exchange, find_at_least};
 pub use met::is_met;
-pub use tracked::TrackedVariables;
+pub use tracked::{TrackedVariables, one_of_two};
 pub use trail_laws::floor_is_least;
 pub use walks::{Rewatch, walk};
 pub use watch_laws::{cursors_are_walks, records_may_grow, room_may_be_left};

@@ -1,8 +1,8 @@
 //! Variables of which at most one may be true, with all clauses that say so.
-ghost use Rattle.std.specs.Prelude.{◌≡◌, ◌↔◌, ◌*◌, Bool, length, not, false, IfOk, OnOk, IfErr, OnErr};
+ghost use Rattle.std.specs.Prelude.{◌≡◌, [], ◌∷◌, not, false, IfOk, OnOk, IfErr, OnErr};
 ghost use Rattle.typed_ids.specs.declared.error.StoreError.TheVariants.{OutOfMemory};
 ghost use Rattle.at_most_once.specs.AtMostOne.{empty, is_tracked, needs_helper, with_variable};
-ghost use Rattle.at_most_once.specs.AtMostOne.{IsAllowed, CanBeMet, AtMostOne, IsLeastPower};
+ghost use Rattle.at_most_once.specs.AtMostOne.{IsAllowed, SaysAtMostOne, is_met};
 
 use at_most_once::AtMostOnceTracker;
 use std::alloc::Allocator;
@@ -17,16 +17,16 @@ pub struct TrackedVariables<V: Eq + Hash + Copy, A: Allocator + Copy> {
     clauses: Vec<(V, V, bool), A>,
 }
 
-/// Tracker and clauses, which come of additions to an empty tracker.
+/// Tracker and clauses, as additions to an empty tracker leave them.
 impl<V: Eq + Hash + Copy, A: Allocator + Copy> Model for TrackedVariables<V, A> {
     ghost use Rattle.std.specs.Prelude.{List};
-    ghost use Rattle.at_most_once.specs.AtMostOne.{Tracker, BitClause, Adds};
+    ghost use Rattle.at_most_once.specs.AtMostOne.{Tracker, BitClause, IsEncoding};
 
     ghost Value = { Tracker V × List (BitClause V) };
 
     ghost view = { λ t. (t.tracker.tracker, t.clauses.items) };
 
-    ghost invariant = { λ t. Adds V.eq t.tracker.tracker t.clauses.items };
+    ghost invariant = { λ t. IsEncoding V.eq t.tracker.tracker t.clauses.items };
 }
 
 impl<V: Eq + Hash + Copy, A: Allocator + Copy> TrackedVariables<V, A> {
@@ -49,7 +49,7 @@ impl<V: Eq + Hash + Copy, A: Allocator + Copy> TrackedVariables<V, A> {
 
     /// Tracks a variable, with a helper where one is needed. Answers whether it is new.
     pub fn add(&mut self, variable: V, helper: Option<V>) -> Result<bool, StoreError>
-        requires { is_tracked V.eq self.old.0 variable ≡ false → IsAllowed V.eq self.old.0 helper variable }
+        requires { IsAllowed V.eq self.old.0 helper variable }
         ensures added { IfOk result (λ added. added ≡ not (is_tracked V.eq self.old.0 variable)) }
         ensures ok { OnOk result (self.new.0 ≡ with_variable V.eq self.old.0 helper variable) }
         ensures err { OnErr result (self.new ≡ self.old) }
@@ -61,11 +61,28 @@ impl<V: Eq + Hash + Copy, A: Allocator + Copy> TrackedVariables<V, A> {
     /// The clauses. They can be met by choosing helpers exactly when at most one variable is true; n variables have n *
     /// k clauses, k the least number with n <= 2^k.
     pub fn clauses(&self) -> &[(V, V, bool)]
-        ensures encode { (x : V → Bool) → CanBeMet x self.now.0.variables result.now ↔
-            AtMostOne x self.now.0.variables }
-        ensures count { length result.now ≡ length self.now.0.variables * length self.now.0.helpers }
-        ensures least { IsLeastPower (length self.now.0.helpers) (length self.now.0.variables) }
+        ensures { SaysAtMostOne V.eq is_met self.now.0 result.now }
     {
         self.clauses.as_slice()
     }
+}
+
+/// The clauses of two variables, which can be met by choosing the helper exactly when at most one of the two is true.
+pub fn one_of_two<V: Eq + Hash + Copy, A: Allocator + Copy>(
+    alloc: A,
+    first: V,
+    second: V,
+    helper: V,
+) -> Result<Vec<(V, V, bool), A>, StoreError>
+    requires different { V.eq second first ≡ false }
+    requires other_than_first { V.eq helper first ≡ false }
+    requires other_than_second { V.eq helper second ≡ false }
+    ensures { IfOk result (λ clauses. SaysAtMostOne V.eq is_met
+        (record { variables = first ∷ second ∷ []; helpers = helper ∷ [] }) clauses.items) }
+{
+    let mut clauses = Vec::new(alloc);
+    let mut tracker = AtMostOnceTracker::new(alloc);
+    tracker.add(first, None, &mut clauses)?;
+    tracker.add(second, Some(helper), &mut clauses)?;
+    Ok(clauses)
 }

@@ -1,4 +1,5 @@
-use Rattle.std.proofs.Common.{refl}
+use Rattle.std.proofs.Common.{refl, Some, None}
+use Rattle.at_most_once.specs.AtMostOne.{none, more}
 use Rattle.room_callers.proofs.computed.examples.Goals as goal
 
 pub returns : goal.returns
@@ -22,4 +23,13 @@ returns c = record {
   second_replaced = refl;
   none_left = refl;
   binary_has_none = refl;
+  four_tracked =
+      more None 4
+      (more (Some 12) 3
+      (more (Some 11) 2
+      (more None 1 none
+      (record { no_helper = refl; needed = refl; fresh = tt }))
+      (record { no_helper = refl; needed = refl; fresh = ((refl, refl), refl) }))
+      (record { no_helper = refl; needed = refl; fresh = ((refl, refl), refl) }))
+      (record { no_helper = refl; needed = refl; fresh = tt });
 }
