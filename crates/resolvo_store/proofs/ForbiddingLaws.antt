@@ -1,5 +1,5 @@
 -- What is tracked in a sound store forbids two of a name. N are the names, S the solvables.
-use Rattle.std.proofs.Common.{◌≡◌, ℕ, Bool, true, false, cond, not, List, [], ◌∷◌, ◌++◌, refl, sym, ap, ◌∙◌, arith}
+use Rattle.std.proofs.Common.{◌≡◌, ℕ, suc, Bool, true, false, cond, not, List, [], ◌∷◌, ◌++◌, length, refl, sym, ap, ◌∙◌, arith}
 use Rattle.std.specs.Prelude.{◌||◌, nat_eq, filter, flat_map, if◌then◌else◌}
 use Rattle.std.specs.Bool.{beq}
 use Rattle.std.specs.Cmp.{IsEquivalence}
@@ -11,7 +11,7 @@ use Rattle.clauses.specs.declared.clause.Clause.{Clause}
 use Rattle.clauses.specs.declared.clause.Clause.TheVariants as Kind
 use Rattle.at_most_once.specs.AtMostOne as one
 use Rattle.at_most_once.specs.AtMostOne.{BitClause}
-use Rattle.at_most_once.proofs.CallerLaws.{helpers_encode}
+use Rattle.at_most_once.proofs.CallerLaws.{encodes}
 use Rattle.resolvo_store.specs.Store.{Store, bits}
 use Rattle.resolvo_store.specs.Tracking.{bits_of}
 use Rattle.resolvo_store.specs.ForbidsTwo.{is_forbidding, is_met, ForbidsTwo}
@@ -41,7 +41,7 @@ module _ {N S : Type 0} (st : Store N S) (named : N → Bool) (a : ℕ → Bool)
   AreMet cs = AllByRecursion (λ c. is_met st a c ≡ true) (filter (is_forbidding named) cs)
 
   abbrev BitsMet : List (Clause N) → Type 0
-  BitsMet cs = one.AreMet a (flat_map (bits_of named) cs)
+  BitsMet cs = one.AreMet one.is_met a (flat_map (bits_of named) cs)
 
   -- the clauses are met, and so are the bits that are read back of them
   pub bits_met : (cs : List (Clause N)) → AreMet cs → BitsMet cs
@@ -49,13 +49,13 @@ module _ {N S : Type 0} (st : Store N S) (named : N → Bool) (a : ℕ → Bool)
   bits_met (Kind.ForbidMultipleInstances x (Pos h) n ∷ cs) met = by_name (named n) (bits_met cs) met
     where
       by_name : (b : Bool) → (AreMet cs → BitsMet cs) → AllByRecursion (λ c. is_met st a c ≡ true) (cond b (Kind.ForbidMultipleInstances x (Pos h) n ∷ filter (is_forbidding named) cs) (filter (is_forbidding named) cs))
-          → one.AreMet a ((if b then (x, h, true) ∷ [] else []) ++ flat_map (bits_of named) cs)
+          → one.AreMet one.is_met a ((if b then (x, h, true) ∷ [] else []) ++ flat_map (bits_of named) cs)
       by_name true later all = (sym (met_true (a x) (a h)) ∙ all.0, later all.1)
       by_name false later all = later all
   bits_met (Kind.ForbidMultipleInstances x (Neg h) n ∷ cs) met = by_name (named n) (bits_met cs) met
     where
       by_name : (b : Bool) → (AreMet cs → BitsMet cs) → AllByRecursion (λ c. is_met st a c ≡ true) (cond b (Kind.ForbidMultipleInstances x (Neg h) n ∷ filter (is_forbidding named) cs) (filter (is_forbidding named) cs))
-          → one.AreMet a ((if b then (x, h, false) ∷ [] else []) ++ flat_map (bits_of named) cs)
+          → one.AreMet one.is_met a ((if b then (x, h, false) ∷ [] else []) ++ flat_map (bits_of named) cs)
       by_name true later all = (sym (met_false (a x) (a h)) ∙ all.0, later all.1)
       by_name false later all = later all
   bits_met (_ ∷ cs) met = bits_met cs met
@@ -65,23 +65,48 @@ module _ {N S : Type 0} (st : Store N S) (named : N → Bool) (a : ℕ → Bool)
   clauses_met [] met = tt
   clauses_met (Kind.ForbidMultipleInstances x (Pos h) n ∷ cs) met = by_name (named n) (clauses_met cs) met
     where
-      by_name : (b : Bool) → (BitsMet cs → AreMet cs) → one.AreMet a ((if b then (x, h, true) ∷ [] else []) ++ flat_map (bits_of named) cs)
+      by_name : (b : Bool) → (BitsMet cs → AreMet cs) → one.AreMet one.is_met a ((if b then (x, h, true) ∷ [] else []) ++ flat_map (bits_of named) cs)
           → AllByRecursion (λ c. is_met st a c ≡ true) (cond b (Kind.ForbidMultipleInstances x (Pos h) n ∷ filter (is_forbidding named) cs) (filter (is_forbidding named) cs))
       by_name true later all = (met_true (a x) (a h) ∙ all.0, later all.1)
       by_name false later all = later all
   clauses_met (Kind.ForbidMultipleInstances x (Neg h) n ∷ cs) met = by_name (named n) (clauses_met cs) met
     where
-      by_name : (b : Bool) → (BitsMet cs → AreMet cs) → one.AreMet a ((if b then (x, h, false) ∷ [] else []) ++ flat_map (bits_of named) cs)
+      by_name : (b : Bool) → (BitsMet cs → AreMet cs) → one.AreMet one.is_met a ((if b then (x, h, false) ∷ [] else []) ++ flat_map (bits_of named) cs)
           → AllByRecursion (λ c. is_met st a c ≡ true) (cond b (Kind.ForbidMultipleInstances x (Neg h) n ∷ filter (is_forbidding named) cs) (filter (is_forbidding named) cs))
       by_name true later all = (met_false (a x) (a h) ∙ all.0, later all.1)
       by_name false later all = later all
   clauses_met (_ ∷ cs) met = clauses_met cs met
 
--- the clauses of each name can be met by choosing helpers exactly when at most one of its tracked variables is true
-pub forbids_two : {N S : Type 0} (st : Store N S) → IsSound st → ForbidsTwo st
-forbids_two st sound name x =
+-- each of the clauses is one of a variable and a helper
+one_each : {N : Type 0} (named : N → Bool) (cs : List (Clause N)) → length (filter (is_forbidding named) cs) ≡ length (flat_map (bits_of named) cs)
+one_each named [] = refl
+one_each named (Kind.ForbidMultipleInstances x (Pos h) n ∷ cs) = by_name (named n) (one_each named cs)
+  where
+    by_name : (b : Bool) → length (filter (is_forbidding named) cs) ≡ length (flat_map (bits_of named) cs)
+        → length (cond b (Kind.ForbidMultipleInstances x (Pos h) n ∷ filter (is_forbidding named) cs) (filter (is_forbidding named) cs))
+        ≡ length ((if b then (x, h, true) ∷ [] else []) ++ flat_map (bits_of named) cs)
+    by_name true e = ap suc e
+    by_name false e = e
+one_each named (Kind.ForbidMultipleInstances x (Neg h) n ∷ cs) = by_name (named n) (one_each named cs)
+  where
+    by_name : (b : Bool) → length (filter (is_forbidding named) cs) ≡ length (flat_map (bits_of named) cs)
+        → length (cond b (Kind.ForbidMultipleInstances x (Neg h) n ∷ filter (is_forbidding named) cs) (filter (is_forbidding named) cs))
+        ≡ length ((if b then (x, h, false) ∷ [] else []) ++ flat_map (bits_of named) cs)
+    by_name true e = ap suc e
+    by_name false e = e
+one_each named (_ ∷ cs) = one_each named cs
+
+-- in a sound store at most one variable of each name can be true
+pub forbids_two : {N S : Type 0} (st : Store N S) → IsSound st → (name : N) → ForbidsTwo st name
+forbids_two st sound name =
     let named = st.provider.same_name name in
-    let encode = helpers_encode nat_eq numbers (st.trackers name) (bits st name) (sound.tracked name).adds x in (
-      λ can. encode.0 (can.0, can.1, bits_met st named can.0 st.clauses can.2),
-      λ most. (let can = encode.1 most in (can.0, can.1, clauses_met st named can.0 st.clauses can.2)),
-    )
+    let says = (encodes nat_eq numbers (st.trackers name) (bits st name) (sound.tracked name).adds).says in
+    record {
+      apart = says.apart;
+      at_most_one = λ x. (
+        λ can. (says.at_most_one x).0 (can.0, can.1, bits_met st named can.0 st.clauses can.2),
+        λ most. (let can = (says.at_most_one x).1 most in (can.0, can.1, clauses_met st named can.0 st.clauses can.2)),
+      );
+      count = one_each named st.clauses ∙ says.count;
+      least = says.least;
+    }

@@ -1,6 +1,6 @@
 -- A store that tracks one variable more is sound. N are the names, S the solvables.
 use Rattle.std.proofs.Common.{◌≡◌, ℕ, zero, suc, ◌+◌, ◌<◌, Bool, true, false, not, List, [], ◌∷◌, ◌++◌, length, length-append, map, Option, Some, None, refl, arith, sym, subst, ap, ◌∙◌}
-use Rattle.std.specs.Prelude.{nat_eq, flat_map, All, if◌then◌else◌, ◌&&◌, ◌||◌, IfSome}
+use Rattle.std.specs.Prelude.{nat_eq, flat_map, All, if◌then◌else◌, ◌&&◌, ◌||◌, IfSome, is_some}
 use Rattle.std.specs.List.{list_any, enumerate_from}
 use Rattle.std.proofs.lemmas.Bool.{eqb-true}
 use Rattle.std.proofs.lemmas.Grind.{flat_map-append}
@@ -9,8 +9,9 @@ use Rattle.std.proofs.lemmas.List.Elements.{All-nil, All-cons, All-head, All-tai
 use Rattle.variables.specs.declared.variable_origin.VariableOrigin.{VariableOrigin}
 use Rattle.variables.specs.declared.variable_origin.VariableOrigin.TheVariants.{ForbidMultiple}
 use Rattle.clauses.specs.ClauseTexts.{IsKnownClause}
-use Rattle.at_most_once.specs.AtMostOne.{Tracker, BitClause, more, IsAllowed, IsFresh, is_tracked, is_full, has_bit, helper_clauses, variable_clauses, new_clauses, with_new, with_variable}
+use Rattle.at_most_once.specs.AtMostOne.{Tracker, BitClause, IsAllowed, IsFresh, is_tracked, needs_helper, is_full, has_bit, helper_clauses, variable_clauses, new_clauses, with_new, with_variable}
 use Rattle.at_most_once.specs.NameTrackers.{with_tracked as trackers_with}
+use Rattle.at_most_once.proofs.CallerLaws.{adds_new}
 use Rattle.resolvo_store.specs.Store.{Store, bits}
 use Rattle.resolvo_store.specs.Tracking.{is_helper_among, forbidding, origins_with, bits_of, IsTracking}
 use Rattle.resolvo_store.specs.Outcome.{adds_clause, helper_for, with_bits, with_tracked}
@@ -101,13 +102,21 @@ module _ {N S : Type 0} where
       not_any (length os) t.helpers (All-weaker (λ h. is_helper_among os h ≡ true) (λ h. length os ≡ h → ⊥) (λ h k e. omega (arith, helper_within os h k, e)) t.helpers is.helpers),
     )
 
+    -- a helper is needed where the numbers are used up
+    needed : (full : Bool) → is_full t ≡ full → is_some (if full then Some (length os) else None) ≡ needs_helper nat_eq t v
+    needed full e = is_given full ∙ sym (ap (λ b. not b && is_full t) new ∙ e)
+      where
+        is_given : (b : Bool) → is_some (if b then Some (length os) else None) ≡ b
+        is_given true = refl
+        is_given false = refl
+
     pub allowed : (full : Bool) → is_full t ≡ full → IsAllowed nat_eq t (if full then Some (length os) else None) v
     allowed true e = record {
-      new = (new, not_helper);
-      needed = sym e;
+      no_helper = not_helper;
+      needed = needed true e;
       fresh = (next_fresh, different (length os) v (λ k. omega (arith, known, k)));
     }
-    allowed false e = record { new = (new, not_helper); needed = sym e; fresh = tt }
+    allowed false e = record { no_helper = not_helper; needed = needed false e; fresh = tt }
 
     -- the tracker with it is in order, with its clauses behind the others
     pub tracking_more : (full : Bool) (name : N) → is_full t ≡ full
@@ -116,12 +125,12 @@ module _ {N S : Type 0} where
         let grown = IsTracking-origin os (ForbidMultiple name) is in
         let longer = length-append os (ForbidMultiple name ∷ []) in
         record {
-          adds = more (Some (length os)) v is.adds (allowed true e);
+          adds = adds_new nat_eq t (Some (length os)) v new is.adds (allowed true e);
           variables = All-push (λ x. x < length (os ++ ForbidMultiple name ∷ [])) t.variables v grown.variables (omega (arith, known, longer));
           helpers = All-push (λ h. is_helper_among (os ++ ForbidMultiple name ∷ []) h ≡ true) t.helpers (length os) grown.helpers (new_is_helper os name);
         }
     tracking_more false name e = record {
-      adds = more None v is.adds (allowed false e);
+      adds = adds_new nat_eq t None v new is.adds (allowed false e);
       variables = All-push (λ x. x < length os) t.variables v is.variables known;
       helpers = is.helpers;
     }

@@ -1,11 +1,11 @@
 -- What the clauses of a name say of the variables that are tracked under it. N are the names, S the solvables.
-use Rattle.std.specs.Prelude.{◌≡◌, ◌↔◌, ℕ, Bool, true, false, not, List, filter, Contains}
-use Rattle.std.specs.List.{list_any, AllByRecursion}
+use Rattle.std.specs.Prelude.{ℕ, Bool, true, false, not, nat_eq, List, filter}
+use Rattle.std.specs.List.{list_any}
 use Rattle.decisions.specs.Literals.{Lit, Pos, Neg}
 use Rattle.clauses.specs.declared.clause.Clause.{Clause}
 use Rattle.clauses.specs.declared.clause.Clause.TheVariants.{ForbidMultipleInstances}
 use Rattle.clauses.specs.Clauses.{literals_of}
-use Rattle.at_most_once.specs.AtMostOne.{AtMostOne}
+use Rattle.at_most_once.specs.AtMostOne.{SaysAtMostOne}
 use Rattle.resolvo_store.specs.Store.{Store, kept_literals}
 
 -- a literal is true under truth values of the variables
@@ -27,13 +27,6 @@ module _ {N S : Type 0} (st : Store N S) where
   abbrev pub clauses_of_name : N → List (Clause N)
   clauses_of_name name = filter (is_forbidding (st.provider.same_name name)) st.clauses
 
-  -- some values of all other variables, the helpers among them, meet these clauses, where the tracked ones have these
-  -- values
-  abbrev pub CanBeMet : N → (ℕ → Bool) → Type 0
-  CanBeMet name x = (a : ℕ → Bool) × ((v : ℕ) → Contains (st.trackers name).variables v → a v ≡ x v) ×
-      AllByRecursion (λ c. is_met a c ≡ true) (clauses_of_name name)
-
-  -- for each name and whatever values its tracked variables have: its clauses can be met by choosing helpers exactly
-  -- when at most one tracked variable is true
-  abbrev pub ForbidsTwo : Type 0
-  ForbidsTwo = (name : N) (x : ℕ → Bool) → CanBeMet name x ↔ AtMostOne x (st.trackers name).variables
+  -- they say that of the variables that are tracked under the name at most one is true
+  abbrev pub ForbidsTwo : N → Type 0
+  ForbidsTwo name = SaysAtMostOne nat_eq is_met (st.trackers name) (clauses_of_name name)

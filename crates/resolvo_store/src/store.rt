@@ -131,6 +131,7 @@ impl<D: DependencyProvider + Drop> ClauseStore<D> {
     ghost use Rattle.resolvo_store.specs.Store.{new_store};
     ghost use Rattle.resolvo_store.specs.Saturating.{RefusalLeaves};
     ghost use Rattle.resolvo_store.specs.Step.{Step, Run};
+    ghost use Rattle.resolvo_store.specs.ForbidsTwo.{ForbidsTwo};
     ghost use Rattle.resolvo_store.specs.Sound.{IsSound};
     ghost use Rattle.resolvo_store.specs.Asked.{owed};
     ghost use Rattle.resolvo_store.specs.Walks.{Asks};
@@ -180,6 +181,7 @@ impl<D: DependencyProvider + Drop> ClauseStore<D> {
             self.old.asked self.new.asked }
         ensures was_sound { IsSound (⟦<D as AbstractStore>⟧.store self.old) }
         ensures sound { IsSound (⟦<D as AbstractStore>⟧.store self.new) }
+        ensures at_most_one { (name : D.NameId) → ForbidsTwo (⟦<D as AbstractStore>⟧.store self.new) name }
     {
         // What is true of each store is true of this one: a look at a field tells it.
         let _cache = &self.cache;
@@ -265,6 +267,7 @@ impl<D: DependencyProvider + Drop> ClauseStore<D> {
         ensures err { IfErr result (λ e. (e ≡ OutOfMemory)
             × (⟦<D as AbstractStore>⟧.store self.new ≡ ⟦<D as AbstractStore>⟧.store self.old)) }
         ensures sound { IsSound (⟦<D as AbstractStore>⟧.store self.new) }
+        ensures at_most_one { (name : D.NameId) → ForbidsTwo (⟦<D as AbstractStore>⟧.store self.new) name }
     {
         let mut replies = Vec::with_capacity(self.alloc, commands.len())?;
         for command in commands {

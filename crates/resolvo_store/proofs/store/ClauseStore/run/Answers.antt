@@ -1,9 +1,12 @@
 use Rattle.std.proofs.Common.{◌∙◌, ◌+◌, ap, map, subst, arith, rules, take}
 use Rattle.std.proofs.lemmas.List.{take_more, take_all, map-append}
 use Rattle.resolvo_store.specs.Command.{command_of, reply_of}
+use Rattle.resolvo_store.specs.Sound.{IsSound}
 use Rattle.resolvo_store.specs.Step.{Run}
 use Rattle.resolvo_store.specs.Store.{Provider, gathered}
 use Rattle.resolvo_store.proofs.KnownLemmas.{IsLawful}
+use Rattle.resolvo_store.proofs.CallerLaws.{store_in}
+use Rattle.resolvo_store.proofs.ForbiddingLaws.{forbids_two}
 use Rattle.resolvo_store.proofs.RunLemmas.{run_more}
 use Rattle.resolvo_store.proofs.SoundSteps.{IsSound-run}
 use Rattle.resolvo_store.proofs.store.ClauseStore.run.Invariants.{store}
@@ -46,3 +49,10 @@ pub returns-clause-sound : goal.returns-clause-sound
 returns-clause-sound g c =
     IsSound-run (map command_of (take c.loop-command.command-index c.args.commands.now)) (map reply_of c.loop-command.replies.items) (lawful g c.self.inside.cache.provider) c.self.invariant.consistent.sound
     (rw (← c.self.view_is) at c.loop-command.invariant.ran)
+
+pub returns-clause-at_most_one : goal.returns-clause-at_most_one
+returns-clause-at_most_one g c = let sound = returns-clause-sound g c in forbids_two (store_in sound) sound
+
+pub returns-in_err-replies-clause-at_most_one : goal.returns-in_err-replies-clause-at_most_one
+returns-in_err-replies-clause-at_most_one g c =
+    let sound = subst (λ k. IsSound (store g k)) c.self.view_is c.self.invariant.consistent.sound in forbids_two (store_in sound) sound

@@ -3,6 +3,8 @@ use Rattle.resolvo_store.specs.Command.{command_of, reply_of}
 use Rattle.resolvo_store.specs.Sound.{IsSound}
 use Rattle.resolvo_store.specs.Store.{Store, Provider, Kept, store_of, gathered}
 use Rattle.resolvo_store.proofs.KnownLemmas.{IsLawful}
+use Rattle.resolvo_store.proofs.CallerLaws.{store_in}
+use Rattle.resolvo_store.proofs.ForbiddingLaws.{forbids_two}
 use Rattle.resolvo_store.proofs.SaturatedLaws.{refusal_leaves}
 use Rattle.resolvo_store.proofs.SoundSteps.{IsSound-step}
 use Rattle.resolvo_store.proofs.store.ClauseStore.step.Given.{Over}
@@ -35,3 +37,6 @@ returns-clause-refused g c =
 pub returns-clause-sound : goal.returns-clause-sound
 returns-clause-sound g c =
     IsSound-step (command_of c.args.command.now) (reply_of c.dispatch.result) (lawful g c.args.self.now.provider) (subst (λ k. IsSound (store g k)) c.self.view_is c.self.invariant.consistent.sound) c.dispatch.ensures.step
+
+pub returns-clause-at_most_one : goal.returns-clause-at_most_one
+returns-clause-at_most_one g c = let sound = returns-clause-sound g c in forbids_two (store_in sound) sound
