@@ -6,9 +6,9 @@ ghost use Rattle.resolvo_store.specs.Command.{reply_of, NoDecision, Falsified, C
 ghost use Rattle.resolvo_store.specs.Models.{IsModel, IsModelNow, MayLeaveFalse, true_alone};
 ghost use Rattle.resolvo_store.specs.Saturating.{HasForcedMore};
 ghost use Rattle.resolvo_store.specs.Solved.{IsSolved};
-ghost use Rattle.resolvo_store.specs.ForbidsTwo.{ForbidsTwo};
 ghost use Rattle.resolvo_store.specs.Sound.{WatchOwn};
 ghost use Rattle.resolvo_store.specs.Store.{values, watched_by};
+ghost use Rattle.resolvo_clauses.specs.AtMostOne.{AtMostOne};
 ghost use Rattle.resolvo_clauses.specs.Watching.{IsExact};
 
 use resolvo_ids::{StoreError, VariableId};
@@ -87,13 +87,14 @@ pub fn obey_watched<D: DependencyProvider + Drop>(
     store.run(commands)
 }
 
-/// Obeys a list of commands. Whatever was refused, the clauses of each name can then be met by choosing helpers exactly
-/// when at most one of the variables that are tracked under it is true.
+/// Obeys a list of commands. Whatever was refused, truth values that meet all clauses then make at most one of the
+/// variables true that are tracked under a name.
 pub fn obey_forbids_two<D: DependencyProvider + Drop>(
     store: &mut ClauseStore<D>,
     list: &[Command<D::NameId, D::SolvableId, D::Alloc>],
 ) -> Result<Vec<Reply<D::Alloc>, D::Alloc>, StoreError>
-    ensures { ForbidsTwo (⟦<D as AbstractStore>⟧.store store.new) }
+    ensures { let st = ⟦<D as AbstractStore>⟧.store store.new in
+        (a : ℕ → Bool) → IsModel st a → (name : D.NameId) → AtMostOne a (st.trackers name).variables }
 {
     store.run(list)
 }
