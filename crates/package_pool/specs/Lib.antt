@@ -4,4 +4,3 @@ pub mod PoolIds
 pub mod PoolLaws
 pub mod PoolProps
 pub mod PoolView
-pub mod UnionSetsView

@@ -6,7 +6,7 @@ mod interned;
 mod name_text;
 mod pool;
 mod solvable;
-mod union_sets;
+mod unions;
 mod version_set;
 
 pub use name_text::NameText;

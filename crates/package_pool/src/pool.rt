@@ -31,7 +31,7 @@ ghost use Rattle.package_pool.specs.Pool.{with_condition};
 
 use crate::interned::intern;
 use crate::solvable::Solvable;
-use crate::union_sets::UnionSets;
+use crate::unions::Unions;
 use crate::version_set::VersionSet;
 use id_storage::{Arena, ArenaIter};
 use indexmap::{Equivalent, IndexSet};
@@ -53,7 +53,7 @@ pub struct Pool<VS: VersionSet, N: Eq + Hash = String, A: Allocator = Global> {
     names: IndexSet<N, BuildHasherDefault<FoldHasher>, A>,
     solvables: Arena<SolvableId, Solvable<VS::V>, A>,
     version_sets: IndexSet<(NameId, VS), BuildHasherDefault<FoldHasher>, A>,
-    unions: Arena<VersionSetUnionId, UnionSets<A>, A>,
+    unions: Unions<A>,
     conditions: IndexSet<Condition, BuildHasherDefault<FoldHasher>, A>,
 }
 
@@ -81,7 +81,7 @@ impl<VS: VersionSet, N: Eq + Hash, A: Allocator + Copy> Pool<VS, N, A> {
             names: IndexSet::new(alloc),
             solvables: Arena::new(alloc),
             version_sets: IndexSet::new(alloc),
-            unions: Arena::new(alloc),
+            unions: Unions::new(alloc),
             conditions: IndexSet::new(alloc),
         }
     }
@@ -208,7 +208,7 @@ impl<VS: VersionSet, N: Eq + Hash, A: Allocator + Copy> Pool<VS, N, A> {
         ensures value { slice_get self.now.unions union.0 ≡ Some result.now }
         ensures known { AreSetsHere self.now result.now }
     {
-        self.unions[union].as_slice()
+        self.unions.resolve(union)
     }
 
     /// The condition of this id.
@@ -327,11 +327,7 @@ impl<VS: VersionSet + Drop, N: Eq + Hash + Drop, A: Allocator + Copy> Pool<VS, N
         ensures refused { IfErr result (IsGrowthRefusal (are_ids_out (2 ^ 32) (length self.old.unions))) }
         ensures ids_out { IsTrue (are_ids_out (2 ^ 32) (length self.old.unions)) → result ≡ Err IdSpace }
     {
-        if !VersionSetUnionId::in_range(self.unions.len()) {
-            return Err(StoreError::IdSpace);
-        }
-        let sets = UnionSets::new(*self.conditions.allocator(), first, others)?;
-        Ok(self.unions.alloc(sets)?)
+        self.unions.add(first, others)
     }
 
     /// The id of a condition, which comes into the pool if it isn't there.
