@@ -5,5 +5,5 @@ use std::hash::Hash;
 /// A set of versions of a package. Equal sets are the same one to a pool.
 pub trait VersionSet: Eq + Hash {
     /// What a set holds, as versions.
-    type V: Display + Drop;
+    type V: Display;
 }

@@ -227,7 +227,10 @@ impl<VS: VersionSet + Drop, N: Eq + Hash + Drop, A: Allocator + Copy> Kind<VS, N
 /// Solvables: no two are one.
 pub struct Solvables;
 
-impl<VS: VersionSet + Drop, N: Eq + Hash + Drop, A: Allocator + Copy> Kind<VS, N, A> for Solvables {
+impl<VS: VersionSet + Drop, N: Eq + Hash + Drop, A: Allocator + Copy> Kind<VS, N, A> for Solvables
+where
+    VS::V: Drop,
+{
     type Value = Solvable<VS::V>;
 
     type Id = SolvableId;
