@@ -3,7 +3,7 @@
 //! Of the ids and their storage: `arena`, `chosen`, `far`, `ids`, `mapping`, `sets`, and where memory is refused
 //! `one_refusal`, `refused_defaults` and `refused_parts`. Of the pool, of requirements and of their maps: `pool`,
 //! `maps`, `noted`; of conditions: `condition_calls`; of texts: `catalogue`, `texts`, those of helper variables among
-//! them (`variables_shown`).
+//! them (`variables_shown`), and a default that no provider has (`default_name`).
 //!
 //! Of clauses, and of what they are made of: `literals` and the `trail`; variables (`variable_keys`); the literals of
 //! clauses (`clause_literals`), and what new ones watch (`first_watches`); watch lists (`watch_lists`); and trackers of
@@ -34,6 +34,8 @@ mod clause_literals;
 mod condition_calls;
 #[cfg(test)]
 mod debug_texts;
+#[cfg(test)]
+mod default_name;
 #[cfg(test)]
 mod error_texts;
 #[cfg(test)]
