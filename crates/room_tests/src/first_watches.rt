@@ -104,11 +104,13 @@ fn a_clause_that_constrains_watches_both(rt: HostRuntime) -> Result<(), Fail> {
     )
 }
 
-/// A clause of variable 1: that it requires 2 or 3, that it requires 2 if 3 is true, or that it forbids 2.
+/// A clause of variable 1: that it requires 2 or 3, that it requires 2 if 3 is true, that it forbids 2, or that it
+/// forbids what 2 stands for.
 enum Kind {
     Requires,
     RequiresIf,
     Constrains,
+    ConstrainsParent,
 }
 
 /// What is seen of a new clause of the kind before and after each decision.
@@ -154,6 +156,7 @@ pub(crate) fn seen_where_nothing_is_decided<A: Allocator + Copy>(tracker: &Decis
         made(tracker, &Kind::Requires),
         made(tracker, &Kind::RequiresIf),
         made(tracker, &Kind::Constrains),
+        made(tracker, &Kind::ConstrainsParent),
     ];
 }
 
@@ -163,6 +166,12 @@ fn made<A: Allocator + Copy>(tracker: &DecisionTracker<A>, kind: &Kind) -> New {
         Kind::Requires => seen(required(tracker, &[two, variable(3)], &None)),
         Kind::RequiresIf => seen(required(tracker, &[two], &condition(&[minus(3)]))),
         Kind::Constrains => seen(WatchedLiterals::constrains(
+            variable(1),
+            two,
+            VersionSetId(0),
+            tracker,
+        )),
+        Kind::ConstrainsParent => seen(WatchedLiterals::constrains_parent::<u32, A>(
             variable(1),
             two,
             VersionSetId(0),
