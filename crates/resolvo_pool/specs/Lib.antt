@@ -16,6 +16,7 @@ pub use Rattle.package_pool.specs.PoolLaws
 pub use Rattle.package_pool.specs.PoolProps
 pub use Rattle.package_pool.specs.PoolView
 pub use Rattle.solver_cache.specs.Cache
+pub use Rattle.solver_cache.specs.CandidateLaws
 pub use Rattle.solver_cache.specs.Functions
 pub use Rattle.solver_cache.specs.Hints
 pub use Rattle.solver_cache.specs.Outcomes

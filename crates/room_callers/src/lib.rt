@@ -6,13 +6,14 @@
 //!
 //! Others conclude laws: of the trail's floor, from the definitions of its calls, which are the contracts of
 //! `DecisionTracker` (`trail_laws`); of what a clause that requires says, from the contract of `Clause::literals`, and
-//! of what a new clause watches (`clause_laws`); of watch lists, with a walk over one that stands however they are kept
-//! (`watch_laws`, `walks`); and of variables that are tracked together with all their clauses (`tracked`). `computed`
-//! is what the definitions compute.
+//! of what a new clause watches (`clause_laws`); of a provider's candidate lists (`candidate_laws`); of watch lists,
+//! with a walk over one that stands however they are kept (`watch_laws`, `walks`); and of variables that are tracked
+//! together with all their clauses (`tracked`). `computed` is what the definitions compute.
 #![tactic(auto)]
 
 mod any_set;
 mod arena_callers;
+mod candidate_laws;
 mod clause_laws;
 mod computed;
 mod each_kind;
@@ -29,6 +30,7 @@ mod watch_laws;
 
 pub use any_set::{SetAnswers, set_answers};
 pub use arena_callers::{added, count, pairs, replace, total};
+pub use candidate_laws::candidates_divide;
 pub use clause_laws::{first_watches_are_two, literals_of_required};
 pub use computed::examples;
 pub use each_kind::{Conditions, Names, Solvables, Strings, Unions, VersionSets};

@@ -9,7 +9,7 @@ use Rattle.providers.specs.Provider.{from_place}
 
 module _ {S : Type 0} (same : S → S → Bool) (sameness : (a b : S) → same a b ≡ true → a ≡ b) (s : S) where
   -- at its first place it stands
-  stands_there : (list : List S) (first place : ℕ) → position_from (λ t. same t s) first list ≡ Some place
+  pub stands_there : (list : List S) (first place : ℕ) → position_from (λ t. same t s) first list ≡ Some place
       → (first ≤ place) × (place - first < length list) × (get_or list (place - first) s ≡ s)
   stands_there [] first place h = let no : None ≡ Some place = h in cc
   stands_there (t ∷ list) first place h = by_test (same t s) refl (stands_there list (first + 1) place) h

@@ -1,4 +1,5 @@
 pub mod CacheLemmas
+pub mod CallerLaws
 pub mod FavoredLemmas
 pub mod FilteringLemmas
 pub mod HintLemmas

@@ -1,4 +1,5 @@
 pub mod Cache
+pub mod CandidateLaws
 pub mod Functions
 pub mod Hints
 pub mod Outcomes

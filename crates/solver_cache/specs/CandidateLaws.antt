@@ -1,0 +1,19 @@
+-- What is true of the candidate lists of every provider. N are the names, S the solvables.
+use Rattle.std.specs.Prelude.{◌≡◌, ◌+◌, Bool, List, Contains, IsPermutation}
+use Rattle.std.specs.List.{count_by}
+use Rattle.typed_ids.specs.declared.version_set_id.VersionSetId.{VersionSetId}
+use Rattle.providers.specs.Provider.{matching, non_matching}
+use Rattle.solver_cache.specs.Cache.{sorted_of_set}
+use Rattle.solver_cache.specs.Functions.{Provider}
+
+-- two lists divide the candidates: each stands in one of them, as often as among all, and never in both
+pub record Divide {S : Type 0} (same : S → S → Bool) (held others all : List S) : Type 0 where
+  pub as_often : (s : S) → count_by (same s) held + count_by (same s) others ≡ count_by (same s) all
+  pub never_both : (s : S) → Contains held s → Contains others s → ⊥
+
+-- what a version set holds and what it doesn't divide the candidates of its package; best first, what it holds is the
+-- same in another order
+pub record CandidatesDivide {N S : Type 0} (p : Provider N S) (v : VersionSetId) : Type 0 where
+  pub divided : Divide p.same_solvable (matching p.universe p.answers v) (non_matching p.universe p.answers v)
+      (p.answers.candidates (p.universe.set_name v))
+  pub reordered : IsPermutation (matching p.universe p.answers v) (sorted_of_set p v)
