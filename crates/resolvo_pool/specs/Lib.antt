@@ -21,3 +21,4 @@ pub use Rattle.solver_cache.specs.Functions
 pub use Rattle.solver_cache.specs.Hints
 pub use Rattle.solver_cache.specs.Outcomes
 pub use Rattle.solver_cache.specs.Questions
+pub use Rattle.solver_cache.specs.Refused

@@ -50,7 +50,7 @@ pub(crate) fn load_lists<D: DependencyProvider + Drop>(
     ensures asked { OnOk result (let p = ⟦<D as ProviderFunctions>⟧.functions cache.old.provider in
         All (λ v. is_set_asked p cache.new v ≡ true) (sets_of p.universe requirement)) }
 {
-    let ids = cache.get_or_cache_sorted_lists(requirement)?;
+    let ids = cache.cache_sorted_lists(requirement)?;
     intern_lists(cache, ids, variables)
 }
 

@@ -1,14 +1,15 @@
 -- A cache that keeps more: what is kept is still right, and what was kept is still kept.
 use Rattle.std.proofs.Common.{rules, ◌≡◌, Bool, true, false, cond, ℕ, ◌<◌, List, [], ◌∷◌}
-use Rattle.std.proofs.Common.{◌++◌, length, slice_get, is_some, Option, None, Some, take}
+use Rattle.std.proofs.Common.{◌^◌, leb, ◌++◌, length, slice_get, is_some, Option, None, Some, take}
 use Rattle.std.proofs.Common.{drop, get_or, true≢false, ◌≤◌, ◌∙◌, ap, refl, sym, subst, arith}
 use Rattle.std.specs.List.{list_any}
-use Rattle.std.specs.Prelude.{◌&&◌, not, All, Result, Ok, Err, OnErr, IfErr}
+use Rattle.std.specs.Prelude.{◌&&◌, ◌||◌, not, All, Result, Ok, Err, OnErr, IfErr}
 use Rattle.std.specs.Result.{IsErrAnd}
 use Rattle.std.specs.Map.{lookup, values_of}
 use Rattle.std.proofs.Math.Path.{fun_ext}
 use Rattle.std.proofs.Math.Seq.{take-append_seam, take-length}
 use Rattle.std.proofs.lemmas.List.{append-nil, take-append-drop, take-append-le, length-take}
+use Rattle.std.proofs.lemmas.Bool.Decides.{nat_tests}
 use Rattle.std.proofs.lemmas.List.Folds.{list_all_at, list_any_at}
 use Rattle.std.proofs.lemmas.List.Elements.{All-head, All-tail, All-push}
 use Rattle.typed_ids.specs.Refusals.{IsGrowthRefusal}
@@ -375,6 +376,18 @@ module _ {D N S A H : Type 0} (has : H → S → Bool) where
   sorted_push p may [] v c d e first next = (e, subst (λ x. IsSorted p may has x v e) first next, refl)
   sorted_push p may (w ∷ vs) v c d e first next = (first.0, first.1, sorted_push p may vs v first.0 d e first.2 next)
 
+-- where no answer can be kept for a package, none can be later
+more_used : (large many : Bool) (used later : ℕ) → used ≤ later → (large || (many && leb (2 ^ 32) used)) ≡ true → (large || (many && leb (2 ^ 32) later)) ≡ true
+more_used true many used later more h = refl
+more_used false false used later more h = h
+more_used false true used later more h = grind (arith, nat_tests)
+
+pub lacks_later : {D N S A H : Type 0} (has : H → S → Bool) (p : Provider N S) (n : N) (c d : Cache D N S A H) → IsLater has c d
+    → lacks_candidates p c n ≡ true → lacks_candidates p d n ≡ true
+lacks_later has p n c d later h =
+    more_used (p.is_large_name n) p.are_names_many (length c.candidates) (length d.candidates)
+    (omega (arith, length-take (length c.candidates) d.candidates, ap length later.candidates)) h
+
 -- a growth that may be refused may also be refused where ids are out in more cases
 pub refusal_wider : (a b : Bool) (e : StoreError) → (a ≡ true → b ≡ true) → IsGrowthRefusal a e → IsGrowthRefusal b e
 refusal_wider a b OutOfMemory h r = r
@@ -382,7 +395,7 @@ refusal_wider a b IdSpace h r = h r
 refusal_wider a b _ h r = absurd r
 
 module _ {D N S A H : Type 0} (has : H → S → Bool) (p : Provider N S) (old mid new : Cache D N S A H) (earlier : IsLater has old mid)
-    (vs : List VersionSetId) (i : ℕ) (d : VersionSetId) (lt : i < length vs) where
+    (later : IsLater has mid new) (vs : List VersionSetId) (i : ℕ) (d : VersionSetId) (lt : i < length vs) where
   abbrev v : VersionSetId
   v = get_or vs i d
 
@@ -396,21 +409,24 @@ module _ {D N S A H : Type 0} (has : H → S → Bool) (p : Provider N S) (old m
   -- a refusal of one of version sets that were asked for in turn
   pub refused_in_turn : {C : Type 0} (e : CacheError C) →
       IsRefusedOf (is_set_asked p mid (get_or vs i d))
-      (lacks_candidates p new (p.universe.set_name (get_or vs i d))) mid e new
+      (lacks_candidates p mid (p.universe.set_name (get_or vs i d))) mid e new
       → IsRefusedOfSets p vs old e new
   refused_in_turn (Cancelled reason) h =
       list_all_at (is_set_asked p old) vs i d lt (not_asked h.0)
   refused_in_turn (Store e) h = refusal_wider _ _ e wider h
     where
+      lacks : VersionSetId → Bool
+      lacks w = lacks_candidates p new (p.universe.set_name w)
+
       test : VersionSetId → Bool
-      test w = not (is_set_asked p old w) && lacks_candidates p new (p.universe.set_name w)
+      test w = not (is_set_asked p old w) && lacks w
 
-      this : (a b : Bool) → is_set_asked p mid v ≡ a → (not a && b) ≡ true → b ≡ lacks_candidates p new (p.universe.set_name v) → test v ≡ true
-      this true b asked h e = cc
-      this false b asked h e = ap (λ a. not a && lacks_candidates p new (p.universe.set_name v)) (not_asked asked) ∙ sym e ∙ h
+      this : (a b : Bool) → is_set_asked p mid v ≡ a → (b ≡ true → lacks v ≡ true) → (not a && b) ≡ true → test v ≡ true
+      this true b asked more h = cc
+      this false b asked more h = ap (λ a. not a && lacks v) (not_asked asked) ∙ more h
 
-      wider : (not (is_set_asked p mid v) && lacks_candidates p new (p.universe.set_name v)) ≡ true → list_any test vs ≡ true
-      wider h = list_any_at test vs i d lt (this _ _ refl h refl)
+      wider : (not (is_set_asked p mid v) && lacks_candidates p mid (p.universe.set_name v)) ≡ true → list_any test vs ≡ true
+      wider h = list_any_at test vs i d lt (this _ _ refl (lacks_later has p (p.universe.set_name v) mid new later) h)
 
 -- ---- a union that isn't kept
 

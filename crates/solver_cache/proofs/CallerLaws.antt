@@ -1,5 +1,5 @@
 -- The laws that callers cite.
-use Rattle.std.proofs.Common.{◌≡◌, ℕ, ◌+◌, ◌-◌, Bool, true, false, cond, List, ◌++◌, get_or, Option, None, Some}
+use Rattle.std.proofs.Common.{◌≡◌, ℕ, ◌-◌, Bool, true, cond, List, ◌++◌, get_or, Option, None, Some}
 use Rattle.std.proofs.Common.{◌∙◌, ap, refl, sym, true≢false, arith, IsPermutation}
 use Rattle.std.specs.Prelude.{filter, not}
 use Rattle.std.specs.List.{position_from}

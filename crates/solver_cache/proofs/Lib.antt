@@ -6,5 +6,6 @@ pub mod HintLemmas
 pub mod IdLemmas
 pub mod KeptListLemmas
 pub mod ListedLemmas
+pub mod RefusalLemmas
 pub mod SortingLemmas
 pub mod UnansweredLemmas

@@ -1,6 +1,6 @@
 -- What refused questions about version sets in turn leave.
 use Rattle.std.proofs.Common.{◌≡◌, ℕ, ◌<◌, ◌+◌, Bool, List, [], ◌∷◌, ◌++◌, length, take, drop, get_or, ◌∙◌, ap, refl, sym, subst, inl, inr}
-use Rattle.std.specs.Prelude.{◌⊎◌, Result, Ok, Err, OnErr, IfErr}
+use Rattle.std.specs.Prelude.{◌⊎◌}
 use Rattle.std.proofs.lemmas.List.{append-nil, append_assoc, take_more, take-append-drop}
 use Rattle.typed_ids.specs.declared.version_set_id.VersionSetId.{VersionSetId}
 use Rattle.solver_cache.specs.Cache.{Cache, is_set_asked}
@@ -32,13 +32,10 @@ module _ {D N S A H : Type 0} (p : Provider N S) (may : MayAnswer N S A) (has : 
   all_sorted vs c d h = subst (λ l. AreUnsorted p may has c l d) (append-nil vs) (unsorted_after vs [] c d d h refl)
 
   -- the only one was refused
-  pub left_single : {C T : Type 0} (asked lacks : Bool) (v : VersionSetId) (old new : Cache D N S A H)
-      (result : Result T (CacheError C)) → is_set_asked p old v ≡ asked
-      → IfErr result (λ e. IsRefusedOf asked lacks old e new) → OnErr result (IsUnsorted p may has old v new) →
-      IfErr result (λ e. AreLeft p may has (v ∷ []) old e new)
-  left_single asked lacks v old new (Ok value) same refused left = tt
-  left_single asked lacks v old new (Err (Cancelled reason)) same refused left = inl (same ∙ refused.0, refused.1)
-  left_single asked lacks v old new (Err (Store e)) same refused left = inl left
+  pub left_of_one : {C : Type 0} (lacks : Bool) (v : VersionSetId) (old new : Cache D N S A H) (e : CacheError C)
+      → IsRefusedOf (is_set_asked p old v) lacks old e new → IsUnsorted p may has old v new → AreLeft p may has (v ∷ []) old e new
+  left_of_one lacks v old new (Cancelled reason) refused left = inl refused
+  left_of_one lacks v old new (Store e) refused left = inl left
 
   module _ (vs : List VersionSetId) (i : ℕ) (d : VersionSetId) (lt : i < length vs) (old mid new : Cache D N S A H)
       (sorted : AreSorted p may has old (take i vs) mid) where

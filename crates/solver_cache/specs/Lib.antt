@@ -4,4 +4,5 @@ pub mod Functions
 pub mod Hints
 pub mod Outcomes
 pub mod Questions
+pub mod Refused
 pub mod Unanswered

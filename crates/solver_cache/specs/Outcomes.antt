@@ -33,7 +33,7 @@ module _ {D N S A H : Type 0} (p : Provider N S) (may : MayAnswer N S A) (has : 
 
   -- a package's candidates are refused
   pub record RefusesCandidates {C : Type 0} (n : N) (e : CacheError C) (new : Cache D N S A H) : Type 0 where
-    pub reason : IsRefusedOf (is_asked p old n) (lacks_candidates p new n) old e new
+    pub reason : IsRefusedOf (is_asked p old n) (lacks_candidates p old n) old e new
     pub left : IsUnasked p may has old n new
     pub later : IsLater has old new
 
@@ -53,7 +53,7 @@ module _ {D N S A H : Type 0} (p : Provider N S) (may : MayAnswer N S A) (has : 
 
   -- those that it holds, or those that it doesn't, are refused
   pub record RefusesFiltered {C : Type 0} (v : VersionSetId) (e : CacheError C) (new : Cache D N S A H) : Type 0 where
-    pub reason : IsRefusedOf (is_set_asked p old v) (lacks_candidates p new (p.universe.set_name v)) old e new
+    pub reason : IsRefusedOf (is_set_asked p old v) (lacks_candidates p old (p.universe.set_name v)) old e new
     pub left : IsUnfiltered p may has old v new
     pub later : IsLater has old new
 
@@ -66,7 +66,7 @@ module _ {D N S A H : Type 0} (p : Provider N S) (may : MayAnswer N S A) (has : 
 
   -- those that it holds, best first, are refused
   pub record RefusesSorted {C : Type 0} (v : VersionSetId) (e : CacheError C) (new : Cache D N S A H) : Type 0 where
-    pub reason : IsRefusedOf (is_set_asked p old v) (lacks_candidates p new (p.universe.set_name v)) old e new
+    pub reason : IsRefusedOf (is_set_asked p old v) (lacks_candidates p old (p.universe.set_name v)) old e new
     pub left : IsUnsorted p may has old v new
     pub later : IsLater has old new
 
@@ -107,7 +107,7 @@ module _ {D N S A H : Type 0} (p : Provider N S) (may : MayAnswer N S A) (has : 
 
   -- the place of a version set's list isn't noted, whether the list is kept or not
   pub record RefusesNext {C : Type 0} (v : VersionSetId) (e : CacheError C) (new : Cache D N S A H) : Type 0 where
-    pub reason : IsRefusedOf (is_set_asked p old v) (lacks_candidates p new (p.universe.set_name v)) old e new
+    pub reason : IsRefusedOf (is_set_asked p old v) (lacks_candidates p old (p.universe.set_name v)) old e new
     pub left : IsUnsorted p may has old v new ⊎ IsSorted p may has old v new
     pub later : IsLater has old new
 
@@ -120,5 +120,5 @@ module _ {D N S A H : Type 0} (p : Provider N S) (old : Cache D N S A H) where
 
   -- what it needs is refused, and nothing changed
   pub record RefusesDependencies {C : Type 0} (s : S) (e : CacheError C) (new : Cache D N S A H) : Type 0 where
-    pub reason : IsRefusedOf (is_fetched p old s) (lacks_dependencies p new s) old e new
+    pub reason : IsRefusedOf (is_fetched p old s) (lacks_dependencies p old s) old e new
     pub left : new ≡ old

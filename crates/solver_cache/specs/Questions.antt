@@ -103,6 +103,17 @@ module _ {D N S A H : Type 0} (p : Provider N S) (c : Cache D N S A H) where
   abbrev pub lacks_dependencies : S → Bool
   lacks_dependencies s = lacks_answer (2 ^ 32 - 1) p.is_large_solvable (length c.dependencies) s
 
+  -- an answer may not be kept for a package of these version sets, which wasn't asked for
+  abbrev pub may_lack_candidates : List VersionSetId → Bool
+  may_lack_candidates vs = list_any (λ v. not (is_set_asked p c v) &&
+      (p.is_large_name (p.universe.set_name v) || p.are_names_many)) vs
+
+-- why a question is refused: whether it was asked before, and whether an answer can't be kept. Only what wasn't asked
+-- for is stopped
+abbrev pub IsRefusal : {C : Type 0} → (asked lacks : Bool) → CacheError C → Type 0
+IsRefusal asked lacks (Cancelled reason) = asked ≡ false
+IsRefusal asked lacks (Store e) = IsGrowthRefusal (not asked && lacks) e
+
 -- a refusal to whoever asked about one package or solvable: whether it was asked for before, and whether an answer
 -- can't be kept. Only what wasn't asked for is stopped, and then nothing changed
 abbrev pub IsRefusedOf : {D N S A H C : Type 0} → (asked lacks : Bool) → Cache D N S A H → CacheError C →

@@ -1,6 +1,7 @@
 //! The cache: what it keeps, and what it tells of it without asking anything.
 ghost use Rattle.std.specs.Prelude.{◌≡◌, false, []};
 
+mod answering;
 mod asking;
 mod filtering;
 mod reading;

@@ -8,13 +8,14 @@
 //!
 //! `specs/Cache` is what a cache is, as plain lists. `specs/Outcomes` has a word for each outcome of a question, as
 //! `AnswersCandidates` where it is answered and `RefusesCandidates` where it is refused. Their parts say what is left:
-//! `specs/Questions` of an answered question, `specs/Unanswered` of a refused one. `specs/CandidateLaws` is what is
-//! true of the candidate lists of every provider.
+//! `specs/Questions` of an answered question, `specs/Unanswered` of a refused one. `specs/Refused` says which refusals
+//! there may be, and `specs/CandidateLaws` what is true of the candidate lists of every provider.
 //!
-//! `cache` has the type, and in `cache/` are the questions, a file for each kind: `asking` those to the provider,
-//! `filtering` and `sorting` those about version sets and requirements; `reading` shows what is kept. `candidates` asks
-//! the provider for a package's candidates, and `favored` puts the favored one first among others; `kept_lists` keeps
-//! lists by keys, and `hints` marks the solvables whose dependencies are at hand.
+//! `cache` has the type, and in `cache/` are the questions. Those of `asking` are put to the provider, those of
+//! `filtering` and `sorting` are about version sets and requirements. Each answers an id, by which `reading` shows what
+//! is kept; `answering` does both in one call, and answers a reference. `candidates` asks the provider for a package's
+//! candidates, and `favored` puts the favored one first among others; `kept_lists` keeps lists by keys, and `hints`
+//! marks the solvables whose dependencies are at hand.
 #![tactic(auto)]
 
 mod cache;

@@ -132,7 +132,7 @@ fn candidates<D: DependencyProvider<Cancel = u32, SolvableId: Numbered> + Drop>(
     is_extras: bool,
 ) -> Seen {
     match cache.get_or_cache_candidates(name) {
-        Ok(id) => shown_of(cache.candidates(id), is_extras),
+        Ok(kept) => shown_of(kept, is_extras),
         Err(error) => unanswered(error),
     }
 }
@@ -152,7 +152,7 @@ fn of_set<D: DependencyProvider<Cancel = u32, SolvableId: Numbered> + Drop>(
         Part::Required => cache.get_or_cache_sorted_candidates(Requirement::Single(set)),
     };
     match answer {
-        Ok(id) => shown(cache.list(id)),
+        Ok(list) => shown(list),
         Err(error) => unanswered(error),
     }
 }
@@ -165,7 +165,7 @@ fn of_union<D: DependencyProvider<Cancel = u32, SolvableId: Numbered> + Drop>(
         return Seen::Unknown;
     }
     match cache.get_or_cache_sorted_candidates(Requirement::Union(union)) {
-        Ok(id) => shown(cache.list(id)),
+        Ok(list) => shown(list),
         Err(error) => unanswered(error),
     }
 }
@@ -178,7 +178,7 @@ fn needs<D: DependencyProvider<Cancel = u32> + Drop>(
         return Seen::Unknown;
     }
     match cache.get_or_cache_dependencies(solvable) {
-        Ok(id) => Seen::IsKnown(matches!(cache.dependencies(id), Dependencies::Known(_))),
+        Ok(answer) => Seen::IsKnown(matches!(answer, Dependencies::Known(_))),
         Err(error) => unanswered(error),
     }
 }

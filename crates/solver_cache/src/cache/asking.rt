@@ -16,7 +16,7 @@ impl<D: DependencyProvider + Drop> SolverCache<D> {
     ghost use Rattle.solver_cache.specs.Outcomes.{AnswersDependencies, RefusesDependencies};
 
     /// The candidates of a package. A package that there isn't has none.
-    pub fn get_or_cache_candidates(
+    pub fn cache_candidates(
         &mut self,
         name: D::NameId,
     ) -> Result<CandidatesId, CacheError<D::Cancel>>
@@ -54,7 +54,7 @@ impl<D: DependencyProvider + Drop> SolverCache<D> {
     }
 
     /// What a solvable needs.
-    pub fn get_or_cache_dependencies(
+    pub fn cache_dependencies(
         &mut self,
         solvable: D::SolvableId,
     ) -> Result<DependenciesId, CacheError<D::Cancel>>

@@ -15,7 +15,7 @@ impl<D: DependencyProvider + Drop> SolverCache<D> {
     ghost use Rattle.solver_cache.specs.Outcomes.{AnswersMatching, AnswersNonMatching, RefusesFiltered, AsksPackage};
 
     /// The candidates of its package that a version set holds, in the provider's order of listing.
-    pub fn get_or_cache_matching_candidates(
+    pub fn cache_matching_candidates(
         &mut self,
         set: VersionSetId,
     ) -> Result<ListId, CacheError<D::Cancel>>
@@ -45,7 +45,7 @@ impl<D: DependencyProvider + Drop> SolverCache<D> {
     }
 
     /// The candidates of its package that a version set doesn't hold, in the provider's order of listing.
-    pub fn get_or_cache_non_matching_candidates(
+    pub fn cache_non_matching_candidates(
         &mut self,
         set: VersionSetId,
     ) -> Result<ListId, CacheError<D::Cancel>>
@@ -91,7 +91,7 @@ impl<D: DependencyProvider + Drop> SolverCache<D> {
             D.SolvableId.Set.has self.old set e self.new) }
     {
         let name = self.provider.version_set_name(set);
-        let id = self.get_or_cache_candidates(name)?;
+        let id = self.cache_candidates(name)?;
         let candidates = &self.candidates[id].candidates;
         Ok(
             self.provider

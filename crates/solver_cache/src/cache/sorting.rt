@@ -24,7 +24,7 @@ impl<D: DependencyProvider + Drop> SolverCache<D> {
 
     /// The candidates of a requirement: of each of its version sets, one after the other, those that it holds, best
     /// first. The first refusal ends the call.
-    pub fn get_or_cache_sorted_candidates(
+    pub fn cache_sorted_candidates(
         &mut self,
         requirement: Requirement,
     ) -> Result<ListId, CacheError<D::Cancel>>
@@ -39,14 +39,14 @@ impl<D: DependencyProvider + Drop> SolverCache<D> {
             (sets_of (D.universe self.old.provider) requirement) e self.new) }
     {
         match requirement {
-            Requirement::Single(set) => self.get_or_cache_sorted_candidates_for_version_set(set),
+            Requirement::Single(set) => self.cache_sorted_candidates_for_version_set(set),
             Requirement::Union(union) => self.sorted_union(union),
         }
     }
 
     /// The candidates that a version set holds, best first. The favored one, where it is among them, is the best; the
     /// others are in the provider's order.
-    pub fn get_or_cache_sorted_candidates_for_version_set(
+    pub fn cache_sorted_candidates_for_version_set(
         &mut self,
         set: VersionSetId,
     ) -> Result<ListId, CacheError<D::Cancel>>
@@ -65,7 +65,7 @@ impl<D: DependencyProvider + Drop> SolverCache<D> {
                 place,
             }),
             None => {
-                let id = self.get_or_cache_matching_candidates(set)?;
+                let id = self.cache_matching_candidates(set)?;
                 let favored = self.favored(set);
                 let list = in_order(
                     &self.provider,
@@ -127,13 +127,13 @@ impl<D: DependencyProvider + Drop> SolverCache<D> {
             D.SolvableId.Set.has self.old
             ((D.universe self.old.provider).union_sets union) e self.new) }
     {
-        let ids = self.get_or_cache_sorted_lists(Requirement::Union(union))?;
+        let ids = self.cache_sorted_lists(Requirement::Union(union))?;
         Ok(self.concatenated(&ids)?)
     }
 
     /// The candidates of each of a requirement's version sets, in the order of the sets: where each list is kept that
-    /// [`SolverCache::get_or_cache_sorted_candidates_for_version_set`] answers. The first refusal ends the call.
-    pub fn get_or_cache_sorted_lists(
+    /// [`SolverCache::cache_sorted_candidates_for_version_set`] answers. The first refusal ends the call.
+    pub fn cache_sorted_lists(
         &mut self,
         requirement: Requirement,
     ) -> Result<Vec<ListId, D::Alloc>, CacheError<D::Cancel>>
@@ -221,7 +221,7 @@ impl<D: DependencyProvider + Drop> SolverCache<D> {
             (⟦<D as ProviderFunctions>⟧.functions self.old.provider) (D.may_answer self.old.provider)
             D.SolvableId.Set.has self.old set e self.new) }
     {
-        let id = self.get_or_cache_sorted_candidates_for_version_set(set)?;
+        let id = self.cache_sorted_candidates_for_version_set(set)?;
         Ok(ids.push(id)?)
     }
 

@@ -26,38 +26,38 @@ pub returns-clause-lists : goal.returns-clause-lists
 returns-clause-lists g c =
     let p = provided g c.args.cache.now.provider in
     subst (λ l. IfOk c.intern_lists.result (λ made. map (λ x. x.items) made.items ≡ l))
-    (listed_mapped p c.get_or_cache_sorted_lists.new.self c.in_ok-ids.ids.items (sets_of p.universe c.args.requirement)
+    (listed_mapped p c.cache_sorted_lists.new.self c.in_ok-ids.ids.items (sets_of p.universe c.args.requirement)
     (map (interned_variable g.D.SolvableId.PartialEq.eq c.intern_lists.new.variables)) c.in_ok-ids.ensures.answered.lists) c.intern_lists.ensures.lists
 
 pub returns-clause-ok : goal.returns-clause-ok
 returns-clause-ok g c =
     let p = provided g c.args.cache.now.provider in
     subst (λ l. OnOk c.intern_lists.result (c.intern_lists.new.variables ≡ with_variables g.D.SolvableId.PartialEq.eq c.args.variables.now l))
-    (listed_joined p c.get_or_cache_sorted_lists.new.self c.in_ok-ids.ids.items (sets_of p.universe c.args.requirement) c.in_ok-ids.ensures.answered.lists) c.intern_lists.ensures.ok
+    (listed_joined p c.cache_sorted_lists.new.self c.in_ok-ids.ids.items (sets_of p.universe c.args.requirement) c.in_ok-ids.ensures.answered.lists) c.intern_lists.ensures.ok
 
 pub returns-clause-few : goal.returns-clause-few
 returns-clause-few g c =
     let p = provided g c.args.cache.now.provider in
     subst (λ l. OnOk c.intern_lists.result (length l < 2 ^ 40))
-    (listed_joined p c.get_or_cache_sorted_lists.new.self c.in_ok-ids.ids.items (sets_of p.universe c.args.requirement) c.in_ok-ids.ensures.answered.lists) c.intern_lists.ensures.few
+    (listed_joined p c.cache_sorted_lists.new.self c.in_ok-ids.ids.items (sets_of p.universe c.args.requirement) c.in_ok-ids.ensures.answered.lists) c.intern_lists.ensures.few
 
 pub returns-clause-fit : goal.returns-clause-fit
 returns-clause-fit g c =
     let p = provided g c.args.cache.now.provider in
     subst (λ l. OnOk c.intern_lists.result (lacks_variables g.D.SolvableId.PartialEq.eq g.D.SolvableId.Slots.IdMap.is_too_large c.args.variables.now l ≡ false))
-    (listed_joined p c.get_or_cache_sorted_lists.new.self c.in_ok-ids.ids.items (sets_of p.universe c.args.requirement) c.in_ok-ids.ensures.answered.lists) c.intern_lists.ensures.fit
+    (listed_joined p c.cache_sorted_lists.new.self c.in_ok-ids.ids.items (sets_of p.universe c.args.requirement) c.in_ok-ids.ensures.answered.lists) c.intern_lists.ensures.fit
 
 pub returns-clause-err : goal.returns-clause-err
 returns-clause-err g c =
     let p = provided g c.args.cache.now.provider in
     subst (λ l. OnErr c.intern_lists.result (IsPartlyInterned g.D.SolvableId.PartialEq.eq c.args.variables.now l c.intern_lists.new.variables))
-    (listed_joined p c.get_or_cache_sorted_lists.new.self c.in_ok-ids.ids.items (sets_of p.universe c.args.requirement) c.in_ok-ids.ensures.answered.lists) c.intern_lists.ensures.err
+    (listed_joined p c.cache_sorted_lists.new.self c.in_ok-ids.ids.items (sets_of p.universe c.args.requirement) c.in_ok-ids.ensures.answered.lists) c.intern_lists.ensures.err
 
 pub returns-clause-refused : goal.returns-clause-refused
 returns-clause-refused g c =
     let p = provided g c.args.cache.now.provider in
     let old = c.args.cache.now in
-    let new = c.get_or_cache_sorted_lists.new.self in
+    let new = c.cache_sorted_lists.new.self in
     let sets = sets_of p.universe c.args.requirement in
     if_refused _ _ c.intern_lists.result
     (growth_refused (list_all (is_set_asked p old) sets) (list_any (λ v. not (is_set_asked p old v) && lacks_candidates p new (p.universe.set_name v)) sets) _)

@@ -52,7 +52,8 @@ pub returns-in_err-insert-clause-refused : goal.returns-in_err-insert-clause-ref
 returns-in_err-insert-clause-refused g c =
     let has = g.D.SolvableId.Set.IdSet.has in
     handed_on _ c.from_residual-in_err-insert.result (Store c.in_err-insert.field-0.0) c.from_residual-in_err-insert.ensures.1 (record {
-      reason = rw c.in_err-insert.ensures.err (refused_unasked _ _ c.in_err-insert.field-0.0 c.requires
+      reason = rw (sym c.self.view_is) (refused_unasked _ _ c.in_err-insert.field-0.0
+          (ap (λ v. is_kept (g.D.NameId.PartialEq.eq c.args.name) v.candidates) c.self.view_is ∙ c.requires)
           (refusal_wider _ _ c.in_err-insert.field-0.0
           (used_up_by_many g.D.NameId.SolverId.are_many (g.D.NameId.Slots.IdMap.is_too_large c.args.name)
           (length c.self.inside.candidates) c.insert.ensures.few)

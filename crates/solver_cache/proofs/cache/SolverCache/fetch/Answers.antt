@@ -1,5 +1,6 @@
 use Rattle.std.proofs.lemmas.Grind.{common_steps}
-use Rattle.std.proofs.Common.{sym, refl, arith}
+use Rattle.std.proofs.Common.{◌∙◌, sym, refl, ap, arith}
+use Rattle.solver_cache.specs.Cache.{is_kept}
 use Rattle.solver_cache.proofs.CacheLemmas.{right_fetched, once_new, value_last, handed_on, refused_unasked}
 use Rattle.solver_cache.specs.declared.error.CacheError.TheVariants.{Store}
 use Rattle.solver_cache.proofs.cache.SolverCache.fetch.Goals as goal
@@ -18,6 +19,8 @@ returns-clause-answered g c = record {
 pub returns-in_err-insert-clause-refused : goal.returns-in_err-insert-clause-refused
 returns-in_err-insert-clause-refused g c =
     handed_on _ c.from_residual-in_err-insert.result (Store c.in_err-insert.field-0.0) c.from_residual-in_err-insert.ensures.1 (record {
-      reason = rw c.in_err-insert.ensures.err (refused_unasked _ _ c.in_err-insert.field-0.0 c.requires.new c.in_err-insert.ensures.refused);
+      reason = rw (sym c.self.view_is) (refused_unasked _ _ c.in_err-insert.field-0.0
+          (ap (λ v. is_kept (g.D.SolvableId.PartialEq.eq c.args.solvable) v.dependencies) c.self.view_is ∙ c.requires.new)
+          c.in_err-insert.ensures.refused);
       left = grind (arith, common_steps);
     })

@@ -32,7 +32,7 @@ returns-clause-package g c =
     c.version_set_name-name.ensures ∙ ap (λ v. (g.D.Interner.universe v.provider).set_name c.args.set) c.self.view_is in
     record {
       asked = subst (λ n. IsAsked p (g.D.DependencyProvider.may_answer old.provider) g.D.SolvableId.Set.IdSet.has old n
-          c.get_or_cache_candidates.new.self) name c.in_ok-id.ensures.answered.asked;
+          c.cache_candidates.new.self) name c.in_ok-id.ensures.answered.asked;
       later = c.in_ok-id.ensures.answered.later;
       asked_now = grind (arith, common_steps);
     }
@@ -61,7 +61,7 @@ returns-in_err-id-clause-refused g c =
     handed_on _ c.from_residual.result c.in_err-id.field-0.0 c.from_residual.ensures.1 (record {
       reason = rw (sym name) refused.reason;
       left = inl (subst (λ n. IsUnasked p (g.D.DependencyProvider.may_answer old.provider) g.D.SolvableId.Set.IdSet.has old n
-          c.get_or_cache_candidates.new.self) name refused.left);
+          c.cache_candidates.new.self) name refused.left);
       later = refused.later;
     })
 
@@ -76,6 +76,6 @@ returns-in_err-filter_candidates-clause-refused g c =
     (Store c.in_err-filter_candidates.field-0.0) c.from_residual-in_err-filter_candidates.ensures.1 (record {
       reason = grind (arith, common_steps);
       left = inr (subst (λ n. IsAsked p (g.D.DependencyProvider.may_answer old.provider) g.D.SolvableId.Set.IdSet.has old n
-          c.get_or_cache_candidates.new.self) name answered.asked);
+          c.cache_candidates.new.self) name answered.asked);
       later = answered.later;
     })

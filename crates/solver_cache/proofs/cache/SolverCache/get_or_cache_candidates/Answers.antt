@@ -1,20 +1,25 @@
-use Rattle.std.proofs.Common.{sym}
-use Rattle.solver_cache.specs.Cache.{IsAnswer}
-use Rattle.solver_cache.specs.Functions.{gathered}
-use Rattle.solver_cache.proofs.CacheLemmas.{kept_answer, later_same, once_kept}
+use Rattle.std.proofs.Common.{◌≡◌, ◌<◌, ◌∙◌, length, sym, arith}
+use Rattle.std.specs.Map.{values_of}
+use Rattle.std.proofs.lemmas.List.{length-map}
+use Rattle.std.proofs.lemmas.Option.{slice_get_within}
+use Rattle.solver_cache.proofs.CacheLemmas.{handed_on, some_is}
+use Rattle.solver_cache.proofs.RefusalLemmas.{refused_name}
 use Rattle.solver_cache.proofs.cache.SolverCache.get_or_cache_candidates.Goals as goal
 
-pub returns-in-Some-clause-answered : goal.returns-in-Some-clause-answered
-returns-in-Some-clause-answered g c =
-    let D = g.D in
-    let p = gathered D.NameId.PartialEq.eq D.SolvableId.PartialEq.eq D.NameId.Slots.IdMap.is_too_large D.SolvableId.Slots.IdMap.is_too_large
-    D.SolvableId.Set.IdSet.is_too_large D.NameId.SolverId.are_many D.Interner.universe D.DependencyProvider.answers c.self.inside.provider in
-    rw (sym c.self.view_is) (record {
-      asked = once_kept _ _ _ (sym c.in-Some.ensures.found);
-      own = c.in-Some.ensures.answer;
-      answer = kept_answer g.D.NameId.PartialEq.eq g.met.D.NameId.SameValue.same
-          (IsAnswer p (D.DependencyProvider.may_answer c.self.inside.provider)) c.args.name c.in-Some.id c.self.inside.candidates
-          c.self.invariant.answers (sym c.in-Some.ensures.found) c.in-Some.ensures.answer;
-      later = later_same _ _;
-      asked_now = sym c.in-Some.ensures.found;
-    })
+pub candidates-requires : goal.candidates-requires
+candidates-requires g c =
+    let kept = c.cache_candidates.new.self.candidates in
+    let answer = c.in_ok-id.ensures.answered.answer in
+    let within : c.in_ok-id.id < length (values_of kept) = slice_get_within (values_of kept) c.in_ok-id.id answer.0 answer.1 in
+    omega (arith, within, length-map kept (λ e. e.1))
+
+pub returns-clause-answer : goal.returns-clause-answer
+returns-clause-answer g c =
+    let answer = c.in_ok-id.ensures.answered.answer in
+    let same : c.candidates.result.now ≡ answer.0 = some_is _ _ (sym c.candidates.ensures ∙ answer.1) in
+    rw same answer.2
+
+pub returns-in_err-id-clause-refused : goal.returns-in_err-id-clause-refused
+returns-in_err-id-clause-refused g c =
+    handed_on _ c.from_residual.result c.in_err-id.field-0.0 c.from_residual.ensures.1
+    (refused_name c.in_err-id.ensures.refused)

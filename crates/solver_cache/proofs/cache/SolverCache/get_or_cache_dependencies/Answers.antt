@@ -1,14 +1,25 @@
-use Rattle.std.proofs.Common.{◌≡◌, sym}
-use Rattle.providers.specs.Dependencies.{needs_of}
-use Rattle.solver_cache.proofs.CacheLemmas.{kept_answer, once_kept}
+use Rattle.std.proofs.Common.{◌≡◌, ◌<◌, ◌∙◌, length, sym, arith}
+use Rattle.std.specs.Map.{values_of}
+use Rattle.std.proofs.lemmas.List.{length-map}
+use Rattle.std.proofs.lemmas.Option.{slice_get_within}
+use Rattle.solver_cache.proofs.CacheLemmas.{handed_on, some_is}
+use Rattle.solver_cache.proofs.RefusalLemmas.{refused_needs}
 use Rattle.solver_cache.proofs.cache.SolverCache.get_or_cache_dependencies.Goals as goal
 
-pub returns-in-Some-clause-answered : goal.returns-in-Some-clause-answered
-returns-in-Some-clause-answered g c =
-    rw (sym c.self.view_is) (record {
-      fetched = once_kept _ _ _ (sym c.in-Some.ensures.found);
-      answer = kept_answer g.D.SolvableId.PartialEq.eq g.met.D.SolvableId.SameValue.same
-          (λ s answer. needs_of answer ≡ (g.D.DependencyProvider.answers c.self.inside.provider).needs s)
-          c.args.solvable c.in-Some.id c.self.inside.dependencies
-          c.self.invariant.needs (sym c.in-Some.ensures.found) c.in-Some.ensures.answer;
-    })
+pub dependencies-requires : goal.dependencies-requires
+dependencies-requires g c =
+    let kept = c.cache_dependencies.new.self.dependencies in
+    let answer = c.in_ok-id.ensures.answered.answer in
+    let within : c.in_ok-id.id < length (values_of kept) = slice_get_within (values_of kept) c.in_ok-id.id answer.0 answer.1 in
+    omega (arith, within, length-map kept (λ e. e.1))
+
+pub returns-clause-answer : goal.returns-clause-answer
+returns-clause-answer g c =
+    let answer = c.in_ok-id.ensures.answered.answer in
+    let same : c.dependencies.result.now ≡ answer.0 = some_is _ _ (sym c.dependencies.ensures ∙ answer.1) in
+    rw same answer.2
+
+pub returns-in_err-id-clause-refused : goal.returns-in_err-id-clause-refused
+returns-in_err-id-clause-refused g c =
+    handed_on _ c.from_residual.result c.in_err-id.field-0.0 c.from_residual.ensures.1
+    (refused_needs c.in_err-id.ensures.refused)

@@ -18,7 +18,7 @@ provided g = gathered g.D.NameId.PartialEq.eq g.D.SolvableId.PartialEq.eq g.D.Na
 pub returns-clause-list : goal.returns-clause-list
 returns-clause-list g c =
     let p = provided g c.args.self.now.provider in
-    let new = c.get_or_cache_sorted_lists.new.self in
+    let new = c.cache_sorted_lists.new.self in
     c.in_ok-concatenated.ensures.ok ∙ ap (flat_map (listed new)) c.deref.ensures.value
     ∙ listed_joined p new c.in_ok-ids.ids.items (p.universe.union_sets c.args.union) c.in_ok-ids.ensures.answered.lists
 
@@ -30,6 +30,6 @@ returns-in_err-concatenated-clause-refused g c =
     let answered = c.in_ok-ids.ensures.answered in
     handed_on _ c.from_residual-in_err-concatenated.result (Store c.in_err-concatenated.field-0.0) c.from_residual-in_err-concatenated.ensures.1 (record {
       reason = memory_refused _ c.in_err-concatenated.field-0.0 c.in_err-concatenated.ensures.memory;
-      left = all_sorted p may g.D.SolvableId.Set.IdSet.has (p.universe.union_sets c.args.union) old c.get_or_cache_sorted_lists.new.self answered.sorted;
+      left = all_sorted p may g.D.SolvableId.Set.IdSet.has (p.universe.union_sets c.args.union) old c.cache_sorted_lists.new.self answered.sorted;
       later = answered.later;
     })

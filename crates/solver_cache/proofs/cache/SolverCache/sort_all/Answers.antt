@@ -31,7 +31,7 @@ returns-in_err-sort_next-clause-refused g c =
     let refused : RefusesNext p (may old.provider) has mid v e new =
     subst (λ q. RefusesNext (provided q) (may q) has mid v e new) same c.in_err-sort_next.ensures.refused in
     handed_on _ c.from_residual.result e c.from_residual.ensures.1 (record {
-      reason = refused_in_turn has p old mid new c.loop-set.invariant.later sets i none c.loop-set-test.true e refused.reason;
+      reason = refused_in_turn has p old mid new c.loop-set.invariant.later refused.later sets i none c.loop-set-test.true e refused.reason;
       left = left_in_turn p (may old.provider) has sets i none c.loop-set-test.true old mid new c.loop-set.invariant.in_turn _ e refused.reason refused.left;
       later = later_trans has old mid new c.loop-set.invariant.later refused.later;
     })

@@ -1,4 +1,4 @@
-use Rattle.std.proofs.Common.{rules, sym}
+use Rattle.std.proofs.Common.{sym}
 use Rattle.typed_ids.specs.declared.error.StoreError.TheVariants.{OutOfMemory}
 use Rattle.solver_cache.specs.declared.error.CacheError.TheVariants.{Store}
 use Rattle.solver_cache.proofs.CacheLemmas.{handed_on, later_same}

@@ -6,7 +6,7 @@ use Rattle.providers.specs.Provider.{sets_of}
 use Rattle.solver_cache.specs.Cache.{is_set_asked}
 use Rattle.solver_cache.specs.Functions.{gathered}
 use Rattle.solver_cache.proofs.IdLemmas.{all_asked_fit}
-use Rattle.solver_cache.proofs.cache.SolverCache.get_or_cache_sorted_lists.Goals as goal
+use Rattle.solver_cache.proofs.cache.SolverCache.cache_sorted_lists.Goals as goal
 
 pub returns-clause-answered : goal.returns-clause-answered
 returns-clause-answered g c =
