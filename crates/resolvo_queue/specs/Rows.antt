@@ -1,6 +1,7 @@
 -- The rows of a requirement, and its frontier under the values of the variables.
 pub mod ByVariable
 pub mod Listing
+pub mod ShortLists
 pub mod States
 use Rattle.std.specs.Prelude.{ℕ, ◌<◌, ◌^◌, Bool, ◌==◌, ◌&&◌, if◌then◌else◌, List, [], map, find}
 use Rattle.std.specs.Prelude.{count_by, flat_map, length, zip, Option, None, Some, option_map}

@@ -1,17 +1,41 @@
 //! Lists by variables.
-ghost use Rattle.std.specs.Prelude.{◌≡◌, ◌<◌, [], ◌∷◌, ◌++◌, map, OnOk, OnErr, IfErr, vec_len};
+//!
+//! Most variables are candidates of a requirement or two. A vector of so few items takes more memory for where they lie
+//! than for them, and an allocation beside: so a list holds its first items in itself.
+ghost use Rattle.std.specs.Prelude.{◌≡◌, ◌<◌, [], ◌∷◌, ◌++◌, length, OnOk, OnErr, IfErr};
 ghost use Rattle.typed_ids.specs.declared.error.StoreError.TheVariants.{OutOfMemory};
 ghost use Rattle.typed_ids.specs.TotalMaps.{IsUpdate, SameValues};
 ghost use Rattle.resolvo_queue.specs.Rows.ByVariable.{list_at};
 
+use smallvec::SmallVec;
 use std::alloc::Allocator;
+use std::default::MadeWith;
 use std::marker::Model;
-use typed_ids::{DenseIndex, StoreError, VariableId};
+use std::mem::ManuallyDrop;
+use typed_ids::{DenseIndex, StoreError, VariableId, fits_in_memory, type_fits};
 
-/// A total map from variables to lists. It grows to the index of the largest variable that has an item.
-#[derive(Drop)]
+/// How many items of a variable lie in the list itself. A list takes 32 bytes with two requirements in place, or with up
+/// to two numbers; a vector takes 24, and 32 more for its first items.
+const IN_PLACE: usize = 2;
+
+/// A total map from variables to lists. It grows to the index of the largest variable that has an item. Up to two items
+/// of a variable lie in place, more in memory of their own.
+///
+/// Whoever makes, reads or drops a `SmallVec` owes that its type fits in memory, and the allocator's type is open here.
+/// [`fits_in_memory`] and [`type_fits`] tell it; so nobody who has such a map owes it.
 pub(crate) struct ListsByVariable<T, A: Allocator + Copy> {
-    lists: Vec<Vec<T, A>, A>,
+    lists: Vec<ManuallyDrop<SmallVec<T, IN_PLACE, A>>, A>,
+}
+
+impl<T: Drop, A: Allocator + Copy> Drop for ListsByVariable<T, A> {
+    fn drop(self) {
+        let ListsByVariable { lists } = self;
+        for list in lists {
+            if fits_in_memory::<[T; IN_PLACE]>() && fits_in_memory::<SmallVec<T, IN_PLACE, A>>() {
+                let _let_go = ManuallyDrop::into_inner(list);
+            }
+        }
+    }
 }
 
 impl<T, A: Allocator + Copy> Model for ListsByVariable<T, A> {
@@ -19,10 +43,12 @@ impl<T, A: Allocator + Copy> Model for ListsByVariable<T, A> {
 
     ghost Value = { List (List T) };
 
-    ghost view = { λ m. map (λ list. list.items) m.lists.items };
+    ghost use Rattle.resolvo_queue.specs.Rows.ShortLists.{items_in};
+
+    ghost view = { λ m. map items_in m.lists.items };
 }
 
-impl<T: Copy + Drop, A: Allocator + Copy> ListsByVariable<T, A> {
+impl<T: MadeWith<A> + Copy, A: Allocator + Copy> ListsByVariable<T, A> {
     /// The map of empty lists. Takes no memory.
     pub(crate) fn new(alloc: A) -> Self
         ensures { result ≡ [] }
@@ -36,9 +62,12 @@ impl<T: Copy + Drop, A: Allocator + Copy> ListsByVariable<T, A> {
     pub(crate) fn at(&self, variable: VariableId) -> &[T]
         ensures { result.now ≡ list_at self.now variable }
     {
-        match self.lists.get(variable.to_index()) {
-            Some(list) => list.as_slice(),
-            None => &[],
+        let index = variable.to_index();
+        if index < self.lists.len() {
+            type_fits(self.lists.as_slice());
+            self.lists[index].as_slice()
+        } else {
+            &[]
         }
     }
 
@@ -50,30 +79,30 @@ impl<T: Copy + Drop, A: Allocator + Copy> ListsByVariable<T, A> {
         ensures memory { IfErr result (λ e. e ≡ OutOfMemory) }
     {
         let index = variable.to_index();
-        reach(&mut self.lists, index)?;
+        self.reach(index)?;
+        type_fits(self.lists.as_slice());
         match self.lists[index].push(item) {
             Ok(()) => Ok(()),
             Err(_) => Err(StoreError::OutOfMemory),
         }
     }
-}
 
-/// Grows the lists by empty ones until there is one at the index. A refusal may leave some of those.
-fn reach<T: Drop, A: Allocator + Copy>(
-    lists: &mut Vec<Vec<T, A>, A>,
-    index: usize,
-) -> Result<(), StoreError>
-    ensures same { SameValues (list_at (map (λ list. list.items) lists.old.items))
-        (list_at (map (λ list. list.items) lists.new.items)) }
-    ensures reached { OnOk result (index < vec_len lists.new) }
-    ensures memory { IfErr result (λ e. e ≡ OutOfMemory) }
-{
-    let alloc = *lists.allocator();
-    while lists.len() <= index {
-        match lists.push(Vec::new(alloc)) {
-            Ok(()) => {}
-            Err(_) => return Err(StoreError::OutOfMemory),
+    /// Grows the lists by empty ones until there is one at the index. A refusal may leave some of those.
+    fn reach(&mut self, index: usize) -> Result<(), StoreError>
+        ensures same { SameValues (list_at self.old) (list_at self.new) }
+        ensures reached { OnOk result (index < length self.new) }
+        ensures memory { IfErr result (λ e. e ≡ OutOfMemory) }
+    {
+        if !fits_in_memory::<SmallVec<T, IN_PLACE, A>>() {
+            return Err(StoreError::OutOfMemory);
         }
+        let alloc = *self.lists.allocator();
+        while self.lists.len() <= index {
+            match self.lists.push(ManuallyDrop::new(SmallVec::new(alloc))) {
+                Ok(()) => {}
+                Err(_) => return Err(StoreError::OutOfMemory),
+            }
+        }
+        Ok(())
     }
-    Ok(())
 }
