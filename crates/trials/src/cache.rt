@@ -131,8 +131,8 @@ fn candidates<D: DependencyProvider<Cancel = u32, SolvableId: Numbered> + Drop>(
     name: D::NameId,
     is_extras: bool,
 ) -> Seen {
-    match cache.get_or_cache_candidates(name) {
-        Ok(kept) => shown_of(kept, is_extras),
+    match cache.cache_candidates(name) {
+        Ok(id) => shown_of(cache.candidates(id), is_extras),
         Err(error) => unanswered(error),
     }
 }
@@ -146,13 +146,13 @@ fn of_set<D: DependencyProvider<Cancel = u32, SolvableId: Numbered> + Drop>(
         return Seen::Unknown;
     }
     let answer = match part {
-        Part::Matching => cache.get_or_cache_matching_candidates(set),
-        Part::Others => cache.get_or_cache_non_matching_candidates(set),
-        Part::Sorted => cache.get_or_cache_sorted_candidates_for_version_set(set),
-        Part::Required => cache.get_or_cache_sorted_candidates(Requirement::Single(set)),
+        Part::Matching => cache.cache_matching_candidates(set),
+        Part::Others => cache.cache_non_matching_candidates(set),
+        Part::Sorted => cache.cache_sorted_candidates_for_version_set(set),
+        Part::Required => cache.cache_sorted_candidates(Requirement::Single(set)),
     };
     match answer {
-        Ok(list) => shown(list),
+        Ok(id) => shown(cache.list(id)),
         Err(error) => unanswered(error),
     }
 }
@@ -164,8 +164,8 @@ fn of_union<D: DependencyProvider<Cancel = u32, SolvableId: Numbered> + Drop>(
     if !cache.provider().knows_union(union) {
         return Seen::Unknown;
     }
-    match cache.get_or_cache_sorted_candidates(Requirement::Union(union)) {
-        Ok(list) => shown(list),
+    match cache.cache_sorted_candidates(Requirement::Union(union)) {
+        Ok(id) => shown(cache.list(id)),
         Err(error) => unanswered(error),
     }
 }
@@ -177,8 +177,8 @@ fn needs<D: DependencyProvider<Cancel = u32> + Drop>(
     if !cache.provider().knows_solvable(solvable) {
         return Seen::Unknown;
     }
-    match cache.get_or_cache_dependencies(solvable) {
-        Ok(answer) => Seen::IsKnown(matches!(answer, Dependencies::Known(_))),
+    match cache.cache_dependencies(solvable) {
+        Ok(id) => Seen::IsKnown(matches!(cache.dependencies(id), Dependencies::Known(_))),
         Err(error) => unanswered(error),
     }
 }
