@@ -23,7 +23,8 @@ impl<K: SameId, V: DefaultValue, S: BuildHasher + Default + Drop, A: Allocator +
 
     ghost is_too_large = { λ k. false };
 
-    ghost written = { λ m k h. some_is_stored (get K.eq m k) V.default_value (not_default V.is_default V.default_is h) };
+    ghost written = { λ m k h. some_is_stored (get K.eq m k) V.default_value
+        (not_default V.is_default V.default_is h) };
 
     ghost room_fits = { λ m k h. refl };
 

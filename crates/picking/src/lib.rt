@@ -6,9 +6,9 @@
 //!
 //! The search owes nothing (`search`; `encoding` for what it tells the store, `learning` for conflicts, `explaining`
 //! for why nothing serves, which it tells as a list of [`Reason`]s). What it answers is checked once at the end by the
-//! crate `serving`, which looks at the provider and at no store: what is picked by its `serves`, and that nothing serves
-//! by its `refutes`, which replays what the search learnt. `lent` makes a provider that a store can own of one that is
-//! lent.
+//! crate `serving`, which looks at the provider and at no store. Its `serves` checks what is picked. Its `refutes`
+//! checks that nothing serves, by a replay of what the search learnt. `lent` makes a provider that a store can own of
+//! one that is lent.
 #![tactic(auto)]
 
 mod encoding;

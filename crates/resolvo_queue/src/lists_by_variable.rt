@@ -14,8 +14,8 @@ use std::marker::Model;
 use std::mem::ManuallyDrop;
 use typed_ids::{DenseIndex, StoreError, VariableId, fits_in_memory, type_fits};
 
-/// How many items of a variable lie in the list itself. A list takes 32 bytes with two requirements in place, or with up
-/// to two numbers; a vector takes 24, and 32 more for its first items.
+/// How many items of a variable lie in the list itself. A list takes 32 bytes with two requirements or two numbers in
+/// place. A vector takes 24, and 32 more for its first items.
 const IN_PLACE: usize = 2;
 
 /// A total map from variables to lists. It grows to the index of the largest variable that has an item. Up to two items

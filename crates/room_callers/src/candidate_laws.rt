@@ -5,8 +5,8 @@ use providers::DependencyProvider;
 use solver_cache::ProviderFunctions;
 use typed_ids::VersionSetId;
 
-/// Each candidate of a version set's package stands in what the set holds or in what it doesn't, as often as among the
-/// candidates, and never in both. Best first, what it holds is the same in another order.
+/// A version set splits its package's candidates into those that it holds and the others. Each candidate is in exactly
+/// one of the two lists, once for each time that the provider lists it. Sorting only reorders those that the set holds.
 pub fn candidates_divide<D: DependencyProvider>(provider: &D, set: VersionSetId)
     ensures { CandidatesDivide (⟦<D as ProviderFunctions>⟧.functions provider.now) set }
 {}

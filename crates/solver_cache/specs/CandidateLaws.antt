@@ -6,13 +6,13 @@ use Rattle.providers.specs.Provider.{matching, non_matching}
 use Rattle.solver_cache.specs.Cache.{sorted_of_set}
 use Rattle.solver_cache.specs.Functions.{Provider}
 
--- two lists divide the candidates: each stands in one of them, as often as among all, and never in both
+-- two lists split all candidates: each candidate is in exactly one of them, once for each time that it is listed
 pub record Divide {S : Type 0} (same : S → S → Bool) (held others all : List S) : Type 0 where
   pub as_often : (s : S) → count_by (same s) held + count_by (same s) others ≡ count_by (same s) all
   pub never_both : (s : S) → Contains held s → Contains others s → ⊥
 
--- what a version set holds and what it doesn't divide the candidates of its package; best first, what it holds is the
--- same in another order
+-- a version set splits its package's candidates into those that it holds and the others; sorting only reorders those
+-- that it holds
 pub record CandidatesDivide {N S : Type 0} (p : Provider N S) (v : VersionSetId) : Type 0 where
   pub divided : Divide p.same_solvable (matching p.universe p.answers v) (non_matching p.universe p.answers v)
       (p.answers.candidates (p.universe.set_name v))
