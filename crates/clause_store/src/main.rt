@@ -8,12 +8,12 @@ ghost use Rattle.std.specs.Prelude.{◌≡◌};
 ghost use Rattle.std.specs.Process.{exit_status};
 ghost use Rattle.script_text.specs.Status.{status_of};
 
-use scripts::{ScriptFault, script_to_exit, status};
+use scripts::{ScriptFault, script, status};
 use std::io;
 use std::process::ExitCode;
 
 fn main(rt: HostRuntime) -> ExitCode {
-    exit_code(script_to_exit(rt.alloc(), &mut rt.reader(), &mut io::writer(&rt)))
+    exit_code(script(rt.alloc(), &mut rt.reader(), &mut io::writer(&rt)))
 }
 
 /// The exit code of a script that ended so.

@@ -14,4 +14,4 @@ mod transcript;
 pub use command_line::command;
 pub use reply_line::push_unreadable;
 pub use script_text::{ScriptFault, status};
-pub use transcript::{obey_line, script, script_to_exit};
+pub use transcript::{obey_line, script};

@@ -31,7 +31,11 @@ use typed_ids::DenseIndex;
 
 /// Reads a whole script, obeys its commands in turn, and writes a line for each reply. At the first unreadable line the
 /// line that names it is written, and nothing more is read. All that was to be written is written and flushed at every
-/// end but that of a writer that fails, which isn't written to again. All memory is given back.
+/// end but that of a writer that fails, which isn't written to again.
+///
+/// It is made for a program that exits then: the packages and the store stay in memory, which the system takes back at
+/// once. To free them list by list would take up to a tenth of the instructions. A process that goes on has lost that
+/// memory; `script_dialogs::dialog` answers the same lines as they come, and frees it.
 pub fn script<R: Source, W: Sink>(
     alloc: Global,
     reader: &mut R,
@@ -44,52 +48,9 @@ pub fn script<R: Source, W: Sink>(
         (λ input. TakesBeginning (lines_of input) (W.contents writer.old) (W.contents writer.new)) }
     ensures ends { DevicesEnd R.reads R.fails W.writes W.fails reader.old writer.old result reader.new writer.new }
 {
-    answer(alloc, reader, writer, AtEnd::GivesBack)
-}
-
-/// The same as [`script`], for a program that exits then: the packages and the store aren't given back part by part,
-/// which would take up to a tenth of the time, since the system takes back all memory at once. A program that goes on
-/// would have lost it.
-pub fn script_to_exit<R: Source, W: Sink>(
-    alloc: Global,
-    reader: &mut R,
-    writer: &mut W,
-) -> Result<(), ScriptFault>
-    ensures read { IfSome (R.remaining reader.old) (λ input. IfRead result (λ faulty. (text : List ℕ)
-        × ScriptAnswered (lines_of input) text faulty
-        × Writes (W.contents writer.old) [] (W.contents writer.new) [] (text ++ faulty_text faulty))) }
-    ensures cut { IfSome (R.remaining reader.old)
-        (λ input. TakesBeginning (lines_of input) (W.contents writer.old) (W.contents writer.new)) }
-    ensures ends { DevicesEnd R.reads R.fails W.writes W.fails reader.old writer.old result reader.new writer.new }
-{
-    answer(alloc, reader, writer, AtEnd::Exits)
-}
-
-/// What a process does at the end of a script.
-#[derive(Clone, Copy)]
-enum AtEnd {
-    /// It gives back what the script took, and goes on.
-    GivesBack,
-    Exits,
-}
-
-/// Reads a whole script and writes its answer.
-fn answer<R: Source, W: Sink>(
-    alloc: Global,
-    reader: &mut R,
-    writer: &mut W,
-    at_end: AtEnd,
-) -> Result<(), ScriptFault>
-    ensures read { IfSome (R.remaining reader.old) (λ input. IfRead result (λ faulty. (text : List ℕ)
-        × ScriptAnswered (lines_of input) text faulty
-        × Writes (W.contents writer.old) [] (W.contents writer.new) [] (text ++ faulty_text faulty))) }
-    ensures cut { IfSome (R.remaining reader.old)
-        (λ input. TakesBeginning (lines_of input) (W.contents writer.old) (W.contents writer.new)) }
-    ensures ends { DevicesEnd R.reads R.fails W.writes W.fails reader.old writer.old result reader.new writer.new }
-{
     let input = read_whole(alloc, reader)?;
     let mut waiting = Vec::new(alloc);
-    let ended = obey_text(alloc, &input, &mut waiting, writer, at_end);
+    let ended = obey_text(alloc, &input, &mut waiting, writer);
     if has_failed(&ended) {
         return Err(ScriptFault::Device);
     }
@@ -127,7 +88,6 @@ fn obey_text<W: Sink>(
     text: &[u8],
     waiting: &mut Vec<u8>,
     writer: &mut W,
-    at_end: AtEnd,
 ) -> Result<(), ScriptFault>
     ensures answer { HandsAnswer ScriptAnswered (lines_of text.now) (W.contents writer.old) waiting.old.items result
         (W.contents writer.new) waiting.new.items }
@@ -144,7 +104,6 @@ fn obey_text<W: Sink>(
             },
             waiting,
             writer,
-            at_end,
         ),
         Err(fault) => Err(fault),
     }
@@ -157,14 +116,13 @@ struct Commands<'a> {
     before: u64,
 }
 
-/// Obeys the commands in turn, over the packages of the provider.
+/// Obeys the commands in turn, over the packages of the provider. The store isn't dropped: see [`script`].
 fn obey_commands<D: DependencyProvider<NameId: DenseIndex, SolvableId: DenseIndex> + Drop, W: Sink>(
     alloc: D::Alloc,
     provider: D,
     commands: Commands<'_>,
     waiting: &mut Vec<u8>,
     writer: &mut W,
-    at_end: AtEnd,
 ) -> Result<(), ScriptFault>
     requires { commands.before + length commands.lines.now < 2 ^ 64 }
     ensures answer { HandsAnswer (Answered (ids_at D.NameId.limit D.NameId.id_at D.SolvableId.limit D.SolvableId.id_at)
@@ -176,16 +134,8 @@ fn obey_commands<D: DependencyProvider<NameId: DenseIndex, SolvableId: DenseInde
     let mut store = store_over(alloc, provider)?;
     let Commands { lines, before } = commands;
     let ended = obey_lines(alloc, &mut store, lines, before, waiting, writer);
-    let_go(store, at_end);
+    mem::forget(store);
     ended
-}
-
-/// Gives back what a script took, unless the process exits.
-fn let_go<T: Drop>(taken: T, at_end: AtEnd) {
-    match at_end {
-        AtEnd::GivesBack => drop(taken),
-        AtEnd::Exits => mem::forget(taken),
-    }
 }
 
 /// A new store over the packages of the provider.

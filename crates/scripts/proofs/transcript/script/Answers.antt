@@ -5,7 +5,7 @@ use Rattle.script_text.specs.declared.fault.ScriptFault.TheVariants.{Device}
 use Rattle.scripts.specs.Ends.{TakesBeginning, WriterEnds}
 use Rattle.scripts.proofs.EndLemmas.{ends_written, ends_unwritten, fails_so}
 use Rattle.scripts.proofs.ScriptLemmas.{script_answered, beginning_taken, nothing_taken, failed_taken, all_taken, of_any, of_known}
-use Rattle.scripts.proofs.transcript.answer.Goals as goal
+use Rattle.scripts.proofs.transcript.script.Goals as goal
 
 pub returns-in_err-input-clause-cut : goal.returns-in_err-input-clause-cut
 returns-in_err-input-clause-cut g c =
