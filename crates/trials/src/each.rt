@@ -1,9 +1,10 @@
 //! Trials of which each request is refused in turn. Beside the store to which a request is refused there is a twin in
 //! ample memory, to which the refused command isn't given: both must then tell the same. A command that takes no memory
 //! must not meet a refusal. A refused `saturate` keeps what it forced: so it is compared where it is given again alone,
-//! from there on.
+//! from there on; `forced` looks at what it leaves.
 use crate::answers::{Heap, push_replies, push_reply, push_steps, push_unlike};
 use crate::few::{Counts, is_refused, may_do_without, refused_reply};
+use crate::forced::tell_forced;
 use crate::free::is_free;
 use crate::given::commands_of;
 use crate::obeys::Obeys;
@@ -198,7 +199,9 @@ pub(crate) fn tell_each<'h, K: IdKind>(
             waiting.extend_from_slice(said.keyword)?;
             waiting.push(b'\n')?;
         }
-        if trial.is(b"over") && !keeps_its_part(trial, place) {
+        if keeps_its_part(trial, place) {
+            tell_forced::<K>(heap, trial, place, answers, waiting)?;
+        } else if trial.is(b"over") {
             tell_over::<K>(heap, trial, (place, count), waiting)?;
         }
     }

@@ -10,7 +10,7 @@
 //! - `few`: it is played once more in memory that refuses a request at every few commands, undos and decisions among
 //!   them;
 //! - `each`: and once more for each request of each command, which is refused: beside a twin to which that command
-//!   isn't given;
+//!   isn't given; what a refused `saturate` leaves is looked at before it is given again;
 //! - `over`: where `each` stands too, a command that was refused by steps isn't given again but passed over, once more
 //!   for each request.
 //!
@@ -22,6 +22,7 @@ mod answers;
 mod cache;
 mod each;
 mod few;
+mod forced;
 mod free;
 mod given;
 mod listed;

@@ -1,6 +1,6 @@
 //! What trials ask of a store. What they share is generic in it, since a proof over a type parameter is much shorter
 //! than one over the store's own type.
-use decisions::Literal;
+use decisions::{Decision, Literal};
 use providers::{DependencyProvider, Interner};
 use resolvo_queue::QueueDecision;
 use resolvo_store::{ClauseStore, Command, Reply};
@@ -19,6 +19,15 @@ pub(crate) trait Obeys<N, S, A: Allocator> {
 
     /// Whether a request comes where it is read which clause is falsified, and which values the first variables have.
     fn is_asked_where_read(&self, heap: &Refusing<Global>) -> bool;
+
+    /// Takes the newest assignment back, if there is one: what it was, and the level of the one before it.
+    fn take_back(&mut self) -> Option<(Decision, u32)>;
+
+    /// The value of a variable, if it has one.
+    fn value(&self, variable: VariableId) -> Option<bool>;
+
+    /// The clauses that watch a literal.
+    fn watchers(&self, literal: Literal) -> Result<Vec<ClauseId, A>, StoreError>;
 
     /// The literals of a clause, if it is known.
     fn literals(&self, clause: ClauseId) -> Result<Option<Vec<Literal, A>>, StoreError>;
@@ -59,6 +68,21 @@ impl<D: DependencyProvider + Counting + Drop> Obeys<D::NameId, D::SolvableId, D:
         let is_asked = !heap.is_armed();
         heap.arm(0);
         is_asked
+    }
+
+    fn take_back(&mut self) -> Option<(Decision, u32)> {
+        match self.step(&Command::UndoLast) {
+            Reply::Undone(last) => last,
+            _ => None,
+        }
+    }
+
+    fn value(&self, variable: VariableId) -> Option<bool> {
+        ClauseStore::value(self, variable)
+    }
+
+    fn watchers(&self, literal: Literal) -> Result<Vec<ClauseId, D::Alloc>, StoreError> {
+        ClauseStore::watchers(self, literal)
     }
 
     fn literals(&self, clause: ClauseId) -> Result<Option<Vec<Literal, D::Alloc>>, StoreError> {
