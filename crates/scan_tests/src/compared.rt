@@ -53,17 +53,23 @@ fn compare(alloc: Global, number: u64, setting: Setting, list: &mut DrawnList) -
     if seen.as_slice() == list.answers.as_slice() {
         return Ok(());
     }
-    let mut place = 0usize;
-    for (answer, wanted) in seen.iter().zip(&list.answers) {
-        if answer != wanted {
-            break;
-        }
-        place = place.saturating_add(1);
-    }
+    let place = first_difference(&seen, &list.answers);
     let (answer, wanted) = (seen.get(place), list.answers.get(place));
     Err(Fail::new(format_args!(
         "list {number}, {setting:?}, decision {place}: saw {answer:?}, and wanted {wanted:?}",
     )))
+}
+
+/// The first place where the answers differ; the shorter list's end, if there is none.
+fn first_difference(seen: &[Answer], wanted: &[Answer]) -> usize {
+    let mut place = 0usize;
+    for (answer, expected) in seen.iter().zip(wanted) {
+        if answer != expected {
+            break;
+        }
+        place = place.saturating_add(1);
+    }
+    place
 }
 
 /// Writes the setting into the list, which has a command for it before each decision.

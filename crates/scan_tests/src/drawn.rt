@@ -20,7 +20,7 @@ use typed_ids::{
 const DRAWS: u32 = 80;
 
 /// How many helper variables there are. They have the indexes from 1 on, and are no candidates.
-const HELPERS: u32 = 3;
+const HELPERS: usize = 3;
 
 /// Indexes of drawn ids are no higher than this.
 const MOST: usize = 60000;
@@ -153,7 +153,7 @@ impl Drawing {
         } else {
             Requirement::Union(VersionSetUnionId(self.recurrence.below(UNIONS)))
         };
-        let place = self.recurrence.below(self.scan.conditions.len() as u32) as usize;
+        let place = self.recurrence.place(self.scan.conditions.len());
         let negates = self
             .scan
             .literals(Some(place))
@@ -168,7 +168,7 @@ impl Drawing {
         if self.recurrence.happens(self.of_root) {
             VariableId::root()
         } else if self.recurrence.happens(80) {
-            self.variable_below(1, HELPERS)
+            self.variable_from(1, HELPERS)
         } else {
             self.variable()
         }
@@ -313,14 +313,13 @@ impl Drawing {
 
     /// Some variable: the root's, a helper, or a candidate's.
     fn variable(&mut self) -> VariableId {
-        let solvables = u32::try_from(self.solvables.len()).unwrap_or(0);
-        self.variable_below(0, solvables.saturating_add(HELPERS).saturating_add(1))
+        self.variable_from(0, self.solvables.len().min(MOST) + HELPERS + 1)
     }
 
     /// One of so many variables, from this index on.
-    fn variable_below(&mut self, first: usize, count: u32) -> VariableId {
-        let index = self.recurrence.below(count) as usize;
-        VariableId::from_index(first.wrapping_add(index).min(MOST))
+    fn variable_from(&mut self, first: usize, count: usize) -> VariableId {
+        let place = self.recurrence.place(count);
+        VariableId::from_index(first.wrapping_add(place).min(MOST))
     }
 }
 
@@ -334,5 +333,5 @@ fn variable_of(solvables: &mut Vec<u32>, solvable: u32) -> Result<VariableId, St
             place
         }
     };
-    Ok(VariableId::from_index(place.min(MOST) + 1 + HELPERS as usize))
+    Ok(VariableId::from_index(place.min(MOST) + 1 + HELPERS))
 }

@@ -28,9 +28,13 @@ impl Recurrence {
         self.below(100) < times
     }
 
+    /// The place of one of so many things; 0 if there is none.
+    pub(crate) fn place(&mut self, count: usize) -> usize {
+        self.below(u32::try_from(count).unwrap_or(u32::MAX)) as usize
+    }
+
     /// One of these things, if there is one.
     pub(crate) fn one_of<T: Copy>(&mut self, things: &[T]) -> Option<T> {
-        let count = u32::try_from(things.len()).unwrap_or(u32::MAX);
-        things.get(self.below(count) as usize).copied()
+        things.get(self.place(things.len())).copied()
     }
 }
