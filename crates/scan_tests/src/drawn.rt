@@ -313,7 +313,8 @@ impl Drawing {
 
     /// Some variable: the root's, a helper, or a candidate's.
     fn variable(&mut self) -> VariableId {
-        self.variable_from(0, self.solvables.len().min(MOST) + HELPERS + 1)
+        let solvables = self.solvables.len().min(MOST);
+        self.variable_from(0, solvables + HELPERS + 1)
     }
 
     /// One of so many variables, from this index on.
