@@ -1,17 +1,21 @@
 //! Of the queue of requires clauses, and of what reads and lists the rows of requirements.
-ghost use Rattle.std.specs.Prelude.{◌≡◌, IfOk};
+ghost use Rattle.std.specs.Map.{lookup};
+ghost use Rattle.std.specs.Prelude.{◌≡◌, All, IfOk, IsSome};
+ghost use Rattle.providers.specs.Requirement.{same_requirement};
 ghost use Rattle.providers.specs.declared.requirement.Requirement.TheVariants.{Single};
-ghost use Rattle.resolvo_queue.specs.References.{IsWalkable};
+ghost use Rattle.resolvo_queue.specs.Queue.{StandsOn};
+ghost use Rattle.resolvo_queue.specs.References.{CanWalk, IsWalkable, references};
 
 use crate::free_calls::is_asked;
 use crate::refused_parts::of_texts::lists;
+use clauses::Disjunction;
 use decisions::DecisionMap;
 use id_storage::Arena;
 use providers::{DependencyProvider, Requirement, RequirementMap};
 use resolvo_queue::{DecideQueue, Occurrences, RowReader};
 use std::alloc::Allocator;
 use test_support::Refusing;
-use typed_ids::{ClauseId, DenseIndex, StoreError, VariableId, VersionSetId};
+use typed_ids::{ClauseId, DenseIndex, DisjunctionId, StoreError, VariableId, VersionSetId};
 
 /// Once a clause is registered whose only candidate is false, and its row is listed.
 pub(super) fn in_queue<B: Allocator>(heap: &Refusing<B>) -> Result<bool, StoreError> {
@@ -54,6 +58,7 @@ fn one_row<D: DependencyProvider>(
     Ok(rows)
 }
 
+/// Whether one of the calls asks for memory, of a queue and a listing that stand on these rows.
 fn looked_at<D: DependencyProvider, B: Allocator>(
     heap: &Refusing<B>,
     alloc: D::Alloc,
@@ -62,35 +67,93 @@ fn looked_at<D: DependencyProvider, B: Allocator>(
 ) -> Result<bool, StoreError>
     requires { IsWalkable (D.universe provider.now) rows.now (Single (record { 0 = 0 })) }
 {
-    let parent = VariableId::root();
-    let mut map = DecisionMap::new(alloc);
-    map.set(parent, true, 1)?;
-    map.set(candidate(), false, 1)?;
+    let map = decided(alloc)?;
+    let occurrences = listed(alloc, rows)?;
     let disjunctions = Arena::new(alloc);
-    let mut queue: DecideQueue<D> = DecideQueue::new(alloc);
-    let (clause, names) = (
-        ClauseId::from_index(0),
-        [provider.version_set_name(VersionSetId(0))],
-    );
-    queue.register_clause(
-        parent,
-        required(),
-        None,
-        clause,
-        &names,
-        &disjunctions,
-        Some(true),
-    )?;
-    let mut occurrences = Occurrences::new(alloc);
-    RowReader::new(rows).list(required(), &mut occurrences)?;
+    let mut queue = registered(alloc, rows, &disjunctions, provider)?;
+    let seen = Seen {
+        map: &map,
+        rows,
+        disjunctions: &disjunctions,
+    };
+    Ok(asks(heap, &mut queue, &occurrences, &seen, provider))
+}
+
+/// What a question is handed, but for the provider.
+#[derive(Drop)]
+struct Seen<'s, A: Allocator + Copy> {
+    map: &'s DecisionMap<A>,
+    rows: &'s Rows<A>,
+    disjunctions: &'s Arena<DisjunctionId, Disjunction<A>, A>,
+}
+
+/// Whether one of the calls asks for memory.
+fn asks<D: DependencyProvider, B: Allocator>(
+    heap: &Refusing<B>,
+    queue: &mut DecideQueue<D>,
+    occurrences: &Occurrences<D::Alloc>,
+    seen: &Seen<'_, D::Alloc>,
+    provider: &D,
+) -> bool
+    requires own { IsWalkable (D.universe provider.now) seen.now.rows.now (Single (record { 0 = 0 })) }
+    requires stands { StandsOn (references (D.universe provider.now) seen.now.rows.now seen.now.disjunctions.now)
+        queue.old }
+    requires walkable { All (CanWalk (references (D.universe provider.now) seen.now.rows.now seen.now.disjunctions.now))
+        queue.old.clauses }
+{
     heap.arm(1);
     let _full = queue.is_full();
-    let _falsified = queue.falsified(&map, rows, &disjunctions, provider);
-    let mut reader = RowReader::new(rows);
-    let _frontier = reader.walk(required(), &map, provider);
+    let _falsified = queue.falsified(seen.map, seen.rows, seen.disjunctions, provider);
+    let mut reader = RowReader::new(seen.rows);
+    let _frontier = reader.walk(required(), seen.map, provider);
     let _listing = occurrences.listing(candidate());
     queue.set_standard_activity_params(false);
-    Ok(is_asked(heap))
+    is_asked(heap)
+}
+
+/// The root is true, and the candidate false.
+fn decided<A: Allocator + Copy>(alloc: A) -> Result<DecisionMap<A>, StoreError> {
+    let mut map = DecisionMap::new(alloc);
+    map.set(VariableId::root(), true, 1)?;
+    map.set(candidate(), false, 1)?;
+    Ok(map)
+}
+
+/// The row is listed.
+fn listed<A: Allocator + Copy>(alloc: A, rows: &Rows<A>) -> Result<Occurrences<A>, StoreError>
+    requires { IsSome (lookup (same_requirement (Single (record { 0 = 0 }))) rows.now) }
+{
+    let mut occurrences = Occurrences::new(alloc);
+    RowReader::new(rows).list(required(), &mut occurrences)?;
+    Ok(occurrences)
+}
+
+/// A queue with one clause, of the root, which requires the first version set.
+fn registered<D: DependencyProvider>(
+    alloc: D::Alloc,
+    rows: &Rows<D::Alloc>,
+    disjunctions: &Arena<DisjunctionId, Disjunction<D::Alloc>, D::Alloc>,
+    provider: &D,
+) -> Result<DecideQueue<D>, StoreError>
+    requires { IsWalkable (D.universe provider.now) rows.now (Single (record { 0 = 0 })) }
+    ensures stands { let refs = references (D.universe provider.now) rows.now disjunctions.now in
+        IfOk result (StandsOn refs) }
+    ensures walkable { let refs = references (D.universe provider.now) rows.now disjunctions.now in
+        IfOk result (λ queue. All (CanWalk refs) queue.clauses) }
+{
+    let mut names = Vec::new(alloc);
+    names.push(provider.version_set_name(VersionSetId(0)))?;
+    let mut queue = DecideQueue::new(alloc);
+    queue.register_clause(
+        VariableId::root(),
+        required(),
+        None,
+        ClauseId::from_index(0),
+        names.as_slice(),
+        disjunctions,
+        Some(true),
+    )?;
+    Ok(queue)
 }
 
 /// The requirement of the first version set.
