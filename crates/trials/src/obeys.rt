@@ -71,10 +71,8 @@ impl<D: DependencyProvider + Counting + Drop> Obeys<D::NameId, D::SolvableId, D:
     }
 
     fn take_back(&mut self) -> Option<(Decision, u32)> {
-        match self.step(&Command::UndoLast) {
-            Reply::Undone(last) => last,
-            _ => None,
-        }
+        let reply = self.step(&Command::UndoLast);
+        taken_back(&reply)
     }
 
     fn value(&self, variable: VariableId) -> Option<bool> {
@@ -99,5 +97,13 @@ impl<D: DependencyProvider + Counting + Drop> Obeys<D::NameId, D::SolvableId, D:
 
     fn counts(&self) -> Counts {
         self.provider().counts()
+    }
+}
+
+/// What an undo of the newest assignment is answered: the assignment, and the level of the one before it.
+fn taken_back<A: Allocator>(reply: &Reply<A>) -> Option<(Decision, u32)> {
+    match reply {
+        Reply::Undone(last) => *last,
+        _ => None,
     }
 }
