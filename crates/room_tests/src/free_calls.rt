@@ -1,11 +1,10 @@
 //! Calls that take no memory, of all parts: what they need is set up, then the next request is to be refused, and none
 //! may come.
 //!
-//! What has no allocator at hand isn't called. Of a store it is the program `trials` that tells.
+//! What has no allocator at hand isn't called. Of a queue and of a store it is the program `trials` that tells.
 mod by_ids;
 mod of_clauses;
 mod of_pool;
-mod of_queue;
 mod of_trail;
 
 use crate::free_calls::by_ids::{
@@ -13,7 +12,6 @@ use crate::free_calls::by_ids::{
 };
 use crate::free_calls::of_clauses::{in_clauses, in_trackers, in_watch_lists};
 use crate::free_calls::of_pool::in_pool;
-use crate::free_calls::of_queue::in_queue;
 use crate::free_calls::of_trail::{in_trail, in_values, in_variables};
 use std::alloc::Allocator;
 use std::test::Fail;
@@ -25,11 +23,11 @@ fn calls_that_take_no_memory_ask_for_none(rt: HostRuntime) -> Result<(), Fail> {
     let heap = Refusing::new(rt.alloc());
     let seen = asked(&heap);
     drop(heap);
-    sees(seen, [false; 13])
+    sees(seen, [false; 12])
 }
 
 /// Of which parts a call asked for memory.
-fn asked<B: Allocator>(heap: &Refusing<B>) -> Result<[bool; 13], StoreError> {
+fn asked<B: Allocator>(heap: &Refusing<B>) -> Result<[bool; 12], StoreError> {
     let [dense, sparse] = dense_and_sparse(heap)?;
     Ok([
         dense,
@@ -44,7 +42,6 @@ fn asked<B: Allocator>(heap: &Refusing<B>) -> Result<[bool; 13], StoreError> {
         in_variables::<NameId, SolvableId, B>(heap, SolvableId::from_raw(4))?,
         in_clauses(heap)?,
         in_watch_lists(heap)? || in_trackers(heap)?,
-        in_queue(heap)?,
     ])
 }
 

@@ -2,7 +2,7 @@
 //!
 //! Of maps by requirements and of defaults `maps` and `refused_defaults` tell, of normal forms `condition_calls`, of
 //! the texts of variables and clauses the program `trials`.
-pub(crate) mod of_texts;
+mod of_texts;
 
 use crate::listed::{Listed, listed};
 use crate::refused_parts::of_texts::first_unlike;

@@ -83,7 +83,7 @@ fn put_once<B: Allocator>(
 }
 
 /// Version 1 of a package, a version set of it, and the union of that with itself.
-pub(crate) fn lists<B: Allocator>(
+fn lists<B: Allocator>(
     heap: &Refusing<B>,
 ) -> Result<Lists<NameId, SolvableId, &Refusing<B>>, StoreError> {
     let range = VersionRange {
