@@ -87,8 +87,8 @@ fn set(commands: &mut [Command<NameId, SolvableId, Global>], setting: Setting) {
     }
 }
 
-/// What a new store replies to the commands. It is generic, since a proof over a type parameter is much shorter than one
-/// over the store's own type.
+/// What a new store replies to the commands. It is generic: a proof over a type parameter is much shorter than one over
+/// the store's own type.
 fn replies<D: DependencyProvider + Drop>(
     alloc: D::Alloc,
     provider: D,

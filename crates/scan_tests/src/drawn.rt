@@ -317,7 +317,7 @@ impl Drawing {
         self.variable_from(0, solvables + HELPERS + 1)
     }
 
-    /// One of so many variables, from this index on.
+    /// One of `count` variables, from this index on.
     fn variable_from(&mut self, first: usize, count: usize) -> VariableId {
         let place = self.recurrence.place(count);
         VariableId::from_index(first.wrapping_add(place).min(MOST))

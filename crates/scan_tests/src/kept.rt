@@ -4,7 +4,7 @@ use std::alloc::Global;
 use typed_ids::{StoreError, VariableId};
 
 impl PlainScan {
-    /// No clause is registered yet, no variable has a value, and the scores of so many packages are 0.
+    /// No clause is registered yet, no variable has a value, and each package's score is 0.
     pub(crate) fn new(alloc: Global, names: u32) -> Result<PlainScan, StoreError> {
         let mut scores = Vec::new(alloc);
         for _ in 0..names {

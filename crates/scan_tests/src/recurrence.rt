@@ -28,7 +28,7 @@ impl Recurrence {
         self.below(100) < times
     }
 
-    /// The place of one of so many things; 0 if there is none.
+    /// The place of one of `count` things; 0 if there is none.
     pub(crate) fn place(&mut self, count: usize) -> usize {
         self.below(u32::try_from(count).unwrap_or(u32::MAX)) as usize
     }

@@ -42,7 +42,7 @@ impl Shown {
         }
     }
 
-    /// Whether there were so many of each kind.
+    /// Whether there were at least `wanted` of each kind.
     pub(crate) fn is_at_least(&self, wanted: u32) -> bool {
         let least = self
             .no_decision
