@@ -3,13 +3,12 @@ pub mod ByName
 pub mod Callers
 pub mod Counts
 pub mod Entries
+pub mod Firsts
 pub mod Gains
 pub mod Heated
-pub mod Listed
 pub mod New
 pub mod Numbers
 pub mod Order
 pub mod Records
 pub mod Registration
 pub mod Synced
-pub mod Unchanged

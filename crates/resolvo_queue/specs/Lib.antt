@@ -1,4 +1,3 @@
-pub mod Clear
 pub mod Falsified
 pub mod Laws
 pub mod Members

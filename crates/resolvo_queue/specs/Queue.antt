@@ -8,17 +8,13 @@ use Rattle.decisions.specs.declared.decision.Decision.{Decision}
 use Rattle.resolvo_queue.specs.Pick.Inspection.{clause_of}
 use Rattle.resolvo_queue.specs.Rows.Listing.{IsListedWell}
 use Rattle.resolvo_queue.specs.Parts.Names.{AreCold, AreLast, counts}
-use Rattle.resolvo_queue.specs.Occurrences.{is_listed}
 use Rattle.resolvo_queue.specs.Pick.Questions.{clause_literals}
 use Rattle.resolvo_queue.specs.References.{References, HasParts, rows_in}
 use Rattle.resolvo_queue.specs.Routing.Synced.{FindsConditions, KeepsQueued}
 use Rattle.resolvo_queue.specs.Parts.Tracking.{IsInOrder, Tracking, tracking_of}
-use Rattle.resolvo_queue.specs.Falsified.Witnesses.{AreCandidates, AreWitnessed, Witnessed}
-use Rattle.resolvo_queue.specs.declared.last_falsified.LastFalsified.{LastFalsified}
 use Rattle.resolvo_queue.specs.declared.parent_value.ParentValue.{ParentValue}
 use Rattle.resolvo_queue.specs.declared.tracked_clause.TrackedClause.{TrackedClause}
 use Rattle.resolvo_queue.specs.declared.tracked_clauses.TrackedClauses.{TrackedClauses}
-use Rattle.resolvo_queue.specs.declared.witnesses.Witnesses.{Witnesses}
 use Rattle.resolvo_queue.specs.declared.requires_clause.RequiresClause.{RequiresClause}
 
 pub record Queue (N H : Type 0) : Type 0 where
@@ -34,18 +30,10 @@ pub record Queue (N H : Type 0) : Type 0 where
   pub hot : H
   -- what is kept beside: calls tell of it only what `StandsOn` says, and how often requirements were walked
   pub inside : Tracking
-  -- who may be falsified: calls tell of it what `StandsOn` says, and how often requirements were looked at
-  pub witnesses : Witnessed
-  -- the falsified clause that was answered last: calls tell of it what `RemembersWell` says
-  pub last : Option LastFalsified
-
-abbrev pub witnessed : {A : Type 0} → Witnesses A → Witnessed
-witnessed w = record { of = w.of; changed = w.changed.items; looked = w.looked }
 
 -- a queue's value, by what it keeps
-abbrev pub queue_of : {N H A : Type 0} → TrackedClauses A → List (List N) → H → List ParentValue →
-    Witnesses A → Queue N H
-queue_of tracked names hot since witnesses = record {
+abbrev pub queue_of : {N H A : Type 0} → TrackedClauses A → List (List N) → H → List ParentValue → Queue N H
+queue_of tracked names hot since = record {
   clauses = map clause_of tracked.index.clauses.items;
   names = names;
   trail = tracked.trail.items;
@@ -53,8 +41,6 @@ queue_of tracked names hot since witnesses = record {
   must_start_anew = tracked.must_start_anew;
   hot = hot;
   inside = tracking_of tracked;
-  witnesses = witnessed witnesses;
-  last = witnesses.last;
 }
 
 -- the value of each variable by a trail: that of its decision, undecided if there is none
@@ -129,19 +115,9 @@ AreNamed universe q = q.names ≡ map (λ c. map universe.set_name (sets_of univ
 abbrev pub OnlyHotScore : {N H : Type 0} → (H → N → Bool) → (N → ℕ) → Queue N H → Type 0
 OnlyHotScore {N} has scores q = (n : N) → has q.hot n ≡ false → scores n ≡ 0
 
--- witnesses are candidates of their requirements, the clauses that were there when they were last looked for have
--- listed requirements, and unless the last sync was refused, what changed finds all clauses that may be falsified
-pub record FindsFalsified {N S A H : Type 0} (refs : References N S A) (q : Queue N H) : Type 0 where
-  pub candidates : AreCandidates refs.lists q.inside.occurrences q.witnesses.of
-  pub looked : q.witnesses.looked ≤ length q.inside.clauses
-  pub listed : (n : ℕ) (c : TrackedClause) → slice_get q.inside.clauses n ≡ Some c → n < q.witnesses.looked →
-      is_listed q.inside.occurrences c.requirement ≡ true
-  pub witnessed : q.must_start_anew ≡ false →
-      AreWitnessed (clause_literals refs) q.inside.clauses (values_of q.trail) q.witnesses
-
 -- what the queue's clauses name is there, and as it was when they were registered: the variables of a condition find
 -- the clause, the rows of listed requirements are listed, and unless the last sync was refused, all clauses that may be
--- eligible are queued, what is known of rows is right, and all clauses that may be falsified are found by what changed
+-- eligible are queued, and what is known of rows is right
 pub record StandsOn {N S A H : Type 0} (refs : References N S A) (q : Queue N H) : Type 0 where
   pub clauses : q.clauses ≡ map clause_of q.inside.clauses
   pub parts : All (HasParts refs) q.clauses
@@ -150,7 +126,6 @@ pub record StandsOn {N S A H : Type 0} (refs : References N S A) (q : Queue N H)
   pub synced : q.must_start_anew ≡ false →
       KeepsQueued q.inside.clauses (clause_literals refs) (rows_in refs) (values_of q.trail)
       (counts (values_of q.trail) q.since q.inside.clauses) q.inside.requirements q.inside.queued
-  pub falsified : FindsFalsified refs q
 
 -- what always holds of a queue
 pub record IsKept {N H : Type 0} (has : H → N → Bool) (q : Queue N H) : Type 0 where

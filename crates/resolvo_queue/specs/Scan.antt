@@ -1,4 +1,5 @@
 -- The scan of the requires clauses, and which of them are open.
+pub mod First
 pub mod Order
 pub mod Positions
 use Rattle.std.specs.Prelude.{ℕ, Bool, not, ◌==◌, ◌&&◌, if◌then◌else◌, List, [], ◌∷◌, ◌++◌}

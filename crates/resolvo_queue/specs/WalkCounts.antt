@@ -1,5 +1,4 @@
--- How often the rows of requirements were walked, or looked at for a witness, and how often they may be walked before a
--- variable changes.
+-- How often the rows of requirements were walked, and how often they may be walked before a variable changes.
 use Rattle.std.specs.Prelude.{◌≡◌, ◌⊎◌, ℕ, ◌+◌, ◌≤◌, Bool, true, false, is_some}
 use Rattle.std.specs.Prelude.{List, ◌++◌, Option, None, Some, find, drop}
 use Rattle.decisions.specs.declared.decision.Decision.{Decision}
@@ -39,10 +38,6 @@ walks q r = walks_in q.inside.requirements r
 
 abbrev pub owed : {N H : Type 0} → Queue N H → Requirement → ℕ
 owed q r = owed_in q.inside.requirements r
-
--- how often its rows were looked at for a witness
-abbrev pub looks : {N H : Type 0} → Queue N H → Requirement → ℕ
-looks q r = times q.witnesses.of.looks r
 
 -- ---- a question
 

@@ -42,12 +42,6 @@
 //! finds its clauses when it gets its first score. Nothing is better than a frontier with one candidate, or with the
 //! largest score.
 //!
-//! A clause isn't falsified as long as one row of its requirement isn't false. So a requirement keeps a witness, a
-//! variable of such a row, and a clause is looked at only if it came since, or if a variable changed that is its
-//! parent, stands in its condition or is its requirement's witness ([`DecideQueue::falsified_since`]). The next
-//! decision then looks for other witnesses, in the same places, at the rows of each requirement at most once; each look
-//! is kept in a log.
-//!
 //! So the walks of a requirement can be counted. It owes those that were done, and one more while nothing is known of
 //! its rows. It owes the first as its first clause comes; a sync makes it owe at most one more, and only if a variable
 //! of its rows was routed, or the last sync was refused; and a question walks it at most once, by what it owes already.
@@ -67,9 +61,6 @@ ghost use Rattle.providers.specs.Provider.{Universe};
 ghost use Rattle.providers.specs.Requirement.{same_requirement};
 ghost use Rattle.providers.specs.declared.requirement.Requirement.{Requirement as ARequirement};
 ghost use Rattle.decisions.specs.Decisions.{values_in};
-ghost use Rattle.decisions.specs.declared.decision.Decision.{Decision as ADecision};
-ghost use Rattle.resolvo_queue.specs.Clear.{RemembersWell};
-ghost use Rattle.resolvo_queue.specs.Rows.Listing.{IsListedWell};
 ghost use Rattle.resolvo_queue.specs.Parts.Names.{ColdLack};
 ghost use Rattle.resolvo_queue.specs.Pick.{eligible, pick, decided, DecidesUnbeaten};
 ghost use Rattle.resolvo_queue.specs.Queue.{AgreesBelow, AreNamed, HasTrail, IsNew, IsRegistered, IsSynced};
@@ -77,11 +68,9 @@ ghost use Rattle.resolvo_queue.specs.Queue.{IsUnchanged, OnlyHotScore, SameClaus
 ghost use Rattle.resolvo_queue.specs.References.{CanWalk, IsWalkable, Lists, References, literals_in, references};
 ghost use Rattle.resolvo_queue.specs.References.{rows_in, score_in};
 ghost use Rattle.resolvo_queue.specs.Scan.{first_falsified, is_eligible, scan};
-ghost use Rattle.resolvo_queue.specs.Routing.Synced.{FindsConditions};
-ghost use Rattle.resolvo_queue.specs.WalkCounts.{HasNoneOf, WalksOnce, changed_from, looks, owed, walks};
-ghost use Rattle.resolvo_queue.specs.Falsified.Witnesses.{AreCandidates, HaveEntries, NoneFalsified, literals_by};
+ghost use Rattle.resolvo_queue.specs.WalkCounts.{HasNoneOf, WalksOnce, changed_from, owed, walks};
 
-mod finding;
+mod reading;
 
 use crate::asked::Question;
 use crate::clauses_by_name::ClausesByName;
@@ -94,7 +83,6 @@ use crate::queue_decision::QueueDecision;
 use crate::requires_clause::RequiresClause;
 use crate::row_reader::RowReader;
 use crate::tracked_clauses::TrackedClauses;
-use crate::witnesses::Witnesses;
 use clauses::Disjunction;
 use decisions::{Decision, DecisionMap};
 use id_maps::{IdSet, SolverId};
@@ -118,8 +106,6 @@ pub struct DecideQueue<D: DependencyProvider> {
     hot_names: <D::NameId as SolverId<D::Alloc>>::Set,
     /// The parents that were registered since the last accepted sync.
     since: Vec<ParentValue, D::Alloc>,
-    /// What tells which clauses may be falsified.
-    witnesses: Witnesses<D::Alloc>,
 }
 
 impl<D: DependencyProvider> Model for DecideQueue<D> {
@@ -129,10 +115,10 @@ impl<D: DependencyProvider> Model for DecideQueue<D> {
 
     ghost Value = { Queue D.NameId D.NameId.Set };
 
-    ghost view = { λ q. queue_of q.tracked q.names.items q.hot_names q.since.items q.witnesses };
+    ghost view = { λ q. queue_of q.tracked q.names.items q.hot_names q.since.items };
 
     ghost invariant = { λ q. IsKept D.NameId.Set.has
-        (queue_of q.tracked q.names.items q.hot_names q.since.items q.witnesses)
+        (queue_of q.tracked q.names.items q.hot_names q.since.items)
         × AreEntered D.NameId.Slots.is_too_large (numbers_under D.NameId.Slots.value_at q.by_name) q.names.items };
 }
 
@@ -141,9 +127,7 @@ impl<D: DependencyProvider> DecideQueue<D> {
     pub fn new(alloc: D::Alloc) -> Self
         ensures new { IsNew D.NameId.Set.has result }
         ensures owed { (r : ARequirement) → owed result r ≡ 0 }
-        ensures looks { (r : ARequirement) → looks result r ≡ 0 }
         ensures stands { (refs : References D.NameId D.SolvableId D.Alloc) → StandsOn refs result }
-        ensures last { result.last ≡ None }
     {
         DecideQueue {
             tracked: TrackedClauses::new(alloc),
@@ -153,7 +137,6 @@ impl<D: DependencyProvider> DecideQueue<D> {
                 alloc,
             ),
             since: Vec::new(alloc),
-            witnesses: Witnesses::new(alloc),
         }
     }
 
@@ -185,11 +168,8 @@ impl<D: DependencyProvider> DecideQueue<D> {
         ensures unchanged { IsUnchanged self.old self.new D.NameId.Set.has }
         ensures walks { SameValues (walks self.old) (walks self.new) }
         ensures owed { SameValues (owed self.old) (owed self.new) }
-        ensures looks { SameValues (looks self.old) (looks self.new) }
         ensures stands { (refs : References D.NameId D.SolvableId D.Alloc) → StandsOn refs self.old →
             StandsOn refs self.new }
-        ensures clear { (refs : References D.NameId D.SolvableId D.Alloc) (ds : List ADecision) →
-            RemembersWell refs ds self.old → RemembersWell refs ds self.new }
     {
         self.tracked.only_hot = standard;
     }
@@ -216,10 +196,9 @@ impl<D: DependencyProvider> DecideQueue<D> {
         ensures full { (result ≡ Err TooManyClauses) ↔ (2 ^ 32 - 1 ≤ length self.old.clauses) }
         ensures memory { IfErr result (λ e. e ≢ TooManyClauses → e ≡ OutOfMemory) }
 
-        // Nothing is walked or looked at, whatever the result. One walk is owed of a requirement that is new; it may be
-        // owed also where the clause was refused, and then isn't owed twice.
+        // Nothing is walked, whatever the result. One walk is owed of a requirement that is new; it may be owed also
+        // where the clause was refused, and then isn't owed twice.
         ensures walks { SameValues (walks self.old) (walks self.new) }
-        ensures looks { SameValues (looks self.old) (looks self.new) }
         ensures owed { (r : ARequirement) → (owed self.new r ≡ owed self.old r)
             ⊎ ((r ≡ requirement) × (owed self.old r ≡ 0) × (owed self.new r ≡ 1)) }
         ensures owes_one { OnOk result (1 ≤ owed self.new requirement) }
@@ -229,8 +208,6 @@ impl<D: DependencyProvider> DecideQueue<D> {
             IsSome (lookup (same_requirement requirement) lists) →
             StandsOn (references universe lists disjunctions.now) self.old →
             StandsOn (references universe lists disjunctions.now) self.new }
-        ensures clear { (refs : References D.NameId D.SolvableId D.Alloc) (ds : List ADecision) →
-            StandsOn refs self.old → RemembersWell refs ds self.old → RemembersWell refs ds self.new }
     {
         if self.is_full() {
             return Err(StoreError::TooManyClauses);
@@ -267,11 +244,8 @@ impl<D: DependencyProvider> DecideQueue<D> {
         ensures too_large { IsTrue (D.NameId.Set.is_too_large name) → result ≡ Err IdSpace }
         ensures walks { SameValues (walks self.old) (walks self.new) }
         ensures owed { SameValues (owed self.old) (owed self.new) }
-        ensures looks { SameValues (looks self.old) (looks self.new) }
         ensures stands { (refs : References D.NameId D.SolvableId D.Alloc) → StandsOn refs self.old →
             StandsOn refs self.new }
-        ensures clear { (refs : References D.NameId D.SolvableId D.Alloc) (ds : List ADecision) →
-            RemembersWell refs ds self.old → RemembersWell refs ds self.new }
     {
         self.heat(name)?;
         self.hot_names.insert(name)?;
@@ -287,13 +261,10 @@ impl<D: DependencyProvider> DecideQueue<D> {
         ensures synced { SameSync self.old self.new }
         ensures hot { self.new.hot ≡ self.old.hot }
         ensures records { self.new.inside.requirements ≡ self.old.inside.requirements }
-        ensures witnesses { self.new.witnesses ≡ self.old.witnesses }
         ensures memory { IfErr result (λ e. e ≡ OutOfMemory) }
         ensures fits { IsTrue (D.NameId.Set.is_too_large name) → IsOk result }
         ensures stands { (refs : References D.NameId D.SolvableId D.Alloc) → StandsOn refs self.old →
             StandsOn refs self.new }
-        ensures clear { (refs : References D.NameId D.SolvableId D.Alloc) (ds : List ADecision) →
-            RemembersWell refs ds self.old → RemembersWell refs ds self.new }
     {
         if self.hot_names.contains(name) {
             return Ok(());
@@ -322,13 +293,11 @@ impl<D: DependencyProvider> DecideQueue<D> {
         ensures memory { IfErr result (λ e. e ≡ OutOfMemory) }
         ensures stands { (refs : References D.NameId D.SolvableId D.Alloc) → StandsOn refs self.old →
             StandsOn refs self.new }
-        ensures last { self.new.last ≡ None }
 
-        // Nothing is walked or looked at, whatever the result, and at most one walk more is owed of each requirement.
-        // Unless the last sync was refused, none more is owed where no row has the variable of a decision from the
-        // floor on, in either trail.
+        // Nothing is walked, whatever the result, and at most one walk more is owed of each requirement. Unless the
+        // last sync was refused, none more is owed where no row has the variable of a decision from the floor on, in
+        // either trail.
         ensures walks { SameValues (walks self.old) (walks self.new) }
-        ensures looks { SameValues (looks self.old) (looks self.new) }
         ensures owed { (r : ARequirement) → owed self.new r ≤ owed self.old r + 1 }
         ensures owed_still { self.old.must_start_anew ≡ false → (refs : References D.NameId D.SolvableId D.Alloc) →
             StandsOn refs self.old →
@@ -337,95 +306,9 @@ impl<D: DependencyProvider> DecideQueue<D> {
             owed self.new r ≡ owed self.old r }
     {
         let floor = floor.min(trail.len()).min(self.tracked.trail.len());
-        match self.witnesses.note_changes(&self.tracked, floor, trail) {
-            Ok(()) => {}
-            Err(refused) => {
-                self.tracked.must_start_anew = true;
-                return Err(refused);
-            }
-        }
         self.tracked.sync(floor, trail, map)?;
         self.since.clear();
         Ok(())
-    }
-
-    /// Looks for a witness of each requirement whose clauses may be falsified, where none is. Refused, the changes are
-    /// kept for which it is to be done.
-    fn settle(
-        &mut self,
-        map: &DecisionMap<D::Alloc>,
-        reader: &RowReader<'_, D::Alloc>,
-        disjunctions: &Arena<DisjunctionId, Disjunction<D::Alloc>, D::Alloc>,
-    ) -> Result<(), StoreError>
-        requires entries { HaveEntries reader.now.lists disjunctions.now self.old.inside.clauses }
-        requires conditions { FindsConditions self.old.inside.clauses (literals_by disjunctions.now)
-            self.old.inside.by_condition }
-        requires listed { IsListedWell reader.now.lists self.old.inside.occurrences self.old.inside.requirements }
-        requires candidates { AreCandidates reader.now.lists self.old.inside.occurrences self.old.witnesses.of }
-        requires none_falsified { NoneFalsified reader.now.lists self.old.inside.clauses (literals_by disjunctions.now)
-            (values_in map.now) }
-        requires looked { self.old.witnesses.looked ≤ length self.old.inside.clauses }
-        ensures unchanged { IsUnchanged self.old self.new D.NameId.Set.has }
-        ensures records { self.new.inside.requirements ≡ self.old.inside.requirements }
-        ensures stands { (universe : Universe D.NameId D.SolvableId) →
-            let refs = references universe reader.now.lists disjunctions.now in
-            StandsOn refs self.old → IsSynced (values_in map.now) self.old → StandsOn refs self.new }
-        ensures looks { (r : ARequirement) → looks self.new r ≤ looks self.old r + 1 }
-        ensures last { self.new.last ≡ self.old.last }
-        ensures memory { IfErr result (λ e. e ≡ OutOfMemory) }
-    {
-        self.tracked
-            .list_and_settle(&mut self.witnesses, map, reader, disjunctions)
-    }
-
-    /// The decision of an eligible clause which no other one beats.
-    fn pick(
-        &mut self,
-        reader: &mut RowReader<'_, D::Alloc>,
-        question: &Question<'_, D>,
-    ) -> Result<Option<QueueDecision>, StoreError>
-        requires synced { IsSynced (values_in question.now.map.now) self.old }
-        requires stands { let refs = references (D.universe question.now.interner.now)
-            reader.old.lists question.now.disjunctions.now in
-            StandsOn refs self.old }
-        requires walkable { let refs = references (D.universe question.now.interner.now)
-            reader.old.lists question.now.disjunctions.now in
-            All (CanWalk refs) self.old.clauses }
-        requires named { AreNamed (D.universe question.now.interner.now) self.old }
-        requires hot { OnlyHotScore D.NameId.Set.has (D.NameId.Scores.value_at question.now.scores.now) self.old }
-        requires largest { IsLargest nat_cmp 0 (D.NameId.Scores.value_at question.now.scores.now)
-            question.now.largest }
-        ensures picked { let refs = references (D.universe question.now.interner.now)
-            reader.old.lists question.now.disjunctions.now in
-            IfOk result (λ decision. decision ≡ option_map decided
-            (pick (eligible (values_in question.now.map.now) (literals_in refs) (rows_in refs)
-            (score_in refs (D.NameId.Scores.value_at question.now.scores.now)) self.old.clauses))) }
-        ensures none { let refs = references (D.universe question.now.interner.now)
-            reader.old.lists question.now.disjunctions.now in
-            IfOk result (λ decision. (decision ≡ None)
-            ↔ All (λ c. is_eligible (values_in question.now.map.now) (literals_in refs) (rows_in refs) c ≡ false)
-            (scan self.old.clauses)) }
-        ensures unbeaten { let refs = references (D.universe question.now.interner.now)
-            reader.old.lists question.now.disjunctions.now in
-            IfOk result (DecidesUnbeaten (eligible (values_in question.now.map.now) (literals_in refs) (rows_in refs)
-            (score_in refs (D.NameId.Scores.value_at question.now.scores.now)) self.old.clauses)) }
-        ensures memory { IfErr result (λ e. e ≡ OutOfMemory) }
-        ensures unchanged { IsUnchanged self.old self.new D.NameId.Set.has }
-        ensures lists { reader.new.lists ≡ reader.old.lists }
-        ensures stands { let refs = references (D.universe question.now.interner.now)
-            reader.old.lists question.now.disjunctions.now in
-            StandsOn refs self.new }
-        ensures last { self.new.last ≡ self.old.last }
-
-        // Whatever the result, the requirements that came to the reader's log were walked once each, and no walk more
-        // is owed.
-        ensures walks { WalksOnce self.old.inside.requirements self.new.inside.requirements reader.old.walked
-            reader.new.walked }
-        ensures owed { SameValues (owed self.old) (owed self.new) }
-        ensures looks { SameValues (looks self.old) (looks self.new) }
-    {
-        let offer = next_offer(&mut self.tracked, reader, question)?;
-        Ok(decision_at(&offer))
     }
 
     /// The decision to take where no clause is falsified, which [`DecideQueue::falsified`] tells: that of an eligible
@@ -468,16 +351,13 @@ impl<D: DependencyProvider> DecideQueue<D> {
         ensures unchanged { IsUnchanged self.old self.new D.NameId.Set.has }
         ensures lists { reader.new.lists ≡ reader.old.lists }
         ensures stands { StandsOn (references (D.universe provider.now) reader.old.lists disjunctions.now) self.new }
-        ensures last { self.new.last ≡ self.old.last }
 
         // Whatever the result, the requirements that came to the reader's log were walked once each, and no walk more
-        // is owed. None is looked at more than once for a witness.
+        // is owed.
         ensures walks { WalksOnce self.old.inside.requirements self.new.inside.requirements reader.old.walked
             reader.new.walked }
         ensures owed { SameValues (owed self.old) (owed self.new) }
-        ensures looks { (r : ARequirement) → looks self.new r ≤ looks self.old r + 1 }
     {
-        self.settle(map, reader, disjunctions)?;
         let question = Question {
             map,
             disjunctions,
@@ -485,6 +365,7 @@ impl<D: DependencyProvider> DecideQueue<D> {
             largest,
             interner: provider,
         };
-        self.pick(reader, &question)
+        let offer = next_offer(&mut self.tracked, reader, &question)?;
+        Ok(decision_at(&offer))
     }
 }

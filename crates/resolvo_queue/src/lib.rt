@@ -8,29 +8,21 @@
 //! `decide_queue` has the queue, and `row_reader` the one way to the rows of requirements. `tracked_clauses` keeps the
 //! clauses, in the order of the scan by their `position`, and what may be eligible of them; `registering`, `heating`,
 //! `sync` and `deciding` are what is done with it. `clauses_by_name` finds clauses by the names of their packages.
-//! `witnesses` keeps what tells which of them may be falsified; `settling` looks for witnesses, after `listing` listed
-//! what came, and `looking` for a falsified clause; `looking_again` does where the one that was answered last, of which
-//! `last_falsified` tells, is falsified still; `falsification` goes through all clauses for it, and `condition_looks`
-//! tells where that reads less. `asked`, `inspection`, `row_state` and `condition` look at one clause.
+//! `falsification` goes through all clauses for a falsified one. `asked`, `inspection`, `row_state` and `condition`
+//! look at one clause.
 #![tactic(auto)]
 
-mod allowance;
 mod asked;
 mod clause_index;
 mod clauses_by_name;
 mod condition;
-mod condition_looks;
 mod decide_queue;
 mod deciding;
 mod falsification;
 mod group;
 mod heating;
 mod inspection;
-mod last_falsified;
-mod listing;
 mod lists_by_variable;
-mod looking;
-mod looking_again;
 mod names;
 mod offer;
 mod parent_value;
@@ -43,16 +35,15 @@ mod requires_clause;
 mod routing;
 mod row_reader;
 mod row_state;
-mod settling;
 mod sync;
 mod tracked_clause;
 mod tracked_clauses;
 mod waking;
 mod walk_log;
-mod witnesses;
 
 pub use decide_queue::DecideQueue;
 pub use offer::{Frontier, Offer};
 pub use queue_decision::QueueDecision;
 pub use requires_clause::RequiresClause;
 pub use row_reader::{Occurrences, RowReader};
+pub use tracked_clause::Position;

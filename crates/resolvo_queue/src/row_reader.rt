@@ -1,26 +1,19 @@
-//! The one way to the rows of requirements, which requirements have a variable in a row, and a row of each that isn't
-//! false.
+//! The one way to the rows of requirements, and which requirements have a variable in a row.
 //!
 //! A [`RowReader`] hands no row out: it answers a requirement's frontier, and puts the requirement to the variables of
-//! its rows. A [`WitnessMap`] asks it for a variable of a row that isn't false. What a question knows of rows it knows
-//! by these three calls, beside how many there are: the first and the last put the requirement to a log, and the second
-//! is made once for each.
-ghost use Rattle.std.specs.Prelude.{◌≡◌, ◌↔◌, ◌-◌, [], ◌∷◌, ◌++◌, true, false, if◌then◌else◌, flat_map, length};
-ghost use Rattle.std.specs.Prelude.{slice_get, Some, Contains, IsTrue, IsSome, IfSome, MatchOption, OnOk, OnErr, IfErr};
-ghost use Rattle.std.specs.List.{list_all};
-ghost use Rattle.std.specs.Map.{lookup, keys_of};
+//! its rows. What a decision knows of rows it knows by these two calls: the first puts the requirement to a log, and
+//! the second is made once for each.
+ghost use Rattle.std.specs.Prelude.{◌≡◌, ◌↔◌, ◌-◌, [], ◌∷◌, ◌++◌, true, if◌then◌else◌, flat_map, length};
+ghost use Rattle.std.specs.Prelude.{slice_get, Some, IsTrue, IsSome, IfSome, OnOk, OnErr, IfErr};
+ghost use Rattle.std.specs.Map.{lookup};
 ghost use Rattle.typed_ids.specs.declared.error.StoreError.TheVariants.{OutOfMemory};
 ghost use Rattle.providers.specs.Requirement.{same_requirement};
 ghost use Rattle.providers.specs.declared.requirement.Requirement.{Requirement as ARequirement};
 ghost use Rattle.decisions.specs.Decisions.{values_in};
-ghost use Rattle.decisions.specs.Literals.{known_false};
-ghost use Rattle.resolvo_queue.specs.Falsified.Allowance.{Leaves};
 ghost use Rattle.resolvo_queue.specs.Occurrences.{GrowsWith, HasAll, is_listed, listing};
 ghost use Rattle.resolvo_queue.specs.References.{IsWalkable};
 ghost use Rattle.resolvo_queue.specs.Rows.{candidates, frontier, loaded_rows};
-ghost use Rattle.resolvo_queue.specs.Falsified.Witnesses.{are_candidates_false, witness};
 
-use crate::allowance::less;
 use crate::lists_by_variable::ListsByVariable;
 use crate::offer::Frontier;
 use crate::row_state::{RowState, requirement_state};
@@ -80,23 +73,6 @@ impl<'l, A: Allocator + Copy> RowReader<'l, A> {
         }
     }
 
-    /// The variable of a row that isn't false, if there is one: which, is left open. Takes no memory.
-    fn not_false(&self, requirement: Requirement, map: &DecisionMap<A>) -> Option<VariableId>
-        requires { IsSome (lookup (same_requirement requirement) self.now.lists) }
-        ensures { MatchOption result (are_candidates_false self.now.lists (values_in map.now) requirement ≡ true)
-            (λ x. Contains (candidates self.now.lists requirement) x × (known_false (values_in map.now x) ≡ false)) }
-    {
-        not_false_in(&self.lists[requirement], map)
-    }
-
-    /// What remains of an allowance when the number of a requirement's rows is taken from it. Reads no row.
-    pub(crate) fn less_rows(&self, requirement: Requirement, allowance: usize) -> Option<usize>
-        requires { IsSome (lookup (same_requirement requirement) self.now.lists) }
-        ensures { Leaves allowance (length (candidates self.now.lists requirement)) result }
-    {
-        less_lengths(&self.lists[requirement], allowance)
-    }
-
     /// Puts a requirement to the variables of its rows, and counts it as listed from then on. Refused, it doesn't count
     /// as listed, though some of the variables may have it.
     pub fn list(
@@ -114,68 +90,6 @@ impl<'l, A: Allocator + Copy> RowReader<'l, A> {
     {
         add_lists(occurrences, requirement, &self.lists[requirement])?;
         occurrences.set_listed(requirement)
-    }
-}
-
-/// The witnesses of requirements, as the last look at the rows of each found one or none, and a log of the looks.
-#[derive(Drop)]
-pub(crate) struct WitnessMap<A: Allocator + Copy> {
-    entries: RequirementMap<Option<VariableId>, A>,
-    looks: WalkLog,
-}
-
-impl<A: Allocator + Copy> Model for WitnessMap<A> {
-    ghost use Rattle.resolvo_queue.specs.Falsified.Witnesses.{Found};
-
-    ghost Value = { Found };
-
-    ghost view = { λ w. record { entries = w.entries; looks = w.looks.walked } };
-}
-
-impl<A: Allocator + Copy> WitnessMap<A> {
-    /// No requirement has a witness, and none was looked at. Takes no memory.
-    pub(crate) fn new(alloc: A) -> Self
-        ensures entries { result.entries ≡ [] }
-        ensures looks { result.looks ≡ [] }
-    {
-        WitnessMap {
-            entries: RequirementMap::new(alloc),
-            looks: WalkLog::new(),
-        }
-    }
-
-    /// The requirement's witness, if the last look found one.
-    pub(crate) fn get(&self, requirement: Requirement) -> Option<VariableId>
-        ensures { result ≡ witness self.now requirement }
-    {
-        match self.entries.get(requirement) {
-            Some(found) => *found,
-            None => None,
-        }
-    }
-
-    /// Looks for a variable of a row that isn't false, and keeps what it finds, be it nothing. Refused, it reads and
-    /// changes nothing.
-    pub(crate) fn look(
-        &mut self,
-        requirement: Requirement,
-        map: &DecisionMap<A>,
-        reader: &RowReader<'_, A>,
-    ) -> Result<(), StoreError>
-        requires { IsSome (lookup (same_requirement requirement) reader.now.lists) }
-        ensures found { OnOk result (MatchOption (witness self.new requirement)
-            (are_candidates_false reader.now.lists (values_in map.now) requirement ≡ true)
-            (λ x. Contains (candidates reader.now.lists requirement) x × (known_false (values_in map.now x) ≡ false))) }
-        ensures others { OnOk result ((r : ARequirement) → same_requirement r requirement ≡ false →
-            witness self.new r ≡ witness self.old r) }
-        ensures looks { OnOk result (self.new.looks ≡ self.old.looks ++ requirement ∷ []) }
-        ensures err { OnErr result (self.new ≡ self.old) }
-        ensures memory { IfErr result (λ e. e ≡ OutOfMemory) }
-    {
-        let witness = self.entries.get_or_insert_with(requirement, || None)?;
-        *witness = reader.not_false(requirement, map);
-        self.looks = self.looks.and(&requirement);
-        Ok(())
     }
 }
 
@@ -295,51 +209,4 @@ fn add_list<A: Allocator + Copy>(
         occurrences.add(*variable, requirement)?;
     }
     Ok(())
-}
-
-/// What remains of an allowance when the lengths of these lists are taken from it.
-fn less_lengths<A: Allocator + Copy>(
-    lists: &[Vec<VariableId, A>],
-    allowance: usize,
-) -> Option<usize>
-    ensures { Leaves allowance (length (flat_map (λ l. l.items) lists.now)) result }
-{
-    let mut rest = allowance;
-    for list in lists {
-        rest = less(rest, list.len())?;
-    }
-    Some(rest)
-}
-
-/// A variable of these lists that isn't false.
-fn not_false_in<A: Allocator + Copy>(
-    lists: &[Vec<VariableId, A>],
-    map: &DecisionMap<A>,
-) -> Option<VariableId>
-    ensures { MatchOption result
-        (list_all (λ x. known_false (values_in map.now x)) (flat_map (λ l. l.items) lists.now) ≡ true)
-        (λ x. Contains (flat_map (λ l. l.items) lists.now) x × (known_false (values_in map.now x) ≡ false)) }
-{
-    for list in lists {
-        if let Some(variable) = not_false_of(list, map) {
-            return Some(variable);
-        }
-    }
-    None
-}
-
-/// A variable of one list that isn't false.
-fn not_false_of<A: Allocator + Copy>(
-    list: &[VariableId],
-    map: &DecisionMap<A>,
-) -> Option<VariableId>
-    ensures { MatchOption result (list_all (λ x. known_false (values_in map.now x)) list.now ≡ true)
-        (λ x. Contains list.now x × (known_false (values_in map.now x) ≡ false)) }
-{
-    for variable in list {
-        if map.value(*variable) != Some(false) {
-            return Some(*variable);
-        }
-    }
-    None
 }

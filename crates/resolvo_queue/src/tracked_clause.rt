@@ -8,9 +8,9 @@ use typed_ids::{ClauseId, DisjunctionId, VariableId};
 /// registration, so positions are stable, and their order is that of the scan: by the parents' first registrations,
 /// then by the order within a parent.
 #[derive(Clone, Copy, Debug, PartialEq, Eq, PartialOrd, Ord)]
-pub(crate) struct Position {
-    pub(crate) first_of_parent: u32,
-    pub(crate) number: u32,
+pub struct Position {
+    pub first_of_parent: u32,
+    pub number: u32,
 }
 
 /// A registered clause.

@@ -6,9 +6,8 @@ ghost use Rattle.providers.specs.declared.requirement.Requirement.{Requirement a
 use providers::Requirement;
 use std::marker::Model;
 
-/// The requirements whose rows were walked, or looked at for a witness, oldest first. It takes no bytes, and its calls
-/// do nothing when a program runs. Nothing keeps a caller from leaving a walk out but that the log's owner is the one
-/// way to the rows.
+/// The requirements whose rows were walked, oldest first. It takes no bytes, and its calls do nothing when a program
+/// runs. Nothing keeps a caller from leaving a walk out but that the log's owner is the one way to the rows.
 #[derive(Drop)]
 pub(crate) struct WalkLog {
     pub ghost walked: { List ARequirement },

@@ -27,13 +27,12 @@ use Rattle.watch_map.specs.Watching.{is_literal_in}
 use Rattle.watch_map.specs.ClauseList.{Clauses, two_or_none, can_rewatch, with_clause as list_added, with_learnt as learnt_one, with_rewatched as list_rewatched, with_forbidden}
 use Rattle.clauses.specs.declared.disjunction.Disjunction.{Disjunction}
 use Rattle.resolvo_queue.specs.declared.requires_clause.RequiresClause.{RequiresClause}
-use Rattle.resolvo_queue.specs.Clear.{RemembersWell, with_last}
 use Rattle.resolvo_queue.specs.Queue.{Queue, IsNew, SameClauses, SameSync, IsUnchanged, IsRegistered, HasTrail, OnlyHotScore, StandsOn}
 use Rattle.resolvo_queue.specs.References.{References, references}
-use Rattle.resolvo_queue.proofs.Clauses.Callers.{remembers_nothing, remembers_with_disjunction, remembers_with_lists, stands_with_disjunction, stands_with_last, stands_with_lists}
+use Rattle.resolvo_queue.proofs.Clauses.Callers.{stands_with_disjunction, stands_with_lists}
 use Rattle.resolvo_store.specs.Lists.{lists_kept, disjunctions_kept, AreAsked, IsConsistent, IsOneMore}
 use Rattle.resolvo_store.specs.Synced.{decisions_of, IsInStep, MayAsk}
-use Rattle.resolvo_store.proofs.SyncedLemmas.{clear-pushed, in_step-new, in_step-with_last, in_step-pushed, in_step-same, in_step-unchanged, in_step-registered, in_step-synced, in_step-refused}
+use Rattle.resolvo_store.proofs.SyncedLemmas.{in_step-new, in_step-pushed, in_step-same, in_step-unchanged, in_step-registered, in_step-synced, in_step-refused}
 use Rattle.resolvo_store.specs.Sound.{IsSound, IsPlain}
 use Rattle.resolvo_store.specs.Store.{Store, Provider, Kept, store_of, values, lists_of, kept_literals, clause_literals, watched_by}
 use Rattle.at_most_once.specs.AtMostOne.{Tracker, BitClause, is_tracked}
@@ -100,24 +99,14 @@ plain_direct (Kind.Learnt id) direct = absurd (let no : false ≡ true = direct 
 
 -- a new queue, without clauses, may be asked
 pub new_may_ask : {N S A Q : Type 0} {has : Q → N → Bool} (queue : Queue N Q) (refs : References N S A) (trail : Trail) → IsNew has queue → ((any : References N S A) → StandsOn any queue)
-    → queue.last ≡ None → trail.floor ≡ 0 → MayAsk has (λ n. 0) refs (record queue { clauses = [] }) trail
-new_may_ask {has = has} queue refs trail is stands none first =
+    → trail.floor ≡ 0 → MayAsk has (λ n. 0) refs (record queue { clauses = [] }) trail
+new_may_ask {has = has} queue refs trail is stands first =
     subst (λ cs. MayAsk has (λ n. 0) refs (record queue { clauses = cs }) trail) is.clauses (record {
       in_step = in_step-new {has = has} trail first is;
       stands = stands refs;
-      clear = remembers_nothing refs (decisions_of trail.entries) queue none;
       named = is.names ∙ sym (ap (map (λ c. map refs.universe.set_name (sets_of refs.universe c.requirement))) is.clauses);
       hot = λ n cold. refl;
     })
-
--- a queue that was told of a cut remembers well, at the trail that is left
-pub told_cut : {N S A Q : Type 0} (refs : References N S A) (queue q : Queue N Q) (trail shorter : Trail) {new : Trail} {decisions : List Decision} {n : ℕ} → new ≡ shorter →
-    decisions ≡ decisions_of new.entries → n ≡ length decisions → decisions_of shorter.entries ≡ take (length shorter.entries) (decisions_of trail.entries) →
-    ((ds : List Decision) → RemembersWell refs ds queue → RemembersWell refs (take n ds) q) → RemembersWell refs (decisions_of trail.entries) queue →
-    RemembersWell refs (decisions_of shorter.entries) q
-told_cut refs queue q trail shorter {new} {decisions} {n} same are many front tells is =
-    subst (λ ds. RemembersWell refs ds q) (sym (front ∙ ap (λ m. take m (decisions_of trail.entries))
-    (sym (many ∙ (ap length are ∙ (length-map new.entries (λ e. e.decision) ∙ ap (λ t. length t.entries) same)))))) (tells (decisions_of trail.entries) is)
 
 -- a store that tracks one variable more, by its variables, its list of clauses and its trackers
 pub tracked_parts : {N S : Type 0} (st : Store N S) (name : N) (v : ℕ) {os : List (VariableOrigin N S)} {cs : Clauses N} {ts : N → Tracker ℕ}
@@ -164,40 +153,18 @@ module _ {D N S A H Q : Type 0} {has : Q → N → Bool} {st : Store N S} {loade
   abbrev seen : References N S A
   seen = references st.provider.universe loaded disjunctions
 
-  abbrev IsRemembered : Queue N Q → Trail → Type 0
-  IsRemembered q t = RemembersWell seen (decisions_of t.entries) q
-
   abbrev Consistent : Trail → Type 0
   Consistent t = IsConsistent has (with_trail t) loaded disjunctions cache queue t
 
   -- another trail
-  pub after_trail : (t : Trail) {new : Trail} → IsSound (with_trail t) → IsInStep queue t → IsRemembered queue t → new ≡ t → Consistent new
-  after_trail t sound in_step clear same = subst Consistent (sym same) (record {
+  pub after_trail : (t : Trail) {new : Trail} → IsSound (with_trail t) → IsInStep queue t → new ≡ t → Consistent new
+  after_trail t sound in_step same = subst Consistent (sym same) (record {
     few = is.few;
     known = is.known;
     sound = sound;
     asked = is.asked;
-    may_ask = record { in_step = in_step; stands = is.may_ask.stands; clear = clear; named = is.may_ask.named; hot = is.may_ask.hot };
+    may_ask = record { in_step = in_step; stands = is.may_ask.stands; named = is.may_ask.named; hot = is.may_ask.hot };
   })
-
-  -- a shorter one, of which the queue was told
-  pub after_cut : (t : Trail) {new : Trail} (q : Queue N Q) → st.requires ≡ queue.clauses → IsSound (with_trail t) → IsInStep queue t → new ≡ t →
-      q ≡ with_last queue q.last → IsRemembered q t → IsConsistent has (record (with_trail new) { requires = q.clauses }) loaded disjunctions cache q new
-  after_cut t {new} q requires sound in_step same told clear =
-      subst (λ x. IsConsistent has (record (with_trail x) { requires = q.clauses }) loaded disjunctions cache q x) (sym same)
-      (subst (λ rs. IsConsistent has (record (with_trail t) { requires = rs }) loaded disjunctions cache q t) (requires ∙ sym (ap (λ (x : Queue N Q). x.clauses) told)) (record {
-        few = is.few;
-        known = is.known;
-        sound = sound;
-        asked = is.asked;
-        may_ask = record {
-          in_step = subst (λ x. IsInStep x t) (sym told) (in_step-with_last queue q.last t in_step);
-          stands = subst (StandsOn seen) (sym told) (stands_with_last seen queue q.last is.may_ask.stands);
-          clear = clear;
-          named = ap (λ (x : Queue N Q). x.names) told ∙ is.may_ask.named ∙ ap (λ (x : Queue N Q). map (λ c. map st.provider.universe.set_name (sets_of st.provider.universe c.requirement)) x.clauses) (sym told);
-          hot = λ n cold. is.may_ask.hot n (sym (ap (λ (x : Queue N Q). has x.hot n) told) ∙ cold);
-        };
-      }))
 
   -- after an assignment
   pub after_entry : (e : Entry) (new : Trail) (answer : Result Bool AddFault) → e.decision.variable < length st.origins → e.decision.derived_from < length st.clauses
@@ -208,8 +175,8 @@ module _ {D N S A H Q : Type 0} {has : Q → N → Bool} {st : Store N S} {loade
       elim (added_or_same (val st.trail e.decision.variable) trail new e answer adds) [
         | inl more ↦ after_trail (pushed trail e)
             (rw (entries, place) (IsSound-pushed st is.sound e more.0 (record { variable = variable; clause = clause }) level)) (in_step-pushed trail e is.may_ask.in_step)
-            (clear-pushed seen queue trail e is.may_ask.clear) more.1
-        | inr same ↦ after_trail trail sound is.may_ask.in_step is.may_ask.clear same
+            more.1
+        | inr same ↦ after_trail trail sound is.may_ask.in_step same
       ]
 
   -- after variables were asked for
@@ -299,7 +266,6 @@ module _ {D N S A H Q : Type 0} {has : Q → N → Bool} {st : Store N S} {loade
     may_ask = subst (λ es. MayAsk has st.scores (references st.provider.universe loaded es) queue trail) (sym more.grown) (record {
       in_step = is.may_ask.in_step;
       stands = stands_with_disjunction (references st.provider.universe loaded disjunctions) queue more.disjunction is.may_ask.stands;
-      clear = remembers_with_disjunction seen (decisions_of trail.entries) queue more.disjunction is.may_ask.stands is.may_ask.clear;
       named = is.may_ask.named;
       hot = is.may_ask.hot;
     });
@@ -318,35 +284,34 @@ module _ {D N S A H Q : Type 0} {has : Q → N → Bool} {st : Store N S} {loade
   abbrev MayAskStill : Queue N Q → Type 0
   MayAskStill q = MayAsk has st.scores (references st.provider.universe loaded disjunctions) q trail
 
-  may_ask_unchanged : {q : Queue N Q} → IsUnchanged queue q has → StandsOn seen q → IsRemembered q trail → MayAskStill q
-  may_ask_unchanged {q} same stands clear = record {
+  may_ask_unchanged : {q : Queue N Q} → IsUnchanged queue q has → StandsOn seen q → MayAskStill q
+  may_ask_unchanged {q} same stands = record {
     in_step = in_step-unchanged {has = has} trail same is.may_ask.in_step;
     stands = stands;
-    clear = clear;
     named = same.clauses.names ∙ is.may_ask.named ∙ ap (map (λ c. map st.provider.universe.set_name (sets_of st.provider.universe c.requirement))) (sym same.clauses.clauses);
     hot = λ n cold. is.may_ask.hot n (sym (same.hot n) ∙ cold);
   }
 
   -- after the list and the queue were left as they were
-  after_none : {cs : Clauses N} {q : Queue N Q} → cs ≡ clauses_now → st.requires ≡ queue.clauses → IsUnchanged queue q has → StandsOn seen q → IsRemembered q trail
+  after_none : {cs : Clauses N} {q : Queue N Q} → cs ≡ clauses_now → st.requires ≡ queue.clauses → IsUnchanged queue q has → StandsOn seen q
       → IsConsistent has (record (with_clauses cs) { requires = q.clauses }) loaded disjunctions cache q trail
-  after_none {cs} {q} same registered left stands clear =
+  after_none {cs} {q} same registered left stands =
       let requires : q.clauses ≡ st.requires = left.clauses.clauses ∙ sym registered in
       subst (λ ds. IsConsistent has (record (with_clauses ds) { requires = q.clauses }) loaded disjunctions cache q trail) (sym same)
       (subst (λ rs. IsConsistent has (record st { requires = rs }) loaded disjunctions cache q trail) (sym requires)
-      (record { few = is.few; known = is.known; sound = is.sound; asked = is.asked; may_ask = may_ask_unchanged left stands clear }))
+      (record { few = is.few; known = is.known; sound = is.sound; asked = is.asked; may_ask = may_ask_unchanged left stands }))
 
   -- after a requires clause was to be added and registered
   pub after_registered : {T E : Type 0} (parent : ℕ) (disjunction : Option ℕ) (r : Requirement) (c : Clause N) (watch : Option (List Lit)) {cs : Clauses N} {q : Queue N Q}
       (result : Result T E) → knows_requirement st.provider.universe r ≡ true → parent < length st.origins → IsSome (lists_of st r) → IfSome disjunction (λ d. d < length st.disjunctions)
       → watch ≡ first_watches (kept_literals st) (values st) c → c ≡ Kind.Requires parent disjunction r → st.requires ≡ queue.clauses → trail.entries ≡ st.trail
-      → StandsOn seen q → IsRemembered q trail
+      → StandsOn seen q
       → OnOk result (cs ≡ list_added clauses_now c watch)
       → OnOk result (IsRegistered has (record { parent = parent; requirement = r; condition = disjunction; clause_id = length st.clauses })
       (map st.provider.universe.set_name (sets_of st.provider.universe r)) (values st parent) queue q)
       → OnErr result (cs ≡ clauses_now) → OnErr result (IsUnchanged queue q has)
       → IsConsistent has (record (with_clauses cs) { requires = q.clauses }) loaded disjunctions cache q trail
-  after_registered parent disjunction r c watch {cs} {q} (Ok x) known variable found kept watches kind requires entries stands clear added registered unadded unregistered =
+  after_registered parent disjunction r c watch {cs} {q} (Ok x) known variable found kept watches kind requires entries stands added registered unadded unregistered =
       let one : RequiresClause = record { parent = parent; requirement = r; condition = disjunction; clause_id = length st.clauses } in
       let more : List RequiresClause = st.requires ++ one ∷ [] in
       let names_in : List RequiresClause → List (List N) = map (λ d. map st.provider.universe.set_name (sets_of st.provider.universe d.requirement)) in
@@ -363,20 +328,19 @@ module _ {D N S A H Q : Type 0} {has : Q → N → Bool} {st : Store N S} {loade
           in_step = in_step-registered trail one (map st.provider.universe.set_name (sets_of st.provider.universe r)) (values st parent) registered
               (ap (λ es. val es parent) (sym entries)) is.may_ask.in_step;
           stands = stands;
-          clear = clear;
           named = registered.names ∙ ap (λ ns. ns ++ map st.provider.universe.set_name (sets_of st.provider.universe r) ∷ []) is.may_ask.named
               ∙ sym (map-append (λ d. map st.provider.universe.set_name (sets_of st.provider.universe d.requirement)) queue.clauses (one ∷ [])) ∙ ap names_in (sym registered.clauses);
           hot = λ n cold. is.may_ask.hot n (sym (registered.hot n) ∙ cold);
         };
       }))))
-  after_registered parent disjunction r c watch (Err e) known variable found kept watches kind requires entries stands clear added registered unadded unregistered =
-      after_none unadded requires unregistered stands clear
+  after_registered parent disjunction r c watch (Err e) known variable found kept watches kind requires entries stands added registered unadded unregistered =
+      after_none unadded requires unregistered stands
 
   -- after the queue was brought up to date, or not, for which the floor was taken
   pub after_sync : {T E : Type 0} {q : Queue N Q} (result : Result T E) → st.requires ≡ queue.clauses → SameClauses queue q → SameValues (has queue.hot) (has q.hot)
-      → StandsOn seen q → q.last ≡ None → OnOk result (HasTrail (decisions_of trail.entries) q) → OnErr result (q.must_start_anew ≡ true)
+      → StandsOn seen q → OnOk result (HasTrail (decisions_of trail.entries) q) → OnErr result (q.must_start_anew ≡ true)
       → IsConsistent has (record st { requires = q.clauses }) loaded disjunctions cache q (floor_taken trail)
-  after_sync {T = T} {E = E} {q} result requires same hot stands none ok err =
+  after_sync {T = T} {E = E} {q} result requires same hot stands ok err =
       subst (λ rs. IsConsistent has (record st { requires = rs }) loaded disjunctions cache q (floor_taken trail)) (requires ∙ sym same.clauses) (record {
         few = is.few;
         known = is.known;
@@ -385,7 +349,6 @@ module _ {D N S A H Q : Type 0} {has : Q → N → Bool} {st : Store N S} {loade
         may_ask = record {
           in_step = elim (either result ok err) [ inl synced ↦ in_step-synced trail synced | inr refused ↦ in_step-refused trail refused ];
           stands = stands;
-          clear = remembers_nothing seen (decisions_of trail.entries) q none;
           named = same.names ∙ is.may_ask.named ∙ ap (map (λ c. map st.provider.universe.set_name (sets_of st.provider.universe c.requirement))) (sym same.clauses);
           hot = λ n cold. is.may_ask.hot n (sym (hot n) ∙ cold);
         };
@@ -393,9 +356,9 @@ module _ {D N S A H Q : Type 0} {has : Q → N → Bool} {st : Store N S} {loade
 
   -- after scores changed, by the names that the queue knows as hot
   pub after_scores : (scores : N → ℕ) {q : Queue N Q} → st.requires ≡ queue.clauses → SameClauses queue q → SameSync queue q
-      → StandsOn seen q → IsRemembered q trail → OnlyHotScore has scores q
+      → StandsOn seen q → OnlyHotScore has scores q
       → IsConsistent has (record st { scores = scores; requires = q.clauses }) loaded disjunctions cache q trail
-  after_scores scores {q} requires same synced stands clear hot =
+  after_scores scores {q} requires same synced stands hot =
       subst (λ rs. IsConsistent has (record st { scores = scores; requires = rs }) loaded disjunctions cache q trail) (requires ∙ sym same.clauses)
       (record {
         few = is.few;
@@ -405,7 +368,6 @@ module _ {D N S A H Q : Type 0} {has : Q → N → Bool} {st : Store N S} {loade
         may_ask = record {
           in_step = in_step-same trail synced is.may_ask.in_step;
           stands = stands;
-          clear = clear;
           named = same.names ∙ is.may_ask.named ∙ ap (map (λ c. map st.provider.universe.set_name (sets_of st.provider.universe c.requirement))) (sym same.clauses);
           hot = hot;
         };
@@ -428,14 +390,14 @@ module _ {D N S A H Q : Type 0} {has : Q → N → Bool} {st : Store N S} {loade
 
   -- after a score was to be raised
   pub after_bumped : {T E : Type 0} (same_name : N → N → Bool) (same : (a b : N) → same_name a b ≡ true → a ≡ b) (name : N) (amount : ℕ) {scores : N → ℕ} {q : Queue N Q}
-      (result : Result T E) → st.requires ≡ queue.clauses → SameClauses queue q → SameSync queue q → StandsOn seen q → IsRemembered q trail
+      (result : Result T E) → st.requires ≡ queue.clauses → SameClauses queue q → SameSync queue q → StandsOn seen q
       → OnOk result (scores ≡ bumped same_name name amount st.scores) → OnOk result (IsUpdate (has queue.hot) name true (has q.hot))
       → OnErr result (scores ≡ st.scores) → OnErr result (SameValues (has queue.hot) (has q.hot))
       → IsConsistent has (record st { scores = scores; requires = q.clauses }) loaded disjunctions cache q trail
-  after_bumped same_name same name amount {scores} {q} (Ok x) requires clauses synced stands clear raised hot left cold =
-      after_scores scores requires clauses synced stands clear (subst (λ s. OnlyHotScore has s q) (sym raised) (hot_bumped same_name same name amount q hot))
-  after_bumped same_name same name amount {scores} {q} (Err e) requires clauses synced stands clear raised hot left cold =
-      after_scores scores requires clauses synced stands clear (subst (λ s. OnlyHotScore has s q) (sym left) (hot_kept q cold))
+  after_bumped same_name same name amount {scores} {q} (Ok x) requires clauses synced stands raised hot left cold =
+      after_scores scores requires clauses synced stands (subst (λ s. OnlyHotScore has s q) (sym raised) (hot_bumped same_name same name amount q hot))
+  after_bumped same_name same name amount {scores} {q} (Err e) requires clauses synced stands raised hot left cold =
+      after_scores scores requires clauses synced stands (subst (λ s. OnlyHotScore has s q) (sym left) (hot_kept q cold))
 
   -- a decay leaves 0 where it is
   pub hot_decayed : (numerator denominator : ℕ) → OnlyHotScore has (decayed numerator denominator st.scores) queue
@@ -451,15 +413,15 @@ module _ {D N S A H Q : Type 0} {has : Q → N → Bool} {st : Store N S} {loade
         known = is.known;
         sound = IsSound-scored st is.sound (decayed numerator denominator st.scores);
         asked = is.asked;
-        may_ask = record { in_step = is.may_ask.in_step; stands = is.may_ask.stands; clear = is.may_ask.clear; named = is.may_ask.named; hot = hot_decayed numerator denominator };
+        may_ask = record { in_step = is.may_ask.in_step; stands = is.may_ask.stands; named = is.may_ask.named; hot = hot_decayed numerator denominator };
       })
 
   -- after the queue was asked
-  pub after_question : {q : Queue N Q} → st.requires ≡ queue.clauses → IsUnchanged queue q has → StandsOn seen q → IsRemembered q trail
+  pub after_question : {q : Queue N Q} → st.requires ≡ queue.clauses → IsUnchanged queue q has → StandsOn seen q
       → IsConsistent has (record st { requires = q.clauses }) loaded disjunctions cache q trail
-  after_question {q} requires same stands clear =
+  after_question {q} requires same stands =
       subst (λ rs. IsConsistent has (record st { requires = rs }) loaded disjunctions cache q trail) (requires ∙ sym same.clauses.clauses)
-      (record { few = is.few; known = is.known; sound = is.sound; asked = is.asked; may_ask = may_ask_unchanged same stands clear })
+      (record { few = is.few; known = is.known; sound = is.sound; asked = is.asked; may_ask = may_ask_unchanged same stands })
 
 -- the store of what is kept, with this provider, these variables and these lists
 abbrev pub store_with : {D N S A C : Type 0} → (D → Provider N S) → (C → N → ℕ) → Kept D N S C → D → List (VariableOrigin N S) → List (Requirement × Vec (Vec ℕ A) A) → Store N S
@@ -515,7 +477,6 @@ module _ {D N S A H Q C : Type 0} (provided : D → Provider N S) (scored : C �
           may_ask = record {
             in_step = is.may_ask.in_step;
             stands = stands_with_lists (references (provided old.provider).universe loaded disjunctions) queue r lists (lookup-none loaded r fresh) is.may_ask.stands;
-            clear = remembers_with_lists (references (provided old.provider).universe loaded disjunctions) (decisions_of trail.entries) queue r lists (lookup-none loaded r fresh) is.may_ask.stands is.may_ask.clear;
             named = is.may_ask.named;
             hot = is.may_ask.hot;
           };

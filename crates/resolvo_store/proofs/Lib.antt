@@ -2,6 +2,8 @@ pub mod AddingLemmas
 pub mod AskingLemmas
 pub mod CallerLaws
 pub mod CandidateLaws
+pub mod CountedLemmas
+pub mod CountedScan
 pub mod ForbiddingLaws
 pub mod HelperLemmas
 pub mod InvariantLemmas

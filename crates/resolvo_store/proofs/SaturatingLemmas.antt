@@ -25,8 +25,7 @@ use Rattle.resolvo_store.specs.Sound.{IsSound}
 use Rattle.resolvo_store.proofs.AddingLemmas.{first_of}
 use Rattle.resolvo_store.proofs.InvariantLemmas.{with_list}
 use Rattle.resolvo_store.proofs.SaturatedLaws.{IsSound-saturated}
-use Rattle.resolvo_queue.specs.References.{references}
-use Rattle.resolvo_store.proofs.SyncedLemmas.{clear-forced, in_step-forced}
+use Rattle.resolvo_store.proofs.SyncedLemmas.{in_step-forced}
 
 module _ {N S : Type 0} (st : Store N S) where
   -- and at one that is
@@ -105,7 +104,6 @@ module _ {D N S A H Q : Type 0} {has : Q → N → Bool} {st : Store N S} {loade
     may_ask = record {
       in_step = in_step-forced trail after left.forced is.may_ask.in_step;
       stands = is.may_ask.stands;
-      clear = clear-forced (references st.provider.universe loaded disjunctions) queue trail after left.forced is.may_ask.clear;
       named = is.may_ask.named;
       hot = is.may_ask.hot;
     };

@@ -1,5 +1,5 @@
 -- A queue stays in step with a trail, whatever is done with either. N are the names of packages, H the sets of them.
-use Rattle.std.proofs.Common.{◌≡◌, ℕ, zero, suc, ◌≤◌, Bool, true, false, cond, List, [], ◌∷◌, ◌++◌, length, Option, Some, None, refl, arith, sym, subst, ap, ◌∙◌}
+use Rattle.std.proofs.Common.{◌≡◌, ℕ, zero, suc, ◌≤◌, Bool, true, false, cond, eqb, List, [], ◌∷◌, ◌++◌, length, Option, Some, None, refl, arith, sym, subst, ap, ◌∙◌}
 use Rattle.std.specs.Prelude.{◌-◌, min, take, All, nat_lt}
 use Rattle.std.specs.List.{list_all}
 use Rattle.std.proofs.lemmas.List.{length-map, length-append, take-append-le, take-map, map-append, append-nil, append_assoc}
@@ -8,14 +8,10 @@ use Rattle.decisions.specs.Literals.{Lit, known_true}
 use Rattle.decisions.specs.Trail.{Entry, Trail, val, pushed, cut_to, undo_last, undo_until, kept_until, propagated, floor_taken}
 use Rattle.decisions.specs.declared.decision.Decision.{Decision}
 use Rattle.watch_map.specs.Saturation.{HasForced}
-use Rattle.resolvo_queue.specs.Clear.{RemembersWell, with_last}
 use Rattle.resolvo_queue.specs.Queue.{Queue, IsNew, SameSync, IsUnchanged, IsRegistered, HasTrail, AgreesBelow, values_of}
-use Rattle.resolvo_queue.specs.References.{References}
-use Rattle.resolvo_queue.specs.declared.last_falsified.LastFalsified.{LastFalsified}
 use Rattle.resolvo_queue.specs.declared.parent_value.ParentValue.{ParentValue}
 use Rattle.resolvo_queue.specs.declared.requires_clause.RequiresClause.{RequiresClause}
-use Rattle.resolvo_queue.proofs.Clauses.Callers.{remembers_longer, values_of_entries}
-use Rattle.resolvo_queue.proofs.Falsified.Clear.{take_front, values_before}
+use Rattle.resolvo_queue.proofs.Clauses.Callers.{values_of_entries}
 use Rattle.resolvo_store.specs.Synced.{decisions_of, IsInStep}
 
 -- ---- fronts of lists
@@ -25,6 +21,12 @@ length_front zero xs = omega arith
 length_front (suc i) [] = omega arith
 length_front (suc i) (x ∷ xs) = omega (arith, length_front i xs)
 
+take_front : {X : Type 0} (i j : ℕ) (xs : List X) → i ≤ j → take i (take j xs) ≡ take i xs
+take_front zero j xs h = refl
+take_front (suc i) zero xs h = absurd (omega (arith, h))
+take_front (suc i) (suc j) [] h = refl
+take_front (suc i) (suc j) (x ∷ xs) h = ap (λ ys. x ∷ ys) (take_front i j xs (omega (arith, h)))
+
 -- what is kept of a trail is its front
 pub kept_front : (l : ℕ) (es : List Entry) → kept_until l es ≡ take (length (kept_until l es)) es
 kept_front l [] = refl
@@ -33,6 +35,13 @@ kept_front l (e ∷ es) =
     [ true ↦ refl | false ↦ ap (λ ys. e ∷ ys) (kept_front l es) ]
 
 -- ---- values
+
+values_before : (n : ℕ) (ds : List Decision) (x : ℕ) (b : Bool) → values_of (take n ds) x ≡ Some b → values_of ds x ≡ Some b
+values_before zero ds x b h = (let no : ◌≡◌ {A = Option Bool} None (Some b) = h in cc)
+values_before (suc n) [] x b h = (let no : ◌≡◌ {A = Option Bool} None (Some b) = h in cc)
+values_before (suc n) (d ∷ ds) x b h =
+    (elim (eqb d.variable x) as (λ t. cond t (Some d.value) (values_of (take n ds) x) ≡ Some b → cond t (Some d.value) (values_of ds x) ≡ Some b)
+    [ true ↦ λ k. k | false ↦ λ k. values_before n ds x b k ]) h
 
 -- what isn't true by a trail isn't by its front
 not_true_before : (n : ℕ) (ds : List Decision) (x : ℕ) → known_true (values_of ds x) ≡ false → known_true (values_of (take n ds) x) ≡ false
@@ -161,39 +170,3 @@ module _ {N H : Type 0} where
   -- a refused one
   pub in_step-refused : {q : Queue N H} (t : Trail) → q.must_start_anew ≡ true → IsInStep q (floor_taken t)
   in_step-refused t refused = record { within = omega arith; agrees = λ accepted. (let no : true ≡ false = sym refused ∙ accepted in cc) }
-
--- ---- what is remembered of a falsified clause
-
-module _ {N H : Type 0} (q : Queue N H) where
-  pub in_step-with_last : (last : Option LastFalsified) (t : Trail) → IsInStep q t → IsInStep (with_last q last) t
-  in_step-with_last last t is = record {
-    within = is.within;
-    agrees = λ accepted. record { trail = (is.agrees accepted).trail; since = (is.agrees accepted).since };
-  }
-
--- the decisions of a trail's kept entries
-decisions_front : (es kept : List Entry) (n : ℕ) → kept ≡ take n es → decisions_of kept ≡ take (length kept) (decisions_of es)
-decisions_front es kept n front =
-    ap decisions_of (front ∙ (take_own n es ∙ ap (λ m. take m es) (ap length (sym front)))) ∙ sym (take-map (λ e. e.decision) (length kept) es)
-  where
-    take_own : {X : Type 0} (m : ℕ) (xs : List X) → take m xs ≡ take (length (take m xs)) xs
-    take_own zero xs = refl
-    take_own (suc m) [] = refl
-    take_own (suc m) (x ∷ xs) = ap (λ ys. x ∷ ys) (take_own m xs)
-
-pub decisions-undo_last : (t : Trail) → decisions_of (undo_last t).entries ≡ take (length (undo_last t).entries) (decisions_of t.entries)
-decisions-undo_last t = decisions_front t.entries (undo_last t).entries (length t.entries - 1) refl
-
-pub decisions-undo_until : (l : ℕ) (t : Trail) → decisions_of (undo_until l t).entries ≡ take (length (undo_until l t).entries) (decisions_of t.entries)
-decisions-undo_until l t = decisions_front t.entries (undo_until l t).entries (length (kept_until l t.entries)) (kept_front l t.entries)
-
-module _ {N S A H : Type 0} (refs : References N S A) (q : Queue N H) where
-  pub clear-more : (es added : List Entry) → RemembersWell refs (decisions_of es) q → RemembersWell refs (decisions_of (es ++ added)) q
-  clear-more es added is =
-      subst (λ ds. RemembersWell refs ds q) (sym (map-append (λ x. x.decision) es added)) (remembers_longer refs (decisions_of es) (decisions_of added) q is)
-
-  pub clear-pushed : (t : Trail) (e : Entry) → RemembersWell refs (decisions_of t.entries) q → RemembersWell refs (decisions_of (pushed t e).entries) q
-  clear-pushed t e is = clear-more t.entries (e ∷ []) is
-
-  pub clear-forced : {literals : ℕ → List Lit} {level : ℕ} (t new : Trail) → HasForced literals level t new → RemembersWell refs (decisions_of t.entries) q → RemembersWell refs (decisions_of new.entries) q
-  clear-forced t new forced is = subst (λ es. RemembersWell refs (decisions_of es) q) (sym forced.entries) (clear-more t.entries forced.added is)

@@ -14,7 +14,7 @@ use Rattle.resolvo_queue.specs.Queue.{Queue, HasTrail, IsRegistered, IsUnchanged
 use Rattle.resolvo_queue.specs.References.{References, IsWalkable, references, rows_in}
 use Rattle.resolvo_queue.specs.Routing.{variables_of}
 use Rattle.resolvo_queue.specs.Rows.{rows}
-use Rattle.resolvo_queue.specs.WalkCounts.{HasNoneOf, WalksOnce, changed_from, looks, owed, walks}
+use Rattle.resolvo_queue.specs.WalkCounts.{HasNoneOf, WalksOnce, changed_from, owed, walks}
 use Rattle.resolvo_queue.specs.declared.requires_clause.RequiresClause.{RequiresClause}
 use Rattle.resolvo_queue.proofs.Clauses.Callers.{walks_within}
 use Rattle.resolvo_store.specs.Asked.{Asked, asked_of}
@@ -37,28 +37,28 @@ pub told_nothing : (a : Asked) → ToldNothing a a
 told_nothing a = record { trail = refl; must_start_anew = refl; floor = refl }
 
 pub owes_nothing : (own : Requirement) (a : Asked) → OwesFirst own a a
-owes_nothing own a = record { walks = λ r. refl; looks = λ r. refl; owed = λ r. inl refl; told = told_nothing a }
+owes_nothing own a = record { walks = λ r. refl; owed = λ r. inl refl; told = told_nothing a }
 
 pub walks_no_more : (a : Asked) → WalksNothing a a
-walks_no_more a = record { walks = λ r. refl; looks = λ r. refl; owed = λ r. refl; told = told_nothing a }
+walks_no_more a = record { walks = λ r. refl; owed = λ r. refl; told = told_nothing a }
 
 module _ {N Q : Type 0} (queue q : Queue N Q) (trail : Trail) where
   told_still : SameSync queue q → ToldNothing (asked_of queue trail) (asked_of q trail)
   told_still same = record { trail = same.trail; must_start_anew = same.must_start_anew; floor = refl }
 
   -- the queue was changed by a call that walks nothing
-  pub walks_still : SameSync queue q → SameValues (walks queue) (walks q) → SameValues (looks queue) (looks q) → SameValues (owed queue) (owed q) →
+  pub walks_still : SameSync queue q → SameValues (walks queue) (walks q) → SameValues (owed queue) (owed q) →
       WalksNothing (asked_of queue trail) (asked_of q trail)
-  walks_still same walked looked owes = record { walks = walked; looks = looked; owed = owes; told = told_still same }
+  walks_still same walked owes = record { walks = walked; owed = owes; told = told_still same }
 
   -- a clause was to be registered
   pub owes_registered : {T E : Type 0} (has : Q → N → Bool) (result : Result T E) (clause : RequiresClause) (names : List N) (value : Option Bool) →
-      OnOk result (IsRegistered has clause names value queue q) → OnErr result (IsUnchanged queue q has) → SameValues (walks queue) (walks q) → SameValues (looks queue) (looks q) →
+      OnOk result (IsRegistered has clause names value queue q) → OnErr result (IsUnchanged queue q has) → SameValues (walks queue) (walks q) →
       ((r : Requirement) → (owed q r ≡ owed queue r) ⊎ ((r ≡ clause.requirement) × (owed queue r ≡ 0) × (owed q r ≡ 1))) →
       OwesFirst clause.requirement (asked_of queue trail) (asked_of q trail)
-  owes_registered has (Ok x) clause names value registered same walked looked owes =
-      record { walks = walked; looks = looked; owed = owes; told = record { trail = registered.trail; must_start_anew = registered.must_start_anew; floor = refl } }
-  owes_registered has (Err e) clause names value registered same walked looked owes = record { walks = walked; looks = looked; owed = owes; told = told_still same.synced }
+  owes_registered has (Ok x) clause names value registered same walked owes =
+      record { walks = walked; owed = owes; told = record { trail = registered.trail; must_start_anew = registered.must_start_anew; floor = refl } }
+  owes_registered has (Err e) clause names value registered same walked owes = record { walks = walked; owed = owes; told = told_still same.synced }
 
 -- ---- a question
 
@@ -78,13 +78,12 @@ module _ {D N S A H Q : Type 0} {has : Q → N → Bool} {st : Store N S} {loade
 
   -- the queue was told of the trail, or that was refused
   pub asks_told : (floor : ℕ) (ds : List Decision) (q : Queue N Q) (t : Trail) → floor ≡ trail.floor → ds ≡ decisions_of trail.entries →
-      SameValues (walks queue) (walks q) → SameValues (looks queue) (looks q) → ((r : Requirement) → owed q r ≤ owed queue r + 1) →
+      SameValues (walks queue) (walks q) → ((r : Requirement) → owed q r ≤ owed queue r + 1) →
       (queue.must_start_anew ≡ false → (any : References N S A) → StandsOn any queue → (r : Requirement) → IsWalkable any.universe any.lists r →
       HasNoneOf (changed_from floor ds queue) (rows_in any r) → owed q r ≡ owed queue r) →
       AsksOnce st asked (asked_of q t)
-  asks_told floor ds q t at is_trail walked looked owes still = record {
+  asks_told floor ds q t at is_trail walked owes still = record {
     once = λ r. (let e = walked r in omega (arith, e));
-    looked_once = λ r. (let e = looked r in omega (arith, e));
     within = λ r. walks_within q.inside.requirements r;
     one_more = owes;
     owed_still = λ accepted. subst StillOwed (sym requires) (λ k d within none. this accepted k d within none);
@@ -108,10 +107,9 @@ module _ {D N S A H Q : Type 0} {has : Q → N → Bool} {st : Store N S} {loade
 
   -- then it was asked
   pub asks_walked : (q n : Queue N Q) (t t' : Trail) (log log' : List Requirement) → AsksOnce st asked (asked_of q t) → SameValues (walks queue) (walks q) →
-      SameValues (looks queue) (looks q) → ((r : Requirement) → looks n r ≤ looks q r + 1) → WalksOnce q.inside.requirements n.inside.requirements log log' → SameValues (owed q) (owed n) → AsksOnce st asked (asked_of n t')
-  asks_walked q n t t' log log' asks walked looked one_look once owes = record {
+      WalksOnce q.inside.requirements n.inside.requirements log log' → SameValues (owed q) (owed n) → AsksOnce st asked (asked_of n t')
+  asks_walked q n t t' log log' asks walked once owes = record {
     once = λ r. (let e = walked r in let more = once.walks r in let one = once.once r in omega (arith, e, more, one));
-    looked_once = λ r. (let e = looked r in let more = one_look r in omega (arith, e, more));
     within = λ r. walks_within n.inside.requirements r;
     one_more = λ r. (let e = owes r in let less = asks.one_more r in omega (arith, e, less));
     owed_still = λ accepted k d within none. owes _ ∙ asks.owed_still accepted k d within none;

@@ -4,7 +4,6 @@ use Rattle.std.specs.Prelude.{ℕ, Bool, List}
 use Rattle.providers.specs.declared.requirement.Requirement.{Requirement}
 use Rattle.decisions.specs.Trail.{Trail}
 use Rattle.decisions.specs.declared.decision.Decision.{Decision}
-use Rattle.resolvo_queue.specs.Occurrences.{times}
 use Rattle.resolvo_queue.specs.Queue.{Queue}
 use Rattle.resolvo_queue.specs.Parts.Records.{Record}
 use Rattle.resolvo_queue.specs.WalkCounts.{owed_in, walks_in}
@@ -12,8 +11,6 @@ use Rattle.resolvo_queue.specs.WalkCounts.{owed_in, walks_in}
 pub record Asked : Type 0 where
   -- for each requirement of a registered clause how often its rows were walked, and what is known of them
   pub records : List Record
-  -- the requirements whose rows were looked at for a witness, oldest first
-  pub looked : List Requirement
   -- the trail that the queue was last told of, and whether that was refused
   pub trail : List Decision
   pub must_start_anew : Bool
@@ -23,7 +20,6 @@ pub record Asked : Type 0 where
 abbrev pub asked_of : {N H : Type 0} → Queue N H → Trail → Asked
 asked_of q t = record {
   records = q.inside.requirements;
-  looked = q.witnesses.of.looks;
   trail = q.trail;
   must_start_anew = q.must_start_anew;
   floor = t.floor;
@@ -36,7 +32,3 @@ walks asked r = walks_in asked.records r
 -- and once more where nothing is known of them
 abbrev pub owed : Asked → Requirement → ℕ
 owed asked r = owed_in asked.records r
-
--- how often they were looked at for a witness
-abbrev pub looks : Asked → Requirement → ℕ
-looks asked r = times asked.looked r

@@ -2,6 +2,7 @@ pub mod Adding
 pub mod Asked
 pub mod Command
 pub mod CommandLaws
+pub mod Counted
 pub mod ForbidsTwo
 pub mod Helpers
 pub mod Keeping

@@ -2,7 +2,6 @@
 use Rattle.std.specs.Prelude.{◌≡◌, ◌≤◌, ℕ, Bool, false, List, map, length}
 use Rattle.decisions.specs.declared.decision.Decision.{Decision}
 use Rattle.decisions.specs.Trail.{Entry, Trail}
-use Rattle.resolvo_queue.specs.Clear.{RemembersWell}
 use Rattle.resolvo_queue.specs.Queue.{Queue, AgreesBelow, AreNamed, OnlyHotScore, StandsOn}
 use Rattle.resolvo_queue.specs.References.{References}
 
@@ -15,13 +14,11 @@ pub record IsInStep {N H : Type 0} (q : Queue N H) (t : Trail) : Type 0 where
   pub within : t.floor ≤ length t.entries
   pub agrees : q.must_start_anew ≡ false → AgreesBelow t.floor (decisions_of t.entries) q
 
--- the queue may be asked for a decision once it was brought up to date: what its clauses name is there, what it
--- remembers of a falsified clause is so of this trail, the names of each clause are its requirement's packages, and
--- only hot names have a score. has tells what sets of names have
+-- the queue may be asked for a decision once it was brought up to date: what its clauses name is there, the names of
+-- each clause are its requirement's packages, and only hot names have a score. has tells what sets of names have
 pub record MayAsk {N S A H : Type 0} (has : H → N → Bool) (scores : N → ℕ) (refs : References N S A) (q : Queue N H)
     (t : Trail) : Type 0 where
   pub in_step : IsInStep q t
   pub stands : StandsOn refs q
-  pub clear : RemembersWell refs (decisions_of t.entries) q
   pub named : AreNamed refs.universe q
   pub hot : OnlyHotScore has scores q

@@ -5,7 +5,7 @@ use Rattle.providers.specs.declared.requirement.Requirement.{Requirement}
 use Rattle.decisions.specs.Trail.{Entry}
 use Rattle.resolvo_queue.specs.Routing.{variables_of}
 use Rattle.resolvo_queue.specs.WalkCounts.{HasNoneOf}
-use Rattle.resolvo_store.specs.Asked.{Asked, looks, owed, walks}
+use Rattle.resolvo_store.specs.Asked.{Asked, owed, walks}
 use Rattle.resolvo_store.specs.Command.{Command, Requires, Bump, Standard, UndoLast, UndoUntil, Decide, Reply, Decided}
 use Rattle.resolvo_store.specs.Command.{NoDecision, Falsified}
 use Rattle.resolvo_store.specs.Store.{Store, rows_of}
@@ -20,14 +20,12 @@ pub record ToldNothing (old new : Asked) : Type 0 where
 -- no rows were read, and nothing more is owed
 pub record WalksNothing (old new : Asked) : Type 0 where
   pub walks : SameValues (walks old) (walks new)
-  pub looks : SameValues (looks old) (looks new)
   pub owed : SameValues (owed old) (owed new)
   pub told : ToldNothing old new
 
 -- nor was where a requires clause came, but that its requirement owes its first walk, if it owed none
 pub record OwesFirst (own : Requirement) (old new : Asked) : Type 0 where
   pub walks : SameValues (walks old) (walks new)
-  pub looks : SameValues (looks old) (looks new)
   pub owed : (r : Requirement) → (owed new r ≡ owed old r) ⊎ ((r ≡ own) × (owed old r ≡ 0) × (owed new r ≡ 1))
   pub told : ToldNothing old new
 
@@ -47,12 +45,10 @@ module _ {N S : Type 0} (st : Store N S) where
   changed_since asked =
       variables_of (drop asked.floor asked.trail) ++ variables_of (drop asked.floor (decisions_of st.trail))
 
-  -- a question walks no requirement twice, and none that owes no walk, and looks at none twice for a witness; it makes
-  -- each owe at most one walk more, and none whose rows have no variable that changed, unless the queue's last telling
-  -- was refused
+  -- a question walks no requirement twice, and none that owes no walk; it makes each owe at most one walk more, and none
+  -- whose rows have no variable that changed, unless the queue's last telling was refused
   pub record AsksOnce (old new : Asked) : Type 0 where
     pub once : (r : Requirement) → walks new r ≤ walks old r + 1
-    pub looked_once : (r : Requirement) → looks new r ≤ looks old r + 1
     pub within : (r : Requirement) → walks new r ≤ owed new r
     pub one_more : (r : Requirement) → owed new r ≤ owed old r + 1
     pub owed_still : old.must_start_anew ≡ false →

@@ -14,6 +14,7 @@
 //! - `store/watching.rt`: `Rewatch` and `Watchers`, which move a watch and tell who watches;
 //! - `store/saturating.rt`: `Saturate`, which assigns what clauses force;
 //! - `store/deciding.rt`: `Decide`, which changes nothing that is seen, and its two halves as calls of their own;
+//! - `store/counting.rt`: no commands, but how the counters of falsified clauses follow the trail;
 //! - `store/reading.rt`: no commands, but what is read beside the replies;
 //! - `store/known.rt`: no commands, but tests of what they name.
 //!
@@ -28,6 +29,7 @@ ghost use Rattle.resolvo_store.specs.Command.{reply_of, answer_of, IsRefused};
 
 mod adding;
 mod assigning;
+mod counting;
 mod deciding;
 mod known;
 mod loading;
@@ -41,6 +43,7 @@ mod watching;
 use crate::abstract_store::AbstractStore;
 use crate::command::Command;
 use crate::reply::Reply;
+use crate::store::counting::TrailCounters;
 use at_most_once::NameTrackers;
 use clauses::Disjunction;
 use decisions::DecisionTracker;
@@ -71,6 +74,8 @@ pub struct ClauseStore<D: DependencyProvider> {
     /// All clauses. Those of the kind `Requires` are in the queue too, under their ids.
     clauses: ClauseList<D::NameId, D::Alloc>,
     queue: DecideQueue<D>,
+    /// The clauses of the queue, by the same numbers, and which of them are falsified. No part of the abstract store.
+    falsified: TrailCounters<D::Alloc>,
     trail: DecisionTracker<D::Alloc>,
     /// From where on the trail a `Saturate` goes on. No part of the abstract store.
     marks: Marks<D::Alloc>,
@@ -123,7 +128,7 @@ impl<D: DependencyProvider> Model for ClauseStore<D> {
           trackers = a.trackers;
           scores = a.scores.map;
           asked = asked_of a.queue a.trail;
-        })) a.loaded a.disjunctions a.cache a.queue a.trail a.marks };
+        })) a.loaded a.disjunctions a.cache a.queue a.falsified a.trail a.marks };
 }
 
 impl<D: DependencyProvider + Drop> ClauseStore<D> {
@@ -154,6 +159,7 @@ impl<D: DependencyProvider + Drop> ClauseStore<D> {
             disjunctions: Arena::new(alloc),
             clauses,
             queue: DecideQueue::new(alloc),
+            falsified: TrailCounters::new(alloc),
             trail: DecisionTracker::new(alloc),
             marks: Marks::new(alloc),
             trackers: NameTrackers::new(alloc),

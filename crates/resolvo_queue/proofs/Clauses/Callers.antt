@@ -1,5 +1,4 @@
--- What a queue's clauses name stays there while other things come to it, and what it remembers stays so; and the values
--- of a trail.
+-- What a queue's clauses name stays there while other things come to it; and the values of a trail.
 use Rattle.std.proofs.Common.{◌≡◌, ℕ, zero, suc, ◌+◌, ◌<◌, ◌≤◌, Bool, true, false, cond, eqb, List, []}
 use Rattle.std.proofs.Common.{◌∷◌, ◌++◌, length, map, flat_map, Option, Some, None, is_some, slice_get}
 use Rattle.std.proofs.Common.{sym, ap, ◌∙◌, subst, refl, arith, length-append, Vec, unwrap_or}
@@ -14,10 +13,8 @@ use Rattle.providers.specs.declared.requirement.Requirement.{Requirement}
 use Rattle.clauses.specs.Clauses.{condition_literals}
 use Rattle.clauses.specs.Stored.{kept_in}
 use Rattle.clauses.specs.declared.disjunction.Disjunction.{Disjunction}
-use Rattle.resolvo_queue.specs.Clear.{IsClear, RemembersWell}
 use Rattle.resolvo_queue.specs.Pick.Inspection.{clause_of}
-use Rattle.resolvo_queue.specs.Laws.{RemembersLonger, RemembersNothing, RemembersWithDisjunction, RemembersWithLists}
-use Rattle.resolvo_queue.specs.Laws.{StandsWithDisjunction, StandsWithLast, StandsWithLists, ValuesOfEntries}
+use Rattle.resolvo_queue.specs.Laws.{StandsWithDisjunction, StandsWithLists, ValuesOfEntries}
 use Rattle.resolvo_queue.specs.Rows.Listing.{IsListedWell}
 use Rattle.resolvo_queue.specs.Parts.Names.{counts}
 use Rattle.resolvo_queue.specs.Occurrences.{HasAll, Listed}
@@ -30,15 +27,11 @@ use Rattle.resolvo_queue.specs.Parts.Records.{rows_in as rows_of_record}
 use Rattle.resolvo_queue.specs.WalkCounts.{owed_in, record_of, walks_in, walks_of}
 use Rattle.resolvo_queue.specs.declared.tracked_clause.TrackedClause.{TrackedClause}
 use Rattle.resolvo_queue.proofs.Picks.Registered.{all_tracked}
-use Rattle.resolvo_queue.proofs.Falsified.Clear.{clear_longer}
 use Rattle.resolvo_queue.proofs.Clauses.Entries.{looked_up}
-use Rattle.resolvo_queue.proofs.Falsified.Finding.{finds_with_disjunction}
 use Rattle.resolvo_queue.proofs.Rows.Listing.{candidate_has_lists}
 use Rattle.resolvo_queue.proofs.Rows.Occurrences.{same_is}
 use Rattle.resolvo_queue.proofs.Syncs.Queued.{grows_none}
-use Rattle.resolvo_queue.proofs.Falsified.Remembered.{clear_by, remembered_along, remembers_none}
 use Rattle.resolvo_queue.proofs.Syncs.Same.{finds_same, synced_same}
-use Rattle.resolvo_queue.proofs.Falsified.Witnesses.{candidates_with_lists}
 use Rattle.resolvo_queue.proofs.Lists.{differ}
 
 -- ---- walks
@@ -99,7 +92,6 @@ stands_with_disjunction refs q d stands =
           (counts (values_of q.trail) q.since q.inside.clauses) q.inside.requirements q.inside.requirements
           (λ p. ⊥) q.inside.queued q.inside.queued (λ n c e. refl) (λ k. refl) (λ k h. refl)
           (grows_none (λ p. ⊥) q.inside.queued) (stands.synced accepted);
-      falsified = finds_with_disjunction refs q d (λ n c e. sym (same n c e)) stands.falsified;
     }
 
 -- ---- lists of a requirement that had none
@@ -168,13 +160,6 @@ stands_with_lists {N} {S} {A} refs q r lists none stands =
           (counts (values_of q.trail) q.since q.inside.clauses) q.inside.requirements q.inside.requirements
           (λ p. ⊥) q.inside.queued q.inside.queued (λ n c e. refl) (λ k. refl) rows_same
           (grows_none (λ p. ⊥) q.inside.queued) (stands.synced accepted);
-      falsified = record {
-        candidates = candidates_with_lists refs.lists r lists none q.inside.occurrences q.witnesses.of
-            stands.falsified.candidates;
-        looked = stands.falsified.looked;
-        listed = stands.falsified.listed;
-        witnessed = stands.falsified.witnessed;
-      };
     }
   where
     rows_same : (k : ℕ) → is_some (known_at q.inside.requirements k) ≡ true →
@@ -190,62 +175,6 @@ stands_with_lists {N} {S} {A} refs q r lists none stands =
             ap (λ o. rows (sets_of refs.universe t.requirement) (lists_or_none o))
             (found_same refs.lists r lists none t.requirement
             (stands.listed.entries t.requirement (stands.listed.known k t e s)))
-
--- ---- what is remembered of a falsified clause
-
--- the same clauses by other references
-remembers_by : {N S A H : Type 0} (refs refs' : References N S A) (ds : List Decision) (q : Queue N H) →
-    ((n : ℕ) (c : TrackedClause) → slice_get q.inside.clauses n ≡ Some c →
-    (clause_literals refs' c ≡ clause_literals refs c) ×
-    (rows_in refs' c.requirement ≡ rows_in refs c.requirement)) →
-    RemembersWell refs ds q → RemembersWell refs' ds q
-remembers_by refs refs' ds q same =
-    remembered_along (IsClear refs ds q.inside.clauses q.witnesses.looked)
-    (IsClear refs' ds q.inside.clauses q.witnesses.looked) q.last q.last refl
-    (clear_by refs refs' ds q.inside.clauses q.witnesses.looked same)
-
-parts_of : {N S A H : Type 0} (refs : References N S A) (q : Queue N H) → StandsOn refs q →
-    (n : ℕ) (c : TrackedClause) → slice_get q.inside.clauses n ≡ Some c → HasParts refs (clause_of c)
-parts_of refs q stands = all_tracked (HasParts refs) q.inside.clauses
-    (subst (All (HasParts refs)) stands.clauses stands.parts)
-
-pub stands_with_last : {N S A H : Type 0} → StandsWithLast N S A H
-stands_with_last refs q last stands = record {
-  clauses = stands.clauses;
-  parts = stands.parts;
-  conditions = stands.conditions;
-  listed = stands.listed;
-  synced = stands.synced;
-  falsified = record {
-    candidates = stands.falsified.candidates;
-    looked = stands.falsified.looked;
-    listed = stands.falsified.listed;
-    witnessed = stands.falsified.witnessed;
-  };
-}
-
-pub remembers_nothing : {N S A H : Type 0} → RemembersNothing N S A H
-remembers_nothing refs ds q none = remembers_none (IsClear refs ds q.inside.clauses q.witnesses.looked) q.last none
-
-pub remembers_longer : {N S A H : Type 0} → RemembersLonger N S A H
-remembers_longer refs ds more q =
-    remembered_along (IsClear refs ds q.inside.clauses q.witnesses.looked)
-    (IsClear refs (ds ++ more) q.inside.clauses q.witnesses.looked) q.last q.last refl
-    (λ last. clear_longer refs ds more)
-
-pub remembers_with_disjunction : {N S A H : Type 0} → RemembersWithDisjunction N S A H
-remembers_with_disjunction refs ds q d stands =
-    remembers_by refs (references refs.universe refs.lists (refs.disjunctions ++ d ∷ [])) ds q
-    (λ n c e. (literals_still refs.disjunctions d c.condition (parts_of refs q stands n c e).disjunction, refl))
-
-pub remembers_with_lists : {N S A H : Type 0} → RemembersWithLists N S A H
-remembers_with_lists refs ds q r lists none stands =
-    remembers_by refs (references refs.universe (with_entry refs.lists r lists) refs.disjunctions) ds q
-    (λ n c e. (
-      refl,
-      ap (λ o. rows (sets_of refs.universe c.requirement) (lists_or_none o))
-          (found_same refs.lists r lists none c.requirement (parts_of refs q stands n c e).lists),
-    ))
 
 -- ---- trails
 

@@ -20,7 +20,6 @@ use Rattle.resolvo_queue.specs.Routing.Synced.{KeepsQueued}
 use Rattle.resolvo_queue.specs.Parts.Tracking.{Heats}
 use Rattle.resolvo_queue.specs.declared.parent_value.ParentValue.{ParentValue}
 use Rattle.resolvo_queue.specs.declared.tracked_clause.TrackedClause.{TrackedClause}
-use Rattle.resolvo_queue.proofs.Falsified.Finding.{finds_still, keeps_same}
 use Rattle.resolvo_queue.proofs.Lists.{at_mapped}
 
 module _ {N H : Type 0} (has : H → N → Bool) (q q' : Queue N H) (heats : Heats q.inside q'.inside)
@@ -48,9 +47,8 @@ module _ {N H : Type 0} (has : H → N → Bool) (q q' : Queue N H) (heats : Hea
   }
 
   pub stands_heated : {S A : Type 0} (refs : References N S A) → StandsOn refs q → q'.clauses ≡ q.clauses →
-      q'.trail ≡ q.trail → q'.must_start_anew ≡ q.must_start_anew →
-      q'.witnesses ≡ q.witnesses → StandsOn refs q'
-  stands_heated refs stands clauses trail anew witnesses = record {
+      q'.trail ≡ q.trail → q'.must_start_anew ≡ q.must_start_anew → StandsOn refs q'
+  stands_heated refs stands clauses trail anew = record {
     clauses = clauses ∙ (stands.clauses ∙ sym heats.clauses);
     parts = subst (All (HasParts refs)) (sym clauses) stands.parts;
     conditions = λ n c e l s. (let was = heats.finds (clause_literals refs) (λ d. refl) n c e in
@@ -67,9 +65,6 @@ module _ {N H : Type 0} (has : H → N → Bool) (q q' : Queue N H) (heats : Hea
         (heats.synced (clause_literals refs) (rows_in refs) (values_of q.trail)
         (counts (values_of q.trail) q.since q.inside.clauses) (λ d. refl) (λ d. refl)
         (stands.synced (sym anew ∙ accepted)));
-    falsified = finds_still refs q q' stands.falsified (ap (λ w. w.of) witnesses) (ap (λ w. w.looked) witnesses)
-        (keeps_same q.inside.occurrences q'.inside.occurrences heats.occurrences) anew trail
-        (ap (λ w. w.changed) witnesses) heats.clauses;
   }
 
 -- names of clauses that aren't hot stay cold where one more name is hot that they lack
@@ -98,10 +93,4 @@ stands_hot refs q hot stands = record {
   conditions = stands.conditions;
   listed = stands.listed;
   synced = stands.synced;
-  falsified = record {
-    candidates = stands.falsified.candidates;
-    looked = stands.falsified.looked;
-    listed = stands.falsified.listed;
-    witnessed = stands.falsified.witnessed;
-  };
 }

@@ -16,7 +16,6 @@ use Rattle.resolvo_queue.specs.Rows.{frontier}
 use Rattle.resolvo_queue.specs.Parts.Records.{Record, known_at, rows_at}
 use Rattle.resolvo_queue.specs.Parts.Tracking.{HasNoClause, IsFirstOf, IsInOrder, Tracking}
 use Rattle.resolvo_queue.specs.declared.tracked_clause.TrackedClause.{TrackedClause}
-use Rattle.resolvo_queue.proofs.Falsified.Finding.{finds_new}
 use Rattle.resolvo_queue.proofs.Clauses.Counts.{last_none}
 use Rattle.resolvo_queue.proofs.Lists.{stands_if_contains}
 
@@ -53,9 +52,8 @@ kept_new has q none lists empty names since = record {
 
 pub stands_new : {N S A H : Type 0} (refs : References N S A) (q : Queue N H) → q.clauses ≡ [] → q.inside.clauses ≡ [] →
     q.inside.requirements ≡ [] →
-    q.inside.occurrences.listed ≡ [] → q.inside.occurrences.by_variable ≡ [] → q.witnesses.of.entries ≡ [] →
-    q.witnesses.looked ≡ 0 → StandsOn refs q
-stands_new refs q whole none records listed lists of looked = record {
+    q.inside.occurrences.listed ≡ [] → q.inside.occurrences.by_variable ≡ [] → StandsOn refs q
+stands_new refs q whole none records listed lists = record {
   clauses = whole ∙ ap (map clause_of) (sym none);
   parts = subst (All (HasParts refs)) (sym whole) (All-nil (HasParts refs));
   conditions = λ n c e l s. no_clause q.inside.clauses _ none n c e;
@@ -71,7 +69,6 @@ stands_new refs q whole none records listed lists of looked = record {
     right = λ k. subst (λ ts.
         IfSome (known_at ts k) (λ f. f ≡ frontier (values_of q.trail) (rows_at (rows_in refs) ts k))) (sym records) tt;
   };
-  falsified = finds_new refs q none of looked;
 }
   where
     no_record : {P : Type 0} (t : Record) (k : ℕ) → ◌≡◌ {A = Option Record} None (Some t) → P

@@ -26,7 +26,6 @@ use Rattle.resolvo_queue.specs.declared.requires_clause.RequiresClause.{Requires
 use Rattle.resolvo_queue.specs.declared.tracked_clause.TrackedClause.{TrackedClause}
 use Rattle.resolvo_queue.proofs.Clauses.Counts.{counts_more, counts_new, last_more}
 use Rattle.resolvo_queue.proofs.Clauses.Entries.{earlier_or_last}
-use Rattle.resolvo_queue.proofs.Falsified.Finding.{finds_registered, finds_still, keeps_same}
 use Rattle.resolvo_queue.proofs.Clauses.Order.{refused_in_order, registers_in_order}
 use Rattle.resolvo_queue.proofs.Syncs.Queued.{grows_none}
 use Rattle.resolvo_queue.proofs.Syncs.NewClause.{registered_synced}
@@ -129,8 +128,8 @@ module _ {N H : Type 0} (has : H → N → Bool) (q q' : Queue N H) (clause : Re
     pub stands_registered : q'.clauses ≡ q.clauses ++ clause ∷ [] → q'.trail ≡ q.trail →
         q'.must_start_anew ≡ q.must_start_anew →
         literals ≡ literals_in refs clause.condition → HasParts refs clause → counted ≡ known_true value.value →
-        q'.witnesses ≡ q.witnesses → StandsOn refs q'
-    stands_registered clauses trail anew condition parts counts_as witnesses = record {
+        StandsOn refs q'
+    stands_registered clauses trail anew condition parts counts_as = record {
       clauses = clauses ∙ (ap (λ l. l ++ clause ∷ []) stands.clauses ∙
           (ap (λ c. map clause_of cs ++ c ∷ []) (sym registers.is)
           ∙ (sym (map-append clause_of cs (new ∷ [])) ∙ ap (map clause_of) (sym registers.clauses))));
@@ -139,9 +138,6 @@ module _ {N H : Type 0} (has : H → N → Bool) (q q' : Queue N H) (clause : Re
           find n c l s (earlier_or_last cs new n c (subst (λ xs. slice_get xs n ≡ Some c) registers.clauses e));
       listed = listed_gained refs.lists q.inside q'.inside registers.gains stands.listed;
       synced = λ accepted. again (stands.synced (sym anew ∙ accepted));
-      falsified = finds_registered refs q q' stands.falsified (ap (λ w. w.of) witnesses) (ap (λ w. w.looked) witnesses)
-          (keeps_same q.inside.occurrences q'.inside.occurrences registers.gains.occurrences) anew trail
-          (ap (λ w. w.changed) witnesses) new registers.clauses;
     }
       where
         find : (n : ℕ) (c : TrackedClause) (l : Lit) → Stands l (clause_literals refs c) →
@@ -199,18 +195,14 @@ module _ {N H : Type 0} (has : H → N → Bool) (q q' : Queue N H) (before : Is
   }
 
   pub stands_refused : {S A : Type 0} (refs : References N S A) → StandsOn refs q → q'.clauses ≡ q.clauses →
-      q'.trail ≡ q.trail → q'.must_start_anew ≡ q.must_start_anew →
-      q'.witnesses ≡ q.witnesses → StandsOn refs q'
-  stands_refused refs stands clauses trail anew witnesses = record {
+      q'.trail ≡ q.trail → q'.must_start_anew ≡ q.must_start_anew → StandsOn refs q'
+  stands_refused refs stands clauses trail anew = record {
     clauses = clauses ∙ (stands.clauses ∙ ap (map clause_of) (sym before.clauses));
     parts = subst (All (HasParts refs)) (sym clauses) stands.parts;
     conditions = λ n c e l s. before.gains.conditions (variable_of l) n
         (stands.conditions n c (subst (λ xs. slice_get xs n ≡ Some c) before.clauses e) l s);
     listed = listed_gained refs.lists q.inside q'.inside before.gains stands.listed;
     synced = λ accepted. again (stands.synced (sym anew ∙ accepted));
-    falsified = finds_still refs q q' stands.falsified (ap (λ w. w.of) witnesses) (ap (λ w. w.looked) witnesses)
-        (keeps_same q.inside.occurrences q'.inside.occurrences before.gains.occurrences) anew trail
-        (ap (λ w. w.changed) witnesses) (ap (map clause_of) before.clauses);
   }
     where
       val : Values

@@ -19,7 +19,7 @@ use Rattle.resolvo_queue.specs.Occurrences.{listing}
 use Rattle.resolvo_queue.specs.Members.{Stands}
 use Rattle.resolvo_queue.specs.Scan.Positions.{has}
 use Rattle.resolvo_queue.specs.Routing.Possible.{SameElsewhere}
-use Rattle.resolvo_queue.specs.Queue.{AgreesBelow, FindsFalsified, IsKept, Queue, StandsOn, values_of}
+use Rattle.resolvo_queue.specs.Queue.{AgreesBelow, IsKept, Queue, StandsOn, values_of}
 use Rattle.resolvo_queue.specs.Queue.{IsSynced as IsSyncedAt}
 use Rattle.resolvo_queue.specs.Parts.Queued.{GrowsBy, IsOfClause}
 use Rattle.resolvo_queue.specs.Pick.Questions.{clause_literals}
@@ -27,25 +27,21 @@ use Rattle.resolvo_queue.specs.Pick.Ready.{IsReady}
 use Rattle.resolvo_queue.specs.References.{CanWalk, HasParts, References, literals_in, rows_in}
 use Rattle.resolvo_queue.specs.Rows.{Row}
 use Rattle.resolvo_queue.specs.Routing.{OnlyForgets, variables_of}
-use Rattle.resolvo_queue.specs.Scan.{first_falsified}
 use Rattle.resolvo_queue.specs.Routing.Synced.{FindsAll, IsOneOf, KeepsQueued, SyncsTo, is_among}
 use Rattle.resolvo_queue.specs.Parts.Records.{IsPlaceOf, SameFound, Record, clauses_in, forgotten}
 use Rattle.resolvo_queue.specs.Parts.Tracking.{IsInOrder, Tracking}
 use Rattle.resolvo_queue.specs.Routing.Trails.{decided_value}
-use Rattle.resolvo_queue.specs.Falsified.Witnesses.{HaveEntries, NoneFalsified}
 use Rattle.resolvo_queue.specs.declared.parent_value.ParentValue.{ParentValue}
 use Rattle.resolvo_queue.specs.declared.tracked_clause.Position.{Position}
 use Rattle.resolvo_queue.specs.declared.tracked_clause.TrackedClause.{TrackedClause}
 use Rattle.resolvo_queue.proofs.Picks.Registered.{all_tracked, askable_tracked}
 use Rattle.resolvo_queue.proofs.Clauses.Counts.{counted_old, counted_since, counts_asked}
 use Rattle.resolvo_queue.proofs.Clauses.Counts.{counts_now, last_none, own_number}
-use Rattle.resolvo_queue.proofs.Falsified.Finding.{finds_behind, finds_synced, keeps_same}
 use Rattle.resolvo_queue.proofs.Rows.Listing.{listed_after_sync, lists_known}
 use Rattle.resolvo_queue.proofs.Syncs.Queued.{grows_none}
 use Rattle.resolvo_queue.proofs.Syncs.Same.{synced_same}
 use Rattle.resolvo_queue.proofs.Syncs.Routes.{routed_among, sync_parents, sync_values}
 use Rattle.resolvo_queue.proofs.Syncs.Trails.{below_only, decided_is, value-append, stands_in}
-use Rattle.resolvo_queue.proofs.Falsified.Witnesses.{none_asked_in}
 use Rattle.resolvo_queue.proofs.Lists.{differ, same_some}
 
 -- ---- after a sync
@@ -162,8 +158,8 @@ module _ {N S A H : Type 0} (has : H → N → Bool) (refs : References N S A) (
   still_stands : IsListedWell refs.lists q'.inside.occurrences q'.inside.requirements →
       (q'.must_start_anew ≡ false → KeepsQueued cs literals (rows_in refs) (values_of q'.trail)
       (counts (values_of q'.trail) q'.since cs) q'.inside.requirements q'.inside.queued) →
-      FindsFalsified refs q' → StandsOn refs q'
-  still_stands listed synced finds = record {
+      StandsOn refs q'
+  still_stands listed synced = record {
     clauses = whole ∙ (stands.clauses ∙ ap (map clause_of) (sym clauses));
     parts = subst (All (HasParts refs)) (sym whole) stands.parts;
     conditions = λ n c e l s. subst (λ lists. Stands n (list_at lists (variable_of l))) (sym by_condition)
@@ -172,21 +168,17 @@ module _ {N S A H : Type 0} (has : H → N → Bool) (refs : References N S A) (
     synced = λ accepted. subst (λ xs. KeepsQueued xs literals (rows_in refs) (values_of q'.trail)
         (counts (values_of q'.trail) q'.since xs) q'.inside.requirements q'.inside.queued) (sym clauses)
         (synced accepted);
-    falsified = finds;
   }
 
   -- a sync that is refused
   pub stands_behind : q'.inside.occurrences ≡ q.inside.occurrences →
-      OnlyForgets q.inside.requirements q'.inside.requirements → q'.must_start_anew ≡ true →
-      q'.witnesses.of ≡ q.witnesses.of → q'.witnesses.looked ≡ q.witnesses.looked → StandsOn refs q'
-  stands_behind occurrences only anew of looked =
+      OnlyForgets q.inside.requirements q'.inside.requirements → q'.must_start_anew ≡ true → StandsOn refs q'
+  stands_behind occurrences only anew =
       still_stands
       (subst (λ o. IsListedWell refs.lists o q'.inside.requirements) (sym occurrences)
       (listed_after_sync refs.lists q.inside.occurrences q.inside.requirements q'.inside.requirements
       only stands.listed))
       (λ accepted. absurd (differ (sym anew ∙ accepted)))
-      (finds_behind refs q q' stands.falsified of looked
-      (keeps_same q.inside.occurrences q'.inside.occurrences occurrences) clauses anew)
 
   module _ (floor f : ℕ) (entries : List Decision) (now : Values) (less : f ≤ floor)
       (agrees : q.must_start_anew ≡ false → AgreesBelow floor entries q)
@@ -266,11 +258,8 @@ module _ {N S A H : Type 0} (has : H → N → Bool) (refs : References N S A) (
         SyncsTo cs q.inside.by_parent q.inside.by_condition (listing q.inside.occurrences) q.must_start_anew
         (decided_value q.trail) now routed
         q.inside.requirements q'.inside.requirements q.inside.queued q'.inside.queued →
-        q'.trail ≡ entries → q'.since ≡ [] → q'.witnesses.of ≡ q.witnesses.of →
-        q'.witnesses.looked ≡ q.witnesses.looked →
-        (q.must_start_anew ≡ true → q'.witnesses.changed ≡ q.witnesses.changed ++ variables_of entries) →
-        (q.must_start_anew ≡ false → q'.witnesses.changed ≡ q.witnesses.changed ++ routed) → StandsOn refs q'
-    stands_synced occurrences only syncs trail since of looked anew changed =
+        q'.trail ≡ entries → q'.since ≡ [] → StandsOn refs q'
+    stands_synced occurrences only syncs trail since =
         still_stands
         (subst (λ o. IsListedWell refs.lists o q'.inside.requirements) (sym occurrences)
         (listed_after_sync refs.lists q.inside.occurrences q.inside.requirements q'.inside.requirements
@@ -278,11 +267,6 @@ module _ {N S A H : Type 0} (has : H → N → Bool) (refs : References N S A) (
         (λ accepted. subst (λ (x : List Decision × List ParentValue). KeepsQueued cs literals (rows_in refs)
         (values_of x.0) (counts (values_of x.0) x.1 cs) q'.inside.requirements q'.inside.queued)
         (λ i. (sym trail i, sym since i)) at_entries)
-        (finds_synced refs q q' stands.falsified of looked
-        (keeps_same q.inside.occurrences q'.inside.occurrences occurrences) routed entries now clauses
-        trail same_values
-        (λ accepted. subst (λ v. SameElsewhere (is_among routed) v now) (λ i x. decided_is q.trail x i)
-        (elsewhere accepted)) anew changed)
       where
         finds : FindsAll cs literals q.inside.by_parent q.inside.by_condition q.inside.requirements
         finds = record {
@@ -340,9 +324,8 @@ module _ {N S A H : Type 0} (has : H → N → Bool) (refs : References N S A) (
     -- and after it
     pub stands_asked : q'.trail ≡ q.trail → q'.since ≡ q.since →
         IsListedWell refs.lists q'.inside.occurrences q'.inside.requirements →
-        IsReady cs literals (rows_in refs) val q'.inside.requirements q'.inside.queued →
-        FindsFalsified refs q' → StandsOn refs q'
-    stands_asked trail since listed ready finds = still_stands listed
+        IsReady cs literals (rows_in refs) val q'.inside.requirements q'.inside.queued → StandsOn refs q'
+    stands_asked trail since listed ready = still_stands listed
         (λ accepted. subst (λ (x : List Decision × List ParentValue). KeepsQueued cs literals (rows_in refs)
         (values_of x.0) (counts (values_of x.0) x.1 cs) q'.inside.requirements q'.inside.queued)
         (λ i. (sym trail i, sym since i))
@@ -353,25 +336,6 @@ module _ {N S A H : Type 0} (has : H → N → Bool) (refs : References N S A) (
         counts_as (λ k. refl) (λ k h. refl) (grows_none (λ p. ⊥) q'.inside.queued)
         (subst (λ v. KeepsQueued cs literals (rows_in refs) v (λ c. known_true (v c.parent)) q'.inside.requirements
         q'.inside.queued) (sym same_values) ready.synced)))
-        finds
-
-pub entries_in : {N S A H : Type 0} (refs : References N S A) (q : Queue N H) → StandsOn refs q →
-    HaveEntries refs.lists refs.disjunctions q.inside.clauses
-entries_in refs q stands n c e =
-    let has = all_tracked (HasParts refs) q.inside.clauses
-    (subst (All (HasParts refs)) stands.clauses stands.parts) n c e in
-    (has.disjunction, has.lists)
-
--- where no clause is falsified, each that is asked has a candidate that isn't false
-pub none_asked_by : {N S A H : Type 0} (refs : References N S A) (q : Queue N H) (val : Values) → StandsOn refs q →
-    All (CanWalk refs) q.clauses →
-    first_falsified val (literals_in refs) (rows_in refs) q.clauses ≡ None →
-    NoneFalsified refs.lists q.inside.clauses (clause_literals refs) val
-none_asked_by refs q val stands walkable none =
-    none_asked_in refs val q.inside.clauses
-    (askable_tracked refs q.inside.clauses (subst (All (HasParts refs)) stands.clauses stands.parts)
-    (subst (All (CanWalk refs)) stands.clauses walkable))
-    (subst (λ cs. first_falsified val (literals_in refs) (rows_in refs) cs ≡ None) stands.clauses none)
 
 -- what always holds of what is kept, after a question
 pub order_asked : (t u : Tracking) (literals : TrackedClause → List Lit) (rows_of : Requirement → List Row)

@@ -98,6 +98,12 @@ read_at [] n x h e = absurd (omega arith)
 read_at (y ∷ ys) zero x h e = ap Some (sym e)
 read_at (y ∷ ys) (suc n) x h e = read_at ys n x (omega arith) e
 
+-- what was read in the list's slice
+pub read_in : (items slice : List TrackedClause) → slice ≡ items → (n : ℕ) (c : TrackedClause) →
+    true ≡ ltb n (length slice) → c ≡ get_or slice n c → slice_get items n ≡ Some c
+read_in items slice e n c within read = ap (λ cs. slice_get cs n) (sym e) ∙
+    read_at slice n c (ltb-true n (length slice) (sym within)) read
+
 -- a loop's step over all clauses
 module _ (clauses : List TrackedClause) (numbered : HaveNumbers clauses) (val : Values) (i : ℕ) (c : TrackedClause)
     (within : i < length clauses) (read : c ≡ get_or clauses i c)

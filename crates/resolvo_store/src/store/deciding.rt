@@ -3,12 +3,13 @@ ghost use Rattle.std.specs.Prelude.{◌≡◌, ◌↔◌, None, All, false, opti
 ghost use Rattle.typed_ids.specs.declared.error.StoreError.TheVariants.{OutOfMemory};
 ghost use Rattle.resolvo_queue.specs.Pick.{decided, DecidesUnbeaten};
 ghost use Rattle.resolvo_queue.specs.Scan.{scan};
+ghost use Rattle.resolvo_store.specs.Counted.{clause_at};
 
 use crate::abstract_store::AbstractStore;
 use crate::reply::Reply;
 use crate::store::ClauseStore;
 use providers::DependencyProvider;
-use resolvo_queue::{QueueDecision, RowReader};
+use resolvo_queue::{DecideQueue, QueueDecision, RowReader};
 use typed_ids::{ClauseId, StoreError};
 
 impl<D: DependencyProvider + Drop> ClauseStore<D> {
@@ -25,7 +26,7 @@ impl<D: DependencyProvider + Drop> ClauseStore<D> {
         ensures asked { let old = ⟦<D as AbstractStore>⟧.store self.old in
             Asks old Decide (answer_of result) old.trail self.old.asked self.new.asked }
     {
-        if let Some(clause) = self.find_falsified() {
+        if let Some(clause) = self.first_falsified() {
             return Ok(Reply::Falsified(clause));
         }
         match self.next_decision() {
@@ -36,8 +37,7 @@ impl<D: DependencyProvider + Drop> ClauseStore<D> {
     }
 
     /// The first falsified clause of the scan, if there is one: its parent is true, its condition is met, and all its
-    /// candidates are false. Takes no memory; linear in all registered clauses, and in the rows of those whose parents
-    /// are true, of each up to the first row that isn't false.
+    /// candidates are false. Takes no memory. It goes over all clauses that decide; a `Decide` asks counters instead.
     pub fn falsified(&self) -> Option<ClauseId>
         ensures { result ≡ option_map (λ c. c.clause_id) (falsified_clause (⟦<D as AbstractStore>⟧.store self.now)) }
     {
@@ -49,23 +49,16 @@ impl<D: DependencyProvider + Drop> ClauseStore<D> {
         )
     }
 
-    /// What [`ClauseStore::falsified`] answers, found by what the trail changed by since the last decision; or while
-    /// the clause that was answered last is falsified, since that answer. Takes no memory.
-    fn find_falsified(&mut self) -> Option<ClauseId>
+    /// What [`ClauseStore::falsified`] answers, by the counters, which catch up with the trail. Takes no memory.
+    fn first_falsified(&mut self) -> Option<ClauseId>
         ensures found { result ≡ option_map (λ c. c.clause_id)
             (falsified_clause (⟦<D as AbstractStore>⟧.store self.old)) }
         ensures same { ⟦<D as AbstractStore>⟧.store self.new ≡ ⟦<D as AbstractStore>⟧.store self.old }
         ensures provider { self.new.provider ≡ self.old.provider }
         ensures asked { self.new.asked ≡ self.old.asked }
     {
-        self.queue.find_falsified(
-            self.trail.sync_floor(),
-            self.trail.assignments(),
-            self.trail.map(),
-            &self.loaded,
-            &self.disjunctions,
-            self.cache.provider(),
-        )
+        let first = self.falsified.first(&self.trail);
+        id_at(&self.queue, first)
     }
 
     /// The decision that the scan picks, where nothing is falsified: [`ClauseStore::falsified`] is the test. It brings
@@ -86,8 +79,7 @@ impl<D: DependencyProvider + Drop> ClauseStore<D> {
         ensures provider { self.new.provider ≡ self.old.provider }
         ensures memory { IfErr result (λ e. e ≡ OutOfMemory) }
 
-        // No requirement is walked twice, or looked at twice for a witness, whatever the result; and the queue has this
-        // trail then, unless it was refused.
+        // No requirement is walked twice, whatever the result; and the queue has this trail then, unless it was refused.
         ensures asked { AsksOnce (⟦<D as AbstractStore>⟧.store self.old) self.old.asked self.new.asked }
         ensures told { OnOk result (IsTold (⟦<D as AbstractStore>⟧.store self.old).trail self.new.asked) }
     {
@@ -103,5 +95,15 @@ impl<D: DependencyProvider + Drop> ClauseStore<D> {
             self.scores.largest(),
             self.cache.provider(),
         )
+    }
+}
+
+/// The id of the registered clause with this number, if there is one.
+fn id_at<D: DependencyProvider>(queue: &DecideQueue<D>, number: Option<u32>) -> Option<ClauseId>
+    ensures { result ≡ option_map (λ c. c.clause_id) (clause_at queue.now.clauses number) }
+{
+    match number {
+        Some(number) => queue.clause_id(number),
+        None => None,
     }
 }

@@ -16,25 +16,27 @@ ghost use Rattle.clauses.specs.Clauses.{Kept, first_watches, is_conflict, condit
 ghost use Rattle.clauses.specs.Stored.{kept_in};
 ghost use Rattle.clauses.specs.declared.clause.Clause.TheVariants as Kind;
 ghost use Rattle.watch_map.specs.Watching.{AreTwoOrNone, is_literal_in};
-ghost use Rattle.decisions.specs.declared.decision.Decision.{Decision as ADecision};
-ghost use Rattle.resolvo_queue.specs.Clear.{RemembersWell};
+ghost use Rattle.falsified_clauses.specs.Clauses.{counted};
 ghost use Rattle.resolvo_queue.specs.Queue.{IsRegistered, IsUnchanged, StandsOn};
-ghost use Rattle.resolvo_queue.specs.References.{Lists, References, references};
-ghost use Rattle.resolvo_queue.specs.WalkCounts.{looks, owed, walks};
+ghost use Rattle.resolvo_queue.specs.References.{references};
+ghost use Rattle.resolvo_queue.specs.WalkCounts.{owed, walks};
 ghost use Rattle.watch_map.specs.ClauseList.{contents, literals_watched, two_or_none, is_full, with_clause};
 ghost use Rattle.resolvo_store.specs.Command.{DisjunctionIs, ClauseIs, reply_of};
+ghost use Rattle.resolvo_store.specs.Counted.{Follows, no_false, placed};
 ghost use Rattle.resolvo_store.specs.Lists.{lists_kept, disjunctions_kept, IsOneMore};
 
 use crate::abstract_store::AbstractStore;
 use crate::reply::Reply;
 use crate::store::ClauseStore;
+use crate::store::counting::TrailCounters;
 use crate::store::known::{knows_parts, knows_requirement, knows_variable};
 use crate::store::loading::lists;
 use clauses::{Clause, Disjunction};
 use decisions::{DecisionTracker, Literal};
+use falsified_clauses::{Demand, Position};
 use id_storage::Arena;
 use providers::{DependencyProvider, Interner, Requirement, RequirementMap};
-use resolvo_queue::DecideQueue;
+use resolvo_queue::{DecideQueue, Position as ScanPosition};
 use std::alloc::Allocator;
 use typed_ids::{
     ClauseId, ConditionId, DenseIndex, DisjunctionId, StoreError, VariableId, VersionSetId,
@@ -101,10 +103,11 @@ impl<D: DependencyProvider + Drop> ClauseStore<D> {
         if self.queue.is_full() {
             return Err(StoreError::TooManyClauses);
         }
+        let trail = &self.trail;
         let (watches, conflict, clause) = clause_of(
             &self.loaded,
             &self.disjunctions,
-            &self.trail,
+            trail,
             parent,
             requirement,
             &disjunction,
@@ -113,19 +116,25 @@ impl<D: DependencyProvider + Drop> ClauseStore<D> {
             parent,
             requirement,
             condition: disjunction,
-            parent_value: self.trail.assigned_value(parent),
-        };
-        let first = self.clauses.len();
-        let reply = register(
-            self.alloc,
-            &mut self.clauses,
-            &mut self.queue,
-            &self.disjunctions,
-            provider,
-            &required,
+            parent_value: trail.assigned_value(parent),
             clause,
             watches,
             conflict,
+        };
+        let context = Context {
+            alloc: self.alloc,
+            provider,
+            loaded: &self.loaded,
+            disjunctions: &self.disjunctions,
+            trail,
+        };
+        let first = self.clauses.len();
+        let reply = register(
+            &mut self.clauses,
+            &mut self.queue,
+            &mut self.falsified,
+            &context,
+            required,
         );
         self.clauses
             .forget_false_from(first, &mut self.marks, &self.trail);
@@ -255,72 +264,102 @@ fn keep_disjunction<A: Allocator + Copy>(
     Ok(Reply::Disjunction(id))
 }
 
-/// What a requires clause is registered with.
-#[derive(Clone, Copy)]
-struct Required {
+/// A requires clause that is to be added and registered.
+#[derive(Drop)]
+struct Required<N> {
     parent: VariableId,
     requirement: Requirement,
     condition: Option<DisjunctionId>,
     parent_value: Option<bool>,
-}
-
-/// Registers the clause under the next id, and adds it; the reply says whether it is a conflict. The room for it is
-/// made first.
-fn register<D: DependencyProvider + Drop>(
-    alloc: D::Alloc,
-    clauses: &mut ClauseList<D::NameId, D::Alloc>,
-    queue: &mut DecideQueue<D>,
-    disjunctions: &Arena<DisjunctionId, Disjunction<D::Alloc>, D::Alloc>,
-    provider: &D,
-    required: &Required,
-    clause: Clause<D::NameId>,
+    clause: Clause<N>,
     watches: Option<WatchedLiterals>,
     conflict: bool,
+}
+
+/// What a store has that the clause refers to, and its trail.
+#[derive(Drop)]
+struct Context<'s, D: DependencyProvider> {
+    alloc: D::Alloc,
+    provider: &'s D,
+    loaded: &'s RequirementMap<VariableLists<D::Alloc>, D::Alloc>,
+    disjunctions: &'s Arena<DisjunctionId, Disjunction<D::Alloc>, D::Alloc>,
+    trail: &'s DecisionTracker<D::Alloc>,
+}
+
+/// Registers the clause under the next id, counts it, and adds it; the reply says whether it is a conflict. The room
+/// for it is made first.
+fn register<D: DependencyProvider + Drop>(
+    clauses: &mut ClauseList<D::NameId, D::Alloc>,
+    queue: &mut DecideQueue<D>,
+    falsified: &mut TrailCounters<D::Alloc>,
+    context: &Context<'_, D>,
+    required: Required<D::NameId>,
 ) -> Result<Reply<D::Alloc>, StoreError>
-    requires known { knows_requirement (D.universe provider.now) required.now.requirement ≡ true }
-    requires kept { IfSome required.now.condition (λ d. d < length disjunctions.now) }
+    requires known { knows_requirement (D.universe context.now.provider.now) required.requirement ≡ true }
+    requires loaded { IsSome (lookup (same_requirement required.requirement) context.now.loaded.now) }
+    requires kept { IfSome required.condition (λ d. d < length context.now.disjunctions.now) }
+    requires counted { Follows falsified.old context.now.trail.now.entries (counted context.now.loaded.now
+        context.now.disjunctions.now (placed queue.old.clauses) no_false) }
     requires few { nat_le (2 ^ 32 - 1) (length queue.old.clauses) ≡ false }
-    requires two { AreTwoOrNone (two_or_none (literals_watched watches)) }
-    ensures reply { IfOk result (λ reply. reply_of reply ≡ ClauseIs (length (contents clauses.old).clauses) conflict) }
+    requires two { AreTwoOrNone (two_or_none (literals_watched required.watches)) }
+    ensures reply { IfOk result (λ reply. reply_of reply ≡
+        ClauseIs (length (contents clauses.old).clauses) required.conflict) }
     ensures added { OnOk result (contents clauses.new ≡
-        with_clause (contents clauses.old) clause (literals_watched watches)) }
+        with_clause (contents clauses.old) required.clause (literals_watched required.watches)) }
     ensures registered { OnOk result (IsRegistered D.NameId.Set.has
         (record {
-          parent = required.now.parent;
-          requirement = required.now.requirement;
-          condition = required.now.condition;
+          parent = required.parent;
+          requirement = required.requirement;
+          condition = required.condition;
           clause_id = length (contents clauses.old).clauses;
         })
-        (map (D.universe provider.now).set_name (sets_of (D.universe provider.now) required.now.requirement))
-        required.now.parent_value queue.old queue.new) }
+        (map (D.universe context.now.provider.now).set_name
+        (sets_of (D.universe context.now.provider.now) required.requirement))
+        required.parent_value queue.old queue.new) }
     ensures unadded { OnErr result (contents clauses.new ≡ contents clauses.old) }
     ensures unregistered { OnErr result (IsUnchanged queue.old queue.new D.NameId.Set.has) }
     ensures walks { SameValues (walks queue.old) (walks queue.new) }
-    ensures looks { SameValues (looks queue.old) (looks queue.new) }
     ensures owed { (r : ARequirement) → (owed queue.new r ≡ owed queue.old r)
-        ⊎ ((r ≡ required.now.requirement) × (owed queue.old r ≡ 0) × (owed queue.new r ≡ 1)) }
-    ensures stands { (lists : Lists D.Alloc) → IsSome (lookup (same_requirement required.now.requirement) lists) →
-        StandsOn (references (D.universe provider.now) lists disjunctions.now) queue.old →
-        StandsOn (references (D.universe provider.now) lists disjunctions.now) queue.new }
-    ensures clear { (refs : References D.NameId D.SolvableId D.Alloc) (ds : List ADecision) → StandsOn refs queue.old →
-        RemembersWell refs ds queue.old → RemembersWell refs ds queue.new }
+        ⊎ ((r ≡ required.requirement) × (owed queue.old r ≡ 0) × (owed queue.new r ≡ 1)) }
+    ensures stands { let refs = references (D.universe context.now.provider.now) context.now.loaded.now
+        context.now.disjunctions.now in StandsOn refs queue.old → StandsOn refs queue.new }
+    ensures counted { Follows falsified.new context.now.trail.now.entries (counted context.now.loaded.now
+        context.now.disjunctions.now (placed queue.new.clauses) no_false) }
     ensures refused { IfErr result (IsGrowthRefusal (is_full (contents clauses.old))) }
     ensures ids_out { IsTrue (is_full (contents clauses.old)) → result ≡ Err IdSpace }
 {
-    clauses.make_room(&watches)?;
-    let names = package_names(alloc, provider, required.requirement)?;
-    let next_id = ClauseId::from_index(clauses.len());
+    clauses.make_room(&required.watches)?;
+    let names = package_names(context.alloc, context.provider, required.requirement)?;
+    let demand = Demand {
+        parent: required.parent,
+        requirement: required.requirement,
+        condition: required.condition,
+    };
+    let groups = falsified.prepare(demand, context.loaded, context.disjunctions, context.trail)?;
+    let next = queue.next_position(required.parent);
     queue.register_clause(
         required.parent,
         required.requirement,
         required.condition,
-        next_id,
+        ClauseId::from_index(clauses.len()),
         names.as_slice(),
-        disjunctions,
+        context.disjunctions,
         required.parent_value,
     )?;
-    let id = clauses.push_reserved(clause, watches);
-    Ok(Reply::Clause(id, conflict))
+    falsified.add(groups, counted_position(next));
+    let id = clauses.push_reserved(required.clause, required.watches);
+    Ok(Reply::Clause(id, required.conflict))
+}
+
+/// A position of the queue, as the counters have it.
+fn counted_position(position: ScanPosition) -> Position
+    ensures first { result.first_of_parent ≡ position.first_of_parent }
+    ensures number { result.number ≡ position.number }
+{
+    Position {
+        first_of_parent: position.first_of_parent,
+        number: position.number,
+    }
 }
 
 /// The packages of a requirement's version sets, in order.

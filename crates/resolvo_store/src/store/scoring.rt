@@ -1,14 +1,12 @@
 //! The commands on scores: how active packages were in a search.
-ghost use Rattle.std.specs.Prelude.{◌≡◌, List, true, Err, IsTrue, IfOk, OnOk, OnErr, IfErr};
+ghost use Rattle.std.specs.Prelude.{◌≡◌, true, Err, IsTrue, IfOk, OnOk, OnErr, IfErr};
 ghost use Rattle.typed_ids.specs.Refusals.{IsGrowthRefusal};
 ghost use Rattle.typed_ids.specs.TotalMaps.{IsUpdate, SameValues};
 ghost use Rattle.typed_ids.specs.declared.error.StoreError.TheVariants.{IdSpace};
 ghost use Rattle.id_maps.specs.Scores.{bumped};
-ghost use Rattle.decisions.specs.declared.decision.Decision.{Decision as ADecision};
-ghost use Rattle.resolvo_queue.specs.Clear.{RemembersWell};
 ghost use Rattle.resolvo_queue.specs.Queue.{SameClauses, SameSync, StandsOn};
 ghost use Rattle.resolvo_queue.specs.References.{References};
-ghost use Rattle.resolvo_queue.specs.WalkCounts.{looks, owed, walks};
+ghost use Rattle.resolvo_queue.specs.WalkCounts.{owed, walks};
 ghost use Rattle.resolvo_store.specs.Command.{Done, reply_of};
 
 use crate::abstract_store::AbstractStore;
@@ -90,12 +88,9 @@ fn raise<D: DependencyProvider>(
     ensures clauses { SameClauses queue.old queue.new }
     ensures synced { SameSync queue.old queue.new }
     ensures walks { SameValues (walks queue.old) (walks queue.new) }
-    ensures looks { SameValues (looks queue.old) (looks queue.new) }
     ensures owed { SameValues (owed queue.old) (owed queue.new) }
     ensures stands { (refs : References D.NameId D.SolvableId D.Alloc) → StandsOn refs queue.old →
         StandsOn refs queue.new }
-    ensures clear { (refs : References D.NameId D.SolvableId D.Alloc) (ds : List ADecision) →
-        RemembersWell refs ds queue.old → RemembersWell refs ds queue.new }
     ensures refused { IfErr result (IsGrowthRefusal (D.NameId.Slots.is_too_large name)) }
     ensures too_large { IsTrue (D.NameId.Slots.is_too_large name) → result ≡ Err IdSpace }
 {

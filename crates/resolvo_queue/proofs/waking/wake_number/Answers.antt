@@ -1,8 +1,7 @@
 use Rattle.std.proofs.Common.{◌∙◌, ap, slice_get, sym}
 use Rattle.decisions.specs.Decisions.{values_in}
 use Rattle.resolvo_queue.specs.Parts.Queued.{IsOfClause}
-use Rattle.resolvo_queue.proofs.Falsified.Looks.{read_in}
-use Rattle.resolvo_queue.proofs.Syncs.Queued.{grows_none, none_past, none_woken, number_grows, number_woken}
+use Rattle.resolvo_queue.proofs.Syncs.Queued.{grows_none, none_past, none_woken, number_grows, number_woken, read_in}
 use Rattle.resolvo_queue.proofs.waking.wake_number.Goals as goal
 
 pub returns-in-Some-clause-grows : goal.returns-in-Some-clause-grows

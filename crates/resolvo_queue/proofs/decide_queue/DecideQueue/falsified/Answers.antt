@@ -4,16 +4,16 @@ use Rattle.decisions.specs.Decisions.{values_in}
 use Rattle.resolvo_queue.specs.Falsified.{FindsFirst, is_falsified_in}
 use Rattle.resolvo_queue.specs.Queue.{Queue, StandsOn, queue_of}
 use Rattle.resolvo_queue.specs.References.{CanWalk, literals_in, references, rows_in}
-use Rattle.resolvo_queue.specs.Scan.{first_falsified}
+use Rattle.resolvo_queue.specs.Scan.{first_falsified, is_falsified}
 use Rattle.resolvo_queue.proofs.Picks.Registered.{askable_tracked}
-use Rattle.resolvo_queue.proofs.Falsified.Looks.{id_of_all}
+use Rattle.resolvo_queue.proofs.Falsified.Scanned.{first_id}
 use Rattle.resolvo_queue.proofs.decide_queue.DecideQueue.falsified.Goals as goal
 
 pub falsified_clause-requires : goal.falsified_clause-requires
 falsified_clause-requires g c =
     let inside = c.self.inside in
     let before : Queue g.row.D-NameId.Denot g.row.D-NameId-Set.Denot =
-    queue_of inside.tracked inside.names.items inside.hot_names inside.since.items inside.witnesses in
+    queue_of inside.tracked inside.names.items inside.hot_names inside.since.items in
     let refs = references (g.D.Interner.universe c.args.provider.now) c.args.lists.now c.args.disjunctions.now in
     let stands : StandsOn refs before = subst (StandsOn refs) (sym c.self.view_is) c.requires.stands in
     record {
@@ -28,9 +28,9 @@ returns g c =
     let inside = c.self.inside in
     let refs = references (g.D.Interner.universe c.args.provider.now) c.args.lists.now c.args.disjunctions.now in
     let val = values_in c.args.map.now in
-    let first = subst (λ cs. FindsFirst cs (is_falsified_in refs val) c.falsified_clause.result)
-    c.as_slice.ensures.value c.falsified_clause.ensures in
-    c.id_of.ensures ∙ id_of_all refs val inside.tracked.index.clauses.items c.self.invariant.0.order.located
-    c.falsified_clause.result first (λ n d is held. tt)
+    c.id_of.ensures ∙ first_id inside.tracked.index.clauses.items c.self.invariant.0.order.located
+    (is_falsified val (literals_in refs) (rows_in refs)) c.falsified_clause.result
+    (subst (λ cs. FindsFirst cs (is_falsified_in refs val) c.falsified_clause.result) c.as_slice.ensures.value
+    c.falsified_clause.ensures)
     ∙ ap (λ (q : Queue g.row.D-NameId.Denot g.row.D-NameId-Set.Denot).
     option_map (λ d. d.clause_id) (first_falsified val (literals_in refs) (rows_in refs) q.clauses)) c.self.view_is

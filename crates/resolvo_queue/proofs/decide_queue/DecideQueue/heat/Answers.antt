@@ -5,17 +5,15 @@ use Rattle.resolvo_queue.specs.Members.{Stands}
 use Rattle.resolvo_queue.specs.Queue.{Queue, StandsOn, queue_of}
 use Rattle.resolvo_queue.proofs.Clauses.Heated.{kept_heated, stands_heated}
 use Rattle.resolvo_queue.proofs.Clauses.ByName.{entered_lacks}
-use Rattle.resolvo_queue.specs.Clear.{IsClear, RemembersWell}
-use Rattle.resolvo_queue.proofs.Falsified.Remembered.{clear_still, remembered_along}
 use Rattle.resolvo_queue.proofs.decide_queue.DecideQueue.heat.Goals as goal
 
 pub invariant_of-self : goal.invariant_of-self
 invariant_of-self g c =
     let inside = c.self.inside in
     let before : Queue g.row.D-NameId.Denot g.row.D-NameId-Set.Denot =
-    queue_of inside.tracked inside.names.items inside.hot_names inside.since.items inside.witnesses in
+    queue_of inside.tracked inside.names.items inside.hot_names inside.since.items in
     let after : Queue g.row.D-NameId.Denot g.row.D-NameId-Set.Denot =
-    queue_of c.heat_clauses.new.self inside.names.items inside.hot_names inside.since.items inside.witnesses in (
+    queue_of c.heat_clauses.new.self inside.names.items inside.hot_names inside.since.items in (
       kept_heated g.D.NameId.Set.IdSet.has before after c.heat_clauses.ensures.heats refl c.self.invariant.0 refl refl,
       c.self.invariant.1,
     )
@@ -24,20 +22,20 @@ pub returns-clause-stands : goal.returns-clause-stands
 returns-clause-stands g c =
     let inside = c.self.inside in
     let before : Queue g.row.D-NameId.Denot g.row.D-NameId-Set.Denot =
-    queue_of inside.tracked inside.names.items inside.hot_names inside.since.items inside.witnesses in
+    queue_of inside.tracked inside.names.items inside.hot_names inside.since.items in
     let after : Queue g.row.D-NameId.Denot g.row.D-NameId-Set.Denot =
-    queue_of c.heat_clauses.new.self inside.names.items inside.hot_names inside.since.items inside.witnesses in
+    queue_of c.heat_clauses.new.self inside.names.items inside.hot_names inside.since.items in
     λ refs s. stands_heated g.D.NameId.Set.IdSet.has before after c.heat_clauses.ensures.heats refl refs
     (subst (StandsOn refs) (sym c.self.view_is) s)
     c.heat_clauses.ensures.heats.clauses (ap (λ t. t.items) c.heat_clauses.ensures.same.1)
-    c.heat_clauses.ensures.same.2 refl
+    c.heat_clauses.ensures.same.2
 
 -- the clauses that have the name are found by it
 pub returns-clause-lacks : goal.returns-clause-lacks
 returns-clause-lacks g c =
     let inside = c.self.inside in
     let after : Queue g.row.D-NameId.Denot g.row.D-NameId-Set.Denot =
-    queue_of c.heat_clauses.new.self inside.names.items inside.hot_names inside.since.items inside.witnesses in
+    queue_of c.heat_clauses.new.self inside.names.items inside.hot_names inside.since.items in
     on_ok_weaker c.heat_clauses.result
     (λ hot fits. entered_lacks g.D.NameId.Slots.IdMap.is_too_large
     (numbers_under g.D.NameId.Slots.IdMap.value_at inside.by_name) after.names after.inside.clauses c.args.name
@@ -52,21 +50,3 @@ returns-clause-fits g c = λ large. c.heat_clauses.ensures.none
 pub returns-clause-records : goal.returns-clause-records
 returns-clause-records g c = c.heat_clauses.ensures.heats.requirements ∙
     ap (λ (q : Queue g.row.D-NameId.Denot g.row.D-NameId-Set.Denot). q.inside.requirements) c.self.view_is
-
-pub returns-clause-witnesses : goal.returns-clause-witnesses
-returns-clause-witnesses g c =
-    ap (λ (q : Queue g.row.D-NameId.Denot g.row.D-NameId-Set.Denot). q.witnesses) c.self.view_is
-
-pub returns-clause-clear : goal.returns-clause-clear
-returns-clause-clear g c =
-    let inside = c.self.inside in
-    let before : Queue g.row.D-NameId.Denot g.row.D-NameId-Set.Denot =
-    queue_of inside.tracked inside.names.items inside.hot_names inside.since.items inside.witnesses in
-    let heats = c.heat_clauses.ensures.heats in
-    let now = c.heat_clauses.new.self.index.clauses.items in
-    let order = c.self.invariant.0.order in
-    λ refs ds h. remembered_along (IsClear refs ds before.inside.clauses before.witnesses.looked)
-    (IsClear refs ds now before.witnesses.looked) before.last before.last refl
-    (λ last is. clear_still before.inside.clauses now heats.clauses order.located
-    (heats.in_order order).located refs ds before.witnesses.looked last is)
-    (subst (RemembersWell refs ds) (sym c.self.view_is) h)

@@ -3,14 +3,13 @@ use Rattle.std.proofs.Common.{sym, subst, arith}
 use Rattle.resolvo_queue.specs.Parts.Names.{ColdLack}
 use Rattle.resolvo_queue.specs.Queue.{Queue, StandsOn, queue_of}
 use Rattle.resolvo_queue.proofs.Clauses.Heated.{cold_still, fits_if_ok, kept_hot, stands_hot}
-use Rattle.resolvo_queue.specs.Clear.{RemembersWell}
 use Rattle.resolvo_queue.proofs.decide_queue.DecideQueue.mark_name_hot.Goals as goal
 
 pub returns-in_err-insert-clause-stands : goal.returns-in_err-insert-clause-stands
 returns-in_err-insert-clause-stands g c =
     let inside = c.self.inside in
     let before : Queue g.row.D-NameId.Denot g.row.D-NameId-Set.Denot =
-    queue_of inside.tracked inside.names.items inside.hot_names inside.since.items inside.witnesses in
+    queue_of inside.tracked inside.names.items inside.hot_names inside.since.items in
     λ refs s. stands_hot refs before c.insert.new.self
     (subst (StandsOn refs) (sym c.self.view_is) (c.heat.ensures.stands refs s))
 
@@ -19,7 +18,7 @@ invariant_of-self-2 g c =
     let inside = c.self.inside in
     let has = g.D.NameId.Set.IdSet.has in
     let before : Queue g.row.D-NameId.Denot g.row.D-NameId-Set.Denot =
-    queue_of inside.tracked inside.names.items inside.hot_names inside.since.items inside.witnesses in (
+    queue_of inside.tracked inside.names.items inside.hot_names inside.since.items in (
       kept_hot has before c.insert.new.self c.self.invariant.0
           (cold_still (has inside.hot_names) (has c.insert.new.self) c.args.name before.names before.inside.clauses
           c.in_ok-insert.ensures.ok c.self.invariant.0.cold
@@ -35,7 +34,7 @@ pub returns-clause-stands : goal.returns-clause-stands
 returns-clause-stands g c =
     let inside = c.self.inside in
     let before : Queue g.row.D-NameId.Denot g.row.D-NameId-Set.Denot =
-    queue_of inside.tracked inside.names.items inside.hot_names inside.since.items inside.witnesses in
+    queue_of inside.tracked inside.names.items inside.hot_names inside.since.items in
     λ refs s. stands_hot refs before c.insert.new.self
     (subst (StandsOn refs) (sym c.self.view_is) (c.heat.ensures.stands refs s))
 
@@ -44,11 +43,3 @@ returns-in_err-insert-clause-err g c = grind (arith, common_steps)
 
 pub returns-clause-ok : goal.returns-clause-ok
 returns-clause-ok g c = grind (arith, common_steps)
-
-pub returns-in_err-insert-clause-clear : goal.returns-in_err-insert-clause-clear
-returns-in_err-insert-clause-clear g c =
-    λ refs ds h. subst (RemembersWell refs ds) (sym c.self.view_is) (c.heat.ensures.clear refs ds h)
-
-pub returns-clause-clear : goal.returns-clause-clear
-returns-clause-clear g c = λ refs ds h. subst (RemembersWell refs ds) (sym c.self.view_is)
-    (c.heat.ensures.clear refs ds h)

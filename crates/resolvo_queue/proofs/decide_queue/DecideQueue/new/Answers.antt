@@ -1,7 +1,6 @@
 use Rattle.std.proofs.Common.{ap, map}
 use Rattle.resolvo_queue.specs.Parts.ByName.{numbers_under}
 use Rattle.resolvo_queue.specs.Pick.Inspection.{clause_of}
-use Rattle.resolvo_queue.specs.Occurrences.{times}
 use Rattle.resolvo_queue.specs.Queue.{Queue, queue_of}
 use Rattle.resolvo_queue.proofs.Clauses.ByName.{entered_none}
 use Rattle.resolvo_queue.proofs.Clauses.New.{kept_new, stands_new}
@@ -10,7 +9,7 @@ use Rattle.resolvo_queue.proofs.decide_queue.DecideQueue.new.Goals as goal
 pub invariant_of-result : goal.invariant_of-result
 invariant_of-result g c =
     let made : Queue g.row.D-NameId.Denot g.row.D-NameId-Set.Denot =
-    queue_of c.new.result c.new-2.result.items c.new-4.result c.new-5.result.items c.new-6.result in
+    queue_of c.new.result c.new-2.result.items c.new-4.result c.new-5.result.items in
     let names = c.new-2.ensures in (
       kept_new g.D.NameId.Set.IdSet.has made c.new.ensures.clauses c.new.ensures.by_parent c.new.ensures.queued names
           c.new-5.ensures.items,
@@ -21,10 +20,6 @@ invariant_of-result g c =
 pub returns-clause-stands : goal.returns-clause-stands
 returns-clause-stands g c =
     let made : Queue g.row.D-NameId.Denot g.row.D-NameId-Set.Denot =
-    queue_of c.new.result c.new-2.result.items c.new-4.result c.new-5.result.items c.new-6.result in
+    queue_of c.new.result c.new-2.result.items c.new-4.result c.new-5.result.items in
     λ refs. stands_new refs made (ap (map clause_of) c.new.ensures.clauses) c.new.ensures.clauses
-    c.new.ensures.requirements c.new.ensures.listed c.new.ensures.by_variable c.new-6.ensures.of
-    c.new-6.ensures.looked
-
-pub returns-clause-looks : goal.returns-clause-looks
-returns-clause-looks g c = λ r. ap (λ log. times log r) c.new-6.ensures.looks
+    c.new.ensures.requirements c.new.ensures.listed c.new.ensures.by_variable

@@ -1,6 +1,6 @@
 use Rattle.std.proofs.lemmas.Grind.{common_steps}
 use Rattle.std.proofs.Common.{◌≡◌, ◌⊎◌, inl, arith, ◌<◌, ◌^◌, ◌-◌, [], ◌∷◌, ◌++◌}
-use Rattle.std.proofs.Common.{map, length, IfSome, sym, ap, refl, subst, ◌∙◌}
+use Rattle.std.proofs.Common.{map, length, sym, ap, refl, subst, ◌∙◌}
 use Rattle.std.proofs.lemmas.List.{length-map}
 use Rattle.resolvo_queue.specs.Parts.ByName.{IsEntered, numbers_under}
 use Rattle.resolvo_queue.specs.Pick.Inspection.{clause_of}
@@ -12,8 +12,6 @@ use Rattle.resolvo_queue.proofs.Clauses.Synced.{kept_still}
 use Rattle.resolvo_queue.proofs.Clauses.ByName.{entered_last, entered_still}
 use Rattle.resolvo_queue.proofs.Clauses.Registration.{kept_refused, kept_registered, not_full}
 use Rattle.resolvo_queue.proofs.Clauses.Registration.{registered_whole, stands_refused, stands_registered}
-use Rattle.resolvo_queue.specs.Clear.{IsClear, RemembersWell}
-use Rattle.resolvo_queue.proofs.Falsified.Remembered.{clear_registered, remembered_along}
 use Rattle.resolvo_queue.proofs.decide_queue.DecideQueue.register_clause.Goals as goal
 
 pub overflow_cast-number : goal.overflow_cast-number
@@ -31,9 +29,9 @@ pub invariant_of-self-in_err-enter : goal.invariant_of-self-in_err-enter
 invariant_of-self-in_err-enter g c =
     let inside = c.self.inside in
     let before : Queue g.row.D-NameId.Denot g.row.D-NameId-Set.Denot =
-    queue_of inside.tracked inside.names.items inside.hot_names inside.since.items inside.witnesses in
+    queue_of inside.tracked inside.names.items inside.hot_names inside.since.items in
     let after : Queue g.row.D-NameId.Denot g.row.D-NameId-Set.Denot =
-    queue_of inside.tracked inside.names.items inside.hot_names c.reserve.new.self.items inside.witnesses in
+    queue_of inside.tracked inside.names.items inside.hot_names c.reserve.new.self.items in
     let under = numbers_under g.D.NameId.Slots.IdMap.value_at in (
       kept_still g.D.NameId.Set.IdSet.has before after c.self.invariant.0 c.self.invariant.0.order refl refl refl
           (inl c.reserve.ensures.items),
@@ -45,10 +43,9 @@ pub invariant_of-self-in_err-register : goal.invariant_of-self-in_err-register
 invariant_of-self-in_err-register g c =
     let inside = c.self.inside in
     let before : Queue g.row.D-NameId.Denot g.row.D-NameId-Set.Denot =
-    queue_of inside.tracked inside.names.items inside.hot_names inside.since.items inside.witnesses in
+    queue_of inside.tracked inside.names.items inside.hot_names inside.since.items in
     let after : Queue g.row.D-NameId.Denot g.row.D-NameId-Set.Denot =
-    queue_of c.register.new.self inside.names.items inside.hot_names c.reserve.new.self.items
-    inside.witnesses in
+    queue_of c.register.new.self inside.names.items inside.hot_names c.reserve.new.self.items in
     let under = numbers_under g.D.NameId.Slots.IdMap.value_at in (
       kept_refused g.D.NameId.Set.IdSet.has before after c.in_err-register.ensures.err c.reserve.ensures.items
           c.self.invariant.0 refl refl,
@@ -60,23 +57,21 @@ pub returns-in_err-register-clause-stands : goal.returns-in_err-register-clause-
 returns-in_err-register-clause-stands g c =
     let inside = c.self.inside in
     let before : Queue g.row.D-NameId.Denot g.row.D-NameId-Set.Denot =
-    queue_of inside.tracked inside.names.items inside.hot_names inside.since.items inside.witnesses in
+    queue_of inside.tracked inside.names.items inside.hot_names inside.since.items in
     let after : Queue g.row.D-NameId.Denot g.row.D-NameId-Set.Denot =
-    queue_of c.register.new.self inside.names.items inside.hot_names c.reserve.new.self.items
-    inside.witnesses in
+    queue_of c.register.new.self inside.names.items inside.hot_names c.reserve.new.self.items in
     λ universe lists has s. (let refs = references universe lists c.args.disjunctions.now in
     stands_refused g.D.NameId.Set.IdSet.has before after c.in_err-register.ensures.err c.reserve.ensures.items refs
     (subst (StandsOn refs) (sym c.self.view_is) s) (ap (map clause_of) c.in_err-register.ensures.err.clauses)
-    (ap (λ t. t.items) c.register.ensures.same.1) c.register.ensures.same.2 refl)
+    (ap (λ t. t.items) c.register.ensures.same.1) c.register.ensures.same.2)
 
 pub invariant_of-self-2 : goal.invariant_of-self-2
 invariant_of-self-2 g c =
     let inside = c.self.inside in
     let before : Queue g.row.D-NameId.Denot g.row.D-NameId-Set.Denot =
-    queue_of inside.tracked inside.names.items inside.hot_names inside.since.items inside.witnesses in
+    queue_of inside.tracked inside.names.items inside.hot_names inside.since.items in
     let after : Queue g.row.D-NameId.Denot g.row.D-NameId-Set.Denot =
-    queue_of c.register.new.self c.and-self-inside.result.items inside.hot_names c.push_reserved.new.self.items
-    inside.witnesses in
+    queue_of c.register.new.self c.and-self-inside.result.items inside.hot_names c.push_reserved.new.self.items in
     let few : length inside.tracked.index.clauses.items < 2 ^ 32 - 1 =
     not_full c.is_full.result (length c.args.self.now.clauses)
     (length inside.tracked.index.clauses.items) c.if-is_full.false c.is_full.ensures
@@ -108,10 +103,9 @@ pub returns-clause-ok : goal.returns-clause-ok
 returns-clause-ok g c =
     let inside = c.self.inside in
     let before : Queue g.row.D-NameId.Denot g.row.D-NameId-Set.Denot =
-    queue_of inside.tracked inside.names.items inside.hot_names inside.since.items inside.witnesses in
+    queue_of inside.tracked inside.names.items inside.hot_names inside.since.items in
     let after : Queue g.row.D-NameId.Denot g.row.D-NameId-Set.Denot =
-    queue_of c.register.new.self c.and-self-inside.result.items inside.hot_names c.push_reserved.new.self.items
-    inside.witnesses in
+    queue_of c.register.new.self c.and-self-inside.result.items inside.hot_names c.push_reserved.new.self.items in
     let clause : RequiresClause = record {
       parent = c.args.parent;
       requirement = c.args.requirement;
@@ -135,10 +129,9 @@ pub returns-clause-stands : goal.returns-clause-stands
 returns-clause-stands g c =
     let inside = c.self.inside in
     let before : Queue g.row.D-NameId.Denot g.row.D-NameId-Set.Denot =
-    queue_of inside.tracked inside.names.items inside.hot_names inside.since.items inside.witnesses in
+    queue_of inside.tracked inside.names.items inside.hot_names inside.since.items in
     let after : Queue g.row.D-NameId.Denot g.row.D-NameId-Set.Denot =
-    queue_of c.register.new.self c.and-self-inside.result.items inside.hot_names c.push_reserved.new.self.items
-    inside.witnesses in
+    queue_of c.register.new.self c.and-self-inside.result.items inside.hot_names c.push_reserved.new.self.items in
     let clause : RequiresClause = record {
       parent = c.args.parent;
       requirement = c.args.requirement;
@@ -155,7 +148,7 @@ returns-clause-stands g c =
     (registered_whole clause c.has_hot_name-is_hot.result c.is_true.result c.condition_of-literals.result.now
     before.inside after.inside c.in_ok-register.ensures.ok)
     (ap (λ t. t.items) c.register.ensures.same.1) c.register.ensures.same.2 c.condition_of-literals.ensures
-    (record { lists = has; disjunction = c.requires }) c.is_true.ensures refl)
+    (record { lists = has; disjunction = c.requires }) c.is_true.ensures)
 
 pub returns-in_err-register-clause-walks : goal.returns-in_err-register-clause-walks
 returns-in_err-register-clause-walks g c = λ r. c.register.ensures.owes.walks r ∙
@@ -199,26 +192,3 @@ register-requires-clause-order g c = grind (arith, common_steps)
 
 pub register-requires-clause-few : goal.register-requires-clause-few
 register-requires-clause-few g c = grind (arith, common_steps)
-
-pub returns-in_err-register-clause-clear : goal.returns-in_err-register-clause-clear
-returns-in_err-register-clause-clear g c =
-    let inside = c.self.inside in
-    let before : Queue g.row.D-NameId.Denot g.row.D-NameId-Set.Denot =
-    queue_of inside.tracked inside.names.items inside.hot_names inside.since.items inside.witnesses in
-    λ refs ds s h. subst (λ cs. IfSome before.last (IsClear refs ds cs before.witnesses.looked))
-    (sym c.in_err-register.ensures.err.clauses)
-    (subst (RemembersWell refs ds) (sym c.self.view_is) h)
-
-pub returns-clause-clear : goal.returns-clause-clear
-returns-clause-clear g c =
-    let inside = c.self.inside in
-    let before : Queue g.row.D-NameId.Denot g.row.D-NameId-Set.Denot =
-    queue_of inside.tracked inside.names.items inside.hot_names inside.since.items inside.witnesses in
-    let registers = c.in_ok-register.ensures.ok in
-    let now = c.register.new.self.index.clauses.items in
-    λ refs ds s h. remembered_along (IsClear refs ds before.inside.clauses before.witnesses.looked)
-    (IsClear refs ds now before.witnesses.looked) before.last before.last refl
-    (λ last is. subst (λ cs. IsClear refs ds cs before.witnesses.looked last) (sym registers.clauses)
-    (clear_registered before.inside.clauses registers.new refs ds before.witnesses.looked
-    (subst (StandsOn refs) (sym c.self.view_is) s).falsified.looked last is))
-    (subst (RemembersWell refs ds) (sym c.self.view_is) h)

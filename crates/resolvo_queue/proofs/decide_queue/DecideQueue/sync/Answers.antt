@@ -1,12 +1,10 @@
-use Rattle.std.proofs.lemmas.Grind.{common_steps}
 use Rattle.std.proofs.Common.{◌≡◌, ◌+◌, ◌≤◌, min, length, true, false, map}
 use Rattle.std.proofs.Common.{take, inl, inr, sym, ap, refl, subst, arith, ◌∙◌}
 use Rattle.std.proofs.lemmas.List.{take-take}
 use Rattle.resolvo_queue.specs.Pick.Inspection.{clause_of}
-use Rattle.resolvo_queue.specs.Occurrences.{times}
 use Rattle.resolvo_queue.specs.Queue.{AgreesBelow, Queue, StandsOn, queue_of}
 use Rattle.resolvo_queue.specs.References.{rows_in}
-use Rattle.resolvo_queue.specs.WalkCounts.{HasNoneOf, changed_from, looks, owed, owed_in, walks}
+use Rattle.resolvo_queue.specs.WalkCounts.{HasNoneOf, changed_from, owed, owed_in, walks}
 use Rattle.resolvo_queue.proofs.Clauses.Synced.{kept_still, order_after_sync, stands_behind, stands_synced}
 use Rattle.resolvo_queue.proofs.Clauses.Counts.{own_number}
 use Rattle.resolvo_queue.proofs.Walks.Owed.{owed_kept, owes_one_more}
@@ -16,13 +14,13 @@ pub sync-requires-clause-numbers : goal.sync-requires-clause-numbers
 sync-requires-clause-numbers g c = λ n d e.
     own_number c.self.inside.tracked.index.clauses.items c.self.invariant.0.order.located n d e
 
-pub invariant_of-self-in_err-sync : goal.invariant_of-self-in_err-sync
-invariant_of-self-in_err-sync g c =
+pub invariant_of-self : goal.invariant_of-self
+invariant_of-self g c =
     let inside = c.self.inside in
     let before : Queue g.row.D-NameId.Denot g.row.D-NameId-Set.Denot =
-    queue_of inside.tracked inside.names.items inside.hot_names inside.since.items inside.witnesses in
+    queue_of inside.tracked inside.names.items inside.hot_names inside.since.items in
     let after : Queue g.row.D-NameId.Denot g.row.D-NameId-Set.Denot =
-    queue_of c.sync.new.self inside.names.items inside.hot_names inside.since.items c.note_changes.new.self in (
+    queue_of c.sync.new.self inside.names.items inside.hot_names inside.since.items in (
       kept_still g.D.NameId.Set.IdSet.has before after c.self.invariant.0
           (order_after_sync before.inside after.inside (ap (λ ix. ix.clauses.items) c.sync.ensures.same.0)
           (ap (λ ix. ix.by_parent) c.sync.ensures.same.0)
@@ -35,9 +33,9 @@ pub invariant_of-self-2 : goal.invariant_of-self-2
 invariant_of-self-2 g c =
     let inside = c.self.inside in
     let before : Queue g.row.D-NameId.Denot g.row.D-NameId-Set.Denot =
-    queue_of inside.tracked inside.names.items inside.hot_names inside.since.items inside.witnesses in
+    queue_of inside.tracked inside.names.items inside.hot_names inside.since.items in
     let after : Queue g.row.D-NameId.Denot g.row.D-NameId-Set.Denot =
-    queue_of c.sync.new.self inside.names.items inside.hot_names c.clear.new.self.items c.note_changes.new.self in (
+    queue_of c.sync.new.self inside.names.items inside.hot_names c.clear.new.self.items in (
       kept_still g.D.NameId.Set.IdSet.has before after c.self.invariant.0
           (order_after_sync before.inside after.inside (ap (λ ix. ix.clauses.items) c.sync.ensures.same.0)
           (ap (λ ix. ix.by_parent) c.sync.ensures.same.0)
@@ -50,7 +48,7 @@ pub sync-requires-clause-agrees : goal.sync-requires-clause-agrees
 sync-requires-clause-agrees g c =
     let inside = c.self.inside in
     let before : Queue g.row.D-NameId.Denot g.row.D-NameId-Set.Denot =
-    queue_of inside.tracked inside.names.items inside.hot_names inside.since.items inside.witnesses in
+    queue_of inside.tracked inside.names.items inside.hot_names inside.since.items in
     let less : c.min-floor.result ≤ c.args.floor = grind (arith, c.min.ensures, c.min-floor.ensures) in
     λ fresh. (let agrees : AgreesBelow c.args.floor c.args.trail.now before =
     subst (λ (q : Queue g.row.D-NameId.Denot g.row.D-NameId-Set.Denot). q.must_start_anew ≡ false →
@@ -58,40 +56,26 @@ sync-requires-clause-agrees g c =
     sym (take-take c.min-floor.result c.args.floor before.trail less) ∙
     (ap (take c.min-floor.result) agrees.trail ∙ take-take c.min-floor.result c.args.floor c.args.trail.now less))
 
--- the variables couldn't be noted: the next sync looks at everything
-pub returns-in-Err-clause-stands : goal.returns-in-Err-clause-stands
-returns-in-Err-clause-stands g c =
-    let inside = c.self.inside in
-    let before : Queue g.row.D-NameId.Denot g.row.D-NameId-Set.Denot =
-    queue_of inside.tracked inside.names.items inside.hot_names inside.since.items inside.witnesses in
-    let after : Queue g.row.D-NameId.Denot g.row.D-NameId-Set.Denot =
-    queue_of (record inside.tracked { must_start_anew = true }) inside.names.items inside.hot_names inside.since.items
-    c.note_changes.new.self in
-    λ refs s. stands_behind g.D.NameId.Set.IdSet.has refs before after c.self.invariant.0
-    (subst (StandsOn refs) (sym c.self.view_is) s)
-    refl refl refl refl (λ k. inl refl) refl c.note_changes.ensures.of c.note_changes.ensures.looked
-
 pub returns-in_err-sync-clause-stands : goal.returns-in_err-sync-clause-stands
 returns-in_err-sync-clause-stands g c =
     let inside = c.self.inside in
     let before : Queue g.row.D-NameId.Denot g.row.D-NameId-Set.Denot =
-    queue_of inside.tracked inside.names.items inside.hot_names inside.since.items inside.witnesses in
+    queue_of inside.tracked inside.names.items inside.hot_names inside.since.items in
     let after : Queue g.row.D-NameId.Denot g.row.D-NameId-Set.Denot =
-    queue_of c.sync.new.self inside.names.items inside.hot_names inside.since.items c.note_changes.new.self in
+    queue_of c.sync.new.self inside.names.items inside.hot_names inside.since.items in
     λ refs s. stands_behind g.D.NameId.Set.IdSet.has refs before after c.self.invariant.0
     (subst (StandsOn refs) (sym c.self.view_is) s)
     (ap (λ ix. map clause_of ix.clauses.items) c.sync.ensures.same.0)
     (ap (λ ix. ix.clauses.items) c.sync.ensures.same.0) (ap (λ ix. ix.by_condition) c.sync.ensures.same.0)
-    c.sync.ensures.same.1 c.sync.ensures.only c.in_err-sync.ensures.refused c.note_changes.ensures.of
-    c.note_changes.ensures.looked
+    c.sync.ensures.same.1 c.sync.ensures.only c.in_err-sync.ensures.refused
 
 pub returns-clause-stands : goal.returns-clause-stands
 returns-clause-stands g c =
     let inside = c.self.inside in
     let before : Queue g.row.D-NameId.Denot g.row.D-NameId-Set.Denot =
-    queue_of inside.tracked inside.names.items inside.hot_names inside.since.items inside.witnesses in
+    queue_of inside.tracked inside.names.items inside.hot_names inside.since.items in
     let after : Queue g.row.D-NameId.Denot g.row.D-NameId-Set.Denot =
-    queue_of c.sync.new.self inside.names.items inside.hot_names c.clear.new.self.items c.note_changes.new.self in
+    queue_of c.sync.new.self inside.names.items inside.hot_names c.clear.new.self.items in
     let less : c.min-floor.result ≤ c.args.floor = grind (arith, c.min.ensures, c.min-floor.ensures) in
     λ refs s. stands_synced g.D.NameId.Set.IdSet.has refs before after c.self.invariant.0
     (subst (StandsOn refs) (sym c.self.view_is) s)
@@ -101,8 +85,7 @@ returns-clause-stands g c =
     (subst (λ (q : Queue g.row.D-NameId.Denot g.row.D-NameId-Set.Denot). q.must_start_anew ≡ false →
     AgreesBelow c.args.floor c.args.trail.now q) (sym c.self.view_is) c.requires.agrees)
     c.requires.values c.sync.ensures.same.1 c.sync.ensures.only c.in_ok-sync.ensures.synced c.in_ok-sync.ensures.trail
-    c.clear.ensures.items c.note_changes.ensures.of c.note_changes.ensures.looked c.in-Ok.ensures.anew
-    c.in-Ok.ensures.ok
+    c.clear.ensures.items
 
 pub returns-in_err-sync-clause-walks : goal.returns-in_err-sync-clause-walks
 returns-in_err-sync-clause-walks g c =
@@ -119,7 +102,7 @@ pub returns-in_err-sync-clause-owed_still : goal.returns-in_err-sync-clause-owed
 returns-in_err-sync-clause-owed_still g c =
     let inside = c.self.inside in
     let before : Queue g.row.D-NameId.Denot g.row.D-NameId-Set.Denot =
-    queue_of inside.tracked inside.names.items inside.hot_names inside.since.items inside.witnesses in
+    queue_of inside.tracked inside.names.items inside.hot_names inside.since.items in
     let floor_is : c.min-floor.result ≡ min (min c.args.floor (length c.args.trail.now)) (length before.trail) =
     grind (arith, c.min.ensures, c.min-floor.ensures) in
     λ accepted refs s r walkable none.
@@ -148,7 +131,7 @@ pub returns-clause-owed_still : goal.returns-clause-owed_still
 returns-clause-owed_still g c =
     let inside = c.self.inside in
     let before : Queue g.row.D-NameId.Denot g.row.D-NameId-Set.Denot =
-    queue_of inside.tracked inside.names.items inside.hot_names inside.since.items inside.witnesses in
+    queue_of inside.tracked inside.names.items inside.hot_names inside.since.items in
     let floor_is : c.min-floor.result ≡ min (min c.args.floor (length c.args.trail.now)) (length before.trail) =
     grind (arith, c.min.ensures, c.min-floor.ensures) in
     λ accepted refs s r walkable none.
@@ -161,21 +144,3 @@ returns-clause-owed_still g c =
     (subst (λ (q : Queue g.row.D-NameId.Denot g.row.D-NameId-Set.Denot).
     HasNoneOf (changed_from c.args.floor c.args.trail.now q) (rows_in refs r)) (sym c.self.view_is) none)
     ∙ ap (λ (q : Queue g.row.D-NameId.Denot g.row.D-NameId-Set.Denot). owed q r) c.self.view_is)
-
-pub returns-in_err-sync-clause-looks : goal.returns-in_err-sync-clause-looks
-returns-in_err-sync-clause-looks g c = λ r. ap (λ of. times of.looks r) c.note_changes.ensures.of ∙
-    ap (λ (q : Queue g.row.D-NameId.Denot g.row.D-NameId-Set.Denot). looks q r) c.self.view_is
-
-pub returns-clause-looks : goal.returns-clause-looks
-returns-clause-looks g c = λ r. ap (λ of. times of.looks r) c.note_changes.ensures.of ∙
-    ap (λ (q : Queue g.row.D-NameId.Denot g.row.D-NameId-Set.Denot). looks q r) c.self.view_is
-
-pub returns-in-Err-clause-looks : goal.returns-in-Err-clause-looks
-returns-in-Err-clause-looks g c = λ r. ap (λ of. times of.looks r) c.note_changes.ensures.of ∙
-    ap (λ (q : Queue g.row.D-NameId.Denot g.row.D-NameId-Set.Denot). looks q r) c.self.view_is
-
-pub returns-in-Err-clause-walks : goal.returns-in-Err-clause-walks
-returns-in-Err-clause-walks g c = grind (arith, common_steps)
-
-pub returns-in-Err-clause-owed : goal.returns-in-Err-clause-owed
-returns-in-Err-clause-owed g c = grind (arith, common_steps)

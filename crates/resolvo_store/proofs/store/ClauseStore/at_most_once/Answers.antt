@@ -49,6 +49,7 @@ invariant_of-self g c =
     record {
       consistent = after_tracked c.self.invariant.consistent name v call.result (lawful g c.self.inside.cache.provider) one.0 within (failed (is_helper_among os v) two.1) (sym c.is_tracked.ensures ∙ c.if-is_tracked.false)
           call.ensures.variables call.ensures.clauses call.ensures.trackers call.ensures.same_variables call.ensures.same_clauses call.ensures.same_trackers;
+      counted = c.self.invariant.counted;
       marked = subst (HasMarks (with_list (store_in c.self.invariant.consistent.sound) (contents call.new.clauses))) (sym c.forget_false_from.ensures) (marks_more (store_in c.self.invariant.consistent.sound) c.self.inside.marks c.self.invariant.marked (contents call.new.clauses) c.len-first.result first
           (forbidden_or_same (contents c.self.inside.clauses) name (tracking (store_in c.self.invariant.consistent.sound) name v) call.result call.ensures.clauses call.ensures.same_clauses));
     }

@@ -5,9 +5,9 @@ use Rattle.resolvo_store.specs.Command.{Bump, answer_of}
 use Rattle.resolvo_store.specs.Step.{Step}
 use Rattle.resolvo_store.specs.Walks.{WalksNothing}
 use Rattle.resolvo_store.specs.Store.{Store, Kept, Provider, store_of, gathered}
-use Rattle.resolvo_store.specs.Synced.{decisions_of}
 use Rattle.resolvo_store.proofs.AddingLemmas.{step_grown, first_of_bump}
 use Rattle.resolvo_store.proofs.CallerLaws.{store_in}
+use Rattle.resolvo_store.proofs.CountedLemmas.{follows_still}
 use Rattle.resolvo_store.proofs.InvariantLemmas.{after_bumped, bumped_or_same}
 use Rattle.resolvo_store.proofs.WalkLemmas.{walks_no_more, walks_still}
 use Rattle.resolvo_store.proofs.store.ClauseStore.bump.Given.{Over}
@@ -24,8 +24,8 @@ invariant_of-self g c =
     record {
       consistent = after_bumped c.self.invariant.consistent g.D.NameId.PartialEq.eq g.met.D.NameId.SameValue.same c.args.name c.args.amount c.raise.result refl c.raise.ensures.clauses c.raise.ensures.synced
           (c.raise.ensures.stands (references (g.D.Interner.universe inside.cache.provider) inside.loaded inside.disjunctions) c.self.invariant.consistent.may_ask.stands)
-          (c.raise.ensures.clear (references (g.D.Interner.universe inside.cache.provider) inside.loaded inside.disjunctions) (decisions_of inside.trail.entries) c.self.invariant.consistent.may_ask.clear)
           c.raise.ensures.bumped c.raise.ensures.hot c.raise.ensures.same_scores c.raise.ensures.same_hot;
+      counted = follows_still inside.falsified inside.loaded inside.disjunctions c.raise.ensures.clauses.clauses refl c.self.invariant.counted;
       marked = c.self.invariant.marked;
     }
 
@@ -48,4 +48,4 @@ returns-then-not-knows_name-clause-asked g c = walks_no_more c.args.self.now.ask
 pub returns-clause-asked : goal.returns-clause-asked
 returns-clause-asked g c =
     subst (λ (k : Kept g.row.D.Denot g.row.D-NameId.Denot g.row.D-SolvableId.Denot g.row.D-NameId-Scores.Denot). WalksNothing k.asked (asked_of c.raise.new.queue c.self.inside.trail)) c.self.view_is
-    (walks_still c.self.inside.queue c.raise.new.queue c.self.inside.trail c.raise.ensures.synced c.raise.ensures.walks c.raise.ensures.looks c.raise.ensures.owed)
+    (walks_still c.self.inside.queue c.raise.new.queue c.self.inside.trail c.raise.ensures.synced c.raise.ensures.walks c.raise.ensures.owed)

@@ -9,6 +9,7 @@ use Rattle.resolvo_store.specs.Step.{Step}
 use Rattle.resolvo_store.specs.Store.{Kept, Provider, store_of, gathered}
 use Rattle.resolvo_store.proofs.CallerLaws.{store_in}
 use Rattle.resolvo_store.proofs.AddingLemmas.{both, step_grown, first_of_disjunction}
+use Rattle.resolvo_store.proofs.CountedLemmas.{follows_disjunction}
 use Rattle.resolvo_store.proofs.InvariantLemmas.{after_disjunction, on_ok, on_err}
 use Rattle.resolvo_store.proofs.MarkedLaws.{marks_asked}
 use Rattle.resolvo_store.proofs.store.ClauseStore.disjunction.Given.{Over}
@@ -28,6 +29,7 @@ invariant_of-self g c =
     record {
       consistent = after_disjunction c.self.invariant.consistent c.args.literals.now c.args.condition c.keep_disjunction.result refl (both knows ((g.D.Interner.universe c.provider.result.now).knows_condition c.args.condition) known).0
           c.keep_disjunction.ensures.more c.keep_disjunction.ensures.ok c.keep_disjunction.ensures.err;
+      counted = follows_disjunction c.self.inside.falsified c.self.inside.trail.entries _ call.new.disjunctions call.result call.ensures.more call.ensures.err c.self.invariant.counted;
       marked = marks_asked (store_in c.self.invariant.consistent.sound) c.self.inside.marks c.self.invariant.marked c.self.inside.disjunctions c.args.literals.now c.args.condition call.new.disjunctions call.result refl call.ensures.ok call.ensures.err;
     }
 

@@ -37,6 +37,7 @@ invariant_of-self g c =
     record {
       consistent = after_origins c.self.invariant.consistent (c.self.inside.variables ++ helper_origin origin ∷ []) c.add_helper.result
           (IsSound-helper _ c.self.invariant.consistent.sound origin (sym known_is ∙ c.if-not-knows_helper.false)) c.add_helper.ensures.ok c.add_helper.ensures.err;
+      counted = c.self.invariant.counted;
       marked = c.self.invariant.marked;
     }
 

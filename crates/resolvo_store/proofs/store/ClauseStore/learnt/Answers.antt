@@ -27,6 +27,7 @@ invariant_of-self g c =
     let first = c.len-first.ensures.value ∙ sym c.self.invariant.consistent.sound.watched in
     record {
       consistent = after_learnt c.self.invariant.consistent c.args.literals.now call.result known call.ensures.ok call.ensures.err;
+      counted = c.self.invariant.counted;
       marked = subst (HasMarks (with_list (store_in c.self.invariant.consistent.sound) (contents call.new.clauses))) (sym c.forget_false_from.ensures) (marks_more (store_in c.self.invariant.consistent.sound) c.self.inside.marks c.self.invariant.marked (contents call.new.clauses) c.len-first.result first
           (learnt_or_same (contents c.self.inside.clauses) c.args.literals.now call.result call.ensures.ok call.ensures.err));
     }

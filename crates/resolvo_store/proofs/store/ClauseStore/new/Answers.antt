@@ -1,6 +1,8 @@
-use Rattle.std.proofs.Common.{rules, refl, subst, sym, [], arith}
+use Rattle.std.proofs.Common.{rules, refl, subst, sym, take, [], arith}
 use Rattle.watch_map.specs.ClauseList.{Clauses}
+use Rattle.falsified_clauses.specs.Clauses.{counted}
 use Rattle.resolvo_store.specs.Asked.{asked_of}
+use Rattle.resolvo_store.specs.Counted.{Follows, false_by, no_false, placed}
 use Rattle.resolvo_store.specs.Lists.{lists_kept, disjunctions_kept, IsConsistent}
 use Rattle.resolvo_store.specs.Sound.{IsSound}
 use Rattle.resolvo_store.specs.Store.{Kept, Provider, store_of, gathered}
@@ -26,23 +28,28 @@ invariant_of-result g c =
       records = [];
       lists = c.in_ok-clauses.clauses.lists;
       requires = c.new-6.result.clauses;
-      trail = c.new-7.result.entries;
-      place = c.new-7.result.place;
-      trackers = c.new-9.result;
-      scores = c.new-10.result.map;
-      asked = asked_of c.new-6.result c.new-7.result;
+      trail = c.new-8.result.entries;
+      place = c.new-8.result.place;
+      trackers = c.new-10.result;
+      scores = c.new-11.result.map;
+      asked = asked_of c.new-6.result c.new-8.result;
     } in
     record {
-      consistent = subst (λ (cs : Clauses g.row.D-NameId.Denot). IsConsistent g.D.NameId.Set.IdSet.has (with_list (store_of (given g) g.D.NameId.Scores.IdMap.value_at kept) cs) c.new-4.result c.new-5.result c.new-3.result c.new-6.result c.new-7.result) (sym c.in_ok-clauses.ensures.ok)
-          (rw (c.in_ok-variables.ensures.ok, c.new-3.ensures.provider, c.new-4.ensures, c.new-5.ensures, c.new-6.ensures.new.clauses, c.new-7.ensures, c.new-9.ensures, c.new-10.ensures)
+      consistent = subst (λ (cs : Clauses g.row.D-NameId.Denot). IsConsistent g.D.NameId.Set.IdSet.has (with_list (store_of (given g) g.D.NameId.Scores.IdMap.value_at kept) cs) c.new-4.result c.new-5.result c.new-3.result c.new-6.result c.new-8.result) (sym c.in_ok-clauses.ensures.ok)
+          (rw (c.in_ok-variables.ensures.ok, c.new-3.ensures.provider, c.new-4.ensures, c.new-5.ensures, c.new-6.ensures.new.clauses, c.new-8.ensures, c.new-10.ensures, c.new-11.ensures)
           (record {
             few = search rules;
             known = search rules;
             sound = IsSound-new_store _;
             asked = search rules;
-            may_ask = new_may_ask c.new-6.result _ _ c.new-6.ensures.new c.new-6.ensures.stands c.new-6.ensures.last refl;
+            may_ask = new_may_ask c.new-6.result _ _ c.new-6.ensures.new c.new-6.ensures.stands refl;
           }));
-      marked = rw c.new-8.ensures (λ k d h. absurd (omega (arith, h)));
+      counted = subst (λ rs. Follows c.new-7.result c.new-8.result.entries (counted c.new-4.result c.new-5.result (placed rs) no_false)) (sym c.new-6.ensures.new.clauses)
+          (record {
+            within = omega (arith, c.new-7.ensures.none);
+            counts = c.new-7.ensures.clauses c.new-4.result c.new-5.result (false_by (take c.new-7.result.counted c.new-8.result.entries));
+          });
+      marked = rw c.new-9.ensures (λ k d h. absurd (omega (arith, h)));
     }
 
 pub returns-clause-sound : goal.returns-clause-sound
@@ -57,11 +64,11 @@ returns-clause-sound g c =
       records = [];
       lists = c.in_ok-clauses.clauses.lists;
       requires = c.new-6.result.clauses;
-      trail = c.new-7.result.entries;
-      place = c.new-7.result.place;
-      trackers = c.new-9.result;
-      scores = c.new-10.result.map;
-      asked = asked_of c.new-6.result c.new-7.result;
+      trail = c.new-8.result.entries;
+      place = c.new-8.result.place;
+      trackers = c.new-10.result;
+      scores = c.new-11.result.map;
+      asked = asked_of c.new-6.result c.new-8.result;
     } in
     subst (λ (cs : Clauses g.row.D-NameId.Denot). IsSound (with_list (store_of (given g) g.D.NameId.Scores.IdMap.value_at kept) cs)) (sym c.in_ok-clauses.ensures.ok)
-    (rw (c.in_ok-variables.ensures.ok, c.new-3.ensures.provider, c.new-4.ensures, c.new-5.ensures, c.new-6.ensures.new.clauses, c.new-7.ensures, c.new-9.ensures, c.new-10.ensures) (IsSound-new_store _))
+    (rw (c.in_ok-variables.ensures.ok, c.new-3.ensures.provider, c.new-4.ensures, c.new-5.ensures, c.new-6.ensures.new.clauses, c.new-8.ensures, c.new-10.ensures, c.new-11.ensures) (IsSound-new_store _))

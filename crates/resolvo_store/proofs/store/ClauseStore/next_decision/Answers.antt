@@ -17,6 +17,7 @@ use Rattle.resolvo_store.specs.Synced.{decisions_of}
 use Rattle.resolvo_store.specs.Walks.{AsksOnce, IsTold}
 use Rattle.resolvo_store.proofs.AskingLemmas.{can_walk, asked_as_store, asked_by_store}
 use Rattle.resolvo_store.proofs.CallerLaws.{store_in}
+use Rattle.resolvo_store.proofs.CountedLemmas.{follows_still}
 use Rattle.resolvo_store.proofs.InvariantLemmas.{after_sync}
 use Rattle.resolvo_store.proofs.MarkedLaws.{marks_same}
 use Rattle.resolvo_store.proofs.WalkLemmas.{asks_told, asks_walked, on_any, told_of}
@@ -58,9 +59,9 @@ invariant_of-self g c =
           (sym c.take_sync_floor-floor.ensures.trail)
           (after_sync c.self.invariant.consistent c.sync.result refl c.sync.ensures.clauses c.sync.ensures.hot
           (c.sync.ensures.stands (references (g.D.Interner.universe inside.cache.provider) inside.loaded inside.disjunctions) c.self.invariant.consistent.may_ask.stands)
-          c.sync.ensures.last
           (subst (λ ds. OnOk c.sync.result (HasTrail ds c.sync.new.self)) (c.assignments.ensures.decisions ∙ ap (λ t. decisions_of t.entries) c.take_sync_floor-floor.ensures.trail) c.sync.ensures.ok)
           c.sync.ensures.err);
+      counted = follows_still inside.falsified inside.loaded inside.disjunctions c.sync.ensures.clauses.clauses (ap (λ (t : Trail). t.entries) c.take_sync_floor-floor.ensures.trail) c.self.invariant.counted;
       marked = marks_same st inside.marks c.self.invariant.marked c.take_sync_floor-floor.new.self (ap (λ (t : Trail). t.entries) c.take_sync_floor-floor.ensures.trail);
     }
 
@@ -135,7 +136,7 @@ returns-in_err-sync-clause-asked g c =
     subst (λ (k : Kept g.row.D.Denot g.row.D-NameId.Denot g.row.D-SolvableId.Denot g.row.D-NameId-Scores.Denot). AsksOnce (store_of (given g) g.D.NameId.Scores.IdMap.value_at k) k.asked (asked_of c.sync.new.self c.take_sync_floor-floor.new.self)) c.self.view_is
     (asks_told c.self.invariant.consistent refl refl refl c.take_sync_floor-floor.result c.assignments.result.now c.sync.new.self c.take_sync_floor-floor.new.self
     c.take_sync_floor-floor.ensures.floor (c.assignments.ensures.decisions ∙ ap (λ t. decisions_of t.entries) c.take_sync_floor-floor.ensures.trail)
-    c.sync.ensures.walks c.sync.ensures.looks c.sync.ensures.owed c.sync.ensures.owed_still)
+    c.sync.ensures.walks c.sync.ensures.owed c.sync.ensures.owed_still)
 
 pub returns-clause-asked : goal.returns-clause-asked
 returns-clause-asked g c =
@@ -144,8 +145,8 @@ returns-clause-asked g c =
     c.new-reader.result.walked c.next_decision.new.reader.walked
     (asks_told c.self.invariant.consistent refl refl refl c.take_sync_floor-floor.result c.assignments.result.now c.sync.new.self c.take_sync_floor-floor.new.self
     c.take_sync_floor-floor.ensures.floor (c.assignments.ensures.decisions ∙ ap (λ t. decisions_of t.entries) c.take_sync_floor-floor.ensures.trail)
-    c.sync.ensures.walks c.sync.ensures.looks c.sync.ensures.owed c.sync.ensures.owed_still)
-    c.sync.ensures.walks c.sync.ensures.looks c.next_decision.ensures.looks c.next_decision.ensures.walks c.next_decision.ensures.owed)
+    c.sync.ensures.walks c.sync.ensures.owed c.sync.ensures.owed_still)
+    c.sync.ensures.walks c.next_decision.ensures.walks c.next_decision.ensures.owed)
 
 pub returns-clause-told : goal.returns-clause-told
 returns-clause-told g c =

@@ -18,7 +18,6 @@ use Rattle.resolvo_store.specs.Lists.{HasMarks}
 use Rattle.resolvo_store.specs.Step.{Step}
 use Rattle.resolvo_store.specs.Walks.{OwesFirst}
 use Rattle.resolvo_store.specs.Store.{Kept, Provider, store_of, gathered, kept_literals, values}
-use Rattle.resolvo_store.specs.Synced.{decisions_of}
 use Rattle.resolvo_store.proofs.AddingLemmas.{step_foreseen, step_registered, first_of_requires, first_of_unknown, first_of_unloaded, first_of_negating, first_of_full, all_known_is, each_known}
 use Rattle.resolvo_store.proofs.AskingLemmas.{condition_seen}
 use Rattle.resolvo_store.proofs.CallerLaws.{store_in}
@@ -104,6 +103,10 @@ register-reply-requires-clause-two g c =
     let seen = condition_seen st.provider.universe c.self.inside.disjunctions k.learnt k.lists d in
     two_if_first k (values st) made.result.2 (made.ensures.kept k (sym seen) refl).0
 
+pub register-reply-requires-clause-loaded : goal.register-reply-requires-clause-loaded
+register-reply-requires-clause-loaded g c =
+    lookup-some c.self.inside.loaded c.args.requirement (sym c.is_loaded.ensures ∙ c.if-not-is_loaded.false)
+
 pub invariant_of-self : goal.invariant_of-self
 invariant_of-self g c =
     let r = c.args.requirement in
@@ -121,7 +124,7 @@ invariant_of-self g c =
     let first = made.ensures.kept k (sym seen) refl in
     let each = each_known st parent r d known in
     let stands = subst (λ p. StandsOn (references (g.D.Interner.universe p) inside.loaded inside.disjunctions) c.register-reply.new.queue) c.provider-provider.ensures.provider
-    (c.register-reply.ensures.stands inside.loaded (lookup-some inside.loaded r loaded)
+    (c.register-reply.ensures.stands
     (subst (λ p. StandsOn (references (g.D.Interner.universe p) inside.loaded inside.disjunctions) inside.queue) (sym c.provider-provider.ensures.provider) c.self.invariant.consistent.may_ask.stands)) in
     let one : RequiresClause = record { parent = parent; requirement = r; condition = d; clause_id = length inside.clauses.clauses } in
     let registered = subst (λ p. let u = g.D.Interner.universe p in OnOk c.register-reply.result (IsRegistered g.D.NameId.Set.IdSet.has one (map u.set_name (sets_of u r)) (val inside.trail.entries parent) inside.queue c.register-reply.new.queue)) c.provider-provider.ensures.provider
@@ -131,9 +134,8 @@ invariant_of-self g c =
     record {
       consistent = after_registered c.self.invariant.consistent parent d r made.result.2 (literals_watched made.result.0) call.result each.0 each.1 loaded each.2 first.0 made.ensures.clause
           refl refl stands
-          (call.ensures.clear (references (g.D.Interner.universe inside.cache.provider) inside.loaded inside.disjunctions) (decisions_of inside.trail.entries)
-          c.self.invariant.consistent.may_ask.stands c.self.invariant.consistent.may_ask.clear)
           call.ensures.added registered call.ensures.unadded call.ensures.unregistered;
+      counted = call.ensures.counted;
       marked = subst (HasMarks (with_list (store_in c.self.invariant.consistent.sound) (contents call.new.clauses))) (sym c.forget_false_from.ensures) (marks_more (store_in c.self.invariant.consistent.sound) c.self.inside.marks c.self.invariant.marked (contents call.new.clauses) c.len-first.result before
           (added_or_same (contents c.self.inside.clauses) made.result.2 (literals_watched made.result.0) call.result call.ensures.added call.ensures.unadded));
     }
@@ -183,4 +185,4 @@ returns-clause-asked g c =
     subst (λ (k : Kept g.row.D.Denot g.row.D-NameId.Denot g.row.D-SolvableId.Denot g.row.D-NameId-Scores.Denot). OwesFirst c.args.requirement k.asked (asked_of c.register-reply.new.queue inside.trail)) c.self.view_is
     (owes_registered inside.queue c.register-reply.new.queue inside.trail g.D.NameId.Set.IdSet.has c.register-reply.result one
     (map (g.D.Interner.universe c.provider-provider.result.now).set_name (sets_of (g.D.Interner.universe c.provider-provider.result.now) c.args.requirement)) c.assigned_value.result
-    c.register-reply.ensures.registered c.register-reply.ensures.unregistered c.register-reply.ensures.walks c.register-reply.ensures.looks c.register-reply.ensures.owed)
+    c.register-reply.ensures.registered c.register-reply.ensures.unregistered c.register-reply.ensures.walks c.register-reply.ensures.owed)

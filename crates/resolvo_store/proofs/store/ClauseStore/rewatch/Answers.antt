@@ -29,6 +29,7 @@ invariant_of-self g c =
     let has = ap (λ (k : KeptLiterals). is_literal_in c.args.to (unwrap_or (option_map (literals_of k) (slice_get inside.clauses.clauses c.args.clause)) [])) (sym same) ∙ sym c.has_literal.ensures ∙ c.if-not-has_literal.false in
     record {
       consistent = after_rewatch c.self.invariant.consistent c.args.clause c.args.from c.args.to c.rewatch.result has c.rewatch.ensures.can c.rewatch.ensures.ok c.rewatch.ensures.err;
+      counted = c.self.invariant.counted;
       marked = subst (λ (cs : Clauses g.row.D-NameId.Denot). HasMarks (with_list (store_in c.self.invariant.consistent.sound) cs) inside.marks) (sym c.in_err-rewatch.ensures.err) c.self.invariant.marked;
     }
 
@@ -40,6 +41,7 @@ invariant_of-self-2 g c =
     let has = ap (λ (k : KeptLiterals). is_literal_in c.args.to (unwrap_or (option_map (literals_of k) (slice_get inside.clauses.clauses c.args.clause)) [])) (sym same) ∙ sym c.has_literal.ensures ∙ c.if-not-has_literal.false in
     record {
       consistent = after_rewatch c.self.invariant.consistent c.args.clause c.args.from c.args.to c.rewatch.result has c.rewatch.ensures.can c.rewatch.ensures.ok c.rewatch.ensures.err;
+      counted = c.self.invariant.counted;
       marked = subst (HasMarks (with_list (store_in c.self.invariant.consistent.sound) (contents c.rewatch.new.self))) (sym c.forget_false.ensures) (marks_rewatched (store_in c.self.invariant.consistent.sound) c.self.inside.marks c.self.invariant.marked c.args.clause c.args.from c.args.to c.in_ok-rewatch.ensures.can c.in_ok-rewatch.ensures.ok);
     }
 

@@ -1,4 +1,4 @@
-use Rattle.std.proofs.Common.{◌≡◌, refl, sym, subst, ap, arith, rules, true, []}
+use Rattle.std.proofs.Common.{◌≡◌, ◌∙◌, length, take, refl, sym, subst, ap, arith, rules, true, []}
 use Rattle.std.proofs.lemmas.Bool.Decides.{nat_tests}
 use Rattle.clauses.specs.Clauses.{Kept as KeptLiterals}
 use Rattle.watch_map.specs.ClauseList.{contents, watched_by}
@@ -8,6 +8,9 @@ use Rattle.resolvo_store.specs.Command.{Saturate, answer_of}
 use Rattle.resolvo_store.specs.Refusals.{is_level}
 use Rattle.resolvo_store.specs.Step.{Step}
 use Rattle.resolvo_store.specs.Store.{Kept, Provider, store_of, gathered}
+use Rattle.falsified_clauses.specs.Clauses.{counted}
+use Rattle.resolvo_store.specs.Counted.{no_false, placed}
+use Rattle.resolvo_store.proofs.CountedLemmas.{follows_more, front_of}
 use Rattle.resolvo_store.proofs.CallerLaws.{store_in}
 use Rattle.resolvo_store.proofs.ListLemmas.{literals-kept}
 use Rattle.resolvo_store.proofs.SaturatingLemmas.{HasLeft, with_forced, step_found, still, after_saturated}
@@ -44,8 +47,11 @@ invariant_of-self g c =
       is_list = call.ensures.list;
       forced = call.ensures.forced;
     } in
+    let front : take (length inside.trail.entries) call.new.trail.entries ≡ inside.trail.entries =
+    ap (take (length inside.trail.entries)) call.ensures.forced.entries ∙ front_of inside.trail.entries call.ensures.forced.added in
     record {
       consistent = after_saturated c.self.invariant.consistent c.args.level (search rules) left refl refl;
+      counted = follows_more inside.falsified (counted inside.loaded inside.disjunctions (placed inside.queue.clauses) no_false) inside.trail.entries call.new.trail.entries c.self.invariant.counted front;
       marked = still (store_in c.self.invariant.consistent.sound) c.self.invariant.consistent.sound _ c.args.level inside.trail call.new.trail (contents call.new.self) left refl refl
           (λ f n. AreMarks f (watched_by (contents call.new.self)) call.new.trail.entries call.new.marks) call.ensures.marks;
     }

@@ -1,16 +1,16 @@
 use Rattle.std.proofs.Common.{◌≡◌, ◌∙◌, ◌-◌, length, ap, arith, refl, subst, sym}
 use Rattle.std.proofs.lemmas.Grind.{common_steps}
 use Rattle.decisions.specs.Trail.{Trail, undo_last}
-use Rattle.resolvo_queue.specs.Queue.{Queue}
-use Rattle.resolvo_queue.specs.References.{references}
+use Rattle.falsified_clauses.specs.Clauses.{counted}
 use Rattle.resolvo_store.specs.Asked.{asked_of}
+use Rattle.resolvo_store.specs.Counted.{Follows, no_false, placed}
 use Rattle.resolvo_store.specs.Lists.{HasMarks}
 use Rattle.resolvo_store.specs.Store.{Kept}
 use Rattle.resolvo_store.specs.Walks.{taken_back}
 use Rattle.resolvo_store.proofs.CallerLaws.{store_in}
-use Rattle.resolvo_store.proofs.InvariantLemmas.{after_cut, told_cut}
+use Rattle.resolvo_store.proofs.InvariantLemmas.{after_trail}
 use Rattle.resolvo_store.proofs.MarkedLaws.{marks_cut}
-use Rattle.resolvo_store.proofs.SyncedLemmas.{decisions-undo_last, in_step-undo_last}
+use Rattle.resolvo_store.proofs.SyncedLemmas.{in_step-undo_last}
 use Rattle.resolvo_store.proofs.SoundLaws.{IsSound-without_newest}
 use Rattle.resolvo_store.proofs.store.ClauseStore.undo_last.Goals as goal
 
@@ -20,19 +20,21 @@ invariant_of-self g c =
     let old = inside.trail in
     let new = c.undo_last-last.new.self in
     let cut = ap (λ (t : Trail). t.entries) c.undo_last-last.ensures.trail in
-    let refs = references (g.D.Interner.universe inside.cache.provider) inside.loaded inside.disjunctions in
     let st = store_in c.self.invariant.consistent.sound in
     record {
-      consistent = after_cut c.self.invariant.consistent (undo_last old) c.cut_trail.new.self refl (IsSound-without_newest _ c.self.invariant.consistent.sound)
-          (in_step-undo_last old c.self.invariant.consistent.may_ask.in_step) c.undo_last-last.ensures.trail c.cut_trail.ensures.same
-          (told_cut refs inside.queue c.cut_trail.new.self old (undo_last old) c.undo_last-last.ensures.trail c.assignments-2.ensures.decisions refl
-          (decisions-undo_last old) (c.cut_trail.ensures.clear refs) c.self.invariant.consistent.may_ask.clear);
+      consistent = after_trail c.self.invariant.consistent (undo_last old) (IsSound-without_newest _ c.self.invariant.consistent.sound)
+          (in_step-undo_last old c.self.invariant.consistent.may_ask.in_step) c.undo_last-last.ensures.trail;
+      counted = subst (λ (t : Trail). Follows c.leave_newest.new.self t.entries (counted inside.loaded inside.disjunctions (placed inside.queue.clauses) no_false)) (sym c.undo_last-last.ensures.trail)
+          (c.leave_newest.ensures (counted inside.loaded inside.disjunctions (placed inside.queue.clauses) no_false) c.self.invariant.counted);
       marked = subst (HasMarks (record st { trail = new.entries; place = new.place })) (sym c.cut_to.ensures)
           (marks_cut st inside.marks c.self.invariant.marked new (length old.entries - 1) cut);
     }
 
 pub returns-then-is_empty-clause-step : goal.returns-then-is_empty-clause-step
 returns-then-is_empty-clause-step g c = grind (arith, common_steps)
+
+pub leave_newest-requires : goal.leave_newest-requires
+leave_newest-requires g c = c.self.invariant.counted.within
 
 pub undo_last-last-requires : goal.undo_last-last-requires
 undo_last-last-requires g c = grind (arith, common_steps)
@@ -42,6 +44,5 @@ returns-clause-step g c = grind (arith, common_steps)
 
 pub returns-clause-asked : goal.returns-clause-asked
 returns-clause-asked g c =
-    ap (λ (q : Queue g.row.D-NameId.Denot g.row.D-NameId-Set.Denot). asked_of q c.undo_last-last.new.self) c.cut_trail.ensures.same
-    ∙ (subst (λ (x : Trail). asked_of c.self.inside.queue x ≡ taken_back x.entries (asked_of c.self.inside.queue c.self.inside.trail)) (sym c.undo_last-last.ensures.trail) refl
-    ∙ ap (λ (k : Kept g.row.D.Denot g.row.D-NameId.Denot g.row.D-SolvableId.Denot g.row.D-NameId-Scores.Denot). taken_back c.undo_last-last.new.self.entries k.asked) c.self.view_is)
+    subst (λ (x : Trail). asked_of c.self.inside.queue x ≡ taken_back x.entries (asked_of c.self.inside.queue c.self.inside.trail)) (sym c.undo_last-last.ensures.trail) refl
+    ∙ ap (λ (k : Kept g.row.D.Denot g.row.D-NameId.Denot g.row.D-SolvableId.Denot g.row.D-NameId-Scores.Denot). taken_back c.undo_last-last.new.self.entries k.asked) c.self.view_is

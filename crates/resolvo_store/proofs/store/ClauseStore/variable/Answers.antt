@@ -29,6 +29,7 @@ invariant_of-self g c =
     record {
       consistent = after_origins c.self.invariant.consistent (with_variable g.D.SolvableId.PartialEq.eq c.self.inside.variables c.args.solvable) c.intern_solvable.result
           (IsSound-with_variable _ c.self.invariant.consistent.sound (lawful g c.self.inside.cache.provider) c.args.solvable known) c.intern_solvable.ensures.ok c.intern_solvable.ensures.err;
+      counted = c.self.invariant.counted;
       marked = c.self.invariant.marked;
     }
 
@@ -39,5 +40,6 @@ invariant_of-self-2 g c =
     record {
       consistent = after_origins c.self.invariant.consistent (with_variable g.D.SolvableId.PartialEq.eq c.self.inside.variables c.args.solvable) c.intern_solvable.result
           (IsSound-with_variable _ c.self.invariant.consistent.sound (lawful g c.self.inside.cache.provider) c.args.solvable known) c.intern_solvable.ensures.ok c.intern_solvable.ensures.err;
+      counted = c.self.invariant.counted;
       marked = c.self.invariant.marked;
     }

@@ -1,0 +1,12 @@
+pub mod AddedLaws
+pub mod AddingSteps
+pub mod ClauseLaws
+pub mod CountLaws
+pub mod FlagLaws
+pub mod HeapLaws
+pub mod HeldLaws
+pub mod LinkLaws
+pub mod ListLaws
+pub mod OpenSums
+pub mod PoolLaws
+pub mod ShownLaws

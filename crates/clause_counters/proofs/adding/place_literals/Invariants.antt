@@ -1,0 +1,32 @@
+use Rattle.std.proofs.Common.{◌≡◌, ◌≤◌, ◌+◌, ℕ, Bool, cond, eqb, take}
+use Rattle.std.specs.Prelude.{vec_len, vec_capacity}
+use Rattle.std.specs.List.{All, list_any}
+use Rattle.decisions.specs.Decisions.{values_in}
+use Rattle.decisions.specs.Literals.{is_false_literal}
+use Rattle.decisions.specs.LiteralIndex.{literal_index}
+use Rattle.clause_counters.specs.Links.{listed, count}
+use Rattle.clause_counters.specs.Counted.{standing_at, all_places, open_places}
+use Rattle.clause_counters.specs.Shown.{has_index, once}
+use Rattle.clause_counters.specs.Adding.{IsStanding, AreFlagged, is_newest}
+use Rattle.clause_counters.proofs.adding.place_literals.Given as goal
+
+abbrev pub invariant-loop-literal : goal.invariant-loop-literal
+invariant-loop-literal g l = record {
+  standing : IsStanding l.places.items l.literals.items;
+  lists : (i h : ℕ) → count h (listed l.places.items (standing_at l.literals.items i).groups) ≡
+      count h (listed l.fn.places.items (standing_at l.fn.literals.items i).groups)
+      + cond (eqb l.group h) (once i (take l.literal-index l.list)) 0;
+  newest : (i : ℕ) → is_newest l.places.items (standing_at l.literals.items i) l.group ≡
+      list_any (has_index i) (take l.literal-index l.list);
+  all : (h : ℕ) → all_places l.places.items l.literals.items h ≤
+      all_places l.fn.places.items l.fn.literals.items h + cond (eqb l.group h) l.literal-index 0;
+  left : (h : ℕ) → open_places l.places.items l.literals.items h ≡
+      open_places l.fn.places.items l.fn.literals.items h + cond (eqb l.group h) l.left 0;
+  flags : (is_false : ℕ → Bool) → AreFlagged l.fn.places.items l.fn.literals.items is_false
+      → All (λ x. is_false (literal_index x) ≡ is_false_literal (values_in l.values) x) l.list
+      → AreFlagged l.places.items l.literals.items is_false;
+  counted : l.left ≤ l.literal-index;
+  as_many : vec_len l.literals ≡ vec_len l.fn.literals;
+  len : vec_len l.places ≤ vec_len l.fn.places + l.literal-index;
+  room : vec_capacity l.places ≡ vec_capacity l.fn.places;
+}

@@ -1,0 +1,56 @@
+use Rattle.std.proofs.Common.{◌≡◌, ◌-◌, ◌<◌, true, sym, ap, subst, ◌∙◌}
+use Rattle.std.proofs.lemmas.List.{get_or_read_under}
+use Rattle.clause_counters.specs.FalsifiedHeap.{clause_at, no_clause, lefts_of, positions_of, Tallies}
+use Rattle.clause_counters.proofs.ClauseLaws.{told_lefts, told_positions, left_read, within_from_left, lefts_kept}
+use Rattle.clause_counters.proofs.ClauseLaws.{positions_kept}
+use Rattle.clause_counters.proofs.falsified_heap.FalsifiedHeap.lower.Goals as goal
+use Rattle.clause_counters.proofs.falsified_heap.FalsifiedHeap.lower.Goals.{else-at-eq1-via-then-at-eq1+else-not-at}
+use Rattle.clause_counters.proofs.falsified_heap.FalsifiedHeap.lower.Goals.{else-at-eq1-via-else-at-eq1}
+
+pub returns-then-not-at-clause-lefts : goal.returns-then-not-at-clause-lefts
+returns-then-not-at-clause-lefts g c =
+    let cs = c.self.inside.clauses.items in
+    let lefts = c.args.self.now.lefts in
+    let view = ap (λ (u : Tallies). u.lefts) c.self.view_is in
+    let at : c.index-at.result.now ≡ clause_at cs c.args.clause =
+    get_or_read_under cs c.args.clause c.self.inside.clauses.len c.index-at.result.now no_clause c.index-at.ensures
+    (subst (λ n. c.args.clause < n) (sym c.self.inside.clauses.ok.0)
+    (within_from_left cs lefts c.args.clause view c.requires))
+    c.self.inside.clauses.ok.0 in
+    ap lefts_of c.insert_entry.ensures.marked ∙ lefts_kept true c.tally.new.clauses.items c.args.clause
+    ∙ told_lefts cs c.tally.new.clauses.items lefts _ _ c.args.clause c.tally.ensures.items view
+    (ap (λ n. n - 1) (left_read cs lefts c.args.clause c.index-at.result.now at view))
+
+pub returns-then-not-at-clause-positions : goal.returns-then-not-at-clause-positions
+returns-then-not-at-clause-positions g c =
+    ap positions_of c.insert_entry.ensures.marked ∙ positions_kept true c.tally.new.clauses.items c.args.clause
+    ∙ told_positions c.self.inside.clauses.items c.tally.new.clauses.items c.args.self.now.positions
+    (c.index-at.result.now.left - 1) c.args.clause
+    c.tally.ensures.items (ap (λ (u : Tallies). u.positions) c.self.view_is)
+
+pub returns-else-at-eq1-clause-lefts : goal.returns-else-at-eq1-clause-lefts
+returns-else-at-eq1-clause-lefts g c =
+    let cs = c.self.inside.clauses.items in
+    let lefts = c.args.self.now.lefts in
+    let view = ap (λ (u : Tallies). u.lefts) c.self.view_is in
+    let at : c.index-at.result.now ≡ clause_at cs c.args.clause =
+    get_or_read_under cs c.args.clause c.self.inside.clauses.len c.index-at.result.now no_clause c.index-at.ensures
+    (subst (λ n. c.args.clause < n) (sym c.self.inside.clauses.ok.0)
+    (within_from_left cs lefts c.args.clause view c.requires))
+    c.self.inside.clauses.ok.0 in
+    let told = told_lefts cs c.tally.new.clauses.items lefts _ _ c.args.clause c.tally.ensures.items view
+    (ap (λ n. n - 1) (left_read cs lefts c.args.clause c.index-at.result.now at view)) in
+    elim c.else-at-eq1.branch [
+      | else-at-eq1-via-then-at-eq1+else-not-at w ↦ ap (λ (u : Tallies). u.lefts) w.self-is ∙ told
+      | else-at-eq1-via-else-at-eq1 w ↦ ap (λ (u : Tallies). u.lefts) w.self-is ∙ told
+    ]
+
+pub returns-else-at-eq1-clause-positions : goal.returns-else-at-eq1-clause-positions
+returns-else-at-eq1-clause-positions g c =
+    let told = told_positions c.self.inside.clauses.items c.tally.new.clauses.items c.args.self.now.positions
+    (c.index-at.result.now.left - 1)
+    c.args.clause c.tally.ensures.items (ap (λ (u : Tallies). u.positions) c.self.view_is) in
+    elim c.else-at-eq1.branch [
+      | else-at-eq1-via-then-at-eq1+else-not-at w ↦ ap (λ (u : Tallies). u.positions) w.self-is ∙ told
+      | else-at-eq1-via-else-at-eq1 w ↦ ap (λ (u : Tallies). u.positions) w.self-is ∙ told
+    ]

@@ -1,0 +1,6 @@
+pub mod Adding
+pub mod Counted
+pub mod FalsifiedHeap
+pub mod Kept
+pub mod Links
+pub mod Shown

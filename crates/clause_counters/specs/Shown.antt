@@ -1,0 +1,95 @@
+-- What callers see of what is kept: groups of literals, clauses of groups, and which literals are false.
+use Rattle.std.specs.Prelude.{◌≡◌, ℕ, ◌<◌, ◌≤◌, Bool, true, false, not, ◌||◌, ◌&&◌, ◌==◌, List, [], ◌∷◌, ◌++◌, length}
+use Rattle.std.specs.Prelude.{map, flat_map, slice_index_or, if◌then◌else◌, Option, Some, None}
+use Rattle.std.specs.List.{All, list_any, list_all}
+use Rattle.decisions.specs.Literals.{Lit, Pos}
+use Rattle.decisions.specs.LiteralIndex.{literal_index}
+use Rattle.clause_counters.specs.declared.position.Position.{Position}
+use Rattle.clause_counters.specs.Links.{count}
+use Rattle.clause_counters.specs.Kept.{Kept, stood_at, clauses_of}
+use Rattle.clause_counters.specs.FalsifiedHeap.{no_position, is_before}
+
+-- a clause as callers see it: the numbers of its groups, and its position
+pub record GroupClause : Type 0 where
+  pub groups : List ℕ
+  pub position : Position
+
+-- what callers see: the literals of each group, the clauses, and which literals are false
+pub record Shown : Type 0 where
+  pub groups : List (List Lit)
+  pub clauses : List GroupClause
+  pub is_false : Lit → Bool
+
+abbrev pub no_clause : GroupClause
+no_clause = record { groups = []; position = no_position }
+
+abbrev pub literals_of : Shown → ℕ → List Lit
+literals_of s group = slice_index_or s.groups group []
+
+abbrev pub shown_clause : Shown → ℕ → GroupClause
+shown_clause s clause = slice_index_or s.clauses clause no_clause
+
+-- whether it is the literal with this index
+abbrev pub has_index : ℕ → Lit → Bool
+has_index index l = literal_index l == index
+
+-- how many places the literal with this index has in a group of these: one if it is among them
+abbrev pub once : ℕ → List Lit → ℕ
+once index literals = if list_any (has_index index) literals then 1 else 0
+
+-- what is kept shows these groups, clauses and false literals
+pub record Shows (v : Kept) (s : Shown) : Type 0 where
+  pub size : length v.groups ≡ length s.groups
+  pub positions : v.positions ≡ map (λ c. c.position) s.clauses
+  pub stands : (index group : ℕ) → count group (stood_at v index).groups ≡ once index (literals_of s group)
+  pub joins : (group clause : ℕ) → count clause (clauses_of v group) ≡ count group (shown_clause s clause).groups
+  pub falses : (l : Lit) (group : ℕ) → 1 ≤ count group (stood_at v (literal_index l)).groups
+      → (stood_at v (literal_index l)).is_false ≡ s.is_false l
+
+-- a literal becomes false, or undecided
+abbrev pub with_false : Lit → Shown → Shown
+with_false l s = record s { is_false = λ other. has_index (literal_index l) other || s.is_false other }
+
+abbrev pub with_undecided : Lit → Shown → Shown
+with_undecided l s = record s { is_false = λ other. not (has_index (literal_index l) other) && s.is_false other }
+
+-- no group and no clause, with any literals false
+abbrev pub empty : (Lit → Bool) → Shown
+empty is_false = record { groups = []; clauses = []; is_false = is_false }
+
+-- a group comes, or a clause
+abbrev pub with_group : List Lit → Shown → Shown
+with_group literals s = record s { groups = s.groups ++ literals ∷ [] }
+
+abbrev pub with_clause : List ℕ → Position → Shown → Shown
+with_clause groups position s =
+    record s { clauses = s.clauses ++ (record { groups = groups; position = position }) ∷ [] }
+
+-- what is shown stays
+abbrev pub KeepsShown : Kept → Kept → Type 0
+KeepsShown old new = (s : Shown) → Shows old s → Shows new s
+
+-- the group of these literals comes with this number, if the function says which of them are shown false
+abbrev pub AddsGroup : Kept → List Lit → (Lit → Bool) → ℕ → Kept → Type 0
+AddsGroup old literals is_false group new = (s : Shown) → Shows old s → All (λ l. s.is_false l ≡ is_false l) literals
+    → (group ≡ length s.groups) × Shows new (with_group literals s)
+
+-- the clause of these groups at this position comes with this number
+abbrev pub AddsClause : Kept → List ℕ → Position → ℕ → Kept → Type 0
+AddsClause old groups position clause new = (s : Shown) → Shows old s
+    → (clause ≡ length s.clauses) × Shows new (with_clause groups position s)
+
+-- the positive literals of the variables, list by list
+abbrev pub row_literals : List (List ℕ) → List Lit
+row_literals lists = flat_map (map Pos) lists
+
+-- each literal of each group of the clause is false
+abbrev pub is_falsified : Shown → ℕ → Bool
+is_falsified s clause = list_all (λ g. list_all s.is_false (literals_of s g)) (shown_clause s clause).groups
+
+-- the answer is a falsified clause, and no falsified clause comes before it; or no clause is falsified
+abbrev pub IsFirstFalsified : Shown → Option ℕ → Type 0
+IsFirstFalsified s None = (c : ℕ) → c < length s.clauses → is_falsified s c ≡ false
+IsFirstFalsified s (Some first) = (first < length s.clauses) × (is_falsified s first ≡ true)
+    × ((c : ℕ) → c < length s.clauses → is_falsified s c ≡ true
+    → is_before (shown_clause s c).position (shown_clause s first).position ≡ false)

@@ -1,0 +1,64 @@
+//! Walks over the groups in which a literal stands.
+ghost use Rattle.std.specs.Prelude.{◌≡◌, ◌<◌, ◌≤◌, ◌+◌, ◌^◌, ℕ, length, map, vec_len};
+ghost use Rattle.clause_counters.specs.Links.{IsLinked, listed, count};
+ghost use Rattle.clause_counters.specs.Counted.{IsJoined, group_at, clause_lists};
+
+use crate::falsified_heap::FalsifiedHeap;
+use crate::groups::{Group, lower_group, raise_group};
+use crate::links::Link;
+use std::alloc::Allocator;
+
+/// Of each group of the list one place more is false: a place's literal became false.
+pub(crate) fn lower_groups<A: Allocator + Copy>(
+    groups: &mut Vec<Group, A>,
+    members: &[Link],
+    falsified: &mut FalsifiedHeap<A>,
+    places: &[Link],
+    list: u32,
+)
+    requires linked { IsLinked places.now }
+    requires within { list ≤ length places.now }
+    requires enough { (g : ℕ) → count g (listed places.now list) ≤ (group_at groups.old.items g).left }
+    requires joined { IsJoined members.now groups.old.items falsified.old.lefts }
+    ensures lefts { (g : ℕ) → (group_at groups.new.items g).left + count g (listed places.now list) ≡
+        (group_at groups.old.items g).left }
+    ensures joined { IsJoined members.now groups.new.items falsified.new.lefts }
+    ensures lists { clause_lists groups.new.items ≡ clause_lists groups.old.items }
+    ensures positions { falsified.new.positions ≡ falsified.old.positions }
+    ensures clauses { length falsified.new.lefts ≡ length falsified.old.lefts }
+{
+    let mut rest = list;
+    while rest != 0 {
+        let link = places[(rest - 1) as usize];
+        lower_group(groups, members, falsified, link.value);
+        rest = link.next;
+    }
+}
+
+/// Of each group of the list one place fewer is false: a place's literal became undecided.
+pub(crate) fn raise_groups<A: Allocator + Copy>(
+    groups: &mut Vec<Group, A>,
+    members: &[Link],
+    falsified: &mut FalsifiedHeap<A>,
+    places: &[Link],
+    list: u32,
+)
+    requires linked { IsLinked places.now }
+    requires within { list ≤ length places.now }
+    requires known { (g : ℕ) → length groups.old.items ≤ g → count g (listed places.now list) ≡ 0 }
+    requires few { (g : ℕ) → (group_at groups.old.items g).left + count g (listed places.now list) < 2 ^ 32 }
+    requires joined { IsJoined members.now groups.old.items falsified.old.lefts }
+    ensures lefts { (g : ℕ) → (group_at groups.new.items g).left ≡
+        (group_at groups.old.items g).left + count g (listed places.now list) }
+    ensures joined { IsJoined members.now groups.new.items falsified.new.lefts }
+    ensures lists { clause_lists groups.new.items ≡ clause_lists groups.old.items }
+    ensures positions { falsified.new.positions ≡ falsified.old.positions }
+    ensures clauses { length falsified.new.lefts ≡ length falsified.old.lefts }
+{
+    let mut rest = list;
+    while rest != 0 {
+        let link = places[(rest - 1) as usize];
+        raise_group(groups, members, falsified, link.value);
+        rest = link.next;
+    }
+}

@@ -1,0 +1,100 @@
+-- A clause is falsified exactly if each of its groups is false.
+use Rattle.std.proofs.Common.{◌≡◌, ℕ, ◌<◌, Bool, true, false, ◌&&◌, List, [], ◌∷◌, length, map, Option, Some, None}
+use Rattle.std.proofs.Common.{refl, sym, ap, ◌∙◌, subst, arith}
+use Rattle.std.specs.List.{All, list_all}
+use Rattle.std.proofs.lemmas.List.{get_or-map, length-map}
+use Rattle.std.proofs.lemmas.List.Folds.{list_all-append, list_all-map}
+use Rattle.decisions.specs.Literals.{Lit, Pos, Neg}
+use Rattle.clauses.specs.Clauses.{condition_literals}
+use Rattle.clauses.specs.Stored.{kept_in}
+use Rattle.clause_counters.specs.FalsifiedHeap.{is_before}
+use Rattle.clause_counters.specs.Shown.{row_literals, shown_clause}
+use Rattle.clause_counters.specs.Shown as below
+use Rattle.falsified_clauses.specs.declared.demand.Demand.{Demand}
+use Rattle.falsified_clauses.specs.declared.group_key.GroupKey.{GroupKey}
+use Rattle.falsified_clauses.specs.declared.group_key.GroupKey.TheVariants.{Parent, Condition, Rows}
+use Rattle.falsified_clauses.specs.Clauses.{PlacedDemand, Counted, no_clause, clause_at, rows}
+use Rattle.falsified_clauses.specs.GroupKeys.{literals_of, number_in, keys_under, HasGroups}
+use Rattle.falsified_clauses.specs.Falsified.{is_falsified_at, IsFirstFalsified}
+use Rattle.falsified_clauses.specs.Counts.{shown_by, group_clause}
+use Rattle.falsified_clauses.proofs.KeyLaws.{read_at}
+
+-- all rows are false, list by list
+rows_false : (f : Lit → Bool) (lists : List (List ℕ))
+    → list_all f (row_literals lists) ≡ list_all (list_all (λ row. f (Pos row))) lists
+rows_false f [] = refl
+rows_false f (list ∷ lists) =
+    list_all-append f (map Pos list) (row_literals lists)
+    ∙ (ap (λ b. b && list_all f (row_literals lists)) (list_all-map f Pos list)
+    ∙ ap (λ b. list_all (λ row. f (Pos row)) list && b) (rows_false f lists))
+
+-- the tests of two groups and of three, and the clause's own
+two : (x y a b : Bool) → x ≡ (a && true) → y ≡ b → (x && (y && true)) ≡ ((a && true) && b)
+two x y a b e f = ap (λ z. z && (y && true)) e ∙ (ap (λ z. (a && true) && (z && true)) f ∙ by a b)
+  where
+    by : (c d : Bool) → ((c && true) && (d && true)) ≡ ((c && true) && d)
+    by true true = refl
+    by true false = refl
+    by false d = refl
+
+three : (x y z a b c : Bool) → x ≡ (a && true) → y ≡ b → z ≡ c → (x && (y && (z && true))) ≡ ((a && b) && c)
+three x y z a b c e f h =
+    ap (λ w. w && (y && (z && true))) e
+    ∙ (ap (λ w. (a && true) && (w && (z && true))) f ∙ (ap (λ w. (a && true) && (b && (w && true))) h ∙ by a b c))
+  where
+    by : (d g i : Bool) → ((d && true) && (g && (i && true))) ≡ ((d && g) && i)
+    by true true true = refl
+    by true true false = refl
+    by true false i = refl
+    by false g i = refl
+
+module _ {A : Type 0} (keys : List GroupKey) (s : Counted A) where
+  -- whether the group with this number is false
+  abbrev is_false_group : ℕ → Bool
+  is_false_group number = list_all s.is_false (below.literals_of (shown_by keys s) number)
+
+  group_false : (key : GroupKey) → number_in keys key < length keys
+      → is_false_group (number_in keys key) ≡ list_all s.is_false (literals_of s.lists s.disjunctions key)
+  group_false key l = ap (list_all s.is_false) (read_at (literals_of s.lists s.disjunctions) keys key l)
+
+  falsified_under : (condition : Option ℕ) (clause : Demand)
+      → All (λ number. number < length keys) (map (number_in keys) (keys_under condition clause))
+      → list_all is_false_group (map (number_in keys) (keys_under condition clause)) ≡ (s.is_false (Neg clause.parent)
+      && list_all s.is_false (condition_literals (kept_in [] [] s.disjunctions) condition)
+      && list_all (list_all (λ row. s.is_false (Pos row))) (rows s.lists clause.requirement))
+  falsified_under None clause has =
+      two _ _ (s.is_false (Neg clause.parent)) _ (group_false (Parent clause.parent) (has 0 0 (omega arith)))
+      (group_false (Rows clause.requirement) (has 1 0 (omega arith))
+      ∙ rows_false s.is_false (rows s.lists clause.requirement))
+  falsified_under (Some d) clause has =
+      three _ _ _ (s.is_false (Neg clause.parent)) _ _ (group_false (Parent clause.parent) (has 0 0 (omega arith)))
+      (group_false (Condition d) (has 1 0 (omega arith)))
+      (group_false (Rows clause.requirement) (has 2 0 (omega arith))
+      ∙ rows_false s.is_false (rows s.lists clause.requirement))
+
+  module _ (grouped : All (λ (c : PlacedDemand). HasGroups keys c.demand) s.clauses) where
+    -- a clause, as the counters show it
+    shown_is : (c : ℕ) → c < length s.clauses → shown_clause (shown_by keys s) c ≡ group_clause keys (clause_at s c)
+    shown_is c l = get_or-map (group_clause keys) s.clauses c no_clause below.no_clause l
+
+    falsified_is : (c : ℕ) → c < length s.clauses → below.is_falsified (shown_by keys s) c ≡ is_falsified_at s c
+    falsified_is c l =
+        ap (λ (x : below.GroupClause). list_all is_false_group x.groups) (shown_is c l)
+        ∙ falsified_under (clause_at s c).demand.condition (clause_at s c).demand (grouped c no_clause l)
+
+    many : length (map (group_clause keys) s.clauses) ≡ length s.clauses
+    many = length-map s.clauses (group_clause keys)
+
+    -- the first that the counters show is the first
+    pub first_is : (answer : Option ℕ) → below.IsFirstFalsified (shown_by keys s) answer → IsFirstFalsified s answer
+    first_is None first = λ c l. sym (falsified_is c l) ∙ first c (subst (λ n. c < n) (sym many) l)
+    first_is (Some a) first =
+        let within : a < length s.clauses = subst (λ n. a < n) many first.0 in (
+          within,
+          sym (falsified_is a within) ∙ first.1,
+          λ c l e.
+              ap (λ (x : below.GroupClause). is_before x.position (clause_at s a).position) (sym (shown_is c l))
+              ∙ (ap (λ (x : below.GroupClause). is_before (shown_clause (shown_by keys s) c).position x.position)
+              (sym (shown_is a within))
+              ∙ first.2 c (subst (λ n. c < n) (sym many) l) (falsified_is c l ∙ e)),
+        )

@@ -1,0 +1,8 @@
+mod ByHand
+pub mod CountLaws
+pub mod DecisionLaws
+pub mod FalsifiedLaws
+pub mod GroupLaws
+pub mod IndexLaws
+pub mod KeyLaws
+pub mod Laws

@@ -1,0 +1,36 @@
+use Rattle.std.proofs.Common.{◌≡◌, Some, [], ◌∷◌, length, refl, sym, ap, subst, ◌∙◌, arith}
+use Rattle.std.proofs.lemmas.List.{length-append}
+use Rattle.typed_ids.specs.TotalMaps.{IsUpdate}
+use Rattle.falsified_clauses.specs.Clauses.{counted_under}
+use Rattle.falsified_clauses.specs.GroupKeys.{number_in}
+use Rattle.falsified_clauses.specs.GroupIndex.{number_of, FindsKeys}
+use Rattle.falsified_clauses.specs.Counts.{Counts, shown_by}
+use Rattle.falsified_clauses.proofs.KeyLaws.{finds_pushed}
+use Rattle.falsified_clauses.proofs.CountLaws.{counts_key}
+use Rattle.falsified_clauses.proofs.falsified_clauses.FalsifiedClauses.add_group.Goals as goal
+
+pub invariant_of-self-2 : goal.invariant_of-self-2
+invariant_of-self-2 g c =
+    let keys = c.self.inside.keys.items in
+    let key = c.args.key.now in
+    let room = number_of c.make_room.new.self in
+    let now = number_of c.put.new.self in
+    let more = c.and-self-inside.ensures in
+    let longer = length-append keys (key ∷ []) in
+    let absent : number_in keys key ≡ length keys =
+    subst (λ k. number_in k.keys key ≡ length k.keys) (sym c.self.view_is) c.requires.new in
+    let finds : FindsKeys room keys = λ q. c.make_room.ensures.same q ∙ c.self.invariant.1 q in
+    let put : IsUpdate room key (Some (length keys)) now =
+    subst (λ n. IsUpdate room key (Some n) now) c.self.invariant.0 c.put.ensures in (
+      omega (arith, ap length more, longer, c.self.invariant.0),
+      subst (FindsKeys now) (sym more) (finds_pushed room now keys key finds absent put),
+    )
+
+pub returns-clause-same : goal.returns-clause-same
+returns-clause-same g c clauses counts =
+    let s = counted_under c.args.lists.now c.args.disjunctions.now c.args.values.now clauses in
+    let keys = c.self.inside.keys.items in
+    let at = subst (λ k. Counts k s) (sym c.self.view_is) counts in
+    let made = c.in_ok-add_key_group.ensures.ok (shown_by keys s) at.shown (λ k d l. refl) in
+    subst (λ ks. Counts (record { keys = ks; counters = c.add_key_group.new.counters }) s)
+    (sym c.and-self-inside.ensures) (counts_key _ _ s at c.args.key.now c.requires.known made.1)

@@ -1,0 +1,5 @@
+pub mod Clauses
+pub mod Counts
+pub mod Falsified
+pub mod GroupIndex
+pub mod GroupKeys

@@ -1,0 +1,15 @@
+//! What a requires clause says.
+use providers::Requirement;
+use typed_ids::{DisjunctionId, VariableId};
+
+/// If the parent is true, one of the rows of the requirement is, unless a literal of the condition's disjunction is
+/// true.
+#[derive(Clone, Copy, Debug, PartialEq, Eq)]
+pub struct Demand {
+    /// The variable of what asks.
+    pub parent: VariableId,
+    /// What is asked for.
+    pub requirement: Requirement,
+    /// The literals of which one is true when nothing is asked for.
+    pub condition: Option<DisjunctionId>,
+}

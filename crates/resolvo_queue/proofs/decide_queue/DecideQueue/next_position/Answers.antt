@@ -1,0 +1,14 @@
+use Rattle.std.proofs.Common.{ap, ◌∙◌, slice_get}
+use Rattle.resolvo_queue.specs.Queue.{Queue}
+use Rattle.resolvo_queue.specs.Rows.ByVariable.{list_at}
+use Rattle.resolvo_queue.specs.Scan.First.{first_of}
+use Rattle.resolvo_queue.proofs.Clauses.Firsts.{next_first}
+use Rattle.resolvo_queue.proofs.decide_queue.DecideQueue.next_position.Goals as goal
+
+pub returns-clause-first : goal.returns-clause-first
+returns-clause-first g c =
+    let index = c.self.inside.tracked.index in
+    next_first index.clauses.items c.args.parent c.next_position.result.first_of_parent
+    (slice_get (list_at index.by_parent c.args.parent) 0) (c.self.invariant.0.order.first c.args.parent)
+    c.next_position.ensures.first
+    ∙ ap (λ (q : Queue g.row.D-NameId.Denot g.row.D-NameId-Set.Denot). first_of q.clauses c.args.parent) c.self.view_is

@@ -1,0 +1,64 @@
+//! Reading the registered clauses: the first falsified one, the ids, and where the next clause will stand.
+ghost use Rattle.std.specs.Prelude.{◌≡◌, All, length, option_map, slice_get};
+ghost use Rattle.decisions.specs.Decisions.{values_in};
+ghost use Rattle.resolvo_queue.specs.Queue.{StandsOn};
+ghost use Rattle.resolvo_queue.specs.References.{CanWalk, literals_in, references, rows_in};
+ghost use Rattle.resolvo_queue.specs.Scan.{first_falsified};
+ghost use Rattle.resolvo_queue.specs.Scan.First.{first_of};
+
+use crate::asked::Asked;
+use crate::decide_queue::DecideQueue;
+use crate::falsification::{falsified_clause, id_of};
+use crate::tracked_clause::Position;
+use clauses::Disjunction;
+use decisions::DecisionMap;
+use id_storage::Arena;
+use providers::{DependencyProvider, RequirementMap};
+use typed_ids::{ClauseId, DisjunctionId, VariableId};
+
+impl<D: DependencyProvider> DecideQueue<D> {
+    /// The first falsified clause of the scan, if there is one. Takes no memory; linear in all clauses, and in the rows
+    /// of those whose parents are true, of each up to the first row that isn't false.
+    pub fn falsified<'q>(
+        &self,
+        map: &'q DecisionMap<D::Alloc>,
+        lists: &'q RequirementMap<Vec<Vec<VariableId, D::Alloc>, D::Alloc>, D::Alloc>,
+        disjunctions: &'q Arena<DisjunctionId, Disjunction<D::Alloc>, D::Alloc>,
+        provider: &'q D,
+    ) -> Option<ClauseId>
+        requires stands { StandsOn (references (D.universe provider.now) lists.now disjunctions.now) self.now }
+        requires walkable { All (CanWalk (references (D.universe provider.now) lists.now disjunctions.now))
+            self.now.clauses }
+        ensures { let refs = references (D.universe provider.now) lists.now disjunctions.now in
+            result ≡ option_map (λ c. c.clause_id)
+            (first_falsified (values_in map.now) (literals_in refs) (rows_in refs) self.now.clauses) }
+    {
+        let asked = Asked {
+            map,
+            lists,
+            disjunctions,
+            interner: provider,
+        };
+        id_of(falsified_clause(self.tracked.index.clauses.as_slice(), &asked))
+    }
+
+    /// The id of the clause with a number: numbers are those of registration. None past the end.
+    pub fn clause_id(&self, number: u32) -> Option<ClauseId>
+        ensures { result ≡ option_map (λ c. c.clause_id) (slice_get self.now.clauses number) }
+    {
+        self.tracked
+            .index
+            .clauses
+            .as_slice()
+            .get(number as usize)
+            .map(|clause| clause.clause_id)
+    }
+
+    /// Where the next clause will stand in the scan if it has this parent. Constant time.
+    pub fn next_position(&self, parent: VariableId) -> Position
+        ensures number { result.number ≡ length self.now.clauses }
+        ensures first { result.first_of_parent ≡ first_of self.now.clauses parent }
+    {
+        self.tracked.index.next_position(parent)
+    }
+}

@@ -1,0 +1,337 @@
+-- What the counters count follows the trail and the registered clauses.
+use Rattle.std.proofs.Common.{◌≡◌, ℕ, zero, suc, ◌+◌, ◌-◌, ◌<◌, ◌≤◌, Bool, true, false, not, ◌&&◌, ◌||◌, cond, eqb, List, [], ◌∷◌, ◌++◌, length, get_or, map, take, Option, Some, None, option_map, Result, Ok, Err, refl, sym, ap, ◌∙◌, subst, arith, le_refl}
+use Rattle.std.specs.Prelude.{slice_get, nat_lt, OnOk, OnErr}
+use Rattle.std.specs.List.{list_all}
+use Rattle.std.specs.declared.vec.Vec.{Vec}
+use Rattle.providers.specs.declared.requirement.Requirement.{Requirement}
+use Rattle.std.proofs.lemmas.Option.{slice_get-map, slice_get-get_or}
+use Rattle.std.proofs.lemmas.List.{length-take, take-take, take_all, take_more}
+use Rattle.std.proofs.Math.Path.{fun_ext}
+use Rattle.std.proofs.lemmas.Bool.{eqb-true, eq-eqb, le-ltb}
+use Rattle.std.proofs.lemmas.List.{length-append}
+use Rattle.decisions.specs.Literals.{Lit, Pos, Neg, known_false}
+use Rattle.decisions.specs.Trail.{Entry, Trail, val, level_of, kept_until, IsOnce, AddsEntry}
+use Rattle.decisions.specs.declared.decision.Decision.{Decision}
+use Rattle.decisions.specs.declared.decision_tracker.AddFault.{AddFault}
+use Rattle.decisions.proofs.TrailLemmas.{val-push}
+use Rattle.clauses.specs.Clauses.{same_literal}
+use Rattle.clauses.specs.declared.disjunction.Disjunction.{Disjunction}
+use Rattle.clause_counters.specs.declared.position.Position.{Position as Place}
+use Rattle.falsified_clauses.specs.Clauses.{Counted, PlacedDemand, counted, with_false, with_undecided}
+use Rattle.falsified_clauses.specs.Counts.{Counts, KeyedCounters}
+use Rattle.falsified_clauses.proofs.Laws.{counts_disjunctions}
+use Rattle.resolvo_queue.specs.Scan.First.{first_of}
+use Rattle.resolvo_queue.specs.declared.requires_clause.RequiresClause.{RequiresClause}
+use Rattle.resolvo_queue.specs.declared.tracked_clause.Position.{Position}
+use Rattle.resolvo_queue.proofs.Falsified.Least.{next_position, position_stays}
+use Rattle.resolvo_store.specs.Lists.{IsOneMore}
+use Rattle.resolvo_store.specs.Counted.{Counting, Follows, no_false, false_literal, false_by, demand_of, placed, placed_from, placed_in}
+
+-- ---- one entry more, or less
+
+module _ (x v : ℕ) (known : Option Bool) (none : eqb x v ≡ true → known ≡ None) where
+  -- the variable's own literals under its new value, and all others as they were
+  more_positive : (value : Bool) → (same_literal (cond value (Neg x) (Pos x)) (Pos v) || known_false known)
+      ≡ known_false (cond (eqb x v) (Some value) known)
+  more_positive true = go (eqb x v) none
+    where
+      go : (t : Bool) → (t ≡ true → known ≡ None) → known_false known ≡ known_false (cond t (Some true) known)
+      go true n = ap known_false (n refl)
+      go false n = refl
+  more_positive false = go (eqb x v)
+    where
+      go : (t : Bool) → (t || known_false known) ≡ known_false (cond t (Some false) known)
+      go true = refl
+      go false = refl
+
+  more_negative : (value : Bool) → (same_literal (cond value (Neg x) (Pos x)) (Neg v) || known_false (option_map not known))
+      ≡ known_false (option_map not (cond (eqb x v) (Some value) known))
+  more_negative true = go (eqb x v)
+    where
+      go : (t : Bool) → (t || known_false (option_map not known)) ≡ known_false (option_map not (cond t (Some true) known))
+      go true = refl
+      go false = refl
+  more_negative false = go (eqb x v) none
+    where
+      go : (t : Bool) → (t ≡ true → known ≡ None) → known_false (option_map not known) ≡ known_false (option_map not (cond t (Some false) known))
+      go true n = ap (λ o. known_false (option_map not o)) (n refl)
+      go false n = refl
+
+  -- and without it
+  less_positive : (value : Bool) → (not (same_literal (cond value (Neg x) (Pos x)) (Pos v)) && known_false (cond (eqb x v) (Some value) known))
+      ≡ known_false known
+  less_positive true = sym (more_positive true)
+  less_positive false = go (eqb x v) none
+    where
+      go : (t : Bool) → (t ≡ true → known ≡ None) → (not t && known_false (cond t (Some false) known)) ≡ known_false known
+      go true n = sym (ap known_false (n refl))
+      go false n = refl
+
+  less_negative : (value : Bool) → (not (same_literal (cond value (Neg x) (Pos x)) (Neg v)) && known_false (option_map not (cond (eqb x v) (Some value) known)))
+      ≡ known_false (option_map not known)
+  less_negative true = go (eqb x v) none
+    where
+      go : (t : Bool) → (t ≡ true → known ≡ None) → (not t && known_false (option_map not (cond t (Some true) known))) ≡ known_false (option_map not known)
+      go true n = sym (ap (λ o. known_false (option_map not o)) (n refl))
+      go false n = refl
+  less_negative false = sym (more_negative false)
+
+module _ (es : List Entry) (e : Entry) (none : val es e.decision.variable ≡ None) where
+  own_none : (v : ℕ) → eqb e.decision.variable v ≡ true → val es v ≡ None
+  own_none v test = ap (val es) (sym (eqb-true e.decision.variable v test)) ∙ none
+
+  false_more : (l : Lit) → (same_literal (false_literal e.decision) l || false_by es l) ≡ false_by (es ++ e ∷ []) l
+  false_more (Pos v) = more_positive e.decision.variable v (val es v) (own_none v) e.decision.value ∙ ap known_false (sym (val-push es e v none))
+  false_more (Neg v) =
+      more_negative e.decision.variable v (val es v) (own_none v) e.decision.value ∙ ap (λ o. known_false (option_map not o)) (sym (val-push es e v none))
+
+  false_less : (l : Lit) → (not (same_literal (false_literal e.decision) l) && false_by (es ++ e ∷ []) l) ≡ false_by es l
+  false_less (Pos v) =
+      ap (λ o. not (same_literal (false_literal e.decision) (Pos v)) && known_false o) (val-push es e v none)
+      ∙ less_positive e.decision.variable v (val es v) (own_none v) e.decision.value
+  false_less (Neg v) =
+      ap (λ o. not (same_literal (false_literal e.decision) (Neg v)) && known_false (option_map not o)) (val-push es e v none)
+      ∙ less_negative e.decision.variable v (val es v) (own_none v) e.decision.value
+
+  -- what counts the entry's literal as false counts the entry
+  pub counts_more : {A : Type 0} (kept : KeyedCounters) (s : Counted A) → Counts kept (with_false (false_literal e.decision) (record s { is_false = false_by es }))
+      → Counts kept (record s { is_false = false_by (es ++ e ∷ []) })
+  counts_more kept s counts = subst (λ f. Counts kept (record s { is_false = f })) (fun_ext false_more) counts
+
+  -- what counts it as undecided no longer counts the entry
+  pub counts_less : {A : Type 0} (kept : KeyedCounters) (s : Counted A) → Counts kept (with_undecided (false_literal e.decision) (record s { is_false = false_by (es ++ e ∷ []) }))
+      → Counts kept (record s { is_false = false_by es })
+  counts_less kept s counts = subst (λ f. Counts kept (record s { is_false = f })) (fun_ext false_less) counts
+
+-- ---- entries of a trail
+
+-- a value that is found is not none
+first_test : (b y : Bool) (o : Option Bool) → cond b (Some y) o ≡ None → (b ≡ false) × (o ≡ None)
+first_test true y o none = cc
+first_test false y o none = (refl, none)
+
+same_entry : (e f : Entry) → Some e ≡ Some f → e ≡ f
+same_entry e f same = cc
+
+absent : (es : List Entry) (i : ℕ) (e : Entry) (v : ℕ) → slice_get es i ≡ Some e → val es v ≡ None → eqb e.decision.variable v ≡ false
+absent [] i e v at none = cc
+absent (x ∷ es) zero e v at none =
+    ap (λ (d : Entry). eqb d.decision.variable v) (sym (same_entry x e at)) ∙ (first_test (eqb x.decision.variable v) x.decision.value (val es v) none).0
+absent (x ∷ es) (suc i) e v at none = absent es i e v at (first_test (eqb x.decision.variable v) x.decision.value (val es v) none).1
+
+apart : (v w : ℕ) → eqb v w ≡ false → eqb w v ≡ false
+apart v w test = go (eqb w v) refl
+  where
+    go : (b : Bool) → eqb w v ≡ b → b ≡ false
+    go true e = (let no : false ≡ true = sym test ∙ eq-eqb v w (sym (eqb-true w v e)) in cc)
+    go false e = refl
+
+-- the variable of an entry has no value before it
+pub none_before : (es : List Entry) (i : ℕ) (e : Entry) → IsOnce es → slice_get es i ≡ Some e → val (take i es) e.decision.variable ≡ None
+none_before [] i e once at = cc
+none_before (x ∷ es) zero e once at = refl
+none_before (x ∷ es) (suc i) e once at =
+    ap (λ b. cond b (Some x.decision.value) (val (take i es) e.decision.variable))
+    (apart e.decision.variable x.decision.variable (absent es i e x.decision.variable at once.0)) ∙ none_before es i e once.1 at
+
+same_decision : (d e : Decision) → Some d ≡ Some e → d ≡ e
+same_decision d e same = cc
+
+-- the decision at an index is counted
+pub counts_next : {A : Type 0} (es : List Entry) (i : ℕ) (d : Decision) (kept : KeyedCounters) (s : Counted A) → IsOnce es → i < length es
+    → slice_get (map (λ (e : Entry). e.decision) es) i ≡ Some d
+    → Counts kept (with_false (false_literal d) (record s { is_false = false_by (take i es) }))
+    → Counts kept (record s { is_false = false_by (take (i + 1) es) })
+counts_next es i d kept s once within is counts =
+    let none : Entry = record { decision = d; level = 0 } in
+    let e = get_or es i none in
+    let at : slice_get es i ≡ Some e = slice_get-get_or es i none within in
+    let own : d ≡ e.decision = same_decision d e.decision (sym is ∙ (slice_get-map (λ (x : Entry). x.decision) es i ∙ ap (option_map (λ (x : Entry). x.decision)) at)) in
+    subst (λ xs. Counts kept (record s { is_false = false_by xs })) (sym (take_more es i none within))
+    (counts_more (take i es) e (none_before es i e once at) kept s
+    (subst (λ b. Counts kept (with_false (false_literal b) (record s { is_false = false_by (take i es) }))) own counts))
+
+-- and is no longer counted
+pub counts_before : {A : Type 0} (es : List Entry) (i : ℕ) (d : Decision) (kept : KeyedCounters) (s : Counted A) → IsOnce es → i < length es
+    → slice_get (map (λ (e : Entry). e.decision) es) i ≡ Some d
+    → Counts kept (with_undecided (false_literal d) (record s { is_false = false_by (take (i + 1) es) }))
+    → Counts kept (record s { is_false = false_by (take i es) })
+counts_before es i d kept s once within is counts =
+    let none : Entry = record { decision = d; level = 0 } in
+    let e = get_or es i none in
+    let at : slice_get es i ≡ Some e = slice_get-get_or es i none within in
+    let own : d ≡ e.decision = same_decision d e.decision (sym is ∙ (slice_get-map (λ (x : Entry). x.decision) es i ∙ ap (option_map (λ (x : Entry). x.decision)) at)) in
+    counts_less (take i es) e (none_before es i e once at) kept s
+    (subst (λ b. Counts kept (with_undecided (false_literal b) (record s { is_false = false_by (take i es ++ e ∷ []) }))) own
+    (subst (λ xs. Counts kept (with_undecided (false_literal d) (record s { is_false = false_by xs }))) (take_more es i none within) counts))
+
+-- ---- the level of an entry
+
+entry_level : (es : List Entry) (i : ℕ) (e : Entry) → IsOnce es → slice_get es i ≡ Some e → level_of es e.decision.variable ≡ e.level
+entry_level [] i e once at = cc
+entry_level (x ∷ es) zero e once at =
+    let same : x ≡ e = same_entry x e at in
+    ap (λ b. cond b x.level (level_of es e.decision.variable)) (eq-eqb x.decision.variable e.decision.variable (ap (λ (f : Entry). f.decision.variable) same))
+    ∙ ap (λ (f : Entry). f.level) same
+entry_level (x ∷ es) (suc i) e once at =
+    ap (λ b. cond b x.level (level_of es e.decision.variable)) (apart e.decision.variable x.decision.variable (absent es i e x.decision.variable at once.0))
+    ∙ entry_level es i e once.1 at
+
+-- that of a decision's variable
+pub decision_level : (es : List Entry) (i : ℕ) (d : Decision) → IsOnce es → i < length es → slice_get (map (λ (e : Entry). e.decision) es) i ≡ Some d
+    → (e : Entry) × (slice_get es i ≡ Some e) × (level_of es d.variable ≡ e.level)
+decision_level es i d once within is =
+    let none : Entry = record { decision = d; level = 0 } in
+    let e = get_or es i none in
+    let at : slice_get es i ≡ Some e = slice_get-get_or es i none within in
+    let own : d ≡ e.decision = same_decision d e.decision (sym is ∙ (slice_get-map (λ (x : Entry). x.decision) es i ∙ ap (option_map (λ (x : Entry). x.decision)) at)) in
+    (e, at, ap (λ (x : Decision). level_of es x.variable) own ∙ entry_level es i e once at)
+
+-- where an entry isn't above the level, not all entries from there on are
+some_low : (l : ℕ) (es : List Entry) (i : ℕ) (e : Entry) → slice_get es i ≡ Some e → e.level ≤ l → list_all (λ x. nat_lt l x.level) es ≡ false
+some_low l [] i e at low = cc
+some_low l (x ∷ es) zero e at low =
+    let same : x ≡ e = same_entry x e at in
+    let no : nat_lt l x.level ≡ false = ap (λ (f : Entry). nat_lt l f.level) same ∙ le-ltb l e.level low in
+    ap (λ b. b && list_all (λ (y : Entry). nat_lt l y.level) es) no
+some_low l (x ∷ es) (suc i) e at low = go (nat_lt l x.level) (some_low l es i e at low)
+  where
+    go : (b : Bool) → list_all (λ y. nat_lt l y.level) es ≡ false → (b && list_all (λ y. nat_lt l y.level) es) ≡ false
+    go true h = h
+    go false h = refl
+
+-- an undo to a level leaves what isn't above it
+pub stays_below : (l : ℕ) (es : List Entry) (i : ℕ) (e : Entry) → slice_get es i ≡ Some e → e.level ≤ l → i < length (kept_until l es)
+stays_below l [] i e at low = cc
+stays_below l (x ∷ es) zero e at low =
+    let left : length (kept_until l (x ∷ es)) ≡ suc (length (kept_until l es)) =
+    ap (λ b. length (cond b [] (x ∷ kept_until l es))) (some_low l (x ∷ es) zero e at low) in
+    omega (arith, left)
+stays_below l (x ∷ es) (suc i) e at low =
+    let rest = stays_below l es i e at low in
+    let left : length (kept_until l (x ∷ es)) ≡ suc (length (kept_until l es)) =
+    ap (λ b. length (cond b [] (x ∷ kept_until l es))) (some_low l (x ∷ es) (suc i) e at low) in
+    omega (arith, rest, left)
+
+-- ---- another trail
+
+-- the counters follow any trail that has the counted entries first
+pub follows_on : {A : Type 0} (kept : Counting) (s : Counted A) (es fs : List Entry) (n : ℕ) → Follows kept es s → kept.counted ≤ n
+    → kept.counted ≤ length fs → take n es ≡ take n fs → Follows kept fs s
+follows_on kept s es fs n h within few front = record {
+  within = few;
+  counts = subst (λ xs. Counts kept.clauses (record s { is_false = false_by xs }))
+      (sym (take-take kept.counted n es within) ∙ (ap (take kept.counted) front ∙ take-take kept.counted n fs within)) h.counts;
+}
+
+-- a trail that grew
+pub follows_more : {A : Type 0} (kept : Counting) (s : Counted A) (es fs : List Entry) → Follows kept es s → take (length es) fs ≡ es → Follows kept fs s
+follows_more kept s es fs h front =
+    let within = h.within in
+    let long : length es ≤ length fs = (let some = length-take (length es) fs in let same = ap length front in omega (arith, some, same)) in
+    follows_on kept s es fs (length es) h within (omega (arith, within, long)) (take_all (length es) es (le_refl (length es)) ∙ sym front)
+
+-- a trail that was cut, but not below what is counted
+pub follows_less : {A : Type 0} (kept : Counting) (s : Counted A) (es fs : List Entry) → Follows kept es s → kept.counted ≤ length fs
+    → fs ≡ take (length fs) es → Follows kept fs s
+follows_less kept s es fs h few front =
+    follows_on kept s es fs (length fs) h few few (sym front ∙ sym (take_all (length fs) fs (le_refl (length fs))))
+
+-- ---- a trail that grew
+
+pub front_of : (es added : List Entry) → take (length es) (es ++ added) ≡ es
+front_of [] added = refl
+front_of (x ∷ es) added = ap (λ xs. x ∷ xs) (front_of es added)
+
+-- what was counted before the trail grew
+pub front_added : (known : Option Bool) (old new : Trail) (e : Entry) (answer : Result Bool AddFault) → AddsEntry known old e answer new
+    → take (length old.entries) new.entries ≡ old.entries
+front_added known old new e answer adds = go known answer adds
+  where
+    all : (es : List Entry) → take (length es) es ≡ es
+    all [] = refl
+    all (x ∷ es) = ap (λ xs. x ∷ xs) (all es)
+
+    same : new ≡ old → take (length old.entries) new.entries ≡ old.entries
+    same is = ap (λ (t : Trail). take (length old.entries) t.entries) is ∙ all old.entries
+
+    go : (k : Option Bool) (a : Result Bool AddFault) → AddsEntry k old e a new → take (length old.entries) new.entries ≡ old.entries
+    go (Some b) a h = same h.1
+    go None (Ok added) h = ap (λ (t : Trail). take (length old.entries) t.entries) h.1 ∙ front_of old.entries (e ∷ [])
+    go None (Err fault) h = same h.1
+
+-- the whole trail is counted
+pub counts_all : {A : Type 0} (kept : Counting) (s : Counted A) (es : List Entry) → kept.counted ≡ length es → Follows kept es s
+    → Counts kept.clauses (record s { is_false = false_by es })
+counts_all kept s es all h = subst (λ xs. Counts kept.clauses (record s { is_false = false_by xs }))
+    (ap (λ n. take n es) all ∙ take_all (length es) es (le_refl (length es))) h.counts
+
+pub follows_all : {A : Type 0} (kept : Counting) (s : Counted A) (es : List Entry) → kept.counted ≡ length es
+    → Counts kept.clauses (record s { is_false = false_by es }) → Follows kept es s
+follows_all kept s es all counts = record {
+  within = omega (arith, all);
+  counts = subst (λ xs. Counts kept.clauses (record s { is_false = false_by xs }))
+      (sym (ap (λ n. take n es) all ∙ take_all (length es) es (le_refl (length es)))) counts;
+}
+
+-- ---- one clause more
+
+placed_pushed : (all : List RequiresClause) (i : ℕ) (cs : List RequiresClause) (c : RequiresClause)
+    → placed_from all i (cs ++ c ∷ []) ≡ placed_from all i cs ++ placed_in all (i + length cs) c ∷ []
+placed_pushed all i [] c = ap (λ n. placed_in all n c ∷ []) (let same : i ≡ i + 0 = omega arith in same)
+placed_pushed all i (d ∷ cs) c =
+    ap (λ xs. placed_in all i d ∷ xs) (placed_pushed all (suc i) cs c
+    ∙ ap (λ n. placed_from all (suc i) cs ++ placed_in all n c ∷ []) (let same : suc i + length cs ≡ i + suc (length cs) = omega arith in same))
+
+placed_same : (all more : List RequiresClause) (i : ℕ) (cs : List RequiresClause)
+    → ((n : ℕ) (c : RequiresClause) → slice_get cs n ≡ Some c → placed_in more (i + n) c ≡ placed_in all (i + n) c) → placed_from more i cs ≡ placed_from all i cs
+placed_same all more i [] same = refl
+placed_same all more i (c ∷ cs) same =
+    let first : i + 0 ≡ i = omega arith in
+    let head : placed_in more i c ≡ placed_in all i c = subst (λ n. placed_in more n c ≡ placed_in all n c) first (same 0 c refl) in
+    ap (λ x. x ∷ placed_from more (suc i) cs) head
+    ∙ ap (λ xs. placed_in all i c ∷ xs) (placed_same all more (suc i) cs
+    (λ n d at. let next : i + suc n ≡ suc i + n = omega arith in subst (λ m. placed_in more m d ≡ placed_in all m d) next (same (suc n) d at)))
+
+-- the clauses that are there stay, and the new one stands where the next one was to stand
+pub placed_more : (cs : List RequiresClause) (c : RequiresClause) → placed (cs ++ c ∷ []) ≡ placed cs ++ placed_in cs (length cs) c ∷ []
+placed_more cs c =
+    placed_pushed (cs ++ c ∷ []) 0 cs c
+    ∙ (ap (λ xs. xs ++ placed_in (cs ++ c ∷ []) (0 + length cs) c ∷ [])
+    (placed_same cs (cs ++ c ∷ []) 0 cs (λ n d at. ap (at_place d (0 + n)) (position_stays cs c n d at)))
+    ∙ ap (λ x. placed cs ++ x ∷ []) (ap (λ n. placed_in (cs ++ c ∷ []) n c) (let none : 0 + length cs ≡ length cs = omega arith in none)
+    ∙ ap (at_place c (length cs)) (next_position cs c)))
+  where
+    at_place : RequiresClause → ℕ → Position → PlacedDemand
+    at_place d n p = record { demand = demand_of d; position = record { first_of_parent = p.first_of_parent; number = n } }
+
+-- a clause was registered, and stands where it was put
+pub placed_registered : (P : List PlacedDemand → Type 0) (requires left : List RequiresClause) (one : RequiresClause) (p : Place)
+    → p.first_of_parent ≡ first_of requires one.parent → p.number ≡ length requires → left ≡ requires ++ one ∷ []
+    → P (placed requires ++ record { demand = demand_of one; position = p } ∷ []) → P (placed left)
+placed_registered P requires left one p first number grown counts =
+    let where_next : PlacedDemand → List PlacedDemand = λ x. placed requires ++ x ∷ [] in
+    let place : record { demand = demand_of one; position = p } ≡ placed_in requires (length requires) one =
+    ap (λ n. record { demand = demand_of one; position = record { first_of_parent = n; number = p.number } }) first
+    ∙ ap (λ n. record { demand = demand_of one; position = record { first_of_parent = first_of requires one.parent; number = n } }) number in
+    subst P (ap where_next place ∙ (sym (placed_more requires one) ∙ ap placed (sym grown))) counts
+
+-- ---- nothing more
+
+-- what follows the trail under the same clauses and entries
+pub follows_still : {A : Type 0} (kept : Counting) (loaded : List (Requirement × Vec (Vec ℕ A) A)) (disjunctions : List (Disjunction A))
+    {rs ss : List RequiresClause} {es fs : List Entry} → ss ≡ rs → fs ≡ es
+    → Follows kept es (counted loaded disjunctions (placed rs) no_false) → Follows kept fs (counted loaded disjunctions (placed ss) no_false)
+follows_still kept loaded disjunctions {rs} {ss} {es} {fs} same_clauses same_entries h =
+    subst (λ xs. Follows kept xs (counted loaded disjunctions (placed ss) no_false)) (sym same_entries)
+    (subst (λ cs. Follows kept es (counted loaded disjunctions (placed cs) no_false)) (sym same_clauses) h)
+
+-- after a disjunction was to be kept
+pub follows_disjunction : {A T E : Type 0} (kept : Counting) (es : List Entry) (s : Counted A) (more : List (Disjunction A)) (result : Result T E)
+    → OnOk result (IsOneMore s.disjunctions more) → OnErr result (more ≡ s.disjunctions) → Follows kept es s → Follows kept es (record s { disjunctions = more })
+follows_disjunction kept es s more (Ok x) one same h = record {
+  within = h.within;
+  counts = subst (λ ds. Counts kept.clauses (record s { disjunctions = ds; is_false = false_by (take kept.counted es) })) (sym one.grown)
+      (counts_disjunctions kept.clauses (record s { is_false = false_by (take kept.counted es) }) h.counts (one.disjunction ∷ []));
+}
+follows_disjunction kept es s more (Err e) one same h = subst (λ ds. Follows kept es (record s { disjunctions = ds })) (sym same) h

@@ -1,0 +1,142 @@
+-- The clause that the counters tell is the first falsified one of the scan. N are the names, S the solvables.
+use Rattle.std.proofs.Common.{◌≡◌, ℕ, zero, suc, ◌+◌, ◌<◌, Bool, true, false, not, ◌&&◌, ◌||◌, cond, ltb, eqb, List, [], ◌∷◌, ◌++◌, length, get_or, map, Option, Some, None, option_map, refl, sym, ap, ◌∙◌, subst, arith}
+use Rattle.std.specs.Prelude.{slice_get, zip, All}
+use Rattle.std.specs.List.{list_all}
+use Rattle.std.specs.Map.{lookup}
+use Rattle.std.specs.Ordering.{is_lt, ordering_then}
+use Rattle.std.specs.declared.cmp.Ordering.TheVariants.{Less, Equal, Greater}
+use Rattle.std.specs.declared.vec.Vec.{Vec}
+use Rattle.std.proofs.lemmas.List.Folds.{list_all-append, list_all-map}
+use Rattle.std.proofs.lemmas.Option.{slice_get_within, get_or_from_slice_get}
+use Rattle.typed_ids.specs.declared.version_set_id.VersionSetId.{VersionSetId}
+use Rattle.providers.specs.Provider.{Universe, sets_of}
+use Rattle.providers.specs.Requirement.{same_requirement}
+use Rattle.providers.specs.declared.requirement.Requirement.{Requirement}
+use Rattle.decisions.specs.Literals.{Values, known_true, known_false, is_false_literal}
+use Rattle.clauses.specs.Stored.{lists_found}
+use Rattle.clauses.specs.declared.disjunction.Disjunction.{Disjunction}
+use Rattle.clause_counters.specs.FalsifiedHeap.{is_before}
+use Rattle.falsified_clauses.specs.Clauses.{Counted, PlacedDemand, counted, no_clause, clause_at as placed_clause}
+use Rattle.falsified_clauses.specs.Falsified.{IsFirstFalsified, is_falsified as is_counted_falsified}
+use Rattle.resolvo_queue.specs.References.{CanWalk, References, literals_in, references, rows_in}
+use Rattle.resolvo_queue.specs.Rows.{all_false, list_rows, lists_or_none, lists_loaded, rows}
+use Rattle.resolvo_queue.specs.Scan.{are_literals_false, first_falsified, is_falsified}
+use Rattle.resolvo_queue.specs.Scan.First.{position_at}
+use Rattle.resolvo_queue.specs.Scan.Positions.{is_after}
+use Rattle.resolvo_queue.specs.declared.tracked_clause.Position.{Position}
+use Rattle.resolvo_queue.specs.declared.requires_clause.RequiresClause.{RequiresClause}
+use Rattle.resolvo_queue.proofs.Falsified.First.{falsified_by}
+use Rattle.resolvo_queue.proofs.Falsified.Least.{first_to_pass, none_to_pass, not_before_is_after}
+use Rattle.resolvo_store.specs.Counted.{clause_at, demand_of, placed, placed_from, placed_in}
+
+-- ---- positions
+
+-- what doesn't come before another isn't less than it
+not_less : (lp ep lo eo : Bool) → (lp || (ep && lo)) ≡ false
+    → is_lt (ordering_then (cond lp Less (cond ep Equal Greater)) (cond lo Less (cond eo Equal Greater))) ≡ false
+not_less true ep lo eo h = (let no : true ≡ false = h in cc)
+not_less false true true eo h = (let no : true ≡ false = h in cc)
+not_less false true false true h = refl
+not_less false true false false h = refl
+not_less false false lo eo h = refl
+
+not_after : (a b c d : ℕ) → is_before (record { first_of_parent = c; number = d }) (record { first_of_parent = a; number = b }) ≡ false
+    → is_after (record { first_of_parent = a; number = b }) (record { first_of_parent = c; number = d }) ≡ false
+not_after a b c d h =
+    not_before_is_after (record { first_of_parent = c; number = d }) (record { first_of_parent = a; number = b }) (not_less (ltb c a) (eqb c a) (ltb d b) (eqb d b) h)
+
+-- ---- the clause at a number
+
+placed_read : (all : List RequiresClause) (i : ℕ) (cs : List RequiresClause) (n : ℕ) (c : RequiresClause) → slice_get cs n ≡ Some c
+    → get_or (placed_from all i cs) n no_clause ≡ placed_in all (i + n) c
+placed_read all i [] n c at = cc
+placed_read all i (d ∷ cs) zero c at =
+    let same : d ≡ c = (let own : Some d ≡ Some c = at in cc) in
+    ap (placed_in all i) same ∙ ap (λ m. placed_in all m c) (let none : i ≡ i + 0 = omega arith in none)
+placed_read all i (d ∷ cs) (suc n) c at =
+    placed_read all (suc i) cs n c at ∙ ap (λ m. placed_in all m c) (let next : suc i + n ≡ i + suc n = omega arith in next)
+
+placed_many : (all : List RequiresClause) (i : ℕ) (cs : List RequiresClause) → length (placed_from all i cs) ≡ length cs
+placed_many all i [] = refl
+placed_many all i (c ∷ cs) = ap suc (placed_many all (suc i) cs)
+
+-- a number within the list has a clause
+not_past : (cs : List RequiresClause) (n : ℕ) → n < length cs → slice_get cs n ≡ None → ⊥
+not_past [] n l at = omega (arith, l)
+not_past (c ∷ cs) zero l at = (let no : Some c ≡ None = at in cc)
+not_past (c ∷ cs) (suc n) l at = not_past cs n (omega (arith, l)) at
+
+-- ---- one clause
+
+known_true_is : (o : Option Bool) → known_false (option_map not o) ≡ known_true o
+known_true_is None = refl
+known_true_is (Some true) = refl
+known_true_is (Some false) = refl
+
+module _ (val : Values) where
+  rows_false : (sets : List VersionSetId) (lists : List (List ℕ)) → length lists ≡ length sets
+      → all_false val (rows sets lists) ≡ list_all (list_all (λ v. known_false (val v))) lists
+  rows_false [] [] many = refl
+  rows_false [] (l ∷ ls) many = (let no : suc (length ls) ≡ 0 = many in absurd (omega (arith, no)))
+  rows_false (s ∷ sets) [] many = (let no : 0 ≡ suc (length sets) = many in absurd (omega (arith, no)))
+  rows_false (s ∷ sets) (l ∷ ls) many =
+      let rest : length ls ≡ length sets = omega (arith, many) in
+      list_all-append (λ row. known_false (val row.variable)) (list_rows s l) (rows sets ls)
+      ∙ (ap (λ b. b && all_false val (rows sets ls)) (list_all-map (λ row. known_false (val row.variable)) (λ x. record { set = s; variable = x }) l)
+      ∙ ap (λ b. list_all (λ v. known_false (val v)) l && b) (rows_false sets ls rest))
+
+and_grouped : (a b c : Bool) → ((a && b) && c) ≡ (a && (b && c))
+and_grouped true b c = refl
+and_grouped false b c = refl
+
+lists_same : {A : Type 0} (o : Option (Vec (Vec ℕ A) A)) → lists_found o ≡ lists_or_none o
+lists_same None = refl
+lists_same (Some lists) = refl
+
+module _ {N S A : Type 0} (universe : Universe N S) (loaded : List (Requirement × Vec (Vec ℕ A) A)) (ds : List (Disjunction A)) (val : Values)
+    (requires : List RequiresClause) (walkable : All (CanWalk (references universe loaded ds)) requires) where
+  abbrev refs : References N S A
+  refs = references universe loaded ds
+
+  abbrev passes : RequiresClause → Bool
+  passes = is_falsified val (literals_in refs) (rows_in refs)
+
+  abbrev shown : Counted A
+  shown = counted loaded ds (placed requires) (is_false_literal val)
+
+  -- a clause is falsified for the counters where it is for the scan
+  same_test : (n : ℕ) (c : RequiresClause) → slice_get requires n ≡ Some c → is_counted_falsified shown (demand_of c) ≡ passes c
+  same_test n c at =
+      let p : Bool = known_true (val c.parent) in
+      let l : Bool = are_literals_false val (literals_in refs c.condition) in
+      let lists = lists_loaded loaded c.requirement in
+      let can : CanWalk refs c = subst (CanWalk refs) (get_or_from_slice_get requires n c c at) (walkable n c (slice_get_within requires n c at)) in
+      let r : list_all (list_all (λ v. known_false (val v))) (lists_found (lookup (same_requirement c.requirement) loaded)) ≡ all_false val (rows_in refs c.requirement) =
+      ap (list_all (list_all (λ v. known_false (val v)))) (lists_same (lookup (same_requirement c.requirement) loaded))
+      ∙ sym (rows_false val (sets_of universe c.requirement) lists can.one_a_set) in
+      ap (λ b. (b && l) && list_all (list_all (λ v. known_false (val v))) (lists_found (lookup (same_requirement c.requirement) loaded))) (known_true_is (val c.parent))
+      ∙ (ap (λ b. (p && l) && b) r ∙ (and_grouped p l (all_false val (rows_in refs c.requirement)) ∙ sym (falsified_by val (literals_in refs) (rows_in refs) c)))
+
+  read_at : (n : ℕ) (c : RequiresClause) → slice_get requires n ≡ Some c → placed_clause shown n ≡ placed_in requires n c
+  read_at n c at = placed_read requires 0 requires n c at ∙ ap (λ m. placed_in requires m c) (let none : 0 + n ≡ n = omega arith in none)
+
+  test_at : (n : ℕ) (c : RequiresClause) → slice_get requires n ≡ Some c → is_counted_falsified shown (placed_clause shown n).demand ≡ passes c
+  test_at n c at = ap (λ (x : PlacedDemand). is_counted_falsified shown x.demand) (read_at n c at) ∙ same_test n c at
+
+  within : (n : ℕ) (c : RequiresClause) → slice_get requires n ≡ Some c → n < length (placed requires)
+  within n c at = subst (λ m. n < m) (sym (placed_many requires 0 requires)) (slice_get_within requires n c at)
+
+  -- so what the counters tell is the first of the scan
+  pub first_counted : (answer : Option ℕ) → IsFirstFalsified shown answer → clause_at requires answer ≡ first_falsified val (literals_in refs) (rows_in refs) requires
+  first_counted None first = sym (none_to_pass requires passes (λ n c at. sym (test_at n c at) ∙ first n (within n c at)))
+  first_counted (Some number) first = found (slice_get requires number) refl
+    where
+      found : (o : Option RequiresClause) → slice_get requires number ≡ o → slice_get requires number ≡ first_falsified val (literals_in refs) (rows_in refs) requires
+      found None at = absurd (not_past requires number (subst (λ m. number < m) (placed_many requires 0 requires) first.0) at)
+      found (Some c) at = at ∙ sym (first_to_pass requires passes number c (record {
+        at = at;
+        passes_itself = sym (test_at number c at) ∙ first.1;
+        least = λ n d is held. not_after (position_at requires number c).first_of_parent number (position_at requires n d).first_of_parent n
+            (subst (λ (x : PlacedDemand × PlacedDemand). is_before x.0.position x.1.position ≡ false) (λ i. (read_at n d is i, read_at number c at i))
+            (first.2 n (within n d is) (test_at n d is ∙ held)));
+      }))

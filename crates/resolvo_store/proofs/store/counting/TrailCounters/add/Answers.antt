@@ -1,0 +1,13 @@
+use Rattle.std.proofs.Common.{subst, sym, take}
+use Rattle.falsified_clauses.specs.Counts.{IsReady}
+use Rattle.resolvo_store.specs.Counted.{Counting, Follows, false_by}
+use Rattle.resolvo_store.proofs.store.counting.TrailCounters.add.Goals as goal
+
+pub returns : goal.returns
+returns g c s clause entries ready h =
+    let was = subst (λ (k : Counting). Follows k entries s) (sym c.self.view_is) h in
+    record {
+      within = was.within;
+      counts = c.add.ensures (record s { is_false = false_by (take c.self.inside.counted entries) }) clause
+          (subst (λ (k : Counting). IsReady k.clauses clause c.args.groups) (sym c.self.view_is) ready) was.counts;
+    }

@@ -1,0 +1,10 @@
+use Rattle.decisions.specs.Trail.{kept_until}
+use Rattle.resolvo_store.proofs.CountedLemmas.{follows_less}
+use Rattle.resolvo_store.proofs.SyncedLemmas.{kept_front}
+use Rattle.resolvo_store.proofs.store.counting.TrailCounters.leave_above.Goals as goal
+
+pub returns : goal.returns
+returns g c s h =
+    let es = c.args.trail.now.entries in
+    let level = c.args.level in
+    follows_less c.loop-self.self s es (kept_until level es) (c.loop-self.invariant.follows s h) (c.is_above.ensures.kept c.loop-self-test.false) (kept_front level es)
