@@ -1,5 +1,5 @@
 -- Which requirements list a variable, and how reading a requirement's rows changes it.
-use Rattle.std.specs.Prelude.{◌≡◌, ◌⊎◌, ℕ, Bool, true, List, Contains, count_by}
+use Rattle.std.specs.Prelude.{◌≡◌, ◌⊎◌, ℕ, Bool, List, Contains, count_by}
 use Rattle.std.specs.List.{list_any}
 use Rattle.providers.specs.Requirement.{same_requirement}
 use Rattle.providers.specs.declared.requirement.Requirement.{Requirement}
@@ -36,7 +36,3 @@ pub record GrowsWith (r : Requirement) (variables : List ℕ) (old new : Listed)
 -- the requirement is in the listing of each of the variables
 abbrev pub HasAll : Requirement → List ℕ → Listed → Type 0
 HasAll r variables o = (v : ℕ) → Contains variables v → Contains (listing o v) r
-
--- what is listed stays listed
-abbrev pub KeepsListed : Listed → Listed → Type 0
-KeepsListed old new = (r : Requirement) → is_listed old r ≡ true → is_listed new r ≡ true

@@ -1,5 +1,6 @@
 -- What eligible clauses offer, and which offer is picked.
 pub mod Behind
+pub mod Grounds
 pub mod Groups
 pub mod Inspection
 pub mod Questions

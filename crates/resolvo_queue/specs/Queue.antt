@@ -1,19 +1,17 @@
 -- What contracts see of a queue, and how its calls change it. N are the names of packages, H the sets of them.
-use Rattle.std.specs.Prelude.{◌≡◌, ℕ, Bool, true, false, ◌==◌, ◌<◌, ◌≤◌, if◌then◌else◌, List, []}
-use Rattle.std.specs.Prelude.{◌∷◌, ◌++◌, map, take, length, All, Option, Some, None, slice_get}
+use Rattle.std.specs.Prelude.{◌≡◌, ℕ, Bool, false, ◌==◌, ◌≤◌, if◌then◌else◌, List, []}
+use Rattle.std.specs.Prelude.{◌∷◌, ◌++◌, map, take, length, All, Some, None}
 use Rattle.typed_ids.specs.TotalMaps.{SameValues}
 use Rattle.providers.specs.Provider.{Universe, sets_of}
-use Rattle.decisions.specs.Literals.{Values, known_true}
+use Rattle.decisions.specs.Literals.{Values}
 use Rattle.decisions.specs.declared.decision.Decision.{Decision}
 use Rattle.resolvo_queue.specs.Pick.Inspection.{clause_of}
 use Rattle.resolvo_queue.specs.Rows.Listing.{IsListedWell}
-use Rattle.resolvo_queue.specs.Parts.Names.{AreCold, AreLast, counts}
+use Rattle.resolvo_queue.specs.Parts.Names.{AreCold}
 use Rattle.resolvo_queue.specs.Pick.Questions.{clause_literals}
 use Rattle.resolvo_queue.specs.References.{References, HasParts, rows_in}
-use Rattle.resolvo_queue.specs.Routing.Synced.{FindsConditions, KeepsQueued}
+use Rattle.resolvo_queue.specs.Routing.Synced.{FindsConditions, KeepsQueued, counts}
 use Rattle.resolvo_queue.specs.Parts.Tracking.{IsInOrder, Tracking, tracking_of}
-use Rattle.resolvo_queue.specs.declared.parent_value.ParentValue.{ParentValue}
-use Rattle.resolvo_queue.specs.declared.tracked_clause.TrackedClause.{TrackedClause}
 use Rattle.resolvo_queue.specs.declared.tracked_clauses.TrackedClauses.{TrackedClauses}
 use Rattle.resolvo_queue.specs.declared.requires_clause.RequiresClause.{RequiresClause}
 
@@ -21,26 +19,27 @@ pub record Queue (N H : Type 0) : Type 0 where
   -- the registered clauses in order, and the names that were handed in with each
   pub clauses : List RequiresClause
   pub names : List (List N)
-  -- the trail of the last accepted sync, and the parents registered since, with the values that were handed in
+  -- the trail of the last accepted sync
   pub trail : List Decision
-  pub since : List ParentValue
   -- the last sync was refused
   pub must_start_anew : Bool
   -- the names that were marked hot
   pub hot : H
   -- what is kept beside: calls tell of it only what `StandsOn` says, and how often requirements were walked
   pub inside : Tracking
+  -- how many clauses are queued where they may be eligible
+  pub woken : ℕ
 
 -- a queue's value, by what it keeps
-abbrev pub queue_of : {N H A : Type 0} → TrackedClauses A → List (List N) → H → List ParentValue → Queue N H
-queue_of tracked names hot since = record {
+abbrev pub queue_of : {N H A : Type 0} → TrackedClauses A → List (List N) → H → (woken : ℕ) → Queue N H
+queue_of tracked names hot woken = record {
   clauses = map clause_of tracked.index.clauses.items;
   names = names;
   trail = tracked.trail.items;
-  since = since;
   must_start_anew = tracked.must_start_anew;
   hot = hot;
   inside = tracking_of tracked;
+  woken = woken;
 }
 
 -- the value of each variable by a trail: that of its decision, undecided if there is none
@@ -57,7 +56,6 @@ module _ {N H : Type 0} (old new : Queue N H) where
 
   pub record SameSync : Type 0 where
     pub trail : new.trail ≡ old.trail
-    pub since : new.since ≡ old.since
     pub must_start_anew : new.must_start_anew ≡ old.must_start_anew
 
   -- all that contracts see, where has tells what sets of names have
@@ -73,39 +71,33 @@ pub record IsNew {N H : Type 0} (has : H → N → Bool) (q : Queue N H) : Type 
   pub clauses : q.clauses ≡ []
   pub names : q.names ≡ []
   pub trail : q.trail ≡ []
-  pub since : q.since ≡ []
   pub must_start_anew : q.must_start_anew ≡ false
   pub hot : (n : N) → has q.hot n ≡ false
 
--- one clause more, with its names, and its parent's value
+-- one clause more, with its names
 pub record IsRegistered {N H : Type 0} (has : H → N → Bool) (clause : RequiresClause) (its_names : List N)
-    (value : Option Bool) (old new : Queue N H) : Type 0 where
+    (old new : Queue N H) : Type 0 where
   pub clauses : new.clauses ≡ old.clauses ++ clause ∷ []
   pub names : new.names ≡ old.names ++ its_names ∷ []
-  pub since : new.since ≡ old.since ++ (record { parent = clause.parent; value = value }) ∷ []
   pub trail : new.trail ≡ old.trail
   pub must_start_anew : new.must_start_anew ≡ old.must_start_anew
   pub hot : SameValues (has old.hot) (has new.hot)
 
--- the trail of an accepted sync, since which nothing was registered
+-- the trail of an accepted sync
 pub record HasTrail {N H : Type 0} (entries : List Decision) (q : Queue N H) : Type 0 where
   pub trail : q.trail ≡ entries
-  pub since : q.since ≡ []
   pub must_start_anew : q.must_start_anew ≡ false
 
 -- ---- what calls ask
 
--- the trail is the queue's below the floor, where no parent is true that was registered since as not true
-pub record AgreesBelow {N H : Type 0} (floor : ℕ) (entries : List Decision) (q : Queue N H) : Type 0 where
-  pub trail : take floor q.trail ≡ take floor entries
-  pub since : All (λ p. known_true p.value ≡ false →
-      known_true (values_of (take floor entries) p.parent) ≡ false) q.since
+-- the trail is the queue's below the floor
+abbrev pub AgreesBelow : {N H : Type 0} (floor : ℕ) → List Decision → Queue N H → Type 0
+AgreesBelow floor entries q = take floor q.trail ≡ take floor entries
 
--- the last sync was accepted, and the values are those of its trail, and those of the parents registered since
+-- the last sync was accepted, and the values are those of its trail
 pub record IsSynced {N H : Type 0} (val : Values) (q : Queue N H) : Type 0 where
   pub accepted : q.must_start_anew ≡ false
   pub trail : SameValues (values_of q.trail) val
-  pub since : All (λ p. val p.parent ≡ p.value) q.since
 
 -- the names handed in with each clause are the packages of its requirement's version sets, in order
 abbrev pub AreNamed : {N S H : Type 0} → Universe N S → Queue N H → Type 0
@@ -116,8 +108,8 @@ abbrev pub OnlyHotScore : {N H : Type 0} → (H → N → Bool) → (N → ℕ) 
 OnlyHotScore {N} has scores q = (n : N) → has q.hot n ≡ false → scores n ≡ 0
 
 -- what the queue's clauses name is there, and as it was when they were registered: the variables of a condition find
--- the clause, the rows of listed requirements are listed, and unless the last sync was refused, all clauses that may be
--- eligible are queued, and what is known of rows is right
+-- the clause, the rows of listed requirements are listed, and unless the last sync was refused, all woken clauses that
+-- may be eligible are queued, and what is known of rows is right
 pub record StandsOn {N S A H : Type 0} (refs : References N S A) (q : Queue N H) : Type 0 where
   pub clauses : q.clauses ≡ map clause_of q.inside.clauses
   pub parts : All (HasParts refs) q.clauses
@@ -125,11 +117,11 @@ pub record StandsOn {N S A H : Type 0} (refs : References N S A) (q : Queue N H)
   pub listed : IsListedWell refs.lists q.inside.occurrences q.inside.requirements
   pub synced : q.must_start_anew ≡ false →
       KeepsQueued q.inside.clauses (clause_literals refs) (rows_in refs) (values_of q.trail)
-      (counts (values_of q.trail) q.since q.inside.clauses) q.inside.requirements q.inside.queued
+      (counts (values_of q.trail) q.woken) q.inside.requirements q.inside.queued
 
 -- what always holds of a queue
 pub record IsKept {N H : Type 0} (has : H → N → Bool) (q : Queue N H) : Type 0 where
   pub order : IsInOrder q.inside
   pub names : length q.names ≡ length q.inside.clauses
-  pub since : AreLast q.since q.inside.clauses
+  pub woken : q.woken ≤ length q.inside.clauses
   pub cold : AreCold (has q.hot) q.names q.inside.clauses

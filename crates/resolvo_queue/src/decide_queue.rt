@@ -33,14 +33,15 @@
 //!
 //! By what is known a clause may be eligible if its parent is true, its condition is met, and its requirement isn't
 //! known to have no frontier. All of those are queued, by their position in the scan; some that can't be eligible any
-//! more may be queued too. A question ([`DecideQueue::next_decision`]) takes the queued clauses of the root from the
-//! front, which lie side by side there; only where none of them is eligible, it takes all. It walks a requirement's
-//! rows only if nothing is known of them, and after they were listed, so that a later sync finds them. What isn't
-//! eligible leaves the queue; so nothing is looked at twice. The first clause that is eligible is the best so far.
-//! Behind it only a clause with a higher score is better, so while scores are raised by the standard parameters only
-//! those are looked at that have a package that ever got one: the hot ones, which are queued a second time. A name
-//! finds its clauses when it gets its first score. Nothing is better than a frontier with one candidate, or with the
-//! largest score.
+//! more may be queued too. A clause that comes isn't queued: a watermark tells how many are, and a question
+//! ([`DecideQueue::next_decision`]) first queues those above it whose parents are true. It takes the queued clauses of
+//! the root from the front, which lie side by side there; only where none of them is eligible, it takes all. It walks
+//! the rows of a requirement only if nothing is known of them, and after they were listed, so that a later sync finds
+//! them. What isn't eligible leaves the queue; so nothing is looked at twice. The first clause that is eligible is the
+//! best so far. Behind it only a clause with a higher score is better, so while scores are raised by the standard
+//! parameters only those are looked at that have a package that ever got one: the hot ones, which are queued a second
+//! time. A name finds its clauses when it gets its first score. Nothing is better than a frontier with one candidate,
+//! or with the largest score.
 //!
 //! So the walks of a requirement can be counted. It owes those that were done, and one more while nothing is known of
 //! its rows. It owes the first as its first clause comes; a sync makes it owe at most one more, and only if a variable
@@ -77,12 +78,12 @@ use crate::clauses_by_name::ClausesByName;
 use crate::condition::condition_of;
 use crate::deciding::next_offer;
 use crate::names::{NameLog, has_hot_name};
-use crate::offer::decision_at;
-use crate::parent_value::{ParentValue, is_true};
+use crate::offer::decision_of;
 use crate::queue_decision::QueueDecision;
 use crate::requires_clause::RequiresClause;
 use crate::row_reader::RowReader;
 use crate::tracked_clauses::TrackedClauses;
+use crate::waking::wake_from;
 use clauses::Disjunction;
 use decisions::{Decision, DecisionMap};
 use id_maps::{IdSet, SolverId};
@@ -104,8 +105,8 @@ pub struct DecideQueue<D: DependencyProvider> {
     /// Who has a name. Numbers of clauses that were refused may be among them.
     by_name: ClausesByName<D::NameId, D::Alloc>,
     hot_names: <D::NameId as SolverId<D::Alloc>>::Set,
-    /// The parents that were registered since the last accepted sync.
-    since: Vec<ParentValue, D::Alloc>,
+    /// How many clauses are queued where they may be eligible. Those that came later are woken by the next decision.
+    woken: usize,
 }
 
 impl<D: DependencyProvider> Model for DecideQueue<D> {
@@ -115,10 +116,10 @@ impl<D: DependencyProvider> Model for DecideQueue<D> {
 
     ghost Value = { Queue D.NameId D.NameId.Set };
 
-    ghost view = { λ q. queue_of q.tracked q.names.items q.hot_names q.since.items };
+    ghost view = { λ q. queue_of q.tracked q.names.items q.hot_names q.woken };
 
     ghost invariant = { λ q. IsKept D.NameId.Set.has
-        (queue_of q.tracked q.names.items q.hot_names q.since.items)
+        (queue_of q.tracked q.names.items q.hot_names q.woken)
         × AreEntered D.NameId.Slots.is_too_large (numbers_under D.NameId.Slots.value_at q.by_name) q.names.items };
 }
 
@@ -136,7 +137,7 @@ impl<D: DependencyProvider> DecideQueue<D> {
             hot_names: <<D::NameId as SolverId<D::Alloc>>::Set as IdSet<D::NameId, D::Alloc>>::new(
                 alloc,
             ),
-            since: Vec::new(alloc),
+            woken: 0,
         }
     }
 
@@ -175,7 +176,7 @@ impl<D: DependencyProvider> DecideQueue<D> {
     }
 
     /// Puts a clause after those that are there. With it come the packages of its requirement's version sets, in order,
-    /// and the value of its parent.
+    /// and the value of its parent, which nothing depends on: the next decision looks at it anew.
     ///
     /// Refused, it changes nothing that an answer can show. Constant beside the names, the condition and the maps.
     pub fn register_clause(
@@ -191,7 +192,7 @@ impl<D: DependencyProvider> DecideQueue<D> {
         requires { IfSome condition (λ d. d < length disjunctions.now) }
         ensures ok { OnOk result (IsRegistered D.NameId.Set.has
             (record { parent = parent; requirement = requirement; condition = condition; clause_id = clause_id })
-            names.now parent_value self.old self.new) }
+            names.now self.old self.new) }
         ensures err { OnErr result (IsUnchanged self.old self.new D.NameId.Set.has) }
         ensures full { (result ≡ Err TooManyClauses) ↔ (2 ^ 32 - 1 ≤ length self.old.clauses) }
         ensures memory { IfErr result (λ e. e ≢ TooManyClauses → e ≡ OutOfMemory) }
@@ -209,6 +210,7 @@ impl<D: DependencyProvider> DecideQueue<D> {
             StandsOn (references universe lists disjunctions.now) self.old →
             StandsOn (references universe lists disjunctions.now) self.new }
     {
+        let _ = parent_value;
         if self.is_full() {
             return Err(StoreError::TooManyClauses);
         }
@@ -218,18 +220,12 @@ impl<D: DependencyProvider> DecideQueue<D> {
             condition,
             clause_id,
         };
-        self.since.reserve(1)?;
         let number = self.tracked.index.clauses.len() as u32;
         self.by_name.enter(names, number)?;
         let is_hot = has_hot_name(&self.hot_names, names);
         let literals = condition_of(&condition, disjunctions);
-        self.tracked
-            .register(&clause, literals, is_hot, is_true(parent_value))?;
+        self.tracked.register(&clause, literals, is_hot)?;
         self.names = self.names.and(names);
-        self.since.push_reserved(ParentValue {
-            parent,
-            value: parent_value,
-        });
         Ok(())
     }
 
@@ -306,18 +302,16 @@ impl<D: DependencyProvider> DecideQueue<D> {
             owed self.new r ≡ owed self.old r }
     {
         let floor = floor.min(trail.len()).min(self.tracked.trail.len());
-        self.tracked.sync(floor, trail, map)?;
-        self.since.clear();
-        Ok(())
+        self.tracked.sync(floor, trail, map)
     }
 
     /// The decision to take where no clause is falsified, which [`DecideQueue::falsified`] tells: that of an eligible
     /// clause which no other one beats. The scores are the packages', and the largest of them is handed in.
     ///
     /// A refusal leaves the clauses, the trail and the hot names as they were, and the reader its walks. Linear in the
-    /// clauses that changed variables find, in the queued clauses that turn out not to be eligible, which leave the
-    /// queue, in the hot ones behind the first that is, and in the rows of their requirements of which nothing was
-    /// known.
+    /// clauses that came since the last call, in those that changed variables find, in the queued clauses that turn out
+    /// not to be eligible, which leave the queue, in the hot ones behind the first that is, and in the rows of their
+    /// requirements of which nothing was known.
     pub fn next_decision<'q>(
         &mut self,
         map: &'q DecisionMap<D::Alloc>,
@@ -365,7 +359,13 @@ impl<D: DependencyProvider> DecideQueue<D> {
             largest,
             interner: provider,
         };
-        let offer = next_offer(&mut self.tracked, reader, &question)?;
-        Ok(decision_at(&offer))
+        wake_from(
+            &mut self.tracked.queued,
+            self.tracked.index.clauses.as_slice(),
+            self.woken,
+            map,
+        )?;
+        self.woken = self.tracked.index.clauses.len();
+        decision_of(next_offer(&mut self.tracked, reader, &question))
     }
 }

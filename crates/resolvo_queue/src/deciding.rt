@@ -1,22 +1,21 @@
 //! The decision along what is queued. First the root's clauses are gone through, which are decided before anything that
 //! follows from them; only where none of them is eligible, all that is queued, which the root's have left by then. Each
 //! time the first eligible clause is the best at first, and behind it what may be better is looked at.
-ghost use Rattle.std.specs.Prelude.{◌≡◌, ◌<◌, Some, None, true, false, length, filter, slice_get};
+ghost use Rattle.std.specs.Prelude.{◌≡◌, ◌<◌, Some, None, true, false, length, slice_get};
 ghost use Rattle.std.specs.Prelude.{IfSome, MatchOption, OnOk, IfOk, IfErr};
 ghost use Rattle.typed_ids.specs.declared.error.StoreError.TheVariants.{OutOfMemory};
-ghost use Rattle.decisions.specs.Decisions.{values_in};
-ghost use Rattle.resolvo_queue.specs.Pick.Steps.{CanBeAsked, OnlyWalks};
-ghost use Rattle.resolvo_queue.specs.Pick.Groups.{group_at, has_of, is_in, offers_of};
-ghost use Rattle.resolvo_queue.specs.Pick.Inspection.{eligible_frontier, offer_with};
-ghost use Rattle.resolvo_queue.specs.Pick.{best_offer, is_of_root, pick};
+ghost use Rattle.resolvo_queue.specs.Pick.{best_offer, pick};
+ghost use Rattle.resolvo_queue.specs.Pick.Grounds.{AskedOn, BeginsPick, BeginsRoots, BestFrom, ColdOn, EligibleAt};
+ghost use Rattle.resolvo_queue.specs.Pick.Grounds.{ImprovedBy, grounds, offers_on, score_by};
+ghost use Rattle.resolvo_queue.specs.Pick.Groups.{has_of, is_in, offers_of};
+ghost use Rattle.resolvo_queue.specs.Pick.Inspection.{offer_with};
+ghost use Rattle.resolvo_queue.specs.Pick.Questions.{AreUpTo};
+ghost use Rattle.resolvo_queue.specs.Pick.Ready.{IsDone, offered};
+ghost use Rattle.resolvo_queue.specs.Pick.Steps.{OnlyWalks};
 ghost use Rattle.resolvo_queue.specs.Scan.Positions.{has, is_after, IsBefore};
 ghost use Rattle.resolvo_queue.specs.Parts.Queued.{IsOfClause, set_of};
-ghost use Rattle.resolvo_queue.specs.Pick.Questions.{clause_literals, offers_in, AreUpTo};
-ghost use Rattle.resolvo_queue.specs.Pick.Ready.{IsDone, ColdHasNoScore, offered, rest_picked, improved};
-ghost use Rattle.resolvo_queue.specs.References.{references, rows_in, score_in};
 ghost use Rattle.resolvo_queue.specs.declared.tracked_clause.Position.{Position as APosition};
 ghost use Rattle.resolvo_queue.specs.declared.tracked_clause.TrackedClause.{TrackedClause as ATrackedClause};
-ghost use Rattle.typed_ids.specs.declared.version_set_id.VersionSetId.{VersionSetId as AVersionSetId};
 
 use crate::asked::Question;
 use crate::group::Group;
@@ -39,19 +38,13 @@ fn inspect_at<I: Interner>(
     question: &Question<'_, I>,
 ) -> Result<Option<Frontier>, StoreError>
     requires of { IsOfClause tracked.old.index.clauses.items position }
-    requires asked { let refs = references (I.universe question.now.interner.now)
-        reader.old.lists question.now.disjunctions.now in
-        CanBeAsked refs (values_in question.now.map.now) tracked.old }
-    ensures frontier { let refs = references (I.universe question.now.interner.now)
-        reader.old.lists question.now.disjunctions.now in
-        IfOk result (λ f. (c : ATrackedClause) → slice_get tracked.old.index.clauses.items position.number ≡ Some c →
-        f ≡ eligible_frontier (values_in question.now.map.now) (clause_literals refs) (rows_in refs) c) }
+    requires asked { AskedOn (grounds I.universe I.NameId.Scores.value_at question.now reader.old) tracked.old }
+    ensures frontier { let on = grounds I.universe I.NameId.Scores.value_at question.now reader.old in
+        IfOk result (EligibleAt on tracked.old position) }
     ensures set { IfOk result (λ f. IfSome f (λ g. (I.universe question.now.interner.now).knows_set g.set ≡ true)) }
     ensures fewer { IfOk result (λ f. f ≡ None → has tracked.old.queued.all position ≡ true →
         length tracked.new.queued.all < length tracked.old.queued.all) }
-    ensures asked { let refs = references (I.universe question.now.interner.now)
-        reader.old.lists question.now.disjunctions.now in
-        CanBeAsked refs (values_in question.now.map.now) tracked.new }
+    ensures asked { AskedOn (grounds I.universe I.NameId.Scores.value_at question.now reader.old) tracked.new }
     ensures walks { OnlyWalks tracked.old tracked.new reader.old reader.new }
     ensures memory { IfErr result (λ e. e ≡ OutOfMemory) }
 {
@@ -79,9 +72,7 @@ fn offer_at<I: Interner>(
     question: &Question<'_, I>,
 ) -> Offer
     requires { (I.universe question.now.interner.now).knows_set frontier.set ≡ true }
-    ensures { let universe = I.universe question.now.interner.now in
-        let score = λ (set : AVersionSetId). I.NameId.Scores.value_at question.now.scores.now (universe.set_name set) in
-        result ≡ offer_with score clause.now frontier }
+    ensures { result ≡ offer_with (score_by I.universe I.NameId.Scores.value_at question.now) clause.now frontier }
 {
     Offer {
         clause: RequiresClause {
@@ -104,10 +95,8 @@ fn candidate_at<I: Interner>(
 ) -> Candidate
     requires of { IsOfClause tracked.now.index.clauses.items position }
     requires set { (I.universe question.now.interner.now).knows_set frontier.set ≡ true }
-    ensures offer { let universe = I.universe question.now.interner.now in
-        let score = λ (set : AVersionSetId). I.NameId.Scores.value_at question.now.scores.now (universe.set_name set) in
-        (c : ATrackedClause) → slice_get tracked.now.index.clauses.items position.number ≡ Some c →
-        result.offer ≡ offer_with score c frontier }
+    ensures offer { (c : ATrackedClause) → slice_get tracked.now.index.clauses.items position.number ≡ Some c →
+        result.offer ≡ offer_with (score_by I.universe I.NameId.Scores.value_at question.now) c frontier }
     ensures at { result.position ≡ position }
 {
     let clause = &tracked.index.clauses[position.number as usize];
@@ -124,19 +113,11 @@ fn first_eligible<I: Interner>(
     reader: &mut RowReader<'_, I::Alloc>,
     question: &Question<'_, I>,
 ) -> Result<Option<Candidate>, StoreError>
-    requires asked { let refs = references (I.universe question.now.interner.now)
-        reader.old.lists question.now.disjunctions.now in
-        CanBeAsked refs (values_in question.now.map.now) tracked.old }
-    ensures picked { let refs = references (I.universe question.now.interner.now)
-        reader.old.lists question.now.disjunctions.now in
-        let score = I.NameId.Scores.value_at question.now.scores.now in
-        let offers = offers_of group (offers_in refs (values_in question.now.map.now) score) in
-        let clauses = tracked.old.index.clauses.items in let best = best_offer (offered clauses offers) in
-        IfOk result (λ o. MatchOption o (best ≡ None) (λ b. best ≡ rest_picked clauses offers b.offer b.position)) }
+    requires asked { AskedOn (grounds I.universe I.NameId.Scores.value_at question.now reader.old) tracked.old }
+    ensures picked { let on = grounds I.universe I.NameId.Scores.value_at question.now reader.old in
+        IfOk result (BeginsPick tracked.old.index.clauses.items (offers_of group (offers_on on))) }
     ensures of { IfOk result (λ o. IfSome o (λ b. is_in group b.position ≡ true)) }
-    ensures asked { let refs = references (I.universe question.now.interner.now)
-        reader.old.lists question.now.disjunctions.now in
-        CanBeAsked refs (values_in question.now.map.now) tracked.new }
+    ensures asked { AskedOn (grounds I.universe I.NameId.Scores.value_at question.now reader.old) tracked.new }
     ensures walks { OnlyWalks tracked.old tracked.new reader.old reader.new }
     ensures memory { IfErr result (λ e. e ≡ OutOfMemory) }
 {
@@ -184,17 +165,10 @@ fn improve<I: Interner>(
     question: &Question<'_, I>,
 ) -> Result<(), StoreError>
     requires of { IsOfClause tracked.old.index.clauses.items position }
-    requires asked { let refs = references (I.universe question.now.interner.now)
-        reader.old.lists question.now.disjunctions.now in
-        CanBeAsked refs (values_in question.now.map.now) tracked.old }
-    ensures better { let refs = references (I.universe question.now.interner.now)
-        reader.old.lists question.now.disjunctions.now in
-        let score = I.NameId.Scores.value_at question.now.scores.now in
-        OnOk result ((c : ATrackedClause) → slice_get tracked.old.index.clauses.items position.number ≡ Some c →
-        best.new.offer ≡ improved best.old.offer (offers_in refs (values_in question.now.map.now) score c)) }
-    ensures asked { let refs = references (I.universe question.now.interner.now)
-        reader.old.lists question.now.disjunctions.now in
-        CanBeAsked refs (values_in question.now.map.now) tracked.new }
+    requires asked { AskedOn (grounds I.universe I.NameId.Scores.value_at question.now reader.old) tracked.old }
+    ensures better { let on = grounds I.universe I.NameId.Scores.value_at question.now reader.old in
+        OnOk result (ImprovedBy on tracked.old position best.old.offer best.new.offer) }
+    ensures asked { AskedOn (grounds I.universe I.NameId.Scores.value_at question.now reader.old) tracked.new }
     ensures walks { OnlyWalks tracked.old tracked.new reader.old reader.new }
     ensures memory { IfErr result (λ e. e ≡ OutOfMemory) }
 {
@@ -222,25 +196,12 @@ fn best_from<I: Interner>(
     question: &Question<'_, I>,
 ) -> Result<Option<Offer>, StoreError>
     requires of { is_in group first.position ≡ true }
-    requires asked { let refs = references (I.universe question.now.interner.now)
-        reader.old.lists question.now.disjunctions.now in
-        CanBeAsked refs (values_in question.now.map.now) tracked.old }
-    requires cold { let refs = references (I.universe question.now.interner.now)
-        reader.old.lists question.now.disjunctions.now in
-        let score = score_in refs (I.NameId.Scores.value_at question.now.scores.now) in
-        ColdHasNoScore tracked.old.index.clauses.items (clause_literals refs) (rows_in refs)
-        (values_in question.now.map.now) score }
-    requires largest { let refs = references (I.universe question.now.interner.now)
-        reader.old.lists question.now.disjunctions.now in
-        AreUpTo question.now.largest (score_in refs (I.NameId.Scores.value_at question.now.scores.now)) }
-    ensures best { let refs = references (I.universe question.now.interner.now)
-        reader.old.lists question.now.disjunctions.now in
-        let score = I.NameId.Scores.value_at question.now.scores.now in
-        let offers = offers_of group (offers_in refs (values_in question.now.map.now) score) in
-        IfOk result (λ o. o ≡ rest_picked tracked.old.index.clauses.items offers first.offer first.position) }
-    ensures asked { let refs = references (I.universe question.now.interner.now)
-        reader.old.lists question.now.disjunctions.now in
-        CanBeAsked refs (values_in question.now.map.now) tracked.new }
+    requires asked { AskedOn (grounds I.universe I.NameId.Scores.value_at question.now reader.old) tracked.old }
+    requires cold { ColdOn (grounds I.universe I.NameId.Scores.value_at question.now reader.old) tracked.old }
+    requires largest { AreUpTo question.now.largest (score_by I.universe I.NameId.Scores.value_at question.now) }
+    ensures best { let on = grounds I.universe I.NameId.Scores.value_at question.now reader.old in
+        IfOk result (BestFrom tracked.old.index.clauses.items (offers_of group (offers_on on)) first) }
+    ensures asked { AskedOn (grounds I.universe I.NameId.Scores.value_at question.now reader.old) tracked.new }
     ensures walks { OnlyWalks tracked.old tracked.new reader.old reader.new }
     ensures memory { IfErr result (λ e. e ≡ OutOfMemory) }
 {
@@ -259,20 +220,10 @@ fn first_of_root<I: Interner>(
     reader: &mut RowReader<'_, I::Alloc>,
     question: &Question<'_, I>,
 ) -> Result<Option<Candidate>, StoreError>
-    requires asked { let refs = references (I.universe question.now.interner.now)
-        reader.old.lists question.now.disjunctions.now in
-        CanBeAsked refs (values_in question.now.map.now) tracked.old }
-    ensures picked { let refs = references (I.universe question.now.interner.now)
-        reader.old.lists question.now.disjunctions.now in
-        let score = I.NameId.Scores.value_at question.now.scores.now in
-        let offers = offers_in refs (values_in question.now.map.now) score in
-        let clauses = tracked.old.index.clauses.items in
-        let best = best_offer (filter is_of_root (offered clauses offers)) in
-        IfOk result (λ o. MatchOption o (best ≡ None)
-        (λ b. best ≡ rest_picked clauses (offers_of (group_at b.position) offers) b.offer b.position)) }
-    ensures asked { let refs = references (I.universe question.now.interner.now)
-        reader.old.lists question.now.disjunctions.now in
-        CanBeAsked refs (values_in question.now.map.now) tracked.new }
+    requires asked { AskedOn (grounds I.universe I.NameId.Scores.value_at question.now reader.old) tracked.old }
+    ensures picked { let on = grounds I.universe I.NameId.Scores.value_at question.now reader.old in
+        IfOk result (BeginsRoots tracked.old.index.clauses.items (offers_on on)) }
+    ensures asked { AskedOn (grounds I.universe I.NameId.Scores.value_at question.now reader.old) tracked.new }
     ensures walks { OnlyWalks tracked.old tracked.new reader.old reader.new }
     ensures memory { IfErr result (λ e. e ≡ OutOfMemory) }
 {
@@ -288,25 +239,12 @@ fn best_of_all<I: Interner>(
     reader: &mut RowReader<'_, I::Alloc>,
     question: &Question<'_, I>,
 ) -> Result<Option<Offer>, StoreError>
-    requires asked { let refs = references (I.universe question.now.interner.now)
-        reader.old.lists question.now.disjunctions.now in
-        CanBeAsked refs (values_in question.now.map.now) tracked.old }
-    requires cold { let refs = references (I.universe question.now.interner.now)
-        reader.old.lists question.now.disjunctions.now in
-        let score = score_in refs (I.NameId.Scores.value_at question.now.scores.now) in
-        ColdHasNoScore tracked.old.index.clauses.items (clause_literals refs) (rows_in refs)
-        (values_in question.now.map.now) score }
-    requires largest { let refs = references (I.universe question.now.interner.now)
-        reader.old.lists question.now.disjunctions.now in
-        AreUpTo question.now.largest (score_in refs (I.NameId.Scores.value_at question.now.scores.now)) }
-    ensures best { let refs = references (I.universe question.now.interner.now)
-        reader.old.lists question.now.disjunctions.now in
-        let score = I.NameId.Scores.value_at question.now.scores.now in
-        let offers = offers_in refs (values_in question.now.map.now) score in
-        IfOk result (λ o. o ≡ best_offer (offered tracked.old.index.clauses.items offers)) }
-    ensures asked { let refs = references (I.universe question.now.interner.now)
-        reader.old.lists question.now.disjunctions.now in
-        CanBeAsked refs (values_in question.now.map.now) tracked.new }
+    requires asked { AskedOn (grounds I.universe I.NameId.Scores.value_at question.now reader.old) tracked.old }
+    requires cold { ColdOn (grounds I.universe I.NameId.Scores.value_at question.now reader.old) tracked.old }
+    requires largest { AreUpTo question.now.largest (score_by I.universe I.NameId.Scores.value_at question.now) }
+    ensures best { let on = grounds I.universe I.NameId.Scores.value_at question.now reader.old in
+        IfOk result (λ o. o ≡ best_offer (offered tracked.old.index.clauses.items (offers_on on))) }
+    ensures asked { AskedOn (grounds I.universe I.NameId.Scores.value_at question.now reader.old) tracked.new }
     ensures walks { OnlyWalks tracked.old tracked.new reader.old reader.new }
     ensures memory { IfErr result (λ e. e ≡ OutOfMemory) }
 {
@@ -322,25 +260,12 @@ pub(crate) fn next_offer<I: Interner>(
     reader: &mut RowReader<'_, I::Alloc>,
     question: &Question<'_, I>,
 ) -> Result<Option<Offer>, StoreError>
-    requires asked { let refs = references (I.universe question.now.interner.now)
-        reader.old.lists question.now.disjunctions.now in
-        CanBeAsked refs (values_in question.now.map.now) tracked.old }
-    requires cold { let refs = references (I.universe question.now.interner.now)
-        reader.old.lists question.now.disjunctions.now in
-        let score = score_in refs (I.NameId.Scores.value_at question.now.scores.now) in
-        ColdHasNoScore tracked.old.index.clauses.items (clause_literals refs) (rows_in refs)
-        (values_in question.now.map.now) score }
-    requires largest { let refs = references (I.universe question.now.interner.now)
-        reader.old.lists question.now.disjunctions.now in
-        AreUpTo question.now.largest (score_in refs (I.NameId.Scores.value_at question.now.scores.now)) }
-    ensures picked { let refs = references (I.universe question.now.interner.now)
-        reader.old.lists question.now.disjunctions.now in
-        let score = I.NameId.Scores.value_at question.now.scores.now in
-        let offers = offers_in refs (values_in question.now.map.now) score in
-        IfOk result (λ o. o ≡ pick (offered tracked.old.index.clauses.items offers)) }
-    ensures asked { let refs = references (I.universe question.now.interner.now)
-        reader.old.lists question.now.disjunctions.now in
-        CanBeAsked refs (values_in question.now.map.now) tracked.new }
+    requires asked { AskedOn (grounds I.universe I.NameId.Scores.value_at question.now reader.old) tracked.old }
+    requires cold { ColdOn (grounds I.universe I.NameId.Scores.value_at question.now reader.old) tracked.old }
+    requires largest { AreUpTo question.now.largest (score_by I.universe I.NameId.Scores.value_at question.now) }
+    ensures picked { let on = grounds I.universe I.NameId.Scores.value_at question.now reader.old in
+        IfOk result (λ o. o ≡ pick (offered tracked.old.index.clauses.items (offers_on on))) }
+    ensures asked { AskedOn (grounds I.universe I.NameId.Scores.value_at question.now reader.old) tracked.new }
     ensures walks { OnlyWalks tracked.old tracked.new reader.old reader.new }
     ensures memory { IfErr result (λ e. e ≡ OutOfMemory) }
 {

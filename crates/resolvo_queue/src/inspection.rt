@@ -1,16 +1,15 @@
 //! Looking at a clause: whether it is eligible, and where.
-ghost use Rattle.std.specs.Prelude.{◌≡◌, ◌<◌, ℕ, Some, None, true, length, is_some, IsSome, IfSome, OnOk, IfOk, IfErr};
+ghost use Rattle.std.specs.Prelude.{◌≡◌, ◌<◌, Some, true, length, is_some, IsSome, IfSome, OnOk, IfOk, IfErr};
 ghost use Rattle.std.specs.Map.{lookup};
 ghost use Rattle.typed_ids.specs.declared.error.StoreError.TheVariants.{OutOfMemory};
-ghost use Rattle.decisions.specs.Decisions.{values_in};
 ghost use Rattle.providers.specs.Requirement.{same_requirement};
-ghost use Rattle.resolvo_queue.specs.Rows.{loaded_rows, frontier};
 ghost use Rattle.resolvo_queue.specs.Rows.{candidates};
+ghost use Rattle.resolvo_queue.specs.Pick.Grounds.{LearnsOn, RightOn, eligible_on, frontier_on, grounds};
 ghost use Rattle.resolvo_queue.specs.Pick.Questions.{clause_literals};
-ghost use Rattle.resolvo_queue.specs.References.{IsWalkable, references};
-ghost use Rattle.resolvo_queue.specs.Pick.Inspection.{Learns, ListsOnly, eligible_frontier, may_be};
+ghost use Rattle.resolvo_queue.specs.References.{IsWalkable};
+ghost use Rattle.resolvo_queue.specs.Pick.Inspection.{ListsOnly, may_be};
 ghost use Rattle.resolvo_queue.specs.Rows.Listing.{IsListedWell};
-ghost use Rattle.resolvo_queue.specs.Occurrences.{is_listed, GrowsWith, KeepsListed};
+ghost use Rattle.resolvo_queue.specs.Occurrences.{is_listed, GrowsWith};
 ghost use Rattle.resolvo_queue.specs.Parts.Records.{known_at, IsPlaceOf, OwesSame, SameFound};
 ghost use Rattle.resolvo_queue.specs.WalkCounts.{WalksOnce};
 
@@ -56,22 +55,16 @@ fn requirement_frontier<I: Interner>(
     requires place { IsPlaceOf requirements.old clause.now.requirement clause.now.record }
     requires walkable { IsWalkable (I.universe question.now.interner.now) reader.old.lists clause.now.requirement }
     requires listed { IsListedWell reader.old.lists occurrences.old requirements.old }
-    requires right { let universe = I.universe question.now.interner.now in
-        let rows = loaded_rows universe reader.old.lists clause.now.requirement in
-        (f : _) → known_at requirements.old clause.now.record ≡ Some f →
-        f ≡ frontier (values_in question.now.map.now) rows }
-    ensures frontier { let universe = I.universe question.now.interner.now in
-        let rows = loaded_rows universe reader.old.lists clause.now.requirement in
-        IfOk result (λ f. f ≡ frontier (values_in question.now.map.now) rows) }
+    requires right { let on = grounds I.universe I.NameId.Scores.value_at question.now reader.old in
+        RightOn on requirements.old clause.now }
+    ensures frontier { let on = grounds I.universe I.NameId.Scores.value_at question.now reader.old in
+        IfOk result (λ f. f ≡ frontier_on on clause.now.requirement) }
     ensures known { IfOk result (λ f. known_at requirements.new clause.now.record ≡ Some f) }
     ensures once { WalksOnce requirements.old requirements.new reader.old.walked reader.new.walked }
-    ensures learns { let universe = I.universe question.now.interner.now in
-        let rows = loaded_rows universe reader.old.lists clause.now.requirement in
-        Learns clause.now.requirement clause.now.record (frontier (values_in question.now.map.now) rows)
-        requirements.old requirements.new reader.old.walked reader.new.walked }
+    ensures learns { let on = grounds I.universe I.NameId.Scores.value_at question.now reader.old in
+        LearnsOn on clause.now requirements.old requirements.new reader.old reader.new }
     ensures rows { reader.new.lists ≡ reader.old.lists }
     ensures listed { IsListedWell reader.old.lists occurrences.new requirements.new }
-    ensures keeps_listed { KeepsListed occurrences.old occurrences.new }
     ensures owes { OwesSame requirements.old requirements.new }
     ensures found { SameFound requirements.old requirements.new }
     ensures memory { IfErr result (λ e. e ≡ OutOfMemory) }
@@ -99,28 +92,18 @@ pub(crate) fn inspect<I: Interner>(
     requires condition { IfSome clause.now.condition (λ d. d < length question.now.disjunctions.now) }
     requires walkable { IsWalkable (I.universe question.now.interner.now) reader.old.lists clause.now.requirement }
     requires listed { IsListedWell reader.old.lists occurrences.old requirements.old }
-    requires right { let universe = I.universe question.now.interner.now in
-        let rows = loaded_rows universe reader.old.lists clause.now.requirement in
-        (f : _) → known_at requirements.old clause.now.record ≡ Some f →
-        f ≡ frontier (values_in question.now.map.now) rows }
-    ensures eligible { let refs = references (I.universe question.now.interner.now)
-        reader.old.lists question.now.disjunctions.now in
-        let rows = loaded_rows (I.universe question.now.interner.now) reader.old.lists in
-        let val = values_in question.now.map.now in
-        IfOk result (λ f. f ≡ eligible_frontier val (clause_literals refs) rows clause.now) }
+    requires right { let on = grounds I.universe I.NameId.Scores.value_at question.now reader.old in
+        RightOn on requirements.old clause.now }
+    ensures eligible { let on = grounds I.universe I.NameId.Scores.value_at question.now reader.old in
+        IfOk result (λ f. f ≡ eligible_on on clause.now) }
     ensures set { IfOk result (λ f. IfSome f (λ g. (I.universe question.now.interner.now).knows_set g.set ≡ true)) }
-    ensures possible { let refs = references (I.universe question.now.interner.now)
-        reader.old.lists question.now.disjunctions.now in
-        let val = values_in question.now.map.now in
-        IfOk result (λ f. may_be val (clause_literals refs) requirements.new clause.now ≡ is_some f) }
+    ensures possible { let on = grounds I.universe I.NameId.Scores.value_at question.now reader.old in
+        IfOk result (λ f. may_be on.val (clause_literals on.refs) requirements.new clause.now ≡ is_some f) }
     ensures once { WalksOnce requirements.old requirements.new reader.old.walked reader.new.walked }
-    ensures learns { let universe = I.universe question.now.interner.now in
-        let rows = loaded_rows universe reader.old.lists clause.now.requirement in
-        Learns clause.now.requirement clause.now.record (frontier (values_in question.now.map.now) rows)
-        requirements.old requirements.new reader.old.walked reader.new.walked }
+    ensures learns { let on = grounds I.universe I.NameId.Scores.value_at question.now reader.old in
+        LearnsOn on clause.now requirements.old requirements.new reader.old reader.new }
     ensures rows { reader.new.lists ≡ reader.old.lists }
     ensures listed { IsListedWell reader.old.lists occurrences.new requirements.new }
-    ensures keeps_listed { KeepsListed occurrences.old occurrences.new }
     ensures owes { OwesSame requirements.old requirements.new }
     ensures found { SameFound requirements.old requirements.new }
     ensures memory { IfErr result (λ e. e ≡ OutOfMemory) }

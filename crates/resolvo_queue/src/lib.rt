@@ -25,7 +25,6 @@ mod inspection;
 mod lists_by_variable;
 mod names;
 mod offer;
-mod parent_value;
 mod position_set;
 mod queue_decision;
 mod queued_clauses;

@@ -1,11 +1,11 @@
 //! What eligible clauses offer.
-ghost use Rattle.std.specs.Prelude.{◌≡◌, option_map};
+ghost use Rattle.std.specs.Prelude.{◌≡◌, option_map, MatchResult};
 ghost use Rattle.resolvo_queue.specs.Pick.{beats, decided, is_of_root};
 
 use crate::queue_decision::QueueDecision;
 use crate::requires_clause::RequiresClause;
 use crate::tracked_clause::Position;
-use typed_ids::{DenseIndex, SameClone, SameValue, VariableId, VersionSetId};
+use typed_ids::{DenseIndex, SameClone, SameValue, StoreError, VariableId, VersionSetId};
 
 /// The first undecided candidate of a requirement, its version set, and how many candidates of that version set are
 /// undecided.
@@ -75,8 +75,20 @@ impl Offer {
     }
 }
 
+/// The decision that an offer stands for, unless it was refused.
+pub(crate) fn decision_of(
+    offer: Result<Option<Offer>, StoreError>,
+) -> Result<Option<QueueDecision>, StoreError>
+    ensures { MatchResult offer (λ o. result ≡ Ok (option_map decided o)) (λ e. result ≡ Err e) }
+{
+    match offer {
+        Ok(offer) => Ok(decision_at(&offer)),
+        Err(error) => Err(error),
+    }
+}
+
 /// The decision that an offer stands for.
-pub(crate) fn decision_at(offer: &Option<Offer>) -> Option<QueueDecision>
+fn decision_at(offer: &Option<Offer>) -> Option<QueueDecision>
     ensures { result ≡ option_map decided offer.now }
 {
     match offer {

@@ -1,16 +1,10 @@
 //! Putting a clause to those that are there.
-ghost use Rattle.std.specs.Prelude.{◌≡◌, ◌<◌, ◌≤◌, ◌-◌, ◌^◌, ◌++◌, ◌∷◌, [], true, false, length, OnOk, OnErr, IfErr};
-ghost use Rattle.typed_ids.specs.TotalMaps.{IsUpdate, SameValues};
+ghost use Rattle.std.specs.Prelude.{◌≡◌, ◌<◌, ◌≤◌, ◌-◌, ◌^◌, length, OnOk, OnErr, IfErr};
 ghost use Rattle.typed_ids.specs.declared.error.StoreError.TheVariants.{OutOfMemory};
-ghost use Rattle.resolvo_queue.specs.Rows.ByVariable.{list_at};
-ghost use Rattle.resolvo_queue.specs.Scan.Positions.{has, same_position};
-ghost use Rattle.resolvo_queue.specs.Parts.Queued.{GrowsBy, IsQueued};
 ghost use Rattle.resolvo_queue.specs.Parts.Tracking.{IsAsBefore, IsInOrder, Registers, tracking_of};
 ghost use Rattle.resolvo_queue.specs.WalkCounts.{OwesFirst, owed_in};
 
 use crate::clause_index::add_to_conditions;
-use crate::lists_by_variable::ListsByVariable;
-use crate::queued_clauses::QueuedClauses;
 use crate::requires_clause::RequiresClause;
 use crate::tracked_clause::TrackedClause;
 use crate::tracked_clauses::TrackedClauses;
@@ -18,66 +12,18 @@ use decisions::Literal;
 use std::alloc::Allocator;
 use typed_ids::StoreError;
 
-/// Queues a clause that comes, if its parent counts as true, and puts its number to those of its parent. Refused, it
-/// may be queued.
-fn queue_and_find<A: Allocator + Copy>(
-    queued: &mut QueuedClauses<A>,
-    by_parent: &mut ListsByVariable<u32, A>,
-    clause: &TrackedClause,
-    counts: bool,
-) -> Result<(), StoreError>
-    ensures grows { GrowsBy (λ p. same_position clause.now.position p ≡ true) queued.old queued.new }
-    ensures counted { OnOk result (counts ≡ true → IsQueued queued.new clause.now) }
-    ensures found { OnOk result
-        (IsUpdate (list_at by_parent.old) clause.now.parent
-        (list_at by_parent.old clause.now.parent ++ clause.now.position.number ∷ []) (list_at by_parent.new)) }
-    ensures err { OnErr result (SameValues (list_at by_parent.old) (list_at by_parent.new)) }
-    ensures memory { IfErr result (λ e. e ≡ OutOfMemory) }
-{
-    if counts {
-        queued.add(clause)?;
-    }
-    by_parent.push(clause.parent, clause.position.number)
-}
-
-/// Queues a clause that comes, if its parent counts as true, and puts its number to those of its parent. Refused,
-/// neither.
-fn enqueue<A: Allocator + Copy>(
-    queued: &mut QueuedClauses<A>,
-    by_parent: &mut ListsByVariable<u32, A>,
-    clause: &TrackedClause,
-    counts: bool,
-) -> Result<(), StoreError>
-    requires new { (has queued.old.all clause.now.position ≡ false) × (has queued.old.hot clause.now.position ≡ false) }
-    ensures grows { GrowsBy (λ p. same_position clause.now.position p ≡ true) queued.old queued.new }
-    ensures counted { OnOk result (counts ≡ true → IsQueued queued.new clause.now) }
-    ensures found { OnOk result
-        (IsUpdate (list_at by_parent.old) clause.now.parent
-        (list_at by_parent.old clause.now.parent ++ clause.now.position.number ∷ []) (list_at by_parent.new)) }
-    ensures err { OnErr result (SameValues (list_at by_parent.old) (list_at by_parent.new)) }
-    ensures back { OnErr result (GrowsBy (λ p. ⊥) queued.old queued.new) }
-    ensures memory { IfErr result (λ e. e ≡ OutOfMemory) }
-{
-    let found = queue_and_find(queued, by_parent, clause, counts);
-    if found.is_err() {
-        queued.remove(clause.position);
-    }
-    found
-}
-
 impl<A: Allocator + Copy> TrackedClauses<A> {
-    /// Puts a clause after those that are there, and queues it if its parent counts as true. Refused, the clause isn't
-    /// there; its requirement may have a record then, and its number may stand in lists, which harms nothing.
+    /// Puts a clause after those that are there, and queues nothing. Refused, the clause isn't there; its requirement
+    /// may have a record then, and its number may stand in lists, which harms nothing.
     pub(crate) fn register(
         &mut self,
         clause: &RequiresClause,
         literals: &[Literal],
         is_hot: bool,
-        counts: bool,
     ) -> Result<(), StoreError>
         requires order { IsInOrder (tracking_of self.old) }
         requires few { length self.old.index.clauses.items < 2 ^ 32 - 1 }
-        ensures ok { OnOk result (Registers clause.now is_hot counts literals.now (tracking_of self.old)
+        ensures ok { OnOk result (Registers clause.now is_hot literals.now (tracking_of self.old)
             (tracking_of self.new)) }
         ensures err { OnErr result (IsAsBefore (tracking_of self.old) (tracking_of self.new)) }
         ensures owes { OwesFirst clause.now.requirement self.old.requirements self.new.requirements }
@@ -99,12 +45,7 @@ impl<A: Allocator + Copy> TrackedClauses<A> {
             position: self.index.next_position(clause.parent),
             is_hot,
         };
-        enqueue(
-            &mut self.queued,
-            &mut self.index.by_parent,
-            &tracked,
-            counts,
-        )?;
+        self.index.by_parent.push(clause.parent, number)?;
         self.index.clauses.push_reserved(tracked);
         Ok(())
     }

@@ -11,7 +11,7 @@ ghost use Rattle.resolvo_queue.specs.Routing.Trails.{decided_value};
 
 use crate::routing::{Routing, route_all};
 use crate::tracked_clauses::TrackedClauses;
-use crate::waking::wake_all;
+use crate::waking::wake_from;
 use decisions::{Decision, DecisionMap};
 use std::alloc::Allocator;
 use typed_ids::StoreError;
@@ -100,7 +100,7 @@ impl<A: Allocator + Copy> TrackedClauses<A> {
         ensures memory { IfErr result (λ e. e ≡ OutOfMemory) }
     {
         self.requirements.forget_everything();
-        wake_all(&mut self.queued, self.index.clauses.as_slice(), map)?;
+        wake_from(&mut self.queued, self.index.clauses.as_slice(), 0, map)?;
         copy_behind(&mut self.trail, 0, trail)
     }
 

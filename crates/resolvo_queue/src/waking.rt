@@ -1,11 +1,11 @@
 //! Queueing clauses again.
-ghost use Rattle.std.specs.Prelude.{◌≡◌, true, OnOk, IfErr};
+ghost use Rattle.std.specs.Prelude.{◌≡◌, ◌≤◌, true, length, OnOk, IfErr};
 ghost use Rattle.typed_ids.specs.declared.error.StoreError.TheVariants.{OutOfMemory};
 ghost use Rattle.decisions.specs.Decisions.{values_in};
 ghost use Rattle.decisions.specs.Literals.{known_true};
 ghost use Rattle.resolvo_queue.specs.Scan.Positions.{same_position};
 ghost use Rattle.resolvo_queue.specs.Parts.Queued.{AreWoken, IsQueued, IsWoken, GrowsBy, HaveNumbers, IsOfClause};
-ghost use Rattle.resolvo_queue.specs.Routing.Synced.{AllWoken};
+ghost use Rattle.resolvo_queue.specs.Routing.Synced.{AllWokenFrom};
 
 use crate::clause_index::ClauseIndex;
 use crate::queued_clauses::QueuedClauses;
@@ -67,18 +67,21 @@ pub(crate) fn wake_clauses<A: Allocator + Copy>(
     Ok(())
 }
 
-/// Queues all clauses whose parent is true.
-pub(crate) fn wake_all<A: Allocator + Copy>(
+/// Queues all clauses from a number on whose parent is true.
+pub(crate) fn wake_from<A: Allocator + Copy>(
     queued: &mut QueuedClauses<A>,
     clauses: &[TrackedClause],
+    first: usize,
     map: &DecisionMap<A>,
 ) -> Result<(), StoreError>
-    requires { HaveNumbers clauses.now }
+    requires numbers { HaveNumbers clauses.now }
+    requires first { first ≤ length clauses.now }
     ensures grows { GrowsBy (IsOfClause clauses.now) queued.old queued.new }
-    ensures woken { OnOk result (AllWoken clauses.now (values_in map.now) queued.new) }
+    ensures woken { OnOk result (AllWokenFrom first clauses.now (values_in map.now) queued.new) }
     ensures memory { IfErr result (λ e. e ≡ OutOfMemory) }
 {
-    for clause in clauses {
+    let rest = &clauses[first..];
+    for clause in rest {
         wake(queued, clause, map)?;
     }
     Ok(())

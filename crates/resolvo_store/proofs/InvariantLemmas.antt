@@ -304,14 +304,14 @@ module _ {D N S A H Q : Type 0} {has : Q → N → Bool} {st : Store N S} {loade
   -- after a requires clause was to be added and registered
   pub after_registered : {T E : Type 0} (parent : ℕ) (disjunction : Option ℕ) (r : Requirement) (c : Clause N) (watch : Option (List Lit)) {cs : Clauses N} {q : Queue N Q}
       (result : Result T E) → knows_requirement st.provider.universe r ≡ true → parent < length st.origins → IsSome (lists_of st r) → IfSome disjunction (λ d. d < length st.disjunctions)
-      → watch ≡ first_watches (kept_literals st) (values st) c → c ≡ Kind.Requires parent disjunction r → st.requires ≡ queue.clauses → trail.entries ≡ st.trail
+      → watch ≡ first_watches (kept_literals st) (values st) c → c ≡ Kind.Requires parent disjunction r → st.requires ≡ queue.clauses
       → StandsOn seen q
       → OnOk result (cs ≡ list_added clauses_now c watch)
       → OnOk result (IsRegistered has (record { parent = parent; requirement = r; condition = disjunction; clause_id = length st.clauses })
-      (map st.provider.universe.set_name (sets_of st.provider.universe r)) (values st parent) queue q)
+      (map st.provider.universe.set_name (sets_of st.provider.universe r)) queue q)
       → OnErr result (cs ≡ clauses_now) → OnErr result (IsUnchanged queue q has)
       → IsConsistent has (record (with_clauses cs) { requires = q.clauses }) loaded disjunctions cache q trail
-  after_registered parent disjunction r c watch {cs} {q} (Ok x) known variable found kept watches kind requires entries stands added registered unadded unregistered =
+  after_registered parent disjunction r c watch {cs} {q} (Ok x) known variable found kept watches kind requires stands added registered unadded unregistered =
       let one : RequiresClause = record { parent = parent; requirement = r; condition = disjunction; clause_id = length st.clauses } in
       let more : List RequiresClause = st.requires ++ one ∷ [] in
       let names_in : List RequiresClause → List (List N) = map (λ d. map st.provider.universe.set_name (sets_of st.provider.universe d.requirement)) in
@@ -325,15 +325,14 @@ module _ {D N S A H Q : Type 0} {has : Q → N → Bool} {st : Store N S} {loade
         sound = IsSound-requires st is.sound parent disjunction r known variable found kept;
         asked = is.asked;
         may_ask = record {
-          in_step = in_step-registered trail one (map st.provider.universe.set_name (sets_of st.provider.universe r)) (values st parent) registered
-              (ap (λ es. val es parent) (sym entries)) is.may_ask.in_step;
+          in_step = in_step-registered trail one (map st.provider.universe.set_name (sets_of st.provider.universe r)) registered is.may_ask.in_step;
           stands = stands;
           named = registered.names ∙ ap (λ ns. ns ++ map st.provider.universe.set_name (sets_of st.provider.universe r) ∷ []) is.may_ask.named
               ∙ sym (map-append (λ d. map st.provider.universe.set_name (sets_of st.provider.universe d.requirement)) queue.clauses (one ∷ [])) ∙ ap names_in (sym registered.clauses);
           hot = λ n cold. is.may_ask.hot n (sym (registered.hot n) ∙ cold);
         };
       }))))
-  after_registered parent disjunction r c watch (Err e) known variable found kept watches kind requires entries stands added registered unadded unregistered =
+  after_registered parent disjunction r c watch (Err e) known variable found kept watches kind requires stands added registered unadded unregistered =
       after_none unadded requires unregistered stands
 
   -- after the queue was brought up to date, or not, for which the floor was taken

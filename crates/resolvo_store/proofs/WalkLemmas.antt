@@ -1,5 +1,5 @@
 -- What the calls on a store's queue walk and owe. N are the names, S the solvables.
-use Rattle.std.proofs.Common.{◌≡◌, ℕ, ◌+◌, ◌≤◌, ◌<◌, ◌⊎◌, inl, Bool, false, List, Option, length, drop, get_or, Result, Ok, Err, refl, sym, subst, ap, ◌∙◌, arith}
+use Rattle.std.proofs.Common.{◌≡◌, ℕ, ◌+◌, ◌≤◌, ◌<◌, ◌⊎◌, inl, Bool, false, List, length, drop, get_or, Result, Ok, Err, refl, sym, subst, ap, ◌∙◌, arith}
 use Rattle.std.specs.Prelude.{All, OnOk, OnErr, unwrap_or, [], ◌++◌}
 use Rattle.std.specs.Map.{lookup}
 use Rattle.std.specs.declared.vec.Vec.{Vec}
@@ -52,13 +52,13 @@ module _ {N Q : Type 0} (queue q : Queue N Q) (trail : Trail) where
   walks_still same walked owes = record { walks = walked; owed = owes; told = told_still same }
 
   -- a clause was to be registered
-  pub owes_registered : {T E : Type 0} (has : Q → N → Bool) (result : Result T E) (clause : RequiresClause) (names : List N) (value : Option Bool) →
-      OnOk result (IsRegistered has clause names value queue q) → OnErr result (IsUnchanged queue q has) → SameValues (walks queue) (walks q) →
+  pub owes_registered : {T E : Type 0} (has : Q → N → Bool) (result : Result T E) (clause : RequiresClause) (names : List N) →
+      OnOk result (IsRegistered has clause names queue q) → OnErr result (IsUnchanged queue q has) → SameValues (walks queue) (walks q) →
       ((r : Requirement) → (owed q r ≡ owed queue r) ⊎ ((r ≡ clause.requirement) × (owed queue r ≡ 0) × (owed q r ≡ 1))) →
       OwesFirst clause.requirement (asked_of queue trail) (asked_of q trail)
-  owes_registered has (Ok x) clause names value registered same walked owes =
+  owes_registered has (Ok x) clause names registered same walked owes =
       record { walks = walked; owed = owes; told = record { trail = registered.trail; must_start_anew = registered.must_start_anew; floor = refl } }
-  owes_registered has (Err e) clause names value registered same walked owes = record { walks = walked; owed = owes; told = told_still same.synced }
+  owes_registered has (Err e) clause names registered same walked owes = record { walks = walked; owed = owes; told = told_still same.synced }
 
 -- ---- a question
 

@@ -5,7 +5,6 @@ use Rattle.std.proofs.Common.{sym, ap, ◌∙◌, subst, refl, arith, length-app
 use Rattle.std.specs.Prelude.{All, Contains, IfSome, IsSome}
 use Rattle.std.specs.Map.{lookup}
 use Rattle.std.proofs.lemmas.List.Elements.{All-weaker}
-use Rattle.decisions.specs.declared.decision.Decision.{Decision}
 use Rattle.providers.specs.Provider.{sets_of}
 use Rattle.providers.specs.Requirement.{same_requirement}
 use Rattle.providers.specs.RequirementMap.{with_entry}
@@ -13,14 +12,13 @@ use Rattle.providers.specs.declared.requirement.Requirement.{Requirement}
 use Rattle.clauses.specs.Clauses.{condition_literals}
 use Rattle.clauses.specs.Stored.{kept_in}
 use Rattle.clauses.specs.declared.disjunction.Disjunction.{Disjunction}
-use Rattle.resolvo_queue.specs.Pick.Inspection.{clause_of}
 use Rattle.resolvo_queue.specs.Laws.{StandsWithDisjunction, StandsWithLists, ValuesOfEntries}
 use Rattle.resolvo_queue.specs.Rows.Listing.{IsListedWell}
-use Rattle.resolvo_queue.specs.Parts.Names.{counts}
+use Rattle.resolvo_queue.specs.Routing.Synced.{counts}
 use Rattle.resolvo_queue.specs.Occurrences.{HasAll, Listed}
-use Rattle.resolvo_queue.specs.Queue.{Queue, StandsOn, values_of}
+use Rattle.resolvo_queue.specs.Queue.{values_of}
 use Rattle.resolvo_queue.specs.Pick.Questions.{clause_literals}
-use Rattle.resolvo_queue.specs.References.{HasParts, References, references, rows_in}
+use Rattle.resolvo_queue.specs.References.{HasParts, references, rows_in}
 use Rattle.resolvo_queue.specs.Rows.{candidates, lists_or_none, loaded_rows, rows}
 use Rattle.resolvo_queue.specs.Parts.Records.{Record, known_at, owed_of, rows_at, walk_of}
 use Rattle.resolvo_queue.specs.Parts.Records.{rows_in as rows_of_record}
@@ -88,8 +86,8 @@ stands_with_disjunction refs q d stands =
       listed = stands.listed;
       synced = λ accepted. synced_same q.inside.clauses (clause_literals refs) (clause_literals more) same
           (rows_in refs) (rows_in more) (values_of q.trail)
-          (counts (values_of q.trail) q.since q.inside.clauses)
-          (counts (values_of q.trail) q.since q.inside.clauses) q.inside.requirements q.inside.requirements
+          (counts (values_of q.trail) q.woken)
+          (counts (values_of q.trail) q.woken) q.inside.requirements q.inside.requirements
           (λ p. ⊥) q.inside.queued q.inside.queued (λ n c e. refl) (λ k. refl) (λ k h. refl)
           (grows_none (λ p. ⊥) q.inside.queued) (stands.synced accepted);
     }
@@ -156,8 +154,8 @@ stands_with_lists {N} {S} {A} refs q r lists none stands =
       listed = listed_still refs.lists r lists none q.inside.occurrences q.inside.requirements stands.listed;
       synced = λ accepted. synced_same q.inside.clauses (clause_literals refs) (clause_literals more) (λ n c e. refl)
           (rows_in refs) (rows_in more) (values_of q.trail)
-          (counts (values_of q.trail) q.since q.inside.clauses)
-          (counts (values_of q.trail) q.since q.inside.clauses) q.inside.requirements q.inside.requirements
+          (counts (values_of q.trail) q.woken)
+          (counts (values_of q.trail) q.woken) q.inside.requirements q.inside.requirements
           (λ p. ⊥) q.inside.queued q.inside.queued (λ n c e. refl) (λ k. refl) rows_same
           (grows_none (λ p. ⊥) q.inside.queued) (stands.synced accepted);
     }

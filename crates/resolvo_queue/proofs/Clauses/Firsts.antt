@@ -1,6 +1,6 @@
 -- The number of a parent's first clause, by what contracts see of clauses.
 use Rattle.std.proofs.Common.{◌≡◌, ℕ, suc, ◌+◌, cond, eqb, List, [], ◌∷◌, length, map, Option, None, Some, MatchOption}
-use Rattle.std.proofs.Common.{sym, ap, refl, ◌∙◌, arith}
+use Rattle.std.proofs.Common.{ap, refl, ◌∙◌, arith}
 use Rattle.resolvo_queue.specs.Parts.Tracking.{HasNoClause, IsFirstOf}
 use Rattle.resolvo_queue.specs.Pick.Inspection.{clause_of}
 use Rattle.resolvo_queue.specs.Scan.First.{first_of}

@@ -1,29 +1,27 @@
 -- A queue after clauses became hot.
-use Rattle.std.proofs.Common.{◌≡◌, ℕ, ◌+◌, ◌-◌, ◌≤◌, Bool, true, false, List, get_or, length}
-use Rattle.std.proofs.Common.{Some, Result, Ok, Err, slice_get, sym, ap, refl, ◌∙◌, subst}
+use Rattle.std.proofs.Common.{◌≡◌, ℕ, ◌≤◌, Bool, true, false, List, get_or, length}
+use Rattle.std.proofs.Common.{Result, Ok, Err, sym, ap, refl, ◌∙◌, subst}
 use Rattle.std.specs.Prelude.{All}
 use Rattle.std.proofs.lemmas.List.{length-map}
 use Rattle.typed_ids.specs.TotalMaps.{IsUpdate}
 use Rattle.typed_ids.specs.declared.error.StoreError.{StoreError}
 use Rattle.typed_ids.specs.declared.error.StoreError.TheVariants.{IdSpace}
-use Rattle.decisions.specs.Literals.{Values, known_true, variable_of}
+use Rattle.decisions.specs.Literals.{Values, variable_of}
 use Rattle.resolvo_queue.specs.Rows.ByVariable.{list_at}
 use Rattle.resolvo_queue.specs.Pick.Inspection.{clause_of}
 use Rattle.resolvo_queue.specs.Rows.Listing.{IsListedWell}
-use Rattle.resolvo_queue.specs.Parts.Names.{AreCold, AreLast, ColdLack, counted_value, counts, names_at}
+use Rattle.resolvo_queue.specs.Parts.Names.{AreCold, ColdLack, names_at}
 use Rattle.resolvo_queue.specs.Members.{Stands}
 use Rattle.resolvo_queue.specs.Scan.Positions.{has}
 use Rattle.resolvo_queue.specs.Queue.{IsKept, Queue, StandsOn, values_of}
 use Rattle.resolvo_queue.specs.Pick.Questions.{clause_literals}
 use Rattle.resolvo_queue.specs.References.{HasParts, References, rows_in}
-use Rattle.resolvo_queue.specs.Routing.Synced.{KeepsQueued}
+use Rattle.resolvo_queue.specs.Routing.Synced.{KeepsQueued, counts}
 use Rattle.resolvo_queue.specs.Parts.Tracking.{Heats}
-use Rattle.resolvo_queue.specs.declared.parent_value.ParentValue.{ParentValue}
 use Rattle.resolvo_queue.specs.declared.tracked_clause.TrackedClause.{TrackedClause}
-use Rattle.resolvo_queue.proofs.Lists.{at_mapped}
 
 module _ {N H : Type 0} (has : H → N → Bool) (q q' : Queue N H) (heats : Heats q.inside q'.inside)
-    (since : q'.since ≡ q.since) where
+    (woken : q'.woken ≡ q.woken) where
   same_length : length q'.inside.clauses ≡ length q.inside.clauses
   same_length = sym (length-map q'.inside.clauses clause_of) ∙
       (ap length heats.clauses ∙ length-map q.inside.clauses clause_of)
@@ -32,15 +30,7 @@ module _ {N H : Type 0} (has : H → N → Bool) (q q' : Queue N H) (heats : Hea
   kept_heated kept names hot = record {
     order = heats.in_order kept.order;
     names = ap length names ∙ (kept.names ∙ sym same_length);
-    since = subst (λ ps. AreLast ps q'.inside.clauses) (sym since) (
-      subst (λ n. length q.since ≤ n) (sym same_length) kept.since.0,
-      λ k p e. (let was = kept.since.1 k p e in
-          let at : slice_get q.inside.clauses (length q'.inside.clauses - length q.since + k) ≡ Some was.0 =
-          ap (λ n. slice_get q.inside.clauses (n - length q.since + k)) same_length ∙ was.1 in
-          let now = at_mapped clause_of q'.inside.clauses q.inside.clauses
-          (length q'.inside.clauses - length q.since + k) was.0 heats.clauses at in
-          (now.0, now.1, ap (λ (c : _). c.parent) now.2 ∙ was.2)),
-    );
+    woken = subst (λ (x : ℕ × ℕ). x.0 ≤ x.1) (λ i. (sym woken i, sym same_length i)) kept.woken;
     cold = λ n c e cool. subst (All (λ m. has q'.hot m ≡ false)) (ap (λ l. names_at l n) (sym names))
         (subst (λ h. All (λ m. has h m ≡ false) (names_at q.names n)) (sym hot)
         (kept.cold n c (heats.cold n c e cool) cool));
@@ -57,13 +47,11 @@ module _ {N H : Type 0} (has : H → N → Bool) (q q' : Queue N H) (heats : Hea
     listed = subst (λ o. IsListedWell refs.lists o q'.inside.requirements) (sym heats.occurrences)
         (subst (IsListedWell refs.lists q.inside.occurrences) (sym heats.requirements) stands.listed);
     synced = λ accepted.
-        subst (λ (x : Values × (List ParentValue × ℕ)).
-        KeepsQueued q'.inside.clauses (clause_literals refs)
-        (rows_in refs) x.0 (λ c. known_true (counted_value x.0 (x.1.1 - length x.1.0) x.1.0 c))
-        q'.inside.requirements q'.inside.queued)
-        (λ i. (ap values_of (sym trail) i, (sym since i, sym same_length i)))
+        subst (λ (x : Values × ℕ). KeepsQueued q'.inside.clauses (clause_literals refs) (rows_in refs) x.0
+        (counts x.0 x.1) q'.inside.requirements q'.inside.queued)
+        (λ i. (ap values_of (sym trail) i, sym woken i))
         (heats.synced (clause_literals refs) (rows_in refs) (values_of q.trail)
-        (counts (values_of q.trail) q.since q.inside.clauses) (λ d. refl) (λ d. refl)
+        (counts (values_of q.trail) q.woken) (λ d. refl) (λ d. refl)
         (stands.synced (sym anew ∙ accepted)));
   }
 
@@ -83,7 +71,7 @@ fits_if_ok false res x ok large = refl
 -- one name more is hot, or its insertion was refused
 pub kept_hot : {N H : Type 0} (has : H → N → Bool) (q : Queue N H) (hot : H) → IsKept has q →
     AreCold (has hot) q.names q.inside.clauses → IsKept has (record q { hot = hot })
-kept_hot has q hot kept cold = record { order = kept.order; names = kept.names; since = kept.since; cold = cold }
+kept_hot has q hot kept cold = record { order = kept.order; names = kept.names; woken = kept.woken; cold = cold }
 
 pub stands_hot : {N S A H : Type 0} (refs : References N S A) (q : Queue N H) (hot : H) → StandsOn refs q →
     StandsOn refs (record q { hot = hot })

@@ -1,5 +1,5 @@
 -- The queue without clauses.
-use Rattle.std.proofs.Common.{◌≡◌, ℕ, ◌<◌, ◌^◌, Bool, IfSome, true, false, List, [], map, length}
+use Rattle.std.proofs.Common.{◌≡◌, ℕ, ◌<◌, ◌≤◌, ◌^◌, Bool, IfSome, true, false, List, [], map, length}
 use Rattle.std.proofs.Common.{Option, None, Some, MatchOption, slice_get, sym, ap, ◌∙◌, subst, arith}
 use Rattle.std.specs.Prelude.{All, Contains}
 use Rattle.std.specs.List.{list_any}
@@ -7,7 +7,6 @@ use Rattle.providers.specs.Requirement.{same_requirement}
 use Rattle.std.proofs.lemmas.List.Elements.{All-nil}
 use Rattle.resolvo_queue.specs.Rows.ByVariable.{list_at}
 use Rattle.resolvo_queue.specs.Pick.Inspection.{clause_of}
-use Rattle.resolvo_queue.specs.Parts.Names.{AreLast}
 use Rattle.resolvo_queue.specs.Scan.Positions.{has}
 use Rattle.resolvo_queue.specs.Queue.{IsKept, Queue, StandsOn, values_of}
 use Rattle.resolvo_queue.specs.Parts.Queued.{is_empty_queue}
@@ -16,7 +15,6 @@ use Rattle.resolvo_queue.specs.Rows.{frontier}
 use Rattle.resolvo_queue.specs.Parts.Records.{Record, known_at, rows_at}
 use Rattle.resolvo_queue.specs.Parts.Tracking.{HasNoClause, IsFirstOf, IsInOrder, Tracking}
 use Rattle.resolvo_queue.specs.declared.tracked_clause.TrackedClause.{TrackedClause}
-use Rattle.resolvo_queue.proofs.Clauses.Counts.{last_none}
 use Rattle.resolvo_queue.proofs.Lists.{stands_if_contains}
 
 -- no clause
@@ -41,12 +39,12 @@ order_new t none lists empty = record {
 }
 
 pub kept_new : {N H : Type 0} (has : H → N → Bool) (q : Queue N H) → q.inside.clauses ≡ [] → q.inside.by_parent ≡ [] →
-    is_empty_queue q.inside.queued → q.names ≡ [] → q.since ≡ [] →
+    is_empty_queue q.inside.queued → q.names ≡ [] → q.woken ≡ 0 →
     IsKept has q
-kept_new has q none lists empty names since = record {
+kept_new has q none lists empty names woken = record {
   order = order_new q.inside none lists empty;
   names = ap length names ∙ ap length (sym none);
-  since = subst (λ ps. AreLast ps q.inside.clauses) (sym since) (last_none q.inside.clauses);
+  woken = subst (λ k. k ≤ length q.inside.clauses) (sym woken) (omega arith);
   cold = λ n c e cool. no_clause q.inside.clauses _ none n c e;
 }
 

@@ -1,13 +1,13 @@
 -- What always holds of the registered clauses stays when one comes, and when one is refused.
 use Rattle.std.proofs.Common.{◌≡◌, ◌≢◌, ℕ, ◌+◌, ◌<◌, ◌-◌, ◌^◌, Bool, true, false, eqb, eqb-true, eq-eqb}
-use Rattle.std.proofs.Common.{◌⊎◌, inl, inr, List, [], ◌∷◌, ◌++◌, length, Option, Some, None, MatchOption}
+use Rattle.std.proofs.Common.{inl, inr, List, [], ◌∷◌, ◌++◌, length, Option, Some, None, MatchOption}
 use Rattle.std.proofs.Common.{slice_get, sym, ap, ap₂, refl, ◌∙◌, subst, arith, length-append}
 use Rattle.typed_ids.specs.TotalMaps.{IsUpdate}
 use Rattle.decisions.specs.Literals.{Lit}
 use Rattle.resolvo_queue.specs.Rows.ByVariable.{list_at}
 use Rattle.resolvo_queue.specs.Members.{Stands}
-use Rattle.resolvo_queue.specs.Scan.Positions.{has, same_position}
-use Rattle.resolvo_queue.specs.Parts.Queued.{IsOfClause}
+use Rattle.resolvo_queue.specs.Scan.Positions.{has}
+use Rattle.resolvo_queue.specs.Parts.Queued.{IsOfClause, Queued}
 use Rattle.resolvo_queue.specs.Pick.Ready.{AreLocated, at_position}
 use Rattle.resolvo_queue.specs.Scan.Order.{first_from, position_in}
 use Rattle.resolvo_queue.specs.Parts.Numbers.{GainsNumber}
@@ -18,7 +18,6 @@ use Rattle.resolvo_queue.specs.declared.tracked_clause.Position.{Position}
 use Rattle.resolvo_queue.specs.declared.requires_clause.RequiresClause.{RequiresClause}
 use Rattle.resolvo_queue.specs.declared.tracked_clause.TrackedClause.{TrackedClause}
 use Rattle.resolvo_queue.proofs.Clauses.Entries.{earlier_or_last, last_is, stays_at}
-use Rattle.resolvo_queue.proofs.Syncs.Queued.{same_position_is}
 use Rattle.resolvo_queue.proofs.Syncs.NewClause.{first_stays, located_more, own_position, parent_of}
 use Rattle.resolvo_queue.proofs.Clauses.Numbers.{gains_each, stands_last, updated_each}
 
@@ -96,22 +95,13 @@ module _ (cs cs' : List TrackedClause) (new : TrackedClause) (more : cs' ≡ cs 
     | inr p ↦ subst (λ m. P m c) (sym p.1) (subst (P (length cs)) (sym p.0) own)
   ]
 
-  -- positions of clauses, and that of the new one
-  of_more : new.position.number ≡ length cs → (ps ps' : List Position) →
-      ((p : Position) → has ps p ≡ true → IsOfClause cs p) →
-      ((p : Position) → has ps' p ≡ true → (has ps p ≡ true) ⊎ (same_position new.position p ≡ true)) →
-      (p : Position) → has ps' p ≡ true → IsOfClause cs' p
-  of_more next ps ps' of added p h = elim (added p h) [
-    | inl x ↦ (let was = of p x in
-        (was.0, ap (λ l. slice_get l p.number) more ∙ stays_at cs (new ∷ []) p.number was.0 was.1, was.2))
-    | inr s ↦ (let same : new.position ≡ p = same_position_is new.position p s in
-        let last : p.number ≡ length cs = ap (λ (q : Position). q.number) (sym same) ∙ next in
-        (new, ap (λ l. slice_get l p.number) more ∙ (ap (slice_get (cs ++ new ∷ [])) last ∙ last_is cs new), same))
-  ]
+  -- positions of clauses
+  of_more : (p : Position) → IsOfClause cs p → IsOfClause cs' p
+  of_more p was = (was.0, ap (λ l. slice_get l p.number) more ∙ stays_at cs (new ∷ []) p.number was.0 was.1, was.2)
 
-pub registers_in_order : (clause : RequiresClause) (is_hot counted : Bool) (literals : List Lit) (old now : Tracking) →
-    length old.clauses < 2 ^ 32 - 1 → IsInOrder old → Registers clause is_hot counted literals old now → IsInOrder now
-registers_in_order clause is_hot counted literals old now room o r = record {
+pub registers_in_order : (clause : RequiresClause) (is_hot : Bool) (literals : List Lit) (old now : Tracking) →
+    length old.clauses < 2 ^ 32 - 1 → IsInOrder old → Registers clause is_hot literals old now → IsInOrder now
+registers_in_order clause is_hot literals old now room o r = record {
   few = subst (λ cs. length cs < 2 ^ 32) (sym r.clauses) few;
   located = subst AreLocated (sym r.clauses) (located_more old.clauses r.new o.located position);
   first = subst (λ cs. BeginFirst cs now.by_parent) (sym r.clauses)
@@ -125,8 +115,10 @@ registers_in_order clause is_hot counted literals old now room o r = record {
       (λ n c e. r.gains.records.clauses c.record n (o.requirements n c e)) r.requirements;
   placed = each_more old.clauses now.clauses r.new r.clauses (λ n c. IsPlaceOf now.requirements c.requirement c.record)
       (λ n c e. r.gains.records.places c.requirement c.record (o.placed n c e)) r.placed;
-  all_of = of_more old.clauses now.clauses r.new r.clauses next old.queued.all now.queued.all o.all_of r.queued.all_new;
-  hot_of = of_more old.clauses now.clauses r.new r.clauses next old.queued.hot now.queued.hot o.hot_of r.queued.hot_new;
+  all_of = λ p h. of_more old.clauses now.clauses r.new r.clauses p
+      (o.all_of p (subst (λ (q : Queued). has q.all p ≡ true) r.gains.queued h));
+  hot_of = λ p h. of_more old.clauses now.clauses r.new r.clauses p
+      (o.hot_of p (subst (λ (q : Queued). has q.hot p ≡ true) r.gains.queued h));
 }
   where
     few : length (old.clauses ++ r.new ∷ []) < 2 ^ 32
@@ -136,9 +128,6 @@ registers_in_order clause is_hot counted literals old now room o r = record {
         (length old.clauses, r.new)
     position = subst (λ cs. r.new.position ≡ position_in parent_of at_position cs (length old.clauses, r.new))
         r.clauses r.position
-
-    next : r.new.position.number ≡ length old.clauses
-    next = ap (λ (p : Position). p.number) r.position
 
     update : IsUpdate (list_at old.by_parent) r.new.parent
         (list_at old.by_parent r.new.parent ++ length old.clauses ∷ []) (list_at now.by_parent)
@@ -164,8 +153,8 @@ refused_in_order old now o b = record {
   parents = λ n c e. subst (Stands n) (sym (b.by_parent c.parent)) (o.parents n c (was n c e));
   requirements = λ n c e. b.gains.records.clauses c.record n (o.requirements n c (was n c e));
   placed = λ n c e. b.gains.records.places c.requirement c.record (o.placed n c (was n c e));
-  all_of = λ p h. still p (elim (b.queued.all_new p h) [ inl x ↦ o.all_of p x | inr none ↦ absurd none ]);
-  hot_of = λ p h. still p (elim (b.queued.hot_new p h) [ inl x ↦ o.hot_of p x | inr none ↦ absurd none ]);
+  all_of = λ p h. still p (o.all_of p (subst (λ (q : Queued). has q.all p ≡ true) b.gains.queued h));
+  hot_of = λ p h. still p (o.hot_of p (subst (λ (q : Queued). has q.hot p ≡ true) b.gains.queued h));
 }
   where
     was : (n : ℕ) (c : TrackedClause) → slice_get now.clauses n ≡ Some c → slice_get old.clauses n ≡ Some c

@@ -9,22 +9,21 @@ use Rattle.std.proofs.lemmas.List.{map-append}
 use Rattle.std.proofs.lemmas.List.Elements.{All-cons, All-nil, All-push, All-weaker}
 use Rattle.std.proofs.lemmas.Option.{slice_get_within}
 use Rattle.typed_ids.specs.TotalMaps.{SameValues}
-use Rattle.decisions.specs.Literals.{Lit, Values, known_true, variable_of}
+use Rattle.decisions.specs.Literals.{Lit, Values, variable_of}
 use Rattle.resolvo_queue.specs.Rows.ByVariable.{list_at}
 use Rattle.resolvo_queue.specs.Pick.Inspection.{clause_of}
-use Rattle.resolvo_queue.specs.Parts.Names.{AreCold, AreLast, counts, names_at}
+use Rattle.resolvo_queue.specs.Parts.Names.{AreCold, names_at}
 use Rattle.resolvo_queue.specs.Members.{Stands}
-use Rattle.resolvo_queue.specs.Scan.Positions.{same_position}
 use Rattle.resolvo_queue.specs.Queue.{IsKept, Queue, StandsOn, values_of}
 use Rattle.resolvo_queue.specs.Pick.Questions.{clause_literals}
 use Rattle.resolvo_queue.specs.References.{HasParts, References, literals_in, rows_in}
-use Rattle.resolvo_queue.specs.Routing.Synced.{KeepsQueued}
+use Rattle.resolvo_queue.specs.Parts.Queued.{Queued}
+use Rattle.resolvo_queue.specs.Routing.Synced.{KeepsQueued, counts}
 use Rattle.resolvo_queue.specs.Parts.Tracking.{IsAsBefore, Registers, Tracking}
-use Rattle.resolvo_queue.specs.declared.parent_value.ParentValue.{ParentValue}
 use Rattle.resolvo_queue.specs.declared.tracked_clause.Position.{Position}
 use Rattle.resolvo_queue.specs.declared.requires_clause.RequiresClause.{RequiresClause}
 use Rattle.resolvo_queue.specs.declared.tracked_clause.TrackedClause.{TrackedClause}
-use Rattle.resolvo_queue.proofs.Clauses.Counts.{counts_more, counts_new, last_more}
+use Rattle.resolvo_queue.proofs.Clauses.Counts.{counts_new}
 use Rattle.resolvo_queue.proofs.Clauses.Entries.{earlier_or_last}
 use Rattle.resolvo_queue.proofs.Clauses.Order.{refused_in_order, registers_in_order}
 use Rattle.resolvo_queue.proofs.Syncs.Queued.{grows_none}
@@ -70,37 +69,34 @@ not_full b n m e full same = elim (le_or_lt (2 ^ 32 - 1) m) [
         go false e = inl (ltb-false b a e)
 
 -- the clauses that contracts see
-pub registered_whole : (clause : RequiresClause) (is_hot counted : Bool) (literals : List Lit) (old now : Tracking) →
-    Registers clause is_hot counted literals old now →
+pub registered_whole : (clause : RequiresClause) (is_hot : Bool) (literals : List Lit) (old now : Tracking) →
+    Registers clause is_hot literals old now →
     map clause_of now.clauses ≡ map clause_of old.clauses ++ clause ∷ []
-registered_whole clause is_hot counted literals old now r =
+registered_whole clause is_hot literals old now r =
     ap (map clause_of) r.clauses ∙
     (map-append clause_of old.clauses (r.new ∷ []) ∙ ap (λ c. map clause_of old.clauses ++ c ∷ []) r.is)
 
-module _ {N H : Type 0} (has : H → N → Bool) (q q' : Queue N H) (clause : RequiresClause) (is_hot counted : Bool)
-    (literals : List Lit) (its_names : List N) (value : ParentValue)
-    (kept : IsKept has q) (registers : Registers clause is_hot counted literals q.inside q'.inside)
-    (since : q'.since ≡ q.since ++ value ∷ []) (parent : clause.parent ≡ value.parent) where
+module _ {N H : Type 0} (has : H → N → Bool) (q q' : Queue N H) (clause : RequiresClause) (is_hot : Bool)
+    (literals : List Lit) (its_names : List N)
+    (kept : IsKept has q) (registers : Registers clause is_hot literals q.inside q'.inside)
+    (woken : q'.woken ≡ q.woken) where
   abbrev cs : List TrackedClause
   cs = q.inside.clauses
 
   abbrev new : TrackedClause
   new = registers.new
 
-  own_parent : new.parent ≡ value.parent
-  own_parent = ap (λ (c : RequiresClause). c.parent) registers.is ∙ parent
-
   pub kept_registered : length q.inside.clauses < 2 ^ 32 - 1 → q'.names ≡ q.names ++ its_names ∷ [] →
       SameValues (has q.hot) (has q'.hot) → is_hot ≡ list_any (has q.hot) its_names →
       IsKept has q'
   kept_registered few names hot is = record {
-    order = registers_in_order clause is_hot counted literals q.inside q'.inside few kept.order registers;
+    order = registers_in_order clause is_hot literals q.inside q'.inside few kept.order registers;
     names = (
         ap length names ∙ (length-append q.names (its_names ∷ []) ∙ (ap (λ n. n + 1) kept.names
         ∙ (sym (length-append cs (new ∷ [])) ∙ ap length (sym registers.clauses)))));
-    since = subst (λ ps. AreLast ps q'.inside.clauses) (sym since)
-        (subst (AreLast (q.since ++ value ∷ [])) (sym registers.clauses)
-        (last_more q.since value cs new own_parent kept.since));
+    woken = subst (λ (x : ℕ × ℕ). x.0 ≤ x.1)
+        (λ i. (sym woken i, sym (ap length registers.clauses ∙ length-append cs (new ∷ [])) i))
+        (let le = kept.woken in omega (arith, le));
     cold = λ n c e cool. go n c cool
         (earlier_or_last cs new n c (subst (λ l. slice_get l n ≡ Some c) registers.clauses e));
   }
@@ -127,9 +123,8 @@ module _ {N H : Type 0} (has : H → N → Bool) (q q' : Queue N H) (clause : Re
   module _ {S A : Type 0} (refs : References N S A) (stands : StandsOn refs q) where
     pub stands_registered : q'.clauses ≡ q.clauses ++ clause ∷ [] → q'.trail ≡ q.trail →
         q'.must_start_anew ≡ q.must_start_anew →
-        literals ≡ literals_in refs clause.condition → HasParts refs clause → counted ≡ known_true value.value →
-        StandsOn refs q'
-    stands_registered clauses trail anew condition parts counts_as = record {
+        literals ≡ literals_in refs clause.condition → HasParts refs clause → StandsOn refs q'
+    stands_registered clauses trail anew condition parts = record {
       clauses = clauses ∙ (ap (λ l. l ++ clause ∷ []) stands.clauses ∙
           (ap (λ c. map clause_of cs ++ c ∷ []) (sym registers.is)
           ∙ (sym (map-append clause_of cs (new ∷ [])) ∙ ap (map clause_of) (sym registers.clauses))));
@@ -154,41 +149,35 @@ module _ {N H : Type 0} (has : H → N → Bool) (q q' : Queue N H) (clause : Re
         val : Values
         val = values_of q.trail
 
+        own : new.position.number ≡ length cs
+        own = ap (λ (p : Position). p.number) registers.position
+
         again : KeepsQueued cs (clause_literals refs) (rows_in refs) val
-            (counts val q.since cs) q.inside.requirements q.inside.queued →
+            (counts val q.woken) q.inside.requirements q.inside.queued →
             KeepsQueued q'.inside.clauses (clause_literals refs) (rows_in refs) (values_of q'.trail)
-            (counts (values_of q'.trail) q'.since q'.inside.clauses) q'.inside.requirements q'.inside.queued
+            (counts (values_of q'.trail) q'.woken) q'.inside.requirements q'.inside.queued
         again old =
-            let own : new.position.number ≡ length cs = ap (λ (p : Position). p.number) registers.position in
-            let before = synced_same cs (clause_literals refs) (clause_literals refs) (λ n c e. refl) (rows_in refs)
-            (rows_in refs) val
-            (counts val q.since cs) (counts val (q.since ++ value ∷ []) (cs ++ new ∷ [])) q.inside.requirements
-            q.inside.requirements
-            (λ p. ⊥) q.inside.queued q.inside.queued
-            (counts_more val q.since value cs new kept.order.located kept.since) (λ k. refl) (λ k h. refl)
-            (grows_none (λ p. ⊥) q.inside.queued) old in
-            let after = registered_synced cs (clause_literals refs) (rows_in refs) val
-            (counts val (q.since ++ value ∷ []) (cs ++ new ∷ [])) q.inside.requirements q'.inside.requirements
-            (λ p. same_position new.position p ≡ true) q.inside.queued q'.inside.queued new
-            registers.gains.records.known
+            subst (λ (x : (Values × ℕ) × (List TrackedClause × Queued)). KeepsQueued x.1.0 (clause_literals refs)
+            (rows_in refs) x.0.0 (counts x.0.0 x.0.1) q'.inside.requirements x.1.1)
+            (λ i. (
+              (ap values_of (sym trail) i, sym woken i),
+              (sym registers.clauses i, sym registers.gains.queued i),
+            ))
+            (registered_synced cs (clause_literals refs) (rows_in refs) val (counts val q.woken)
+            q.inside.requirements q'.inside.requirements q.inside.queued new registers.gains.records.known
             (rows_stay (rows_in refs) q.inside.requirements q'.inside.requirements registers.gains.records)
-            registers.queued
-            (λ t. registers.counted (counts_as ∙ (sym (counts_new val q.since value cs new own kept.since) ∙ t)))
-            before in
-            subst (λ (x : Values × (List ParentValue × List TrackedClause)). KeepsQueued x.1.1 (clause_literals refs)
-            (rows_in refs) x.0 (counts x.0 x.1.0 x.1.1) q'.inside.requirements q'.inside.queued)
-            (λ i. (ap values_of (sym trail) i, (sym since i, sym registers.clauses i))) after
+            (counts_new val q.woken cs new own kept.woken) old)
 
 -- ---- a registration that is refused
 
 module _ {N H : Type 0} (has : H → N → Bool) (q q' : Queue N H) (before : IsAsBefore q.inside q'.inside)
-    (since : q'.since ≡ q.since) where
+    (woken : q'.woken ≡ q.woken) where
   pub kept_refused : IsKept has q → q'.names ≡ q.names → q'.hot ≡ q.hot → IsKept has q'
   kept_refused kept names hot = record {
     order = refused_in_order q.inside q'.inside kept.order before;
     names = ap length names ∙ (kept.names ∙ ap length (sym before.clauses));
-    since = subst (λ ps. AreLast ps q'.inside.clauses) (sym since)
-        (subst (AreLast q.since) (sym before.clauses) kept.since);
+    woken = subst (λ (x : ℕ × List TrackedClause). x.0 ≤ length x.1) (λ i. (sym woken i, sym before.clauses i))
+        kept.woken;
     cold = subst (λ cs. AreCold (has q'.hot) q'.names cs) (sym before.clauses)
         (subst (λ ns. AreCold (has q'.hot) ns q.inside.clauses) (sym names)
         (subst (λ h. AreCold (has h) q.names q.inside.clauses) (sym hot) kept.cold));
@@ -209,17 +198,17 @@ module _ {N H : Type 0} (has : H → N → Bool) (q q' : Queue N H) (before : Is
       val = values_of q.trail
 
       again : KeepsQueued q.inside.clauses (clause_literals refs) (rows_in refs) val
-          (counts val q.since q.inside.clauses) q.inside.requirements q.inside.queued →
+          (counts val q.woken) q.inside.requirements q.inside.queued →
           KeepsQueued q'.inside.clauses (clause_literals refs) (rows_in refs) (values_of q'.trail)
-          (counts (values_of q'.trail) q'.since q'.inside.clauses) q'.inside.requirements q'.inside.queued
+          (counts (values_of q'.trail) q'.woken) q'.inside.requirements q'.inside.queued
       again old =
-          subst (λ (x : Values × (List ParentValue × List TrackedClause)). KeepsQueued x.1.1 (clause_literals refs)
-          (rows_in refs) x.0 (counts x.0 x.1.0 x.1.1) q'.inside.requirements q'.inside.queued)
-          (λ i. (ap values_of (sym trail) i, (sym since i, sym before.clauses i)))
+          subst (λ (x : (Values × ℕ) × (List TrackedClause × Queued)). KeepsQueued x.1.0 (clause_literals refs)
+          (rows_in refs) x.0.0 (counts x.0.0 x.0.1) q'.inside.requirements x.1.1)
+          (λ i. ((ap values_of (sym trail) i, sym woken i), (sym before.clauses i, sym before.gains.queued i)))
           (synced_same q.inside.clauses (clause_literals refs) (clause_literals refs) (λ n c e. refl) (rows_in refs)
           (rows_in refs) val
-          (counts val q.since q.inside.clauses) (counts val q.since q.inside.clauses) q.inside.requirements
-          q'.inside.requirements (λ p. ⊥) q.inside.queued q'.inside.queued
+          (counts val q.woken) (counts val q.woken) q.inside.requirements
+          q'.inside.requirements (λ p. ⊥) q.inside.queued q.inside.queued
           (λ n c e. refl) before.gains.records.known
           (rows_stay (rows_in refs) q.inside.requirements q'.inside.requirements before.gains.records)
-          before.queued old)
+          (grows_none (λ p. ⊥) q.inside.queued) old)

@@ -1,12 +1,9 @@
 -- A queue after a sync, and at and after a question.
-use Rattle.std.proofs.Common.{◌≡◌, ℕ, ◌+◌, ◌-◌, ◌≤◌, ◌<◌, Bool, true, false, ◌||◌, ltb, ◌⊎◌, inl, inr}
-use Rattle.std.proofs.Common.{List, [], ◌++◌, map, take, drop, get_or, length, Option, None, Some}
-use Rattle.std.proofs.Common.{slice_get, option_map, sym, ap, refl, ◌∙◌, subst, arith, take-append-drop}
-use Rattle.std.specs.Prelude.{All}
-use Rattle.std.specs.Option.{option_or}
-use Rattle.std.proofs.lemmas.Bool.{ltb-false, ltb-true}
+use Rattle.std.proofs.Common.{◌≡◌, ℕ, ◌≤◌, Bool, true, false, ◌⊎◌, inl, inr}
+use Rattle.std.proofs.Common.{List, ◌++◌, map, take, drop, length, Option, None, Some, Result, Ok, Err, OnOk}
+use Rattle.std.proofs.Common.{slice_get, option_map, sym, ap, refl, ◌∙◌, subst}
+use Rattle.std.specs.Prelude.{All, OnErr}
 use Rattle.std.proofs.lemmas.List.{take-take}
-use Rattle.std.proofs.lemmas.Option.{slice_get_cases, slice_get_within}
 use Rattle.typed_ids.specs.TotalMaps.{SameValues}
 use Rattle.decisions.specs.Literals.{Lit, Values, known_true, variable_of}
 use Rattle.decisions.specs.declared.decision.Decision.{Decision}
@@ -14,35 +11,32 @@ use Rattle.providers.specs.declared.requirement.Requirement.{Requirement}
 use Rattle.resolvo_queue.specs.Rows.ByVariable.{list_at}
 use Rattle.resolvo_queue.specs.Pick.Inspection.{clause_of}
 use Rattle.resolvo_queue.specs.Rows.Listing.{IsListedWell}
-use Rattle.resolvo_queue.specs.Parts.Names.{AreCold, AreLast, counts, value_in}
-use Rattle.resolvo_queue.specs.Occurrences.{listing}
+use Rattle.resolvo_queue.specs.Parts.Names.{AreCold}
+use Rattle.resolvo_queue.specs.Occurrences.{Listed, listing}
 use Rattle.resolvo_queue.specs.Members.{Stands}
 use Rattle.resolvo_queue.specs.Scan.Positions.{has}
 use Rattle.resolvo_queue.specs.Routing.Possible.{SameElsewhere}
 use Rattle.resolvo_queue.specs.Queue.{AgreesBelow, IsKept, Queue, StandsOn, values_of}
 use Rattle.resolvo_queue.specs.Queue.{IsSynced as IsSyncedAt}
-use Rattle.resolvo_queue.specs.Parts.Queued.{GrowsBy, IsOfClause}
+use Rattle.resolvo_queue.specs.Parts.Queued.{GrowsBy, IsOfClause, Queued}
 use Rattle.resolvo_queue.specs.Pick.Questions.{clause_literals}
 use Rattle.resolvo_queue.specs.Pick.Ready.{IsReady}
-use Rattle.resolvo_queue.specs.References.{CanWalk, HasParts, References, literals_in, rows_in}
+use Rattle.resolvo_queue.specs.References.{HasParts, References, rows_in}
 use Rattle.resolvo_queue.specs.Rows.{Row}
 use Rattle.resolvo_queue.specs.Routing.{OnlyForgets, variables_of}
-use Rattle.resolvo_queue.specs.Routing.Synced.{FindsAll, IsOneOf, KeepsQueued, SyncsTo, is_among}
+use Rattle.resolvo_queue.specs.Routing.Synced.{AllWokenFrom, FindsAll, KeepsQueued, SyncsTo, counts, is_among}
 use Rattle.resolvo_queue.specs.Parts.Records.{IsPlaceOf, SameFound, Record, clauses_in, forgotten}
 use Rattle.resolvo_queue.specs.Parts.Tracking.{IsInOrder, Tracking}
 use Rattle.resolvo_queue.specs.Routing.Trails.{decided_value}
-use Rattle.resolvo_queue.specs.declared.parent_value.ParentValue.{ParentValue}
 use Rattle.resolvo_queue.specs.declared.tracked_clause.Position.{Position}
 use Rattle.resolvo_queue.specs.declared.tracked_clause.TrackedClause.{TrackedClause}
-use Rattle.resolvo_queue.proofs.Picks.Registered.{all_tracked, askable_tracked}
-use Rattle.resolvo_queue.proofs.Clauses.Counts.{counted_old, counted_since, counts_asked}
-use Rattle.resolvo_queue.proofs.Clauses.Counts.{counts_now, last_none, own_number}
+use Rattle.resolvo_queue.proofs.Clauses.Counts.{counts_all, woken_all}
 use Rattle.resolvo_queue.proofs.Rows.Listing.{listed_after_sync, lists_known}
 use Rattle.resolvo_queue.proofs.Syncs.Queued.{grows_none}
 use Rattle.resolvo_queue.proofs.Syncs.Same.{synced_same}
-use Rattle.resolvo_queue.proofs.Syncs.Routes.{routed_among, sync_parents, sync_values}
-use Rattle.resolvo_queue.proofs.Syncs.Trails.{below_only, decided_is, value-append, stands_in}
-use Rattle.resolvo_queue.proofs.Lists.{differ, same_some}
+use Rattle.resolvo_queue.proofs.Syncs.Routes.{sync_values}
+use Rattle.resolvo_queue.proofs.Syncs.Trails.{decided_is}
+use Rattle.resolvo_queue.proofs.Lists.{differ}
 
 -- ---- after a sync
 
@@ -86,6 +80,20 @@ order_stays t u clauses by_parent found placed all hot order =
       hot_of = hot;
     })
 
+-- where more are queued
+pub order_grown : (t : Tracking) (queued : Queued) → GrowsBy (IsOfClause t.clauses) t.queued queued → IsInOrder t →
+    IsInOrder (record t { queued = queued })
+order_grown t queued grows order = record {
+  few = order.few;
+  located = order.located;
+  first = order.first;
+  parents = order.parents;
+  requirements = order.requirements;
+  placed = order.placed;
+  all_of = λ p h. elim (grows.all_new p h) [ inl was ↦ order.all_of p was | inr new ↦ new ];
+  hot_of = λ p h. elim (grows.hot_new p h) [ inl was ↦ order.hot_of p was | inr new ↦ new ];
+}
+
 pub order_after_sync : (t u : Tracking) → u.clauses ≡ t.clauses → u.by_parent ≡ t.by_parent →
     OnlyForgets t.requirements u.requirements →
     GrowsBy (IsOfClause t.clauses) t.queued u.queued → IsInOrder t → IsInOrder u
@@ -94,55 +102,6 @@ order_after_sync t u clauses by_parent only grows order =
     (placed_after t.requirements u.requirements only)
     (λ p e. elim (grows.all_new p e) [ inl was ↦ order.all_of p was | inr new ↦ new ])
     (λ p e. elim (grows.hot_new p e) [ inl was ↦ order.hot_of p was | inr new ↦ new ]) order
-
--- a shorter part of a trail gives no value that a longer one doesn't
-prefix_true : (f floor : ℕ) (ds : List Decision) (x : ℕ) → f ≤ floor →
-    known_true (values_of (take floor ds) x) ≡ false → known_true (values_of (take f ds) x) ≡ false
-prefix_true f floor ds x le h = go (values_of (take f ds) x) refl
-  where
-    longer : values_of (take floor ds) x ≡ option_or (values_of (take f ds) x) (values_of (drop f (take floor ds)) x)
-    longer =
-        sym (decided_is (take floor ds) x)
-        ∙ (ap (λ l. decided_value l x) (sym (take-append-drop f (take floor ds)))
-        ∙ (value-append (λ (d : Decision). d.variable) (λ d. d.value) (take f (take floor ds))
-        (drop f (take floor ds)) x
-        ∙ (ap (λ l. option_or (decided_value l x) (decided_value (drop f (take floor ds)) x)) (take-take f floor ds le)
-        ∙ (ap (λ o. option_or o (decided_value (drop f (take floor ds)) x)) (decided_is (take f ds) x)
-        ∙ ap (option_or (values_of (take f ds) x)) (decided_is (drop f (take floor ds)) x)))))
-
-    go : (o : Option Bool) → values_of (take f ds) x ≡ o → known_true (values_of (take f ds) x) ≡ false
-    go (Some true) e =
-        let is : known_true (values_of (take floor ds) x) ≡ true =
-        ap known_true (longer ∙ ap (λ o. option_or o (values_of (drop f (take floor ds)) x)) e) in
-        absurd (differ (sym is ∙ h))
-    go (Some false) e = ap known_true e
-    go None e = ap known_true e
-
--- a parent that isn't true below the floor and is true now has its decision from the floor on
-parent_routed : (f : ℕ) (before now : List Decision) (x : ℕ) → known_true (values_of (take f now) x) ≡ false →
-    known_true (values_of now x) ≡ true →
-    is_among (variables_of (drop f before) ++ variables_of (drop f now)) x ≡ true
-parent_routed f before now x below is = routed_among f before now x ∙
-    go (stands_in (λ (d : Decision). d.variable) (drop f now) x) refl
-  where
-    right : (a : Bool) → (a || true) ≡ true
-    right true = refl
-    right false = refl
-
-    go : (b : Bool) → stands_in (λ (d : Decision). d.variable) (drop f now) x ≡ b →
-        (stands_in (λ (d : Decision). d.variable) (drop f before) x ||
-        stands_in (λ (d : Decision). d.variable) (drop f now) x) ≡ true
-    go true e = ap (λ b. stands_in (λ (d : Decision). d.variable) (drop f before) x || b) e ∙
-        right (stands_in (λ (d : Decision). d.variable) (drop f before) x)
-    go false e =
-        let same : values_of now x ≡ option_or (values_of (take f now) x) None =
-        sym (decided_is now x) ∙ (below_only (λ (d : Decision). d.variable) (λ d. d.value) f now x e ∙
-        ap (λ o. option_or o None) (decided_is (take f now) x)) in
-        absurd (differ (sym is ∙ (ap known_true same ∙ (nothing (values_of (take f now) x) ∙ below))))
-      where
-        nothing : (o : Option Bool) → known_true (option_or o None) ≡ known_true o
-        nothing None = refl
-        nothing (Some b) = refl
 
 module _ {N S A H : Type 0} (has : H → N → Bool) (refs : References N S A) (q q' : Queue N H) (kept : IsKept has q)
     (stands : StandsOn refs q)
@@ -157,7 +116,7 @@ module _ {N S A H : Type 0} (has : H → N → Bool) (refs : References N S A) (
   -- what a call leaves that changes no clause
   still_stands : IsListedWell refs.lists q'.inside.occurrences q'.inside.requirements →
       (q'.must_start_anew ≡ false → KeepsQueued cs literals (rows_in refs) (values_of q'.trail)
-      (counts (values_of q'.trail) q'.since cs) q'.inside.requirements q'.inside.queued) →
+      (counts (values_of q'.trail) q'.woken) q'.inside.requirements q'.inside.queued) →
       StandsOn refs q'
   still_stands listed synced = record {
     clauses = whole ∙ (stands.clauses ∙ ap (map clause_of) (sym clauses));
@@ -166,12 +125,12 @@ module _ {N S A H : Type 0} (has : H → N → Bool) (refs : References N S A) (
         (stands.conditions n c (subst (λ xs. slice_get xs n ≡ Some c) clauses e) l s);
     listed = listed;
     synced = λ accepted. subst (λ xs. KeepsQueued xs literals (rows_in refs) (values_of q'.trail)
-        (counts (values_of q'.trail) q'.since xs) q'.inside.requirements q'.inside.queued) (sym clauses)
+        (counts (values_of q'.trail) q'.woken) q'.inside.requirements q'.inside.queued) (sym clauses)
         (synced accepted);
   }
 
   -- a sync that is refused
-  pub stands_behind : q'.inside.occurrences ≡ q.inside.occurrences →
+  stands_behind : q'.inside.occurrences ≡ q.inside.occurrences →
       OnlyForgets q.inside.requirements q'.inside.requirements → q'.must_start_anew ≡ true → StandsOn refs q'
   stands_behind occurrences only anew =
       still_stands
@@ -186,87 +145,30 @@ module _ {N S A H : Type 0} (has : H → N → Bool) (refs : References N S A) (
     abbrev routed : List ℕ
     routed = variables_of (drop f q.trail) ++ variables_of (drop f entries)
 
-    abbrev val : Values
-    val = values_of q.trail
-
-    abbrev first : ℕ
-    first = length cs - length q.since
-
-    module _ (accepted : q.must_start_anew ≡ false) where
-      pub elsewhere : SameElsewhere (is_among routed) (decided_value q.trail) now
-      elsewhere = sync_values f q.trail entries now (λ x. values x ∙ sym (decided_is entries x))
-          (sym (take-take f floor q.trail less) ∙
-          (ap (take f) (agrees accepted).trail ∙ take-take f floor entries less))
-
-      -- who didn't count and has a true parent now, has it routed
-      parents_routed : (c : TrackedClause) → IsOneOf cs literals c → counts val q.since cs c ≡ false →
-          known_true (now c.parent) ≡ true → is_among routed c.parent ≡ true
-      parents_routed c reg out is = go (ltb c.position.number first) refl
-        where
-          own : c.position.number ≡ reg.0
-          own = own_number cs kept.order.located reg.0 c reg.1
-
-          go : (b : Bool) → ltb c.position.number first ≡ b → is_among routed c.parent ≡ true
-          go true h =
-              let was : known_true (decided_value q.trail c.parent) ≡ false =
-              ap known_true (decided_is q.trail c.parent ∙
-              sym (counted_old val first q.since c (ltb-true c.position.number first h))) ∙ out in
-              sync_parents routed (decided_value q.trail) now elsewhere c.parent was is
-          go false h = since_then (slice_get_cases q.since (reg.0 - first)).1
-            where
-              behind : first ≤ reg.0
-              behind = subst (λ k. first ≤ k) own (ltb-false c.position.number first h)
-
-              since_then : ((p : ParentValue) × (reg.0 - first < length q.since) ×
-                  (slice_get q.since (reg.0 - first) ≡ Some p) × (get_or q.since (reg.0 - first) p ≡ p))
-                  ⊎ ((length q.since ≤ reg.0 - first) × (slice_get q.since (reg.0 - first) ≡ None)) →
-                  is_among routed c.parent ≡ true
-              since_then (inl p) =
-                  let there = kept.since.1 (reg.0 - first) p.0 p.2 in
-                  let number : first + (reg.0 - first) ≡ reg.0 = omega (arith, behind) in
-                  let same : there.0 ≡ c = same_some there.0 c (sym there.1 ∙ (ap (slice_get cs) number ∙ reg.1)) in
-                  let parent : c.parent ≡ p.0.parent = ap (λ (d : TrackedClause). d.parent) (sym same) ∙ there.2 in
-                  let value : known_true p.0.value ≡ false =
-                  ap known_true (sym (counted_since val first q.since c (subst (λ k. first ≤ k) (sym own) behind)
-                  ∙ (ap (λ k. value_in (slice_get q.since (k - first))) own ∙ ap value_in p.2))) ∙ out in
-                  let below : known_true (values_of (take floor entries) p.0.parent) ≡ false =
-                  subst (λ (x : ParentValue). known_true x.value ≡ false →
-                  known_true (values_of (take floor entries) x.parent) ≡ false) p.3
-                  ((agrees accepted).since (reg.0 - first) p.0 p.1) value in
-                  parent_routed f q.trail entries c.parent
-                  (ap (λ x. known_true (values_of (take f entries) x)) parent ∙
-                  prefix_true f floor entries p.0.parent less below)
-                  (ap known_true (sym (values c.parent)) ∙ is)
-              since_then (inr o) = absurd (omega (arith, o.0, slice_get_within cs reg.0 c reg.1, kept.since.0, behind))
-
-      pub was_synced : SameElsewhere (is_among routed) (decided_value q.trail) now
-          × ((c : TrackedClause) → IsOneOf cs literals c → counts val q.since cs c ≡ false →
-          known_true (now c.parent) ≡ true → is_among routed c.parent ≡ true)
-          × KeepsQueued cs literals (rows_in refs) (decided_value q.trail)
-          (counts val q.since cs) q.inside.requirements q.inside.queued
-      was_synced = (
-        elsewhere,
-        parents_routed,
-        subst (λ v. KeepsQueued cs literals (rows_in refs) v
-            (counts val q.since cs) q.inside.requirements q.inside.queued)
-            (λ i x. sym (decided_is q.trail x) i) (stands.synced accepted),
-      )
+    was_synced : q.must_start_anew ≡ false → SameElsewhere (is_among routed) (decided_value q.trail) now
+        × KeepsQueued cs literals (rows_in refs) (decided_value q.trail)
+        (counts (decided_value q.trail) q.woken) q.inside.requirements q.inside.queued
+    was_synced accepted = (
+      sync_values f q.trail entries now (λ x. values x ∙ sym (decided_is entries x))
+          (sym (take-take f floor q.trail less) ∙ (ap (take f) (agrees accepted) ∙ take-take f floor entries less)),
+      subst (λ v. KeepsQueued cs literals (rows_in refs) v (counts v q.woken) q.inside.requirements q.inside.queued)
+          (λ i x. sym (decided_is q.trail x) i) (stands.synced accepted),
+    )
 
     -- an accepted sync
-    pub stands_synced : q'.inside.occurrences ≡ q.inside.occurrences →
+    stands_synced : q'.inside.occurrences ≡ q.inside.occurrences →
         OnlyForgets q.inside.requirements q'.inside.requirements →
         SyncsTo cs q.inside.by_parent q.inside.by_condition (listing q.inside.occurrences) q.must_start_anew
         (decided_value q.trail) now routed
         q.inside.requirements q'.inside.requirements q.inside.queued q'.inside.queued →
-        q'.trail ≡ entries → q'.since ≡ [] → StandsOn refs q'
-    stands_synced occurrences only syncs trail since =
+        q'.trail ≡ entries → q'.woken ≡ q.woken → StandsOn refs q'
+    stands_synced occurrences only syncs trail woken =
         still_stands
         (subst (λ o. IsListedWell refs.lists o q'.inside.requirements) (sym occurrences)
         (listed_after_sync refs.lists q.inside.occurrences q.inside.requirements q'.inside.requirements
         only stands.listed))
-        (λ accepted. subst (λ (x : List Decision × List ParentValue). KeepsQueued cs literals (rows_in refs)
-        (values_of x.0) (counts (values_of x.0) x.1 cs) q'.inside.requirements q'.inside.queued)
-        (λ i. (sym trail i, sym since i)) at_entries)
+        (λ accepted. subst (λ (x : Values × ℕ). KeepsQueued cs literals (rows_in refs) x.0 (counts x.0 x.1)
+        q'.inside.requirements q'.inside.queued) (λ i. (at_trail i, sym woken i)) at_now)
       where
         finds : FindsAll cs literals q.inside.by_parent q.inside.by_condition q.inside.requirements
         finds = record {
@@ -275,25 +177,25 @@ module _ {N S A H : Type 0} (has : H → N → Bool) (refs : References N S A) (
           requirements = kept.order.requirements;
         }
 
-        at_now : KeepsQueued cs literals (rows_in refs) now (λ c. known_true (now c.parent))
-            q'.inside.requirements q'.inside.queued
-        at_now = syncs literals (rows_in refs) (counts val q.since cs) finds
+        at_now : KeepsQueued cs literals (rows_in refs) now (counts now q.woken) q'.inside.requirements q'.inside.queued
+        at_now = syncs literals (rows_in refs) q.woken finds
             (lists_known refs.universe refs.lists cs literals q.inside.occurrences q.inside.requirements stands.listed)
-            (λ accepted. was_synced accepted)
+            was_synced
 
-        same_values : now ≡ values_of entries
-        same_values = λ i x. values x i
+        at_trail : now ≡ values_of q'.trail
+        at_trail = λ i x. (values x ∙ ap (λ ds. values_of ds x) (sym trail)) i
 
-        at_entries : KeepsQueued cs literals (rows_in refs) (values_of entries)
-            (counts (values_of entries) [] cs) q'.inside.requirements q'.inside.queued
-        at_entries = synced_same cs literals literals (λ n c e. refl) (rows_in refs) (rows_in refs)
-            (values_of entries) (λ c. known_true (values_of entries c.parent))
-            (counts (values_of entries) [] cs) q'.inside.requirements q'.inside.requirements (λ p. ⊥)
-            q'.inside.queued q'.inside.queued
-            (counts_now (values_of entries) cs kept.order.located) (λ k. refl) (λ k h. refl)
-            (grows_none (λ p. ⊥) q'.inside.queued)
-            (subst (λ v. KeepsQueued cs literals (rows_in refs) v (λ c. known_true (v c.parent)) q'.inside.requirements
-            q'.inside.queued) same_values at_now)
+    -- accepted or refused
+    pub stands_after : {T E : Type 0} (result : Result T E) → q'.inside.occurrences ≡ q.inside.occurrences →
+        OnlyForgets q.inside.requirements q'.inside.requirements →
+        OnOk result (SyncsTo cs q.inside.by_parent q.inside.by_condition (listing q.inside.occurrences)
+        q.must_start_anew (decided_value q.trail) now routed
+        q.inside.requirements q'.inside.requirements q.inside.queued q'.inside.queued) →
+        OnOk result (q'.trail ≡ entries) → OnErr result (q'.must_start_anew ≡ true) → q'.woken ≡ q.woken →
+        StandsOn refs q'
+    stands_after (Ok x) occurrences only syncs trail refused woken =
+        stands_synced occurrences only syncs trail woken
+    stands_after (Err e) occurrences only syncs trail refused woken = stands_behind occurrences only refused
 
   -- ---- at a question
 
@@ -301,41 +203,47 @@ module _ {N S A H : Type 0} (has : H → N → Bool) (refs : References N S A) (
     same_values : values_of q.trail ≡ val
     same_values = λ i x. sym (synced.trail x) i
 
-    counts_as : (n : ℕ) (c : TrackedClause) → slice_get cs n ≡ Some c →
-        counts (values_of q.trail) q.since cs c ≡ known_true (values_of q.trail c.parent)
-    counts_as = counts_asked (values_of q.trail) q.since cs kept.order.located kept.since
-        (subst (λ v. All (λ p. v p.parent ≡ p.value) q.since) (sym same_values) synced.since)
-
-    pub ready_asked : IsReady cs literals (rows_in refs) val q.inside.requirements q.inside.queued
-    ready_asked = record {
-      synced = subst (λ v. KeepsQueued cs literals
-          (rows_in refs) v (λ c. known_true (v c.parent)) q.inside.requirements q.inside.queued) same_values
-          (synced_same cs literals literals (λ n c e. refl) (rows_in refs) (rows_in refs) (values_of q.trail)
-          (counts (values_of q.trail) q.since cs)
-          (λ c. known_true (values_of q.trail c.parent)) q.inside.requirements q.inside.requirements (λ p. ⊥)
-          q.inside.queued q.inside.queued
-          (λ n c e. sym (counts_as n c e)) (λ k. refl) (λ k h. refl) (grows_none (λ p. ⊥) q.inside.queued)
-          (stands.synced synced.accepted));
+    -- once those that came are woken
+    pub ready_asked : (queued : Queued) → GrowsBy (IsOfClause cs) q.inside.queued queued →
+        AllWokenFrom q.woken cs val queued → IsReady cs literals (rows_in refs) val q.inside.requirements queued
+    ready_asked queued grows came = record {
+      synced = woken_all val cs kept.order.located literals (rows_in refs) q.woken q.inside.requirements
+          q.inside.queued queued grows came
+          (subst (λ v. KeepsQueued cs literals (rows_in refs) v (counts v q.woken) q.inside.requirements
+          q.inside.queued) same_values (stands.synced synced.accepted));
       placed = kept.order.placed;
-      all_of = kept.order.all_of;
-      hot_of = kept.order.hot_of;
+      all_of = λ p h. elim (grows.all_new p h) [ inl was ↦ kept.order.all_of p was | inr new ↦ new ];
+      hot_of = λ p h. elim (grows.hot_new p h) [ inl was ↦ kept.order.hot_of p was | inr new ↦ new ];
     }
 
     -- and after it
-    pub stands_asked : q'.trail ≡ q.trail → q'.since ≡ q.since →
+    pub stands_asked : q'.trail ≡ q.trail → q'.woken ≡ length cs →
         IsListedWell refs.lists q'.inside.occurrences q'.inside.requirements →
         IsReady cs literals (rows_in refs) val q'.inside.requirements q'.inside.queued → StandsOn refs q'
-    stands_asked trail since listed ready = still_stands listed
-        (λ accepted. subst (λ (x : List Decision × List ParentValue). KeepsQueued cs literals (rows_in refs)
-        (values_of x.0) (counts (values_of x.0) x.1 cs) q'.inside.requirements q'.inside.queued)
-        (λ i. (sym trail i, sym since i))
+    stands_asked trail woken listed ready = still_stands listed
+        (λ accepted. subst (λ (x : Values × ℕ). KeepsQueued cs literals (rows_in refs) x.0 (counts x.0 x.1)
+        q'.inside.requirements q'.inside.queued)
+        (λ i. ((sym same_values ∙ ap values_of (sym trail)) i, sym woken i))
         (synced_same cs literals literals (λ n c e. refl) (rows_in refs) (rows_in refs)
-        (values_of q.trail) (λ c. known_true (values_of q.trail c.parent))
-        (counts (values_of q.trail) q.since cs) q'.inside.requirements q'.inside.requirements (λ p. ⊥)
-        q'.inside.queued q'.inside.queued
-        counts_as (λ k. refl) (λ k h. refl) (grows_none (λ p. ⊥) q'.inside.queued)
-        (subst (λ v. KeepsQueued cs literals (rows_in refs) v (λ c. known_true (v c.parent)) q'.inside.requirements
-        q'.inside.queued) (sym same_values) ready.synced)))
+        val (λ c. known_true (val c.parent)) (counts val (length cs)) q'.inside.requirements q'.inside.requirements
+        (λ p. ⊥) q'.inside.queued q'.inside.queued
+        (counts_all val cs kept.order.located) (λ k. refl) (λ k h. refl) (grows_none (λ p. ⊥) q'.inside.queued)
+        ready.synced))
+
+  -- where some were woken, and then memory was refused
+  pub stands_partly : q'.trail ≡ q.trail → q'.must_start_anew ≡ q.must_start_anew → q'.woken ≡ q.woken →
+      q'.inside.occurrences ≡ q.inside.occurrences → q'.inside.requirements ≡ q.inside.requirements →
+      GrowsBy (IsOfClause cs) q.inside.queued q'.inside.queued → StandsOn refs q'
+  stands_partly trail anew woken occurrences records grows = still_stands
+      (subst (λ (x : Listed × List Record). IsListedWell refs.lists x.0 x.1) (λ i.
+      (sym occurrences i, sym records i)) stands.listed)
+      (λ accepted. subst (λ (x : (List Decision × ℕ) × List Record). KeepsQueued cs literals (rows_in refs)
+      (values_of x.0.0) (counts (values_of x.0.0) x.0.1) x.1 q'.inside.queued)
+      (λ i. ((sym trail i, sym woken i), sym records i))
+      (synced_same cs literals literals (λ n c e. refl) (rows_in refs) (rows_in refs) (values_of q.trail)
+      (counts (values_of q.trail) q.woken) (counts (values_of q.trail) q.woken) q.inside.requirements
+      q.inside.requirements (IsOfClause cs) q.inside.queued q'.inside.queued
+      (λ n c e. refl) (λ k. refl) (λ k h. refl) grows (stands.synced (sym anew ∙ accepted))))
 
 -- what always holds of what is kept, after a question
 pub order_asked : (t u : Tracking) (literals : TrackedClause → List Lit) (rows_of : Requirement → List Row)
@@ -364,15 +272,11 @@ order_asked t u literals rows_of values clauses by_parent found ready order =
 -- what always holds of a queue, where a sync or a question left its clauses
 pub kept_still : {N H : Type 0} (has : H → N → Bool) (q q' : Queue N H) → IsKept has q → IsInOrder q'.inside →
     q'.inside.clauses ≡ q.inside.clauses → q'.names ≡ q.names → q'.hot ≡ q.hot →
-    ((q'.since ≡ q.since) ⊎ (q'.since ≡ [])) → IsKept has q'
-kept_still {N} {H} has q q' kept order clauses names hot since = record {
+    q'.woken ≤ length q.inside.clauses → IsKept has q'
+kept_still {N} {H} has q q' kept order clauses names hot woken = record {
   order = order;
   names = ap length names ∙ (kept.names ∙ ap length (sym clauses));
-  since = elim since [
-    | inl same ↦ subst (λ (x : List ParentValue × List TrackedClause). AreLast x.0 x.1) (λ i.
-        (sym same i, sym clauses i)) kept.since
-    | inr none ↦ subst (λ ps. AreLast ps q'.inside.clauses) (sym none) (last_none q'.inside.clauses)
-  ];
+  woken = subst (λ cs. q'.woken ≤ length cs) (sym clauses) woken;
   cold = subst (λ (x : (H × List (List N)) × List TrackedClause). AreCold (has x.0.0) x.0.1 x.1) (λ i.
       ((sym hot i, sym names i), sym clauses i)) kept.cold;
 }

@@ -1,6 +1,6 @@
 -- Of the clauses that pass a test, the one with the least position is the first of the scan.
-use Rattle.std.proofs.Common.{◌≡◌, ℕ, zero, suc, ◌+◌, Bool, true, false, cond, eqb, eq-eqb, List, [], ◌∷◌, ◌++◌, map}
-use Rattle.std.proofs.Common.{find, length, Option, Some, None, option_map, slice_get, sym, ap, refl, ◌∙◌, arith, is_gt}
+use Rattle.std.proofs.Common.{◌≡◌, ℕ, zero, suc, Bool, true, false, cond, eqb, eq-eqb, List, [], ◌∷◌, ◌++◌, map}
+use Rattle.std.proofs.Common.{find, length, Some, None, option_map, slice_get, sym, ap, refl, ◌∙◌, is_gt}
 use Rattle.std.specs.List.{AllByRecursion}
 use Rattle.std.specs.List.Sorted.{IsStrictlySortedBy}
 use Rattle.std.specs.Ordering.{is_lt, ordering_reverse}

@@ -1,17 +1,15 @@
 -- The scan of all clauses for the first falsified one.
-use Rattle.std.proofs.Common.{◌≡◌, ◌⊎◌, inl, inr, ℕ, suc, ◌+◌, ◌<◌, ◌≤◌, Bool, true, false, ltb, ◌&&◌, cond, eqb}
-use Rattle.std.proofs.Common.{List, [], ◌∷◌, length, map, find, Option, Some, None, option_map, slice_get}
+use Rattle.std.proofs.Common.{◌≡◌, ℕ, ◌+◌, ◌<◌, ◌≤◌, Bool, true, false, ltb, ◌&&◌}
+use Rattle.std.proofs.Common.{List, length, map, find, Option, Some, None, option_map, slice_get}
 use Rattle.std.proofs.Common.{sym, ap, refl, ◌∙◌, subst, arith}
-use Rattle.std.specs.Ordering.{is_lt}
 use Rattle.std.proofs.lemmas.Bool.{ltb-false, ltb-true}
 use Rattle.std.proofs.lemmas.Option.{slice_get-map, slice_get_within}
-use Rattle.resolvo_queue.specs.Falsified.{Covers, FindsBelow, FindsFirst, IsFound, comes_first}
+use Rattle.resolvo_queue.specs.Falsified.{Covers, FindsBelow, FindsFirst, comes_first}
 use Rattle.resolvo_queue.specs.Pick.Inspection.{clause_of}
 use Rattle.resolvo_queue.specs.Pick.Ready.{AreLocated, at_position}
 use Rattle.resolvo_queue.specs.Scan.{scan}
-use Rattle.resolvo_queue.specs.Scan.First.{first_of, position_at}
-use Rattle.resolvo_queue.specs.Scan.Order.{first_from}
-use Rattle.resolvo_queue.specs.Scan.Positions.{is_after, position_cmp}
+use Rattle.resolvo_queue.specs.Scan.First.{position_at}
+use Rattle.resolvo_queue.specs.Scan.Positions.{is_after}
 use Rattle.resolvo_queue.specs.declared.tracked_clause.Position.{Position}
 use Rattle.resolvo_queue.specs.declared.requires_clause.RequiresClause.{RequiresClause}
 use Rattle.resolvo_queue.specs.declared.tracked_clause.TrackedClause.{TrackedClause}

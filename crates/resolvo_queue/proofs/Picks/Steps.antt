@@ -1,5 +1,5 @@
 -- What a question keeps, step by step.
-use Rattle.std.proofs.Common.{◌≡◌, Bool, true, false, List, get_or, Option, Some, slice_get, refl, ◌∙◌, subst}
+use Rattle.std.proofs.Common.{◌≡◌, Bool, true, false, List, get_or, Option, Some, slice_get, ap, refl, ◌∙◌, subst}
 use Rattle.clauses.specs.declared.disjunction.Disjunction.{Disjunction}
 use Rattle.decisions.specs.Literals.{Values}
 use Rattle.providers.specs.Provider.{Universe}
@@ -15,6 +15,7 @@ use Rattle.resolvo_queue.specs.Pick.Ready.{IsReady}
 use Rattle.resolvo_queue.specs.References.{Lists, References, references, rows_in}
 use Rattle.resolvo_queue.specs.Rows.{frontier}
 use Rattle.resolvo_queue.specs.Parts.Records.{Record, known_at}
+use Rattle.resolvo_queue.specs.declared.clause_index.ClauseIndex.{ClauseIndex}
 use Rattle.resolvo_queue.specs.declared.offer.Frontier.{Frontier}
 use Rattle.resolvo_queue.specs.declared.tracked_clause.Position.{Position}
 use Rattle.resolvo_queue.specs.declared.tracked_clause.TrackedClause.{TrackedClause}
@@ -24,12 +25,11 @@ use Rattle.resolvo_queue.proofs.Walks.Counts.{walks_along, walks_nothing}
 
 -- ---- what is kept
 
-pub only_walks_none : {A : Type 0} (t : TrackedClauses A) (reading : Reading A) → OnlyWalks t t reading reading
-only_walks_none t reading = record {
+pub only_walks_none : {A : Type 0} {t : TrackedClauses A} {reading : Reading A} → OnlyWalks t t reading reading
+only_walks_none {A} {t} {reading} = record {
   once = walks_nothing t.requirements reading.walked;
   owes = λ k. refl;
   found = λ k. refl;
-  keeps_listed = λ r h. h;
   index = refl;
   only_hot = refl;
   trail = refl;
@@ -37,13 +37,12 @@ only_walks_none t reading = record {
   lists = refl;
 }
 
-pub only_walks_along : {A : Type 0} (a b c : TrackedClauses A) (l m n : Reading A) → OnlyWalks a b l m →
+pub only_walks_along : {A : Type 0} {a b c : TrackedClauses A} {l m n : Reading A} → OnlyWalks a b l m →
     OnlyWalks b c m n → OnlyWalks a c l n
-only_walks_along a b c l m n f g = record {
+only_walks_along {A} {a} {b} {c} {l} {m} {n} f g = record {
   once = walks_along a.requirements b.requirements c.requirements l.walked m.walked n.walked f.once g.once;
   owes = λ k. g.owes k ∙ f.owes k;
   found = λ k. g.found k ∙ f.found k;
-  keeps_listed = λ r h. g.keeps_listed r (f.keeps_listed r h);
   index = g.index ∙ f.index;
   only_hot = g.only_hot ∙ f.only_hot;
   trail = g.trail ∙ f.trail;
@@ -51,31 +50,38 @@ only_walks_along a b c l m n f g = record {
   lists = g.lists ∙ f.lists;
 }
 
+-- what depends on the clauses and on the lists alone stays
+pub along_walks : {A P : Type 0} (f : List TrackedClause → Lists A → P) {old now : TrackedClauses A}
+    {before after : Reading A} → OnlyWalks old now before after →
+    f now.index.clauses.items after.lists ≡ f old.index.clauses.items before.lists
+along_walks f {old} {now} {before} {after} walks =
+    ap (λ ix. f ix.clauses.items after.lists) walks.index ∙ ap (f old.index.clauses.items) walks.lists
+
 -- ---- what is asked
 
 -- the same by other lists, if they are equal
-pub asked_by : {N S A : Type 0} (universe : Universe N S) (lists lists' : Lists A) (disjunctions : List (Disjunction A))
-    (val : Values) (t : TrackedClauses A) → lists ≡ lists' →
+pub asked_by : {N S A : Type 0} {universe : Universe N S} {lists lists' : Lists A} {disjunctions : List (Disjunction A)}
+    {val : Values} {t : TrackedClauses A} → lists ≡ lists' →
     CanBeAsked (references universe lists disjunctions) val t →
     CanBeAsked (references universe lists' disjunctions) val t
-asked_by universe lists lists' disjunctions val t e asked =
+asked_by {universe = universe} {disjunctions = disjunctions} {val = val} {t = t} e asked =
     subst (λ ls. CanBeAsked (references universe ls disjunctions) val t) e asked
 
-module _ {N S A : Type 0} (refs : References N S A) (val : Values) where
+module _ {N S A : Type 0} {refs : References N S A} {val : Values} where
   -- the same in the words of other clauses, if they are equal
-  pub ready_by : (t u : TrackedClauses A) → t.index ≡ u.index → CanBeAsked refs val t →
-      IsReady u.index.clauses.items (clause_literals refs) (rows_in refs) val t.requirements t.queued
-  ready_by t u e asked = subst (λ ix. IsReady ix.clauses.items (clause_literals refs)
+  pub ready_by : {t : TrackedClauses A} {index : ClauseIndex A} → t.index ≡ index → CanBeAsked refs val t →
+      IsReady index.clauses.items (clause_literals refs) (rows_in refs) val t.requirements t.queued
+  ready_by {t} e asked = subst (λ ix. IsReady ix.clauses.items (clause_literals refs)
       (rows_in refs) val t.requirements t.queued) e asked.ready
 
   -- what is gone through holds positions of clauses
-  pub of_clause : (t : TrackedClauses A) → CanBeAsked refs val t → (only_hot : Bool) (p : Position) →
+  pub of_clause : {t : TrackedClauses A} → CanBeAsked refs val t → (only_hot : Bool) (p : Position) →
       has (set_of only_hot t.queued) p ≡ true → IsOfClause t.index.clauses.items p
-  of_clause t asked true p h = asked.ready.hot_of p h
-  of_clause t asked false p h = asked.ready.all_of p h
+  of_clause asked true p h = asked.ready.hot_of p h
+  of_clause asked false p h = asked.ready.all_of p h
 
 -- a look at the clause that was read at a position
-module _ {N S A : Type 0} (refs : References N S A) (val : Values) (t : TrackedClauses A)
+module _ {N S A : Type 0} {refs : References N S A} {val : Values} {t : TrackedClauses A}
     (asked : CanBeAsked refs val t)
     (p : Position) (of : IsOfClause t.index.clauses.items p) (c : TrackedClause)
     (read : c ≡ get_or t.index.clauses.items p.number c) where

@@ -1,8 +1,9 @@
 -- The laws of the pick: no offer beats it, it is one of the offers, and there is none only of no offers. First of the
 -- best offer, then of the pick, which is the best of the root's or of all.
 use Rattle.std.proofs.Common.{◌≡◌, ℕ, suc, Bool, true, false, not, ◌&&◌, ◌||◌, cond, ltb, List}
-use Rattle.std.proofs.Common.{[], ◌∷◌, Option, Some, None, sym, ap, refl, subst, ◌∙◌, arith}
+use Rattle.std.proofs.Common.{[], ◌∷◌, Option, Some, None, Result, Ok, Err, sym, ap, refl, subst, ◌∙◌, arith}
 use Rattle.std.specs.Prelude.{filter, filter_map, fold, All, Contains, IfSome, is_some, option_map, ◌↔◌}
+use Rattle.std.specs.Prelude.{IfOk, IfErr, MatchResult}
 use Rattle.std.specs.List.{AllByRecursion, best_of, cons_option, list_any}
 use Rattle.std.proofs.lemmas.Bool.Decides.{nat_tests}
 use Rattle.std.proofs.lemmas.List.Elements.{All-from_recursion, recursion_from_All}
@@ -246,6 +247,20 @@ decides_unbeaten offers d e =
         DecidesUnbeaten offers (option_map decided o)
     go None n m u = n refl
     go (Some best) n m u = (best, refl, m, u)
+
+-- the decision of what was picked, unless that was refused
+pub picked_decided : {E : Type 0} (offer : Result (Option Offer) E) (decision : Result (Option QueueDecision) E)
+    (a b : Option Offer) → MatchResult offer (λ o. decision ≡ Ok (option_map decided o)) (λ e. decision ≡ Err e) →
+    IfOk offer (λ o. o ≡ a) → a ≡ b → IfOk decision (λ d. d ≡ option_map decided b)
+picked_decided (Ok o) decision a b e is same =
+    subst (λ r. IfOk r (λ d. d ≡ option_map decided b)) (sym e) (ap (option_map decided) (is ∙ same))
+picked_decided (Err x) decision a b e is same = subst (λ r. IfOk r (λ d. d ≡ option_map decided b)) (sym e) tt
+
+pub refused_decided : {E : Type 0} (offer : Result (Option Offer) E) (decision : Result (Option QueueDecision) E)
+    (P : E → Type 0) → MatchResult offer (λ o. decision ≡ Ok (option_map decided o)) (λ e. decision ≡ Err e) →
+    IfErr offer P → IfErr decision P
+refused_decided (Ok o) decision P e refused = subst (λ r. IfErr r P) (sym e) tt
+refused_decided (Err x) decision P e refused = subst (λ r. IfErr r P) (sym e) refused
 
 -- ---- no eligible clause, no decision
 

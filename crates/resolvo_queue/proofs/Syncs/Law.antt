@@ -153,6 +153,28 @@ module _ {C R : Type 0} (parent : C → ℕ) (condition : C → List Lit) (requi
       by_counted p h m true k = by_condition p h m k (are_literals_false before (condition c)) refl
       by_counted p h m false k = w.by_parent c reg p (parents c reg k p)
 
+  -- ---- of some clauses
+
+  pub wakes_there : (registered : C → Type 0) (there : C → Bool) (now : Values) (routed : ℕ → Bool)
+      (known known' : R → Known) (queued queued' : C → Bool) →
+      Wakes registered now routed known known' queued queued' →
+      Wakes (λ c. registered c × (there c ≡ true)) now routed known known' queued queued'
+  wakes_there registered there now routed known known' queued queued' w = record {
+    kept = w.kept;
+    by_parent = λ c reg. w.by_parent c reg.0;
+    by_condition = λ c reg. w.by_condition c reg.0;
+    by_requirement = λ c reg. w.by_requirement c reg.0;
+  }
+
+  pub holds_there : (registered : C → Type 0) (there : C → Bool) (val : Values) (known : R → Known)
+      (queued : C → Bool) → Holds (λ c. registered c × (there c ≡ true)) (now_true val) val known queued →
+      Holds registered (λ c. there c && now_true val c) val known queued
+  holds_there registered there val known queued holds c reg e =
+      let rest : Bool = are_literals_false val (condition c) && may_have_frontier (known (requirement c)) in
+      let p = both_of (there c && now_true val c) rest e in
+      let q = both_of (there c) (now_true val c) p.0 in
+      holds c (reg, q.0) (ap (λ b. b && rest) q.1 ∙ p.1)
+
   -- ---- after a refusal
 
   -- nothing is known and whatever has a true parent is queued: then all is right, whatever was before

@@ -6,15 +6,13 @@ use Rattle.decisions.specs.Literals.{Lit, Values}
 use Rattle.providers.specs.declared.requirement.Requirement.{Requirement}
 use Rattle.resolvo_queue.specs.Rows.{Row, frontier}
 use Rattle.resolvo_queue.specs.Routing.Possible.{Known, is_possible}
-use Rattle.resolvo_queue.specs.Scan.Positions.{has}
-use Rattle.resolvo_queue.specs.Parts.Queued.{Queued, IsQueued, GrowsBy}
+use Rattle.resolvo_queue.specs.Parts.Queued.{Queued}
 use Rattle.resolvo_queue.specs.Pick.Ready.{at_position, AreLocated}
 use Rattle.resolvo_queue.specs.Scan.Order.{first_from, position_in}
 use Rattle.resolvo_queue.specs.Routing.Synced.{KeepsQueued}
 use Rattle.resolvo_queue.specs.Parts.Records.{Record, known_at, rows_at}
-use Rattle.resolvo_queue.specs.declared.tracked_clause.Position.{Position}
 use Rattle.resolvo_queue.specs.declared.tracked_clause.TrackedClause.{TrackedClause}
-use Rattle.resolvo_queue.proofs.Lists.{same_some}
+use Rattle.resolvo_queue.proofs.Lists.{differ, same_some}
 
 abbrev pub parent_of : TrackedClause → ℕ
 parent_of c = c.parent
@@ -62,24 +60,22 @@ own_position i (x ∷ xs) c none =
     ∙ (own_position (suc i) xs c (λ n d e. none (suc n) d e) ∙
     (let h : suc i + length xs ≡ i + suc (length xs) = omega arith in h))
 
--- a clause that counts as having a true parent is queued when it comes; what is known stays, and new records know
--- nothing
+-- a clause that doesn't count comes: what is known stays, and new records know nothing
 pub registered_synced : (cs : List TrackedClause) (literals : TrackedClause → List Lit)
     (rows_of : Requirement → List Row) (val : Values) (counted : TrackedClause → Bool)
-    (ts ts' : List Record) (New : Position → Type 0) (q q' : Queued) (c : TrackedClause) →
+    (ts ts' : List Record) (q : Queued) (c : TrackedClause) →
     ((k : ℕ) → known_at ts' k ≡ known_at ts k) →
     ((k : ℕ) → is_some (known_at ts k) ≡ true → rows_at rows_of ts' k ≡ rows_at rows_of ts k) →
-    GrowsBy New q q' → (counted c ≡ true → IsQueued q' c) →
-    KeepsQueued cs literals rows_of val counted ts q → KeepsQueued (cs ++ c ∷ []) literals rows_of val counted ts' q'
-registered_synced cs literals rows_of val counted ts ts' New q q' c known rows grows queued old = record {
+    counted c ≡ false →
+    KeepsQueued cs literals rows_of val counted ts q → KeepsQueued (cs ++ c ∷ []) literals rows_of val counted ts' q
+registered_synced cs literals rows_of val counted ts ts' q c known rows out old = record {
   all = λ d reg e. elim (old_or_new cs c reg.0 d reg.1) [
-    | inl h ↦ grows.all_kept d.position (old.all d (reg.0, h) (was_possible d e))
-    | inr p ↦ subst (λ (x : TrackedClause). has q'.all x.position ≡ true) (sym p.0) (queued (counts d p.0 e)).all
+    | inl h ↦ old.all d (reg.0, h) (was_possible d e)
+    | inr p ↦ absurd (differ (sym (counts d p.0 e) ∙ out))
   ];
   hot = λ d reg e. elim (old_or_new cs c reg.0.0 d reg.0.1) [
-    | inl h ↦ grows.hot_kept d.position (old.hot d ((reg.0.0, h), reg.1) (was_possible d e))
-    | inr p ↦ subst (λ (x : TrackedClause). has q'.hot x.position ≡ true) (sym p.0)
-        ((queued (counts d p.0 e)).hot (ap (λ (x : TrackedClause). x.is_hot) (sym p.0) ∙ reg.1))
+    | inl h ↦ old.hot d ((reg.0.0, h), reg.1) (was_possible d e)
+    | inr p ↦ absurd (differ (sym (counts d p.0 e) ∙ out))
   ];
   right = λ k. still_right k (known_at ts k) refl (old.right k);
 }

@@ -1,6 +1,6 @@
 -- What is queued only grows while clauses are woken, and stays a set of clauses' positions.
 use Rattle.std.proofs.Common.{◌≡◌, ℕ, zero, suc, ◌+◌, ◌<◌, Bool, true, false, ◌⊎◌, inl, inr, List, [], ◌∷◌}
-use Rattle.std.proofs.Common.{◌++◌, take, length, get_or, None, Some, Result, Ok, Err, OnOk, slice_get, sym}
+use Rattle.std.proofs.Common.{◌++◌, drop, take, length, get_or, None, Some, Result, Ok, Err, OnOk, slice_get, sym}
 use Rattle.std.proofs.Common.{ap, ap₂, refl, ◌∙◌, subst, arith, nat_cmp, is_eq, ltb, ltb-true, ltb-false, ◌≤◌}
 use Rattle.std.specs.Cmp.{IsTotalOrder, nat_cmp_total}
 use Rattle.std.specs.Ordering.{ordering_then}
@@ -104,29 +104,34 @@ pub read_in : (items slice : List TrackedClause) → slice ≡ items → (n : �
 read_in items slice e n c within read = ap (λ cs. slice_get cs n) (sym e) ∙
     read_at slice n c (ltb-true n (length slice) (sym within)) read
 
--- a loop's step over all clauses
-module _ (clauses : List TrackedClause) (numbered : HaveNumbers clauses) (val : Values) (i : ℕ) (c : TrackedClause)
-    (within : i < length clauses) (read : c ≡ get_or clauses i c)
-    (first before now : Queued) (so_far : GrowsBy (IsOfClause clauses) first before)
-    (more : GrowsBy (λ p. same_position c.position p ≡ true) before now) where
-  it_is : slice_get clauses i ≡ Some c
-  it_is = read_at clauses i c within read
+-- what stands behind a number stands in the whole list
+pub from_rest : {X : Type 0} (xs : List X) (first k : ℕ) (x : X) → slice_get (drop first xs) k ≡ Some x →
+    slice_get xs (first + k) ≡ Some x
+from_rest xs zero k x e = subst (λ n. slice_get xs n ≡ Some x) (let h : k ≡ 0 + k = omega arith in h) e
+from_rest [] (suc first) k x e = cc
+from_rest (y ∷ ys) (suc first) k x e = subst (λ n. slice_get (y ∷ ys) n ≡ Some x)
+    (let h : suc (first + k) ≡ suc first + k = omega arith in h) (from_rest ys first k x e)
 
+-- a loop's step over the clauses from a number on
+module _ (clauses : List TrackedClause) (numbered : HaveNumbers clauses) (val : Values) (i : ℕ) (c : TrackedClause)
+    (it_is : slice_get clauses i ≡ Some c)
+    (begin before now : Queued) (so_far : GrowsBy (IsOfClause clauses) begin before)
+    (more : GrowsBy (λ p. same_position c.position p ≡ true) before now) where
   this_grows : GrowsBy (IsOfClause clauses) before now
   this_grows = added_grows clauses numbered i c it_is before now more
 
-  pub all_grow : GrowsBy (IsOfClause clauses) first now
-  all_grow = grows_both (IsOfClause clauses) first before now so_far this_grows
+  pub all_grow : GrowsBy (IsOfClause clauses) begin now
+  all_grow = grows_both (IsOfClause clauses) begin before now so_far this_grows
 
-  pub all_woken : ((n : ℕ) (d : TrackedClause) → n < i → slice_get clauses n ≡ Some d →
+  pub all_woken : (first : ℕ) → ((n : ℕ) (d : TrackedClause) → first ≤ n → n < i → slice_get clauses n ≡ Some d →
       known_true (val d.parent) ≡ true → IsQueued before d) →
       (known_true (val c.parent) ≡ true → IsQueued now c) →
-      (n : ℕ) (d : TrackedClause) → n < i + 1 → slice_get clauses n ≡ Some d →
+      (n : ℕ) (d : TrackedClause) → first ≤ n → n < i + 1 → slice_get clauses n ≡ Some d →
       known_true (val d.parent) ≡ true → IsQueued now d
-  all_woken w own n d less e t = go (ltb n i) refl
+  all_woken first w own n d from less e t = go (ltb n i) refl
     where
       go : (b : Bool) → ltb n i ≡ b → IsQueued now d
-      go true h = queued_stays (IsOfClause clauses) before now d this_grows (w n d (ltb-true n i h) e t)
+      go true h = queued_stays (IsOfClause clauses) before now d this_grows (w n d from (ltb-true n i h) e t)
       go false h =
           let last : n ≡ i = (let f = ltb-false n i h in omega (arith, f, less)) in
           let same : c ≡ d = same_some c d (sym it_is ∙ (ap (slice_get clauses) (sym last) ∙ e)) in

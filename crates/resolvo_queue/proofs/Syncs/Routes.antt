@@ -1,7 +1,8 @@
 -- Routing the changed variables keeps a queue synced: the code's routing meets the law of a sync.
 use Rattle.std.proofs.Common.{take, ◌≡◌, ℕ, zero, suc, map, drop, ◌++◌, Bool, true, false}
-use Rattle.std.proofs.Common.{◌||◌, eqb, eqb-true, ◌⊎◌, inl, inr, List, [], ◌∷◌, Option, Some}
+use Rattle.std.proofs.Common.{arith, ◌&&◌, ◌||◌, eqb, eqb-true, ◌⊎◌, inl, inr, List, [], ◌∷◌, Option, Some}
 use Rattle.std.proofs.Common.{None, is_some, option_map, slice_get, sym, ap, refl, ◌∙◌, subst}
+use Rattle.std.specs.Prelude.{nat_lt}
 use Rattle.std.proofs.lemmas.List.Folds.{list_any-append}
 use Rattle.decisions.specs.declared.decision.Decision.{Decision}
 use Rattle.resolvo_queue.specs.Routing.Trails.{decided_value}
@@ -17,11 +18,11 @@ use Rattle.resolvo_queue.specs.Parts.Queued.{Queued}
 use Rattle.resolvo_queue.specs.Parts.Records.{Record, walk_of, rows_in, known_at, rows_at, IsPlaceOf, forgotten}
 use Rattle.resolvo_queue.specs.Routing.{OnlyForgets, Routes, Ways, variables_of}
 use Rattle.resolvo_queue.specs.Routing.Synced.{is_among, IsOneOf, IsHot, FindsAll}
-use Rattle.resolvo_queue.specs.Routing.Synced.{ListsKnown, KeepsQueued, SyncsTo, AllWoken}
+use Rattle.resolvo_queue.specs.Routing.Synced.{ListsKnown, KeepsQueued, SyncsTo, AllWokenFrom, counts}
 use Rattle.resolvo_queue.specs.Scan.{are_literals_false}
 use Rattle.resolvo_queue.specs.declared.tracked_clause.TrackedClause.{TrackedClause}
 use Rattle.resolvo_queue.proofs.Syncs.Forgetting.{known_only_forgotten}
-use Rattle.resolvo_queue.proofs.Syncs.Law.{sync_holds, sync_knows, anew_holds, anew_knows}
+use Rattle.resolvo_queue.proofs.Syncs.Law.{sync_holds, sync_knows, anew_holds, anew_knows, holds_there, wakes_there}
 use Rattle.resolvo_queue.proofs.Syncs.Law.{both_of, routes_condition, WakesRouted, ForgetsRouted}
 use Rattle.resolvo_queue.proofs.Rows.Frontiers.{routes_rows}
 
@@ -77,6 +78,15 @@ row_among routed (r ∷ rs) e = go (routed r.variable) refl e (row_among routed 
         (row : Row) × Stands row (r ∷ rs) × (routed row.variable ≡ true)
     go true h f more = (r, here, h)
     go false h f more = let m = more f in (m.0, there m.1, m.2)
+
+-- a parent that wasn't true and is now, is routed
+pub sync_parents : (routed : List ℕ) (before now : Values) → SameElsewhere (is_among routed) before now → (x : ℕ) →
+    known_true (before x) ≡ false → known_true (now x) ≡ true → is_among routed x ≡ true
+sync_parents routed before now same x was is = go (is_among routed x) refl
+  where
+    go : (b : Bool) → is_among routed x ≡ b → b ≡ true
+    go true e = refl
+    go false e = let still : known_true (before x) ≡ true = ap known_true (same x e) ∙ is in cc
 
 -- a record stays that of its requirement
 still_place : (a b : List Record) → OnlyForgets a b → (k : ℕ) (t : Record) → slice_get a k ≡ Some t →
@@ -162,51 +172,65 @@ module _ (w : Ways) (literals : TrackedClause → List Lit) (rows_of : Requireme
   rows_same = λ i k. rows_after rows_of (slice_get ts k) (slice_get ts' k) (routes.only k) i
 
   -- a queue that was synced at the values of before is synced at those of now
-  pub routes_sync : (before : Values) (counted : TrackedClause → Bool) → SameElsewhere (is_among vs) before w.val →
-      ((c : TrackedClause) → IsOneOf w.clauses literals c → counted c ≡ false → known_true (w.val c.parent) ≡ true →
-      is_among vs c.parent ≡ true) →
-      KeepsQueued w.clauses literals rows_of before counted ts q →
-      KeepsQueued w.clauses literals rows_of w.val (λ c. known_true (w.val c.parent)) ts' q'
-  routes_sync before counted same parents old = record {
-    all = subst (λ r. HoldsPossible (λ (c : TrackedClause). c.parent) literals (λ c. c.record) r
-        (IsOneOf w.clauses literals) (λ c. known_true (w.val c.parent)) w.val
-        (known_at ts') (λ c. has q'.all c.position)) (sym rows_same)
-        (sync_holds (λ (c : TrackedClause). c.parent) literals (λ c. c.record) rows
-        (IsOneOf w.clauses literals) counted before w.val (is_among vs) (known_at ts) (known_at ts')
-        (λ c. has q.all c.position) (λ c. has q'.all c.position) same parents forgets wakes_all old.all);
-    hot = subst (λ r. HoldsPossible (λ (c : TrackedClause). c.parent) literals (λ c. c.record) r
-        (IsHot w.clauses literals) (λ c. known_true (w.val c.parent)) w.val (known_at ts') (λ c. has q'.hot c.position))
-        (sym rows_same)
-        (sync_holds (λ (c : TrackedClause). c.parent) literals (λ c. c.record) rows
-        (IsHot w.clauses literals) counted before w.val (is_among vs) (known_at ts) (known_at ts')
-        (λ c. has q.hot c.position) (λ c. has q'.hot c.position) same (λ c reg. parents c reg.0) forgets
-        wakes_hot old.hot);
+  pub routes_sync : (before : Values) (woken : ℕ) → SameElsewhere (is_among vs) before w.val →
+      KeepsQueued w.clauses literals rows_of before (counts before woken) ts q →
+      KeepsQueued w.clauses literals rows_of w.val (counts w.val woken) ts' q'
+  routes_sync before woken same old = record {
+    all = all_at (IsOneOf w.clauses literals) (λ c. has q.all c.position) (λ c. has q'.all c.position) wakes_all old.all;
+    hot = all_at (IsHot w.clauses literals) (λ c. has q.hot c.position) (λ c. has q'.hot c.position) wakes_hot
+        old.hot;
     right = subst (λ r. KnowsRight (λ (c : TrackedClause). c.parent) literals (λ c. c.record) r w.val (known_at ts'))
         (sym rows_same)
         (sync_knows (λ (c : TrackedClause). c.parent) literals (λ c. c.record) rows before w.val (is_among vs)
         (known_at ts) (known_at ts') same forgets old.right);
   }
+    where
+      there : TrackedClause → Bool
+      there c = nat_lt c.position.number woken
+
+      -- who was woken and has a true parent now that wasn't, has it routed
+      parents : (c : TrackedClause) → there c ≡ true → counts before woken c ≡ false →
+          known_true (w.val c.parent) ≡ true → is_among vs c.parent ≡ true
+      parents c t out is = sync_parents vs before w.val same c.parent
+          (sym (ap (λ b. b && known_true (before c.parent)) t) ∙ out) is
+
+      all_at : (registered : TrackedClause → Type 0) (queued queued' : TrackedClause → Bool) →
+          WakesRouted (λ (c : TrackedClause). c.parent) literals (λ c. c.record) rows registered w.val (is_among vs)
+          (known_at ts) (known_at ts') queued queued' →
+          HoldsPossible (λ (c : TrackedClause). c.parent) literals (λ c. c.record) rows registered
+          (counts before woken) before (known_at ts) queued →
+          HoldsPossible (λ (c : TrackedClause). c.parent) literals (λ c. c.record) (rows_at rows_of ts') registered
+          (counts w.val woken) w.val (known_at ts') queued'
+      all_at registered queued queued' wakes held =
+          subst (λ r. HoldsPossible (λ (c : TrackedClause). c.parent) literals (λ c. c.record) r registered
+          (counts w.val woken) w.val (known_at ts') queued') (sym rows_same)
+          (holds_there (λ (c : TrackedClause). c.parent) literals (λ c. c.record) rows registered there w.val
+          (known_at ts') queued'
+          (sync_holds (λ (c : TrackedClause). c.parent) literals (λ c. c.record) rows
+          (λ c. registered c × (there c ≡ true)) (counts before woken) before w.val (is_among vs)
+          (known_at ts) (known_at ts') queued queued' same (λ c reg. parents c reg.1) forgets
+          (wakes_there (λ (c : TrackedClause). c.parent) literals (λ c. c.record) rows registered there w.val
+          (is_among vs) (known_at ts) (known_at ts') queued queued' wakes)
+          (λ c reg e. held c reg.0 e)))
 
 -- ---- a whole sync
 
 pub changes_sync : (w : Ways) (before : Values) (vs : List ℕ) (ts ts' : List Record) (q q' : Queued) →
     Routes w vs ts ts' q q' →
     SyncsTo w.clauses w.by_parent w.by_condition w.requirements false before w.val vs ts ts' q q'
-changes_sync w before vs ts ts' q q' routes literals rows_of counted finds lists old =
-    let o = old refl in routes_sync w literals rows_of vs ts ts' q q' finds lists routes before counted o.0 o.1 o.2
+changes_sync w before vs ts ts' q q' routes literals rows_of woken finds lists old =
+    let o = old refl in routes_sync w literals rows_of vs ts ts' q q' finds lists routes before woken o.0 o.1
 
 pub anew_sync : (clauses : List TrackedClause) (by_parent by_condition : List (List ℕ)) (listing : ℕ → List Requirement)
     (before now : Values) (vs : List ℕ)
-    (ts : List Record) (q q' : Queued) → AllWoken clauses now q' →
+    (ts : List Record) (q q' : Queued) → AllWokenFrom 0 clauses now q' →
     SyncsTo clauses by_parent by_condition listing true before now vs ts (map forgotten ts) q q'
-anew_sync clauses by_parent by_condition listing before now vs ts q q' woken literals rows_of counted finds lists old =
+anew_sync clauses by_parent by_condition listing before now vs ts q q' all literals rows_of woken finds lists old =
     record {
-      all = anew_holds (λ (c : TrackedClause). c.parent) literals (λ c. c.record) (rows_at rows_of (map forgotten ts))
-          (IsOneOf clauses literals) now (known_at (map forgotten ts)) (λ c. has q'.all c.position)
-          (λ c reg t. (woken reg.0 c reg.1 t).all);
-      hot = anew_holds (λ (c : TrackedClause). c.parent) literals (λ c. c.record) (rows_at rows_of (map forgotten ts))
-          (IsHot clauses literals) now (known_at (map forgotten ts)) (λ c. has q'.hot c.position)
-          (λ c reg t. (woken reg.0.0 c reg.0.1 t).hot reg.1);
+      all = at_now (IsOneOf clauses literals) (λ c. has q'.all c.position)
+          (λ c reg t. (all reg.0 c reg.1 (omega arith) t).all);
+      hot = at_now (IsHot clauses literals) (λ c. has q'.hot c.position)
+          (λ c reg t. (all reg.0.0 c reg.0.1 (omega arith) t).hot reg.1);
       right = anew_knows (λ (c : TrackedClause). c.parent) literals (λ c. c.record)
           (rows_at rows_of (map forgotten ts)) now
           (known_at (map forgotten ts)) (unknown ts);
@@ -216,6 +240,17 @@ anew_sync clauses by_parent by_condition listing before now vs ts q q' woken lit
     unknown [] k = refl
     unknown (x ∷ xs) zero = refl
     unknown (x ∷ xs) (suc k) = unknown xs k
+
+    at_now : (registered : TrackedClause → Type 0) (queued : TrackedClause → Bool) →
+        ((c : TrackedClause) → registered c → known_true (now c.parent) ≡ true → queued c ≡ true) →
+        HoldsPossible (λ (c : TrackedClause). c.parent) literals (λ c. c.record) (rows_at rows_of (map forgotten ts))
+        registered (counts now woken) now (known_at (map forgotten ts)) queued
+    at_now registered queued each =
+        holds_there (λ (c : TrackedClause). c.parent) literals (λ c. c.record) (rows_at rows_of (map forgotten ts))
+        registered (λ c. nat_lt c.position.number woken) now (known_at (map forgotten ts)) queued
+        (anew_holds (λ (c : TrackedClause). c.parent) literals (λ c. c.record) (rows_at rows_of (map forgotten ts))
+        (λ c. registered c × (nat_lt c.position.number woken ≡ true)) now (known_at (map forgotten ts)) queued
+        (λ c reg t. each c reg.0 t))
 
 -- the variables of both lists are those that two trails route
 pub routed_among : (floor : ℕ) (before now : List Decision) (x : ℕ) →
@@ -240,12 +275,3 @@ pub sync_values : (floor : ℕ) (before now : List Decision) (val : Values) → 
 sync_values floor before now val same agree x h =
     same_elsewhere (λ (d : Decision). d.variable) (λ d. d.value) floor before now agree x
     (sym (routed_among floor before now x) ∙ h) ∙ sym (same x)
-
--- a parent that wasn't true and is now, is routed
-pub sync_parents : (routed : List ℕ) (before now : Values) → SameElsewhere (is_among routed) before now → (x : ℕ) →
-    known_true (before x) ≡ false → known_true (now x) ≡ true → is_among routed x ≡ true
-sync_parents routed before now same x was is = go (is_among routed x) refl
-  where
-    go : (b : Bool) → is_among routed x ≡ b → b ≡ true
-    go true e = refl
-    go false e = let still : known_true (before x) ≡ true = ap known_true (same x e) ∙ is in cc

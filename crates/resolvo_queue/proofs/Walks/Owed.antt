@@ -314,7 +314,7 @@ owed_kept refs q now floor f entries is agrees stands only others r walkable non
     (variables_of (drop f q.trail) ++ variables_of (drop f entries)) q.inside.requirements now only others r free)
   where
     between : (drop f q.trail ≡ drop floor q.trail) × (drop f entries ≡ drop floor entries)
-    between = nothing_between floor f q.trail entries is agrees.trail
+    between = nothing_between floor f q.trail entries is agrees
 
     same : variables_of (drop f q.trail) ++ variables_of (drop f entries) ≡ changed_from floor entries q
     same = ap₂ (λ xs ys. variables_of xs ++ variables_of ys) between.0 between.1

@@ -8,8 +8,8 @@ use Rattle.resolvo_queue.specs.Rows.ByVariable.{list_at}
 use Rattle.resolvo_queue.specs.Pick.Inspection.{clause_of}
 use Rattle.resolvo_queue.specs.Occurrences.{Listed}
 use Rattle.resolvo_queue.specs.Members.{Stands}
-use Rattle.resolvo_queue.specs.Scan.Positions.{has, same_position}
-use Rattle.resolvo_queue.specs.Parts.Queued.{Queued, GrowsBy, IsOfClause, IsQueued, heated}
+use Rattle.resolvo_queue.specs.Scan.Positions.{has}
+use Rattle.resolvo_queue.specs.Parts.Queued.{Queued, IsOfClause, heated}
 use Rattle.resolvo_queue.specs.Pick.Ready.{AreLocated, at_position}
 use Rattle.resolvo_queue.specs.Parts.Numbers.{FoundByAll}
 use Rattle.resolvo_queue.specs.Rows.{Row}
@@ -85,21 +85,21 @@ pub record GainsClauses (old now : List Record) : Type 0 where
   pub of_known : (k : ℕ) (t : Record) → slice_get now k ≡ Some t → is_some t.walk ≡ true →
       (u : Record) × (slice_get old k ≡ Some u) × (u.requirement ≡ t.requirement) × (is_some u.walk ≡ true)
 
--- what was found is found, and nothing more is known
+-- what was found is found, nothing more is known, and nothing is queued
 pub record Gains (old now : Tracking) : Type 0 where
   pub records : GainsClauses old.requirements now.requirements
   pub conditions : (v n : ℕ) → Stands n (list_at old.by_condition v) → Stands n (list_at now.by_condition v)
   pub occurrences : now.occurrences ≡ old.occurrences
+  pub queued : now.queued ≡ old.queued
 
 -- a registration was refused: what it left behind harms nothing
 pub record IsAsBefore (old now : Tracking) : Type 0 where
   pub gains : Gains old now
   pub clauses : now.clauses ≡ old.clauses
   pub by_parent : SameValues (list_at old.by_parent) (list_at now.by_parent)
-  pub queued : GrowsBy (λ p. ⊥) old.queued now.queued
 
--- one clause more, found by all that have to find it, and queued if its parent counts as true
-pub record Registers (clause : RequiresClause) (is_hot counts : Bool) (literals : List Lit)
+-- one clause more, found by all that have to find it
+pub record Registers (clause : RequiresClause) (is_hot : Bool) (literals : List Lit)
     (old now : Tracking) : Type 0 where
   pub gains : Gains old now
   pub new : TrackedClause
@@ -113,8 +113,6 @@ pub record Registers (clause : RequiresClause) (is_hot counts : Bool) (literals 
   pub conditions : FoundByAll (length old.clauses) literals now.by_condition
   pub requirements : Stands (length old.clauses) (clauses_at now.requirements new.record)
   pub placed : IsPlaceOf now.requirements new.requirement new.record
-  pub queued : GrowsBy (λ p. same_position new.position p ≡ true) old.queued now.queued
-  pub counted : counts ≡ true → IsQueued now.queued new
 
 -- ---- how clauses become hot
 

@@ -1,10 +1,8 @@
 -- What a question asks of the clauses, and of the scores.
-use Rattle.std.specs.Prelude.{◌≡◌, ℕ, ◌<◌, ◌≤◌, List, slice_get, length, Option, Some, IfSome}
+use Rattle.std.specs.Prelude.{◌≡◌, ℕ, ◌<◌, ◌≤◌, List, slice_get, length, Some, IfSome}
 use Rattle.typed_ids.specs.declared.version_set_id.VersionSetId.{VersionSetId}
-use Rattle.decisions.specs.Literals.{Lit, Values}
-use Rattle.resolvo_queue.specs.Pick.Inspection.{offer_of}
-use Rattle.resolvo_queue.specs.Pick.{Offer}
-use Rattle.resolvo_queue.specs.References.{References, IsWalkable, literals_in, rows_in, score_in}
+use Rattle.decisions.specs.Literals.{Lit}
+use Rattle.resolvo_queue.specs.References.{References, IsWalkable, literals_in}
 use Rattle.resolvo_queue.specs.declared.tracked_clause.TrackedClause.{TrackedClause}
 
 -- no score is above this
@@ -15,10 +13,6 @@ module _ {N S A : Type 0} (refs : References N S A) where
   -- the literals of a clause's condition
   abbrev pub clause_literals : TrackedClause → List Lit
   clause_literals c = literals_in refs c.condition
-
-  -- what a clause offers, by the scores of names
-  abbrev pub offers_in : Values → (N → ℕ) → TrackedClause → Option Offer
-  offers_in val scores = offer_of val clause_literals (rows_in refs) (score_in refs scores)
 
   -- what the code needs to look at a clause
   pub record IsAskable (c : TrackedClause) : Type 0 where

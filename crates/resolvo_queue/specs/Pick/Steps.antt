@@ -2,7 +2,7 @@
 use Rattle.std.specs.Prelude.{◌≡◌}
 use Rattle.decisions.specs.Literals.{Values}
 use Rattle.resolvo_queue.specs.Rows.Listing.{IsListedWell}
-use Rattle.resolvo_queue.specs.Occurrences.{KeepsListed, Reading}
+use Rattle.resolvo_queue.specs.Occurrences.{Reading}
 use Rattle.resolvo_queue.specs.Pick.Questions.{AreAskable, clause_literals}
 use Rattle.resolvo_queue.specs.Pick.Ready.{AreLocated, IsReady}
 use Rattle.resolvo_queue.specs.References.{References, rows_in}
@@ -26,7 +26,6 @@ pub record OnlyWalks {A : Type 0} (old now : TrackedClauses A) (before after : R
   pub once : WalksOnce old.requirements now.requirements before.walked after.walked
   pub owes : OwesSame old.requirements now.requirements
   pub found : SameFound old.requirements now.requirements
-  pub keeps_listed : KeepsListed old.occurrences now.occurrences
   pub index : now.index ≡ old.index
   pub only_hot : now.only_hot ≡ old.only_hot
   pub trail : now.trail ≡ old.trail

@@ -1,5 +1,5 @@
 -- What an incremental queue keeps true, at its tracked clauses and records.
-use Rattle.std.specs.Prelude.{◌≡◌, ℕ, Bool, true, false, ◌==◌, List, Some, is_some, slice_get}
+use Rattle.std.specs.Prelude.{◌≡◌, ◌≤◌, ℕ, nat_lt, Bool, true, false, ◌==◌, ◌&&◌, List, Some, is_some, slice_get}
 use Rattle.std.specs.List.{list_any}
 use Rattle.decisions.specs.Literals.{Lit, Values, variable_of, known_true}
 use Rattle.providers.specs.declared.requirement.Requirement.{Requirement}
@@ -52,21 +52,23 @@ module _ (clauses : List TrackedClause) (literals : TrackedClause → List Lit) 
         (known_at ts) (λ c. has q.hot c.position)
     pub right : KnowsRight (λ c. c.parent) literals (λ c. c.record) (rows_at rows_of ts) val (known_at ts)
 
--- a queue that was synced at the values of before is synced at those of now, whatever the literals and the rows are, if
--- the values differ at routed variables alone; anew, it is synced whatever it was
+-- the clause was woken, and its parent is true
+abbrev pub counts : Values → (woken : ℕ) → TrackedClause → Bool
+counts val woken c = nat_lt c.position.number woken && known_true (val c.parent)
+
+-- a queue that was synced at the values of before is synced at those of now, whatever the literals and the rows are and
+-- however many clauses were woken, if the values differ at routed variables alone; anew, it is synced whatever it was
 abbrev pub SyncsTo : (clauses : List TrackedClause) (by_parent by_condition : List (List ℕ))
     (listing : ℕ → List Requirement) (anew : Bool) (before now : Values) (routed : List ℕ)
     (ts ts' : List Record) (q q' : Queued) → Type 0
 SyncsTo clauses by_parent by_condition listing anew before now routed ts ts' q q' =
-    (literals : TrackedClause → List Lit) (rows_of : Requirement → List Row) (counted : TrackedClause → Bool) →
+    (literals : TrackedClause → List Lit) (rows_of : Requirement → List Row) (woken : ℕ) →
     FindsAll clauses literals by_parent by_condition ts → ListsKnown clauses literals rows_of listing ts →
     (anew ≡ false → SameElsewhere (is_among routed) before now
-    × ((c : TrackedClause) → IsOneOf clauses literals c → counted c ≡ false → known_true (now c.parent) ≡ true →
-    is_among routed c.parent ≡ true)
-    × KeepsQueued clauses literals rows_of before counted ts q) →
-    KeepsQueued clauses literals rows_of now (λ c. known_true (now c.parent)) ts' q'
+    × KeepsQueued clauses literals rows_of before (counts before woken) ts q) →
+    KeepsQueued clauses literals rows_of now (counts now woken) ts' q'
 
--- every clause with a true parent is queued
-abbrev pub AllWoken : List TrackedClause → Values → Queued → Type 0
-AllWoken clauses val q = (n : ℕ) (c : TrackedClause) → slice_get clauses n ≡ Some c →
+-- every clause from a number on with a true parent is queued
+abbrev pub AllWokenFrom : (first : ℕ) → List TrackedClause → Values → Queued → Type 0
+AllWokenFrom first clauses val q = (n : ℕ) (c : TrackedClause) → slice_get clauses n ≡ Some c → first ≤ n →
     known_true (val c.parent) ≡ true → IsQueued q c

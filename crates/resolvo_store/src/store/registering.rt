@@ -315,7 +315,7 @@ fn register<D: DependencyProvider + Drop>(
         })
         (map (D.universe context.now.provider.now).set_name
         (sets_of (D.universe context.now.provider.now) required.requirement))
-        required.parent_value queue.old queue.new) }
+        queue.old queue.new) }
     ensures unadded { OnErr result (contents clauses.new ≡ contents clauses.old) }
     ensures unregistered { OnErr result (IsUnchanged queue.old queue.new D.NameId.Set.has) }
     ensures walks { SameValues (walks queue.old) (walks queue.new) }

@@ -1,24 +1,20 @@
 use Rattle.std.proofs.Common.{◌≡◌, true}
-use Rattle.decisions.specs.Decisions.{values_in}
-use Rattle.resolvo_queue.specs.Pick.Steps.{CanBeAsked, OnlyWalks}
+use Rattle.resolvo_queue.specs.Pick.Grounds.{AskedOn, grounds, offers_on}
+use Rattle.resolvo_queue.specs.Pick.Steps.{OnlyWalks}
 use Rattle.resolvo_queue.specs.Pick.Groups.{is_in, offers_of}
-use Rattle.resolvo_queue.specs.Pick.Questions.{offers_in}
-use Rattle.resolvo_queue.specs.References.{references}
 use Rattle.resolvo_queue.specs.Pick.Ready.{rest_picked}
 use Rattle.resolvo_queue.proofs.Picks.Decisions.{clauses_behind}
 use Rattle.resolvo_queue.proofs.deciding.best_from.Given as goal
 
 abbrev pub invariant-loop-position : goal.invariant-loop-position
 invariant-loop-position g l =
-    let refs = references (g.I.Interner.universe l.question.interner.now) l.fn.reader.lists
-    l.question.disjunctions.now in
-    let offers = offers_of l.group
-    (offers_in refs (values_in l.question.map.now) (g.I.NameId.Scores.IdMap.value_at l.question.scores.now)) in
+    let on = grounds g.I.Interner.universe g.I.NameId.Scores.IdMap.value_at l.question l.fn.reader in
+    let offers = offers_of l.group (offers_on on) in
     record {
       picked : rest_picked l.fn.tracked.index.clauses.items offers l.fn.first.offer l.fn.first.position
           ≡ rest_picked l.fn.tracked.index.clauses.items offers l.best.offer l.cursor;
       of : is_in l.group l.cursor ≡ true;
-      asked : CanBeAsked refs (values_in l.question.map.now) l.tracked;
+      asked : AskedOn on l.tracked;
       walks : OnlyWalks l.fn.tracked l.tracked l.fn.reader l.reader;
     }
 

@@ -1,11 +1,11 @@
 use Rattle.std.proofs.Common.{◌≡◌, Some, slice_get, subst, sym, ap, ◌∙◌}
-use Rattle.decisions.specs.Decisions.{values_in}
 use Rattle.resolvo_queue.specs.Rows.{loaded_rows}
 use Rattle.resolvo_queue.specs.Pick.Inspection.{eligible_frontier}
 use Rattle.resolvo_queue.specs.Pick.Questions.{clause_literals}
 use Rattle.resolvo_queue.specs.Pick.Groups.{is_in}
 use Rattle.resolvo_queue.specs.Parts.Queued.{IsOfClause}
-use Rattle.resolvo_queue.specs.References.{references, rows_in, score_in}
+use Rattle.resolvo_queue.specs.References.{rows_in}
+use Rattle.resolvo_queue.specs.Pick.Grounds.{grounds}
 use Rattle.resolvo_queue.proofs.Picks.Steps.{asked_by, only_walks_along, only_walks_none, ready_by}
 use Rattle.resolvo_queue.proofs.Picks.Decisions.{first_found, none_found}
 use Rattle.resolvo_queue.proofs.Picks.Groups.{of_both}
@@ -19,36 +19,25 @@ inspect_at-requires-clause-of g c =
 
 pub inspect_at-requires-clause-asked : goal.inspect_at-requires-clause-asked
 inspect_at-requires-clause-asked g c =
-    asked_by (g.I.Interner.universe c.args.question.now.interner.now) c.args.reader.now.lists
-    c.loop-position.reader.lists c.args.question.now.disjunctions.now
-    (values_in c.args.question.now.map.now) c.loop-position.tracked
-    (sym c.loop-position.invariant.walks.lists) c.loop-position.invariant.asked
+    asked_by (sym c.loop-position.invariant.walks.lists) c.loop-position.invariant.asked
 
 pub returns-in-Some-2-clause-picked : goal.returns-in-Some-2-clause-picked
 returns-in-Some-2-clause-picked g c =
-    let refs = (references (g.I.Interner.universe c.args.question.now.interner.now) c.args.reader.now.lists
-    c.args.question.now.disjunctions.now) in
-    let val = values_in c.args.question.now.map.now in
-    let score = score_in refs (g.I.NameId.Scores.IdMap.value_at c.args.question.now.scores.now) in
-    first_found c.args.tracked.now.index.clauses.items (clause_literals refs)
-    (rows_in refs) val score c.requires.asked.located c.args.group
+    let on = grounds g.I.Interner.universe g.I.NameId.Scores.IdMap.value_at c.args.question.now c.args.reader.now in
+    first_found c.args.tracked.now.index.clauses.items (clause_literals on.refs)
+    (rows_in on.refs) on.val on.score c.requires.asked.located c.args.group
     c.loop-position.tracked.requirements c.loop-position.tracked.queued
-    (ready_by refs val c.loop-position.tracked c.args.tracked.now c.loop-position.invariant.walks.index
-    c.loop-position.invariant.asked)
-    c.in-Some.position c.in-Some.ensures.none c.in-Some.ensures.least
-    c.candidate_at.result
+    (ready_by c.loop-position.invariant.walks.index c.loop-position.invariant.asked)
+    c.in-Some.position c.in-Some.ensures.none c.in-Some.ensures.least c.candidate_at.result
     (λ d s. let looked : slice_get c.loop-position.tracked.index.clauses.items c.in-Some.position.number ≡ Some d =
     subst (λ ix. slice_get ix.clauses.items c.in-Some.position.number ≡ Some d)
     (sym c.loop-position.invariant.walks.index) s in
-    offer_found (clause_literals refs) (rows_in refs) val score c.in_ok-frontier.field-0 c.in-Some-2.frontier
-    c.candidate_at.result.offer d c.in-Some-2.is
-    (c.in_ok-frontier.ensures.frontier d looked
-    ∙ ap (λ ls. eligible_frontier val (clause_literals refs)
-    (loaded_rows (g.I.Interner.universe c.args.question.now.interner.now) ls) d)
+    offer_found (clause_literals on.refs) (rows_in on.refs) on.val on.score c.in_ok-frontier.field-0
+    c.in-Some-2.frontier c.candidate_at.result.offer d c.in-Some-2.is (c.in_ok-frontier.ensures.frontier d looked
+    ∙ ap (λ ls. eligible_frontier on.val (clause_literals on.refs) (loaded_rows on.refs.universe ls) d)
     c.loop-position.invariant.walks.lists)
     (c.candidate_at.ensures.offer d (subst (λ ix. slice_get ix.clauses.items c.in-Some.position.number ≡ Some d)
-    (sym c.inspect_at.ensures.walks.index) looked)))
-    c.candidate_at.ensures.at
+    (sym c.inspect_at.ensures.walks.index) looked))) c.candidate_at.ensures.at
 
 pub candidate_at-requires-clause-of : goal.candidate_at-requires-clause-of
 candidate_at-requires-clause-of g c =
@@ -63,52 +52,35 @@ returns-in-Some-2-clause-of g c =
 
 pub returns-clause-picked : goal.returns-clause-picked
 returns-clause-picked g c =
-    let refs = (references (g.I.Interner.universe c.args.question.now.interner.now) c.args.reader.now.lists
-    c.args.question.now.disjunctions.now) in
-    let val = values_in c.args.question.now.map.now in
-    none_found c.args.tracked.now.index.clauses.items (clause_literals refs) (rows_in refs) val
-    (score_in refs (g.I.NameId.Scores.IdMap.value_at c.args.question.now.scores.now))
-    c.requires.asked.located c.args.group
-    c.loop-position.tracked.requirements c.loop-position.tracked.queued
-    (ready_by refs val c.loop-position.tracked c.args.tracked.now c.loop-position.invariant.walks.index
-    c.loop-position.invariant.asked)
+    let on = grounds g.I.Interner.universe g.I.NameId.Scores.IdMap.value_at c.args.question.now c.args.reader.now in
+    none_found c.args.tracked.now.index.clauses.items (clause_literals on.refs) (rows_in on.refs) on.val on.score
+    c.requires.asked.located c.args.group c.loop-position.tracked.requirements c.loop-position.tracked.queued
+    (ready_by c.loop-position.invariant.walks.index c.loop-position.invariant.asked)
     (match_none c.first_of.result _ _ c.in_default.is c.first_of.ensures.none)
 
 pub loop-position-preserved : goal.loop-position-preserved
 loop-position-preserved g c =
     record {
-      asked = asked_by (g.I.Interner.universe c.args.question.now.interner.now) c.loop-position.reader.lists
-          c.args.reader.now.lists c.args.question.now.disjunctions.now
-          (values_in c.args.question.now.map.now) c.inspect_at.new.tracked c.loop-position.invariant.walks.lists
-          c.inspect_at.ensures.asked;
-      walks = only_walks_along c.args.tracked.now c.loop-position.tracked c.inspect_at.new.tracked c.args.reader.now
-          c.loop-position.reader c.inspect_at.new.reader c.loop-position.invariant.walks c.inspect_at.ensures.walks;
+      asked = asked_by c.loop-position.invariant.walks.lists c.inspect_at.ensures.asked;
+      walks = only_walks_along c.loop-position.invariant.walks c.inspect_at.ensures.walks;
     }
 
 pub loop-position-init : goal.loop-position-init
 loop-position-init g c =
-    record { asked = c.requires.asked; walks = only_walks_none c.args.tracked.now c.args.reader.now }
+    record { asked = c.requires.asked; walks = only_walks_none }
 
 pub returns-in-Some-2-clause-asked : goal.returns-in-Some-2-clause-asked
 returns-in-Some-2-clause-asked g c =
-    asked_by (g.I.Interner.universe c.args.question.now.interner.now) c.loop-position.reader.lists
-    c.args.reader.now.lists c.args.question.now.disjunctions.now
-    (values_in c.args.question.now.map.now) c.inspect_at.new.tracked c.loop-position.invariant.walks.lists
-    c.inspect_at.ensures.asked
+    asked_by c.loop-position.invariant.walks.lists c.inspect_at.ensures.asked
 
 pub returns-in-Some-2-clause-walks : goal.returns-in-Some-2-clause-walks
 returns-in-Some-2-clause-walks g c =
-    only_walks_along c.args.tracked.now c.loop-position.tracked c.inspect_at.new.tracked c.args.reader.now
-    c.loop-position.reader c.inspect_at.new.reader c.loop-position.invariant.walks c.inspect_at.ensures.walks
+    only_walks_along c.loop-position.invariant.walks c.inspect_at.ensures.walks
 
 pub returns-in_err-frontier-clause-asked : goal.returns-in_err-frontier-clause-asked
 returns-in_err-frontier-clause-asked g c =
-    asked_by (g.I.Interner.universe c.args.question.now.interner.now) c.loop-position.reader.lists
-    c.args.reader.now.lists c.args.question.now.disjunctions.now
-    (values_in c.args.question.now.map.now) c.inspect_at.new.tracked c.loop-position.invariant.walks.lists
-    c.inspect_at.ensures.asked
+    asked_by c.loop-position.invariant.walks.lists c.inspect_at.ensures.asked
 
 pub returns-in_err-frontier-clause-walks : goal.returns-in_err-frontier-clause-walks
 returns-in_err-frontier-clause-walks g c =
-    only_walks_along c.args.tracked.now c.loop-position.tracked c.inspect_at.new.tracked c.args.reader.now
-    c.loop-position.reader c.inspect_at.new.reader c.loop-position.invariant.walks c.inspect_at.ensures.walks
+    only_walks_along c.loop-position.invariant.walks c.inspect_at.ensures.walks

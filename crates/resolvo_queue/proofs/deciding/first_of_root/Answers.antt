@@ -1,8 +1,8 @@
 use Rattle.std.proofs.Common.{◌≡◌, option_map, slice_get, subst}
-use Rattle.decisions.specs.Decisions.{values_in}
 use Rattle.resolvo_queue.specs.Rows.ByVariable.{list_at}
-use Rattle.resolvo_queue.specs.Pick.Questions.{clause_literals, offers_in}
-use Rattle.resolvo_queue.specs.References.{references, rows_in, score_in}
+use Rattle.resolvo_queue.specs.Pick.Grounds.{grounds, offers_on}
+use Rattle.resolvo_queue.specs.Pick.Questions.{clause_literals}
+use Rattle.resolvo_queue.specs.References.{rows_in}
 use Rattle.resolvo_queue.specs.declared.group.Group.TheVariants.{OfParent}
 use Rattle.resolvo_queue.proofs.Picks.Steps.{only_walks_none}
 use Rattle.resolvo_queue.proofs.Picks.Groups.{best_of_none, first_of_group, offers_own}
@@ -10,31 +10,20 @@ use Rattle.resolvo_queue.proofs.deciding.first_of_root.Goals as goal
 
 pub returns-in-Some-clause-picked : goal.returns-in-Some-clause-picked
 returns-in-Some-clause-picked g c =
-    let refs = (references (g.I.Interner.universe c.args.question.now.interner.now) c.args.reader.now.lists
-    c.args.question.now.disjunctions.now) in
-    let scores = g.I.NameId.Scores.IdMap.value_at c.args.question.now.scores.now in
-    let val = values_in c.args.question.now.map.now in
+    let on = grounds g.I.Interner.universe g.I.NameId.Scores.IdMap.value_at c.args.question.now c.args.reader.now in
     first_of_group c.args.tracked.now.index.clauses.items c.requires.asked.located c.args.tracked.now.index.by_parent
-    c.requires.asked.first
-    (offers_in refs val scores) (offers_own val (clause_literals refs) (rows_in refs) (score_in refs scores))
-    c.group_of.result c.in-Some.of_root
-    (subst (λ root. c.group_of.result ≡ option_map OfParent
+    c.requires.asked.first (offers_on on) (offers_own on.val (clause_literals on.refs) (rows_in on.refs) on.score)
+    c.group_of.result c.in-Some.of_root (subst (λ root. c.group_of.result ≡ option_map OfParent
     (slice_get (list_at c.args.tracked.now.index.by_parent root) 0)) c.root.ensures c.group_of.ensures)
     c.in-Some.is c.first_eligible.result c.first_eligible.ensures.picked c.first_eligible.ensures.of
 
 pub returns-in-None-clause-picked : goal.returns-in-None-clause-picked
 returns-in-None-clause-picked g c =
-    let refs = (references (g.I.Interner.universe c.args.question.now.interner.now) c.args.reader.now.lists
-    c.args.question.now.disjunctions.now) in
-    let scores = g.I.NameId.Scores.IdMap.value_at c.args.question.now.scores.now in
-    let val = values_in c.args.question.now.map.now in
+    let on = grounds g.I.Interner.universe g.I.NameId.Scores.IdMap.value_at c.args.question.now c.args.reader.now in
     best_of_none c.args.tracked.now.index.clauses.items c.requires.asked.located c.args.tracked.now.index.by_parent
-    c.requires.asked.first
-    (offers_in refs val scores) (offers_own val (clause_literals refs) (rows_in refs) (score_in refs scores))
-    c.group_of.result
-    (subst (λ root. c.group_of.result ≡ option_map OfParent
-    (slice_get (list_at c.args.tracked.now.index.by_parent root) 0)) c.root.ensures c.group_of.ensures)
-    c.in-None.is
+    c.requires.asked.first (offers_on on) (offers_own on.val (clause_literals on.refs) (rows_in on.refs) on.score)
+    c.group_of.result (subst (λ root. c.group_of.result ≡ option_map OfParent
+    (slice_get (list_at c.args.tracked.now.index.by_parent root) 0)) c.root.ensures c.group_of.ensures) c.in-None.is
 
 pub returns-in-None-clause-walks : goal.returns-in-None-clause-walks
-returns-in-None-clause-walks g c = only_walks_none c.args.tracked.now c.args.reader.now
+returns-in-None-clause-walks g c = only_walks_none

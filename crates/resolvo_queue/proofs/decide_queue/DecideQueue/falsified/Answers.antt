@@ -13,7 +13,7 @@ pub falsified_clause-requires : goal.falsified_clause-requires
 falsified_clause-requires g c =
     let inside = c.self.inside in
     let before : Queue g.row.D-NameId.Denot g.row.D-NameId-Set.Denot =
-    queue_of inside.tracked inside.names.items inside.hot_names inside.since.items in
+    queue_of inside.tracked inside.names.items inside.hot_names inside.woken in
     let refs = references (g.D.Interner.universe c.args.provider.now) c.args.lists.now c.args.disjunctions.now in
     let stands : StandsOn refs before = subst (StandsOn refs) (sym c.self.view_is) c.requires.stands in
     record {

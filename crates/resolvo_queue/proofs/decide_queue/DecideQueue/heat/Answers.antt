@@ -11,9 +11,9 @@ pub invariant_of-self : goal.invariant_of-self
 invariant_of-self g c =
     let inside = c.self.inside in
     let before : Queue g.row.D-NameId.Denot g.row.D-NameId-Set.Denot =
-    queue_of inside.tracked inside.names.items inside.hot_names inside.since.items in
+    queue_of inside.tracked inside.names.items inside.hot_names inside.woken in
     let after : Queue g.row.D-NameId.Denot g.row.D-NameId-Set.Denot =
-    queue_of c.heat_clauses.new.self inside.names.items inside.hot_names inside.since.items in (
+    queue_of c.heat_clauses.new.self inside.names.items inside.hot_names inside.woken in (
       kept_heated g.D.NameId.Set.IdSet.has before after c.heat_clauses.ensures.heats refl c.self.invariant.0 refl refl,
       c.self.invariant.1,
     )
@@ -22,9 +22,9 @@ pub returns-clause-stands : goal.returns-clause-stands
 returns-clause-stands g c =
     let inside = c.self.inside in
     let before : Queue g.row.D-NameId.Denot g.row.D-NameId-Set.Denot =
-    queue_of inside.tracked inside.names.items inside.hot_names inside.since.items in
+    queue_of inside.tracked inside.names.items inside.hot_names inside.woken in
     let after : Queue g.row.D-NameId.Denot g.row.D-NameId-Set.Denot =
-    queue_of c.heat_clauses.new.self inside.names.items inside.hot_names inside.since.items in
+    queue_of c.heat_clauses.new.self inside.names.items inside.hot_names inside.woken in
     λ refs s. stands_heated g.D.NameId.Set.IdSet.has before after c.heat_clauses.ensures.heats refl refs
     (subst (StandsOn refs) (sym c.self.view_is) s)
     c.heat_clauses.ensures.heats.clauses (ap (λ t. t.items) c.heat_clauses.ensures.same.1)
@@ -35,7 +35,7 @@ pub returns-clause-lacks : goal.returns-clause-lacks
 returns-clause-lacks g c =
     let inside = c.self.inside in
     let after : Queue g.row.D-NameId.Denot g.row.D-NameId-Set.Denot =
-    queue_of c.heat_clauses.new.self inside.names.items inside.hot_names inside.since.items in
+    queue_of c.heat_clauses.new.self inside.names.items inside.hot_names inside.woken in
     on_ok_weaker c.heat_clauses.result
     (λ hot fits. entered_lacks g.D.NameId.Slots.IdMap.is_too_large
     (numbers_under g.D.NameId.Slots.IdMap.value_at inside.by_name) after.names after.inside.clauses c.args.name

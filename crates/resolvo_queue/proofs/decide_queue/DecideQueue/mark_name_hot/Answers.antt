@@ -9,7 +9,7 @@ pub returns-in_err-insert-clause-stands : goal.returns-in_err-insert-clause-stan
 returns-in_err-insert-clause-stands g c =
     let inside = c.self.inside in
     let before : Queue g.row.D-NameId.Denot g.row.D-NameId-Set.Denot =
-    queue_of inside.tracked inside.names.items inside.hot_names inside.since.items in
+    queue_of inside.tracked inside.names.items inside.hot_names inside.woken in
     λ refs s. stands_hot refs before c.insert.new.self
     (subst (StandsOn refs) (sym c.self.view_is) (c.heat.ensures.stands refs s))
 
@@ -18,7 +18,7 @@ invariant_of-self-2 g c =
     let inside = c.self.inside in
     let has = g.D.NameId.Set.IdSet.has in
     let before : Queue g.row.D-NameId.Denot g.row.D-NameId-Set.Denot =
-    queue_of inside.tracked inside.names.items inside.hot_names inside.since.items in (
+    queue_of inside.tracked inside.names.items inside.hot_names inside.woken in (
       kept_hot has before c.insert.new.self c.self.invariant.0
           (cold_still (has inside.hot_names) (has c.insert.new.self) c.args.name before.names before.inside.clauses
           c.in_ok-insert.ensures.ok c.self.invariant.0.cold
@@ -34,7 +34,7 @@ pub returns-clause-stands : goal.returns-clause-stands
 returns-clause-stands g c =
     let inside = c.self.inside in
     let before : Queue g.row.D-NameId.Denot g.row.D-NameId-Set.Denot =
-    queue_of inside.tracked inside.names.items inside.hot_names inside.since.items in
+    queue_of inside.tracked inside.names.items inside.hot_names inside.woken in
     λ refs s. stands_hot refs before c.insert.new.self
     (subst (StandsOn refs) (sym c.self.view_is) (c.heat.ensures.stands refs s))
 

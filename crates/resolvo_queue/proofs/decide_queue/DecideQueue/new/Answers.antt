@@ -1,4 +1,4 @@
-use Rattle.std.proofs.Common.{ap, map}
+use Rattle.std.proofs.Common.{ap, map, refl}
 use Rattle.resolvo_queue.specs.Parts.ByName.{numbers_under}
 use Rattle.resolvo_queue.specs.Pick.Inspection.{clause_of}
 use Rattle.resolvo_queue.specs.Queue.{Queue, queue_of}
@@ -9,10 +9,10 @@ use Rattle.resolvo_queue.proofs.decide_queue.DecideQueue.new.Goals as goal
 pub invariant_of-result : goal.invariant_of-result
 invariant_of-result g c =
     let made : Queue g.row.D-NameId.Denot g.row.D-NameId-Set.Denot =
-    queue_of c.new.result c.new-2.result.items c.new-4.result c.new-5.result.items in
+    queue_of c.new.result c.new-2.result.items c.new-4.result 0 in
     let names = c.new-2.ensures in (
       kept_new g.D.NameId.Set.IdSet.has made c.new.ensures.clauses c.new.ensures.by_parent c.new.ensures.queued names
-          c.new-5.ensures.items,
+          refl,
       entered_none g.D.NameId.Slots.IdMap.is_too_large (numbers_under g.D.NameId.Slots.IdMap.value_at c.new-3.result)
           c.new-2.result.items names,
     )
@@ -20,6 +20,6 @@ invariant_of-result g c =
 pub returns-clause-stands : goal.returns-clause-stands
 returns-clause-stands g c =
     let made : Queue g.row.D-NameId.Denot g.row.D-NameId-Set.Denot =
-    queue_of c.new.result c.new-2.result.items c.new-4.result c.new-5.result.items in
+    queue_of c.new.result c.new-2.result.items c.new-4.result 0 in
     λ refs. stands_new refs made (ap (map clause_of) c.new.ensures.clauses) c.new.ensures.clauses
     c.new.ensures.requirements c.new.ensures.listed c.new.ensures.by_variable

@@ -1,25 +1,83 @@
 use Rattle.std.proofs.lemmas.Grind.{common_steps}
-use Rattle.std.proofs.Common.{map, inl, sym, ap, refl, subst, ◌∙◌, arith}
-use Rattle.std.specs.Prelude.{All, option_map}
+use Rattle.std.proofs.Common.{◌≡◌, ◌≤◌, length, map, slice_get, sym, ap, refl, subst, ◌∙◌, arith}
+use Rattle.std.specs.Prelude.{All}
+use Rattle.std.proofs.lemmas.Result.{IfOk-weaker}
 use Rattle.decisions.specs.Decisions.{values_in}
 use Rattle.resolvo_queue.specs.Pick.Inspection.{clause_of}
-use Rattle.resolvo_queue.specs.Pick.{decided, eligible, pick}
+use Rattle.resolvo_queue.specs.Pick.{eligible, pick}
 use Rattle.resolvo_queue.specs.Queue.{AreNamed, IsSynced, OnlyHotScore, Queue, StandsOn, queue_of}
 use Rattle.resolvo_queue.specs.Pick.Questions.{clause_literals}
 use Rattle.resolvo_queue.specs.References.{CanWalk, literals_in, references, rows_in, score_in}
 use Rattle.resolvo_queue.specs.WalkCounts.{WalksOnce, owed}
-use Rattle.resolvo_queue.proofs.Clauses.Synced.{kept_still, order_asked, ready_asked, stands_asked}
+use Rattle.resolvo_queue.proofs.Clauses.Synced.{kept_still, order_asked, order_grown}
+use Rattle.resolvo_queue.proofs.Clauses.Synced.{ready_asked, stands_asked, stands_partly}
+use Rattle.resolvo_queue.proofs.Clauses.Counts.{own_number}
+use Rattle.resolvo_queue.proofs.Walks.Counts.{walks_nothing}
+use Rattle.resolvo_queue.specs.Parts.Queued.{GrowsBy, IsOfClause}
+use Rattle.resolvo_queue.specs.Routing.Synced.{AllWokenFrom}
 use Rattle.resolvo_queue.proofs.Picks.Registered.{askable_tracked, cold_sets, cold_without_score}
 use Rattle.resolvo_queue.proofs.Picks.Steps.{ready_by}
-use Rattle.resolvo_queue.proofs.Picks.Unbeaten.{decides_unbeaten, none_decided}
+use Rattle.resolvo_queue.proofs.Picks.Unbeaten.{decides_unbeaten, none_decided, picked_decided, refused_decided}
 use Rattle.resolvo_queue.proofs.Picks.Offers.{offered_registered}
 use Rattle.resolvo_queue.proofs.decide_queue.DecideQueue.next_decision.Goals as goal
+
+pub wake_from-requires-clause-numbers : goal.wake_from-requires-clause-numbers
+wake_from-requires-clause-numbers g c = λ n d e.
+    own_number c.self.inside.tracked.index.clauses.items c.self.invariant.0.order.located n d
+    (ap (λ cs. slice_get cs n) (sym c.as_slice.ensures.value) ∙ e)
+
+pub wake_from-requires-clause-first : goal.wake_from-requires-clause-first
+wake_from-requires-clause-first g c =
+    subst (λ cs. c.self.inside.woken ≤ length cs) (sym c.as_slice.ensures.value) c.self.invariant.0.woken
+
+-- some were woken, and then memory was refused
+pub invariant_of-self : goal.invariant_of-self
+invariant_of-self g c =
+    let inside = c.self.inside in
+    let before : Queue g.row.D-NameId.Denot g.row.D-NameId-Set.Denot =
+    queue_of inside.tracked inside.names.items inside.hot_names inside.woken in
+    let after : Queue g.row.D-NameId.Denot g.row.D-NameId-Set.Denot =
+    queue_of (record inside.tracked { queued = c.wake_from.new.queued }) inside.names.items inside.hot_names
+    inside.woken in (
+      kept_still g.D.NameId.Set.IdSet.has before after c.self.invariant.0
+          (order_grown before.inside c.wake_from.new.queued
+          (subst (λ cs. GrowsBy (IsOfClause cs) inside.tracked.queued c.wake_from.new.queued)
+          c.as_slice.ensures.value c.wake_from.ensures.grows) c.self.invariant.0.order)
+          refl refl refl c.self.invariant.0.woken,
+      c.self.invariant.1,
+    )
+
+pub returns-in_err-wake_from-clause-stands : goal.returns-in_err-wake_from-clause-stands
+returns-in_err-wake_from-clause-stands g c =
+    let inside = c.self.inside in
+    let before : Queue g.row.D-NameId.Denot g.row.D-NameId-Set.Denot =
+    queue_of inside.tracked inside.names.items inside.hot_names inside.woken in
+    let after : Queue g.row.D-NameId.Denot g.row.D-NameId-Set.Denot =
+    queue_of (record inside.tracked { queued = c.wake_from.new.queued }) inside.names.items inside.hot_names
+    inside.woken in
+    let refs = references (g.D.Interner.universe c.args.provider.now) c.args.reader.now.lists
+    c.args.disjunctions.now in
+    stands_partly g.D.NameId.Set.IdSet.has refs before after c.self.invariant.0
+    (subst (StandsOn refs) (sym c.self.view_is) c.requires.stands) refl refl refl refl refl refl refl refl
+    (subst (λ cs. GrowsBy (IsOfClause cs) inside.tracked.queued c.wake_from.new.queued)
+    c.as_slice.ensures.value c.wake_from.ensures.grows)
+
+pub returns-in_err-wake_from-clause-walks : goal.returns-in_err-wake_from-clause-walks
+returns-in_err-wake_from-clause-walks g c =
+    subst (λ (q : Queue g.row.D-NameId.Denot g.row.D-NameId-Set.Denot).
+    WalksOnce q.inside.requirements c.self.inside.tracked.requirements c.args.reader.now.walked
+    c.args.reader.now.walked) c.self.view_is
+    (walks_nothing c.self.inside.tracked.requirements c.args.reader.now.walked)
+
+pub returns-in_err-wake_from-clause-owed : goal.returns-in_err-wake_from-clause-owed
+returns-in_err-wake_from-clause-owed g c =
+    λ r. ap (λ (q : Queue g.row.D-NameId.Denot g.row.D-NameId-Set.Denot). owed q r) c.self.view_is
 
 pub next_offer-requires-clause-asked : goal.next_offer-requires-clause-asked
 next_offer-requires-clause-asked g c =
     let inside = c.self.inside in
     let before : Queue g.row.D-NameId.Denot g.row.D-NameId-Set.Denot =
-    queue_of inside.tracked inside.names.items inside.hot_names inside.since.items in
+    queue_of inside.tracked inside.names.items inside.hot_names inside.woken in
     let refs = references (g.D.Interner.universe c.args.provider.now) c.args.reader.now.lists
     c.args.disjunctions.now in
     let stands : StandsOn refs before = subst (StandsOn refs) (sym c.self.view_is) c.requires.stands in
@@ -32,14 +90,19 @@ next_offer-requires-clause-asked g c =
       listed = stands.listed;
       ready = ready_asked g.D.NameId.Set.IdSet.has refs before before c.self.invariant.0 stands refl refl refl
           (values_in c.args.map.now)
-          (subst (IsSynced (values_in c.args.map.now)) (sym c.self.view_is) c.requires.synced);
+          (subst (IsSynced (values_in c.args.map.now)) (sym c.self.view_is) c.requires.synced)
+          c.wake_from.new.queued
+          (subst (λ cs. GrowsBy (IsOfClause cs) inside.tracked.queued c.wake_from.new.queued)
+          c.as_slice.ensures.value c.wake_from.ensures.grows)
+          (subst (λ cs. AllWokenFrom inside.woken cs (values_in c.args.map.now) c.wake_from.new.queued)
+          c.as_slice.ensures.value c.in_ok-wake_from.ensures.woken);
     }
 
 pub next_offer-requires-clause-cold : goal.next_offer-requires-clause-cold
 next_offer-requires-clause-cold g c =
     let inside = c.self.inside in
     let before : Queue g.row.D-NameId.Denot g.row.D-NameId-Set.Denot =
-    queue_of inside.tracked inside.names.items inside.hot_names inside.since.items in
+    queue_of inside.tracked inside.names.items inside.hot_names inside.woken in
     let universe = g.D.Interner.universe c.args.provider.now in
     let refs = references universe c.args.reader.now.lists c.args.disjunctions.now in
     cold_without_score universe c.args.reader.now.lists (values_in c.args.map.now) (clause_literals refs)
@@ -50,33 +113,15 @@ next_offer-requires-clause-cold g c =
     (subst (OnlyHotScore g.D.NameId.Set.IdSet.has (g.D.NameId.Scores.IdMap.value_at c.args.scores.now))
     (sym c.self.view_is) c.requires.hot)
 
-pub invariant_of-self : goal.invariant_of-self
-invariant_of-self g c =
-    let inside = c.self.inside in
-    let before : Queue g.row.D-NameId.Denot g.row.D-NameId-Set.Denot =
-    queue_of inside.tracked inside.names.items inside.hot_names inside.since.items in
-    let after : Queue g.row.D-NameId.Denot g.row.D-NameId-Set.Denot =
-    queue_of c.next_offer.new.tracked inside.names.items inside.hot_names inside.since.items in
-    let refs = references (g.D.Interner.universe c.args.provider.now) c.args.reader.now.lists
-    c.args.disjunctions.now in (
-      kept_still g.D.NameId.Set.IdSet.has before after c.self.invariant.0
-          (order_asked before.inside after.inside (clause_literals refs) (rows_in refs)
-          (values_in c.args.map.now)
-          (ap (λ ix. ix.clauses.items) c.next_offer.ensures.walks.index)
-          (ap (λ ix. ix.by_parent) c.next_offer.ensures.walks.index) c.next_offer.ensures.walks.found
-          (ready_by refs (values_in c.args.map.now) c.next_offer.new.tracked inside.tracked
-          c.next_offer.ensures.walks.index c.next_offer.ensures.asked) c.self.invariant.0.order)
-          (ap (λ ix. ix.clauses.items) c.next_offer.ensures.walks.index) refl refl (inl refl),
-      c.self.invariant.1,
-    )
-
 pub invariant_of-self-2 : goal.invariant_of-self-2
 invariant_of-self-2 g c =
     let inside = c.self.inside in
     let before : Queue g.row.D-NameId.Denot g.row.D-NameId-Set.Denot =
-    queue_of inside.tracked inside.names.items inside.hot_names inside.since.items in
+    queue_of inside.tracked inside.names.items inside.hot_names inside.woken in
     let after : Queue g.row.D-NameId.Denot g.row.D-NameId-Set.Denot =
-    queue_of c.next_offer.new.tracked inside.names.items inside.hot_names inside.since.items in
+    queue_of c.next_offer.new.tracked inside.names.items inside.hot_names c.len-self-inside.result in
+    let len : c.len-self-inside.result ≡ length inside.tracked.index.clauses.items =
+    c.len-self-inside.ensures ∙ inside.tracked.index.clauses.ok.0 in
     let refs = references (g.D.Interner.universe c.args.provider.now) c.args.reader.now.lists
     c.args.disjunctions.now in (
       kept_still g.D.NameId.Set.IdSet.has before after c.self.invariant.0
@@ -84,39 +129,21 @@ invariant_of-self-2 g c =
           (values_in c.args.map.now)
           (ap (λ ix. ix.clauses.items) c.next_offer.ensures.walks.index)
           (ap (λ ix. ix.by_parent) c.next_offer.ensures.walks.index) c.next_offer.ensures.walks.found
-          (ready_by refs (values_in c.args.map.now) c.next_offer.new.tracked inside.tracked
-          c.next_offer.ensures.walks.index c.next_offer.ensures.asked) c.self.invariant.0.order)
-          (ap (λ ix. ix.clauses.items) c.next_offer.ensures.walks.index) refl refl (inl refl),
+          (ready_by c.next_offer.ensures.walks.index c.next_offer.ensures.asked) c.self.invariant.0.order)
+          (ap (λ ix. ix.clauses.items) c.next_offer.ensures.walks.index) refl refl
+          (subst (λ k. k ≤ length inside.tracked.index.clauses.items) (sym len) (omega arith)),
       c.self.invariant.1,
     )
-
-pub returns-in_err-offer-clause-stands : goal.returns-in_err-offer-clause-stands
-returns-in_err-offer-clause-stands g c =
-    let inside = c.self.inside in
-    let before : Queue g.row.D-NameId.Denot g.row.D-NameId-Set.Denot =
-    queue_of inside.tracked inside.names.items inside.hot_names inside.since.items in
-    let after : Queue g.row.D-NameId.Denot g.row.D-NameId-Set.Denot =
-    queue_of c.next_offer.new.tracked inside.names.items inside.hot_names inside.since.items in
-    let refs = references (g.D.Interner.universe c.args.provider.now) c.args.reader.now.lists
-    c.args.disjunctions.now in
-    let index = c.next_offer.ensures.walks.index in
-    let stands : StandsOn refs before = subst (StandsOn refs) (sym c.self.view_is) c.requires.stands in
-    stands_asked g.D.NameId.Set.IdSet.has refs before after c.self.invariant.0 stands
-    (ap (λ ix. map clause_of ix.clauses.items) index) (ap (λ ix. ix.clauses.items) index)
-    (ap (λ ix. ix.by_condition) index)
-    (values_in c.args.map.now)
-    (subst (IsSynced (values_in c.args.map.now)) (sym c.self.view_is) c.requires.synced)
-    (ap (λ t. t.items) c.next_offer.ensures.walks.trail) refl c.next_offer.ensures.asked.listed
-    (ready_by refs (values_in c.args.map.now) c.next_offer.new.tracked inside.tracked
-    c.next_offer.ensures.walks.index c.next_offer.ensures.asked)
 
 pub returns-clause-stands : goal.returns-clause-stands
 returns-clause-stands g c =
     let inside = c.self.inside in
     let before : Queue g.row.D-NameId.Denot g.row.D-NameId-Set.Denot =
-    queue_of inside.tracked inside.names.items inside.hot_names inside.since.items in
+    queue_of inside.tracked inside.names.items inside.hot_names inside.woken in
     let after : Queue g.row.D-NameId.Denot g.row.D-NameId-Set.Denot =
-    queue_of c.next_offer.new.tracked inside.names.items inside.hot_names inside.since.items in
+    queue_of c.next_offer.new.tracked inside.names.items inside.hot_names c.len-self-inside.result in
+    let len : c.len-self-inside.result ≡ length inside.tracked.index.clauses.items =
+    c.len-self-inside.ensures ∙ inside.tracked.index.clauses.ok.0 in
     let refs = references (g.D.Interner.universe c.args.provider.now) c.args.reader.now.lists
     c.args.disjunctions.now in
     let index = c.next_offer.ensures.walks.index in
@@ -126,58 +153,52 @@ returns-clause-stands g c =
     (ap (λ ix. ix.by_condition) index)
     (values_in c.args.map.now)
     (subst (IsSynced (values_in c.args.map.now)) (sym c.self.view_is) c.requires.synced)
-    (ap (λ t. t.items) c.next_offer.ensures.walks.trail) refl c.next_offer.ensures.asked.listed
-    (ready_by refs (values_in c.args.map.now) c.next_offer.new.tracked inside.tracked
-    c.next_offer.ensures.walks.index c.next_offer.ensures.asked)
+    (ap (λ t. t.items) c.next_offer.ensures.walks.trail) len c.next_offer.ensures.asked.listed
+    (ready_by c.next_offer.ensures.walks.index c.next_offer.ensures.asked)
 
 pub returns-clause-picked : goal.returns-clause-picked
 returns-clause-picked g c =
-    let val = values_in c.args.map.now in
     let refs = references (g.D.Interner.universe c.args.provider.now) c.args.reader.now.lists
     c.args.disjunctions.now in
+    let val = values_in c.args.map.now in
     let score = score_in refs (g.D.NameId.Scores.IdMap.value_at c.args.scores.now) in
-    c.decision_at.ensures ∙ ap (option_map decided) (c.in_ok-offer.ensures.picked
-    ∙ (ap pick (offered_registered val (literals_in refs)
-    (rows_in refs) score c.self.inside.tracked.index.clauses.items)
+    picked_decided c.next_offer.result c.decision_of.result _ _ c.decision_of.ensures c.next_offer.ensures.picked
+    (ap pick (offered_registered val (literals_in refs) (rows_in refs) score
+    c.self.inside.tracked.index.clauses.items)
     ∙ ap (λ (q : Queue g.row.D-NameId.Denot g.row.D-NameId-Set.Denot).
-    pick (eligible val (literals_in refs) (rows_in refs) score q.clauses)) c.self.view_is))
+    pick (eligible val (literals_in refs) (rows_in refs) score q.clauses)) c.self.view_is)
 
 pub returns-clause-none : goal.returns-clause-none
 returns-clause-none g c =
-    let val = values_in c.args.map.now in
     let refs = references (g.D.Interner.universe c.args.provider.now) c.args.reader.now.lists
     c.args.disjunctions.now in
+    let val = values_in c.args.map.now in
     let score = score_in refs (g.D.NameId.Scores.IdMap.value_at c.args.scores.now) in
-    none_decided val (literals_in refs) (rows_in refs) score c.args.self.now.clauses c.decision_at.result
-    (c.decision_at.ensures ∙ ap (option_map decided) (c.in_ok-offer.ensures.picked
-    ∙ (ap pick (offered_registered val (literals_in refs)
-    (rows_in refs) score c.self.inside.tracked.index.clauses.items)
+    IfOk-weaker c.decision_of.result _ _
+    (none_decided val (literals_in refs) (rows_in refs) score c.args.self.now.clauses)
+    (picked_decided c.next_offer.result c.decision_of.result _ _ c.decision_of.ensures c.next_offer.ensures.picked
+    (ap pick (offered_registered val (literals_in refs) (rows_in refs) score
+    c.self.inside.tracked.index.clauses.items)
     ∙ ap (λ (q : Queue g.row.D-NameId.Denot g.row.D-NameId-Set.Denot).
-    pick (eligible val (literals_in refs) (rows_in refs) score q.clauses)) c.self.view_is)))
+    pick (eligible val (literals_in refs) (rows_in refs) score q.clauses)) c.self.view_is))
 
 pub returns-clause-unbeaten : goal.returns-clause-unbeaten
 returns-clause-unbeaten g c =
-    let val = values_in c.args.map.now in
     let refs = references (g.D.Interner.universe c.args.provider.now) c.args.reader.now.lists
     c.args.disjunctions.now in
+    let val = values_in c.args.map.now in
     let score = score_in refs (g.D.NameId.Scores.IdMap.value_at c.args.scores.now) in
-    decides_unbeaten (eligible val (literals_in refs) (rows_in refs) score c.args.self.now.clauses) c.decision_at.result
-    (c.decision_at.ensures ∙ ap (option_map decided) (c.in_ok-offer.ensures.picked
-    ∙ (ap pick (offered_registered val (literals_in refs)
-    (rows_in refs) score c.self.inside.tracked.index.clauses.items)
+    IfOk-weaker c.decision_of.result _ _
+    (decides_unbeaten (eligible val (literals_in refs) (rows_in refs) score c.args.self.now.clauses))
+    (picked_decided c.next_offer.result c.decision_of.result _ _ c.decision_of.ensures c.next_offer.ensures.picked
+    (ap pick (offered_registered val (literals_in refs) (rows_in refs) score
+    c.self.inside.tracked.index.clauses.items)
     ∙ ap (λ (q : Queue g.row.D-NameId.Denot g.row.D-NameId-Set.Denot).
-    pick (eligible val (literals_in refs) (rows_in refs) score q.clauses)) c.self.view_is)))
+    pick (eligible val (literals_in refs) (rows_in refs) score q.clauses)) c.self.view_is))
 
-pub returns-in_err-offer-clause-walks : goal.returns-in_err-offer-clause-walks
-returns-in_err-offer-clause-walks g c =
-    subst (λ (q : Queue g.row.D-NameId.Denot g.row.D-NameId-Set.Denot).
-    WalksOnce q.inside.requirements c.next_offer.new.tracked.requirements c.args.reader.now.walked
-    c.next_offer.new.reader.walked)
-    c.self.view_is c.next_offer.ensures.walks.once
-
-pub returns-in_err-offer-clause-owed : goal.returns-in_err-offer-clause-owed
-returns-in_err-offer-clause-owed g c = λ r. c.next_offer.ensures.walks.once.owed r ∙
-    ap (λ (q : Queue g.row.D-NameId.Denot g.row.D-NameId-Set.Denot). owed q r) c.self.view_is
+pub returns-clause-memory : goal.returns-clause-memory
+returns-clause-memory g c = refused_decided c.next_offer.result c.decision_of.result _ c.decision_of.ensures
+    c.next_offer.ensures.memory
 
 pub returns-clause-walks : goal.returns-clause-walks
 returns-clause-walks g c =

@@ -1,5 +1,5 @@
 use Rattle.std.proofs.lemmas.Grind.{common_steps}
-use Rattle.std.proofs.Common.{◌≡◌, ◌⊎◌, inl, arith, ◌<◌, ◌^◌, ◌-◌, [], ◌∷◌, ◌++◌}
+use Rattle.std.proofs.Common.{◌≡◌, ◌⊎◌, arith, ◌<◌, ◌^◌, ◌-◌, [], ◌∷◌, ◌++◌}
 use Rattle.std.proofs.Common.{map, length, sym, ap, refl, subst, ◌∙◌}
 use Rattle.std.proofs.lemmas.List.{length-map}
 use Rattle.resolvo_queue.specs.Parts.ByName.{IsEntered, numbers_under}
@@ -25,16 +25,16 @@ overflow_cast-number g c =
     omega (arith, few, c.len-number.ensures, inside.tracked.index.clauses.ok.0)
 
 -- the names were refused
-pub invariant_of-self-in_err-enter : goal.invariant_of-self-in_err-enter
-invariant_of-self-in_err-enter g c =
+pub invariant_of-self : goal.invariant_of-self
+invariant_of-self g c =
     let inside = c.self.inside in
     let before : Queue g.row.D-NameId.Denot g.row.D-NameId-Set.Denot =
-    queue_of inside.tracked inside.names.items inside.hot_names inside.since.items in
+    queue_of inside.tracked inside.names.items inside.hot_names inside.woken in
     let after : Queue g.row.D-NameId.Denot g.row.D-NameId-Set.Denot =
-    queue_of inside.tracked inside.names.items inside.hot_names c.reserve.new.self.items in
+    queue_of inside.tracked inside.names.items inside.hot_names inside.woken in
     let under = numbers_under g.D.NameId.Slots.IdMap.value_at in (
       kept_still g.D.NameId.Set.IdSet.has before after c.self.invariant.0 c.self.invariant.0.order refl refl refl
-          (inl c.reserve.ensures.items),
+          c.self.invariant.0.woken,
       entered_still g.D.NameId.Slots.IdMap.is_too_large (under inside.by_name)
           (under c.enter.new.self) before.names after.names refl c.enter.ensures.kept c.self.invariant.1,
     )
@@ -43,11 +43,11 @@ pub invariant_of-self-in_err-register : goal.invariant_of-self-in_err-register
 invariant_of-self-in_err-register g c =
     let inside = c.self.inside in
     let before : Queue g.row.D-NameId.Denot g.row.D-NameId-Set.Denot =
-    queue_of inside.tracked inside.names.items inside.hot_names inside.since.items in
+    queue_of inside.tracked inside.names.items inside.hot_names inside.woken in
     let after : Queue g.row.D-NameId.Denot g.row.D-NameId-Set.Denot =
-    queue_of c.register.new.self inside.names.items inside.hot_names c.reserve.new.self.items in
+    queue_of c.register.new.self inside.names.items inside.hot_names inside.woken in
     let under = numbers_under g.D.NameId.Slots.IdMap.value_at in (
-      kept_refused g.D.NameId.Set.IdSet.has before after c.in_err-register.ensures.err c.reserve.ensures.items
+      kept_refused g.D.NameId.Set.IdSet.has before after c.in_err-register.ensures.err refl
           c.self.invariant.0 refl refl,
       entered_still g.D.NameId.Slots.IdMap.is_too_large (under inside.by_name)
           (under c.enter.new.self) before.names after.names refl c.enter.ensures.kept c.self.invariant.1,
@@ -57,11 +57,11 @@ pub returns-in_err-register-clause-stands : goal.returns-in_err-register-clause-
 returns-in_err-register-clause-stands g c =
     let inside = c.self.inside in
     let before : Queue g.row.D-NameId.Denot g.row.D-NameId-Set.Denot =
-    queue_of inside.tracked inside.names.items inside.hot_names inside.since.items in
+    queue_of inside.tracked inside.names.items inside.hot_names inside.woken in
     let after : Queue g.row.D-NameId.Denot g.row.D-NameId-Set.Denot =
-    queue_of c.register.new.self inside.names.items inside.hot_names c.reserve.new.self.items in
+    queue_of c.register.new.self inside.names.items inside.hot_names inside.woken in
     λ universe lists has s. (let refs = references universe lists c.args.disjunctions.now in
-    stands_refused g.D.NameId.Set.IdSet.has before after c.in_err-register.ensures.err c.reserve.ensures.items refs
+    stands_refused g.D.NameId.Set.IdSet.has before after c.in_err-register.ensures.err refl refs
     (subst (StandsOn refs) (sym c.self.view_is) s) (ap (map clause_of) c.in_err-register.ensures.err.clauses)
     (ap (λ t. t.items) c.register.ensures.same.1) c.register.ensures.same.2)
 
@@ -69,9 +69,9 @@ pub invariant_of-self-2 : goal.invariant_of-self-2
 invariant_of-self-2 g c =
     let inside = c.self.inside in
     let before : Queue g.row.D-NameId.Denot g.row.D-NameId-Set.Denot =
-    queue_of inside.tracked inside.names.items inside.hot_names inside.since.items in
+    queue_of inside.tracked inside.names.items inside.hot_names inside.woken in
     let after : Queue g.row.D-NameId.Denot g.row.D-NameId-Set.Denot =
-    queue_of c.register.new.self c.and-self-inside.result.items inside.hot_names c.push_reserved.new.self.items in
+    queue_of c.register.new.self c.and-self-inside.result.items inside.hot_names inside.woken in
     let few : length inside.tracked.index.clauses.items < 2 ^ 32 - 1 =
     not_full c.is_full.result (length c.args.self.now.clauses)
     (length inside.tracked.index.clauses.items) c.if-is_full.false c.is_full.ensures
@@ -82,13 +82,9 @@ invariant_of-self-2 g c =
     let is_too_large = g.D.NameId.Slots.IdMap.is_too_large in
     let number : c.len-number.result ≡ length before.names =
     c.len-number.ensures ∙ (inside.tracked.index.clauses.ok.0 ∙ sym c.self.invariant.0.names) in (
-      kept_registered g.D.NameId.Set.IdSet.has before after _ c.has_hot_name-is_hot.result c.is_true.result
-          c.condition_of-literals.result.now c.args.names.now
-          (record { parent = c.args.parent; value = c.args.parent_value }) c.self.invariant.0
-          c.in_ok-register.ensures.ok
-          (c.push_reserved.ensures.items ∙
-          ap (λ l. l ++ (record { parent = c.args.parent; value = c.args.parent_value }) ∷ [])
-          c.reserve.ensures.items) refl few
+      kept_registered g.D.NameId.Set.IdSet.has before after _ c.has_hot_name-is_hot.result
+          c.condition_of-literals.result.now c.args.names.now c.self.invariant.0
+          c.in_ok-register.ensures.ok refl few
           names
           (λ n. refl)
           c.has_hot_name-is_hot.ensures,
@@ -103,23 +99,20 @@ pub returns-clause-ok : goal.returns-clause-ok
 returns-clause-ok g c =
     let inside = c.self.inside in
     let before : Queue g.row.D-NameId.Denot g.row.D-NameId-Set.Denot =
-    queue_of inside.tracked inside.names.items inside.hot_names inside.since.items in
+    queue_of inside.tracked inside.names.items inside.hot_names inside.woken in
     let after : Queue g.row.D-NameId.Denot g.row.D-NameId-Set.Denot =
-    queue_of c.register.new.self c.and-self-inside.result.items inside.hot_names c.push_reserved.new.self.items in
+    queue_of c.register.new.self c.and-self-inside.result.items inside.hot_names inside.woken in
     let clause : RequiresClause = record {
       parent = c.args.parent;
       requirement = c.args.requirement;
       condition = c.args.condition;
       clause_id = c.args.clause_id;
     } in
-    subst (λ q. IsRegistered g.D.NameId.Set.IdSet.has clause c.args.names.now c.args.parent_value q after)
+    subst (λ q. IsRegistered g.D.NameId.Set.IdSet.has clause c.args.names.now q after)
     c.self.view_is (record {
-      clauses = registered_whole clause c.has_hot_name-is_hot.result c.is_true.result c.condition_of-literals.result.now
+      clauses = registered_whole clause c.has_hot_name-is_hot.result c.condition_of-literals.result.now
           before.inside after.inside c.in_ok-register.ensures.ok;
       names = c.and-self-inside.ensures;
-      since = c.push_reserved.ensures.items ∙
-          ap (λ l. l ++ (record { parent = c.args.parent; value = c.args.parent_value }) ∷ [])
-          c.reserve.ensures.items;
       trail = ap (λ t. t.items) c.register.ensures.same.1;
       must_start_anew = c.register.ensures.same.2;
       hot = λ n. refl;
@@ -129,9 +122,9 @@ pub returns-clause-stands : goal.returns-clause-stands
 returns-clause-stands g c =
     let inside = c.self.inside in
     let before : Queue g.row.D-NameId.Denot g.row.D-NameId-Set.Denot =
-    queue_of inside.tracked inside.names.items inside.hot_names inside.since.items in
+    queue_of inside.tracked inside.names.items inside.hot_names inside.woken in
     let after : Queue g.row.D-NameId.Denot g.row.D-NameId-Set.Denot =
-    queue_of c.register.new.self c.and-self-inside.result.items inside.hot_names c.push_reserved.new.self.items in
+    queue_of c.register.new.self c.and-self-inside.result.items inside.hot_names inside.woken in
     let clause : RequiresClause = record {
       parent = c.args.parent;
       requirement = c.args.requirement;
@@ -139,16 +132,13 @@ returns-clause-stands g c =
       clause_id = c.args.clause_id;
     } in
     λ universe lists has s. (let refs = references universe lists c.args.disjunctions.now in
-    stands_registered g.D.NameId.Set.IdSet.has before after clause c.has_hot_name-is_hot.result c.is_true.result
-    c.condition_of-literals.result.now c.args.names.now
-    (record { parent = c.args.parent; value = c.args.parent_value }) c.self.invariant.0 c.in_ok-register.ensures.ok
-    (c.push_reserved.ensures.items ∙ ap (λ l.
-    l ++ (record { parent = c.args.parent; value = c.args.parent_value }) ∷ []) c.reserve.ensures.items) refl
+    stands_registered g.D.NameId.Set.IdSet.has before after clause c.has_hot_name-is_hot.result
+    c.condition_of-literals.result.now c.args.names.now c.self.invariant.0 c.in_ok-register.ensures.ok refl
     refs (subst (StandsOn refs) (sym c.self.view_is) s)
-    (registered_whole clause c.has_hot_name-is_hot.result c.is_true.result c.condition_of-literals.result.now
+    (registered_whole clause c.has_hot_name-is_hot.result c.condition_of-literals.result.now
     before.inside after.inside c.in_ok-register.ensures.ok)
     (ap (λ t. t.items) c.register.ensures.same.1) c.register.ensures.same.2 c.condition_of-literals.ensures
-    (record { lists = has; disjunction = c.requires }) c.is_true.ensures)
+    (record { lists = has; disjunction = c.requires }))
 
 pub returns-in_err-register-clause-walks : goal.returns-in_err-register-clause-walks
 returns-in_err-register-clause-walks g c = λ r. c.register.ensures.owes.walks r ∙
@@ -171,18 +161,6 @@ returns-clause-owed g c = λ r.
     (owed_in c.register.new.self.requirements r ≡ owed q r) ⊎
     ((r ≡ c.args.requirement) × (owed q r ≡ 0) × (owed_in c.register.new.self.requirements r ≡ 1)))
     c.self.view_is (c.register.ensures.owes.owed r)
-
-pub invariant_of-self : goal.invariant_of-self
-invariant_of-self g c = grind (arith, common_steps)
-
-pub returns-in_err-reserve-clause-walks : goal.returns-in_err-reserve-clause-walks
-returns-in_err-reserve-clause-walks g c = grind (arith, common_steps)
-
-pub returns-in_err-reserve-clause-owed : goal.returns-in_err-reserve-clause-owed
-returns-in_err-reserve-clause-owed g c = grind (arith, common_steps)
-
-pub returns-in_err-reserve-clause-stands : goal.returns-in_err-reserve-clause-stands
-returns-in_err-reserve-clause-stands g c = grind (arith, common_steps)
 
 pub returns-in_err-enter-clause-walks : goal.returns-in_err-enter-clause-walks
 returns-in_err-enter-clause-walks g c = grind (arith, common_steps)

@@ -1,11 +1,11 @@
-use Rattle.std.proofs.Common.{◌≡◌, ◌+◌, ◌≤◌, min, length, true, false, map}
-use Rattle.std.proofs.Common.{take, inl, inr, sym, ap, refl, subst, arith, ◌∙◌}
+use Rattle.std.proofs.Common.{◌≡◌, ◌+◌, ◌≤◌, min, length, false, map}
+use Rattle.std.proofs.Common.{take, sym, ap, refl, subst, arith, ◌∙◌}
 use Rattle.std.proofs.lemmas.List.{take-take}
 use Rattle.resolvo_queue.specs.Pick.Inspection.{clause_of}
 use Rattle.resolvo_queue.specs.Queue.{AgreesBelow, Queue, StandsOn, queue_of}
 use Rattle.resolvo_queue.specs.References.{rows_in}
 use Rattle.resolvo_queue.specs.WalkCounts.{HasNoneOf, changed_from, owed, owed_in, walks}
-use Rattle.resolvo_queue.proofs.Clauses.Synced.{kept_still, order_after_sync, stands_behind, stands_synced}
+use Rattle.resolvo_queue.proofs.Clauses.Synced.{kept_still, order_after_sync, stands_after}
 use Rattle.resolvo_queue.proofs.Clauses.Counts.{own_number}
 use Rattle.resolvo_queue.proofs.Walks.Owed.{owed_kept, owes_one_more}
 use Rattle.resolvo_queue.proofs.decide_queue.DecideQueue.sync.Goals as goal
@@ -18,29 +18,14 @@ pub invariant_of-self : goal.invariant_of-self
 invariant_of-self g c =
     let inside = c.self.inside in
     let before : Queue g.row.D-NameId.Denot g.row.D-NameId-Set.Denot =
-    queue_of inside.tracked inside.names.items inside.hot_names inside.since.items in
+    queue_of inside.tracked inside.names.items inside.hot_names inside.woken in
     let after : Queue g.row.D-NameId.Denot g.row.D-NameId-Set.Denot =
-    queue_of c.sync.new.self inside.names.items inside.hot_names inside.since.items in (
+    queue_of c.sync.new.self inside.names.items inside.hot_names inside.woken in (
       kept_still g.D.NameId.Set.IdSet.has before after c.self.invariant.0
           (order_after_sync before.inside after.inside (ap (λ ix. ix.clauses.items) c.sync.ensures.same.0)
           (ap (λ ix. ix.by_parent) c.sync.ensures.same.0)
           c.sync.ensures.only c.sync.ensures.grows c.self.invariant.0.order)
-          (ap (λ ix. ix.clauses.items) c.sync.ensures.same.0) refl refl (inl refl),
-      c.self.invariant.1,
-    )
-
-pub invariant_of-self-2 : goal.invariant_of-self-2
-invariant_of-self-2 g c =
-    let inside = c.self.inside in
-    let before : Queue g.row.D-NameId.Denot g.row.D-NameId-Set.Denot =
-    queue_of inside.tracked inside.names.items inside.hot_names inside.since.items in
-    let after : Queue g.row.D-NameId.Denot g.row.D-NameId-Set.Denot =
-    queue_of c.sync.new.self inside.names.items inside.hot_names c.clear.new.self.items in (
-      kept_still g.D.NameId.Set.IdSet.has before after c.self.invariant.0
-          (order_after_sync before.inside after.inside (ap (λ ix. ix.clauses.items) c.sync.ensures.same.0)
-          (ap (λ ix. ix.by_parent) c.sync.ensures.same.0)
-          c.sync.ensures.only c.sync.ensures.grows c.self.invariant.0.order)
-          (ap (λ ix. ix.clauses.items) c.sync.ensures.same.0) refl refl (inr c.clear.ensures.items),
+          (ap (λ ix. ix.clauses.items) c.sync.ensures.same.0) refl refl c.self.invariant.0.woken,
       c.self.invariant.1,
     )
 
@@ -48,73 +33,31 @@ pub sync-requires-clause-agrees : goal.sync-requires-clause-agrees
 sync-requires-clause-agrees g c =
     let inside = c.self.inside in
     let before : Queue g.row.D-NameId.Denot g.row.D-NameId-Set.Denot =
-    queue_of inside.tracked inside.names.items inside.hot_names inside.since.items in
+    queue_of inside.tracked inside.names.items inside.hot_names inside.woken in
     let less : c.min-floor.result ≤ c.args.floor = grind (arith, c.min.ensures, c.min-floor.ensures) in
     λ fresh. (let agrees : AgreesBelow c.args.floor c.args.trail.now before =
     subst (λ (q : Queue g.row.D-NameId.Denot g.row.D-NameId-Set.Denot). q.must_start_anew ≡ false →
     AgreesBelow c.args.floor c.args.trail.now q) (sym c.self.view_is) c.requires.agrees fresh in
     sym (take-take c.min-floor.result c.args.floor before.trail less) ∙
-    (ap (take c.min-floor.result) agrees.trail ∙ take-take c.min-floor.result c.args.floor c.args.trail.now less))
-
-pub returns-in_err-sync-clause-stands : goal.returns-in_err-sync-clause-stands
-returns-in_err-sync-clause-stands g c =
-    let inside = c.self.inside in
-    let before : Queue g.row.D-NameId.Denot g.row.D-NameId-Set.Denot =
-    queue_of inside.tracked inside.names.items inside.hot_names inside.since.items in
-    let after : Queue g.row.D-NameId.Denot g.row.D-NameId-Set.Denot =
-    queue_of c.sync.new.self inside.names.items inside.hot_names inside.since.items in
-    λ refs s. stands_behind g.D.NameId.Set.IdSet.has refs before after c.self.invariant.0
-    (subst (StandsOn refs) (sym c.self.view_is) s)
-    (ap (λ ix. map clause_of ix.clauses.items) c.sync.ensures.same.0)
-    (ap (λ ix. ix.clauses.items) c.sync.ensures.same.0) (ap (λ ix. ix.by_condition) c.sync.ensures.same.0)
-    c.sync.ensures.same.1 c.sync.ensures.only c.in_err-sync.ensures.refused
+    (ap (take c.min-floor.result) agrees ∙ take-take c.min-floor.result c.args.floor c.args.trail.now less))
 
 pub returns-clause-stands : goal.returns-clause-stands
 returns-clause-stands g c =
     let inside = c.self.inside in
     let before : Queue g.row.D-NameId.Denot g.row.D-NameId-Set.Denot =
-    queue_of inside.tracked inside.names.items inside.hot_names inside.since.items in
+    queue_of inside.tracked inside.names.items inside.hot_names inside.woken in
     let after : Queue g.row.D-NameId.Denot g.row.D-NameId-Set.Denot =
-    queue_of c.sync.new.self inside.names.items inside.hot_names c.clear.new.self.items in
+    queue_of c.sync.new.self inside.names.items inside.hot_names inside.woken in
     let less : c.min-floor.result ≤ c.args.floor = grind (arith, c.min.ensures, c.min-floor.ensures) in
-    λ refs s. stands_synced g.D.NameId.Set.IdSet.has refs before after c.self.invariant.0
+    λ refs s. stands_after g.D.NameId.Set.IdSet.has refs before after c.self.invariant.0
     (subst (StandsOn refs) (sym c.self.view_is) s)
     (ap (λ ix. map clause_of ix.clauses.items) c.sync.ensures.same.0)
     (ap (λ ix. ix.clauses.items) c.sync.ensures.same.0) (ap (λ ix. ix.by_condition) c.sync.ensures.same.0)
     c.args.floor c.min-floor.result c.args.trail.now _ less
     (subst (λ (q : Queue g.row.D-NameId.Denot g.row.D-NameId-Set.Denot). q.must_start_anew ≡ false →
     AgreesBelow c.args.floor c.args.trail.now q) (sym c.self.view_is) c.requires.agrees)
-    c.requires.values c.sync.ensures.same.1 c.sync.ensures.only c.in_ok-sync.ensures.synced c.in_ok-sync.ensures.trail
-    c.clear.ensures.items
-
-pub returns-in_err-sync-clause-walks : goal.returns-in_err-sync-clause-walks
-returns-in_err-sync-clause-walks g c =
-    λ r. (owes_one_more c.self.inside.tracked.requirements c.sync.new.self.requirements c.sync.ensures.only).walks r ∙
-    ap (λ (q : Queue g.row.D-NameId.Denot g.row.D-NameId-Set.Denot). walks q r) c.self.view_is
-
-pub returns-in_err-sync-clause-owed : goal.returns-in_err-sync-clause-owed
-returns-in_err-sync-clause-owed g c =
-    λ r. subst (λ (q : Queue g.row.D-NameId.Denot g.row.D-NameId-Set.Denot). owed_in c.sync.new.self.requirements r ≤
-    owed q r + 1) c.self.view_is
-    ((owes_one_more c.self.inside.tracked.requirements c.sync.new.self.requirements c.sync.ensures.only).owed r)
-
-pub returns-in_err-sync-clause-owed_still : goal.returns-in_err-sync-clause-owed_still
-returns-in_err-sync-clause-owed_still g c =
-    let inside = c.self.inside in
-    let before : Queue g.row.D-NameId.Denot g.row.D-NameId-Set.Denot =
-    queue_of inside.tracked inside.names.items inside.hot_names inside.since.items in
-    let floor_is : c.min-floor.result ≡ min (min c.args.floor (length c.args.trail.now)) (length before.trail) =
-    grind (arith, c.min.ensures, c.min-floor.ensures) in
-    λ accepted refs s r walkable none.
-    (let was : before.must_start_anew ≡ false = ap (λ (q : Queue g.row.D-NameId.Denot g.row.D-NameId-Set.Denot).
-    q.must_start_anew) c.self.view_is ∙ accepted in
-    owed_kept refs before c.sync.new.self.requirements c.args.floor c.min-floor.result c.args.trail.now floor_is
-    (subst (λ (q : Queue g.row.D-NameId.Denot g.row.D-NameId-Set.Denot). q.must_start_anew ≡ false →
-    AgreesBelow c.args.floor c.args.trail.now q) (sym c.self.view_is) c.requires.agrees was)
-    (subst (StandsOn refs) (sym c.self.view_is) s) c.sync.ensures.only (c.sync.ensures.others was) r walkable
-    (subst (λ (q : Queue g.row.D-NameId.Denot g.row.D-NameId-Set.Denot).
-    HasNoneOf (changed_from c.args.floor c.args.trail.now q) (rows_in refs r)) (sym c.self.view_is) none)
-    ∙ ap (λ (q : Queue g.row.D-NameId.Denot g.row.D-NameId-Set.Denot). owed q r) c.self.view_is)
+    c.requires.values c.sync.result c.sync.ensures.same.1 c.sync.ensures.only c.sync.ensures.synced
+    c.sync.ensures.trail c.sync.ensures.refused refl
 
 pub returns-clause-walks : goal.returns-clause-walks
 returns-clause-walks g c =
@@ -131,7 +74,7 @@ pub returns-clause-owed_still : goal.returns-clause-owed_still
 returns-clause-owed_still g c =
     let inside = c.self.inside in
     let before : Queue g.row.D-NameId.Denot g.row.D-NameId-Set.Denot =
-    queue_of inside.tracked inside.names.items inside.hot_names inside.since.items in
+    queue_of inside.tracked inside.names.items inside.hot_names inside.woken in
     let floor_is : c.min-floor.result ≡ min (min c.args.floor (length c.args.trail.now)) (length before.trail) =
     grind (arith, c.min.ensures, c.min-floor.ensures) in
     λ accepted refs s r walkable none.

@@ -25,7 +25,8 @@ returns-clause-ok g c =
           rw w.result-is (put_after items_in c.args.self.now c.self.inside.lists.items
           c.to_index-index.result c.args.variable c.index_mut.result.now (record { value = c.push.new.self })
           (same g c) c.to_index-index.ensures.value (within g c) c.index_mut.ensures.value c.args.item
-          (w.in-Ok.ensures.ok ∙ ap (λ (l : SmallVec g.row.T.Denot). l.items ++ c.args.item ∷ []) c.deref_mut.ensures.value))
+          (w.in-Ok.ensures.ok
+          ∙ ap (λ (l : SmallVec g.row.T.Denot). l.items ++ c.args.item ∷ []) c.deref_mut.ensures.value))
       | in-Err w ↦ rw w.result-is tt
     ]
 

@@ -8,21 +8,8 @@ use Rattle.resolvo_queue.specs.Scan.Order.{position_in}
 use Rattle.resolvo_queue.specs.Parts.Records.{clauses_at}
 use Rattle.resolvo_queue.specs.declared.tracked_clause.TrackedClause.{TrackedClause}
 use Rattle.resolvo_queue.proofs.Clauses.Order.{next_is}
-use Rattle.resolvo_queue.proofs.Syncs.Queued.{not_yet}
 use Rattle.resolvo_queue.proofs.Syncs.NewClause.{parent_of}
 use Rattle.resolvo_queue.proofs.tracked_clauses.TrackedClauses.register.Goals as goal
-
-pub enqueue-requires : goal.enqueue-requires
-enqueue-requires g c =
-    let clauses = c.args.self.now.index.clauses.items in
-    let next : c.next_position.result.number ≡ length clauses =
-    c.next_position.ensures.number ∙ ap length c.reserve.ensures.items in
-    record {
-      new = (
-        not_yet clauses c.args.self.now.queued.all c.requires.order.all_of c.next_position.result next,
-        not_yet clauses c.args.self.now.queued.hot c.requires.order.hot_of c.next_position.result next,
-      );
-    }
 
 pub returns-clause-ok : goal.returns-clause-ok
 returns-clause-ok g c =
@@ -49,6 +36,7 @@ returns-clause-ok g c =
         records = c.enter_clause.ensures.gains;
         conditions = c.add_to_conditions.ensures.grows.kept;
         occurrences = refl;
+        queued = refl;
       };
       new = new;
       is = refl;
@@ -62,13 +50,11 @@ returns-clause-ok g c =
           (c.next_position.result.first_of_parent ≡ length l) (λ f. c.next_position.result.first_of_parent ≡ f))
           c.reserve.ensures.items c.next_position.ensures.first));
       by_parent = subst (λ n. IsUpdate (list_at by_parent) clause.parent (list_at by_parent clause.parent ++ n ∷ [])
-          (list_at c.enqueue.new.by_parent)) next
-          c.in_ok-enqueue.ensures.found;
+          (list_at c.push.new.self)) number
+          c.in_ok-push.ensures.ok;
       conditions = subst (λ n. FoundByAll n c.args.literals.now c.add_to_conditions.new.by_condition) number
           c.in_ok-add_to_conditions.ensures.all;
       requirements = subst (λ n. Stands n (clauses_at c.enter_clause.new.self c.in_ok-place.place)) number
           c.in_ok-place.ensures.found;
       placed = c.in_ok-place.ensures.placed;
-      queued = c.enqueue.ensures.grows;
-      counted = c.in_ok-enqueue.ensures.counted;
     }

@@ -1,8 +1,6 @@
 use Rattle.std.proofs.lemmas.Grind.{common_steps}
 use Rattle.std.proofs.Common.{◌≡◌, ◌∙◌, None, refl, sym, subst, ap, arith}
-use Rattle.std.proofs.lemmas.List.Elements.{All-nil}
 use Rattle.std.specs.Prelude.{All, IfOk, OnOk, ◌↔◌, false, option_map}
-use Rattle.decisions.specs.Decisions.{values_in}
 use Rattle.decisions.specs.Trail.{Trail, val}
 use Rattle.resolvo_queue.specs.Pick.{decided, pick, eligible, DecidesUnbeaten}
 use Rattle.resolvo_queue.specs.Queue.{HasTrail, StandsOn, values_of}
@@ -39,7 +37,6 @@ next_decision-requires-clause-synced g c =
     record {
       accepted = synced.must_start_anew;
       trail = λ v. ap (λ val. val v) c.map-2.ensures.values ∙ values_of_entries c.take_sync_floor-floor.new.self.entries v ∙ ap (λ ds. values_of ds v) (sym (synced.trail ∙ c.assignments.ensures.decisions));
-      since = subst (λ ps. All (λ p. values_in c.map-2.result.now p.parent ≡ p.value) ps) (sym synced.since) (All-nil (λ p. values_in c.map-2.result.now p.parent ≡ p.value));
     }
 
 pub next_decision-requires-clause-stands : goal.next_decision-requires-clause-stands

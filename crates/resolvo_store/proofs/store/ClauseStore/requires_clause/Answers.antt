@@ -6,7 +6,6 @@ use Rattle.typed_ids.specs.declared.error.StoreError.TheVariants.{UnknownId, Not
 use Rattle.std.proofs.lemmas.Bool.Decides.{nat_tests}
 use Rattle.watch_map.specs.ClauseList.{contents, literals_watched}
 use Rattle.decisions.specs.Literals.{Neg}
-use Rattle.decisions.specs.Trail.{val}
 use Rattle.providers.specs.Provider.{knows_requirement, sets_of}
 use Rattle.watch_map.specs.Watching.{is_literal_in}
 use Rattle.resolvo_queue.specs.Queue.{IsRegistered, StandsOn}
@@ -127,13 +126,13 @@ invariant_of-self g c =
     (c.register-reply.ensures.stands
     (subst (λ p. StandsOn (references (g.D.Interner.universe p) inside.loaded inside.disjunctions) inside.queue) (sym c.provider-provider.ensures.provider) c.self.invariant.consistent.may_ask.stands)) in
     let one : RequiresClause = record { parent = parent; requirement = r; condition = d; clause_id = length inside.clauses.clauses } in
-    let registered = subst (λ p. let u = g.D.Interner.universe p in OnOk c.register-reply.result (IsRegistered g.D.NameId.Set.IdSet.has one (map u.set_name (sets_of u r)) (val inside.trail.entries parent) inside.queue c.register-reply.new.queue)) c.provider-provider.ensures.provider
-    (subst (λ b. let u = g.D.Interner.universe c.provider-provider.result.now in OnOk c.register-reply.result (IsRegistered g.D.NameId.Set.IdSet.has one (map u.set_name (sets_of u r)) b inside.queue c.register-reply.new.queue)) c.assigned_value.ensures c.register-reply.ensures.registered) in
+    let registered = subst (λ p. let u = g.D.Interner.universe p in OnOk c.register-reply.result (IsRegistered g.D.NameId.Set.IdSet.has one (map u.set_name (sets_of u r)) inside.queue c.register-reply.new.queue)) c.provider-provider.ensures.provider
+    c.register-reply.ensures.registered in
     let call = c.register-reply in
     let before = c.len-first.ensures.value ∙ sym c.self.invariant.consistent.sound.watched in
     record {
       consistent = after_registered c.self.invariant.consistent parent d r made.result.2 (literals_watched made.result.0) call.result each.0 each.1 loaded each.2 first.0 made.ensures.clause
-          refl refl stands
+          refl stands
           call.ensures.added registered call.ensures.unadded call.ensures.unregistered;
       counted = call.ensures.counted;
       marked = subst (HasMarks (with_list (store_in c.self.invariant.consistent.sound) (contents call.new.clauses))) (sym c.forget_false_from.ensures) (marks_more (store_in c.self.invariant.consistent.sound) c.self.inside.marks c.self.invariant.marked (contents call.new.clauses) c.len-first.result before
@@ -184,5 +183,5 @@ returns-clause-asked g c =
     let one : RequiresClause = record { parent = c.args.parent; requirement = c.args.requirement; condition = c.args.disjunction; clause_id = length inside.clauses.clauses } in
     subst (λ (k : Kept g.row.D.Denot g.row.D-NameId.Denot g.row.D-SolvableId.Denot g.row.D-NameId-Scores.Denot). OwesFirst c.args.requirement k.asked (asked_of c.register-reply.new.queue inside.trail)) c.self.view_is
     (owes_registered inside.queue c.register-reply.new.queue inside.trail g.D.NameId.Set.IdSet.has c.register-reply.result one
-    (map (g.D.Interner.universe c.provider-provider.result.now).set_name (sets_of (g.D.Interner.universe c.provider-provider.result.now) c.args.requirement)) c.assigned_value.result
+    (map (g.D.Interner.universe c.provider-provider.result.now).set_name (sets_of (g.D.Interner.universe c.provider-provider.result.now) c.args.requirement))
     c.register-reply.ensures.registered c.register-reply.ensures.unregistered c.register-reply.ensures.walks c.register-reply.ensures.owed)
