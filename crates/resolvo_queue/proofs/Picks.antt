@@ -7,5 +7,7 @@ pub mod Offers
 pub mod Positions
 pub mod Ready
 pub mod Registered
+pub mod Rivals
+pub mod Seconds
 pub mod Steps
 pub mod Unbeaten

@@ -7,7 +7,7 @@ ghost use Rattle.typed_ids.specs.declared.error.StoreError.TheVariants.{OutOfMem
 ghost use Rattle.resolvo_queue.specs.Pick.{best_offer, pick};
 ghost use Rattle.resolvo_queue.specs.Pick.Grounds.{AskedOn, BeginsPick, BeginsRoots, BestFrom, ColdOn, EligibleAt};
 ghost use Rattle.resolvo_queue.specs.Pick.Grounds.{ImprovedBy, grounds, offers_on, score_by};
-ghost use Rattle.resolvo_queue.specs.Pick.Groups.{has_of, is_in, offers_of};
+ghost use Rattle.resolvo_queue.specs.Pick.Groups.{IsNextOf, has_of, is_in, offers_of};
 ghost use Rattle.resolvo_queue.specs.Pick.Inspection.{offer_with};
 ghost use Rattle.resolvo_queue.specs.Pick.Questions.{AreUpTo};
 ghost use Rattle.resolvo_queue.specs.Pick.Ready.{IsDone, offered};
@@ -130,21 +130,25 @@ fn first_eligible<I: Interner>(
     Ok(None)
 }
 
-/// The next clause of a group behind a position of it that may be better than the best so far. None if nothing can be
-/// better, or nothing is left.
-fn next_rival<A: Allocator + Copy>(
+/// The next clauses of a group behind a position of it that may be better than the best so far, one or two. None if
+/// nothing can be better, or nothing is left.
+fn next_rivals<A: Allocator + Copy>(
     tracked: &TrackedClauses<A>,
     group: Group,
     best: &Candidate,
     cursor: Position,
     largest: u64,
-) -> Option<Position>
+) -> Option<(Position, Option<Position>)>
     requires of { is_in group cursor ≡ true }
     ensures none { let set = set_of tracked.now.only_hot tracked.now.queued in
-        MatchOption result (IsDone best.now.offer largest cursor (has_of group set)) (λ f. has_of group set f ≡ true) }
-    ensures behind { IfSome result (λ f. IsBefore cursor f) }
+        MatchOption result (IsDone best.now.offer largest cursor (has_of group set))
+        (λ r. has_of group set r.0 ≡ true) }
+    ensures behind { IfSome result (λ r. IsBefore cursor r.0) }
     ensures least { let set = set_of tracked.now.only_hot tracked.now.queued in
-        IfSome result (λ f. (p : APosition) → has_of group set p ≡ true → IsBefore cursor p → is_after f p ≡ false) }
+        IfSome result (λ r. (p : APosition) → has_of group set p ≡ true → IsBefore cursor p →
+        is_after r.0 p ≡ false) }
+    ensures next { let set = set_of tracked.now.only_hot tracked.now.queued in
+        IfSome result (λ r. IfSome r.1 (λ p. IsNextOf group set r.0 p)) }
 {
     if best.offer.frontier.count == 1 {
         return None;
@@ -152,7 +156,10 @@ fn next_rival<A: Allocator + Copy>(
     if tracked.only_hot && best.offer.score == largest {
         return None;
     }
-    tracked.queued.first_behind(tracked.only_hot, group, cursor)
+    match tracked.queued.two_behind(tracked.only_hot, group, cursor) {
+        (Some(first), second) => Some((first, second)),
+        (None, _) => None,
+    }
 }
 
 /// Makes the best so far what the clause at a position behind it offers, if that is better. Only where it has fewer
@@ -207,9 +214,13 @@ fn best_from<I: Interner>(
 {
     let mut best = first;
     let mut cursor = best.position;
-    while let Some(position) = next_rival(tracked, group, &best, cursor, question.largest) {
-        improve(&mut best, tracked, position, reader, question)?;
-        cursor = position;
+    while let Some((first, second)) = next_rivals(tracked, group, &best, cursor, question.largest) {
+        improve(&mut best, tracked, first, reader, question)?;
+        cursor = first;
+        if let Some(position) = second {
+            improve(&mut best, tracked, position, reader, question)?;
+            cursor = position;
+        }
     }
     Ok(Some(best.offer))
 }

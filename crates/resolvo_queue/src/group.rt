@@ -56,4 +56,15 @@ impl Group {
             _ => None,
         }
     }
+
+    /// Of two positions that were found those that are of the group.
+    pub(crate) fn only_both(
+        self,
+        found: (Option<Position>, Option<Position>),
+    ) -> (Option<Position>, Option<Position>)
+        ensures first { result.0 ≡ only_in self found.0 }
+        ensures second { result.1 ≡ only_in self found.1 }
+    {
+        (self.only(found.0), self.only(found.1))
+    }
 }

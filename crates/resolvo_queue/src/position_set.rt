@@ -27,7 +27,7 @@ impl<A: Allocator + Copy> Model for PositionSet<A> {
 
 impl<A: Allocator + Copy> PositionSet<A> {
     ghost use Rattle.std.specs.Prelude.{List};
-    ghost use Rattle.resolvo_queue.specs.Scan.Positions.{has, IsBefore, is_after, same_position};
+    ghost use Rattle.resolvo_queue.specs.Scan.Positions.{IsNextBehind, has, IsBefore, is_after, same_position};
     ghost use Rattle.resolvo_queue.specs.declared.tracked_clause.Position.{Position};
 
     /// The empty set. Takes no memory.
@@ -95,20 +95,24 @@ impl<A: Allocator + Copy> PositionSet<A> {
         }
     }
 
-    /// The first position behind another one.
-    pub(crate) fn first_behind(&self, position: Position) -> Option<Position>
-        ensures none { MatchOption result ((p : Position) → IsBefore position p → has self.now p ≡ false)
+    /// The first position behind another one, and the first behind that.
+    pub(crate) fn two_behind(&self, position: Position) -> (Option<Position>, Option<Position>)
+        ensures none { MatchOption result.0 ((p : Position) → IsBefore position p → has self.now p ≡ false)
             (λ f. has self.now f ≡ true) }
-        ensures behind { IfSome result (λ f. IsBefore position f) }
-        ensures least { IfSome result (λ f. (p : Position) → has self.now p ≡ true → IsBefore position p →
+        ensures behind { IfSome result.0 (λ f. IsBefore position f) }
+        ensures least { IfSome result.0 (λ f. (p : Position) → has self.now p ≡ true → IsBefore position p →
             is_after f p ≡ false) }
+        ensures next { IfSome result.0 (λ f. IfSome result.1 (λ g. IsNextBehind self.now f g)) }
     {
         let mut behind = self
             .positions
             .range((Bound::Excluded(position), Bound::Unbounded));
         match behind.next() {
-            Some(first) => Some(*first),
-            None => None,
+            Some(first) => match behind.next() {
+                Some(second) => (Some(*first), Some(*second)),
+                None => (Some(*first), None),
+            },
+            None => (None, None),
         }
     }
 }

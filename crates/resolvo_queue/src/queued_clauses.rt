@@ -30,7 +30,7 @@ impl<A: Allocator + Copy> Model for QueuedClauses<A> {
 
 impl<A: Allocator + Copy> QueuedClauses<A> {
     ghost use Rattle.resolvo_queue.specs.Parts.Queued.{IsQueued, GrowsBy, LosesOnly, is_empty_queue, set_of, heated};
-    ghost use Rattle.resolvo_queue.specs.Pick.Groups.{has_of, is_in};
+    ghost use Rattle.resolvo_queue.specs.Pick.Groups.{IsNextOf, has_of, is_in};
     ghost use Rattle.resolvo_queue.specs.Scan.Positions.{has, is_after, same_position, IsBefore};
     ghost use Rattle.resolvo_queue.specs.declared.tracked_clause.Position.{Position};
 
@@ -90,26 +90,28 @@ impl<A: Allocator + Copy> QueuedClauses<A> {
         group.only(self.all.first_from(group.start()))
     }
 
-    /// The first position of a group behind another one of it, among the hot ones alone or among all.
-    pub(crate) fn first_behind(
+    /// The first two positions of a group behind another one of it, among the hot ones alone or among all.
+    pub(crate) fn two_behind(
         &self,
         only_hot: bool,
         group: Group,
         position: Position,
-    ) -> Option<Position>
+    ) -> (Option<Position>, Option<Position>)
         requires of { is_in group position ≡ true }
         ensures none { let set = set_of only_hot self.now in
-            MatchOption result ((p : Position) → IsBefore position p → has_of group set p ≡ false)
+            MatchOption result.0 ((p : Position) → IsBefore position p → has_of group set p ≡ false)
             (λ f. has_of group set f ≡ true) }
-        ensures behind { IfSome result (λ f. IsBefore position f) }
+        ensures behind { IfSome result.0 (λ f. IsBefore position f) }
         ensures least { let set = set_of only_hot self.now in
-            IfSome result (λ f. (p : Position) → has_of group set p ≡ true → IsBefore position p →
+            IfSome result.0 (λ f. (p : Position) → has_of group set p ≡ true → IsBefore position p →
             is_after f p ≡ false) }
+        ensures next { let set = set_of only_hot self.now in
+            IfSome result.0 (λ f. IfSome result.1 (λ g. IsNextOf group set f g)) }
     {
         if only_hot {
-            group.only(self.hot.first_behind(position))
+            group.only_both(self.hot.two_behind(position))
         } else {
-            group.only(self.all.first_behind(position))
+            group.only_both(self.all.two_behind(position))
         }
     }
 

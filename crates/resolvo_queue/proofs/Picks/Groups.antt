@@ -7,12 +7,12 @@ use Rattle.decisions.specs.Literals.{Lit, Values}
 use Rattle.providers.specs.declared.requirement.Requirement.{Requirement}
 use Rattle.typed_ids.specs.declared.error.StoreError.{StoreError}
 use Rattle.typed_ids.specs.declared.version_set_id.VersionSetId.{VersionSetId}
-use Rattle.resolvo_queue.specs.Pick.Groups.{Group, group_at, has_of, is_in, offers_of, only_in}
+use Rattle.resolvo_queue.specs.Pick.Groups.{Group, IsNextOf, group_at, has_of, is_in, offers_of, only_in}
 use Rattle.resolvo_queue.specs.Rows.ByVariable.{list_at}
 use Rattle.resolvo_queue.specs.Pick.Inspection.{eligible_frontier, offer_of, offer_with}
 use Rattle.resolvo_queue.specs.Members.{Stands, here, there}
 use Rattle.resolvo_queue.specs.Pick.{Offer, best_offer, is_of_root, pick}
-use Rattle.resolvo_queue.specs.Scan.Positions.{has, is_after, position_cmp}
+use Rattle.resolvo_queue.specs.Scan.Positions.{IsNextBehind, has, is_after, position_cmp}
 use Rattle.resolvo_queue.specs.Pick.Ready.{AreLocated, offered, place_of, rest_picked, scanned}
 use Rattle.resolvo_queue.specs.Rows.{Row}
 use Rattle.resolvo_queue.specs.Scan.Order.{first_from}
@@ -53,6 +53,38 @@ only_least group set Counts (Some f) least = go (is_in group f)
         is_after x p ≡ false)
     go true = λ p h c. least p (of_both group set p h).1 c
     go false = tt
+
+-- of the first two that stand in the set, those of the group are the group's
+pub only_next : (group : Group) (set now : List Position) → set ≡ now → (first second : Option Position) →
+    IfSome first (λ f. IfSome second (λ s. IsNextBehind set f s)) →
+    (kept : Option Position × Option Position) → kept.0 ≡ only_in group first → kept.1 ≡ only_in group second →
+    IfSome kept.0 (λ f. IfSome kept.1 (λ s. IsNextOf group now f s))
+only_next group set now same first second next kept kept_first kept_second =
+    subst (λ o. IfSome o (λ f. IfSome kept.1 (λ s. IsNextOf group now f s))) (sym kept_first)
+    (subst (λ o. IfSome (only_in group first) (λ f. IfSome o (λ s. IsNextOf group now f s))) (sym kept_second)
+    (subst (λ ps. IfSome (only_in group first) (λ f. IfSome (only_in group second) (λ s. IsNextOf group ps f s))) same
+    (go first second next)))
+  where
+    both : (a b : Bool) (f s : Position) → is_in group s ≡ b → IsNextBehind set f s →
+        IfSome (cond a (Some f) None) (λ x. IfSome (cond b (Some s) None) (λ y. IsNextOf group set x y))
+    both true true f s of h = record {
+      there = ap₂ (λ x y. x && y) of h.there;
+      behind = h.behind;
+      least = λ r k. h.least r (of_both group set r k).1;
+    }
+    both true false f s of h = tt
+    both false b f s of h = tt
+
+    one : (a : Bool) (f : Position) →
+        IfSome (cond a (Some f) None) (λ x. IfSome (only_in group None) (λ y. IsNextOf group set x y))
+    one true f = tt
+    one false f = tt
+
+    go : (first second : Option Position) → IfSome first (λ f. IfSome second (λ s. IsNextBehind set f s)) →
+        IfSome (only_in group first) (λ f. IfSome (only_in group second) (λ s. IsNextOf group set f s))
+    go None second h = tt
+    go (Some f) None h = one (is_in group f) f
+    go (Some f) (Some s) h = both (is_in group f) (is_in group s) f s refl h
 
 -- ---- the root's clauses
 

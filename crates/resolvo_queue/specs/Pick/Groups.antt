@@ -1,7 +1,7 @@
 -- The clauses that a question goes through at a time, by their positions.
-use Rattle.std.specs.Prelude.{Bool, true, ◌==◌, ◌&&◌, if◌then◌else◌, List, Option, None, Some}
+use Rattle.std.specs.Prelude.{◌≡◌, Bool, true, false, ◌==◌, ◌&&◌, if◌then◌else◌, List, Option, None, Some}
 use Rattle.resolvo_queue.specs.Pick.{Offer}
-use Rattle.resolvo_queue.specs.Scan.Positions.{has}
+use Rattle.resolvo_queue.specs.Scan.Positions.{IsBefore, has, is_after}
 pub use Rattle.resolvo_queue.specs.declared.group.Group.{Group}
 use Rattle.resolvo_queue.specs.declared.group.Group.TheVariants.{OfParent, OfAllParents}
 use Rattle.resolvo_queue.specs.declared.tracked_clause.Position.{Position}
@@ -29,6 +29,12 @@ only_in group (Some p) = if is_in group p then Some p else None
 -- the position is in the set, and of the group
 abbrev pub has_of : Group → List Position → Position → Bool
 has_of group set p = is_in group p && has set p
+
+-- the position is in the set and of the group, behind another one, and no such one is between
+pub record IsNextOf (group : Group) (set : List Position) (before p : Position) : Type 0 where
+  pub there : has_of group set p ≡ true
+  pub behind : IsBefore before p
+  pub least : (r : Position) → has_of group set r ≡ true → IsBefore before r → is_after p r ≡ false
 
 -- what the clauses of the group offer, and nothing of the others
 abbrev pub offers_of : Group → (TrackedClause → Option Offer) → TrackedClause → Option Offer

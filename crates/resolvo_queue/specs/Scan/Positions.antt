@@ -1,5 +1,5 @@
 -- Positions, in the order of the scan.
-use Rattle.std.specs.Prelude.{◌≡◌, Bool, List}
+use Rattle.std.specs.Prelude.{◌≡◌, Bool, true, false, List}
 use Rattle.std.specs.List.{list_any}
 use Rattle.std.specs.Ordering.{nat_cmp, is_eq, is_gt, on, then_cmp}
 use Rattle.std.specs.declared.cmp.Ordering.{Ordering}
@@ -22,3 +22,9 @@ same_position p q = is_eq (position_cmp p q)
 -- the position is in the set
 abbrev pub has : List Position → Position → Bool
 has ps p = list_any (same_position p) ps
+
+-- the position is in the set, behind another one, and none in the set is between
+pub record IsNextBehind (set : List Position) (before p : Position) : Type 0 where
+  pub there : has set p ≡ true
+  pub behind : IsBefore before p
+  pub least : (r : Position) → has set r ≡ true → IsBefore before r → is_after p r ≡ false

@@ -6,8 +6,8 @@ use Rattle.resolvo_queue.specs.Pick.Ready.{rest_picked}
 use Rattle.resolvo_queue.proofs.Picks.Decisions.{clauses_behind}
 use Rattle.resolvo_queue.proofs.deciding.best_from.Given as goal
 
-abbrev pub invariant-loop-position : goal.invariant-loop-position
-invariant-loop-position g l =
+abbrev pub invariant-loop-first : goal.invariant-loop-first
+invariant-loop-first g l =
     let on = grounds g.I.Interner.universe g.I.NameId.Scores.IdMap.value_at l.question l.fn.reader in
     let offers = offers_of l.group (offers_on on) in
     record {
@@ -18,5 +18,5 @@ invariant-loop-position g l =
       walks : OnlyWalks l.fn.tracked l.tracked l.fn.reader l.reader;
     }
 
-abbrev pub decreases-loop-position : goal.decreases-loop-position
-decreases-loop-position g l = clauses_behind l.fn.tracked.index.clauses.items l.cursor
+abbrev pub decreases-loop-first : goal.decreases-loop-first
+decreases-loop-first g l = clauses_behind l.fn.tracked.index.clauses.items l.cursor
