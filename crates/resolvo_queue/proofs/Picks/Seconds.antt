@@ -30,7 +30,8 @@ has_kept set position r after =
 others : (first r : Position) (rest : List Position) → IsBefore first r → has (first ∷ rest) r ≡ true →
     has rest r ≡ true
 others first r rest before h =
-    let apart : same_position r first ≡ false = ap is_eq (position_order.antisymm r first ∙ ap ordering_reverse before) in
+    let apart : same_position r first ≡ false =
+    ap is_eq (position_order.antisymm r first ∙ ap ordering_reverse before) in
     sym (ap (λ b. b || has rest r) apart) ∙ h
 
 -- the two first that a range of the set gives
@@ -43,12 +44,15 @@ next_found set position first second left rest found sorted range one two =
     let passes : All (λ r. is_behind position r ≡ true) (first ∷ second ∷ rest) =
     subst (All (λ r. is_behind position r ≡ true)) is (filter_passes (is_behind position) set) in
     let from : IsBefore position first =
-    (IsInRange-from_range_contains position_order (Excluded position) Unbounded first (passes 0 first (omega arith))).0 in
+    (IsInRange-from_range_contains position_order (Excluded position) Unbounded first
+    (passes 0 first (omega arith))).0 in
     let ordered : IsStrictlySortedBy position_cmp (first ∷ second ∷ rest) =
-    subst (IsStrictlySortedBy position_cmp) is (IsStrictlySortedBy-filter position_cmp (is_behind position) set sorted) in
+    subst (IsStrictlySortedBy position_cmp) is
+    (IsStrictlySortedBy-filter position_cmp (is_behind position) set sorted) in
     let before : IsBefore first second = (sorted_head position_cmp first (second ∷ rest) ordered).0 in
     let alike : (r : Position) → IsBefore first r → has (first ∷ second ∷ rest) r ≡ has set r =
-    λ r after. ap (λ ps. has ps r) (sym is) ∙ has_kept set position r (position_order.trans position first r from after) in
+    λ r after. ap (λ ps. has ps r) (sym is)
+    ∙ has_kept set position r (position_order.trans position first r from after) in
     let all : BTreeSet Position = record { keys = first ∷ second ∷ rest } in
     let behind : BTreeSet Position = record { keys = second ∷ rest } in
     record {

@@ -176,7 +176,8 @@ module _ (w : Ways) (literals : TrackedClause → List Lit) (rows_of : Requireme
       KeepsQueued w.clauses literals rows_of before (counts before woken) ts q →
       KeepsQueued w.clauses literals rows_of w.val (counts w.val woken) ts' q'
   routes_sync before woken same old = record {
-    all = all_at (IsOneOf w.clauses literals) (λ c. has q.all c.position) (λ c. has q'.all c.position) wakes_all old.all;
+    all = all_at (IsOneOf w.clauses literals) (λ c. has q.all c.position) (λ c. has q'.all c.position) wakes_all
+        old.all;
     hot = all_at (IsHot w.clauses literals) (λ c. has q.hot c.position) (λ c. has q'.hot c.position) wakes_hot
         old.hot;
     right = subst (λ r. KnowsRight (λ (c : TrackedClause). c.parent) literals (λ c. c.record) r w.val (known_at ts'))

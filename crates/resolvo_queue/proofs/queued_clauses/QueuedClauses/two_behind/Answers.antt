@@ -8,8 +8,8 @@ use Rattle.resolvo_queue.proofs.queued_clauses.QueuedClauses.two_behind.Goals as
 
 pub returns-then-only_hot-clause-least : goal.returns-then-only_hot-clause-least
 returns-then-only_hot-clause-least g c =
-    subst (λ h. IfSome c.only_both.result.0 (λ f. (p : Position) → has_of c.args.group (set_of h c.args.self.now) p ≡ true →
-    IsBefore c.args.position p → is_after f p ≡ false))
+    subst (λ h. IfSome c.only_both.result.0 (λ f. (p : Position) →
+    has_of c.args.group (set_of h c.args.self.now) p ≡ true → IsBefore c.args.position p → is_after f p ≡ false))
     (sym c.if-only_hot.true)
     (subst (λ (q : Queued). IfSome c.only_both.result.0 (λ f. (p : Position) → has_of c.args.group q.hot p ≡ true →
     IsBefore c.args.position p → is_after f p ≡ false))
