@@ -1,5 +1,5 @@
 -- Members of lists: that they stand in them, that the lists contain them, and what stands at a place; and tests.
-use Rattle.std.proofs.Common.{◌≡◌, ℕ, zero, suc, ◌<◌, List, [], ◌∷◌, map, length, get_or, Some, slice_get, ap, ◌∙◌}
+use Rattle.std.proofs.Common.{◌≡◌, ℕ, zero, suc, ◌<◌, List, [], ◌∷◌, length, get_or, Some, slice_get}
 use Rattle.std.proofs.Common.{refl, arith, subst, Bool, true, false, ◌≢◌, eqb, eqb-true, eq-eqb, ◌⊎◌, inl, inr}
 use Rattle.std.specs.Prelude.{Contains}
 use Rattle.resolvo_queue.specs.Members.{Stands, here, there}
@@ -45,20 +45,3 @@ pub stands_at : {X : Type 0} (xs : List X) (n : ℕ) (x : X) → slice_get xs n 
 stands_at [] n x is = cc
 stands_at (y ∷ ys) zero x is = subst (λ z. Stands z (y ∷ ys)) (same_some y x is) here
 stands_at (y ∷ ys) (suc n) x is = there (stands_at ys n x is)
-
--- what stands at a place stands there with the same parts
-pub at_mapped : {X Y : Type 0} (f : X → Y) (xs ys : List X) (n : ℕ) (y : X) → map f xs ≡ map f ys →
-    slice_get ys n ≡ Some y →
-    (x : X) × (slice_get xs n ≡ Some x) × (f x ≡ f y)
-at_mapped f [] [] n y e h = cc
-at_mapped f [] (z ∷ zs) n y e h = let bad : [] ≡ f z ∷ map f zs = e in cc
-at_mapped f (x ∷ xs) [] n y e h = cc
-at_mapped f (x ∷ xs) (z ∷ zs) zero y e h = (
-  x,
-  refl,
-  (let both : f x ∷ map f xs ≡ f z ∷ map f zs = e in let same : f x ≡ f z = cc in
-      let is : Some z ≡ Some y = h in same ∙ ap f (same_some z y is)),
-)
-at_mapped f (x ∷ xs) (z ∷ zs) (suc n) y e h =
-    at_mapped f xs zs n y (let both : f x ∷ map f xs ≡ f z ∷ map f zs = e in
-    let rest : map f xs ≡ map f zs = cc in rest) h

@@ -14,7 +14,7 @@ use Rattle.resolvo_queue.specs.declared.tracked_clause.TrackedClause.{TrackedCla
 abbrev pub is_falsified_in : {N S A : Type 0} → References N S A → Values → TrackedClause → Bool
 is_falsified_in refs val c = is_falsified val (literals_in refs) (rows_in refs) (clause_of c)
 
--- what clauses name, by what an interner knows
+-- what clauses name, as an interner knows it
 abbrev pub refs_of : {N S I A : Type 0} → (I → Universe N S) → Asked I A → References N S A
 refs_of universe asked = references (universe asked.interner.now) asked.lists.now asked.disjunctions.now
 

@@ -30,7 +30,7 @@ pub record Queue (N H : Type 0) : Type 0 where
   -- how many clauses are queued where they may be eligible
   pub woken : ℕ
 
--- a queue's value, by what it keeps
+-- a queue's value: what contracts see of what it keeps
 abbrev pub queue_of : {N H A : Type 0} → TrackedClauses A → List (List N) → H → (woken : ℕ) → Queue N H
 queue_of tracked names hot woken = record {
   clauses = map clause_of tracked.index.clauses.items;

@@ -2,7 +2,7 @@
 pub mod Possible
 pub mod Synced
 pub mod Trails
-use Rattle.std.specs.Prelude.{◌≡◌, ℕ, ◌⊎◌, true, List, Some, None, is_some, option_map, map, slice_get}
+use Rattle.std.specs.Prelude.{◌≡◌, ℕ, ◌⊎◌, ◌++◌, true, List, Some, None, is_some, option_map, drop, map, slice_get}
 use Rattle.decisions.specs.Decisions.{values_in}
 use Rattle.decisions.specs.Literals.{Values}
 use Rattle.decisions.specs.declared.decision.Decision.{Decision}
@@ -76,3 +76,7 @@ module _ (w : Ways) where
 -- the variables of decisions
 abbrev pub variables_of : List Decision → List ℕ
 variables_of ds = map (λ (d : Decision). d.variable) ds
+
+-- the variables of the decisions from a floor on, in either of two trails
+abbrev pub changed_between : (floor : ℕ) → List Decision → List Decision → List ℕ
+changed_between floor old now = variables_of (drop floor old) ++ variables_of (drop floor now)

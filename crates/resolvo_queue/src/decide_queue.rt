@@ -45,14 +45,14 @@
 //!
 //! So the walks of a requirement can be counted. It owes those that were done, and one more while nothing is known of
 //! its rows. It owes the first as its first clause comes; a sync makes it owe at most one more, and only if a variable
-//! of its rows was routed, or the last sync was refused; and a question walks it at most once, by what it owes already.
+//! of its rows was routed, or the last sync was refused; and a question walks it at most once, as it owes already.
 //!
 //! A sync that is refused is remembered: the next one forgets all that is known and queues all clauses whose parent is
 //! true, whatever was done before. A registration that is refused may leave a number in a list that belongs to no
 //! clause yet, which wakes one clause too many later, or makes it hot.
 ghost use Rattle.std.specs.Prelude.{◌≡◌, ◌⊎◌, ◌+◌, ◌-◌, ◌<◌, ◌≤◌, ◌^◌, ◌↔◌, ◌≢◌};
-ghost use Rattle.std.specs.Prelude.{[], length, take, All, IsTrue, IsOk};
-ghost use Rattle.std.specs.Prelude.{IsSome, IfSome, List, None, true, false, option_map, OnOk, OnErr, IfOk, IfErr};
+ghost use Rattle.std.specs.Prelude.{[], length, All, IsTrue, IsOk};
+ghost use Rattle.std.specs.Prelude.{IsSome, IfSome, None, true, false, option_map, OnOk, OnErr, IfOk, IfErr};
 ghost use Rattle.std.specs.Map.{lookup};
 ghost use Rattle.std.specs.Ordering.{nat_cmp};
 ghost use Rattle.typed_ids.specs.Refusals.{IsGrowthRefusal};

@@ -1,5 +1,5 @@
 //! Which clauses a question goes through at a time.
-ghost use Rattle.std.specs.Prelude.{◌≡◌, false};
+ghost use Rattle.std.specs.Prelude.{◌≡◌};
 
 use crate::tracked_clause::Position;
 

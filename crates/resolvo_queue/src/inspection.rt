@@ -80,7 +80,7 @@ fn requirement_frontier<I: Interner>(
     }
 }
 
-/// Where a clause is eligible; nothing if it isn't, and then it can't be by what is known afterwards.
+/// Where a clause is eligible; nothing if it isn't, and then what is known afterwards says so.
 pub(crate) fn inspect<I: Interner>(
     requirements: &mut Requirements<I::Alloc>,
     occurrences: &mut Occurrences<I::Alloc>,

@@ -1,8 +1,7 @@
 //! The clauses that may be eligible, and those of them that may replace a first eligible one.
-ghost use Rattle.std.specs.Prelude.{◌≡◌, ◌<◌, true, false, if◌then◌else◌, length, All, IfSome, MatchOption, OnOk};
+ghost use Rattle.std.specs.Prelude.{◌≡◌, ◌<◌, true, false, length, IfSome, MatchOption, OnOk};
 ghost use Rattle.std.specs.Prelude.{OnErr, IfErr};
 ghost use Rattle.typed_ids.specs.declared.error.StoreError.TheVariants.{OutOfMemory};
-ghost use Rattle.decisions.specs.Decisions.{values_in};
 
 use crate::group::Group;
 use crate::position_set::PositionSet;

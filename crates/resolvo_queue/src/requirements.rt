@@ -1,7 +1,6 @@
 //! What a queue knows of each requirement of its clauses.
 ghost use Rattle.std.specs.Prelude.{◌≡◌, ◌<◌, ◌≤◌, ◌+◌, [], ◌∷◌, ◌++◌, map, Some, None, length, IfSome, MatchOption};
 ghost use Rattle.std.specs.Prelude.{IfOk, OnOk, OnErr, IfErr};
-ghost use Rattle.std.specs.Option.{option_copied};
 ghost use Rattle.typed_ids.specs.declared.error.StoreError.TheVariants.{OutOfMemory};
 ghost use Rattle.providers.specs.declared.requirement.Requirement.{Requirement as ARequirement};
 ghost use Rattle.resolvo_queue.specs.Parts.RecordView.{record_seen};
@@ -54,7 +53,7 @@ impl<A: Allocator + Copy> Model for Requirements<A> {
 }
 
 impl<A: Allocator + Copy> Requirements<A> {
-    ghost use Rattle.std.specs.Prelude.{ℕ, slice_get};
+    ghost use Rattle.std.specs.Prelude.{ℕ};
     ghost use Rattle.resolvo_queue.specs.Parts.Records.{known_at, updated_at, forgotten, fresh, walked, with_clause};
     ghost use Rattle.resolvo_queue.specs.Parts.Records.{clauses_at, IsPlaceOf, HasNoPlace, GainsRecord};
     ghost use Rattle.resolvo_queue.specs.Parts.RecordView.{known_of};

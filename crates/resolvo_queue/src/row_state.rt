@@ -1,7 +1,7 @@
 //! What the rows of a requirement come to.
 //!
 //! A row is a candidate of a requirement: a variable, in the list of one of the requirement's version sets.
-ghost use Rattle.std.specs.Prelude.{◌≡◌, ◌+◌, ◌<◌, ◌≤◌, ◌^◌, true, map, flat_map, length};
+ghost use Rattle.std.specs.Prelude.{◌≡◌, ◌+◌, ◌<◌, ◌^◌, true, map, flat_map, length};
 ghost use Rattle.decisions.specs.Decisions.{values_in};
 ghost use Rattle.providers.specs.Provider.{knows_requirement};
 ghost use Rattle.resolvo_queue.specs.Rows.{list_rows, rows, loaded_rows, all_false, candidates};

@@ -5,9 +5,8 @@ ghost use Rattle.typed_ids.specs.declared.error.StoreError.TheVariants.{OutOfMem
 ghost use Rattle.decisions.specs.Decisions.{values_in};
 ghost use Rattle.resolvo_queue.specs.Occurrences.{listing};
 ghost use Rattle.resolvo_queue.specs.Parts.Queued.{GrowsBy, HaveNumbers, IsOfClause};
-ghost use Rattle.resolvo_queue.specs.Routing.{OnlyForgets, Unrouted, variables_of};
-ghost use Rattle.resolvo_queue.specs.Routing.Synced.{SyncsTo};
-ghost use Rattle.resolvo_queue.specs.Routing.Trails.{decided_value};
+ghost use Rattle.resolvo_queue.specs.Routing.{OnlyForgets, Unrouted, changed_between};
+ghost use Rattle.resolvo_queue.specs.Routing.Synced.{SyncsTracked};
 
 use crate::routing::{Routing, route_all};
 use crate::tracked_clauses::TrackedClauses;
@@ -57,15 +56,10 @@ impl<A: Allocator + Copy> TrackedClauses<A> {
             × (self.new.only_hot ≡ self.old.only_hot) × (self.new.must_start_anew ≡ self.old.must_start_anew) }
         ensures only { OnlyForgets self.old.requirements self.new.requirements }
         ensures others { Unrouted (listing self.old.occurrences)
-            (variables_of (drop floor self.old.trail.items) ++ variables_of (drop floor trail.now))
-            self.old.requirements self.new.requirements }
+            (changed_between floor self.old.trail.items trail.now) self.old.requirements self.new.requirements }
         ensures grows { GrowsBy (IsOfClause self.old.index.clauses.items) self.old.queued self.new.queued }
-        ensures synced { OnOk result
-            (SyncsTo self.old.index.clauses.items self.old.index.by_parent self.old.index.by_condition
-            (listing self.old.occurrences) false
-            (decided_value self.old.trail.items) (values_in map.now)
-            (variables_of (drop floor self.old.trail.items) ++ variables_of (drop floor trail.now))
-            self.old.requirements self.new.requirements self.old.queued self.new.queued) }
+        ensures synced { OnOk result (SyncsTracked false (values_in map.now)
+            (changed_between floor self.old.trail.items trail.now) self.old self.new) }
         ensures trail { OnOk result (self.new.trail.items ≡ take floor self.old.trail.items ++ drop floor trail.now) }
         ensures memory { IfErr result (λ e. e ≡ OutOfMemory) }
     {
@@ -92,10 +86,7 @@ impl<A: Allocator + Copy> TrackedClauses<A> {
         ensures only { OnlyForgets self.old.requirements self.new.requirements }
         ensures grows { GrowsBy (IsOfClause self.old.index.clauses.items) self.old.queued self.new.queued }
         ensures synced { OnOk result ((routed : List ℕ) →
-            SyncsTo self.old.index.clauses.items self.old.index.by_parent self.old.index.by_condition
-            (listing self.old.occurrences) true
-            (decided_value self.old.trail.items) (values_in map.now) routed
-            self.old.requirements self.new.requirements self.old.queued self.new.queued) }
+            SyncsTracked true (values_in map.now) routed self.old self.new) }
         ensures trail { OnOk result (self.new.trail.items ≡ trail.now) }
         ensures memory { IfErr result (λ e. e ≡ OutOfMemory) }
     {
@@ -119,17 +110,11 @@ impl<A: Allocator + Copy> TrackedClauses<A> {
         ensures same { (self.new.index ≡ self.old.index) × (self.new.occurrences ≡ self.old.occurrences)
             × (self.new.only_hot ≡ self.old.only_hot) }
         ensures only { OnlyForgets self.old.requirements self.new.requirements }
-        ensures others { self.old.must_start_anew ≡ false →
-            Unrouted (listing self.old.occurrences)
-            (variables_of (drop floor self.old.trail.items) ++ variables_of (drop floor trail.now))
-            self.old.requirements self.new.requirements }
+        ensures others { self.old.must_start_anew ≡ false → Unrouted (listing self.old.occurrences)
+            (changed_between floor self.old.trail.items trail.now) self.old.requirements self.new.requirements }
         ensures grows { GrowsBy (IsOfClause self.old.index.clauses.items) self.old.queued self.new.queued }
-        ensures synced { OnOk result
-            (SyncsTo self.old.index.clauses.items self.old.index.by_parent self.old.index.by_condition
-            (listing self.old.occurrences) self.old.must_start_anew
-            (decided_value self.old.trail.items) (values_in map.now)
-            (variables_of (drop floor self.old.trail.items) ++ variables_of (drop floor trail.now))
-            self.old.requirements self.new.requirements self.old.queued self.new.queued) }
+        ensures synced { OnOk result (SyncsTracked self.old.must_start_anew (values_in map.now)
+            (changed_between floor self.old.trail.items trail.now) self.old self.new) }
         ensures trail { OnOk result (self.new.trail.items ≡ trail.now) }
         ensures debt { OnOk result (self.new.must_start_anew ≡ false) }
         ensures refused { OnErr result (self.new.must_start_anew ≡ true) }

@@ -1,6 +1,4 @@
 //! Requires clauses, as the incremental queue keeps them.
-ghost use Rattle.std.specs.Prelude.{◌≡◌};
-
 use providers::Requirement;
 use typed_ids::{ClauseId, DisjunctionId, VariableId};
 

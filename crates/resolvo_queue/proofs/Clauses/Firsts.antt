@@ -1,4 +1,4 @@
--- The number of a parent's first clause, by what contracts see of clauses.
+-- The number of a parent's first clause, told from the clauses that contracts see.
 use Rattle.std.proofs.Common.{◌≡◌, ℕ, suc, ◌+◌, cond, eqb, List, [], ◌∷◌, length, map, Option, None, Some, MatchOption}
 use Rattle.std.proofs.Common.{ap, refl, ◌∙◌, arith}
 use Rattle.resolvo_queue.specs.Parts.Tracking.{HasNoClause, IsFirstOf}

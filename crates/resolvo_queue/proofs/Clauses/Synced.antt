@@ -81,9 +81,9 @@ order_stays t u clauses by_parent found placed all hot order =
     })
 
 -- where more are queued
-pub order_grown : (t : Tracking) (queued : Queued) → GrowsBy (IsOfClause t.clauses) t.queued queued → IsInOrder t →
+pub order_grown : {t : Tracking} {queued : Queued} → GrowsBy (IsOfClause t.clauses) t.queued queued → IsInOrder t →
     IsInOrder (record t { queued = queued })
-order_grown t queued grows order = record {
+order_grown grows order = record {
   few = order.few;
   located = order.located;
   first = order.first;
@@ -94,10 +94,10 @@ order_grown t queued grows order = record {
   hot_of = λ p h. elim (grows.hot_new p h) [ inl was ↦ order.hot_of p was | inr new ↦ new ];
 }
 
-pub order_after_sync : (t u : Tracking) → u.clauses ≡ t.clauses → u.by_parent ≡ t.by_parent →
+pub order_after_sync : {t u : Tracking} → u.clauses ≡ t.clauses → u.by_parent ≡ t.by_parent →
     OnlyForgets t.requirements u.requirements →
     GrowsBy (IsOfClause t.clauses) t.queued u.queued → IsInOrder t → IsInOrder u
-order_after_sync t u clauses by_parent only grows order =
+order_after_sync {t} {u} clauses by_parent only grows order =
     order_stays t u clauses by_parent (found_after t.requirements u.requirements only)
     (placed_after t.requirements u.requirements only)
     (λ p e. elim (grows.all_new p e) [ inl was ↦ order.all_of p was | inr new ↦ new ])
@@ -246,11 +246,11 @@ module _ {N S A H : Type 0} (has : H → N → Bool) (refs : References N S A) (
       (λ n c e. refl) (λ k. refl) (λ k h. refl) grows (stands.synced (sym anew ∙ accepted))))
 
 -- what always holds of what is kept, after a question
-pub order_asked : (t u : Tracking) (literals : TrackedClause → List Lit) (rows_of : Requirement → List Row)
-    (values : Values) → u.clauses ≡ t.clauses → u.by_parent ≡ t.by_parent →
+pub order_asked : {t u : Tracking} {literals : TrackedClause → List Lit} {rows_of : Requirement → List Row}
+    {values : Values} → u.clauses ≡ t.clauses → u.by_parent ≡ t.by_parent →
     SameFound t.requirements u.requirements → IsReady t.clauses literals rows_of values u.requirements u.queued →
     IsInOrder t → IsInOrder u
-order_asked t u literals rows_of values clauses by_parent found ready order =
+order_asked {t} {u} clauses by_parent found ready order =
     subst (λ (x : List TrackedClause × List (List ℕ)). IsInOrder (record {
       clauses = x.0;
       by_parent = x.1;
@@ -270,10 +270,10 @@ order_asked t u literals rows_of values clauses by_parent found ready order =
     })
 
 -- what always holds of a queue, where a sync or a question left its clauses
-pub kept_still : {N H : Type 0} (has : H → N → Bool) (q q' : Queue N H) → IsKept has q → IsInOrder q'.inside →
+pub kept_still : {N H : Type 0} {has : H → N → Bool} {q q' : Queue N H} → IsKept has q → IsInOrder q'.inside →
     q'.inside.clauses ≡ q.inside.clauses → q'.names ≡ q.names → q'.hot ≡ q.hot →
     q'.woken ≤ length q.inside.clauses → IsKept has q'
-kept_still {N} {H} has q q' kept order clauses names hot woken = record {
+kept_still {N} {H} {has} {q} {q'} kept order clauses names hot woken = record {
   order = order;
   names = ap length names ∙ (kept.names ∙ ap length (sym clauses));
   woken = subst (λ cs. q'.woken ≤ length cs) (sym clauses) woken;

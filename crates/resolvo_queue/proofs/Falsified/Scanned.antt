@@ -79,7 +79,7 @@ module _ (clauses : List TrackedClause) (holds : TrackedClause → Bool) where
     covers = λ n c is below. finds.covers n c is (omega (arith, below, past));
   }
 
--- ---- by what contracts see
+-- ---- the same of the clauses that contracts see
 
 module _ (clauses : List TrackedClause) (located : AreLocated clauses) where
   abbrev whole : List RequiresClause

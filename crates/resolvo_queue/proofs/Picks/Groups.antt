@@ -175,7 +175,7 @@ module _ (clauses : List TrackedClause) (located : AreLocated clauses) (by_paren
       subst (λ o. MatchOption o (HasNoClause clauses 0) (IsFirstOf clauses 0)) e (begin 0) in
       none_of_root (scanned clauses) (λ x s. none x.0 x.1 (item_at x s))
 
-  -- the best of the root's, by what was found of its clauses as a group, or where it has none
+  -- the best of the root's: that of its clauses as a group
   pub best_of_group : (of : Option Group) (group : Group) →
       of ≡ option_map OfParent (slice_get (list_at by_parent 0) 0) → of ≡ Some group →
       best_offer (offered clauses (offers_of group offers)) ≡ best_offer (filter is_of_root (offered clauses offers))

@@ -26,7 +26,7 @@ use Rattle.resolvo_queue.proofs.Syncs.Law.{walk_holds, walk_knows, removed_holds
 use Rattle.resolvo_queue.proofs.Lists.{same_or_not, same_some}
 
 module _ {C R : Type 0} (parent : C → ℕ) (condition : C → List Lit) (requirement : C → R) (rows_of : R → List Row) where
-  -- the parent is true, and by what is known the clause may be eligible
+  -- the parent is true, and the clause may be eligible, as far as is known
   abbrev pub may_be_eligible : Values → (R → Known) → C → Bool
   may_be_eligible val known c =
       is_possible parent condition requirement rows_of (λ d. known_true (val (parent d))) val known c
@@ -173,7 +173,7 @@ module _ (clauses : List TrackedClause) (literals : TrackedClause → List Lit) 
     abbrev offers : TrackedClause → Option Offer
     offers c = offer_of val literals rows_of score c
 
-    -- an eligible clause may be eligible by what is known
+    -- an eligible clause is one that may be eligible, as far as is known
     eligible_possible : (n : ℕ) (c : TrackedClause) → slice_get clauses n ≡ Some c → (f : Frontier) →
         eligible_frontier val literals rows_of c ≡ Some f →
         may_be_eligible (λ (d : TrackedClause). d.parent) literals (λ d. d.record) (rows_at rows_of ts) val

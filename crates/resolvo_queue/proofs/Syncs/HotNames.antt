@@ -3,6 +3,7 @@ use Rattle.std.proofs.Common.{◌≡◌, ℕ, zero, suc, ◌+◌, ◌<◌, ◌�
 use Rattle.std.proofs.Common.{List, [], ◌∷◌, length, map, set, get_or, take, Option, Some, None, MatchOption}
 use Rattle.std.proofs.Common.{Result, Ok, Err, OnOk, OnErr, slice_get, sym, ap, refl, ◌∙◌, subst, arith}
 use Rattle.std.proofs.lemmas.List.{take_more}
+use Rattle.std.proofs.lemmas.Option.{slice_get_within}
 use Rattle.resolvo_queue.specs.Rows.ByVariable.{list_at}
 use Rattle.resolvo_queue.specs.Pick.Inspection.{clause_of}
 use Rattle.resolvo_queue.specs.Members.{Stands}
@@ -15,7 +16,7 @@ use Rattle.resolvo_queue.specs.Parts.Tracking.{Tracking, HasNoClause, IsFirstOf,
 use Rattle.resolvo_queue.specs.declared.tracked_clause.Position.{Position}
 use Rattle.resolvo_queue.specs.declared.tracked_clause.TrackedClause.{TrackedClause}
 use Rattle.resolvo_queue.proofs.Syncs.HotClause.{heated_synced, set_or_elsewhere}
-use Rattle.resolvo_queue.proofs.Syncs.Queued.{added_grows, read_at, within_clauses}
+use Rattle.resolvo_queue.proofs.Syncs.Queued.{added_grows, read_at}
 use Rattle.resolvo_queue.proofs.Clauses.Numbers.{stands_cases}
 use Rattle.resolvo_queue.proofs.Lists.{same_some}
 
@@ -271,7 +272,7 @@ hot_more old now heats numbers i within before this n c s is =
 -- a number past the end
 pub hot_past : (cs : List TrackedClause) (n : ℕ) → length cs ≤ n → (c : TrackedClause) →
     slice_get cs n ≡ Some c → c.is_hot ≡ true
-hot_past cs n past c is = absurd (let h : n < length cs = within_clauses cs n c is in omega (arith, h, past))
+hot_past cs n past c is = absurd (let h : n < length cs = slice_get_within cs n c is in omega (arith, h, past))
 
 pub none_within : {X P : Type 0} (xs : List X) (i : ℕ) → i < length xs → xs ≡ [] → P
 none_within xs i within none = absurd (let h : i < 0 = subst (λ l. i < length l) none within in omega (arith, h))

@@ -9,7 +9,7 @@ use Rattle.std.proofs.lemmas.Cmp.{on_total, then_total}
 use Rattle.std.proofs.lemmas.List.{take_more}
 use Rattle.decisions.specs.Literals.{Values, known_true}
 use Rattle.resolvo_queue.specs.Members.{Stands, here, there}
-use Rattle.resolvo_queue.specs.Scan.Positions.{has, position_cmp, same_position}
+use Rattle.resolvo_queue.specs.Scan.Positions.{position_cmp, same_position}
 use Rattle.resolvo_queue.specs.Parts.Queued.{Queued, IsQueued, GrowsBy, IsOfClause, AreWoken, HaveNumbers, IsWoken}
 use Rattle.resolvo_queue.specs.declared.tracked_clause.Position.{Position}
 use Rattle.resolvo_queue.specs.declared.tracked_clause.TrackedClause.{TrackedClause}
@@ -137,11 +137,6 @@ module _ (clauses : List TrackedClause) (numbered : HaveNumbers clauses) (val : 
           let same : c ≡ d = same_some c d (sym it_is ∙ (ap (slice_get clauses) (sym last) ∙ e)) in
           subst (IsQueued now) same (own (ap (λ (x : TrackedClause). known_true (val x.parent)) same ∙ t))
 
-pub within_clauses : (cs : List TrackedClause) (n : ℕ) (c : TrackedClause) → slice_get cs n ≡ Some c → n < length cs
-within_clauses [] n c e = cc
-within_clauses (x ∷ xs) zero c e = omega arith
-within_clauses (x ∷ xs) (suc n) c e = let h : n < length xs = within_clauses xs n c e in omega arith
-
 -- ---- one number
 
 pub number_grows : (clauses : List TrackedClause) → HaveNumbers clauses → (n : ℕ) (c : TrackedClause) →
@@ -182,15 +177,3 @@ none_past xs n e = go xs n (past n (length xs) e)
     go [] k h = refl
     go (y ∷ ys) zero h = absurd (omega arith)
     go (y ∷ ys) (suc k) h = go ys k (omega arith)
-
--- the position with the next clause's number isn't in a set of clauses' positions
-pub not_yet : (clauses : List TrackedClause) (ps : List Position) →
-    ((p : Position) → has ps p ≡ true → IsOfClause clauses p) →
-    (p : Position) → p.number ≡ length clauses → has ps p ≡ false
-not_yet clauses ps of p next = go (has ps p) refl
-  where
-    go : (b : Bool) → has ps p ≡ b → b ≡ false
-    go true h =
-        let o = of p h in
-        let w : p.number < length clauses = within_clauses clauses p.number o.0 o.1 in absurd (omega arith)
-    go false h = refl

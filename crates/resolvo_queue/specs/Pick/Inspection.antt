@@ -33,7 +33,7 @@ module _ (val : Values) (literals : TrackedClause → List Lit) (rows_of : Requi
       if known_true (val c.parent) && are_literals_false val (literals c)
       then frontier val (rows_of c.requirement) else None
 
--- by what is known the clause may be eligible
+-- the clause may be eligible, as far as is known
 abbrev pub may_be : Values → (TrackedClause → List Lit) → List Record → TrackedClause → Bool
 may_be val literals ts c =
     known_true (val c.parent) && (are_literals_false val (literals c) && may_have_frontier (known_at ts c.record))

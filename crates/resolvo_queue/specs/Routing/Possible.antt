@@ -19,7 +19,7 @@ may_have_frontier None = true
 may_have_frontier (Some f) = is_some f
 
 module _ {C R : Type 0} (parent : C → ℕ) (condition : C → List Lit) (requirement : C → R) (rows_of : R → List Row) where
-  -- by what is known the clause may be eligible; `counted` says whose parents count as true
+  -- the clause may be eligible, as far as is known; `counted` says whose parents count as true
   abbrev pub is_possible : (C → Bool) → Values → (R → Known) → C → Bool
   is_possible counted val known c =
       counted c && (are_literals_false val (condition c) && may_have_frontier (known (requirement c)))

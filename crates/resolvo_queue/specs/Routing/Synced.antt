@@ -7,10 +7,13 @@ use Rattle.resolvo_queue.specs.Rows.{Row}
 use Rattle.resolvo_queue.specs.Rows.ByVariable.{list_at}
 use Rattle.resolvo_queue.specs.Members.{Stands}
 use Rattle.resolvo_queue.specs.Scan.Positions.{has}
+use Rattle.resolvo_queue.specs.Occurrences.{listing}
 use Rattle.resolvo_queue.specs.Routing.Possible.{SameElsewhere, HoldsPossible, KnowsRight}
+use Rattle.resolvo_queue.specs.Routing.Trails.{decided_value}
 use Rattle.resolvo_queue.specs.Parts.Queued.{Queued, IsQueued}
 use Rattle.resolvo_queue.specs.Parts.Records.{Record, known_at, clauses_at, rows_at}
 use Rattle.resolvo_queue.specs.declared.tracked_clause.TrackedClause.{TrackedClause}
+use Rattle.resolvo_queue.specs.declared.tracked_clauses.TrackedClauses.{TrackedClauses}
 
 -- the variable is among these
 abbrev pub is_among : List ℕ → ℕ → Bool
@@ -67,6 +70,13 @@ SyncsTo clauses by_parent by_condition listing anew before now routed ts ts' q q
     (anew ≡ false → SameElsewhere (is_among routed) before now
     × KeepsQueued clauses literals rows_of before (counts before woken) ts q) →
     KeepsQueued clauses literals rows_of now (counts now woken) ts' q'
+
+-- so is what a queue keeps, from the trail of its last sync on
+abbrev pub SyncsTracked : {A : Type 0} (anew : Bool) (now : Values) (routed : List ℕ)
+    (old new : TrackedClauses A) → Type 0
+SyncsTracked anew now routed old new =
+    SyncsTo old.index.clauses.items old.index.by_parent old.index.by_condition (listing old.occurrences) anew
+    (decided_value old.trail.items) now routed old.requirements new.requirements old.queued new.queued
 
 -- every clause from a number on with a true parent is queued
 abbrev pub AllWokenFrom : (first : ℕ) → List TrackedClause → Values → Queued → Type 0

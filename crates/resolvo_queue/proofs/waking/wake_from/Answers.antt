@@ -1,8 +1,9 @@
 use Rattle.std.proofs.Common.{◌≡◌, ◌+◌, ◌-◌, ◌<◌, Some, drop, length, slice_get, ap, subst, arith}
 use Rattle.std.proofs.lemmas.List.{length-drop}
+use Rattle.std.proofs.lemmas.Option.{slice_get_within}
 use Rattle.decisions.specs.Decisions.{values_in}
 use Rattle.resolvo_queue.proofs.Syncs.Forgetting.{take_rest}
-use Rattle.resolvo_queue.proofs.Syncs.Queued.{all_grow, all_woken, from_rest, read_at, within_clauses}
+use Rattle.resolvo_queue.proofs.Syncs.Queued.{all_grow, all_woken, from_rest, read_at}
 use Rattle.resolvo_queue.proofs.waking.wake_from.Goals as goal
 
 pub loop-clause-preserved : goal.loop-clause-preserved
@@ -42,4 +43,4 @@ returns-clause-woken g c =
     let all = ap length (take_rest c.args.first clauses) in
     let past = c.loop-clause-test.false in
     λ n d e from t. c.loop-clause.invariant.woken n d from
-    (let h : n < length clauses = within_clauses clauses n d e in omega (arith, h, rest, all, past)) e t
+    (let h : n < length clauses = slice_get_within clauses n d e in omega (arith, h, rest, all, past)) e t

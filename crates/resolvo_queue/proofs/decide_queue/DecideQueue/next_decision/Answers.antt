@@ -32,20 +32,13 @@ wake_from-requires-clause-first g c =
 
 -- some were woken, and then memory was refused
 pub invariant_of-self : goal.invariant_of-self
-invariant_of-self g c =
-    let inside = c.self.inside in
-    let before : Queue g.row.D-NameId.Denot g.row.D-NameId-Set.Denot =
-    queue_of inside.tracked inside.names.items inside.hot_names inside.woken in
-    let after : Queue g.row.D-NameId.Denot g.row.D-NameId-Set.Denot =
-    queue_of (record inside.tracked { queued = c.wake_from.new.queued }) inside.names.items inside.hot_names
-    inside.woken in (
-      kept_still g.D.NameId.Set.IdSet.has before after c.self.invariant.0
-          (order_grown before.inside c.wake_from.new.queued
-          (subst (λ cs. GrowsBy (IsOfClause cs) inside.tracked.queued c.wake_from.new.queued)
-          c.as_slice.ensures.value c.wake_from.ensures.grows) c.self.invariant.0.order)
-          refl refl refl c.self.invariant.0.woken,
-      c.self.invariant.1,
-    )
+invariant_of-self g c = (
+  kept_still c.self.invariant.0
+      (order_grown (subst (λ cs. GrowsBy (IsOfClause cs) c.self.inside.tracked.queued c.wake_from.new.queued)
+      c.as_slice.ensures.value c.wake_from.ensures.grows) c.self.invariant.0.order)
+      refl refl refl c.self.invariant.0.woken,
+  c.self.invariant.1,
+)
 
 pub returns-in_err-wake_from-clause-stands : goal.returns-in_err-wake_from-clause-stands
 returns-in_err-wake_from-clause-stands g c =
@@ -115,23 +108,14 @@ next_offer-requires-clause-cold g c =
 
 pub invariant_of-self-2 : goal.invariant_of-self-2
 invariant_of-self-2 g c =
-    let inside = c.self.inside in
-    let before : Queue g.row.D-NameId.Denot g.row.D-NameId-Set.Denot =
-    queue_of inside.tracked inside.names.items inside.hot_names inside.woken in
-    let after : Queue g.row.D-NameId.Denot g.row.D-NameId-Set.Denot =
-    queue_of c.next_offer.new.tracked inside.names.items inside.hot_names c.len-self-inside.result in
-    let len : c.len-self-inside.result ≡ length inside.tracked.index.clauses.items =
-    c.len-self-inside.ensures ∙ inside.tracked.index.clauses.ok.0 in
-    let refs = references (g.D.Interner.universe c.args.provider.now) c.args.reader.now.lists
-    c.args.disjunctions.now in (
-      kept_still g.D.NameId.Set.IdSet.has before after c.self.invariant.0
-          (order_asked before.inside after.inside (clause_literals refs) (rows_in refs)
-          (values_in c.args.map.now)
-          (ap (λ ix. ix.clauses.items) c.next_offer.ensures.walks.index)
-          (ap (λ ix. ix.by_parent) c.next_offer.ensures.walks.index) c.next_offer.ensures.walks.found
-          (ready_by c.next_offer.ensures.walks.index c.next_offer.ensures.asked) c.self.invariant.0.order)
-          (ap (λ ix. ix.clauses.items) c.next_offer.ensures.walks.index) refl refl
-          (subst (λ k. k ≤ length inside.tracked.index.clauses.items) (sym len) (omega arith)),
+    let walks = c.next_offer.ensures.walks in
+    let len : c.len-self-inside.result ≡ length c.self.inside.tracked.index.clauses.items =
+    c.len-self-inside.ensures ∙ c.self.inside.tracked.index.clauses.ok.0 in (
+      kept_still c.self.invariant.0
+          (order_asked (ap (λ ix. ix.clauses.items) walks.index) (ap (λ ix. ix.by_parent) walks.index) walks.found
+          (ready_by walks.index c.next_offer.ensures.asked) c.self.invariant.0.order)
+          (ap (λ ix. ix.clauses.items) walks.index) refl refl
+          (subst (λ k. k ≤ length c.self.inside.tracked.index.clauses.items) (sym len) (omega arith)),
       c.self.invariant.1,
     )
 

@@ -8,7 +8,6 @@ use Rattle.resolvo_queue.specs.Queue.{IsRegistered, Queue, StandsOn, queue_of}
 use Rattle.resolvo_queue.specs.References.{references}
 use Rattle.resolvo_queue.specs.declared.requires_clause.RequiresClause.{RequiresClause}
 use Rattle.resolvo_queue.specs.WalkCounts.{owed, owed_in, walks}
-use Rattle.resolvo_queue.proofs.Clauses.Synced.{kept_still}
 use Rattle.resolvo_queue.proofs.Clauses.ByName.{entered_last, entered_still}
 use Rattle.resolvo_queue.proofs.Clauses.Registration.{kept_refused, kept_registered, not_full}
 use Rattle.resolvo_queue.proofs.Clauses.Registration.{registered_whole, stands_refused, stands_registered}
@@ -27,16 +26,11 @@ overflow_cast-number g c =
 -- the names were refused
 pub invariant_of-self : goal.invariant_of-self
 invariant_of-self g c =
-    let inside = c.self.inside in
-    let before : Queue g.row.D-NameId.Denot g.row.D-NameId-Set.Denot =
-    queue_of inside.tracked inside.names.items inside.hot_names inside.woken in
-    let after : Queue g.row.D-NameId.Denot g.row.D-NameId-Set.Denot =
-    queue_of inside.tracked inside.names.items inside.hot_names inside.woken in
-    let under = numbers_under g.D.NameId.Slots.IdMap.value_at in (
-      kept_still g.D.NameId.Set.IdSet.has before after c.self.invariant.0 c.self.invariant.0.order refl refl refl
-          c.self.invariant.0.woken,
-      entered_still g.D.NameId.Slots.IdMap.is_too_large (under inside.by_name)
-          (under c.enter.new.self) before.names after.names refl c.enter.ensures.kept c.self.invariant.1,
+    let under = numbers_under g.D.NameId.Slots.IdMap.value_at in
+    let names = c.self.inside.names.items in (
+      c.self.invariant.0,
+      entered_still g.D.NameId.Slots.IdMap.is_too_large (under c.self.inside.by_name) (under c.enter.new.self) names
+          names refl c.enter.ensures.kept c.self.invariant.1,
     )
 
 pub invariant_of-self-in_err-register : goal.invariant_of-self-in_err-register

@@ -15,19 +15,14 @@ sync-requires-clause-numbers g c = λ n d e.
     own_number c.self.inside.tracked.index.clauses.items c.self.invariant.0.order.located n d e
 
 pub invariant_of-self : goal.invariant_of-self
-invariant_of-self g c =
-    let inside = c.self.inside in
-    let before : Queue g.row.D-NameId.Denot g.row.D-NameId-Set.Denot =
-    queue_of inside.tracked inside.names.items inside.hot_names inside.woken in
-    let after : Queue g.row.D-NameId.Denot g.row.D-NameId-Set.Denot =
-    queue_of c.sync.new.self inside.names.items inside.hot_names inside.woken in (
-      kept_still g.D.NameId.Set.IdSet.has before after c.self.invariant.0
-          (order_after_sync before.inside after.inside (ap (λ ix. ix.clauses.items) c.sync.ensures.same.0)
-          (ap (λ ix. ix.by_parent) c.sync.ensures.same.0)
-          c.sync.ensures.only c.sync.ensures.grows c.self.invariant.0.order)
-          (ap (λ ix. ix.clauses.items) c.sync.ensures.same.0) refl refl c.self.invariant.0.woken,
-      c.self.invariant.1,
-    )
+invariant_of-self g c = (
+  kept_still c.self.invariant.0
+      (order_after_sync (ap (λ ix. ix.clauses.items) c.sync.ensures.same.0)
+      (ap (λ ix. ix.by_parent) c.sync.ensures.same.0)
+      c.sync.ensures.only c.sync.ensures.grows c.self.invariant.0.order)
+      (ap (λ ix. ix.clauses.items) c.sync.ensures.same.0) refl refl c.self.invariant.0.woken,
+  c.self.invariant.1,
+)
 
 pub sync-requires-clause-agrees : goal.sync-requires-clause-agrees
 sync-requires-clause-agrees g c =
