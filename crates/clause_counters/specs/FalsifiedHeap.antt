@@ -1,5 +1,4 @@
--- A falsified of clauses: how many groups of each clause aren't false, and which clause of the falsified ones comes
--- first.
+-- Clauses by the number of their groups that aren't false, and which of the falsified ones comes first.
 use Rattle.std.specs.Prelude.{◌≡◌, ℕ, ◌<◌, ◌≤◌, ◌-◌, ◌^◌, Bool, true, false, if◌then◌else◌, ◌==◌, nat_lt, ◌||◌, ◌&&◌}
 use Rattle.std.specs.Prelude.{slice_set, List, length, map, slice_index_or, slice_index, Option, Some, None}
 use Rattle.std.specs.List.{All, count_by}
@@ -28,7 +27,7 @@ no_clause = record { position = no_position; left = 0; is_in_heap = false }
 abbrev pub clause_at : List Clause → ℕ → Clause
 clause_at clauses number = slice_index_or clauses number no_clause
 
--- the clauses' tallies
+-- how many groups of each clause aren't false, and the clauses' positions
 abbrev pub lefts_of : List Clause → List ℕ
 lefts_of clauses = map (λ c. c.left) clauses
 
@@ -54,7 +53,7 @@ entry_cmp a b = ordering_then (ordering_then (nat_cmp a.position.first_of_parent
 abbrev pub heap_cmp : Reverse Entry → Reverse Entry → Ordering
 heap_cmp a b = entry_cmp b.0 a.0
 
--- the heap holds each clause once that is marked so, with its position, and has room for all
+-- the heap holds each clause that is marked so, once and with its position, and has room for all clauses
 pub record IsHeld (clauses : List Clause) (entries : List (Reverse Entry)) (capacity : ℕ) : Type 0 where
   pub heap : IsHeap heap_cmp entries
   pub once : (c : ℕ) → count_by (λ e. e.0.clause == c) entries ≡ (if (clause_at clauses c).is_in_heap then 1 else 0)
@@ -77,7 +76,8 @@ is_before a b = nat_lt a.first_of_parent b.first_of_parent ||
 abbrev pub position_at : List Position → ℕ → Position
 position_at positions number = slice_index_or positions number no_position
 
--- of the clauses of which no group isn't false none comes before the answer, which is one of them
+-- the answer is a falsified clause, of which each group is false, and no falsified clause comes before it; or no clause
+-- is falsified
 abbrev pub IsFirst : List ℕ → List Position → Option ℕ → Type 0
 IsFirst lefts positions None = (c : ℕ) → c < length lefts → slice_index lefts c ≡ 0 → ⊥
 IsFirst lefts positions (Some first) = (first < length lefts) × (slice_index lefts first ≡ 0)
@@ -88,11 +88,11 @@ IsFirst lefts positions (Some first) = (first < length lefts) × (slice_index le
 abbrev pub marked : Bool → ℕ → List Clause → List Clause
 marked mark number clauses = slice_set clauses number (record (clause_at clauses number) { is_in_heap = mark })
 
--- the entry is the first, and in a heap none is over it
+-- the entry is the first, and in a heap no other is above it
 abbrev pub IsTop : List (Reverse Entry) → Entry → Type 0
 IsTop entries top = (0 < length entries) × (slice_index_or entries 0 (record { 0 = top }) ≡ record { 0 = top })
     × (IsHeap heap_cmp entries → IsUpperBound heap_cmp (record { 0 = top }) entries)
 
--- the clause's number is told: how many of its groups aren't false
+-- the clause with this number has this many groups that aren't false
 abbrev pub tallied : ℕ → ℕ → List Clause → List Clause
 tallied left number clauses = slice_set clauses number (record (clause_at clauses number) { left = left })

@@ -47,7 +47,7 @@ stood_at v index = slice_index_or v.literals index nowhere
 abbrev pub clauses_of : Kept → ℕ → List ℕ
 clauses_of v group = slice_index_or v.groups group []
 
--- the literal at this index is told to be false, or not to be; one that stands nowhere isn't kept
+-- the literal at this index is told to be false, or not to be; behind the last literal nothing is kept
 abbrev pub told : Bool → ℕ → Kept → Kept
 told mark index v = record v { literals = slice_set v.literals index (record (stood_at v index) { is_false = mark }) }
 

@@ -74,7 +74,8 @@ impl<A: Allocator + Copy> ClauseCounters<A> {
     ///
     /// # Errors
     ///
-    /// `OutOfMemory`, also if a number of a group or a place is above 2^32 - 2.
+    /// `OutOfMemory`, also if there would be more than 2^32 - 1 groups, or more than 2^32 - 2 places if each literal of
+    /// the list got one.
     pub fn add_group(
         &mut self,
         literals: &[Literal],
@@ -137,7 +138,8 @@ impl<A: Allocator + Copy> ClauseCounters<A> {
     ///
     /// # Errors
     ///
-    /// `OutOfMemory`, also if the clause's number, or that of one of its groups' members, would be above 2^32 - 2.
+    /// `OutOfMemory`, also if there would be more than 2^32 - 1 clauses, or more than 2^32 - 1 members of groups if the
+    /// clause had three.
     pub fn make_room(&mut self) -> Result<(), StoreError>
         ensures room { OnOk result (IsTrue self.new.has_room) }
         ensures shown { KeepsShown self.old self.new }

@@ -10,7 +10,7 @@ use std::alloc::Allocator;
 /// A literal that may stand in groups.
 #[derive(Clone, Copy, Debug, PartialEq, Eq)]
 pub(crate) struct Standing {
-    /// Whether it is false.
+    /// Whether it is false, if it stands in a group; else this says nothing.
     pub(crate) is_false: bool,
     /// The list of the groups in which it stands: of each it has one place.
     pub(crate) groups: u32,

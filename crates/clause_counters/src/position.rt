@@ -1,7 +1,7 @@
 //! Positions of clauses: of several falsified clauses the one with the least position is first.
 
 /// The position of a clause. Positions are ordered by the first number, and by the second if the first is the same: so
-/// the clauses of one parent follow one another, parents come in the order of their first clauses.
+/// the clauses of one parent follow one another, and parents come in the order of their first clauses.
 #[derive(Clone, Copy, Debug, PartialEq, Eq, PartialOrd, Ord)]
 pub struct Position {
     /// The number of the first clause that has the same parent.

@@ -32,7 +32,7 @@ module _ {A : Type 0} where
     pub grouped : All (λ c. HasGroups kept.keys c.demand) s.clauses
     pub known : All (IsKnown s.lists s.disjunctions) kept.keys
 
-  -- whatever clauses were counted still are, if the rest is as it is here
+  -- whatever clauses were counted still are: the function tells the rest, which is the same before and after
   abbrev pub KeepsCounts : (List PlacedDemand → Counted A) → KeyedCounters → KeyedCounters → Type 0
   KeepsCounts at old new = (clauses : List PlacedDemand) → Counts old (at clauses) → Counts new (at clauses)
 

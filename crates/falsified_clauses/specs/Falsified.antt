@@ -9,7 +9,7 @@ use Rattle.falsified_clauses.specs.declared.demand.Demand.{Demand}
 use Rattle.falsified_clauses.specs.Clauses.{Counted, clause_at, rows}
 
 module _ {A : Type 0} (s : Counted A) where
-  -- the negation of its parent is false; each literal of its condition's disjunction is, if it has one; each row is
+  -- its parent's negation is false, and so is each literal of its condition's disjunction, and each row
   abbrev pub is_falsified : Demand → Bool
   is_falsified clause = s.is_false (Neg clause.parent)
       && list_all s.is_false (condition_literals (kept_in [] [] s.disjunctions) clause.condition)
@@ -19,7 +19,7 @@ module _ {A : Type 0} (s : Counted A) where
   abbrev pub is_falsified_at : ℕ → Bool
   is_falsified_at number = is_falsified (clause_at s number).demand
 
-  -- the answer is a falsified clause before which none is, and none if no clause is falsified
+  -- the answer is a falsified clause, and no falsified clause comes before it; or no clause is falsified
   abbrev pub IsFirstFalsified : Option ℕ → Type 0
   IsFirstFalsified None = (c : ℕ) → c < length s.clauses → is_falsified_at c ≡ false
   IsFirstFalsified (Some first) = (first < length s.clauses) × (is_falsified_at first ≡ true)

@@ -72,8 +72,8 @@ impl<A: Allocator + Copy> FalsifiedClauses<A> {
     }
 
     /// The groups of a clause, and room for it: then [`FalsifiedClauses::add`] may add it. The groups that it lacks are
-    /// made, of which the values make some literals false. Whatever the result, the clauses are the same. Once all
-    /// 2^32 - 1 numbers of groups are given out, a new group is out of memory.
+    /// made. The values have to make false what the counters were told is false. Whatever the result, the clauses are
+    /// the same. Once all 2^32 - 1 numbers of groups are given out, a new group is out of memory.
     pub fn prepare(
         &mut self,
         clause: Demand,
@@ -143,7 +143,7 @@ impl<A: Allocator + Copy> FalsifiedClauses<A> {
         self.counters.make_undecided(literal);
     }
 
-    /// The number of the falsified clause that comes first. Takes no memory.
+    /// The number of the falsified clause that comes first, `None` if no clause is falsified. Takes no memory.
     pub fn first(&mut self) -> Option<u32>
         ensures same { (s : Counted A) → Counts self.old s → Counts self.new s }
         ensures first { (s : Counted A) → Counts self.old s → IsFirstFalsified s result }

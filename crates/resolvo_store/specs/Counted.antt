@@ -1,5 +1,6 @@
 -- What the counters of falsified clauses count: a store's requires clauses, under its trail.
-use Rattle.std.specs.Prelude.{ℕ, suc, ◌≤◌, Bool, false, if◌then◌else◌, List, [], ◌∷◌, length, take, Option, None, Some, slice_get}
+use Rattle.std.specs.Prelude.{ℕ, suc, ◌≤◌, Bool, false, if◌then◌else◌, List, [], ◌∷◌, length, take}
+use Rattle.std.specs.Prelude.{Option, None, Some, slice_get}
 use Rattle.decisions.specs.Literals.{Lit, Pos, Neg, is_false_literal}
 use Rattle.decisions.specs.Trail.{Entry, val}
 use Rattle.decisions.specs.declared.decision.Decision.{Decision}
@@ -28,7 +29,7 @@ placed_in requires number c = record {
   position = record { first_of_parent = first_of requires c.parent; number = number };
 }
 
--- those from a number on
+-- these clauses, numbered from a number on
 abbrev pub placed_from : List RequiresClause → ℕ → List RequiresClause → List PlacedDemand
 placed_from requires number [] = []
 placed_from requires number (c ∷ cs) = placed_in requires number c ∷ placed_from requires (suc number) cs
@@ -42,7 +43,7 @@ abbrev pub clause_at : List RequiresClause → Option ℕ → Option RequiresCla
 clause_at requires None = None
 clause_at requires (Some number) = slice_get requires number
 
--- no literal is false: where a trail says which are
+-- no literal is false: this stands where a trail says which are
 abbrev pub no_false : Lit → Bool
 no_false _ = false
 
@@ -51,7 +52,8 @@ pub record Counting : Type 0 where
   pub clauses : KeyedCounters
   pub counted : ℕ
 
--- the clauses are counted, and false is what the counted entries of the trail make false. A are the allocators
+-- the clauses are counted, and false is what the counted entries of the trail make false, whatever s says is. A are the
+-- allocators
 pub record Follows {A : Type 0} (kept : Counting) (entries : List Entry) (s : Counted A) : Type 0 where
   pub within : kept.counted ≤ length entries
   pub counts : Counts kept.clauses (record s { is_false = false_by (take kept.counted entries) })

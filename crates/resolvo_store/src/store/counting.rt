@@ -23,7 +23,7 @@ use typed_ids::{DisjunctionId, StoreError};
 use variables::VariableLists;
 
 /// The counters of a store's requires clauses, and how many entries of the trail they have counted, the oldest. What
-/// came since is counted when somebody asks. What is taken back before that never is.
+/// came since is counted when somebody asks or a clause comes. What is taken back before that never is.
 #[derive(Drop)]
 pub(crate) struct TrailCounters<A: Allocator + Copy> {
     clauses: FalsifiedClauses<A>,
