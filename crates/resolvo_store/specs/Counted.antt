@@ -1,5 +1,5 @@
 -- What the counters of falsified clauses count: a store's requires clauses, under its trail.
-use Rattle.std.specs.Prelude.{ℕ, suc, ◌≤◌, Bool, false, if◌then◌else◌, List, [], ◌∷◌, length, take}
+use Rattle.std.specs.Prelude.{ℕ, ◌≤◌, Bool, false, if◌then◌else◌, List, length, map, take}
 use Rattle.std.specs.Prelude.{Option, None, Some, slice_get}
 use Rattle.decisions.specs.Literals.{Lit, Pos, Neg, is_false_literal}
 use Rattle.decisions.specs.Trail.{Entry, val}
@@ -22,21 +22,13 @@ false_by entries = is_false_literal (val entries)
 abbrev pub demand_of : RequiresClause → Demand
 demand_of c = record { parent = c.parent; requirement = c.requirement; condition = c.condition }
 
--- the clause with a number, where it stands in the scan of these
-abbrev pub placed_in : List RequiresClause → ℕ → RequiresClause → PlacedDemand
-placed_in requires number c = record {
-  demand = demand_of c;
-  position = record { first_of_parent = first_of requires c.parent; number = number };
-}
-
--- these clauses, numbered from a number on
-abbrev pub placed_from : List RequiresClause → ℕ → List RequiresClause → List PlacedDemand
-placed_from requires number [] = []
-placed_from requires number (c ∷ cs) = placed_in requires number c ∷ placed_from requires (suc number) cs
+-- a clause, and the first clause of its parent among these
+abbrev pub placed_in : List RequiresClause → RequiresClause → PlacedDemand
+placed_in requires c = record { demand = demand_of c; first_of_parent = first_of requires c.parent }
 
 -- all of them
 abbrev pub placed : List RequiresClause → List PlacedDemand
-placed requires = placed_from requires 0 requires
+placed requires = map (placed_in requires) requires
 
 -- the clause with the number, if there is one
 abbrev pub clause_at : List RequiresClause → Option ℕ → Option RequiresClause
