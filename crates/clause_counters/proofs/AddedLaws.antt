@@ -202,7 +202,8 @@ shows_clause ps ls ms ms' gs gs' firsts firsts' has_room has_room' s list first 
       size = length-map (clause_lists gs') (listed ms') ∙ (length-map gs' (λ (x : Group). x.clauses)
           ∙ (same ∙ groups_shown ps ls ms gs firsts has_room s shows));
       firsts = pushed ∙ (ap (λ ps. ps ++ first ∷ []) shows.firsts
-          ∙ sym (map_push (λ (x : GroupClause). x.first_of_parent) s.clauses (record { groups = list; first_of_parent = first })));
+          ∙ sym (map_push (λ (x : GroupClause). x.first_of_parent) s.clauses
+          (record { groups = list; first_of_parent = first })));
       stands = shows.stands;
       joins = λ g c. ap (count c) (clauses_kept ms' gs' g) ∙ (lists g c
           ∙ (let old = sym (ap (count c) (clauses_kept ms gs g)) ∙ shows.joins g c in

@@ -80,10 +80,9 @@ held_inserted cs es es' room c h in' absent moved keeps = record {
         ≡ cond (clause_at (marked true c cs) x).is_in_heap 1 0) (sym e) here
     | inr ne ↦ there d ne
   ]);
-  placed = All-permutation (HasFirst (marked true c cs))
-      (entry_of cs c ∷ es) es' moved (All-cons (HasFirst (marked true c cs)) (entry_of cs c) es (sym (first_kept true cs c c))
-      (All-weaker (HasFirst cs)
-      (HasFirst (marked true c cs))
+  placed = All-permutation (HasFirst (marked true c cs)) (entry_of cs c ∷ es) es' moved
+      (All-cons (HasFirst (marked true c cs)) (entry_of cs c) es (sym (first_kept true cs c c))
+      (All-weaker (HasFirst cs) (HasFirst (marked true c cs))
       (λ e p. p ∙ sym (first_kept true cs c e.0.number)) es h.placed));
   counted = (let more = length_permutation (entry_of cs c ∷ es) es' moved in let before = h.counted in
       let mark = counted_marked true cs c in' in let none : ◌≡◌ {A = ℕ} (cond (clause_at cs c).is_in_heap 1 0) 0 =

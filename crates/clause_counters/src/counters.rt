@@ -153,8 +153,8 @@ impl<A: Allocator + Copy> ClauseCounters<A> {
         self.falsified.make_room()
     }
 
-    /// Adds the clause of these groups, whose parent has this first clause, and answers its number: clauses are numbered
-    /// from 0 in the order in which they come. Takes no memory: [`Self::make_room`] takes it before.
+    /// Adds the clause of these groups, whose parent has this first clause, and answers its number: clauses are
+    /// numbered from 0 in the order in which they come. Takes no memory: [`Self::make_room`] takes it before.
     pub fn add_clause(&mut self, groups: &[u32], first_of_parent: u32) -> u32
         requires room { IsTrue self.old.has_room }
         requires known { All (λ g. g < length self.old.groups) groups.now }

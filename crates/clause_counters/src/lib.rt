@@ -8,9 +8,9 @@
 //! Nothing is searched for. A literal has one place in each of its groups, even if the group's list has it twice. Each
 //! group knows how many of its places hold a literal that isn't false, and each clause how many of its groups aren't
 //! false. A literal that becomes false or undecided changes these numbers, and a clause whose number becomes 0 goes
-//! into a heap. On top of that is the clause that comes first: clauses of one parent follow one another, and parents come
-//! in the order of their first clauses. The entry of a clause that isn't falsified any more is stale: it goes when it is
-//! on top and somebody asks.
+//! into a heap. On top of that is the clause that comes first: clauses of one parent follow one another, and parents
+//! come in the order of their first clauses. The entry of a clause that isn't falsified any more is stale: it goes
+//! when it is on top and somebody asks.
 //!
 //! Two clauses, "if p, one of a, b" and "if p, and not c, one of d, d, b", where p is true and b false:
 //!

@@ -5,8 +5,8 @@ use Rattle.std.specs.List.{All, Contains}
 use Rattle.falsified_clauses.specs.declared.demand.Demand.{Demand}
 use Rattle.falsified_clauses.specs.declared.group_key.GroupKey.{GroupKey}
 use Rattle.falsified_clauses.specs.declared.group_key.GroupKey.TheVariants.{Parent, Condition, Rows}
-use Rattle.falsified_clauses.specs.GroupKeys.{number_in, KeepsNumbers, numbers, keys_of, keys_under, numbers_in, HasGroups}
-use Rattle.falsified_clauses.specs.GroupKeys.{condition_number, HasConditionGroup}
+use Rattle.falsified_clauses.specs.GroupKeys.{number_in, KeepsNumbers, numbers, keys_of, keys_under, numbers_in}
+use Rattle.falsified_clauses.specs.GroupKeys.{HasGroups, condition_number, HasConditionGroup}
 
 -- ---- as keys come
 
@@ -77,7 +77,8 @@ groups_are keys clause parent rows condition of_parent of_rows is there =
     let all = under clause.condition there in (
       ap (λ o. numbers parent o rows) is
           ∙ (ap (λ n. numbers n (condition_number keys clause.condition) rows) of_parent.0
-          ∙ (ap (numbers (number_in keys (Parent clause.parent)) (condition_number keys clause.condition)) of_rows.0 ∙ all.0)),
+          ∙ (ap (numbers (number_in keys (Parent clause.parent)) (condition_number keys clause.condition)) of_rows.0
+          ∙ all.0)),
       all.1,
     )
   where

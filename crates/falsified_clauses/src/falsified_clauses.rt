@@ -51,7 +51,8 @@ impl<A: Allocator + Copy> Model for FalsifiedClauses<A> {
 
     ghost view = { λ f. record { keys = f.keys.items; counters = f.counters } };
 
-    ghost invariant = { λ f. (length f.counters.groups ≡ length f.keys.items) × FindsKeys (number_of f.index) f.keys.items };
+    ghost invariant = { λ f. (length f.counters.groups ≡ length f.keys.items)
+        × FindsKeys (number_of f.index) f.keys.items };
 }
 
 impl<A: Allocator + Copy> FalsifiedClauses<A> {
@@ -68,8 +69,8 @@ impl<A: Allocator + Copy> FalsifiedClauses<A> {
     }
 
     /// The groups of a clause, and room for it: then [`FalsifiedClauses::add`] may add it. The groups that it lacks are
-    /// made, and no others. The values have to make false what the counters were told is false. Whatever the result, the
-    /// clauses are the same. Once all 2^32 - 1 numbers of groups are given out, a new group is out of memory.
+    /// made, and no others. The values have to make false what the counters were told is false. Whatever the result,
+    /// the clauses are the same. Once all 2^32 - 1 numbers of groups are given out, a new group is out of memory.
     pub fn prepare(
         &mut self,
         clause: Demand,

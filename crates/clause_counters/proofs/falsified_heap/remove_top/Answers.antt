@@ -26,7 +26,8 @@ returns-clause-held g c =
     subst (λ (x : Clause). IsHeld (set cs top.number (record x { is_in_heap = false })) (heap_items new)
     (heap_capacity new)) (sym at)
     (roomier (marked false top.number cs) (heap_items new) (heap_capacity old) (heap_capacity new)
-    (held_removed cs (heap_items old) (heap_items new) (heap_capacity old) top.first_of_parent top.number c.requires.held
+    (held_removed cs (heap_items old) (heap_items new) (heap_capacity old) top.first_of_parent top.number
+    c.requires.held
     (subst (λ o. IfSome o (λ x. IsPermutation (heap_items old) (x ∷ heap_items new))) is c.pop.ensures.permutation)
     (λ h. (subst (λ o. IfSome o (λ x. PopsGreatest heap_cmp (heap_items old) x (heap_items new))) is
     c.pop.ensures.heap_order h).0))
