@@ -6,7 +6,7 @@ use Rattle.falsified_clauses.specs.declared.demand.Demand.{Demand}
 use Rattle.falsified_clauses.specs.declared.group_key.GroupKey.{GroupKey}
 use Rattle.falsified_clauses.specs.declared.group_key.GroupKey.TheVariants.{Parent, Condition, Rows}
 use Rattle.falsified_clauses.specs.GroupKeys.{number_in, KeepsNumbers, numbers, keys_of, keys_under, numbers_in}
-use Rattle.falsified_clauses.specs.GroupKeys.{HasGroups, condition_number, HasConditionGroup}
+use Rattle.falsified_clauses.specs.GroupKeys.{HasGroups, condition_number, HasConditionGroup, IsConditionKey}
 
 -- ---- as keys come
 
@@ -47,8 +47,10 @@ has_parent clause = go clause.condition
     go None = (0, omega arith, refl)
     go (Some d) = (0, omega arith, refl)
 
-pub has_condition : (clause : Demand) (d : ℕ) → clause.condition ≡ Some d → Contains (keys_of clause) (Condition d)
-has_condition clause d is = subst (λ o. Contains (keys_under o clause) (Condition d)) (sym is) (1, omega arith, refl)
+pub has_condition : (clause : Demand) (key : GroupKey) → IsConditionKey clause.condition key
+    → Contains (keys_of clause) key
+has_condition clause key is = subst (Contains (keys_of clause)) (sym is.2)
+    (subst (λ o. Contains (keys_under o clause) (Condition is.0)) (sym is.1) (1, omega arith, refl))
 
 pub has_rows : (clause : Demand) → Contains (keys_of clause) (Rows clause.requirement)
 has_rows clause = go clause.condition

@@ -167,12 +167,17 @@ adds_made old new key (Ok group) is same = subst (AddsOnly (λ other. other ≡ 
 adds_made old new key (Err e) is same =
     subst (AddsOnly (λ other. other ≡ key) old) (sym same) (adds_none (λ other. other ≡ key) old)
 
+pub adds_within : (P Q : GroupKey → Type 0) (old new : List GroupKey) → ((k : GroupKey) → P k → Q k)
+    → AddsOnly P old new → AddsOnly Q old new
+adds_within P Q old new weaker adds =
+    All-weaker (λ k. Contains old k ⊎ P k) (λ k. Contains old k ⊎ Q k)
+    (λ k e. elim e [ inl there ↦ inl there | inr is ↦ inr (weaker k is) ]) new adds
+
 -- of those of a list
 pub adds_listed : (keys old new : List GroupKey) (key : GroupKey) → Contains keys key
     → AddsOnly (λ other. other ≡ key) old new → AddsOnly (Contains keys) old new
 adds_listed keys old new key in' adds =
-    All-weaker (λ k. Contains old k ⊎ (k ≡ key)) (λ k. Contains old k ⊎ Contains keys k)
-    (λ k e. elim e [ inl there ↦ inl there | inr is ↦ inr (subst (Contains keys) (sym is) in') ]) new adds
+    adds_within (λ other. other ≡ key) (Contains keys) old new (λ k is. subst (Contains keys) (sym is) in') adds
 
 pub adds_both : (P : GroupKey → Type 0) (a b c : List GroupKey) → AddsOnly P a b → AddsOnly P b c → AddsOnly P a c
 adds_both P a b c first next =

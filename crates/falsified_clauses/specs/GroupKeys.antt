@@ -51,6 +51,10 @@ condition_number keys condition = option_map (λ d. number_in keys (Condition d)
 abbrev pub HasConditionGroup : List GroupKey → Option ℕ → Type 0
 HasConditionGroup keys condition = IfSome condition (λ d. number_in keys (Condition d) < length keys)
 
+-- the key is that of the condition, if there is one
+abbrev pub IsConditionKey : Option ℕ → GroupKey → Type 0
+IsConditionKey condition key = (d : ℕ) × (condition ≡ Some d) × (key ≡ Condition d)
+
 -- each key was there, or is one that may come
 abbrev pub AddsOnly : (GroupKey → Type 0) → List GroupKey → List GroupKey → Type 0
 AddsOnly MayCome old new = All (λ key. Contains old key ⊎ MayCome key) new

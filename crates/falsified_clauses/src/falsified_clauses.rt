@@ -10,7 +10,7 @@ ghost use Rattle.falsified_clauses.specs.declared.demand.Demand.{Demand};
 ghost use Rattle.falsified_clauses.specs.Clauses.{PlacedDemand, Lists, Counted, counted, counted_under};
 ghost use Rattle.falsified_clauses.specs.Clauses.{with_clause, with_false, with_undecided};
 ghost use Rattle.falsified_clauses.specs.GroupKeys.{IsKnown, keys_of, number_in, KeepsNumbers, AddsOnly};
-ghost use Rattle.falsified_clauses.specs.GroupKeys.{condition_number, HasConditionGroup};
+ghost use Rattle.falsified_clauses.specs.GroupKeys.{condition_number, HasConditionGroup, IsConditionKey};
 ghost use Rattle.std.specs.List.{Contains};
 ghost use Rattle.falsified_clauses.specs.Falsified.{IsFirstFalsified};
 ghost use Rattle.falsified_clauses.specs.Counts.{Counts, KeepsCounts, CanAdd, IsReady};
@@ -88,7 +88,7 @@ impl<A: Allocator + Copy> FalsifiedClauses<A> {
         ensures memory { IfErr result (λ e. e ≡ OutOfMemory) }
     {
         let parent = self.group(GroupKey::Parent(clause.parent), lists, disjunctions, values)?;
-        let condition = self.condition_group(clause, lists, disjunctions, values)?;
+        let condition = self.condition_group(clause.condition, lists, disjunctions, values)?;
         let rows = self.group(
             GroupKey::Rows(clause.requirement),
             lists,
@@ -143,23 +143,23 @@ impl<A: Allocator + Copy> FalsifiedClauses<A> {
         self.counters.first()
     }
 
-    /// The number of the group of the clause's condition, if it has one.
+    /// The number of the group of a condition, if there is one.
     fn condition_group(
         &mut self,
-        clause: Demand,
+        condition: Option<DisjunctionId>,
         lists: &RequirementMap<Vec<Vec<VariableId, A>, A>, A>,
         disjunctions: &Arena<DisjunctionId, Disjunction<A>, A>,
         values: &DecisionMap<A>,
     ) -> Result<Option<u32>, StoreError>
-        requires { IfSome clause.condition (λ d. d < length disjunctions.now) }
+        requires { IfSome condition (λ d. d < length disjunctions.now) }
         ensures same { KeepsCounts (counted_under lists.now disjunctions.now values.now) self.old self.new }
-        ensures number { IfOk result (λ number. number ≡ condition_number self.new.keys clause.condition) }
-        ensures there { OnOk result (HasConditionGroup self.new.keys clause.condition) }
+        ensures number { IfOk result (λ number. number ≡ condition_number self.new.keys condition) }
+        ensures there { OnOk result (HasConditionGroup self.new.keys condition) }
         ensures others { KeepsNumbers self.old.keys self.new.keys }
-        ensures keys { AddsOnly (Contains (keys_of clause)) self.old.keys self.new.keys }
+        ensures keys { AddsOnly (IsConditionKey condition) self.old.keys self.new.keys }
         ensures memory { IfErr result (λ e. e ≡ OutOfMemory) }
     {
-        match clause.condition {
+        match condition {
             None => Ok(None),
             Some(disjunction) => {
                 let key = GroupKey::Condition(disjunction);

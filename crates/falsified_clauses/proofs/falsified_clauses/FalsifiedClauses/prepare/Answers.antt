@@ -1,13 +1,22 @@
 use Rattle.std.proofs.Common.{◌≡◌, ◌∙◌, sym, subst}
+use Rattle.std.specs.Prelude.{List}
 use Rattle.std.specs.List.{Contains}
+use Rattle.falsified_clauses.specs.declared.demand.Demand.{Demand}
+use Rattle.falsified_clauses.specs.declared.group_key.GroupKey.{GroupKey}
 use Rattle.falsified_clauses.specs.declared.group_key.GroupKey.TheVariants.{Parent}
 use Rattle.falsified_clauses.specs.Clauses.{counted_under}
-use Rattle.falsified_clauses.specs.GroupKeys.{numbers, numbers_in, keys_of, HasGroups, AddsOnly}
+use Rattle.falsified_clauses.specs.GroupKeys.{numbers, numbers_in, keys_of, HasGroups, AddsOnly, IsConditionKey}
 use Rattle.falsified_clauses.specs.Counts.{Counts, shown_by}
-use Rattle.falsified_clauses.proofs.KeyLaws.{keeps_both, adds_both, adds_listed}
-use Rattle.falsified_clauses.proofs.GroupLaws.{condition_kept, groups_are, has_parent, has_rows}
+use Rattle.falsified_clauses.proofs.KeyLaws.{keeps_both, adds_both, adds_listed, adds_within}
+use Rattle.falsified_clauses.proofs.GroupLaws.{condition_kept, groups_are, has_parent, has_condition, has_rows}
 use Rattle.falsified_clauses.proofs.CountLaws.{counts_kept, ready_is}
 use Rattle.falsified_clauses.proofs.falsified_clauses.FalsifiedClauses.prepare.Goals as goal
+
+-- the key of a condition is one of the clause's
+of_condition : (clause : Demand) (old new : List GroupKey) → AddsOnly (IsConditionKey clause.condition) old new
+    → AddsOnly (Contains (keys_of clause)) old new
+of_condition clause old new = adds_within (IsConditionKey clause.condition) (Contains (keys_of clause)) old new
+    (has_condition clause)
 
 pub returns-in_err-make_room-clause-same : goal.returns-in_err-make_room-clause-same
 returns-in_err-make_room-clause-same g c clauses counts =
@@ -33,7 +42,8 @@ returns-in_err-condition-clause-keys g c =
     let clause = c.args.clause in
     adds_both (Contains (keys_of clause)) c.args.self.now.keys c.group.new.self.keys c.condition_group.new.self.keys
     (adds_listed (keys_of clause) c.args.self.now.keys c.group.new.self.keys _ (has_parent clause)
-    c.group.ensures.keys) c.condition_group.ensures.keys
+    c.group.ensures.keys) (of_condition clause c.group.new.self.keys c.condition_group.new.self.keys
+    c.condition_group.ensures.keys)
 
 pub returns-in_err-rows-clause-keys : goal.returns-in_err-rows-clause-keys
 returns-in_err-rows-clause-keys g c =
@@ -45,7 +55,7 @@ returns-in_err-rows-clause-keys g c =
     let May = Contains (keys_of clause) in
     adds_both May old two three
     (adds_both May old one two (adds_listed (keys_of clause) old one _ (has_parent clause) c.group.ensures.keys)
-    c.condition_group.ensures.keys) (adds_listed (keys_of clause) two three _ (has_rows clause) c.group-2.ensures.keys)
+    (of_condition clause one two c.condition_group.ensures.keys)) (adds_listed (keys_of clause) two three _ (has_rows clause) c.group-2.ensures.keys)
 
 pub returns-in_err-make_room-clause-keys : goal.returns-in_err-make_room-clause-keys
 returns-in_err-make_room-clause-keys g c =
@@ -57,7 +67,7 @@ returns-in_err-make_room-clause-keys g c =
     let May = Contains (keys_of clause) in
     subst (λ k. AddsOnly May old k.keys) (sym c.self.view_is) (adds_both May old two three
     (adds_both May old one two (adds_listed (keys_of clause) old one _ (has_parent clause) c.group.ensures.keys)
-    c.condition_group.ensures.keys) (adds_listed (keys_of clause) two three _ (has_rows clause) c.group-2.ensures.keys))
+    (of_condition clause one two c.condition_group.ensures.keys)) (adds_listed (keys_of clause) two three _ (has_rows clause) c.group-2.ensures.keys))
 
 pub returns-clause-keys : goal.returns-clause-keys
 returns-clause-keys g c =
@@ -69,7 +79,7 @@ returns-clause-keys g c =
     let May = Contains (keys_of clause) in
     subst (λ k. AddsOnly May old k.keys) (sym c.self.view_is) (adds_both May old two three
     (adds_both May old one two (adds_listed (keys_of clause) old one _ (has_parent clause) c.group.ensures.keys)
-    c.condition_group.ensures.keys) (adds_listed (keys_of clause) two three _ (has_rows clause) c.group-2.ensures.keys))
+    (of_condition clause one two c.condition_group.ensures.keys)) (adds_listed (keys_of clause) two three _ (has_rows clause) c.group-2.ensures.keys))
 
 pub returns-clause-ready : goal.returns-clause-ready
 returns-clause-ready g c clauses counts =
