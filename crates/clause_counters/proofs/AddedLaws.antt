@@ -8,7 +8,6 @@ use Rattle.std.proofs.lemmas.List.{length_push, length-map, map_push, take_all}
 use Rattle.std.proofs.lemmas.List.Sums.{sum_by-cons, sum_by-append, sum_by_push}
 use Rattle.decisions.specs.Literals.{Lit}
 use Rattle.decisions.specs.LiteralIndex.{literal_index, literal_at, literal_index-literal_at, literal_index-injective}
-use Rattle.clause_counters.specs.declared.position.Position.{Position}
 use Rattle.clause_counters.specs.declared.links.Link.{Link}
 use Rattle.clause_counters.specs.declared.groups.Standing.{Standing}
 use Rattle.clause_counters.specs.declared.groups.Group.{Group}
@@ -94,33 +93,33 @@ joined_added ms gs lefts left j = record {
 
 -- as many groups are shown as are kept
 pub groups_shown : (ps : List Link) (ls : List Standing) (ms : List Link) (gs : List Group)
-    (positions : List Position) (has_room : Bool) (s : Shown)
-    → Shows (kept_in ps ls ms gs positions has_room) s → length gs ≡ length s.groups
-groups_shown ps ls ms gs positions has_room s shows =
+    (firsts : List ℕ) (has_room : Bool) (s : Shown)
+    → Shows (kept_in ps ls ms gs firsts has_room) s → length gs ≡ length s.groups
+groups_shown ps ls ms gs firsts has_room s shows =
     sym (length-map gs (λ (x : Group). x.clauses)) ∙ (sym (length-map (clause_lists gs) (listed ms)) ∙ shows.size)
 
--- as many clauses are shown as have positions
+-- as many clauses are shown as are kept
 pub clauses_shown : (ps : List Link) (ls : List Standing) (ms : List Link) (gs : List Group)
-    (positions : List Position) (has_room : Bool) (s : Shown)
-    → Shows (kept_in ps ls ms gs positions has_room) s → length positions ≡ length s.clauses
-clauses_shown ps ls ms gs positions has_room s shows = ap length shows.positions
-    ∙ length-map s.clauses (λ (x : GroupClause). x.position)
+    (firsts : List ℕ) (has_room : Bool) (s : Shown)
+    → Shows (kept_in ps ls ms gs firsts has_room) s → length firsts ≡ length s.clauses
+clauses_shown ps ls ms gs firsts has_room s shows = ap length shows.firsts
+    ∙ length-map s.clauses (λ (x : GroupClause). x.first_of_parent)
 
 pub shows_group : (ps ps' : List Link) (ls ls' : List Standing) (ms : List Link) (gs : List Group)
-    (positions : List Position) (has_room : Bool) (s : Shown) (list : List Lit)
-    (n left : ℕ) → n ≡ length gs → Shows (kept_in ps ls ms gs positions has_room) s
+    (firsts : List ℕ) (has_room : Bool) (s : Shown) (list : List Lit)
+    (n left : ℕ) → n ≡ length gs → Shows (kept_in ps ls ms gs firsts has_room) s
     → ((i g : ℕ) → count g (listed ps' (standing_at ls' i).groups)
     ≡ count g (listed ps (standing_at ls i).groups) + cond (eqb n g) (once i list) 0)
     → ((is_false : ℕ → Bool) → AreFlagged ps ls is_false
     → All (λ l. is_false (literal_index l) ≡ s.is_false l) list → AreFlagged ps' ls' is_false)
-    → Shows (kept_in ps' ls' ms (gs ++ (record { left = left; clauses = 0 }) ∷ []) positions has_room)
+    → Shows (kept_in ps' ls' ms (gs ++ (record { left = left; clauses = 0 }) ∷ []) firsts has_room)
     (with_group list s)
-shows_group ps ps' ls ls' ms gs positions has_room s list n left is shows lists flags = record {
+shows_group ps ps' ls ls' ms gs firsts has_room s list n left is shows lists flags = record {
   size = length-map (clause_lists (gs ++ (record { left = left; clauses = 0 }) ∷ [])) (listed ms)
       ∙ (length-map (gs ++ (record { left = left; clauses = 0 }) ∷ []) (λ (x : Group). x.clauses)
       ∙ (length_push gs (record { left = left; clauses = 0 })
       ∙ (ap (λ m. m + 1) many ∙ sym (length_push s.groups list))));
-  positions = shows.positions;
+  firsts = shows.firsts;
   stands = λ i g. ap (λ (x : Stood). count g x.groups) (stood_kept ps' ls' i) ∙ (lists i g
       ∙ (let old = sym (ap (λ (x : Stood). count g x.groups) (stood_kept ps ls i)) ∙ shows.stands i g in
       let new = pushed_count (λ (ls : List Lit). once i ls) s.groups list [] g refl in
@@ -138,7 +137,7 @@ shows_group ps ps' ls ls' ms gs positions has_room s list n left is shows lists 
 }
   where
     many : length gs ≡ length s.groups
-    many = groups_shown ps ls ms gs positions has_room s shows
+    many = groups_shown ps ls ms gs firsts has_room s shows
 
     back : (l : Lit) → literal_at (literal_index l) ≡ l
     back l = literal_index-injective (literal_at (literal_index l)) l (literal_index-literal_at (literal_index l))
@@ -147,9 +146,9 @@ shows_group ps ps' ls ls' ms gs positions has_room s list n left is shows lists 
     flagged i g some =
         let e : literal_index (literal_at i) ≡ i = literal_index-literal_at i in
         sym (ap (λ (x : Stood). x.is_false) (stood_kept ps ls i))
-        ∙ (ap (λ j. (stood_at (kept_in ps ls ms gs positions has_room) j).is_false) (sym e)
+        ∙ (ap (λ j. (stood_at (kept_in ps ls ms gs firsts has_room) j).is_false) (sym e)
         ∙ shows.falses (literal_at i) g (subst (λ j. 1 ≤ count g
-        (stood_at (kept_in ps ls ms gs positions has_room) j).groups) (sym e)
+        (stood_at (kept_in ps ls ms gs firsts has_room) j).groups) (sym e)
         (subst (λ (x : Stood). 1 ≤ count g x.groups) (sym (stood_kept ps ls i)) some)))
 
 -- groups that count as before keep their places
@@ -191,26 +190,27 @@ joined_clause ms ms' gs gs' lefts n left many is j mb all some fits = record {
 }
 
 pub shows_clause : (ps : List Link) (ls : List Standing) (ms ms' : List Link) (gs gs' : List Group)
-    (positions positions' : List Position) (has_room has_room' : Bool) (s : Shown)
-    (list : List ℕ) (position : Position) (n : ℕ) → n ≡ length positions → length gs' ≡ length gs
-    → positions' ≡ positions ++ position ∷ []
-    → Shows (kept_in ps ls ms gs positions has_room) s
+    (firsts firsts' : List ℕ) (has_room has_room' : Bool) (s : Shown)
+    (list : List ℕ) (first n : ℕ) → n ≡ length firsts → length gs' ≡ length gs
+    → firsts' ≡ firsts ++ first ∷ []
+    → Shows (kept_in ps ls ms gs firsts has_room) s
     → ((g c : ℕ) → count c (listed ms' (group_at gs' g).clauses)
     ≡ count c (listed ms (group_at gs g).clauses) + cond (eqb n c) (count g list) 0)
-    → Shows (kept_in ps ls ms' gs' positions' has_room') (with_clause list position s)
-shows_clause ps ls ms ms' gs gs' positions positions' has_room has_room' s list position n is same pushed shows
+    → Shows (kept_in ps ls ms' gs' firsts' has_room') (with_clause list first s)
+shows_clause ps ls ms ms' gs gs' firsts firsts' has_room has_room' s list first n is same pushed shows
     lists = record {
       size = length-map (clause_lists gs') (listed ms') ∙ (length-map gs' (λ (x : Group). x.clauses)
-          ∙ (same ∙ groups_shown ps ls ms gs positions has_room s shows));
-      positions = pushed ∙ (ap (λ ps. ps ++ position ∷ []) shows.positions
-          ∙ sym (map_push (λ (x : GroupClause). x.position) s.clauses (record { groups = list; position = position })));
+          ∙ (same ∙ groups_shown ps ls ms gs firsts has_room s shows));
+      firsts = pushed ∙ (ap (λ ps. ps ++ first ∷ []) shows.firsts
+          ∙ sym (map_push (λ (x : GroupClause). x.first_of_parent) s.clauses
+          (record { groups = list; first_of_parent = first })));
       stands = shows.stands;
       joins = λ g c. ap (count c) (clauses_kept ms' gs' g) ∙ (lists g c
           ∙ (let old = sym (ap (count c) (clauses_kept ms gs g)) ∙ shows.joins g c in
           let new = pushed_count (λ (x : GroupClause). count g x.groups) s.clauses
-          (record { groups = list; position = position }) no_clause c refl in
+          (record { groups = list; first_of_parent = first }) no_clause c refl in
           let e : cond (eqb n c) (count g list) 0 ≡ cond (eqb (length s.clauses) c) (count g list) 0 =
-          ap (λ m. cond (eqb m c) (count g list) 0) (is ∙ clauses_shown ps ls ms gs positions has_room s shows) in
+          ap (λ m. cond (eqb m c) (count g list) 0) (is ∙ clauses_shown ps ls ms gs firsts has_room s shows) in
           omega (arith, old, new, e)));
       falses = shows.falses;
     }

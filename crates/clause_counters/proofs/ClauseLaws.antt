@@ -3,10 +3,9 @@ use Rattle.std.proofs.Common.{◌≡◌, ◌≢◌, ℕ, ◌<◌, ◌≤◌, Boo
 use Rattle.std.proofs.Common.{refl, sym, ap, ◌∙◌, subst, arith, inl, inr}
 use Rattle.std.proofs.lemmas.Bool.{cases_lt}
 use Rattle.std.proofs.lemmas.List.{get_or-set_same, get_or-set_other, map-set, get_or-map, get_or_past, length-map}
-use Rattle.clause_counters.specs.declared.position.Position.{Position}
 use Rattle.clause_counters.specs.declared.falsified_heap.Clause.{Clause}
-use Rattle.clause_counters.specs.FalsifiedHeap.{clause_at, marked, tallied, no_clause, no_position, lefts_of}
-use Rattle.clause_counters.specs.FalsifiedHeap.{positions_of}
+use Rattle.clause_counters.specs.FalsifiedHeap.{clause_at, marked, tallied, no_clause, lefts_of}
+use Rattle.clause_counters.specs.FalsifiedHeap.{firsts_of}
 use Rattle.clause_counters.proofs.ListLaws.{field_kept, fields_kept, pushed_field}
 
 -- the clause that was marked, and the others
@@ -17,10 +16,10 @@ at_marked m cs c in' = get_or-set_same cs c _ no_clause in'
 pub at_others : (m : Bool) (cs : List Clause) (c d : ℕ) → d ≢ c → clause_at (marked m c cs) d ≡ clause_at cs d
 at_others m cs c d ne = get_or-set_other cs c d _ no_clause ne
 
--- a mark changes no position and no number
-pub position_kept : (m : Bool) (cs : List Clause) (c d : ℕ) → (clause_at (marked m c cs) d).position
-    ≡ (clause_at cs d).position
-position_kept m cs c d = field_kept (λ (x : Clause). x.position) cs no_clause
+-- a mark changes no parent and no number
+pub first_kept : (m : Bool) (cs : List Clause) (c d : ℕ) → (clause_at (marked m c cs) d).first_of_parent
+    ≡ (clause_at cs d).first_of_parent
+first_kept m cs c d = field_kept (λ (x : Clause). x.first_of_parent) cs no_clause
     (record (clause_at cs c) { is_in_heap = m }) c d refl
 
 pub left_kept : (m : Bool) (cs : List Clause) (c d : ℕ) → (clause_at (marked m c cs) d).left ≡ (clause_at cs d).left
@@ -31,27 +30,27 @@ pub lefts_kept : (m : Bool) (cs : List Clause) (c : ℕ) → lefts_of (marked m 
 lefts_kept m cs c = fields_kept (λ (x : Clause). x.left) cs no_clause
     (record (clause_at cs c) { is_in_heap = m }) c refl
 
-pub positions_kept : (m : Bool) (cs : List Clause) (c : ℕ) → positions_of (marked m c cs) ≡ positions_of cs
-positions_kept m cs c = fields_kept (λ (x : Clause). x.position) cs no_clause
+pub firsts_kept : (m : Bool) (cs : List Clause) (c : ℕ) → firsts_of (marked m c cs) ≡ firsts_of cs
+firsts_kept m cs c = fields_kept (λ (x : Clause). x.first_of_parent) cs no_clause
     (record (clause_at cs c) { is_in_heap = m }) c refl
 
--- a number that is told changes no position
+-- a number that is told changes no parent
 pub tallied_lefts : (left c : ℕ) (cs : List Clause) → lefts_of (tallied left c cs) ≡ set (lefts_of cs) c left
 tallied_lefts left c cs = map-set (λ (x : Clause). x.left) cs c (record (clause_at cs c) { left = left })
 
-pub tallied_positions : (left c : ℕ) (cs : List Clause) → positions_of (tallied left c cs) ≡ positions_of cs
-tallied_positions left c cs = fields_kept (λ (x : Clause). x.position) cs no_clause
+pub tallied_firsts : (left c : ℕ) (cs : List Clause) → firsts_of (tallied left c cs) ≡ firsts_of cs
+tallied_firsts left c cs = fields_kept (λ (x : Clause). x.first_of_parent) cs no_clause
     (record (clause_at cs c) { left = left }) c refl
 
--- a number that is told changes neither a mark nor a position
+-- a number that is told changes neither a mark nor a parent
 pub tallied_mark : (n c : ℕ) (cs : List Clause) (d : ℕ) → (clause_at (tallied n c cs) d).is_in_heap
     ≡ (clause_at cs d).is_in_heap
 tallied_mark n c cs d = field_kept (λ (x : Clause). x.is_in_heap) cs no_clause
     (record (clause_at cs c) { left = n }) c d refl
 
-pub tallied_position : (n c : ℕ) (cs : List Clause) (d : ℕ) → (clause_at (tallied n c cs) d).position
-    ≡ (clause_at cs d).position
-tallied_position n c cs d = field_kept (λ (x : Clause). x.position) cs no_clause
+pub tallied_first : (n c : ℕ) (cs : List Clause) (d : ℕ) → (clause_at (tallied n c cs) d).first_of_parent
+    ≡ (clause_at cs d).first_of_parent
+tallied_first n c cs d = field_kept (λ (x : Clause). x.first_of_parent) cs no_clause
     (record (clause_at cs c) { left = n }) c d refl
 
 -- a clause more, without a mark
@@ -67,11 +66,11 @@ lefts_at cs c = elim (cases_lt c (length cs)) [
       ∙ sym (ap (λ (x : Clause). x.left) (get_or_past cs c no_clause past))
 ]
 
-pub positions_at : (cs : List Clause) (c : ℕ) → get_or (positions_of cs) c no_position ≡ (clause_at cs c).position
-positions_at cs c = elim (cases_lt c (length cs)) [
-  | inl l ↦ get_or-map (λ (x : Clause). x.position) cs c no_clause no_position l
-  | inr past ↦ get_or_past _ c no_position (subst (λ n. n ≤ c) (sym (length-map cs (λ (x : Clause). x.position))) past)
-      ∙ sym (ap (λ (x : Clause). x.position) (get_or_past cs c no_clause past))
+pub firsts_at : (cs : List Clause) (c : ℕ) → get_or (firsts_of cs) c 0 ≡ (clause_at cs c).first_of_parent
+firsts_at cs c = elim (cases_lt c (length cs)) [
+  | inl l ↦ get_or-map (λ (x : Clause). x.first_of_parent) cs c no_clause 0 l
+  | inr past ↦ get_or_past _ c 0 (subst (λ n. n ≤ c) (sym (length-map cs (λ (x : Clause). x.first_of_parent))) past)
+      ∙ sym (ap (λ (x : Clause). x.first_of_parent) (get_or_past cs c no_clause past))
 ]
 
 -- a clause's number was told
@@ -81,10 +80,10 @@ pub told_lefts : (cs new : List Clause) (lefts : List ℕ) (n m c : ℕ) → new
 told_lefts cs new lefts n m c is view e =
     ap lefts_of is ∙ (tallied_lefts n c cs ∙ (ap (λ xs. set xs c n) view ∙ ap (set lefts c) e))
 
-pub told_positions : (cs new : List Clause) (positions : List Position) (n c : ℕ) → new ≡ tallied n c cs
-    → positions_of cs ≡ positions
-    → positions_of new ≡ positions
-told_positions cs new positions n c is view = ap positions_of is ∙ (tallied_positions n c cs ∙ view)
+pub told_firsts : (cs new : List Clause) (firsts : List ℕ) (n c : ℕ) → new ≡ tallied n c cs
+    → firsts_of cs ≡ firsts
+    → firsts_of new ≡ firsts
+told_firsts cs new firsts n c is view = ap firsts_of is ∙ (tallied_firsts n c cs ∙ view)
 
 -- a clause's number was read
 pub left_read : (cs : List Clause) (lefts : List ℕ) (c : ℕ) (x : Clause) → x ≡ clause_at cs c → lefts_of cs ≡ lefts

@@ -4,7 +4,6 @@ use Rattle.std.proofs.Common.{refl, sym, ap, ◌∙◌, subst, arith, inl, inr}
 use Rattle.std.proofs.lemmas.Bool.{cases_lt}
 use Rattle.std.proofs.lemmas.List.{get_or_past, length-map, map-set, get_or-map}
 use Rattle.std.proofs.lemmas.List.Sums.{sum_by-set, get_or-le-sum_by}
-use Rattle.clause_counters.specs.declared.position.Position.{Position}
 use Rattle.clause_counters.specs.declared.links.Link.{Link}
 use Rattle.clause_counters.specs.declared.groups.Standing.{Standing}
 use Rattle.clause_counters.specs.declared.groups.Group.{Group}
@@ -116,20 +115,20 @@ stood_kept places ls i = elim (cases_lt i (length ls)) [
 ]
 
 -- equal parts make equal wholes
-same_parts : (literals literals' : List Stood) (groups groups' : List (List ℕ)) (positions positions' : List Position)
+same_parts : (literals literals' : List Stood) (groups groups' : List (List ℕ)) (firsts firsts' : List ℕ)
     (has_room : Bool)
-    → literals ≡ literals' → groups ≡ groups' → positions ≡ positions'
-    → ◌≡◌ {A = Kept} (record { literals = literals; groups = groups; positions = positions; has_room = has_room })
-    (record { literals = literals'; groups = groups'; positions = positions'; has_room = has_room })
-same_parts literals literals' groups groups' positions positions' has_room l g p = cc
+    → literals ≡ literals' → groups ≡ groups' → firsts ≡ firsts'
+    → ◌≡◌ {A = Kept} (record { literals = literals; groups = groups; firsts = firsts; has_room = has_room })
+    (record { literals = literals'; groups = groups'; firsts = firsts'; has_room = has_room })
+same_parts literals literals' groups groups' firsts firsts' has_room l g p = cc
 
 -- what is kept once a literal was told
 pub told_kept : (places : List Link) (ls : List Standing) (members : List Link) (groups new : List Group)
-    (positions positions' : List Position) (has_room has_room' : Bool)
-    (b : Bool) (i : ℕ) → clause_lists new ≡ clause_lists groups → positions' ≡ positions
-    → IsSame (told b i (kept_in places ls members groups positions has_room))
-    (kept_in places (flagged b i ls) members new positions' has_room')
-told_kept places ls members groups new positions positions' has_room has_room' b i lists same =
+    (firsts firsts' : List ℕ) (has_room has_room' : Bool)
+    (b : Bool) (i : ℕ) → clause_lists new ≡ clause_lists groups → firsts' ≡ firsts
+    → IsSame (told b i (kept_in places ls members groups firsts has_room))
+    (kept_in places (flagged b i ls) members new firsts' has_room')
+told_kept places ls members groups new firsts firsts' has_room has_room' b i lists same =
     let literals : map (stood_in places) (flagged b i ls) ≡ set (map (stood_in places) ls) i
     (record (get_or (map (stood_in places) ls) i nowhere) { is_false = b }) =
     map-set (stood_in places) ls i (record (standing_at ls i) { is_false = b })

@@ -13,24 +13,27 @@ use Rattle.std.proofs.lemmas.List.Elements.{All-get_or, All-cons, All-weaker, Al
 use Rattle.std.proofs.lemmas.List.Sorted.{All-permutation, sum_by-IsPermutation, length_permutation}
 use Rattle.std.proofs.lemmas.List.Sums.{count_by-le-length, get_or-le-sum_by, sum_by-cons, sum_by-set, sum_by_push}
 use Rattle.clause_counters.specs.declared.position.Position.{Position}
-use Rattle.clause_counters.specs.declared.position.Entry.{Entry}
 use Rattle.clause_counters.specs.declared.falsified_heap.Clause.{Clause}
 use Rattle.clause_counters.specs.FalsifiedHeap.{IsHeld, clause_at, marked, tallied, no_clause, heap_cmp, IsTop}
-use Rattle.clause_counters.proofs.ClauseLaws.{at_marked, at_others, position_kept, tallied_mark, tallied_position}
+use Rattle.clause_counters.proofs.ClauseLaws.{at_marked, at_others, first_kept, tallied_mark, tallied_first}
 use Rattle.clause_counters.proofs.ClauseLaws.{mark_pushed}
 
 -- whether an entry is that of the clause
-abbrev pub is_of : ℕ → Reverse Entry → Bool
-is_of c e = eqb e.0.clause c
+abbrev pub is_of : ℕ → Reverse Position → Bool
+is_of c e = eqb e.0.number c
 
-abbrev entry_of : List Clause → ℕ → Reverse Entry
-entry_of cs c = record { 0 = record { position = (clause_at cs c).position; clause = c } }
+-- whether an entry has the first clause of its own clause's parent
+abbrev pub HasFirst : List Clause → Reverse Position → Type 0
+HasFirst cs e = e.0.first_of_parent ≡ (clause_at cs e.0.number).first_of_parent
 
-abbrev entry_with : Position → ℕ → Reverse Entry
-entry_with p c = record { 0 = record { position = p; clause = c } }
+abbrev entry_with : ℕ → ℕ → Reverse Position
+entry_with first c = record { 0 = record { first_of_parent = first; number = c } }
+
+abbrev entry_of : List Clause → ℕ → Reverse Position
+entry_of cs c = entry_with (clause_at cs c).first_of_parent c
 
 -- a clause that is counted in the heap is marked, and there is such a clause
-pub counted_is_marked : (cs : List Clause) (es : List (Reverse Entry)) (room c : ℕ) → IsHeld cs es room
+pub counted_is_marked : (cs : List Clause) (es : List (Reverse Position)) (room c : ℕ) → IsHeld cs es room
     → 1 ≤ count_by (is_of c) es
     → ((clause_at cs c).is_in_heap ≡ true) × (c < length cs)
 counted_is_marked cs es room c h one = (marks, within)
@@ -49,14 +52,14 @@ counted_is_marked cs es room c h one = (marks, within)
     ]
 
 -- each entry is of a clause
-pub entries_within : (cs : List Clause) (es : List (Reverse Entry)) (room : ℕ) → IsHeld cs es room
-    → All (λ e. e.0.clause < length cs) es
+pub entries_within : (cs : List Clause) (es : List (Reverse Position)) (room : ℕ) → IsHeld cs es room
+    → All (λ e. e.0.number < length cs) es
 entries_within cs es room h = λ k d l.
-    let e : Reverse Entry = get_or es k d in
-    let at = get_or-le-sum_by (λ y. cond (is_of e.0.clause y) 1 0) es k d l in
-    let is : ◌≡◌ {A = ℕ} (cond (is_of e.0.clause (get_or es k d)) 1 0) 1 =
-    ap (λ b. cond b 1 0) (eq-eqb e.0.clause e.0.clause refl) in
-    (counted_is_marked cs es room e.0.clause h (omega (arith, at, is))).1
+    let e : Reverse Position = get_or es k d in
+    let at = get_or-le-sum_by (λ y. cond (is_of e.0.number y) 1 0) es k d l in
+    let is : ◌≡◌ {A = ℕ} (cond (is_of e.0.number (get_or es k d)) 1 0) 1 =
+    ap (λ b. cond b 1 0) (eq-eqb e.0.number e.0.number refl) in
+    (counted_is_marked cs es room e.0.number h (omega (arith, at, is))).1
 
 -- how many are marked, once a mark was set or taken away
 counted_marked : (m : Bool) (cs : List Clause) (c : ℕ) → c < length cs
@@ -66,7 +69,7 @@ counted_marked m cs c in' = sum_by-set (λ (x : Clause). cond x.is_in_heap 1 0) 
     (record (clause_at cs c) { is_in_heap = m }) no_clause in'
 
 -- a clause comes into the heap
-pub held_inserted : (cs : List Clause) (es es' : List (Reverse Entry)) (room : ℕ) (c : ℕ) → IsHeld cs es room
+pub held_inserted : (cs : List Clause) (es es' : List (Reverse Position)) (room : ℕ) (c : ℕ) → IsHeld cs es room
     → c < length cs
     → (clause_at cs c).is_in_heap ≡ false → IsPermutation (entry_of cs c ∷ es) es'
     → (IsHeap heap_cmp es → IsHeap heap_cmp es') → IsHeld (marked true c cs) es' room
@@ -77,12 +80,10 @@ held_inserted cs es es' room c h in' absent moved keeps = record {
         ≡ cond (clause_at (marked true c cs) x).is_in_heap 1 0) (sym e) here
     | inr ne ↦ there d ne
   ]);
-  placed = All-permutation (λ (e : Reverse Entry). e.0.position ≡ (clause_at (marked true c cs) e.0.clause).position)
-      (entry_of cs c ∷ es) es' moved (All-cons (λ (e : Reverse Entry). e.0.position
-      ≡ (clause_at (marked true c cs) e.0.clause).position) (entry_of cs c) es (sym (position_kept true cs c c))
-      (All-weaker (λ (e : Reverse Entry). e.0.position ≡ (clause_at cs e.0.clause).position)
-      (λ (e : Reverse Entry). e.0.position ≡ (clause_at (marked true c cs) e.0.clause).position)
-      (λ e p. p ∙ sym (position_kept true cs c e.0.clause)) es h.placed));
+  placed = All-permutation (HasFirst (marked true c cs)) (entry_of cs c ∷ es) es' moved
+      (All-cons (HasFirst (marked true c cs)) (entry_of cs c) es (sym (first_kept true cs c c))
+      (All-weaker (HasFirst cs) (HasFirst (marked true c cs))
+      (λ e p. p ∙ sym (first_kept true cs c e.0.number)) es h.placed));
   counted = (let more = length_permutation (entry_of cs c ∷ es) es' moved in let before = h.counted in
       let mark = counted_marked true cs c in' in let none : ◌≡◌ {A = ℕ} (cond (clause_at cs c).is_in_heap 1 0) 0 =
       ap (λ b. cond b 1 0) absent in
@@ -107,7 +108,7 @@ held_inserted cs es es' room c h in' absent moved keeps = record {
         ∙ (h.once d ∙ sym (ap (λ (x : Clause). cond x.is_in_heap 1 0) (at_others true cs c d ne)))
 
 -- the first entry leaves the heap
-pub held_removed : (cs : List Clause) (es es' : List (Reverse Entry)) (room : ℕ) (p : Position) (c : ℕ)
+pub held_removed : (cs : List Clause) (es es' : List (Reverse Position)) (room : ℕ) (p : ℕ) (c : ℕ)
     → IsHeld cs es room
     → IsPermutation es (entry_with p c ∷ es')
     → (IsHeap heap_cmp es → IsHeap heap_cmp es') → IsHeld (marked false c cs) es' room
@@ -117,11 +118,11 @@ held_removed cs es es' room p c h moved keeps = record {
     | inl e ↦ subst (λ y. count_by (is_of y) es' ≡ cond (clause_at (marked false c cs) y).is_in_heap 1 0) (sym e) here
     | inr ne ↦ there d ne
   ]);
-  placed = All-weaker (λ (e : Reverse Entry). e.0.position ≡ (clause_at cs e.0.clause).position)
-      (λ (e : Reverse Entry). e.0.position ≡ (clause_at (marked false c cs) e.0.clause).position)
-      (λ e q. q ∙ sym (position_kept false cs c e.0.clause)) es'
-      (All-tail (λ (e : Reverse Entry). e.0.position ≡ (clause_at cs e.0.clause).position) (entry_with p c) es'
-      (All-permutation (λ (e : Reverse Entry). e.0.position ≡ (clause_at cs e.0.clause).position) es
+  placed = All-weaker (HasFirst cs)
+      (HasFirst (marked false c cs))
+      (λ e q. q ∙ sym (first_kept false cs c e.0.number)) es'
+      (All-tail (HasFirst cs) (entry_with p c) es'
+      (All-permutation (HasFirst cs) es
       (entry_with p c ∷ es') moved h.placed));
   counted = (let less = length_permutation es (entry_with p c ∷ es') moved in let before = h.counted in
       let mark = counted_marked false cs c is.1 in let one : ◌≡◌ {A = ℕ} (cond (clause_at cs c).is_in_heap 1 0) 1 =
@@ -159,24 +160,24 @@ held_removed cs es es' room p c h moved keeps = record {
         omega (arith, same, zero', before, now)
 
 -- the top is a clause
-pub top_within : (cs : List Clause) (es : List (Reverse Entry)) (room : ℕ) (e : Entry) → IsHeld cs es room
-    → IsTop es e → e.clause < length cs
+pub top_within : (cs : List Clause) (es : List (Reverse Position)) (room : ℕ) (e : Position) → IsHeld cs es room
+    → IsTop es e → e.number < length cs
 top_within cs es room e h top =
-    let one : 1 ≤ count_by (is_of e.clause) es =
-    (let at = get_or-le-sum_by (λ y. cond (is_of e.clause y) 1 0) es 0 (record { 0 = e }) top.0 in
-    let is : ◌≡◌ {A = ℕ} (cond (is_of e.clause (get_or es 0 (record { 0 = e }))) 1 0) 1 =
-    ap (λ y. cond (is_of e.clause y) 1 0) top.1 ∙ ap (λ b. cond b 1 0) (eq-eqb e.clause e.clause refl) in
+    let one : 1 ≤ count_by (is_of e.number) es =
+    (let at = get_or-le-sum_by (λ y. cond (is_of e.number y) 1 0) es 0 (record { 0 = e }) top.0 in
+    let is : ◌≡◌ {A = ℕ} (cond (is_of e.number (get_or es 0 (record { 0 = e }))) 1 0) 1 =
+    ap (λ y. cond (is_of e.number y) 1 0) top.1 ∙ ap (λ b. cond b 1 0) (eq-eqb e.number e.number refl) in
     omega (arith, at, is)) in
-    (counted_is_marked cs es room e.clause h one).1
+    (counted_is_marked cs es room e.number h one).1
 
-pub held_tallied : (cs : List Clause) (es : List (Reverse Entry)) (room n c : ℕ) → IsHeld cs es room → c < length cs
+pub held_tallied : (cs : List Clause) (es : List (Reverse Position)) (room n c : ℕ) → IsHeld cs es room → c < length cs
     → IsHeld (tallied n c cs) es room
 held_tallied cs es room n c h in' = record {
   heap = h.heap;
   once = λ d. h.once d ∙ sym (ap (λ b. cond b 1 0) (tallied_mark n c cs d));
-  placed = All-weaker (λ (e : Reverse Entry). e.0.position ≡ (clause_at cs e.0.clause).position)
-      (λ (e : Reverse Entry). e.0.position ≡ (clause_at (tallied n c cs) e.0.clause).position)
-      (λ e q. q ∙ sym (tallied_position n c cs e.0.clause)) es h.placed;
+  placed = All-weaker (HasFirst cs)
+      (HasFirst (tallied n c cs))
+      (λ e q. q ∙ sym (tallied_first n c cs e.0.number)) es h.placed;
   counted = (let there = sum_by-set (λ (x : Clause). cond x.is_in_heap 1 0) cs c
       (record (clause_at cs c) { left = n }) no_clause in' in
       let before = h.counted in omega (arith, there, before));
@@ -184,15 +185,15 @@ held_tallied cs es room n c h in' = record {
   few = subst (λ m. m ≤ 2 ^ 32) (sym (length-set cs c _)) h.few;
 }
 
-pub held_pushed : (cs : List Clause) (es : List (Reverse Entry)) (room more : ℕ) (x : Clause) → IsHeld cs es room
+pub held_pushed : (cs : List Clause) (es : List (Reverse Position)) (room more : ℕ) (x : Clause) → IsHeld cs es room
     → x.is_in_heap ≡ false
     → length cs + 1 ≤ more → length cs < 2 ^ 32 → IsHeld (cs ++ x ∷ []) es more
 held_pushed cs es room more x h plain fits few = record {
   heap = h.heap;
   once = λ d. h.once d ∙ sym (ap (λ b. cond b 1 0) (mark_pushed cs x d plain));
-  placed = λ k d l. All-get_or (λ (e : Reverse Entry). e.0.position ≡ (clause_at cs e.0.clause).position) es k d l
+  placed = λ k d l. All-get_or (HasFirst cs) es k d l
       h.placed
-      ∙ sym (ap (λ (y : Clause). y.position) (get_or_append_left cs (x ∷ []) no_clause (get_or es k d).0.clause
+      ∙ sym (ap (λ (y : Clause). y.first_of_parent) (get_or_append_left cs (x ∷ []) no_clause (get_or es k d).0.number
       (entries_within cs es room h k d l)));
   counted = (let there = sum_by_push (λ (y : Clause). cond y.is_in_heap 1 0) cs x in
       let none : ◌≡◌ {A = ℕ} (cond x.is_in_heap 1 0) 0 = ap (λ b. cond b 1 0) plain in
@@ -202,7 +203,7 @@ held_pushed cs es room more x h plain fits few = record {
 }
 
 -- while a clause isn't marked the heap isn't full
-pub room_left : (cs : List Clause) (es : List (Reverse Entry)) (room c : ℕ) → IsHeld cs es room → c < length cs
+pub room_left : (cs : List Clause) (es : List (Reverse Position)) (room c : ℕ) → IsHeld cs es room → c < length cs
     → (clause_at cs c).is_in_heap ≡ false
     → length es < room
 room_left cs es room c h in' absent =
@@ -215,7 +216,7 @@ room_left cs es room c h in' absent =
     omega (arith, more, none, all, same, count, fits)
 
 -- room that grows
-pub roomier : (cs : List Clause) (es : List (Reverse Entry)) (room more : ℕ) → IsHeld cs es room → room ≤ more
+pub roomier : (cs : List Clause) (es : List (Reverse Position)) (room more : ℕ) → IsHeld cs es room → room ≤ more
     → IsHeld cs es more
 roomier cs es room more h grows = record {
   heap = h.heap;
@@ -232,7 +233,7 @@ from_ok (Ok x) is h = h
 from_ok (Err e) is h = absurd (false≢true is)
 
 -- what is popped is the top
-pub popped_is : (es : List (Reverse Entry)) (r : Option (Reverse Entry)) (e : Entry) → 0 < length es
+pub popped_is : (es : List (Reverse Position)) (r : Option (Reverse Position)) (e : Position) → 0 < length es
     → get_or es 0 (record { 0 = e }) ≡ record { 0 = e }
     → IsSome r → IfSome r (λ x. x ≡ get_or es 0 x) → r ≡ Some (record { 0 = e })
 popped_is es None e l at some h = absurd (false≢true some)

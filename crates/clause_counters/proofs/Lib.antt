@@ -2,6 +2,7 @@ pub mod AddedLaws
 pub mod AddingSteps
 pub mod ClauseLaws
 pub mod CountLaws
+pub mod FirstLaws
 pub mod FlagLaws
 pub mod HeapLaws
 pub mod HeldLaws

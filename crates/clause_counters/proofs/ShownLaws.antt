@@ -2,19 +2,19 @@
 use Rattle.std.proofs.Common.{◌≡◌, ℕ, ◌<◌, ◌≤◌, Bool, true, false, not, ◌||◌, ◌&&◌, cond, eqb, List, [], length}
 use Rattle.std.proofs.Common.{get_or, map, Option, Some, None}
 use Rattle.std.proofs.Common.{refl, sym, ap, ◌∙◌, subst, arith, inl, inr}
+use Rattle.std.specs.Prelude.{slice_index}
 use Rattle.std.specs.List.{list_any, list_all}
-use Rattle.std.proofs.lemmas.Bool.{cases_eq, cases_lt, eq-eqb, ne_eqb, eqb-true}
+use Rattle.std.proofs.lemmas.Bool.{cases_eq, cases_lt, eq-eqb, ne_eqb, eqb-true, false≢true}
 use Rattle.std.proofs.lemmas.List.{get_or_past, length-map, get_or-map, get_or-set_same, get_or-set_other}
 use Rattle.std.proofs.lemmas.List.Folds.{Any-from_list_any, list_any_at}
 use Rattle.std.proofs.lemmas.List.Sums.{AllPass-from_list_all, list_all-from_AllPass}
 use Rattle.decisions.specs.Literals.{Lit}
 use Rattle.decisions.specs.LiteralIndex.{literal_index}
 use Rattle.clause_counters.specs.declared.links.Link.{Link}
-use Rattle.clause_counters.specs.declared.position.Position.{Position}
 use Rattle.clause_counters.specs.declared.groups.Standing.{Standing}
 use Rattle.clause_counters.specs.declared.groups.Group.{Group}
 use Rattle.clause_counters.specs.Links.{listed, count}
-use Rattle.clause_counters.specs.FalsifiedHeap.{IsFirst, is_before, position_at, no_position}
+use Rattle.clause_counters.specs.FalsifiedHeap.{IsFirst}
 use Rattle.clause_counters.specs.Counted.{no_standing, standing_at, no_group, group_at, IsPlaced, clause_lists}
 use Rattle.clause_counters.specs.Counted.{IsJoined}
 use Rattle.clause_counters.specs.Kept.{Kept, Stood, kept_in, told, nowhere, stood_at, IsSame}
@@ -22,6 +22,7 @@ use Rattle.clause_counters.specs.Shown.{Shown, GroupClause, no_clause, Shows, sh
 use Rattle.clause_counters.specs.Shown.{once, is_falsified, IsFirstFalsified}
 use Rattle.clause_counters.proofs.ListLaws.{found, field_kept, sum_none, counted_there}
 use Rattle.clause_counters.proofs.CountLaws.{of_open_group}
+use Rattle.clause_counters.proofs.FirstLaws.{same_first_of}
 use Rattle.clause_counters.proofs.FlagLaws.{stood_kept, of_open_literal, places_at}
 
 -- the clauses of a group that are kept
@@ -47,9 +48,9 @@ if_one false some = absurd (omega (arith, some))
 
 -- what fields keep, with what they show
 module _ (places : List Link) (ls : List Standing) (members : List Link) (groups : List Group) (lefts : List ℕ)
-    (positions : List Position) (has_room : Bool) (s : Shown)
+    (firsts : List ℕ) (has_room : Bool) (s : Shown)
     (p : IsPlaced places ls groups) (j : IsJoined members groups lefts)
-    (shows : Shows (kept_in places ls members groups positions has_room) s) where
+    (shows : Shows (kept_in places ls members groups firsts has_room) s) where
   -- a literal's places, as they are shown
   stands : (i g : ℕ) → places_at places ls i g ≡ once i (literals_of s g)
   stands i g = sym (ap (λ (x : Stood). count g x.groups) (stood_kept places ls i)) ∙ shows.stands i g
@@ -160,36 +161,30 @@ module _ (places : List Link) (ls : List Standing) (members : List Link) (groups
             ])
       ]))
 
-  -- a clause's position, as it is shown
-  position_shown : (c : ℕ) → position_at positions c ≡ (shown_clause s c).position
-  position_shown c = ap (λ ps. position_at ps c) shows.positions ∙ (elim (cases_lt c (length s.clauses)) [
-    | inl l ↦ get_or-map (λ (x : GroupClause). x.position) s.clauses c no_clause no_position l
-    | inr past ↦ get_or_past (map (λ (x : GroupClause). x.position) s.clauses) c no_position
-        (subst (λ n. n ≤ c) (sym (length-map s.clauses (λ (x : GroupClause). x.position))) past)
-        ∙ sym (ap (λ (x : GroupClause). x.position) (get_or_past s.clauses c no_clause past))
+  -- the first clause of a clause's parent, as it is shown
+  first_of_shown : (c : ℕ) → get_or firsts c 0 ≡ (shown_clause s c).first_of_parent
+  first_of_shown c = ap (λ ps. get_or ps c 0) shows.firsts ∙ (elim (cases_lt c (length s.clauses)) [
+    | inl l ↦ get_or-map (λ (x : GroupClause). x.first_of_parent) s.clauses c no_clause 0 l
+    | inr past ↦ get_or_past (map (λ (x : GroupClause). x.first_of_parent) s.clauses) c 0
+        (subst (λ n. n ≤ c) (sym (length-map s.clauses (λ (x : GroupClause). x.first_of_parent))) past)
+        ∙ sym (ap (λ (x : GroupClause). x.first_of_parent) (get_or_past s.clauses c no_clause past))
   ])
 
-  -- the first of the clauses whose number is zero is the first that is falsified
-  pub first_shown : (answer : Option ℕ) → length lefts ≡ length positions → IsFirst lefts positions answer
-      → IsFirstFalsified s answer
-  first_shown None same first = λ c l. (elim (is_falsified s c) as (λ b. is_falsified s c ≡ b → b ≡ false) [
-    | true ↦ λ e. absurd (first c (as_far c l) (falsified_zero c e))
-    | false ↦ λ e. refl
+  -- the clauses whose number is zero are the falsified ones
+  zero_is_falsified : (c : ℕ) → eqb (get_or lefts c 0) 0 ≡ is_falsified s c
+  zero_is_falsified c = (elim (is_falsified s c) as (λ b. is_falsified s c ≡ b → eqb (get_or lefts c 0) 0 ≡ b) [
+    | true ↦ λ e. eq-eqb _ _ (falsified_zero c e)
+    | false ↦ λ e. ne_eqb _ _ (λ z. false≢true (sym e ∙ zero_falsified c z))
   ]) refl
-    where
-      as_far : (c : ℕ) → c < length s.clauses → c < length lefts
-      as_far c l = subst (λ n. c < n) (sym (same ∙ (ap length shows.positions
-          ∙ length-map s.clauses (λ (x : GroupClause). x.position)))) l
-  first_shown (Some a) same first = (
-    subst (λ n. a < n) many first.0,
-    zero_falsified a first.1,
-    λ c l e. ap (λ x. is_before x (shown_clause s a).position) (sym (position_shown c))
-        ∙ (ap (is_before (position_at positions c)) (sym (position_shown a))
-        ∙ first.2 c (subst (λ n. c < n) (sym many) l) (falsified_zero c e)),
-  )
-    where
-      many : length lefts ≡ length s.clauses
-      many = same ∙ (ap length shows.positions ∙ length-map s.clauses (λ (x : GroupClause). x.position))
+
+  -- so the first of them is the first that is falsified
+  pub first_shown : (answer : Option ℕ) → length lefts ≡ length firsts → IsFirst lefts firsts answer
+      → IsFirstFalsified s answer
+  first_shown answer same first =
+      same_first_of (slice_index firsts) (λ c. (shown_clause s c).first_of_parent) (length lefts) (length s.clauses)
+      (λ c. eqb (get_or lefts c 0) 0) (is_falsified s) answer (λ c l. first_of_shown c)
+      (same ∙ (ap length shows.firsts ∙ length-map s.clauses (λ (x : GroupClause). x.first_of_parent)))
+      (λ c l. zero_is_falsified c) first
 
 -- a literal that is told keeps its groups
 told_groups : (v : Kept) (b : Bool) (i k : ℕ) → (stood_at (told b i v) k).groups ≡ (stood_at v k).groups
@@ -232,7 +227,7 @@ pub shows_told : (v : Kept) (s : Shown) (l : Lit) (b : Bool) (is_false : Lit →
     → Shows v s → Shows (told b (literal_index l) v) (record s { is_false = is_false })
 shows_told v s l b is_false says shows = record {
   size = shows.size;
-  positions = shows.positions;
+  firsts = shows.firsts;
   stands = λ i g. ap (count g) (told_groups v b (literal_index l) i) ∙ shows.stands i g;
   joins = shows.joins;
   falses = λ other g some.
@@ -246,29 +241,29 @@ shows_told v s l b is_false says shows = record {
 pub shows_room : (old new : Kept) (s : Shown) → IsSame old new → Shows old s → Shows new s
 shows_room old new s same shows = subst (λ v. Shows v s) (sym same) (record {
   size = shows.size;
-  positions = shows.positions;
+  firsts = shows.firsts;
   stands = shows.stands;
   joins = shows.joins;
   falses = shows.falses;
 })
 
 pub shows_again : (places : List Link) (ls : List Standing) (members members' : List Link) (groups : List Group)
-    (positions positions' : List Position)
-    (has_room has_room' : Bool) (s : Shown) → members' ≡ members → positions' ≡ positions
-    → Shows (kept_in places ls members groups positions has_room) s
-    → Shows (kept_in places ls members' groups positions' has_room') s
-shows_again places ls members members' groups positions positions' has_room has_room' s m p shows =
-    subst (λ x. Shows (kept_in places ls x groups positions' has_room') s) (sym m)
+    (firsts firsts' : List ℕ)
+    (has_room has_room' : Bool) (s : Shown) → members' ≡ members → firsts' ≡ firsts
+    → Shows (kept_in places ls members groups firsts has_room) s
+    → Shows (kept_in places ls members' groups firsts' has_room') s
+shows_again places ls members members' groups firsts firsts' has_room has_room' s m p shows =
+    subst (λ x. Shows (kept_in places ls x groups firsts' has_room') s) (sym m)
     (subst (λ x. Shows (kept_in places ls members groups x has_room') s) (sym p)
-    (shows_room (kept_in places ls members groups positions has_room)
-    (kept_in places ls members groups positions has_room') s refl shows))
+    (shows_room (kept_in places ls members groups firsts has_room)
+    (kept_in places ls members groups firsts has_room') s refl shows))
 
 -- a function that says the same of each literal is shown too: so the callers' may be that of a trail's values
 pub shows_same : (v : Kept) (s : Shown) (is_false : Lit → Bool) → ((l : Lit) → s.is_false l ≡ is_false l) → Shows v s
     → Shows v (record s { is_false = is_false })
 shows_same v s is_false same shows = record {
   size = shows.size;
-  positions = shows.positions;
+  firsts = shows.firsts;
   stands = shows.stands;
   joins = shows.joins;
   falses = λ l group some. shows.falses l group some ∙ same l;

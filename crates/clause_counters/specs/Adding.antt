@@ -26,7 +26,7 @@ flag_told at told = if at.groups == 0 then told else at.is_false
 abbrev pub is_newest : List Link → Standing → ℕ → Bool
 is_newest places at group = not (at.groups == 0) && (link_at places (at.groups - 1)).value == group
 
--- the literal at the index stands at a place more, of the group
+-- the literal at the index gets one place more, of the group
 abbrev pub with_place : List Link → List Standing → ℕ → ℕ → List Link
 with_place places literals index group =
     places ++ (record { value = group; next = (standing_at literals index).groups }) ∷ []
@@ -44,7 +44,7 @@ abbrev pub placed_once : List Link → List Standing → ℕ → ℕ → Bool �
 placed_once places literals index group told =
     if is_newest places (standing_at literals index) group then literals else placed_at places literals index told
 
--- the group is of a clause more
+-- the clause becomes a member of the group
 abbrev pub with_member : List Link → List Group → ℕ → ℕ → List Link
 with_member members groups group clause =
     members ++ (record { value = clause; next = (group_at groups group).clauses }) ∷ []

@@ -20,7 +20,7 @@ no_group = record { left = 0; clauses = 0 }
 abbrev pub group_at : List Group → ℕ → Group
 group_at groups number = slice_index_or groups number no_group
 
--- the group's number is told: how many of its places hold a literal that isn't false
+-- the group with this number has this many places whose literals aren't false
 abbrev pub counted : ℕ → ℕ → List Group → List Group
 counted left number groups = slice_set groups number (record (group_at groups number) { left = left })
 
@@ -28,7 +28,7 @@ counted left number groups = slice_set groups number (record (group_at groups nu
 abbrev pub clause_lists : List Group → List ℕ
 clause_lists groups = map (λ g. g.clauses) groups
 
--- how many members of the groups are the clause, and how many of these are of a group that isn't false
+-- how many members of all groups are the clause, and how many of these are of groups that aren't false
 abbrev pub all_members : List Link → List Group → ℕ → ℕ
 all_members members groups c = sum_by (λ g. count c (listed members g.clauses)) groups
 

@@ -1,39 +1,35 @@
--- A falsified of clauses: how many groups of each clause aren't false, and which clause of the falsified ones comes
--- first.
-use Rattle.std.specs.Prelude.{◌≡◌, ℕ, ◌<◌, ◌≤◌, ◌-◌, ◌^◌, Bool, true, false, if◌then◌else◌, ◌==◌, nat_lt, ◌||◌, ◌&&◌}
-use Rattle.std.specs.Prelude.{slice_set, List, length, map, slice_index_or, slice_index, Option, Some, None}
+-- Clauses by the number of their groups that aren't false, and which of the falsified ones comes first.
+use Rattle.std.specs.Prelude.{◌≡◌, ℕ, ◌<◌, ◌≤◌, ◌-◌, ◌^◌, Bool, true, false, if◌then◌else◌, ◌==◌, nat_lt, ◌&&◌}
+use Rattle.std.specs.Prelude.{slice_set, List, length, map, slice_index_or, slice_index, Option}
 use Rattle.std.specs.List.{All, count_by}
 use Rattle.std.specs.Ordering.{nat_cmp, ordering_then}
 use Rattle.std.specs.declared.cmp.Ordering.{Ordering}
 use Rattle.std.specs.BinaryHeap.{IsHeap, IsUpperBound}
 use Rattle.std.specs.declared.cmp.Reverse.{Reverse}
 use Rattle.clause_counters.specs.declared.position.Position.{Position}
-use Rattle.clause_counters.specs.declared.position.Entry.{Entry}
 use Rattle.clause_counters.specs.declared.falsified_heap.Clause.{Clause}
+use Rattle.clause_counters.specs.First.{IsFirstOf}
 
--- how many groups of each clause aren't false, the clauses' positions, and whether there is room for a clause more
+-- how many groups of each clause aren't false, the first clauses of their parents, and whether there is room for a
+-- clause more
 pub record Tallies : Type 0 where
   pub lefts : List ℕ
-  pub positions : List Position
+  pub firsts : List ℕ
   pub has_room : Bool
-
--- a position that no clause needs
-abbrev pub no_position : Position
-no_position = record { first_of_parent = 0; number = 0 }
 
 -- what stands past the last clause
 abbrev pub no_clause : Clause
-no_clause = record { position = no_position; left = 0; is_in_heap = false }
+no_clause = record { first_of_parent = 0; left = 0; is_in_heap = false }
 
 abbrev pub clause_at : List Clause → ℕ → Clause
 clause_at clauses number = slice_index_or clauses number no_clause
 
--- the clauses' tallies
+-- how many groups of each clause aren't false, and the first clauses of their parents
 abbrev pub lefts_of : List Clause → List ℕ
 lefts_of clauses = map (λ c. c.left) clauses
 
-abbrev pub positions_of : List Clause → List Position
-positions_of clauses = map (λ c. c.position) clauses
+abbrev pub firsts_of : List Clause → List ℕ
+firsts_of clauses = map (λ c. c.first_of_parent) clauses
 
 -- one clause more has a number, and a place in a vector and in a heap of these capacities
 abbrev pub fits_one : ℕ → ℕ → ℕ → Bool
@@ -42,57 +38,46 @@ fits_one len capacity heap_capacity = nat_lt len (2 ^ 32 - 1) && nat_lt len capa
 abbrev pub tallies_of : List Clause → ℕ → ℕ → Tallies
 tallies_of clauses capacity heap_capacity = record {
   lefts = lefts_of clauses;
-  positions = positions_of clauses;
+  firsts = firsts_of clauses;
   has_room = fits_one (length clauses) capacity heap_capacity;
 }
 
--- how entries compare in a heap that has the least on top
-abbrev pub entry_cmp : Entry → Entry → Ordering
-entry_cmp a b = ordering_then (ordering_then (nat_cmp a.position.first_of_parent b.position.first_of_parent)
-    (nat_cmp a.position.number b.position.number)) (nat_cmp a.clause b.clause)
+-- how positions compare, and in a heap that has the least on top
+abbrev pub position_cmp : Position → Position → Ordering
+position_cmp a b = ordering_then (nat_cmp a.first_of_parent b.first_of_parent) (nat_cmp a.number b.number)
 
-abbrev pub heap_cmp : Reverse Entry → Reverse Entry → Ordering
-heap_cmp a b = entry_cmp b.0 a.0
+abbrev pub heap_cmp : Reverse Position → Reverse Position → Ordering
+heap_cmp a b = position_cmp b.0 a.0
 
--- the heap holds each clause once that is marked so, with its position, and has room for all
-pub record IsHeld (clauses : List Clause) (entries : List (Reverse Entry)) (capacity : ℕ) : Type 0 where
+-- the heap holds each clause that is marked so, once and with its position, and has room for all clauses
+pub record IsHeld (clauses : List Clause) (entries : List (Reverse Position)) (capacity : ℕ) : Type 0 where
   pub heap : IsHeap heap_cmp entries
-  pub once : (c : ℕ) → count_by (λ e. e.0.clause == c) entries ≡ (if (clause_at clauses c).is_in_heap then 1 else 0)
-  pub placed : All (λ e. e.0.position ≡ (clause_at clauses e.0.clause).position) entries
+  pub once : (c : ℕ) → count_by (λ e. e.0.number == c) entries ≡ (if (clause_at clauses c).is_in_heap then 1 else 0)
+  pub placed : All (λ e. e.0.first_of_parent ≡ (clause_at clauses e.0.number).first_of_parent) entries
   pub counted : length entries ≡ count_by (λ c. c.is_in_heap) clauses
   pub room : length clauses ≤ capacity
   pub few : length clauses ≤ 2 ^ 32
 
 -- and each falsified clause is marked
-pub record IsFalsifiedHeap (clauses : List Clause) (entries : List (Reverse Entry)) (capacity : ℕ) : Type 0 where
+pub record IsFalsifiedHeap (clauses : List Clause) (entries : List (Reverse Position)) (capacity : ℕ) : Type 0 where
   pub held : IsHeld clauses entries capacity
   pub falsified : (c : ℕ) → c < length clauses → (clause_at clauses c).left ≡ 0
       → (clause_at clauses c).is_in_heap ≡ true
 
--- a comes before b
-abbrev pub is_before : Position → Position → Bool
-is_before a b = nat_lt a.first_of_parent b.first_of_parent ||
-    (a.first_of_parent == b.first_of_parent && nat_lt a.number b.number)
-
-abbrev pub position_at : List Position → ℕ → Position
-position_at positions number = slice_index_or positions number no_position
-
--- of the clauses of which no group isn't false none comes before the answer, which is one of them
-abbrev pub IsFirst : List ℕ → List Position → Option ℕ → Type 0
-IsFirst lefts positions None = (c : ℕ) → c < length lefts → slice_index lefts c ≡ 0 → ⊥
-IsFirst lefts positions (Some first) = (first < length lefts) × (slice_index lefts first ≡ 0)
-    × ((c : ℕ) → c < length lefts → slice_index lefts c ≡ 0
-    → is_before (position_at positions c) (position_at positions first) ≡ false)
+-- the answer is the first of the falsified clauses, of which each group is false
+abbrev pub IsFirst : List ℕ → List ℕ → Option ℕ → Type 0
+IsFirst lefts firsts answer =
+    IsFirstOf (slice_index firsts) (length lefts) (λ c. slice_index lefts c == 0) answer
 
 -- the clause is marked so
 abbrev pub marked : Bool → ℕ → List Clause → List Clause
 marked mark number clauses = slice_set clauses number (record (clause_at clauses number) { is_in_heap = mark })
 
--- the entry is the first, and in a heap none is over it
-abbrev pub IsTop : List (Reverse Entry) → Entry → Type 0
+-- the entry is the first, and in a heap no other is above it
+abbrev pub IsTop : List (Reverse Position) → Position → Type 0
 IsTop entries top = (0 < length entries) × (slice_index_or entries 0 (record { 0 = top }) ≡ record { 0 = top })
     × (IsHeap heap_cmp entries → IsUpperBound heap_cmp (record { 0 = top }) entries)
 
--- the clause's number is told: how many of its groups aren't false
+-- the clause with this number has this many groups that aren't false
 abbrev pub tallied : ℕ → ℕ → List Clause → List Clause
 tallied left number clauses = slice_set clauses number (record (clause_at clauses number) { left = left })

@@ -1,7 +1,6 @@
 -- What is kept of clauses and of the groups of literals that they are made of.
 use Rattle.std.specs.Prelude.{◌≡◌, ℕ, ◌+◌, ◌-◌, ◌^◌, Bool, false, ◌&&◌, nat_le, List, [], map}
 use Rattle.std.specs.Prelude.{slice_index_or, slice_set}
-use Rattle.clause_counters.specs.declared.position.Position.{Position}
 use Rattle.clause_counters.specs.declared.links.Link.{Link}
 use Rattle.clause_counters.specs.declared.groups.Standing.{Standing}
 use Rattle.clause_counters.specs.declared.groups.Group.{Group}
@@ -13,23 +12,23 @@ pub record Stood : Type 0 where
   pub is_false : Bool
   pub groups : List ℕ
 
--- the literals by their indexes, the clauses of each group, the position of each clause, and whether there is room for
--- a clause more
+-- the literals by their indexes, the clauses of each group, the first clause of each clause's parent, and whether there
+-- is room for a clause more
 pub record Kept : Type 0 where
   pub literals : List Stood
   pub groups : List (List ℕ)
-  pub positions : List Position
+  pub firsts : List ℕ
   pub has_room : Bool
 
 -- what pools, literals and groups keep
 abbrev pub stood_in : List Link → Standing → Stood
 stood_in places l = record { is_false = l.is_false; groups = listed places l.groups }
 
-abbrev pub kept_in : List Link → List Standing → List Link → List Group → List Position → Bool → Kept
-kept_in places literals members groups positions has_room = record {
+abbrev pub kept_in : List Link → List Standing → List Link → List Group → List ℕ → Bool → Kept
+kept_in places literals members groups firsts has_room = record {
   literals = map (stood_in places) literals;
   groups = map (listed members) (clause_lists groups);
-  positions = positions;
+  firsts = firsts;
   has_room = has_room;
 }
 
@@ -47,7 +46,7 @@ stood_at v index = slice_index_or v.literals index nowhere
 abbrev pub clauses_of : Kept → ℕ → List ℕ
 clauses_of v group = slice_index_or v.groups group []
 
--- the literal at this index is told to be false, or not to be; one that stands nowhere isn't kept
+-- the literal at this index is told to be false, or not to be; behind the last literal nothing is kept
 abbrev pub told : Bool → ℕ → Kept → Kept
 told mark index v = record v { literals = slice_set v.literals index (record (stood_at v index) { is_false = mark }) }
 

@@ -1,18 +1,17 @@
 -- What callers see of what is kept: groups of literals, clauses of groups, and which literals are false.
-use Rattle.std.specs.Prelude.{◌≡◌, ℕ, ◌<◌, ◌≤◌, Bool, true, false, not, ◌||◌, ◌&&◌, ◌==◌, List, [], ◌∷◌, ◌++◌, length}
-use Rattle.std.specs.Prelude.{map, flat_map, slice_index_or, if◌then◌else◌, Option, Some, None}
+use Rattle.std.specs.Prelude.{◌≡◌, ℕ, ◌<◌, ◌≤◌, Bool, not, ◌||◌, ◌&&◌, ◌==◌, List, [], ◌∷◌, ◌++◌, length}
+use Rattle.std.specs.Prelude.{map, flat_map, slice_index_or, if◌then◌else◌, Option}
 use Rattle.std.specs.List.{All, list_any, list_all}
 use Rattle.decisions.specs.Literals.{Lit, Pos}
 use Rattle.decisions.specs.LiteralIndex.{literal_index}
-use Rattle.clause_counters.specs.declared.position.Position.{Position}
 use Rattle.clause_counters.specs.Links.{count}
 use Rattle.clause_counters.specs.Kept.{Kept, stood_at, clauses_of}
-use Rattle.clause_counters.specs.FalsifiedHeap.{no_position, is_before}
+use Rattle.clause_counters.specs.First.{IsFirstOf}
 
--- a clause as callers see it: the numbers of its groups, and its position
+-- a clause as callers see it: the numbers of its groups, and that of the first clause of its parent
 pub record GroupClause : Type 0 where
   pub groups : List ℕ
-  pub position : Position
+  pub first_of_parent : ℕ
 
 -- what callers see: the literals of each group, the clauses, and which literals are false
 pub record Shown : Type 0 where
@@ -21,7 +20,7 @@ pub record Shown : Type 0 where
   pub is_false : Lit → Bool
 
 abbrev pub no_clause : GroupClause
-no_clause = record { groups = []; position = no_position }
+no_clause = record { groups = []; first_of_parent = 0 }
 
 abbrev pub literals_of : Shown → ℕ → List Lit
 literals_of s group = slice_index_or s.groups group []
@@ -40,7 +39,7 @@ once index literals = if list_any (has_index index) literals then 1 else 0
 -- what is kept shows these groups, clauses and false literals
 pub record Shows (v : Kept) (s : Shown) : Type 0 where
   pub size : length v.groups ≡ length s.groups
-  pub positions : v.positions ≡ map (λ c. c.position) s.clauses
+  pub firsts : v.firsts ≡ map (λ c. c.first_of_parent) s.clauses
   pub stands : (index group : ℕ) → count group (stood_at v index).groups ≡ once index (literals_of s group)
   pub joins : (group clause : ℕ) → count clause (clauses_of v group) ≡ count group (shown_clause s clause).groups
   pub falses : (l : Lit) (group : ℕ) → 1 ≤ count group (stood_at v (literal_index l)).groups
@@ -61,9 +60,9 @@ empty is_false = record { groups = []; clauses = []; is_false = is_false }
 abbrev pub with_group : List Lit → Shown → Shown
 with_group literals s = record s { groups = s.groups ++ literals ∷ [] }
 
-abbrev pub with_clause : List ℕ → Position → Shown → Shown
-with_clause groups position s =
-    record s { clauses = s.clauses ++ (record { groups = groups; position = position }) ∷ [] }
+abbrev pub with_clause : List ℕ → ℕ → Shown → Shown
+with_clause groups first_of_parent s =
+    record s { clauses = s.clauses ++ (record { groups = groups; first_of_parent = first_of_parent }) ∷ [] }
 
 -- what is shown stays
 abbrev pub KeepsShown : Kept → Kept → Type 0
@@ -74,10 +73,10 @@ abbrev pub AddsGroup : Kept → List Lit → (Lit → Bool) → ℕ → Kept →
 AddsGroup old literals is_false group new = (s : Shown) → Shows old s → All (λ l. s.is_false l ≡ is_false l) literals
     → (group ≡ length s.groups) × Shows new (with_group literals s)
 
--- the clause of these groups at this position comes with this number
-abbrev pub AddsClause : Kept → List ℕ → Position → ℕ → Kept → Type 0
-AddsClause old groups position clause new = (s : Shown) → Shows old s
-    → (clause ≡ length s.clauses) × Shows new (with_clause groups position s)
+-- the clause of these groups, whose parent has this first clause, comes with this number
+abbrev pub AddsClause : Kept → List ℕ → ℕ → ℕ → Kept → Type 0
+AddsClause old groups first_of_parent clause new = (s : Shown) → Shows old s
+    → (clause ≡ length s.clauses) × Shows new (with_clause groups first_of_parent s)
 
 -- the positive literals of the variables, list by list
 abbrev pub row_literals : List (List ℕ) → List Lit
@@ -87,9 +86,7 @@ row_literals lists = flat_map (map Pos) lists
 abbrev pub is_falsified : Shown → ℕ → Bool
 is_falsified s clause = list_all (λ g. list_all s.is_false (literals_of s g)) (shown_clause s clause).groups
 
--- the answer is a falsified clause, and no falsified clause comes before it; or no clause is falsified
+-- the answer is the first of the falsified clauses
 abbrev pub IsFirstFalsified : Shown → Option ℕ → Type 0
-IsFirstFalsified s None = (c : ℕ) → c < length s.clauses → is_falsified s c ≡ false
-IsFirstFalsified s (Some first) = (first < length s.clauses) × (is_falsified s first ≡ true)
-    × ((c : ℕ) → c < length s.clauses → is_falsified s c ≡ true
-    → is_before (shown_clause s c).position (shown_clause s first).position ≡ false)
+IsFirstFalsified s answer =
+    IsFirstOf (λ c. (shown_clause s c).first_of_parent) (length s.clauses) (is_falsified s) answer

@@ -21,7 +21,7 @@ use decisions::{DecisionMap, Literal};
 use std::alloc::Allocator;
 use typed_ids::{DenseIndex, StoreError};
 
-/// Makes the table of literals reach as far as those of the list.
+/// Makes the table of literals reach as far as those of the list, and no further.
 pub(crate) fn pad<A: Allocator + Copy>(
     literals: &mut Vec<Standing, A>,
     list: &[Literal],
@@ -32,6 +32,8 @@ pub(crate) fn pad<A: Allocator + Copy>(
     ensures left { (places : List Link) (g : ℕ) →
         open_places places literals.new.items g ≡ open_places places literals.old.items g }
     ensures reached { OnOk result (All (λ l. literal_index l < vec_len literals.new) list.now) }
+    ensures needed { (n : ℕ) → vec_len literals.old ≤ n → All (λ l. literal_index l < n) list.now
+        → vec_len literals.new ≤ n }
     ensures err { OnErr result (literals.new.items ≡ literals.old.items) }
     ensures memory { IfErr result (λ e. e ≡ OutOfMemory) }
 {
@@ -44,10 +46,11 @@ pub(crate) fn pad<A: Allocator + Copy>(
     Ok(())
 }
 
-/// The length that the table needs for the literals, and no less than what it has.
+/// The length that the table needs for the literals, or what it has if that is more.
 fn end_of(list: &[Literal], len: usize) -> usize
     ensures least { len ≤ result }
     ensures reached { All (λ l. literal_index l < result) list.now }
+    ensures needed { (n : ℕ) → len ≤ n → All (λ l. literal_index l < n) list.now → result ≤ n }
 {
     let mut end = len;
     for literal in list {

@@ -13,7 +13,6 @@ use crate::adding::{count_open, join_groups, pad, place_literals};
 use crate::falsified_heap::FalsifiedHeap;
 use crate::groups::{Group, Standing};
 use crate::links::{ID_LIMIT, Link};
-use crate::position::Position;
 use crate::rows::positive_literals;
 use crate::walks::{lower_groups, raise_groups};
 use decisions::{DecisionMap, Literal};
@@ -46,12 +45,12 @@ impl<A: Allocator + Copy> Model for ClauseCounters<A> {
 
     ghost Value = { Kept };
 
-    ghost view = { λ f. kept_in f.places.items f.literals.items f.members.items f.groups.items f.falsified.positions
+    ghost view = { λ f. kept_in f.places.items f.literals.items f.members.items f.groups.items f.falsified.firsts
         (f.falsified.has_room && fit_three (length f.members.items) (vec_capacity f.members)) };
 
     ghost invariant = { λ f. IsPlaced f.places.items f.literals.items f.groups.items
         × IsJoined f.members.items f.groups.items f.falsified.lefts
-        × (length f.falsified.lefts ≡ length f.falsified.positions) };
+        × (length f.falsified.lefts ≡ length f.falsified.firsts) };
 }
 
 impl<A: Allocator + Copy> ClauseCounters<A> {
@@ -74,7 +73,8 @@ impl<A: Allocator + Copy> ClauseCounters<A> {
     ///
     /// # Errors
     ///
-    /// `OutOfMemory`, also if a number of a group or a place is above 2^32 - 2.
+    /// `OutOfMemory`, also if there would be more than 2^32 - 1 groups, or more than 2^32 - 2 places if each literal of
+    /// the list got one.
     pub fn add_group(
         &mut self,
         literals: &[Literal],
@@ -137,12 +137,13 @@ impl<A: Allocator + Copy> ClauseCounters<A> {
     ///
     /// # Errors
     ///
-    /// `OutOfMemory`, also if the clause's number, or that of one of its groups' members, would be above 2^32 - 2.
+    /// `OutOfMemory`, also if there would be more than 2^32 - 1 clauses, or more than 2^32 - 1 members of groups if the
+    /// clause had three.
     pub fn make_room(&mut self) -> Result<(), StoreError>
         ensures room { OnOk result (IsTrue self.new.has_room) }
         ensures shown { KeepsShown self.old self.new }
         ensures groups { length self.new.groups ≡ length self.old.groups }
-        ensures clauses { length self.new.positions ≡ length self.old.positions }
+        ensures clauses { length self.new.firsts ≡ length self.old.firsts }
         ensures memory { IfErr result (λ e. e ≡ OutOfMemory) }
     {
         if self.members.len() + MOST_GROUPS > ID_LIMIT {
@@ -152,41 +153,44 @@ impl<A: Allocator + Copy> ClauseCounters<A> {
         self.falsified.make_room()
     }
 
-    /// Adds the clause of these groups at this position, and answers its number: clauses are numbered from 0 in the
-    /// order in which they come. Takes no memory: [`Self::make_room`] takes it before.
-    pub fn add_clause(&mut self, groups: &[u32], position: Position) -> u32
+    /// Adds the clause of these groups, whose parent has this first clause, and answers its number: clauses are
+    /// numbered from 0 in the order in which they come. Takes no memory: [`Self::make_room`] takes it before.
+    pub fn add_clause(&mut self, groups: &[u32], first_of_parent: u32) -> u32
         requires room { IsTrue self.old.has_room }
         requires known { All (λ g. g < length self.old.groups) groups.now }
         requires few { length groups.now ≤ 3 }
-        ensures shown { AddsClause self.old groups.now position result self.new }
-        ensures number { result ≡ length self.old.positions }
+        ensures shown { AddsClause self.old groups.now first_of_parent result self.new }
+        ensures number { result ≡ length self.old.firsts }
         ensures groups { length self.new.groups ≡ length self.old.groups }
-        ensures clauses { length self.new.positions ≡ length self.old.positions + 1 }
+        ensures clauses { length self.new.firsts ≡ length self.old.firsts + 1 }
     {
         let left = count_open(&self.groups, groups);
-        let clause = self.falsified.add(position, left);
+        let clause = self.falsified.add(first_of_parent, left);
         join_groups(&mut self.groups, &mut self.members, groups, clause);
         clause
     }
 
     /// A literal becomes false: of one that is false nothing changes. Takes no memory.
     pub fn make_false(&mut self, literal: Literal)
-        ensures { (s : Shown) → Shows self.old s → Shows self.new (with_false literal s) }
+        ensures shown { (s : Shown) → Shows self.old s → Shows self.new (with_false literal s) }
+        ensures groups { length self.new.groups ≡ length self.old.groups }
     {
         self.close(literal.to_index());
     }
 
     /// A literal becomes undecided: of one that isn't false nothing changes. Takes no memory.
     pub fn make_undecided(&mut self, literal: Literal)
-        ensures { (s : Shown) → Shows self.old s → Shows self.new (with_undecided literal s) }
+        ensures shown { (s : Shown) → Shows self.old s → Shows self.new (with_undecided literal s) }
+        ensures groups { length self.new.groups ≡ length self.old.groups }
     {
         self.reopen(literal.to_index());
     }
 
-    /// The number of the falsified clause with the least position, `None` if no clause is falsified. Takes no memory.
+    /// The number of the falsified clause that comes first, `None` if no clause is falsified. Takes no memory.
     pub fn first(&mut self) -> Option<u32>
         ensures shown { KeepsShown self.old self.new }
         ensures first { (s : Shown) → Shows self.old s → IsFirstFalsified s result }
+        ensures groups { length self.new.groups ≡ length self.old.groups }
     {
         self.falsified.first()
     }

@@ -4,10 +4,10 @@ ghost use Rattle.std.specs.Prelude.{true, false, IsTrue, OnOk, IfErr, IfSome, If
 ghost use Rattle.std.specs.BinaryHeap.{heap_items, heap_capacity, heap_len};
 ghost use Rattle.typed_ids.specs.declared.error.StoreError.TheVariants.{OutOfMemory};
 ghost use Rattle.clause_counters.specs.FalsifiedHeap.{IsHeld, IsFalsifiedHeap, IsFirst, IsTop};
-ghost use Rattle.clause_counters.specs.FalsifiedHeap.{clause_at, lefts_of, positions_of, marked, tallied};
+ghost use Rattle.clause_counters.specs.FalsifiedHeap.{clause_at, lefts_of, firsts_of, marked, tallied};
 
 use crate::links::ID_LIMIT;
-use crate::position::{Entry, Position};
+use crate::position::Position;
 use std::alloc::Allocator;
 use std::cmp::Reverse;
 use std::collections::BinaryHeap;
@@ -17,7 +17,8 @@ use typed_ids::StoreError;
 /// What is known of a clause here: its groups are known to others.
 #[derive(Clone, Copy, Debug, PartialEq, Eq)]
 struct Clause {
-    position: Position,
+    /// The number of the first clause that has the same parent.
+    first_of_parent: u32,
     /// How many of its groups aren't false.
     left: u8,
     /// Whether it is in the heap.
@@ -28,7 +29,7 @@ struct Clause {
 #[derive(Drop)]
 pub(crate) struct FalsifiedHeap<A: Allocator + Copy> {
     clauses: Vec<Clause, A>,
-    heap: BinaryHeap<Reverse<Entry>, A>,
+    heap: BinaryHeap<Reverse<Position>, A>,
 }
 
 impl<A: Allocator + Copy> Model for FalsifiedHeap<A> {
@@ -47,7 +48,7 @@ impl<A: Allocator + Copy> FalsifiedHeap<A> {
     /// No clause. Takes no memory.
     pub(crate) fn new(alloc: A) -> Self
         ensures lefts { result.lefts ≡ [] }
-        ensures positions { result.positions ≡ [] }
+        ensures firsts { result.firsts ≡ [] }
     {
         FalsifiedHeap {
             clauses: Vec::new(alloc),
@@ -59,7 +60,7 @@ impl<A: Allocator + Copy> FalsifiedHeap<A> {
     pub(crate) fn make_room(&mut self) -> Result<(), StoreError>
         ensures room { OnOk result (IsTrue self.new.has_room) }
         ensures lefts { self.new.lefts ≡ self.old.lefts }
-        ensures positions { self.new.positions ≡ self.old.positions }
+        ensures firsts { self.new.firsts ≡ self.old.firsts }
         ensures memory { IfErr result (λ e. e ≡ OutOfMemory) }
     {
         let len = self.clauses.len();
@@ -71,16 +72,17 @@ impl<A: Allocator + Copy> FalsifiedHeap<A> {
         Ok(())
     }
 
-    /// Appends a clause at this position, of which this many groups aren't false, and answers its number.
-    pub(crate) fn add(&mut self, position: Position, left: u8) -> u32
+    /// Appends a clause whose parent has this first clause, and of which this many groups aren't false. Answers its
+    /// number.
+    pub(crate) fn add(&mut self, first_of_parent: u32, left: u8) -> u32
         requires { IsTrue self.old.has_room }
         ensures number { result ≡ length self.old.lefts }
         ensures lefts { self.new.lefts ≡ self.old.lefts ++ left ∷ [] }
-        ensures positions { self.new.positions ≡ self.old.positions ++ position ∷ [] }
+        ensures firsts { self.new.firsts ≡ self.old.firsts ++ first_of_parent ∷ [] }
     {
         let clause = self.clauses.len() as u32;
         self.clauses.push_reserved(Clause {
-            position,
+            first_of_parent,
             left,
             is_in_heap: false,
         });
@@ -94,7 +96,7 @@ impl<A: Allocator + Copy> FalsifiedHeap<A> {
     pub(crate) fn lower(&mut self, clause: u32)
         requires { 1 ≤ slice_index self.old.lefts clause }
         ensures lefts { self.new.lefts ≡ slice_set self.old.lefts clause (slice_index self.old.lefts clause - 1) }
-        ensures positions { self.new.positions ≡ self.old.positions }
+        ensures firsts { self.new.firsts ≡ self.old.firsts }
     {
         let at = self.clauses[clause as usize];
         tally(&mut self.clauses, clause, at.left - 1);
@@ -108,7 +110,7 @@ impl<A: Allocator + Copy> FalsifiedHeap<A> {
         requires within { clause < length self.old.lefts }
         requires few { slice_index self.old.lefts clause < 255 }
         ensures lefts { self.new.lefts ≡ slice_set self.old.lefts clause (slice_index self.old.lefts clause + 1) }
-        ensures positions { self.new.positions ≡ self.old.positions }
+        ensures firsts { self.new.firsts ≡ self.old.firsts }
     {
         let left = self.clauses[clause as usize].left;
         tally(&mut self.clauses, clause, left + 1);
@@ -117,8 +119,8 @@ impl<A: Allocator + Copy> FalsifiedHeap<A> {
     /// The falsified clause with the least position. Takes stale entries from the top of the heap.
     pub(crate) fn first(&mut self) -> Option<u32>
         ensures lefts { self.new.lefts ≡ self.old.lefts }
-        ensures positions { self.new.positions ≡ self.old.positions }
-        ensures first { IsFirst self.old.lefts self.old.positions result }
+        ensures firsts { self.new.firsts ≡ self.old.firsts }
+        ensures first { IsFirst self.old.lefts self.old.firsts result }
     {
         settle(&mut self.clauses, &mut self.heap)
     }
@@ -136,7 +138,7 @@ fn tally<A: Allocator + Copy>(clauses: &mut Vec<Clause, A>, clause: u32, left: u
 /// Puts a clause into the heap. It isn't there yet, so there is room.
 fn insert_entry<A: Allocator + Copy>(
     clauses: &mut Vec<Clause, A>,
-    heap: &mut BinaryHeap<Reverse<Entry>, A>,
+    heap: &mut BinaryHeap<Reverse<Position>, A>,
     clause: u32,
 )
     requires held { IsHeld clauses.old.items (heap_items heap.old) (heap_capacity heap.old) }
@@ -147,40 +149,43 @@ fn insert_entry<A: Allocator + Copy>(
 {
     let at = &mut clauses[clause as usize];
     at.is_in_heap = true;
-    let position = at.position;
-    let _ = heap.push(Reverse(Entry { position, clause }));
+    let first_of_parent = at.first_of_parent;
+    let _ = heap.push(Reverse(Position {
+        first_of_parent,
+        number: clause,
+    }));
 }
 
 /// Takes the top, which is this entry, out of the heap.
 fn remove_top<A: Allocator + Copy>(
     clauses: &mut Vec<Clause, A>,
-    heap: &mut BinaryHeap<Reverse<Entry>, A>,
-    top: Entry,
+    heap: &mut BinaryHeap<Reverse<Position>, A>,
+    top: Position,
 )
     requires held { IsHeld clauses.old.items (heap_items heap.old) (heap_capacity heap.old) }
     requires top { IsTop (heap_items heap.old) top }
     ensures held { IsHeld clauses.new.items (heap_items heap.new) (heap_capacity heap.new) }
-    ensures marked { clauses.new.items ≡ marked false top.clause clauses.old.items }
+    ensures marked { clauses.new.items ≡ marked false top.number clauses.old.items }
     ensures len { heap_len heap.new + 1 ≡ heap_len heap.old }
 {
     let _ = heap.pop();
-    clauses[top.clause as usize].is_in_heap = false;
+    clauses[top.number as usize].is_in_heap = false;
 }
 
 /// Takes entries of clauses that aren't falsified from the top of the heap, and answers the clause that is then there.
 fn settle<A: Allocator + Copy>(
     clauses: &mut Vec<Clause, A>,
-    heap: &mut BinaryHeap<Reverse<Entry>, A>,
+    heap: &mut BinaryHeap<Reverse<Position>, A>,
 ) -> Option<u32>
     requires { IsFalsifiedHeap clauses.old.items (heap_items heap.old) (heap_capacity heap.old) }
     ensures falsified { IsFalsifiedHeap clauses.new.items (heap_items heap.new) (heap_capacity heap.new) }
     ensures lefts { lefts_of clauses.new.items ≡ lefts_of clauses.old.items }
-    ensures positions { positions_of clauses.new.items ≡ positions_of clauses.old.items }
-    ensures first { IsFirst (lefts_of clauses.old.items) (positions_of clauses.old.items) result }
+    ensures firsts { firsts_of clauses.new.items ≡ firsts_of clauses.old.items }
+    ensures first { IsFirst (lefts_of clauses.old.items) (firsts_of clauses.old.items) result }
 {
     while let Some(top) = top_of(heap) {
-        if clauses[top.clause as usize].left == 0 {
-            return Some(top.clause);
+        if clauses[top.number as usize].left == 0 {
+            return Some(top.number);
         }
         remove_top(clauses, heap, top);
     }
@@ -188,7 +193,7 @@ fn settle<A: Allocator + Copy>(
 }
 
 /// The entry on top of the heap.
-fn top_of<A: Allocator + Copy>(heap: &BinaryHeap<Reverse<Entry>, A>) -> Option<Entry>
+fn top_of<A: Allocator + Copy>(heap: &BinaryHeap<Reverse<Position>, A>) -> Option<Position>
     ensures some { IfSome result (λ top. IsTop (heap_items heap.now) top) }
     ensures none { IfNone result (heap_items heap.now ≡ []) }
 {

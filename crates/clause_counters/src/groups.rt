@@ -10,7 +10,7 @@ use std::alloc::Allocator;
 /// A literal that may stand in groups.
 #[derive(Clone, Copy, Debug, PartialEq, Eq)]
 pub(crate) struct Standing {
-    /// Whether it is false.
+    /// Whether it is false, if it stands in a group; else this says nothing.
     pub(crate) is_false: bool,
     /// The list of the groups in which it stands: of each it has one place.
     pub(crate) groups: u32,
@@ -36,7 +36,7 @@ pub(crate) fn lower_group<A: Allocator + Copy>(
     requires joined { IsJoined members.now groups.old.items falsified.old.lefts }
     ensures groups { groups.new.items ≡ counted ((group_at groups.old.items group).left - 1) group groups.old.items }
     ensures joined { IsJoined members.now groups.new.items falsified.new.lefts }
-    ensures positions { falsified.new.positions ≡ falsified.old.positions }
+    ensures firsts { falsified.new.firsts ≡ falsified.old.firsts }
     ensures clauses { length falsified.new.lefts ≡ length falsified.old.lefts }
 {
     let at = groups[group as usize];
@@ -58,7 +58,7 @@ pub(crate) fn raise_group<A: Allocator + Copy>(
     requires joined { IsJoined members.now groups.old.items falsified.old.lefts }
     ensures groups { groups.new.items ≡ counted ((group_at groups.old.items group).left + 1) group groups.old.items }
     ensures joined { IsJoined members.now groups.new.items falsified.new.lefts }
-    ensures positions { falsified.new.positions ≡ falsified.old.positions }
+    ensures firsts { falsified.new.firsts ≡ falsified.old.firsts }
     ensures clauses { length falsified.new.lefts ≡ length falsified.old.lefts }
 {
     let at = groups[group as usize];
@@ -75,7 +75,7 @@ fn lower_clauses<A: Allocator + Copy>(members: &[Link], falsified: &mut Falsifie
     requires enough { (c : ℕ) → count c (listed members.now list) ≤ slice_index falsified.old.lefts c }
     ensures lefts { (c : ℕ) →
         slice_index falsified.new.lefts c + count c (listed members.now list) ≡ slice_index falsified.old.lefts c }
-    ensures positions { falsified.new.positions ≡ falsified.old.positions }
+    ensures firsts { falsified.new.firsts ≡ falsified.old.firsts }
     ensures clauses { length falsified.new.lefts ≡ length falsified.old.lefts }
 {
     let mut rest = list;
@@ -94,7 +94,7 @@ fn raise_clauses<A: Allocator + Copy>(members: &[Link], falsified: &mut Falsifie
     requires few { (c : ℕ) → slice_index falsified.old.lefts c + count c (listed members.now list) < 2 ^ 8 }
     ensures lefts { (c : ℕ) →
         slice_index falsified.new.lefts c ≡ slice_index falsified.old.lefts c + count c (listed members.now list) }
-    ensures positions { falsified.new.positions ≡ falsified.old.positions }
+    ensures firsts { falsified.new.firsts ≡ falsified.old.firsts }
     ensures clauses { length falsified.new.lefts ≡ length falsified.old.lefts }
 {
     let mut rest = list;

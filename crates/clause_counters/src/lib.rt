@@ -7,8 +7,9 @@
 //!
 //! Nothing is searched for. A literal has one place in each of its groups, even if the group's list has it twice. Each
 //! group knows how many of its places hold a literal that isn't false, and each clause how many of its groups aren't
-//! false. A literal that becomes false or undecided changes these numbers, and a clause whose number becomes 0 goes into
-//! a heap, which has the least position on top. The entry of a clause that isn't falsified any more is stale: it goes
+//! false. A literal that becomes false or undecided changes these numbers, and a clause whose number becomes 0 goes
+//! into a heap. On top of that is the clause that comes first: clauses of one parent follow one another, and parents
+//! come in the order of their first clauses. The entry of a clause that isn't falsified any more is stale: it goes
 //! when it is on top and somebody asks.
 //!
 //! Two clauses, "if p, one of a, b" and "if p, and not c, one of d, d, b", where p is true and b false:
@@ -32,13 +33,14 @@
 //! `rows` makes literals of rows. `counters` is all of it.
 //!
 //! Only adding takes memory: the heap has room for each clause from when it is added. A group costs 8 bytes and 8 for
-//! each place, a literal 8; a clause costs 24 bytes and 8 for each of its groups.
+//! each place; a clause costs 16 bytes and 8 for each of its groups. The literals are a table by their indexes, 8 bytes
+//! each, up to the last one that stands in a group.
 //!
-//! A contract speaks of what is shown (`specs/Shown`): the literals of each group, the groups and the position of each
-//! clause, and which literals are false, as a function. What is kept `Shows` one or more such: they differ at most in
-//! the order of a group's literals, in how many times its list has one, and in literals that stand nowhere. So the
-//! callers' function can be that of a trail. What the numbers count is the invariant (`specs/Counted`,
-//! `specs/FalsifiedHeap`).
+//! A contract speaks of what is shown (`specs/Shown`): the literals of each group, the groups of each clause and the
+//! first clause of its parent, and which literals are false, as a function. What is kept `Shows` more than one such:
+//! they differ in the order of a clause's groups and of a group's literals, in how many times a group's list has a
+//! literal, and in which literals that stand nowhere are false. So the callers' function can be that of a trail. What
+//! "first" means is in `specs/First`. What the numbers count is the invariant (`specs/Counted`, `specs/FalsifiedHeap`).
 #![tactic(auto)]
 
 mod adding;
@@ -53,4 +55,3 @@ mod tests;
 mod walks;
 
 pub use counters::ClauseCounters;
-pub use position::Position;

@@ -3,7 +3,6 @@
 //! What takes memory is tried again after a refusal, which must have left all as it was: so the tests pass too if any
 //! one allocation fails (`rt try --test --fail-alloc N`).
 use crate::counters::ClauseCounters;
-use crate::position::Position;
 use decisions::{DecisionMap, Literal};
 use std::alloc::Global;
 use std::test::Fail;
@@ -45,12 +44,12 @@ fn count_example(counters: &mut ClauseCounters<Global>, alloc: Global) -> Result
     let rows = add_group(counters, &[positive(2), positive(3)], &values)?;
     let condition = add_group(counters, &[positive(4)], &values)?;
     let other_rows = add_group(counters, &[positive(5), positive(5), positive(3)], &values)?;
-    add_clause(counters, &[parent, rows], position(0, 0))?;
-    add_clause(counters, &[parent, condition, other_rows], position(0, 1))
+    add_clause(counters, &[parent, rows], 0)?;
+    add_clause(counters, &[parent, condition, other_rows], 0)
 }
 
 #[test]
-fn the_least_position_is_first_behind_a_stale_entry(rt: HostRuntime) -> Result<(), Fail> {
+fn the_least_parent_is_first_behind_a_stale_entry(rt: HostRuntime) -> Result<(), Fail> {
     let mut counters = ClauseCounters::new(rt.alloc());
     count_two(&mut counters, rt.alloc())?;
     counters.make_false(positive(1));
@@ -68,8 +67,8 @@ fn count_two(counters: &mut ClauseCounters<Global>, alloc: Global) -> Result<(),
     let values = DecisionMap::new(alloc);
     let first = add_group(counters, &[positive(1)], &values)?;
     let second = add_group(counters, &[positive(2)], &values)?;
-    add_clause(counters, &[first], position(2, 4))?;
-    add_clause(counters, &[second], position(1, 5))
+    add_clause(counters, &[first], 2)?;
+    add_clause(counters, &[second], 1)
 }
 
 #[test]
@@ -92,7 +91,7 @@ fn count_rows(counters: &mut ClauseCounters<Global>, alloc: Global) -> Result<()
     let first = vec![in alloc; VariableId::from_index(1), VariableId::from_index(2)]?;
     let lists = [first, vec![in alloc; VariableId::from_index(3)]?];
     let group = counters.add_row_group(&lists, &values)?;
-    add_clause(counters, &[group], position(0, 0))
+    add_clause(counters, &[group], 0)
 }
 
 /// Adds the group, at the second try if the first is refused.
@@ -112,7 +111,7 @@ fn add_group(
 fn add_clause(
     counters: &mut ClauseCounters<Global>,
     groups: &[u32],
-    position: Position,
+    first_of_parent: u32,
 ) -> Result<(), StoreError> {
     let count = counters.group_count();
     if groups.len() > 3 || !groups.iter().all(|group| (*group as usize) < count) {
@@ -121,15 +120,8 @@ fn add_clause(
     if counters.make_room().is_err() {
         counters.make_room()?;
     }
-    counters.add_clause(groups, position);
+    counters.add_clause(groups, first_of_parent);
     Ok(())
-}
-
-fn position(first_of_parent: u32, number: u32) -> Position {
-    Position {
-        first_of_parent,
-        number,
-    }
 }
 
 /// The literal of the variable with this number, which is small.

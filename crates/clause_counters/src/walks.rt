@@ -24,7 +24,7 @@ pub(crate) fn lower_groups<A: Allocator + Copy>(
         (group_at groups.old.items g).left }
     ensures joined { IsJoined members.now groups.new.items falsified.new.lefts }
     ensures lists { clause_lists groups.new.items ≡ clause_lists groups.old.items }
-    ensures positions { falsified.new.positions ≡ falsified.old.positions }
+    ensures firsts { falsified.new.firsts ≡ falsified.old.firsts }
     ensures clauses { length falsified.new.lefts ≡ length falsified.old.lefts }
 {
     let mut rest = list;
@@ -52,7 +52,7 @@ pub(crate) fn raise_groups<A: Allocator + Copy>(
         (group_at groups.old.items g).left + count g (listed places.now list) }
     ensures joined { IsJoined members.now groups.new.items falsified.new.lefts }
     ensures lists { clause_lists groups.new.items ≡ clause_lists groups.old.items }
-    ensures positions { falsified.new.positions ≡ falsified.old.positions }
+    ensures firsts { falsified.new.firsts ≡ falsified.old.firsts }
     ensures clauses { length falsified.new.lefts ≡ length falsified.old.lefts }
 {
     let mut rest = list;

@@ -11,7 +11,6 @@ use Rattle.decisions.specs.Literals.{Lit, Pos, Neg}
 use Rattle.decisions.specs.LiteralIndex.{literal_index}
 use Rattle.clauses.specs.Clauses.{same_literal}
 use Rattle.clauses.specs.declared.disjunction.Disjunction.{Disjunction}
-use Rattle.clause_counters.specs.declared.position.Position.{Position}
 use Rattle.clause_counters.specs.Kept.{Kept}
 use Rattle.clause_counters.specs.Shown.{Shown, Shows, GroupClause, has_index, with_group, AddsGroup, AddsClause}
 use Rattle.clause_counters.specs.Shown as below
@@ -47,7 +46,7 @@ clauses_kept old new keeps (c ∷ cs) grouped =
     let head = numbers_kept old new keeps (keys_of c.demand) (grouped 0 c (omega arith)) in
     let rest = clauses_kept old new keeps cs (λ i d l. grouped (suc i) d (omega (arith, l))) in
     let first : List ℕ → List GroupClause =
-    λ numbers. (record { groups = numbers; position = c.position }) ∷ map (group_clause new) cs in
+    λ numbers. (record { groups = numbers; first_of_parent = c.first_of_parent }) ∷ map (group_clause new) cs in
     ap first head ∙ ap (λ more. group_clause old c ∷ more) rest
 
 module _ {A : Type 0} (kept : KeyedCounters) (v : Kept) (s : Counted A) (counts : Counts kept s) where
@@ -82,17 +81,17 @@ module _ {A : Type 0} (kept : KeyedCounters) (v : Kept) (s : Counted A) (counts 
       }
 
   -- a clause more, of groups that were prepared
-  pub counts_added : (clause : Demand) (position : Position) (groups numbers : List ℕ) (number : ℕ)
-      → IsReady kept clause groups → numbers ≡ groups → AddsClause kept.counters numbers position number v
-      → Counts (record { keys = kept.keys; counters = v }) (with_clause clause position s)
-  counts_added clause position groups numbers number ready same adds =
-      let more : PlacedDemand = record { demand = clause; position = position } in
+  pub counts_added : (clause : Demand) (first : ℕ) (groups numbers : List ℕ) (number : ℕ)
+      → IsReady kept clause groups → numbers ≡ groups → AddsClause kept.counters numbers first number v
+      → Counts (record { keys = kept.keys; counters = v }) (with_clause clause first s)
+  counts_added clause first groups numbers number ready same adds =
+      let more : PlacedDemand = record { demand = clause; first_of_parent = first } in
       let of_clauses : List GroupClause → Shown = λ clauses. record {
         groups = map (literals_of s.lists s.disjunctions) kept.keys;
         clauses = clauses;
         is_false = s.is_false;
       } in
-      let shows = subst (λ ns. Shows v (below.with_clause ns position (shown_by kept.keys s)))
+      let shows = subst (λ ns. Shows v (below.with_clause ns first (shown_by kept.keys s)))
       (same ∙ ready.numbers) (adds (shown_by kept.keys s) counts.shown).1 in record {
         shown = subst (Shows v)
             (ap of_clauses (sym (map-append (group_clause kept.keys) s.clauses (more ∷ [])))) shows;

@@ -7,9 +7,9 @@ use Rattle.std.proofs.lemmas.List.Folds.{list_all-append, list_all-map}
 use Rattle.decisions.specs.Literals.{Lit, Pos, Neg}
 use Rattle.clauses.specs.Clauses.{condition_literals}
 use Rattle.clauses.specs.Stored.{kept_in}
-use Rattle.clause_counters.specs.FalsifiedHeap.{is_before}
 use Rattle.clause_counters.specs.Shown.{row_literals, shown_clause}
 use Rattle.clause_counters.specs.Shown as below
+use Rattle.clause_counters.proofs.FirstLaws.{same_first_of}
 use Rattle.falsified_clauses.specs.declared.demand.Demand.{Demand}
 use Rattle.falsified_clauses.specs.declared.group_key.GroupKey.{GroupKey}
 use Rattle.falsified_clauses.specs.declared.group_key.GroupKey.TheVariants.{Parent, Condition, Rows}
@@ -82,19 +82,11 @@ module _ {A : Type 0} (keys : List GroupKey) (s : Counted A) where
         ap (λ (x : below.GroupClause). list_all is_false_group x.groups) (shown_is c l)
         ∙ falsified_under (clause_at s c).demand.condition (clause_at s c).demand (grouped c no_clause l)
 
-    many : length (map (group_clause keys) s.clauses) ≡ length s.clauses
-    many = length-map s.clauses (group_clause keys)
-
     -- the first that the counters show is the first
     pub first_is : (answer : Option ℕ) → below.IsFirstFalsified (shown_by keys s) answer → IsFirstFalsified s answer
-    first_is None first = λ c l. sym (falsified_is c l) ∙ first c (subst (λ n. c < n) (sym many) l)
-    first_is (Some a) first =
-        let within : a < length s.clauses = subst (λ n. a < n) many first.0 in (
-          within,
-          sym (falsified_is a within) ∙ first.1,
-          λ c l e.
-              ap (λ (x : below.GroupClause). is_before x.position (clause_at s a).position) (sym (shown_is c l))
-              ∙ (ap (λ (x : below.GroupClause). is_before (shown_clause (shown_by keys s) c).position x.position)
-              (sym (shown_is a within))
-              ∙ first.2 c (subst (λ n. c < n) (sym many) l) (falsified_is c l ∙ e)),
-        )
+    first_is answer first =
+        same_first_of (λ c. (shown_clause (shown_by keys s) c).first_of_parent) (λ c. (clause_at s c).first_of_parent)
+        (length (map (group_clause keys) s.clauses)) (length s.clauses)
+        (below.is_falsified (shown_by keys s)) (is_falsified_at s) answer
+        (λ c l. ap (λ (x : below.GroupClause). x.first_of_parent) (shown_is c l))
+        (length-map s.clauses (group_clause keys)) falsified_is first

@@ -1,11 +1,12 @@
 -- The numbers of a clause's groups.
 use Rattle.std.proofs.Common.{◌≡◌, ℕ, zero, suc, ◌<◌, List, [], ◌∷◌, length, map, Option, Some, None}
 use Rattle.std.proofs.Common.{refl, sym, ap, ◌∙◌, subst, arith}
-use Rattle.std.specs.List.{All}
+use Rattle.std.specs.List.{All, Contains}
 use Rattle.falsified_clauses.specs.declared.demand.Demand.{Demand}
 use Rattle.falsified_clauses.specs.declared.group_key.GroupKey.{GroupKey}
 use Rattle.falsified_clauses.specs.declared.group_key.GroupKey.TheVariants.{Parent, Condition, Rows}
-use Rattle.falsified_clauses.specs.GroupKeys.{number_in, KeepsNumbers, numbers, keys_under, numbers_in, HasGroups}
+use Rattle.falsified_clauses.specs.GroupKeys.{number_in, KeepsNumbers, numbers, keys_of, keys_under, numbers_in}
+use Rattle.falsified_clauses.specs.GroupKeys.{HasGroups, condition_number, HasConditionGroup, IsConditionKey}
 
 -- ---- as keys come
 
@@ -38,43 +39,54 @@ all_three P a b c p q r (suc zero) d l = q
 all_three P a b c p q r (suc (suc zero)) d l = r
 all_three P a b c p q r (suc (suc (suc i))) d l = absurd (omega (arith, l))
 
+-- the keys of a clause's parent, of its condition and of its rows are among its own
+pub has_parent : (clause : Demand) → Contains (keys_of clause) (Parent clause.parent)
+has_parent clause = go clause.condition
+  where
+    go : (o : Option ℕ) → Contains (keys_under o clause) (Parent clause.parent)
+    go None = (0, omega arith, refl)
+    go (Some d) = (0, omega arith, refl)
+
+pub has_condition : (clause : Demand) (key : GroupKey) → IsConditionKey clause.condition key
+    → Contains (keys_of clause) key
+has_condition clause key is = subst (Contains (keys_of clause)) (sym is.2)
+    (subst (λ o. Contains (keys_under o clause) (Condition is.0)) (sym is.1) (1, omega arith, refl))
+
+pub has_rows : (clause : Demand) → Contains (keys_of clause) (Rows clause.requirement)
+has_rows clause = go clause.condition
+  where
+    go : (o : Option ℕ) → Contains (keys_under o clause) (Rows clause.requirement)
+    go None = (1, omega arith, refl)
+    go (Some d) = (2, omega arith, refl)
+
 -- a number is a key's, and there is such a key
 abbrev pub IsNumber : List GroupKey → GroupKey → ℕ → Type 0
 IsNumber keys key number = (number ≡ number_in keys key) × (number_in keys key < length keys)
 
-module _ (keys : List GroupKey) (clause : Demand) (parent rows : ℕ) (condition : Option ℕ)
-    (of_parent : IsNumber keys (Parent clause.parent) parent)
-    (of_rows : IsNumber keys (Rows clause.requirement) rows) where
-  -- these are the numbers of the clause's groups
-  abbrev pub AreGroups : Type 0
-  AreGroups = (numbers parent condition rows ≡ numbers_in keys clause) × HasGroups keys clause
+-- the condition's number stays as keys come
+pub condition_kept : (old new : List GroupKey) → KeepsNumbers old new → (condition : Option ℕ)
+    → HasConditionGroup old condition
+    → (condition_number new condition ≡ condition_number old condition) × HasConditionGroup new condition
+condition_kept old new keeps None there = (refl, tt)
+condition_kept old new keeps (Some d) there = let kept = keeps (Condition d) there in (ap Some kept.0, kept.1)
 
-  abbrev IsThere : ℕ → Type 0
-  IsThere number = number < length keys
-
-  pub groups_none : clause.condition ≡ None → condition ≡ None → AreGroups
-  groups_none none is =
-      let of = number_in keys in
-      let e = of_parent.0 in
-      let f = of_rows.0 in
-      let same : ◌≡◌ {A = List ℕ} (parent ∷ rows ∷ []) (of (Parent clause.parent) ∷ of (Rows clause.requirement) ∷ []) =
-      cc in (
-        ap (λ o. numbers parent o rows) is ∙ (same ∙ sym (ap (λ o. map of (keys_under o clause)) none)),
-        subst (λ o. All IsThere (map of (keys_under o clause))) (sym none)
-            (all_two IsThere (of (Parent clause.parent)) (of (Rows clause.requirement)) of_parent.1 of_rows.1),
-      )
-
-  pub groups_some : (d number : ℕ) → clause.condition ≡ Some d → condition ≡ Some number
-      → IsNumber keys (Condition d) number → AreGroups
-  groups_some d number some is of_condition =
-      let of = number_in keys in
-      let e = of_parent.0 in
-      let f = of_condition.0 in
-      let h = of_rows.0 in
-      let same : ◌≡◌ {A = List ℕ} (parent ∷ number ∷ rows ∷ [])
-      (of (Parent clause.parent) ∷ of (Condition d) ∷ of (Rows clause.requirement) ∷ []) = cc in (
-        ap (λ o. numbers parent o rows) is ∙ (same ∙ sym (ap (λ o. map of (keys_under o clause)) some)),
-        subst (λ o. All IsThere (map of (keys_under o clause))) (sym some)
-            (all_three IsThere (of (Parent clause.parent)) (of (Condition d)) (of (Rows clause.requirement))
-            of_parent.1 of_condition.1 of_rows.1),
-      )
+-- these are the numbers of the clause's groups
+pub groups_are : (keys : List GroupKey) (clause : Demand) (parent rows : ℕ) (condition : Option ℕ)
+    → IsNumber keys (Parent clause.parent) parent → IsNumber keys (Rows clause.requirement) rows
+    → condition ≡ condition_number keys clause.condition → HasConditionGroup keys clause.condition
+    → (numbers parent condition rows ≡ numbers_in keys clause) × HasGroups keys clause
+groups_are keys clause parent rows condition of_parent of_rows is there =
+    let all = under clause.condition there in (
+      ap (λ o. numbers parent o rows) is
+          ∙ (ap (λ n. numbers n (condition_number keys clause.condition) rows) of_parent.0
+          ∙ (ap (numbers (number_in keys (Parent clause.parent)) (condition_number keys clause.condition)) of_rows.0
+          ∙ all.0)),
+      all.1,
+    )
+  where
+    under : (o : Option ℕ) → HasConditionGroup keys o
+        → (numbers (number_in keys (Parent clause.parent)) (condition_number keys o)
+        (number_in keys (Rows clause.requirement)) ≡ map (number_in keys) (keys_under o clause))
+        × All (λ number. number < length keys) (map (number_in keys) (keys_under o clause))
+    under None has = (refl, all_two (λ number. number < length keys) _ _ of_parent.1 of_rows.1)
+    under (Some d) has = (refl, all_three (λ number. number < length keys) _ _ _ of_parent.1 has of_rows.1)

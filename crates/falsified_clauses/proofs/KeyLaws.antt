@@ -1,10 +1,12 @@
 -- Keys, and the numbers of their groups.
-use Rattle.std.proofs.Common.{◌≡◌, ℕ, ◌+◌, ◌<◌, ◌≤◌, Bool, true, false, not, cond, List, [], ◌∷◌, ◌++◌}
-use Rattle.std.proofs.Common.{length, get_or, map, Option, Some, None, position, Result, Ok, Err, IfOk, OnOk}
+use Rattle.std.proofs.Common.{◌≡◌, ◌⊎◌, ℕ, ◌+◌, ◌<◌, ◌≤◌, Bool, true, false, not, cond, List, [], ◌∷◌, ◌++◌}
+use Rattle.std.proofs.Common.{length, get_or, map, Option, Some, None, position, Result, Ok, Err, IfOk, OnOk, OnErr}
 use Rattle.std.proofs.Common.{refl, sym, ap, ◌∙◌, subst, arith, inl, inr, true≢false}
 use Rattle.std.proofs.lemmas.Bool.{cases_lt, cases_Bool, eq-eqb, ne_eqb, eqb-true, lt-ltb, le-ltb}
 use Rattle.std.proofs.lemmas.Option.{none-some}
 use Rattle.std.proofs.lemmas.List.{get_or-map, length-append}
+use Rattle.std.specs.List.{All, Contains}
+use Rattle.std.proofs.lemmas.List.Elements.{All-contains, All-contains_itself, All-push, All-weaker}
 use Rattle.std.proofs.lemmas.List.Folds.{position_or_len_push}
 use Rattle.std.proofs.lemmas.List.Sums.{passes_at_first, prefix_len-le-length}
 use Rattle.typed_ids.specs.TotalMaps.{IsUpdate}
@@ -13,7 +15,7 @@ use Rattle.providers.specs.declared.requirement.Requirement.{Requirement}
 use Rattle.providers.specs.declared.requirement.Requirement.TheVariants.{Single, Union}
 use Rattle.falsified_clauses.specs.declared.group_key.GroupKey.{GroupKey}
 use Rattle.falsified_clauses.specs.declared.group_key.GroupKey.TheVariants.{Parent, Condition, Rows}
-use Rattle.falsified_clauses.specs.GroupKeys.{same_key, number_in, KeepsNumbers}
+use Rattle.falsified_clauses.specs.GroupKeys.{same_key, number_in, KeepsNumbers, AddsOnly}
 use Rattle.falsified_clauses.specs.GroupIndex.{FindsKeys}
 
 -- ---- equal keys
@@ -143,16 +145,47 @@ finds_pushed old new keys key finds absent put other = elim (cases_Bool (same_ke
 -- ---- a key that was made last
 
 module _ {E : Type 0} (old new : List GroupKey) (key : GroupKey) (absent : number_in old key ≡ length old) where
-  pub made_number : {X : Type 0} (P : X → Type 0) (r : Result ℕ E) → OnOk r (new ≡ old ++ key ∷ [])
-      → IfOk r (λ group. group ≡ length old) → IfOk r (λ group. (x : X) → P x → group ≡ number_in new key)
-  made_number P (Ok group) is last = λ x p.
-      last ∙ (sym (number_pushed old key absent) ∙ ap (λ ks. number_in ks key) (sym is))
-  made_number P (Err e) is last = tt
+  pub made_number : (r : Result ℕ E) → OnOk r (new ≡ old ++ key ∷ []) → IfOk r (λ group. group ≡ length old)
+      → IfOk r (λ group. group ≡ number_in new key)
+  made_number (Ok group) is last = last ∙ (sym (number_pushed old key absent) ∙ ap (λ ks. number_in ks key) (sym is))
+  made_number (Err e) is last = tt
 
-  pub made_there : (r : Result ℕ E) → OnOk r (new ≡ old ++ key ∷ [])
-      → IfOk r (λ group. number_in new key < length new)
+  pub made_there : (r : Result ℕ E) → OnOk r (new ≡ old ++ key ∷ []) → OnOk r (number_in new key < length new)
   made_there (Ok group) is = subst (λ ks. number_in ks key < length ks) (sym is) (pushed_there old key absent)
   made_there (Err e) is = tt
+
+-- ---- which keys come
+
+pub adds_none : (P : GroupKey → Type 0) (keys : List GroupKey) → AddsOnly P keys keys
+adds_none P keys = All-weaker (Contains keys) (λ k. Contains keys k ⊎ P k) (λ k there. inl there) keys
+    (All-contains_itself keys)
+
+pub adds_made : {E : Type 0} (old new : List GroupKey) (key : GroupKey) (r : Result ℕ E)
+    → OnOk r (new ≡ old ++ key ∷ []) → OnErr r (new ≡ old) → AddsOnly (λ other. other ≡ key) old new
+adds_made old new key (Ok group) is same = subst (AddsOnly (λ other. other ≡ key) old) (sym is)
+    (All-push (λ k. Contains old k ⊎ (k ≡ key)) old key (adds_none (λ other. other ≡ key) old) (inr refl))
+adds_made old new key (Err e) is same =
+    subst (AddsOnly (λ other. other ≡ key) old) (sym same) (adds_none (λ other. other ≡ key) old)
+
+pub adds_within : (P Q : GroupKey → Type 0) (old new : List GroupKey) → ((k : GroupKey) → P k → Q k)
+    → AddsOnly P old new → AddsOnly Q old new
+adds_within P Q old new weaker adds =
+    All-weaker (λ k. Contains old k ⊎ P k) (λ k. Contains old k ⊎ Q k)
+    (λ k e. elim e [ inl there ↦ inl there | inr is ↦ inr (weaker k is) ]) new adds
+
+-- of those of a list
+pub adds_listed : (keys old new : List GroupKey) (key : GroupKey) → Contains keys key
+    → AddsOnly (λ other. other ≡ key) old new → AddsOnly (Contains keys) old new
+adds_listed keys old new key in' adds =
+    adds_within (λ other. other ≡ key) (Contains keys) old new (λ k is. subst (Contains keys) (sym is) in') adds
+
+pub adds_both : (P : GroupKey → Type 0) (a b c : List GroupKey) → AddsOnly P a b → AddsOnly P b c → AddsOnly P a c
+adds_both P a b c first next =
+    All-weaker (λ k. Contains b k ⊎ P k) (λ k. Contains a k ⊎ P k)
+    (λ k e. elim e [
+      | inl there ↦ All-contains (λ x. Contains a x ⊎ P x) b k first there
+      | inr may ↦ inr may
+    ]) c next
 
 -- ---- what a key names
 

@@ -1,4 +1,4 @@
--- Requires clauses with their positions, over lists of rows, disjunctions and false literals.
+-- Requires clauses with the first clauses of their parents, over lists of rows, disjunctions and false literals.
 use Rattle.std.specs.Prelude.{ℕ, Bool, not, ◌&&◌, ◌||◌, List, [], ◌∷◌, ◌++◌, slice_index_or, Option, None}
 use Rattle.std.specs.Map.{lookup}
 use Rattle.std.specs.declared.vec.Vec.{Vec}
@@ -10,20 +10,18 @@ use Rattle.decisions.specs.Decisions.{values_in}
 use Rattle.clauses.specs.Clauses.{same_literal}
 use Rattle.clauses.specs.Stored.{lists_found}
 use Rattle.clauses.specs.declared.disjunction.Disjunction.{Disjunction}
-use Rattle.clause_counters.specs.FalsifiedHeap.{no_position}
-use Rattle.clause_counters.specs.declared.position.Position.{Position}
 use Rattle.falsified_clauses.specs.declared.demand.Demand.{Demand}
 
--- a clause, and where it stands among the clauses
+-- a clause, and the number of the first clause of its parent, which places it among the clauses
 pub record PlacedDemand : Type 0 where
   pub demand : Demand
-  pub position : Position
+  pub first_of_parent : ℕ
 
 -- what stands past the last clause
 abbrev pub no_clause : PlacedDemand
 no_clause = record {
   demand = record { parent = 0; requirement = Single (record { 0 = 0 }); condition = None };
-  position = no_position;
+  first_of_parent = 0;
 }
 
 -- the lists of candidates by requirements; A are the allocators
@@ -60,9 +58,9 @@ module _ {A : Type 0} where
   clause_at s number = slice_index_or s.clauses number no_clause
 
   -- a clause comes
-  abbrev pub with_clause : Demand → Position → Counted A → Counted A
-  with_clause demand position s =
-      record s { clauses = s.clauses ++ (record { demand = demand; position = position }) ∷ [] }
+  abbrev pub with_clause : Demand → ℕ → Counted A → Counted A
+  with_clause demand first_of_parent s =
+      record s { clauses = s.clauses ++ (record { demand = demand; first_of_parent = first_of_parent }) ∷ [] }
 
   -- a literal becomes false, or undecided
   abbrev pub with_false : Lit → Counted A → Counted A

@@ -13,9 +13,9 @@ pub record KeyedCounters : Type 0 where
   pub keys : List GroupKey
   pub counters : Kept
 
--- a clause as the counters have it: the numbers of its groups, and its position
+-- a clause as the counters have it: the numbers of its groups, and that of the first clause of its parent
 abbrev pub group_clause : List GroupKey → PlacedDemand → GroupClause
-group_clause keys clause = record { groups = numbers_in keys clause.demand; position = clause.position }
+group_clause keys clause = record { groups = numbers_in keys clause.demand; first_of_parent = clause.first_of_parent }
 
 module _ {A : Type 0} where
   -- what the counters show: the literals of each key's group, the clauses, and the false literals
@@ -32,7 +32,7 @@ module _ {A : Type 0} where
     pub grouped : All (λ c. HasGroups kept.keys c.demand) s.clauses
     pub known : All (IsKnown s.lists s.disjunctions) kept.keys
 
-  -- whatever clauses were counted still are, if the rest is as it is here
+  -- whatever clauses were counted still are: the function tells the rest, which is the same before and after
   abbrev pub KeepsCounts : (List PlacedDemand → Counted A) → KeyedCounters → KeyedCounters → Type 0
   KeepsCounts at old new = (clauses : List PlacedDemand) → Counts old (at clauses) → Counts new (at clauses)
 

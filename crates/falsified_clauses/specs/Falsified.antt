@@ -1,15 +1,15 @@
 -- When a requires clause is falsified, and which falsified one comes first.
-use Rattle.std.specs.Prelude.{◌≡◌, ℕ, ◌<◌, Bool, true, false, ◌&&◌, [], length, Option, Some, None}
+use Rattle.std.specs.Prelude.{ℕ, Bool, ◌&&◌, [], length, Option}
 use Rattle.std.specs.List.{list_all}
 use Rattle.decisions.specs.Literals.{Pos, Neg}
 use Rattle.clauses.specs.Clauses.{condition_literals}
 use Rattle.clauses.specs.Stored.{kept_in}
-use Rattle.clause_counters.specs.FalsifiedHeap.{is_before}
+use Rattle.clause_counters.specs.First.{IsFirstOf}
 use Rattle.falsified_clauses.specs.declared.demand.Demand.{Demand}
 use Rattle.falsified_clauses.specs.Clauses.{Counted, clause_at, rows}
 
 module _ {A : Type 0} (s : Counted A) where
-  -- the negation of its parent is false; each literal of its condition's disjunction is, if it has one; each row is
+  -- its parent's negation is false, and so is each literal of its condition's disjunction, and each row
   abbrev pub is_falsified : Demand → Bool
   is_falsified clause = s.is_false (Neg clause.parent)
       && list_all s.is_false (condition_literals (kept_in [] [] s.disjunctions) clause.condition)
@@ -19,9 +19,6 @@ module _ {A : Type 0} (s : Counted A) where
   abbrev pub is_falsified_at : ℕ → Bool
   is_falsified_at number = is_falsified (clause_at s number).demand
 
-  -- the answer is a falsified clause before which none is, and none if no clause is falsified
+  -- the answer is the first of the falsified clauses
   abbrev pub IsFirstFalsified : Option ℕ → Type 0
-  IsFirstFalsified None = (c : ℕ) → c < length s.clauses → is_falsified_at c ≡ false
-  IsFirstFalsified (Some first) = (first < length s.clauses) × (is_falsified_at first ≡ true)
-      × ((c : ℕ) → c < length s.clauses → is_falsified_at c ≡ true
-      → is_before (clause_at s c).position (clause_at s first).position ≡ false)
+  IsFirstFalsified answer = IsFirstOf (λ c. (clause_at s c).first_of_parent) (length s.clauses) is_falsified_at answer

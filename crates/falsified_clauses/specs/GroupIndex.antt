@@ -26,7 +26,7 @@ has_place table index = nat_lt index (length table) && nat_lt index (2 ^ 40)
 abbrev pub SameSlots : {K : Type 0} → ℕ → (K → ℕ) → List (Option ℕ) → List (Option ℕ) → Type 0
 SameSlots {K} limit index_of old new = (id : K) → slot_at limit new (index_of id) ≡ slot_at limit old (index_of id)
 
--- the number of a key's group, if it has one
+-- the number of a key's group, if it has one; each limit is that of the ids that the table is by
 abbrev pub number_of : Tables → GroupKey → Option ℕ
 number_of tables (Parent parent) = slot_at (2 ^ 31 - 1) tables.parents parent
 number_of tables (Condition d) = slot_at (2 ^ 32 - 1) tables.conditions d

@@ -1,7 +1,7 @@
 -- The groups of literals that clauses are made of, by what they are of.
-use Rattle.std.specs.Prelude.{◌≡◌, ℕ, ◌<◌, Bool, false, ◌==◌, List, [], ◌∷◌, length, map}
-use Rattle.std.specs.Prelude.{Option, Some, None, IsSome}
-use Rattle.std.specs.List.{All, position_or_len}
+use Rattle.std.specs.Prelude.{◌≡◌, ◌⊎◌, ℕ, ◌<◌, Bool, false, ◌==◌, List, [], ◌∷◌, length, map}
+use Rattle.std.specs.Prelude.{Option, Some, None, IsSome, IfSome, option_map}
+use Rattle.std.specs.List.{All, Contains, position_or_len}
 use Rattle.std.specs.Map.{lookup}
 use Rattle.providers.specs.Requirement.{same_requirement}
 use Rattle.decisions.specs.Literals.{Lit, Neg}
@@ -42,6 +42,22 @@ number_in keys key = position_or_len (same_key key) keys
 abbrev pub KeepsNumbers : List GroupKey → List GroupKey → Type 0
 KeepsNumbers old new = (key : GroupKey) → number_in old key < length old
     → (number_in new key ≡ number_in old key) × (number_in new key < length new)
+
+-- the number of the group of a condition, if there is one
+abbrev pub condition_number : List GroupKey → Option ℕ → Option ℕ
+condition_number keys condition = option_map (λ d. number_in keys (Condition d)) condition
+
+-- and there is that group
+abbrev pub HasConditionGroup : List GroupKey → Option ℕ → Type 0
+HasConditionGroup keys condition = IfSome condition (λ d. number_in keys (Condition d) < length keys)
+
+-- the key is that of the condition, if there is one
+abbrev pub IsConditionKey : Option ℕ → GroupKey → Type 0
+IsConditionKey condition key = (d : ℕ) × (condition ≡ Some d) × (key ≡ Condition d)
+
+-- each key was there, or is one that may come
+abbrev pub AddsOnly : (GroupKey → Type 0) → List GroupKey → List GroupKey → Type 0
+AddsOnly MayCome old new = All (λ key. Contains old key ⊎ MayCome key) new
 
 -- the numbers of a clause's groups, of which that of the condition may be missing
 abbrev pub numbers : ℕ → Option ℕ → ℕ → List ℕ

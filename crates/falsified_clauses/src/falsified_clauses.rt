@@ -9,7 +9,9 @@ ghost use Rattle.clauses.specs.declared.disjunction.Disjunction.{Disjunction};
 ghost use Rattle.falsified_clauses.specs.declared.demand.Demand.{Demand};
 ghost use Rattle.falsified_clauses.specs.Clauses.{PlacedDemand, Lists, Counted, counted, counted_under};
 ghost use Rattle.falsified_clauses.specs.Clauses.{with_clause, with_false, with_undecided};
-ghost use Rattle.falsified_clauses.specs.GroupKeys.{IsKnown, number_in, KeepsNumbers};
+ghost use Rattle.falsified_clauses.specs.GroupKeys.{IsKnown, keys_of, number_in, KeepsNumbers, AddsOnly};
+ghost use Rattle.falsified_clauses.specs.GroupKeys.{condition_number, HasConditionGroup, IsConditionKey};
+ghost use Rattle.std.specs.List.{Contains};
 ghost use Rattle.falsified_clauses.specs.Falsified.{IsFirstFalsified};
 ghost use Rattle.falsified_clauses.specs.Counts.{Counts, KeepsCounts, CanAdd, IsReady};
 
@@ -19,7 +21,7 @@ use crate::group_index::GroupIndex;
 use crate::group_key::GroupKey;
 use crate::key_group::add_key_group;
 use crate::key_log::KeyLog;
-use clause_counters::{ClauseCounters, Position};
+use clause_counters::ClauseCounters;
 use clauses::Disjunction;
 use decisions::{DecisionMap, Literal};
 use id_storage::Arena;
@@ -28,17 +30,12 @@ use std::alloc::Allocator;
 use std::marker::Model;
 use typed_ids::{DisjunctionId, StoreError, VariableId};
 
-/// The largest number of groups: 2^32 - 1.
-const GROUP_LIMIT: u32 = 4294967295;
-
 /// Requires clauses, counted as literals become false and undecided. They are numbered in the order in which they are
 /// added.
 #[derive(Drop)]
 pub struct FalsifiedClauses<A: Allocator + Copy> {
     /// What each group is of, by the group's number.
     keys: KeyLog,
-    /// How many groups there are.
-    count: u32,
     /// The number of each key's group.
     index: GroupIndex<A>,
     counters: ClauseCounters<A>,
@@ -54,7 +51,8 @@ impl<A: Allocator + Copy> Model for FalsifiedClauses<A> {
 
     ghost view = { λ f. record { keys = f.keys.items; counters = f.counters } };
 
-    ghost invariant = { λ f. (f.count ≡ length f.keys.items) × FindsKeys (number_of f.index) f.keys.items };
+    ghost invariant = { λ f. (length f.counters.groups ≡ length f.keys.items)
+        × FindsKeys (number_of f.index) f.keys.items };
 }
 
 impl<A: Allocator + Copy> FalsifiedClauses<A> {
@@ -65,15 +63,14 @@ impl<A: Allocator + Copy> FalsifiedClauses<A> {
     {
         FalsifiedClauses {
             keys: KeyLog::new(),
-            count: 0,
             index: GroupIndex::new(alloc),
             counters: ClauseCounters::new(alloc),
         }
     }
 
     /// The groups of a clause, and room for it: then [`FalsifiedClauses::add`] may add it. The groups that it lacks are
-    /// made, of which the values make some literals false. Whatever the result, the clauses are the same. Once all
-    /// 2^32 - 1 numbers of groups are given out, a new group is out of memory.
+    /// made, and no others. The values have to make false what the counters were told is false. Whatever the result,
+    /// the clauses are the same. Once all 2^32 - 1 numbers of groups are given out, a new group is out of memory.
     pub fn prepare(
         &mut self,
         clause: Demand,
@@ -87,16 +84,11 @@ impl<A: Allocator + Copy> FalsifiedClauses<A> {
         ensures ready { IfOk result (λ groups. (clauses : List PlacedDemand)
             → Counts self.old (counted_under lists.now disjunctions.now values.now clauses)
             → IsReady self.new clause groups) }
+        ensures keys { AddsOnly (Contains (keys_of clause)) self.old.keys self.new.keys }
         ensures memory { IfErr result (λ e. e ≡ OutOfMemory) }
     {
         let parent = self.group(GroupKey::Parent(clause.parent), lists, disjunctions, values)?;
-        let condition = match clause.condition {
-            None => None,
-            Some(disjunction) => {
-                let key = GroupKey::Condition(disjunction);
-                Some(self.group(key, lists, disjunctions, values)?)
-            }
-        };
+        let condition = self.condition_group(clause.condition, lists, disjunctions, values)?;
         let rows = self.group(
             GroupKey::Rows(clause.requirement),
             lists,
@@ -111,20 +103,20 @@ impl<A: Allocator + Copy> FalsifiedClauses<A> {
         })
     }
 
-    /// Adds the clause of which these are the groups, at this position. Takes no memory.
-    pub fn add(&mut self, groups: ClauseGroups, position: Position)
+    /// Adds the clause of which these are the groups, and whose parent has this first clause. Takes no memory.
+    pub fn add(&mut self, groups: ClauseGroups, first_of_parent: u32)
         requires { CanAdd self.old groups }
         ensures { (s : Counted A) (clause : Demand) → IsReady self.old clause groups
-            → Counts self.old s → Counts self.new (with_clause clause position s) }
+            → Counts self.old s → Counts self.new (with_clause clause first_of_parent s) }
     {
         match groups.condition {
             None => {
                 self.counters
-                    .add_clause(&[groups.parent, groups.rows], position);
+                    .add_clause(&[groups.parent, groups.rows], first_of_parent);
             }
             Some(condition) => {
                 self.counters
-                    .add_clause(&[groups.parent, condition, groups.rows], position);
+                    .add_clause(&[groups.parent, condition, groups.rows], first_of_parent);
             }
         }
     }
@@ -143,12 +135,38 @@ impl<A: Allocator + Copy> FalsifiedClauses<A> {
         self.counters.make_undecided(literal);
     }
 
-    /// The number of the falsified clause that comes first. Takes no memory.
+    /// The number of the falsified clause that comes first, `None` if no clause is falsified. Takes no memory.
     pub fn first(&mut self) -> Option<u32>
         ensures same { (s : Counted A) → Counts self.old s → Counts self.new s }
         ensures first { (s : Counted A) → Counts self.old s → IsFirstFalsified s result }
     {
         self.counters.first()
+    }
+
+    /// The number of the group of a condition, if there is one.
+    fn condition_group(
+        &mut self,
+        condition: Option<DisjunctionId>,
+        lists: &RequirementMap<Vec<Vec<VariableId, A>, A>, A>,
+        disjunctions: &Arena<DisjunctionId, Disjunction<A>, A>,
+        values: &DecisionMap<A>,
+    ) -> Result<Option<u32>, StoreError>
+        requires { IfSome condition (λ d. d < length disjunctions.now) }
+        ensures same { KeepsCounts (counted_under lists.now disjunctions.now values.now) self.old self.new }
+        ensures number { IfOk result (λ number. number ≡ condition_number self.new.keys condition) }
+        ensures there { OnOk result (HasConditionGroup self.new.keys condition) }
+        ensures others { KeepsNumbers self.old.keys self.new.keys }
+        ensures keys { AddsOnly (IsConditionKey condition) self.old.keys self.new.keys }
+        ensures memory { IfErr result (λ e. e ≡ OutOfMemory) }
+    {
+        match condition {
+            None => Ok(None),
+            Some(disjunction) => {
+                let key = GroupKey::Condition(disjunction);
+                let group = self.group(key, lists, disjunctions, values)?;
+                Ok(Some(group))
+            }
+        }
     }
 
     /// The number of a key's group, which is made if there is none.
@@ -161,11 +179,10 @@ impl<A: Allocator + Copy> FalsifiedClauses<A> {
     ) -> Result<u32, StoreError>
         requires known { IsKnown lists.now disjunctions.now key }
         ensures same { KeepsCounts (counted_under lists.now disjunctions.now values.now) self.old self.new }
-        ensures number { IfOk result (λ group. (clauses : List PlacedDemand)
-            → Counts self.old (counted_under lists.now disjunctions.now values.now clauses)
-            → group ≡ number_in self.new.keys key) }
-        ensures there { IfOk result (λ _. number_in self.new.keys key < length self.new.keys) }
+        ensures number { IfOk result (λ group. group ≡ number_in self.new.keys key) }
+        ensures there { OnOk result (number_in self.new.keys key < length self.new.keys) }
         ensures others { KeepsNumbers self.old.keys self.new.keys }
+        ensures keys { AddsOnly (λ other. other ≡ key) self.old.keys self.new.keys }
         ensures memory { IfErr result (λ e. e ≡ OutOfMemory) }
     {
         if let Some(group) = self.index.number(key) {
@@ -190,15 +207,10 @@ impl<A: Allocator + Copy> FalsifiedClauses<A> {
         ensures refused { OnErr result (self.new.keys ≡ self.old.keys) }
         ensures memory { IfErr result (λ e. e ≡ OutOfMemory) }
     {
-        let group = self.count;
-        if group >= GROUP_LIMIT {
-            return Err(StoreError::OutOfMemory);
-        }
         self.index.make_room(*key)?;
-        add_key_group(&mut self.counters, *key, lists, disjunctions, values)?;
+        let group = add_key_group(&mut self.counters, *key, lists, disjunctions, values)?;
         self.index.put(*key, group);
         self.keys = self.keys.and(key);
-        self.count = group + 1;
         Ok(group)
     }
 }

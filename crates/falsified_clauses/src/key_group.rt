@@ -1,5 +1,5 @@
 //! The group of a key, made in the counters.
-ghost use Rattle.std.specs.Prelude.{◌≡◌, IfOk, OnErr, IfErr};
+ghost use Rattle.std.specs.Prelude.{◌≡◌, ◌+◌, length, IfOk, OnOk, OnErr, IfErr};
 ghost use Rattle.typed_ids.specs.declared.error.StoreError.TheVariants.{OutOfMemory};
 ghost use Rattle.decisions.specs.Decisions.{values_in};
 ghost use Rattle.decisions.specs.Literals.{is_false_literal};
@@ -26,6 +26,8 @@ pub(crate) fn add_key_group<A: Allocator + Copy>(
     requires known { IsKnown lists.now disjunctions.now key }
     ensures ok { IfOk result (λ group. AddsGroup counters.old (literals_of lists.now disjunctions.now key)
         (is_false_literal (values_in values.now)) group counters.new) }
+    ensures number { IfOk result (λ group. group ≡ length counters.old.groups) }
+    ensures groups { OnOk result (length counters.new.groups ≡ length counters.old.groups + 1) }
     ensures err { OnErr result (counters.new ≡ counters.old) }
     ensures memory { IfErr result (λ e. e ≡ OutOfMemory) }
 {

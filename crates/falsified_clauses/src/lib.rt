@@ -21,9 +21,9 @@
 //!
 //! A clause is added in two steps: `prepare` takes all memory and may refuse, `add` can't.
 //!
-//! What is kept `Counts` clauses with their positions, over lists of rows, disjunctions and a function that tells the
-//! false literals (`specs/Clauses`, `specs/Counts`). Each contract says what its call does to that. When a clause is
-//! falsified is said in `specs/Falsified`, by the clause's own parts.
+//! What is kept `Counts` clauses, each with the first clause of its parent, over lists of rows, disjunctions and a
+//! function that tells the false literals (`specs/Clauses`, `specs/Counts`). Each contract says what its call does to
+//! that. When a clause is falsified is said in `specs/Falsified`, by the clause's own parts.
 #![tactic(auto)]
 
 mod clause_groups;
@@ -36,7 +36,6 @@ mod key_log;
 #[cfg(test)]
 mod tests;
 
-pub use clause_counters::Position;
 pub use clause_groups::ClauseGroups;
 pub use demand::Demand;
 pub use falsified_clauses::FalsifiedClauses;

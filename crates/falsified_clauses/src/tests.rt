@@ -5,7 +5,6 @@ ghost use Rattle.falsified_clauses.specs.Counts.{Counts};
 
 use crate::demand::Demand;
 use crate::falsified_clauses::FalsifiedClauses;
-use clause_counters::Position;
 use clauses::Disjunction;
 use decisions::{DecisionMap, Literal};
 use id_storage::Arena;
@@ -88,11 +87,11 @@ fn two_clauses(alloc: Global, named: &Named) -> Result<FalsifiedClauses<Global>,
     Ok(falsified)
 }
 
-/// Adds the clause under this condition, at this position.
+/// Adds the clause under this condition, as if its parent had this first clause.
 fn add(
     falsified: &mut FalsifiedClauses<Global>,
     condition: Option<DisjunctionId>,
-    number: u32,
+    first_of_parent: u32,
     named: &Named,
 ) -> Result<(), StoreError>
     requires known { IfSome condition (λ d. d < length named.now.disjunctions) }
@@ -111,11 +110,7 @@ fn add(
         condition,
     };
     let groups = falsified.prepare(clause, &named.lists, &named.disjunctions, &named.values)?;
-    let position = Position {
-        first_of_parent: 3,
-        number,
-    };
-    falsified.add(groups, position);
+    falsified.add(groups, first_of_parent);
     Ok(())
 }
 

@@ -1,14 +1,14 @@
 -- What the counters count follows the trail and the registered clauses.
 use Rattle.std.proofs.Common.{◌≡◌, ℕ, zero, suc, ◌+◌, ◌-◌, ◌<◌, ◌≤◌, Bool, true, false, not, ◌&&◌, ◌||◌, cond, eqb, List, [], ◌∷◌, ◌++◌, length, get_or, map, take, Option, Some, None, option_map, Result, Ok, Err, refl, sym, ap, ◌∙◌, subst, arith, le_refl}
 use Rattle.std.specs.Prelude.{slice_get, nat_lt, OnOk, OnErr}
-use Rattle.std.specs.List.{list_all}
+use Rattle.std.specs.List.{All, list_all}
 use Rattle.std.specs.declared.vec.Vec.{Vec}
 use Rattle.providers.specs.declared.requirement.Requirement.{Requirement}
 use Rattle.std.proofs.lemmas.Option.{slice_get-map, slice_get-get_or}
 use Rattle.std.proofs.lemmas.List.{length-take, take-take, take_all, take_more}
 use Rattle.std.proofs.Math.Path.{fun_ext}
 use Rattle.std.proofs.lemmas.Bool.{eqb-true, eq-eqb, le-ltb}
-use Rattle.std.proofs.lemmas.List.{length-append}
+use Rattle.std.proofs.lemmas.List.{length-append, map_push}
 use Rattle.decisions.specs.Literals.{Lit, Pos, Neg, known_false}
 use Rattle.decisions.specs.Trail.{Entry, Trail, val, level_of, kept_until, IsOnce, AddsEntry}
 use Rattle.decisions.specs.declared.decision.Decision.{Decision}
@@ -16,7 +16,6 @@ use Rattle.decisions.specs.declared.decision_tracker.AddFault.{AddFault}
 use Rattle.decisions.proofs.TrailLemmas.{val-push}
 use Rattle.clauses.specs.Clauses.{same_literal}
 use Rattle.clauses.specs.declared.disjunction.Disjunction.{Disjunction}
-use Rattle.clause_counters.specs.declared.position.Position.{Position as Place}
 use Rattle.falsified_clauses.specs.Clauses.{Counted, PlacedDemand, counted, with_false, with_undecided}
 use Rattle.falsified_clauses.specs.Counts.{Counts, KeyedCounters}
 use Rattle.falsified_clauses.proofs.Laws.{counts_disjunctions}
@@ -25,7 +24,7 @@ use Rattle.resolvo_queue.specs.declared.requires_clause.RequiresClause.{Requires
 use Rattle.resolvo_queue.specs.declared.tracked_clause.Position.{Position}
 use Rattle.resolvo_queue.proofs.Falsified.Least.{next_position, position_stays}
 use Rattle.resolvo_store.specs.Lists.{IsOneMore}
-use Rattle.resolvo_store.specs.Counted.{Counting, Follows, no_false, false_literal, false_by, demand_of, placed, placed_from, placed_in}
+use Rattle.resolvo_store.specs.Counted.{Counting, Follows, no_false, false_literal, false_by, demand_of, placed, placed_in}
 
 -- ---- one entry more, or less
 
@@ -276,45 +275,31 @@ follows_all kept s es all counts = record {
 
 -- ---- one clause more
 
-placed_pushed : (all : List RequiresClause) (i : ℕ) (cs : List RequiresClause) (c : RequiresClause)
-    → placed_from all i (cs ++ c ∷ []) ≡ placed_from all i cs ++ placed_in all (i + length cs) c ∷ []
-placed_pushed all i [] c = ap (λ n. placed_in all n c ∷ []) (let same : i ≡ i + 0 = omega arith in same)
-placed_pushed all i (d ∷ cs) c =
-    ap (λ xs. placed_in all i d ∷ xs) (placed_pushed all (suc i) cs c
-    ∙ ap (λ n. placed_from all (suc i) cs ++ placed_in all n c ∷ []) (let same : suc i + length cs ≡ i + suc (length cs) = omega arith in same))
+-- a clause whose parent has this first clause
+abbrev at_parent : RequiresClause → ℕ → PlacedDemand
+at_parent c first = record { demand = demand_of c; first_of_parent = first }
 
-placed_same : (all more : List RequiresClause) (i : ℕ) (cs : List RequiresClause)
-    → ((n : ℕ) (c : RequiresClause) → slice_get cs n ≡ Some c → placed_in more (i + n) c ≡ placed_in all (i + n) c) → placed_from more i cs ≡ placed_from all i cs
-placed_same all more i [] same = refl
-placed_same all more i (c ∷ cs) same =
-    let first : i + 0 ≡ i = omega arith in
-    let head : placed_in more i c ≡ placed_in all i c = subst (λ n. placed_in more n c ≡ placed_in all n c) first (same 0 c refl) in
-    ap (λ x. x ∷ placed_from more (suc i) cs) head
-    ∙ ap (λ xs. placed_in all i c ∷ xs) (placed_same all more (suc i) cs
-    (λ n d at. let next : i + suc n ≡ suc i + n = omega arith in subst (λ m. placed_in more m d ≡ placed_in all m d) next (same (suc n) d at)))
+-- clauses that stand where they did
+placed_same : (all more cs : List RequiresClause) → All (λ c. first_of more c.parent ≡ first_of all c.parent) cs → map (placed_in more) cs ≡ map (placed_in all) cs
+placed_same all more [] same = refl
+placed_same all more (c ∷ cs) same =
+    ap (λ n. at_parent c n ∷ map (placed_in more) cs) (same 0 c (omega arith))
+    ∙ ap (λ xs. placed_in all c ∷ xs) (placed_same all more cs (λ i d l. same (suc i) d (omega (arith, l))))
 
 -- the clauses that are there stay, and the new one stands where the next one was to stand
-pub placed_more : (cs : List RequiresClause) (c : RequiresClause) → placed (cs ++ c ∷ []) ≡ placed cs ++ placed_in cs (length cs) c ∷ []
+pub placed_more : (cs : List RequiresClause) (c : RequiresClause) → placed (cs ++ c ∷ []) ≡ placed cs ++ placed_in cs c ∷ []
 placed_more cs c =
-    placed_pushed (cs ++ c ∷ []) 0 cs c
-    ∙ (ap (λ xs. xs ++ placed_in (cs ++ c ∷ []) (0 + length cs) c ∷ [])
-    (placed_same cs (cs ++ c ∷ []) 0 cs (λ n d at. ap (at_place d (0 + n)) (position_stays cs c n d at)))
-    ∙ ap (λ x. placed cs ++ x ∷ []) (ap (λ n. placed_in (cs ++ c ∷ []) n c) (let none : 0 + length cs ≡ length cs = omega arith in none)
-    ∙ ap (at_place c (length cs)) (next_position cs c)))
-  where
-    at_place : RequiresClause → ℕ → Position → PlacedDemand
-    at_place d n p = record { demand = demand_of d; position = record { first_of_parent = p.first_of_parent; number = n } }
+    map_push (placed_in (cs ++ c ∷ [])) cs c
+    ∙ (ap (λ xs. xs ++ placed_in (cs ++ c ∷ []) c ∷ []) (placed_same cs (cs ++ c ∷ []) cs
+    (λ i d l. ap (λ (p : Position). p.first_of_parent) (position_stays cs c i (get_or cs i d) (slice_get-get_or cs i d l))))
+    ∙ ap (λ n. placed cs ++ at_parent c n ∷ []) (ap (λ (p : Position). p.first_of_parent) (next_position cs c)))
 
 -- a clause was registered, and stands where it was put
-pub placed_registered : (P : List PlacedDemand → Type 0) (requires left : List RequiresClause) (one : RequiresClause) (p : Place)
-    → p.first_of_parent ≡ first_of requires one.parent → p.number ≡ length requires → left ≡ requires ++ one ∷ []
-    → P (placed requires ++ record { demand = demand_of one; position = p } ∷ []) → P (placed left)
-placed_registered P requires left one p first number grown counts =
-    let where_next : PlacedDemand → List PlacedDemand = λ x. placed requires ++ x ∷ [] in
-    let place : record { demand = demand_of one; position = p } ≡ placed_in requires (length requires) one =
-    ap (λ n. record { demand = demand_of one; position = record { first_of_parent = n; number = p.number } }) first
-    ∙ ap (λ n. record { demand = demand_of one; position = record { first_of_parent = first_of requires one.parent; number = n } }) number in
-    subst P (ap where_next place ∙ (sym (placed_more requires one) ∙ ap placed (sym grown))) counts
+pub placed_registered : (P : List PlacedDemand → Type 0) (requires left : List RequiresClause) (one : RequiresClause) (first : ℕ)
+    → first ≡ first_of requires one.parent → left ≡ requires ++ one ∷ []
+    → P (placed requires ++ record { demand = demand_of one; first_of_parent = first } ∷ []) → P (placed left)
+placed_registered P requires left one first is grown =
+    subst P (ap (λ n. placed requires ++ at_parent one n ∷ []) is ∙ (sym (placed_more requires one) ∙ ap placed (sym grown)))
 
 -- ---- nothing more
 

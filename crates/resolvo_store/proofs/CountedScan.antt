@@ -6,6 +6,7 @@ use Rattle.std.specs.Map.{lookup}
 use Rattle.std.specs.Ordering.{is_lt, ordering_then}
 use Rattle.std.specs.declared.cmp.Ordering.TheVariants.{Less, Equal, Greater}
 use Rattle.std.specs.declared.vec.Vec.{Vec}
+use Rattle.std.proofs.lemmas.List.{get_or-map, length-map}
 use Rattle.std.proofs.lemmas.List.Folds.{list_all-append, list_all-map}
 use Rattle.std.proofs.lemmas.Option.{slice_get_within, get_or_from_slice_get}
 use Rattle.typed_ids.specs.declared.version_set_id.VersionSetId.{VersionSetId}
@@ -15,7 +16,6 @@ use Rattle.providers.specs.declared.requirement.Requirement.{Requirement}
 use Rattle.decisions.specs.Literals.{Values, known_true, known_false, is_false_literal}
 use Rattle.clauses.specs.Stored.{lists_found}
 use Rattle.clauses.specs.declared.disjunction.Disjunction.{Disjunction}
-use Rattle.clause_counters.specs.FalsifiedHeap.{is_before}
 use Rattle.falsified_clauses.specs.Clauses.{Counted, PlacedDemand, counted, no_clause, clause_at as placed_clause}
 use Rattle.falsified_clauses.specs.Falsified.{IsFirstFalsified, is_falsified as is_counted_falsified}
 use Rattle.resolvo_queue.specs.References.{CanWalk, References, literals_in, references, rows_in}
@@ -27,7 +27,7 @@ use Rattle.resolvo_queue.specs.declared.tracked_clause.Position.{Position}
 use Rattle.resolvo_queue.specs.declared.requires_clause.RequiresClause.{RequiresClause}
 use Rattle.resolvo_queue.proofs.Falsified.First.{falsified_by}
 use Rattle.resolvo_queue.proofs.Falsified.Least.{first_to_pass, none_to_pass, not_before_is_after}
-use Rattle.resolvo_store.specs.Counted.{clause_at, demand_of, placed, placed_from, placed_in}
+use Rattle.resolvo_store.specs.Counted.{clause_at, demand_of, placed, placed_in}
 
 -- ---- positions
 
@@ -40,25 +40,12 @@ not_less false true false true h = refl
 not_less false true false false h = refl
 not_less false false lo eo h = refl
 
-not_after : (a b c d : ℕ) → is_before (record { first_of_parent = c; number = d }) (record { first_of_parent = a; number = b }) ≡ false
+not_after : (a b c d : ℕ) → (ltb c a || (eqb c a && ltb d b)) ≡ false
     → is_after (record { first_of_parent = a; number = b }) (record { first_of_parent = c; number = d }) ≡ false
 not_after a b c d h =
     not_before_is_after (record { first_of_parent = c; number = d }) (record { first_of_parent = a; number = b }) (not_less (ltb c a) (eqb c a) (ltb d b) (eqb d b) h)
 
 -- ---- the clause at a number
-
-placed_read : (all : List RequiresClause) (i : ℕ) (cs : List RequiresClause) (n : ℕ) (c : RequiresClause) → slice_get cs n ≡ Some c
-    → get_or (placed_from all i cs) n no_clause ≡ placed_in all (i + n) c
-placed_read all i [] n c at = cc
-placed_read all i (d ∷ cs) zero c at =
-    let same : d ≡ c = (let own : Some d ≡ Some c = at in cc) in
-    ap (placed_in all i) same ∙ ap (λ m. placed_in all m c) (let none : i ≡ i + 0 = omega arith in none)
-placed_read all i (d ∷ cs) (suc n) c at =
-    placed_read all (suc i) cs n c at ∙ ap (λ m. placed_in all m c) (let next : suc i + n ≡ i + suc n = omega arith in next)
-
-placed_many : (all : List RequiresClause) (i : ℕ) (cs : List RequiresClause) → length (placed_from all i cs) ≡ length cs
-placed_many all i [] = refl
-placed_many all i (c ∷ cs) = ap suc (placed_many all (suc i) cs)
 
 -- a number within the list has a clause
 not_past : (cs : List RequiresClause) (n : ℕ) → n < length cs → slice_get cs n ≡ None → ⊥
@@ -117,14 +104,14 @@ module _ {N S A : Type 0} (universe : Universe N S) (loaded : List (Requirement 
       ap (λ b. (b && l) && list_all (list_all (λ v. known_false (val v))) (lists_found (lookup (same_requirement c.requirement) loaded))) (known_true_is (val c.parent))
       ∙ (ap (λ b. (p && l) && b) r ∙ (and_grouped p l (all_false val (rows_in refs c.requirement)) ∙ sym (falsified_by val (literals_in refs) (rows_in refs) c)))
 
-  read_at : (n : ℕ) (c : RequiresClause) → slice_get requires n ≡ Some c → placed_clause shown n ≡ placed_in requires n c
-  read_at n c at = placed_read requires 0 requires n c at ∙ ap (λ m. placed_in requires m c) (let none : 0 + n ≡ n = omega arith in none)
+  read_at : (n : ℕ) (c : RequiresClause) → slice_get requires n ≡ Some c → placed_clause shown n ≡ placed_in requires c
+  read_at n c at = get_or-map (placed_in requires) requires n c no_clause (slice_get_within requires n c at) ∙ ap (placed_in requires) (get_or_from_slice_get requires n c c at)
 
   test_at : (n : ℕ) (c : RequiresClause) → slice_get requires n ≡ Some c → is_counted_falsified shown (placed_clause shown n).demand ≡ passes c
   test_at n c at = ap (λ (x : PlacedDemand). is_counted_falsified shown x.demand) (read_at n c at) ∙ same_test n c at
 
   within : (n : ℕ) (c : RequiresClause) → slice_get requires n ≡ Some c → n < length (placed requires)
-  within n c at = subst (λ m. n < m) (sym (placed_many requires 0 requires)) (slice_get_within requires n c at)
+  within n c at = subst (λ m. n < m) (sym (length-map requires (placed_in requires))) (slice_get_within requires n c at)
 
   -- so what the counters tell is the first of the scan
   pub first_counted : (answer : Option ℕ) → IsFirstFalsified shown answer → clause_at requires answer ≡ first_falsified val (literals_in refs) (rows_in refs) requires
@@ -132,11 +119,11 @@ module _ {N S A : Type 0} (universe : Universe N S) (loaded : List (Requirement 
   first_counted (Some number) first = found (slice_get requires number) refl
     where
       found : (o : Option RequiresClause) → slice_get requires number ≡ o → slice_get requires number ≡ first_falsified val (literals_in refs) (rows_in refs) requires
-      found None at = absurd (not_past requires number (subst (λ m. number < m) (placed_many requires 0 requires) first.0) at)
+      found None at = absurd (not_past requires number (subst (λ m. number < m) (length-map requires (placed_in requires)) first.0) at)
       found (Some c) at = at ∙ sym (first_to_pass requires passes number c (record {
         at = at;
         passes_itself = sym (test_at number c at) ∙ first.1;
         least = λ n d is held. not_after (position_at requires number c).first_of_parent number (position_at requires n d).first_of_parent n
-            (subst (λ (x : PlacedDemand × PlacedDemand). is_before x.0.position x.1.position ≡ false) (λ i. (read_at n d is i, read_at number c at i))
+            (subst (λ (x : PlacedDemand × PlacedDemand). (ltb x.0.first_of_parent x.1.first_of_parent || (eqb x.0.first_of_parent x.1.first_of_parent && ltb n number)) ≡ false) (λ i. (read_at n d is i, read_at number c at i))
             (first.2 n (within n d is) (test_at n d is ∙ held)));
       }))

@@ -1,5 +1,6 @@
 -- What the counters of falsified clauses count: a store's requires clauses, under its trail.
-use Rattle.std.specs.Prelude.{ℕ, suc, ◌≤◌, Bool, false, if◌then◌else◌, List, [], ◌∷◌, length, take, Option, None, Some, slice_get}
+use Rattle.std.specs.Prelude.{ℕ, ◌≤◌, Bool, false, if◌then◌else◌, List, length, map, take}
+use Rattle.std.specs.Prelude.{Option, None, Some, slice_get}
 use Rattle.decisions.specs.Literals.{Lit, Pos, Neg, is_false_literal}
 use Rattle.decisions.specs.Trail.{Entry, val}
 use Rattle.decisions.specs.declared.decision.Decision.{Decision}
@@ -21,28 +22,20 @@ false_by entries = is_false_literal (val entries)
 abbrev pub demand_of : RequiresClause → Demand
 demand_of c = record { parent = c.parent; requirement = c.requirement; condition = c.condition }
 
--- the clause with a number, where it stands in the scan of these
-abbrev pub placed_in : List RequiresClause → ℕ → RequiresClause → PlacedDemand
-placed_in requires number c = record {
-  demand = demand_of c;
-  position = record { first_of_parent = first_of requires c.parent; number = number };
-}
-
--- those from a number on
-abbrev pub placed_from : List RequiresClause → ℕ → List RequiresClause → List PlacedDemand
-placed_from requires number [] = []
-placed_from requires number (c ∷ cs) = placed_in requires number c ∷ placed_from requires (suc number) cs
+-- a clause, and the first clause of its parent among these
+abbrev pub placed_in : List RequiresClause → RequiresClause → PlacedDemand
+placed_in requires c = record { demand = demand_of c; first_of_parent = first_of requires c.parent }
 
 -- all of them
 abbrev pub placed : List RequiresClause → List PlacedDemand
-placed requires = placed_from requires 0 requires
+placed requires = map (placed_in requires) requires
 
 -- the clause with the number, if there is one
 abbrev pub clause_at : List RequiresClause → Option ℕ → Option RequiresClause
 clause_at requires None = None
 clause_at requires (Some number) = slice_get requires number
 
--- no literal is false: where a trail says which are
+-- no literal is false: this stands where a trail says which are
 abbrev pub no_false : Lit → Bool
 no_false _ = false
 
@@ -51,7 +44,8 @@ pub record Counting : Type 0 where
   pub clauses : KeyedCounters
   pub counted : ℕ
 
--- the clauses are counted, and false is what the counted entries of the trail make false. A are the allocators
+-- the clauses are counted, and false is what the counted entries of the trail make false, whatever s says is. A are the
+-- allocators
 pub record Follows {A : Type 0} (kept : Counting) (entries : List Entry) (s : Counted A) : Type 0 where
   pub within : kept.counted ≤ length entries
   pub counts : Counts kept.clauses (record s { is_false = false_by (take kept.counted entries) })

@@ -10,7 +10,7 @@ mod of_trail;
 use crate::free_calls::by_ids::{
     dense_and_sparse, in_arena, in_frozen_map, in_mapping, in_requirements,
 };
-use crate::free_calls::of_clauses::{in_clauses, in_trackers, in_watch_lists};
+use crate::free_calls::of_clauses::{in_clauses, in_counters, in_trackers, in_watch_lists};
 use crate::free_calls::of_pool::in_pool;
 use crate::free_calls::of_trail::{in_trail, in_values, in_variables};
 use std::alloc::Allocator;
@@ -23,11 +23,11 @@ fn calls_that_take_no_memory_ask_for_none(rt: HostRuntime) -> Result<(), Fail> {
     let heap = Refusing::new(rt.alloc());
     let seen = asked(&heap);
     drop(heap);
-    sees(seen, [false; 12])
+    sees(seen, [false; 13])
 }
 
 /// Of which parts a call asked for memory.
-fn asked<B: Allocator>(heap: &Refusing<B>) -> Result<[bool; 12], StoreError> {
+fn asked<B: Allocator>(heap: &Refusing<B>) -> Result<[bool; 13], StoreError> {
     let [dense, sparse] = dense_and_sparse(heap)?;
     Ok([
         dense,
@@ -42,6 +42,7 @@ fn asked<B: Allocator>(heap: &Refusing<B>) -> Result<[bool; 12], StoreError> {
         in_variables::<NameId, SolvableId, B>(heap, SolvableId::from_raw(4))?,
         in_clauses(heap)?,
         in_watch_lists(heap)? || in_trackers(heap)?,
+        in_counters(heap)?,
     ])
 }
 

@@ -53,7 +53,7 @@ impl<D: DependencyProvider + Drop> ClauseStore<D> {
         if self.trail.assignments().is_empty() {
             return Err(StoreError::EmptyTrail);
         }
-        self.falsified.leave_newest(&self.trail);
+        self.falsified.uncount_newest(&self.trail);
         let last = self.trail.undo_last();
         self.marks.cut_to(&self.trail);
         Ok(Reply::Undone(Some(last)))
@@ -66,7 +66,7 @@ impl<D: DependencyProvider + Drop> ClauseStore<D> {
         ensures provider { self.new.provider ≡ self.old.provider }
         ensures asked { self.new.asked ≡ taken_back (⟦<D as AbstractStore>⟧.store self.new).trail self.old.asked }
     {
-        self.falsified.leave_above(&self.trail, level);
+        self.falsified.uncount_above(&self.trail, level);
         self.trail.undo_until(level);
         self.marks.cut_to(&self.trail);
         Reply::Undone(None)

@@ -14,7 +14,7 @@ ghost use Rattle.resolvo_store.specs.Counted.{Follows, no_false, false_by, false
 
 use clauses::Disjunction;
 use decisions::{Decision, DecisionTracker, Literal};
-use falsified_clauses::{ClauseGroups, Demand, FalsifiedClauses, Position};
+use falsified_clauses::{ClauseGroups, Demand, FalsifiedClauses};
 use id_storage::Arena;
 use providers::RequirementMap;
 use std::alloc::Allocator;
@@ -23,7 +23,7 @@ use typed_ids::{DisjunctionId, StoreError};
 use variables::VariableLists;
 
 /// The counters of a store's requires clauses, and how many entries of the trail they have counted, the oldest. What
-/// came since is counted when somebody asks. What is taken back before that never is.
+/// came since is counted when somebody asks or a clause comes. What is taken back before that never is.
 #[derive(Drop)]
 pub(crate) struct TrailCounters<A: Allocator + Copy> {
     clauses: FalsifiedClauses<A>,
@@ -87,13 +87,13 @@ impl<A: Allocator + Copy> TrailCounters<A> {
             .prepare(clause, lists, disjunctions, trail.map())
     }
 
-    /// Adds the clause of which these are the groups, at this position. Takes no memory.
-    pub(super) fn add(&mut self, groups: ClauseGroups, position: Position)
+    /// Adds the clause of which these are the groups, and whose parent has this first clause. Takes no memory.
+    pub(super) fn add(&mut self, groups: ClauseGroups, first_of_parent: u32)
         requires { CanAdd self.old.clauses groups }
         ensures { (s : Counted A) (clause : Demand) (entries : List Entry) → IsReady self.old.clauses clause groups
-            → Follows self.old entries s → Follows self.new entries (with_clause clause position s) }
+            → Follows self.old entries s → Follows self.new entries (with_clause clause first_of_parent s) }
     {
-        self.clauses.add(groups, position);
+        self.clauses.add(groups, first_of_parent);
     }
 
     /// The number of the clause that is falsified under the whole trail and comes first. Takes no memory.
@@ -108,25 +108,24 @@ impl<A: Allocator + Copy> TrailCounters<A> {
     }
 
     /// No longer counts the trail's newest entry, which is taken back next. Takes no memory.
-    pub(super) fn leave_newest(&mut self, trail: &DecisionTracker<A>)
-        requires { self.old.counted ≤ length trail.now.entries }
+    pub(super) fn uncount_newest(&mut self, trail: &DecisionTracker<A>)
         ensures { (s : Counted A) → Follows self.old trail.now.entries s
             → Follows self.new (undo_last trail.now).entries s }
     {
         let len = trail.assignments().len();
         if len > 0 && self.counted == len {
-            self.leave(trail);
+            self.uncount(trail);
         }
     }
 
     /// No longer counts the entries that an undo to this level takes back next. Takes no memory.
-    pub(super) fn leave_above(&mut self, trail: &DecisionTracker<A>, level: u32)
+    pub(super) fn uncount_above(&mut self, trail: &DecisionTracker<A>, level: u32)
         requires { self.old.counted ≤ length trail.now.entries }
         ensures { (s : Counted A) → Follows self.old trail.now.entries s
             → Follows self.new (undo_until level trail.now).entries s }
     {
         while self.is_above(trail, level) {
-            self.leave(trail);
+            self.uncount(trail);
         }
     }
 
@@ -144,7 +143,7 @@ impl<A: Allocator + Copy> TrailCounters<A> {
     }
 
     /// No longer counts the newest entry that is counted, of which there must be one.
-    fn leave(&mut self, trail: &DecisionTracker<A>)
+    fn uncount(&mut self, trail: &DecisionTracker<A>)
         requires some { 0 < self.old.counted }
         requires within { self.old.counted ≤ length trail.now.entries }
         ensures counted { self.new.counted + 1 ≡ self.old.counted }

@@ -33,10 +33,10 @@ use crate::store::known::{knows_parts, knows_requirement, knows_variable};
 use crate::store::loading::lists;
 use clauses::{Clause, Disjunction};
 use decisions::{DecisionTracker, Literal};
-use falsified_clauses::{Demand, Position};
+use falsified_clauses::Demand;
 use id_storage::Arena;
 use providers::{DependencyProvider, Interner, Requirement, RequirementMap};
-use resolvo_queue::{DecideQueue, Position as ScanPosition};
+use resolvo_queue::DecideQueue;
 use std::alloc::Allocator;
 use typed_ids::{
     ClauseId, ConditionId, DenseIndex, DisjunctionId, StoreError, VariableId, VersionSetId,
@@ -346,20 +346,9 @@ fn register<D: DependencyProvider + Drop>(
         context.disjunctions,
         required.parent_value,
     )?;
-    falsified.add(groups, counted_position(next));
+    falsified.add(groups, next.first_of_parent);
     let id = clauses.push_reserved(required.clause, required.watches);
     Ok(Reply::Clause(id, required.conflict))
-}
-
-/// A position of the queue, as the counters have it.
-fn counted_position(position: ScanPosition) -> Position
-    ensures first { result.first_of_parent ≡ position.first_of_parent }
-    ensures number { result.number ≡ position.number }
-{
-    Position {
-        first_of_parent: position.first_of_parent,
-        number: position.number,
-    }
 }
 
 /// The packages of a requirement's version sets, in order.

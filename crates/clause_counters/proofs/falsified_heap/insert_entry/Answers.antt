@@ -27,8 +27,12 @@ returns-clause-held g c =
     (roomier (marked true c.args.clause cs) (heap_items new) (heap_capacity old) (heap_capacity new)
     (held_inserted cs (heap_items old) (heap_items new) (heap_capacity old) c.args.clause c.requires.held within
     c.requires.absent
-    (subst (λ (x : Clause). IsPermutation (record { 0 = record { position = x.position; clause = c.args.clause } } ∷
-    heap_items old) (heap_items new)) at
+    (subst (λ (x : Clause). IsPermutation (record {
+      0 = record {
+        first_of_parent = x.first_of_parent;
+        number = c.args.clause;
+      };
+    } ∷ heap_items old) (heap_items new)) at
     (from_ok c.push.result pushed c.push.ensures.permutation))
     (from_ok c.push.result pushed c.push.ensures.heap_order))
     c.push.ensures.capacity)

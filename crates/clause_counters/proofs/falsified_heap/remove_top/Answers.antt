@@ -14,19 +14,20 @@ returns-clause-held g c =
     let old = c.args.heap.now in
     let new = c.pop.new.self in
     let top = c.args.top in
-    let within : top.clause < length cs = top_within cs (heap_items old)
+    let within : top.number < length cs = top_within cs (heap_items old)
     (heap_capacity old) top c.requires.held c.requires.top in
-    let at : c.index_mut.result.now ≡ clause_at cs top.clause =
-    get_or_read_under cs top.clause c.args.clauses.now.len c.index_mut.result.now no_clause c.index_mut.ensures.value
-    (subst (λ n. top.clause < n) (sym c.args.clauses.now.ok.0) within) c.args.clauses.now.ok.0 in
+    let at : c.index_mut.result.now ≡ clause_at cs top.number =
+    get_or_read_under cs top.number c.args.clauses.now.len c.index_mut.result.now no_clause c.index_mut.ensures.value
+    (subst (λ n. top.number < n) (sym c.args.clauses.now.ok.0) within) c.args.clauses.now.ok.0 in
     let some : IsSome c.pop.result = c.pop.ensures.variant.1 (subst (λ n. 0 < n) (sym old.data.ok.0) c.requires.top.0)
     in
     let is : c.pop.result ≡ Some (record { 0 = top }) =
     popped_is (heap_items old) c.pop.result top c.requires.top.0 c.requires.top.1 some c.pop.ensures.top in
-    subst (λ (x : Clause). IsHeld (set cs top.clause (record x { is_in_heap = false })) (heap_items new)
+    subst (λ (x : Clause). IsHeld (set cs top.number (record x { is_in_heap = false })) (heap_items new)
     (heap_capacity new)) (sym at)
-    (roomier (marked false top.clause cs) (heap_items new) (heap_capacity old) (heap_capacity new)
-    (held_removed cs (heap_items old) (heap_items new) (heap_capacity old) top.position top.clause c.requires.held
+    (roomier (marked false top.number cs) (heap_items new) (heap_capacity old) (heap_capacity new)
+    (held_removed cs (heap_items old) (heap_items new) (heap_capacity old) top.first_of_parent top.number
+    c.requires.held
     (subst (λ o. IfSome o (λ x. IsPermutation (heap_items old) (x ∷ heap_items new))) is c.pop.ensures.permutation)
     (λ h. (subst (λ o. IfSome o (λ x. PopsGreatest heap_cmp (heap_items old) x (heap_items new))) is
     c.pop.ensures.heap_order h).0))

@@ -1,13 +1,13 @@
 use Rattle.std.proofs.Common.{◌≡◌}
 use Rattle.std.specs.BinaryHeap.{heap_items, heap_capacity, heap_len}
-use Rattle.clause_counters.specs.FalsifiedHeap.{IsFalsifiedHeap, lefts_of, positions_of}
+use Rattle.clause_counters.specs.FalsifiedHeap.{IsFalsifiedHeap, lefts_of, firsts_of}
 use Rattle.clause_counters.proofs.falsified_heap.settle.Given as goal
 
 abbrev pub invariant-loop-top : goal.invariant-loop-top
 invariant-loop-top g l = record {
   falsified : IsFalsifiedHeap l.clauses.items (heap_items l.heap) (heap_capacity l.heap);
   lefts : lefts_of l.clauses.items ≡ lefts_of l.fn.clauses.items;
-  positions : positions_of l.clauses.items ≡ positions_of l.fn.clauses.items;
+  firsts : firsts_of l.clauses.items ≡ firsts_of l.fn.clauses.items;
 }
 
 abbrev pub decreases-loop-top : goal.decreases-loop-top

@@ -33,6 +33,6 @@ loop-rest-preserved g c =
           (get_or xs v 0 - 1) rest d c.loop-rest-test.true
           c.lower.ensures.lefts (omega (arith, some)) in
           let so_far = c.loop-rest.invariant.enough d in omega (arith, step, so_far));
-      positions = c.lower.ensures.positions ∙ c.loop-rest.invariant.positions;
+      firsts = c.lower.ensures.firsts ∙ c.loop-rest.invariant.firsts;
       clauses = ap length c.lower.ensures.lefts ∙ (length-set xs v (get_or xs v 0 - 1) ∙ c.loop-rest.invariant.clauses);
     }

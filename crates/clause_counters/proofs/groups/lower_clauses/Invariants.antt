@@ -9,7 +9,7 @@ invariant-loop-rest g l = record {
   lefts : (c : ℕ) → slice_index l.falsified.lefts c + count c (listed l.members l.list)
       ≡ slice_index l.fn.falsified.lefts c + count c (listed l.members l.rest);
   enough : (c : ℕ) → count c (listed l.members l.rest) ≤ slice_index l.falsified.lefts c;
-  positions : l.falsified.positions ≡ l.fn.falsified.positions;
+  firsts : l.falsified.firsts ≡ l.fn.falsified.firsts;
   clauses : length l.falsified.lefts ≡ length l.fn.falsified.lefts;
 }
 

@@ -37,6 +37,6 @@ loop-rest-preserved g c =
           let so_far = c.loop-rest.invariant.lefts d in omega (arith, step, so_far));
       known = λ d past. (let all = count_unrolled members linked rest d c.loop-rest-test.true in
           let none = c.loop-rest.invariant.known d (subst (λ n. n ≤ d) clauses past) in omega (arith, all, none));
-      positions = c.raise.ensures.positions ∙ c.loop-rest.invariant.positions;
+      firsts = c.raise.ensures.firsts ∙ c.loop-rest.invariant.firsts;
       clauses = clauses ∙ c.loop-rest.invariant.clauses;
     }

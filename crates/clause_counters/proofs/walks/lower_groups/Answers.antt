@@ -38,6 +38,6 @@ loop-rest-preserved g c =
       joined = c.lower_group.ensures.joined;
       lists = ap clause_lists c.lower_group.ensures.groups ∙ (lists_told ((group_at groups v).left - 1) v groups
           ∙ c.loop-rest.invariant.lists);
-      positions = c.lower_group.ensures.positions ∙ c.loop-rest.invariant.positions;
+      firsts = c.lower_group.ensures.firsts ∙ c.loop-rest.invariant.firsts;
       clauses = c.lower_group.ensures.clauses ∙ c.loop-rest.invariant.clauses;
     }

@@ -11,7 +11,7 @@ invariant-loop-rest g l = record {
   enough : (c : ℕ) → count c (listed l.places l.rest) ≤ (group_at l.groups.items c).left;
   joined : IsJoined l.members l.groups.items l.falsified.lefts;
   lists : clause_lists l.groups.items ≡ clause_lists l.fn.groups.items;
-  positions : l.falsified.positions ≡ l.fn.falsified.positions;
+  firsts : l.falsified.firsts ≡ l.fn.falsified.firsts;
   clauses : length l.falsified.lefts ≡ length l.fn.falsified.lefts;
 }
 

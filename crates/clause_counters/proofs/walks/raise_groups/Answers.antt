@@ -44,6 +44,6 @@ loop-rest-preserved g c =
       joined = c.raise_group.ensures.joined;
       lists = ap clause_lists c.raise_group.ensures.groups ∙ (lists_told ((group_at groups v).left + 1) v groups
           ∙ c.loop-rest.invariant.lists);
-      positions = c.raise_group.ensures.positions ∙ c.loop-rest.invariant.positions;
+      firsts = c.raise_group.ensures.firsts ∙ c.loop-rest.invariant.firsts;
       clauses = c.raise_group.ensures.clauses ∙ c.loop-rest.invariant.clauses;
     }

@@ -11,16 +11,16 @@ returns-clause-shown g c s shown =
     let ls = f.literals.items in
     let ms = f.members.items in
     let gs = f.groups.items in
-    let positions = f.falsified.positions in
+    let firsts = f.falsified.firsts in
     let joined = c.join_groups in
     let n = c.add-clause.result in
-    let is : n ≡ length positions = c.add-clause.ensures.number ∙ c.self.invariant.2 in
+    let is : n ≡ length firsts = c.add-clause.ensures.number ∙ c.self.invariant.2 in
     let same : length joined.new.groups.items ≡ length gs = sym joined.new.groups.ok.0
     ∙ (joined.ensures.len ∙ f.groups.ok.0) in
     let room = f.falsified.has_room && fit_three (length ms) f.members.cap in
-    let shows : Shows (kept_in ps ls ms gs positions room) s = subst (λ v. Shows v s) (sym c.self.view_is) shown in (
-      is ∙ clauses_shown ps ls ms gs positions room s shows,
-      shows_clause ps ls ms joined.new.members.items gs joined.new.groups.items positions
-          c.add-clause.new.self.positions room _ s c.args.groups.now
-          c.args.position n is same c.add-clause.ensures.positions shows joined.ensures.lists,
+    let shows : Shows (kept_in ps ls ms gs firsts room) s = subst (λ v. Shows v s) (sym c.self.view_is) shown in (
+      is ∙ clauses_shown ps ls ms gs firsts room s shows,
+      shows_clause ps ls ms joined.new.members.items gs joined.new.groups.items firsts
+          c.add-clause.new.self.firsts room _ s c.args.groups.now
+          c.args.first_of_parent n is same c.add-clause.ensures.firsts shows joined.ensures.lists,
     )

@@ -18,7 +18,7 @@ returns-clause-ok g c s shown says =
     let ls = f.literals.items in
     let ms = f.members.items in
     let gs = f.groups.items in
-    let positions = f.falsified.positions in
+    let firsts = f.falsified.firsts in
     let room = f.falsified.has_room && fit_three (length ms) f.members.cap in
     let rp = c.reserve.new.self.items in
     let pl = c.pad.new.literals.items in
@@ -26,7 +26,7 @@ returns-clause-ok g c s shown says =
     let list = c.args.literals.now in
     let n = c.len-group.result in
     let is : n ≡ length gs = c.len-group.ensures ∙ f.groups.ok.0 in
-    let shows : Shows (kept_in ps ls ms gs positions room) s = subst (λ v. Shows v s) (sym c.self.view_is) shown in
+    let shows : Shows (kept_in ps ls ms gs firsts room) s = subst (λ v. Shows v s) (sym c.self.view_is) shown in
     let lists : (i h : ℕ) → count h (listed placed.new.places.items (standing_at placed.new.literals.items i).groups)
     ≡ count h (listed ps (standing_at ls i).groups) + cond (eqb n h) (once i list) 0 =
     λ i h. placed.ensures.lists i h ∙ ap (λ m. m + cond (eqb n h) (once i list) 0)
@@ -41,10 +41,10 @@ returns-clause-ok g c s shown says =
     let pushed = c.push_reserved.ensures.items
     ∙ ap (λ (xs : List Group). xs ++ (record { left = placed.result; clauses = 0 }) ∷ [])
     c.in_ok-reserve-2.ensures.items in (
-      is ∙ groups_shown ps ls ms gs positions room s shows,
-      subst (λ items. Shows (kept_in placed.new.places.items placed.new.literals.items ms items positions room)
+      is ∙ groups_shown ps ls ms gs firsts room s shows,
+      subst (λ items. Shows (kept_in placed.new.places.items placed.new.literals.items ms items firsts room)
           (with_group list s)) (sym pushed)
-          (shows_group ps placed.new.places.items ls placed.new.literals.items ms gs positions room s list n
+          (shows_group ps placed.new.places.items ls placed.new.literals.items ms gs firsts room s list n
           placed.result is shows lists
           (λ is_false before agrees. placed.ensures.flags is_false (flagged is_false before) (λ k d l. agrees k d l
           ∙ says k d l))),

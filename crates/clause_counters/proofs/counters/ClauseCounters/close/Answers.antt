@@ -20,10 +20,10 @@ returns-then-at-eq0 g c =
     get_or_read_under ls i f.literals.len c.index_mut.result.now no_standing c.index_mut.ensures.value within
     f.literals.ok.0 in
     subst (λ (x : Standing). IsSame (told true i c.args.self.now)
-    (kept_in places (set ls i (record x { is_false = true })) members groups f.falsified.positions room)) (sym at)
+    (kept_in places (set ls i (record x { is_false = true })) members groups f.falsified.firsts room)) (sym at)
     (subst (λ v. IsSame (told true i v) (kept_in places (set ls i (record (standing_at ls i) { is_false = true }))
-    members groups f.falsified.positions room)) c.self.view_is
-    (told_kept places ls members groups groups f.falsified.positions f.falsified.positions room room true i refl refl))
+    members groups f.falsified.firsts room)) c.self.view_is
+    (told_kept places ls members groups groups f.falsified.firsts f.falsified.firsts room room true i refl refl))
 
 pub returns : goal.returns
 returns g c =
@@ -38,12 +38,12 @@ returns g c =
     within c.self.inside.literals.ok.0 in
     subst (λ (x : Standing). IsSame (told true i c.args.self.now)
     (kept_in places (set ls i (record x { is_false = true })) members
-    c.lower_groups.new.groups.items c.lower_groups.new.falsified.positions room)) (sym at)
+    c.lower_groups.new.groups.items c.lower_groups.new.falsified.firsts room)) (sym at)
     (subst (λ v. IsSame (told true i v) (kept_in places (set ls i (record (standing_at ls i) { is_false = true }))
     members
-    c.lower_groups.new.groups.items c.lower_groups.new.falsified.positions room)) c.self.view_is
+    c.lower_groups.new.groups.items c.lower_groups.new.falsified.firsts room)) c.self.view_is
     (told_kept places ls members c.self.inside.groups.items c.lower_groups.new.groups.items
-    c.self.inside.falsified.positions
-    c.lower_groups.new.falsified.positions (c.self.inside.falsified.has_room && fit_three
+    c.self.inside.falsified.firsts
+    c.lower_groups.new.falsified.firsts (c.self.inside.falsified.has_room && fit_three
     (length members) c.self.inside.members.cap) room true i c.lower_groups.ensures.lists
-    c.lower_groups.ensures.positions))
+    c.lower_groups.ensures.firsts))

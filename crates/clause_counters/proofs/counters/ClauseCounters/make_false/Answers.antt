@@ -5,8 +5,8 @@ use Rattle.clause_counters.specs.Shown.{has_index, with_false}
 use Rattle.clause_counters.proofs.ShownLaws.{shows_told, or_is, shows_room}
 use Rattle.clause_counters.proofs.counters.ClauseCounters.make_false.Goals as goal
 
-pub returns : goal.returns
-returns g c s shows =
+pub returns-clause-shown : goal.returns-clause-shown
+returns-clause-shown g c s shows =
     shows_room (told true (literal_index c.args.literal) c.args.self.now) c.close.new.self (with_false c.args.literal s)
     (subst (λ i. IsSame (told true i c.args.self.now) c.close.new.self) c.to_index.ensures.value c.close.ensures)
     (shows_told c.args.self.now s c.args.literal true (with_false c.args.literal s).is_false

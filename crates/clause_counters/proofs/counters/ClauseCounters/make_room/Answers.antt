@@ -9,8 +9,8 @@ returns-clause-shown g c s shown =
     let f = c.self.inside in
     let new = c.reserve.new.self in
     let heap = c.make_room.new.self in
-    shows_again f.places.items f.literals.items f.members.items new.items f.groups.items f.falsified.positions
-    heap.positions
+    shows_again f.places.items f.literals.items f.members.items new.items f.groups.items f.falsified.firsts
+    heap.firsts
     (f.falsified.has_room && fit_three (length f.members.items) f.members.cap)
     (heap.has_room && fit_three (length new.items) new.cap) s
-    c.in_ok-reserve.ensures.items c.make_room.ensures.positions (subst (λ v. Shows v s) (sym c.self.view_is) shown)
+    c.in_ok-reserve.ensures.items c.make_room.ensures.firsts (subst (λ v. Shows v s) (sym c.self.view_is) shown)

@@ -5,8 +5,8 @@ use Rattle.clause_counters.specs.Shown.{has_index, with_undecided}
 use Rattle.clause_counters.proofs.ShownLaws.{shows_told, not_and_is, shows_room}
 use Rattle.clause_counters.proofs.counters.ClauseCounters.make_undecided.Goals as goal
 
-pub returns : goal.returns
-returns g c s shows =
+pub returns-clause-shown : goal.returns-clause-shown
+returns-clause-shown g c s shows =
     shows_room (told false (literal_index c.args.literal) c.args.self.now) c.reopen.new.self
     (with_undecided c.args.literal s)
     (subst (λ i. IsSame (told false i c.args.self.now) c.reopen.new.self) c.to_index.ensures.value c.reopen.ensures)

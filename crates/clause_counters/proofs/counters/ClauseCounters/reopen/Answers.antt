@@ -22,10 +22,10 @@ returns-then-at-eq0 g c =
     get_or_read_under ls i f.literals.len c.index_mut.result.now no_standing c.index_mut.ensures.value within
     f.literals.ok.0 in
     subst (λ (x : Standing). IsSame (told false i c.args.self.now)
-    (kept_in places (set ls i (record x { is_false = false })) members groups f.falsified.positions room)) (sym at)
+    (kept_in places (set ls i (record x { is_false = false })) members groups f.falsified.firsts room)) (sym at)
     (subst (λ v. IsSame (told false i v) (kept_in places (set ls i (record (standing_at ls i) { is_false = false }))
-    members groups f.falsified.positions room)) c.self.view_is
-    (told_kept places ls members groups groups f.falsified.positions f.falsified.positions room room false i refl refl))
+    members groups f.falsified.firsts room)) c.self.view_is
+    (told_kept places ls members groups groups f.falsified.firsts f.falsified.firsts room room false i refl refl))
 
 pub returns : goal.returns
 returns g c =
@@ -40,15 +40,15 @@ returns g c =
     within c.self.inside.literals.ok.0 in
     subst (λ (x : Standing). IsSame (told false i c.args.self.now)
     (kept_in places (set ls i (record x { is_false = false })) members
-    c.raise_groups.new.groups.items c.raise_groups.new.falsified.positions room)) (sym at)
+    c.raise_groups.new.groups.items c.raise_groups.new.falsified.firsts room)) (sym at)
     (subst (λ v. IsSame (told false i v) (kept_in places (set ls i (record (standing_at ls i) { is_false = false }))
     members
-    c.raise_groups.new.groups.items c.raise_groups.new.falsified.positions room)) c.self.view_is
+    c.raise_groups.new.groups.items c.raise_groups.new.falsified.firsts room)) c.self.view_is
     (told_kept places ls members c.self.inside.groups.items c.raise_groups.new.groups.items
-    c.self.inside.falsified.positions
-    c.raise_groups.new.falsified.positions (c.self.inside.falsified.has_room && fit_three
+    c.self.inside.falsified.firsts
+    c.raise_groups.new.falsified.firsts (c.self.inside.falsified.has_room && fit_three
     (length members) c.self.inside.members.cap) room false i c.raise_groups.ensures.lists
-    c.raise_groups.ensures.positions))
+    c.raise_groups.ensures.firsts))
 
 pub raise_groups-requires-clause-known : goal.raise_groups-requires-clause-known
 raise_groups-requires-clause-known g c h past =

@@ -3,10 +3,10 @@ use Rattle.std.proofs.Common.{arith}
 use Rattle.std.proofs.lemmas.List.{map_push}
 use Rattle.std.specs.BinaryHeap.{heap_items, heap_capacity}
 use Rattle.clause_counters.specs.declared.falsified_heap.Clause.{Clause}
-use Rattle.clause_counters.specs.FalsifiedHeap.{Tallies, IsHeld, IsFalsifiedHeap, lefts_of, positions_of, marked}
+use Rattle.clause_counters.specs.FalsifiedHeap.{Tallies, IsHeld, IsFalsifiedHeap, lefts_of, firsts_of, marked}
 use Rattle.clause_counters.proofs.HeldLaws.{held_pushed}
 use Rattle.clause_counters.proofs.HeapLaws.{heap_pushed, heap_pushed_falsified, fits_parts}
-use Rattle.clause_counters.proofs.ClauseLaws.{lefts_kept, positions_kept}
+use Rattle.clause_counters.proofs.ClauseLaws.{lefts_kept, firsts_kept}
 use Rattle.clause_counters.proofs.falsified_heap.FalsifiedHeap.add.Goals as goal
 
 pub overflow_cast-clause : goal.overflow_cast-clause
@@ -23,7 +23,7 @@ pub insert_entry-requires-clause-held : goal.insert_entry-requires-clause-held
 insert_entry-requires-clause-held g c =
     let cs = c.self.inside.clauses.items in
     let h = c.self.inside.heap in
-    let x : Clause = record { position = c.args.position; left = c.args.left; is_in_heap = false } in
+    let x : Clause = record { first_of_parent = c.args.first_of_parent; left = c.args.left; is_in_heap = false } in
     let room = fits_parts (length c.self.inside.clauses.items) c.self.inside.clauses.cap
     (heap_capacity c.self.inside.heap)
     (subst (λ (t : Tallies). t.has_room ≡ true) (sym c.self.view_is) c.requires) in
@@ -36,7 +36,7 @@ pub invariant_of-self : goal.invariant_of-self
 invariant_of-self g c =
     let cs = c.self.inside.clauses.items in
     let new = c.insert_entry.new.heap in
-    let x : Clause = record { position = c.args.position; left = c.args.left; is_in_heap = false } in
+    let x : Clause = record { first_of_parent = c.args.first_of_parent; left = c.args.left; is_in_heap = false } in
     let is : c.len-clause.result ≡ length cs = c.len-clause.ensures ∙ c.self.inside.clauses.ok.0 in
     let e = c.insert_entry.ensures.marked ∙ (ap (marked true c.len-clause.result) c.push_reserved.ensures.items
     ∙ ap (λ n. marked true n (cs ++ x ∷ [])) is) in
@@ -50,7 +50,7 @@ pub invariant_of-self-else-left-eq0 : goal.invariant_of-self-else-left-eq0
 invariant_of-self-else-left-eq0 g c =
     let cs = c.self.inside.clauses.items in
     let h = c.self.inside.heap in
-    let x : Clause = record { position = c.args.position; left = c.args.left; is_in_heap = false } in
+    let x : Clause = record { first_of_parent = c.args.first_of_parent; left = c.args.left; is_in_heap = false } in
     let room = fits_parts (length c.self.inside.clauses.items) c.self.inside.clauses.cap
     (heap_capacity c.self.inside.heap)
     (subst (λ (t : Tallies). t.has_room ≡ true) (sym c.self.view_is) c.requires) in
@@ -63,16 +63,16 @@ invariant_of-self-else-left-eq0 g c =
 pub returns-then-left-eq0-clause-lefts : goal.returns-then-left-eq0-clause-lefts
 returns-then-left-eq0-clause-lefts g c =
     let cs = c.self.inside.clauses.items in
-    let x : Clause = record { position = c.args.position; left = c.args.left; is_in_heap = false } in
+    let x : Clause = record { first_of_parent = c.args.first_of_parent; left = c.args.left; is_in_heap = false } in
     ap lefts_of c.insert_entry.ensures.marked ∙ (lefts_kept true c.push_reserved.new.self.items _
     ∙ (ap lefts_of c.push_reserved.ensures.items
     ∙ (map_push (λ (y : Clause). y.left) cs x ∙ ap (λ (u : Tallies). u.lefts ++ c.args.left ∷ []) c.self.view_is)))
 
-pub returns-then-left-eq0-clause-positions : goal.returns-then-left-eq0-clause-positions
-returns-then-left-eq0-clause-positions g c =
+pub returns-then-left-eq0-clause-firsts : goal.returns-then-left-eq0-clause-firsts
+returns-then-left-eq0-clause-firsts g c =
     let cs = c.self.inside.clauses.items in
-    let x : Clause = record { position = c.args.position; left = c.args.left; is_in_heap = false } in
-    ap positions_of c.insert_entry.ensures.marked ∙ (positions_kept true c.push_reserved.new.self.items _
-    ∙ (ap positions_of c.push_reserved.ensures.items
-    ∙ (map_push (λ (y : Clause). y.position) cs x ∙ ap (λ (u : Tallies). u.positions ++ c.args.position ∷ [])
+    let x : Clause = record { first_of_parent = c.args.first_of_parent; left = c.args.left; is_in_heap = false } in
+    ap firsts_of c.insert_entry.ensures.marked ∙ (firsts_kept true c.push_reserved.new.self.items _
+    ∙ (ap firsts_of c.push_reserved.ensures.items
+    ∙ (map_push (λ (y : Clause). y.first_of_parent) cs x ∙ ap (λ (u : Tallies). u.firsts ++ c.args.first_of_parent ∷ [])
     c.self.view_is)))

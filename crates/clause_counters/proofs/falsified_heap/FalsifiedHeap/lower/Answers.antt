@@ -1,8 +1,8 @@
 use Rattle.std.proofs.Common.{◌≡◌, ◌-◌, ◌<◌, true, sym, ap, subst, ◌∙◌}
 use Rattle.std.proofs.lemmas.List.{get_or_read_under}
-use Rattle.clause_counters.specs.FalsifiedHeap.{clause_at, no_clause, lefts_of, positions_of, Tallies}
-use Rattle.clause_counters.proofs.ClauseLaws.{told_lefts, told_positions, left_read, within_from_left, lefts_kept}
-use Rattle.clause_counters.proofs.ClauseLaws.{positions_kept}
+use Rattle.clause_counters.specs.FalsifiedHeap.{clause_at, no_clause, lefts_of, firsts_of, Tallies}
+use Rattle.clause_counters.proofs.ClauseLaws.{told_lefts, told_firsts, left_read, within_from_left, lefts_kept}
+use Rattle.clause_counters.proofs.ClauseLaws.{firsts_kept}
 use Rattle.clause_counters.proofs.falsified_heap.FalsifiedHeap.lower.Goals as goal
 use Rattle.clause_counters.proofs.falsified_heap.FalsifiedHeap.lower.Goals.{else-at-eq1-via-then-at-eq1+else-not-at}
 use Rattle.clause_counters.proofs.falsified_heap.FalsifiedHeap.lower.Goals.{else-at-eq1-via-else-at-eq1}
@@ -21,12 +21,12 @@ returns-then-not-at-clause-lefts g c =
     ∙ told_lefts cs c.tally.new.clauses.items lefts _ _ c.args.clause c.tally.ensures.items view
     (ap (λ n. n - 1) (left_read cs lefts c.args.clause c.index-at.result.now at view))
 
-pub returns-then-not-at-clause-positions : goal.returns-then-not-at-clause-positions
-returns-then-not-at-clause-positions g c =
-    ap positions_of c.insert_entry.ensures.marked ∙ positions_kept true c.tally.new.clauses.items c.args.clause
-    ∙ told_positions c.self.inside.clauses.items c.tally.new.clauses.items c.args.self.now.positions
+pub returns-then-not-at-clause-firsts : goal.returns-then-not-at-clause-firsts
+returns-then-not-at-clause-firsts g c =
+    ap firsts_of c.insert_entry.ensures.marked ∙ firsts_kept true c.tally.new.clauses.items c.args.clause
+    ∙ told_firsts c.self.inside.clauses.items c.tally.new.clauses.items c.args.self.now.firsts
     (c.index-at.result.now.left - 1) c.args.clause
-    c.tally.ensures.items (ap (λ (u : Tallies). u.positions) c.self.view_is)
+    c.tally.ensures.items (ap (λ (u : Tallies). u.firsts) c.self.view_is)
 
 pub returns-else-at-eq1-clause-lefts : goal.returns-else-at-eq1-clause-lefts
 returns-else-at-eq1-clause-lefts g c =
@@ -45,12 +45,12 @@ returns-else-at-eq1-clause-lefts g c =
       | else-at-eq1-via-else-at-eq1 w ↦ ap (λ (u : Tallies). u.lefts) w.self-is ∙ told
     ]
 
-pub returns-else-at-eq1-clause-positions : goal.returns-else-at-eq1-clause-positions
-returns-else-at-eq1-clause-positions g c =
-    let told = told_positions c.self.inside.clauses.items c.tally.new.clauses.items c.args.self.now.positions
+pub returns-else-at-eq1-clause-firsts : goal.returns-else-at-eq1-clause-firsts
+returns-else-at-eq1-clause-firsts g c =
+    let told = told_firsts c.self.inside.clauses.items c.tally.new.clauses.items c.args.self.now.firsts
     (c.index-at.result.now.left - 1)
-    c.args.clause c.tally.ensures.items (ap (λ (u : Tallies). u.positions) c.self.view_is) in
+    c.args.clause c.tally.ensures.items (ap (λ (u : Tallies). u.firsts) c.self.view_is) in
     elim c.else-at-eq1.branch [
-      | else-at-eq1-via-then-at-eq1+else-not-at w ↦ ap (λ (u : Tallies). u.positions) w.self-is ∙ told
-      | else-at-eq1-via-else-at-eq1 w ↦ ap (λ (u : Tallies). u.positions) w.self-is ∙ told
+      | else-at-eq1-via-then-at-eq1+else-not-at w ↦ ap (λ (u : Tallies). u.firsts) w.self-is ∙ told
+      | else-at-eq1-via-else-at-eq1 w ↦ ap (λ (u : Tallies). u.firsts) w.self-is ∙ told
     ]

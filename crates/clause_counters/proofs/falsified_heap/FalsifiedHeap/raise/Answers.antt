@@ -2,7 +2,7 @@ use Rattle.std.proofs.Common.{◌≡◌, ◌+◌, ◌<◌, length, sym, ap, subs
 use Rattle.std.proofs.lemmas.List.{get_or_read_under, length-map}
 use Rattle.clause_counters.specs.declared.falsified_heap.Clause.{Clause}
 use Rattle.clause_counters.specs.FalsifiedHeap.{clause_at, no_clause, Tallies}
-use Rattle.clause_counters.proofs.ClauseLaws.{told_lefts, told_positions, left_read}
+use Rattle.clause_counters.proofs.ClauseLaws.{told_lefts, told_firsts, left_read}
 use Rattle.clause_counters.proofs.falsified_heap.FalsifiedHeap.raise.Goals as goal
 
 pub returns-clause-lefts : goal.returns-clause-lefts
@@ -17,8 +17,8 @@ returns-clause-lefts g c =
     told_lefts cs c.tally.new.clauses.items c.args.self.now.lefts _ _ c.args.clause c.tally.ensures.items view
     (ap (λ n. n + 1) (left_read cs c.args.self.now.lefts c.args.clause c.index.result.now at view))
 
-pub returns-clause-positions : goal.returns-clause-positions
-returns-clause-positions g c =
-    told_positions c.self.inside.clauses.items c.tally.new.clauses.items c.args.self.now.positions
+pub returns-clause-firsts : goal.returns-clause-firsts
+returns-clause-firsts g c =
+    told_firsts c.self.inside.clauses.items c.tally.new.clauses.items c.args.self.now.firsts
     (c.index.result.now.left + 1) c.args.clause
-    c.tally.ensures.items (ap (λ (u : Tallies). u.positions) c.self.view_is)
+    c.tally.ensures.items (ap (λ (u : Tallies). u.firsts) c.self.view_is)

@@ -8,7 +8,7 @@ returns g c s counts =
     let f = c.self.inside in
     let at = subst (λ k. Counts k s) (sym c.self.view_is) counts in record {
       shown = shows_false f.keys.items _ s c.args.literal
-          (c.make_false.ensures (shown_by f.keys.items s) at.shown);
+          (c.make_false.ensures.shown (shown_by f.keys.items s) at.shown);
       grouped = at.grouped;
       known = at.known;
     }

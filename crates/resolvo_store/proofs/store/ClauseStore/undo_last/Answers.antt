@@ -24,8 +24,8 @@ invariant_of-self g c =
     record {
       consistent = after_trail c.self.invariant.consistent (undo_last old) (IsSound-without_newest _ c.self.invariant.consistent.sound)
           (in_step-undo_last old c.self.invariant.consistent.may_ask.in_step) c.undo_last-last.ensures.trail;
-      counted = subst (λ (t : Trail). Follows c.leave_newest.new.self t.entries (counted inside.loaded inside.disjunctions (placed inside.queue.clauses) no_false)) (sym c.undo_last-last.ensures.trail)
-          (c.leave_newest.ensures (counted inside.loaded inside.disjunctions (placed inside.queue.clauses) no_false) c.self.invariant.counted);
+      counted = subst (λ (t : Trail). Follows c.uncount_newest.new.self t.entries (counted inside.loaded inside.disjunctions (placed inside.queue.clauses) no_false)) (sym c.undo_last-last.ensures.trail)
+          (c.uncount_newest.ensures (counted inside.loaded inside.disjunctions (placed inside.queue.clauses) no_false) c.self.invariant.counted);
       marked = subst (HasMarks (record st { trail = new.entries; place = new.place })) (sym c.cut_to.ensures)
           (marks_cut st inside.marks c.self.invariant.marked new (length old.entries - 1) cut);
     }
@@ -33,8 +33,6 @@ invariant_of-self g c =
 pub returns-then-is_empty-clause-step : goal.returns-then-is_empty-clause-step
 returns-then-is_empty-clause-step g c = grind (arith, common_steps)
 
-pub leave_newest-requires : goal.leave_newest-requires
-leave_newest-requires g c = c.self.invariant.counted.within
 
 pub undo_last-last-requires : goal.undo_last-last-requires
 undo_last-last-requires g c = grind (arith, common_steps)

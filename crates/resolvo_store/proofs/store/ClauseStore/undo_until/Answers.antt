@@ -24,14 +24,14 @@ invariant_of-self g c =
     record {
       consistent = after_trail c.self.invariant.consistent (undo_until level old) (IsSound-kept_until _ c.self.invariant.consistent.sound level)
           (in_step-undo_until level old c.self.invariant.consistent.may_ask.in_step) c.undo_until.ensures.kept;
-      counted = subst (λ (t : Trail). Follows c.leave_above.new.self t.entries (counted inside.loaded inside.disjunctions (placed inside.queue.clauses) no_false)) (sym c.undo_until.ensures.kept)
-          (c.leave_above.ensures (counted inside.loaded inside.disjunctions (placed inside.queue.clauses) no_false) c.self.invariant.counted);
+      counted = subst (λ (t : Trail). Follows c.uncount_above.new.self t.entries (counted inside.loaded inside.disjunctions (placed inside.queue.clauses) no_false)) (sym c.undo_until.ensures.kept)
+          (c.uncount_above.ensures (counted inside.loaded inside.disjunctions (placed inside.queue.clauses) no_false) c.self.invariant.counted);
       marked = subst (HasMarks (record st { trail = new.entries; place = new.place })) (sym c.cut_to.ensures)
           (marks_cut st inside.marks c.self.invariant.marked new (length (kept_until level old.entries)) (cut ∙ kept_front level old.entries));
     }
 
-pub leave_above-requires : goal.leave_above-requires
-leave_above-requires g c = c.self.invariant.counted.within
+pub uncount_above-requires : goal.uncount_above-requires
+uncount_above-requires g c = c.self.invariant.counted.within
 
 pub returns-clause-asked : goal.returns-clause-asked
 returns-clause-asked g c =

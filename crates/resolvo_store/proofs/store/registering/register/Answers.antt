@@ -22,8 +22,7 @@ returns-clause-counted g c =
     let before = placed c.args.queue.now.clauses in
     let next = c.next_position-next in
     placed_registered (λ cs. Follows c.add.new.self context.trail.now.entries (counted context.loaded.now context.disjunctions.now cs no_false))
-    c.args.queue.now.clauses c.register_clause.new.self.clauses _ c.counted_position.result
-    (c.counted_position.ensures.first ∙ next.ensures.first) (c.counted_position.ensures.number ∙ next.ensures.number) c.in_ok-register_clause.ensures.ok.clauses
+    c.args.queue.now.clauses c.register_clause.new.self.clauses _ next.result.first_of_parent next.ensures.first c.in_ok-register_clause.ensures.ok.clauses
     (c.add.ensures (counted context.loaded.now context.disjunctions.now before no_false) _ context.trail.now.entries
     (c.in_ok-groups.ensures.ready before c.requires.counted) (c.prepare.ensures.same before c.requires.counted))
 

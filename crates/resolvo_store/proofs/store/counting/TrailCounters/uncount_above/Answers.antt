@@ -1,7 +1,7 @@
 use Rattle.decisions.specs.Trail.{kept_until}
 use Rattle.resolvo_store.proofs.CountedLemmas.{follows_less}
 use Rattle.resolvo_store.proofs.SyncedLemmas.{kept_front}
-use Rattle.resolvo_store.proofs.store.counting.TrailCounters.leave_above.Goals as goal
+use Rattle.resolvo_store.proofs.store.counting.TrailCounters.uncount_above.Goals as goal
 
 pub returns : goal.returns
 returns g c s h =

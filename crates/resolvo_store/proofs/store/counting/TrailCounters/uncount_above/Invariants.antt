@@ -1,8 +1,8 @@
 use Rattle.std.specs.Prelude.{◌≤◌, length}
 use Rattle.falsified_clauses.specs.Clauses.{Counted}
 use Rattle.resolvo_store.specs.Counted.{Follows}
-use Rattle.resolvo_store.specs.contracts.store.counting.TrailCounters.leave_above.{A-type}
-use Rattle.resolvo_store.proofs.store.counting.TrailCounters.leave_above.Given as goal
+use Rattle.resolvo_store.specs.contracts.store.counting.TrailCounters.uncount_above.{A-type}
+use Rattle.resolvo_store.proofs.store.counting.TrailCounters.uncount_above.Given as goal
 
 abbrev pub invariant-loop-self : goal.invariant-loop-self
 invariant-loop-self g l = record {

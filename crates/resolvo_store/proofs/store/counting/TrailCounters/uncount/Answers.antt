@@ -6,7 +6,7 @@ use Rattle.falsified_clauses.specs.Clauses.{with_undecided}
 use Rattle.falsified_clauses.specs.Counts.{Counts}
 use Rattle.resolvo_store.specs.Counted.{Counting, Follows, false_by}
 use Rattle.resolvo_store.proofs.CountedLemmas.{counts_before}
-use Rattle.resolvo_store.proofs.store.counting.TrailCounters.leave.Goals as goal
+use Rattle.resolvo_store.proofs.store.counting.TrailCounters.uncount.Goals as goal
 
 pub returns-clause-follows : goal.returns-clause-follows
 returns-clause-follows g c s h =
