@@ -1,4 +1,5 @@
 pub mod Beginnings
+pub mod CommandLemmas
 pub mod Digits
 pub mod EndLemmas
 pub mod LiteralLemmas

@@ -1,0 +1,7 @@
+use Rattle.std.proofs.Common.{◌≡◌, ◌≤◌, take, Some}
+use Rattle.script_text.specs.Numbers.{value_from}
+use Rattle.script_text.proofs.NumberWords.{ShortValue}
+use Rattle.script_text.proofs.number_word.short_number.Given as goal
+
+abbrev pub invariant-loop-i : goal.invariant-loop-i
+invariant-loop-i l = l.i ≤ 19 → ShortValue l.text l.i l.value
