@@ -1,12 +1,12 @@
 //! Reply lines.
 #![tactic(auto, using(crate::proofs::Beginnings::begins_more, crate::proofs::Beginnings::begins_whole))]
 
-ghost use Rattle.std.specs.Prelude.{◌++◌, ◌∷◌, [], ◌+◌, ◌/◌, ◌%◌, ◌<◌, ◌≤◌, codes, decimal, map, flat_map};
+ghost use Rattle.std.specs.Prelude.{◌++◌, ◌/◌, ◌%◌, ◌<◌, ◌≤◌, codes, decimal, map, flat_map};
 ghost use Rattle.resolvo_store.specs.Command.{LoadedAs, Refused, reply_of};
 ghost use Rattle.resolvo_store.specs.ReplyTexts.{field, list_text, others_text, lists_text, conflict_text};
 ghost use Rattle.resolvo_store.specs.ReplyTexts.{tracked_text, decision_text, undone_text, next_text};
 ghost use Rattle.resolvo_store.specs.ReplyTexts.{truth_text, words_text};
-ghost use Rattle.scripts.specs.Replies.{Pushes, reply_text, unreadable_text};
+ghost use Rattle.scripts.specs.Replies.{Pushes, pair_of, reply_text, unreadable_text};
 
 use decisions::Decision;
 use resolvo_queue::QueueDecision;
@@ -115,23 +115,35 @@ fn push_digit(text: &mut Vec<u8>, number: u64) -> Result<(), AllocError>
     Ok(())
 }
 
-/// A number of more digits than one: the last two are put behind those before them.
+/// A number of more digits than one.
 #[inline(never)]
 fn push_digits(text: &mut Vec<u8>, number: u64) -> Result<(), AllocError>
     requires { 10 ≤ number }
     ensures { Pushes result text.old.items text.new.items (decimal number) }
 {
     if number < 100 {
-        return push_pair(text, number);
-    }
-    let front = number / 100;
-    if front < 10 {
-        push_digit(text, front)?;
-    } else if front < 100 {
-        push_pair(text, front)?;
+        push_pair(text, number)
+    } else if number < 1000 {
+        push_digit(text, number / 100)?;
+        push_pair(text, number % 100)
+    } else if number < 10_000 {
+        push_four(text, number)
+    } else if number < 100_000 {
+        push_digit(text, number / 10_000)?;
+        push_four(text, number % 10_000)
     } else {
-        push_digits(text, front)?;
+        push_digits(text, number / 10_000)?;
+        push_four(text, number % 10_000)
     }
+}
+
+/// A number below 10000 with four digits.
+#[inline(always)]
+fn push_four(text: &mut Vec<u8>, number: u64) -> Result<(), AllocError>
+    requires { number < 10000 }
+    ensures { Pushes result text.old.items text.new.items (pair_of (number / 100) ++ pair_of (number % 100)) }
+{
+    push_pair(text, number / 100)?;
     push_pair(text, number % 100)
 }
 
@@ -139,11 +151,10 @@ fn push_digits(text: &mut Vec<u8>, number: u64) -> Result<(), AllocError>
 #[inline(always)]
 fn push_pair(text: &mut Vec<u8>, number: u64) -> Result<(), AllocError>
     requires { number < 100 }
-    ensures { Pushes result text.old.items text.new.items ((48 + number / 10) ∷ (48 + number % 10) ∷ []) }
+    ensures { Pushes result text.old.items text.new.items (pair_of number) }
 {
     let at = 2 * number as usize;
-    let (tens, ones) = (PAIRS[at], PAIRS[at + 1]);
-    text.extend_from_slice(&[tens, ones])
+    text.extend_from_slice(&PAIRS[at..at + 2])
 }
 
 /// A text, and a number directly after it.

@@ -1,5 +1,4 @@
-use Rattle.std.proofs.Common.{◌≡◌, ◌≤◌, take, Some}
-use Rattle.script_text.specs.Numbers.{value_from}
+use Rattle.std.proofs.Common.{◌≤◌}
 use Rattle.script_text.proofs.NumberWords.{ShortValue}
 use Rattle.script_text.proofs.number_word.short_number.Given as goal
 
