@@ -12,12 +12,15 @@ abbrev pub ends : {T : Type 0} → T → List (List ℕ) → Option T
 ends t [] = Some t
 ends t (word ∷ ws) = None
 
+abbrev with_rest : {I : Type 0} → (ℕ → I) → List (List ℕ) → ℕ → I × List (List ℕ)
+with_rest id_at ws n = (id_at n, ws)
+
 pub id_from_value : {I : Type 0} (limit : ℕ) (id_at : ℕ → I) (ws : List (List ℕ)) → first_id limit id_at ws
-    ≡ option_and_then (λ r. option_map (λ n. (id_at n, r.1)) (below limit (Some r.0))) (first_value ws)
+    ≡ option_and_then (λ (r : ℕ × List (List ℕ)). option_map (with_rest id_at r.1) (below limit (Some r.0))) (first_value ws)
 id_from_value limit id_at [] = refl
 id_from_value limit id_at (word ∷ ws) =
-    elim (number_of word) as (λ o. option_map (λ n. (id_at n, ws)) (below limit o)
-    ≡ option_and_then (λ r. option_map (λ n. (id_at n, r.1)) (below limit (Some r.0))) (option_map (λ n. (n, ws)) o))
+    elim (number_of word) as (λ o. option_map (with_rest id_at ws) (below limit o)
+    ≡ option_and_then (λ (r : ℕ × List (List ℕ)). option_map (with_rest id_at r.1) (below limit (Some r.0))) (option_map (with_rest (λ n. n) ws) o))
     [ None ↦ refl | Some n ↦ refl ]
 
 module _ {T : Type 0} where
@@ -63,14 +66,15 @@ abbrev set_at : ℕ → VersionSetId
 set_at n = record { 0 = n }
 
 pub pair_by_words : (ws : List (List ℕ)) → pair_of ws
-    ≡ option_and_then (λ a. option_and_then (λ b. ends (a.0, b.0) b.1) (first_variable a.1)) (first_variable ws)
+    ≡ option_and_then (λ (a : ℕ × List (List ℕ)). option_and_then (λ (b : ℕ × List (List ℕ)). ends (a.0, b.0) b.1) (first_variable a.1)) (first_variable ws)
 pair_by_words [] = refl
 pair_by_words (a ∷ []) = none_id _ _ a _ _ (λ x. refl)
 pair_by_words (a ∷ b ∷ []) = by_id _ _ a _ _ _ (λ x. last_id _ _ b _ _ (λ y. refl))
 pair_by_words (a ∷ b ∷ c ∷ ws) = none_id _ _ a _ _ (λ x. none_id _ _ b _ _ (λ y. refl))
 
 pub pair_and_set_by_words : (ws : List (List ℕ)) → pair_and_set_of ws
-    ≡ option_and_then (λ a. option_and_then (λ b. option_and_then (λ s. ends (a.0, b.0, s.0) s.1) (first_id (2 ^ 32) set_at b.1))
+    ≡ option_and_then (λ (a : ℕ × List (List ℕ)). option_and_then (λ (b : ℕ × List (List ℕ)).
+    option_and_then (λ (s : VersionSetId × List (List ℕ)). ends (a.0, b.0, s.0) s.1) (first_id (2 ^ 32) set_at b.1))
     (first_variable a.1)) (first_variable ws)
 pair_and_set_by_words [] = refl
 pair_and_set_by_words (a ∷ []) = none_id _ _ a _ _ (λ x. refl)
@@ -78,10 +82,10 @@ pair_and_set_by_words (a ∷ b ∷ []) = none_id _ _ a _ _ (λ x. none_id _ _ b 
 pair_and_set_by_words (a ∷ b ∷ s ∷ []) = by_id _ _ a _ _ _ (λ x. by_id _ _ b _ _ _ (λ y. last_set s (λ z. (x, y, z))))
   where
     last_set : {T : Type 0} (word : List ℕ) (g : VersionSetId → T) →
-        option_map g (option_map set_at (below (2 ^ 32) (number_of word))) ≡ option_and_then (λ s. ends (g s.0) s.1) (first_id (2 ^ 32) set_at (word ∷ []))
+        option_map g (option_map set_at (below (2 ^ 32) (number_of word))) ≡ option_and_then (λ (s : VersionSetId × List (List ℕ)). ends (g s.0) s.1) (first_id (2 ^ 32) set_at (word ∷ []))
     last_set word g =
         elim (below (2 ^ 32) (number_of word)) as (λ o. option_map g (option_map set_at o)
-        ≡ option_and_then (λ s. ends (g s.0) s.1) (option_map (λ n. (set_at n, [])) o)) [ None ↦ refl | Some n ↦ refl ]
+        ≡ option_and_then (λ (s : VersionSetId × List (List ℕ)). ends (g s.0) s.1) (option_map (λ n. (set_at n, [])) o)) [ None ↦ refl | Some n ↦ refl ]
 pair_and_set_by_words (a ∷ b ∷ s ∷ t ∷ ws) = none_id _ _ a _ _ (λ x. none_id _ _ b _ _ (λ y. none_id _ _ s _ _ (λ z. refl)))
 
 module _ {N S : Type 0} where
