@@ -1,6 +1,6 @@
 -- The numbers of a script.
 use Rattle.std.specs.Prelude.{ℕ, ◌+◌, ◌-◌, ◌*◌, ◌^◌, Bool, ◌&&◌, nat_le, nat_lt, List, []}
-use Rattle.std.specs.Prelude.{◌∷◌, length, Option, None, Some, option_and_then, option_map, if◌then◌else◌}
+use Rattle.std.specs.Prelude.{◌∷◌, length, Option, None, Some, option_and_then, if◌then◌else◌}
 
 abbrev pub is_digit : ℕ → Bool
 is_digit b = nat_le 48 b && nat_le b 57
@@ -19,11 +19,6 @@ value_from n (digit ∷ digits) = option_and_then (λ m. value_from m digits) (w
 abbrev pub number_of : List ℕ → Option ℕ
 number_of [] = None
 number_of (digit ∷ digits) = if nat_lt 20 (length (digit ∷ digits)) then None else value_from 0 (digit ∷ digits)
-
--- the number that the first of these words writes, and the words after it
-abbrev pub first_value : List (List ℕ) → Option (ℕ × List (List ℕ))
-first_value [] = None
-first_value (word ∷ ws) = option_map (λ n. (n, ws)) (number_of word)
 
 -- a number below a limit
 abbrev pub below : ℕ → Option ℕ → Option ℕ

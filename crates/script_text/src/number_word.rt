@@ -1,11 +1,11 @@
 //! Words that are read as numbers.
 ghost use Rattle.std.specs.Prelude.{◌≡◌, ◌<◌, [], ◌∷◌, length, MatchOption, ◌≢◌, slice_get, IfSome};
-ghost use Rattle.std.specs.Prelude.{Some, option_map};
-ghost use Rattle.script_text.specs.Numbers.{number_of, first_value};
+ghost use Rattle.std.specs.Prelude.{Some};
+ghost use Rattle.script_text.specs.Numbers.{number_of};
 ghost use Rattle.script_text.specs.Words.{words};
 
 use crate::decimal::number;
-use crate::word::{next_word, split_word, without_blanks};
+use crate::word::{split_word, without_blanks};
 
 /// So many digits have a value below 2^64 whatever they are.
 const SHORT: usize = 19;
@@ -38,29 +38,6 @@ pub fn next_number(line: &[u8]) -> Option<(NumberWord<'_>, &[u8])>
         return None;
     }
     Some(split_number(text))
-}
-
-/// The number that the first word of a line writes, and what is after the word; none where no word is left, or it
-/// writes none.
-#[inline(always)]
-pub fn next_value(line: &[u8]) -> Option<(u64, &[u8])>
-    ensures { option_map (λ r. (r.0, words r.1.now)) result ≡ first_value (words line.now) }
-{
-    let text = without_blanks(line);
-    match short_number(text) {
-        Some(short) => Some((short.value, short.rest)),
-        None => other_value(text),
-    }
-}
-
-/// The number that the first word of a text writes, and what is after the word, where the word is any.
-#[inline(never)]
-fn other_value(text: &[u8]) -> Option<(u64, &[u8])>
-    ensures { option_map (λ r. (r.0, words r.1.now)) result ≡ first_value (words text.now) }
-{
-    let (word, rest) = next_word(text)?;
-    let value = number(word)?;
-    Some((value, rest))
 }
 
 /// The first word of a text with its number, and what is after it.

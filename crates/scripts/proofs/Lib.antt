@@ -1,5 +1,4 @@
 pub mod Beginnings
-pub mod CommandLemmas
 pub mod Digits
 pub mod EndLemmas
 pub mod LiteralLemmas

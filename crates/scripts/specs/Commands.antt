@@ -36,16 +36,6 @@ set_of word = option_map (λ n. record { 0 = n }) (number_32 word)
 abbrev pub string_of : List ℕ → Option StringId
 string_of word = option_map (λ n. record { 0 = n }) (number_32 word)
 
--- the id that the first of these words stands for, of those below a limit, and the words after it
-abbrev pub first_id : {I : Type 0} → ℕ → (ℕ → I) → List (List ℕ) → Option (I × List (List ℕ))
-first_id limit id_at [] = None
-first_id limit id_at (word ∷ ws) = option_map (λ n. (id_at n, ws)) (below limit (number_of word))
-
--- the truth value that the first of these words stands for, and the words after it
-abbrev pub first_truth : List (List ℕ) → Option (Bool × List (List ℕ))
-first_truth [] = None
-first_truth (word ∷ ws) = option_map (λ value. (value, ws)) (truth_of word)
-
 -- a literal: its sign, and the number of its variable directly after it
 abbrev pub literal_of : List ℕ → Option Lit
 literal_of [] = None

@@ -5,7 +5,7 @@ ghost use Rattle.script_text.specs.Words.{words};
 ghost use Rattle.resolvo_store.specs.Command.{command_of};
 ghost use Rattle.scripts.specs.Commands.{ids_at, only_word, pair_of, pair_and_set_of, helper_origin_of};
 ghost use Rattle.scripts.specs.Commands.{command_said, plain_command, package_command, seldom_command, between_command};
-ghost use Rattle.scripts.specs.Commands.{bare_command, first_id, first_truth};
+ghost use Rattle.scripts.specs.Commands.{bare_command};
 ghost use Rattle.scripts.specs.Commands.{variable_command, helper_command, load_command, disjunction_command};
 ghost use Rattle.scripts.specs.Commands.{requires_command, assign_command};
 ghost use Rattle.scripts.specs.Commands.{undo_command, exclude_command, learnt_command, rewatch_command};
@@ -16,7 +16,7 @@ ghost use Rattle.scripts.specs.Transcript.{IsRead};
 use crate::literal_words::{literal, literals};
 use resolvo_store::{Command, HelperOrigin};
 use script_packages::{id, id_of, requirement};
-use script_text::{LineFault, Statement, is_word, next_number, next_value, next_word, number};
+use script_text::{LineFault, Statement, is_word, next_number, next_word, number};
 use std::alloc::Allocator;
 use typed_ids::{DenseIndex, VariableId, VersionSetId};
 
@@ -171,29 +171,15 @@ fn only_word(text: &[u8]) -> Option<&[u8]>
     }
 }
 
-/// The id that the first word of a text stands for, and what is after the word.
-#[inline(always)]
-fn next_id<I: DenseIndex>(text: &[u8]) -> Option<(I, &[u8])>
-    ensures { option_map (λ r. (r.0, words r.1.now)) result ≡ first_id I.limit I.id_at (words text.now) }
-{
-    let (number, rest) = next_value(text)?;
-    let index = number as usize;
-    if I::in_range(index) {
-        Some((I::from_index(index), rest))
-    } else {
-        None
-    }
-}
-
 /// `V V`
 fn pair(text: &[u8]) -> Option<(VariableId, VariableId)>
     ensures { result ≡ pair_of (words text.now) }
 {
-    let (first, text) = next_id(text)?;
-    let (second, text) = next_id(text)?;
+    let (first, text) = next_number(text)?;
+    let (second, text) = next_number(text)?;
     match next_word(text) {
         Some(_) => None,
-        None => Some((first, second)),
+        None => Some((id_of(&first)?, id_of(&second)?)),
     }
 }
 
@@ -201,12 +187,12 @@ fn pair(text: &[u8]) -> Option<(VariableId, VariableId)>
 fn pair_and_set(text: &[u8]) -> Option<(VariableId, VariableId, VersionSetId)>
     ensures { result ≡ pair_and_set_of (words text.now) }
 {
-    let (first, text) = next_id(text)?;
-    let (second, text) = next_id(text)?;
-    let (set, text) = next_id(text)?;
+    let (first, text) = next_number(text)?;
+    let (second, text) = next_number(text)?;
+    let (set, text) = next_number(text)?;
     match next_word(text) {
         Some(_) => None,
-        None => Some((first, second, set)),
+        None => Some((id_of(&first)?, id_of(&second)?, id_of(&set)?)),
     }
 }
 
@@ -315,37 +301,17 @@ fn at_most_once<N: DenseIndex, S: DenseIndex, A: Allocator>(text: &[u8]) -> Opti
 fn assign<N, S, A: Allocator>(text: &[u8]) -> Option<Command<N, S, A>>
     ensures { option_map command_of result ≡ assign_command (words text.now) }
 {
-    let (variable, text) = next_id(text)?;
-    let (value, text) = next_truth(text)?;
-    let (clause, text) = next_id(text)?;
-    let (level, text) = next_id(text)?;
+    let (variable, text) = next_number(text)?;
+    let (value, text) = next_word(text)?;
+    let (clause, text) = next_number(text)?;
+    let (level, text) = next_number(text)?;
     match next_word(text) {
         Some(_) => None,
-        None => Some(Command::Assign(variable, value, clause, level)),
+        None => {
+            let (variable, value) = (id_of(&variable)?, truth(value)?);
+            Some(Command::Assign(variable, value, id_of(&clause)?, id_of(&level)?))
+        }
     }
-}
-
-/// The truth value that the first word of a text stands for, and what is after the word.
-#[inline(always)]
-fn next_truth(text: &[u8]) -> Option<(bool, &[u8])>
-    ensures { option_map (λ r. (r.0, words r.1.now)) result ≡ first_truth (words text.now) }
-{
-    match text {
-        [b't', b'r', b'u', b'e', b' ', rest @ ..] => Some((true, rest)),
-        [b'f', b'a', b'l', b's', b'e', b' ', rest @ ..] => Some((false, rest)),
-        _ => other_truth(text),
-    }
-}
-
-/// The truth value that the first word of a text stands for, and what is after the word, where there may be other
-/// blanks.
-#[inline(never)]
-fn other_truth(text: &[u8]) -> Option<(bool, &[u8])>
-    ensures { option_map (λ r. (r.0, words r.1.now)) result ≡ first_truth (words text.now) }
-{
-    let (word, rest) = next_word(text)?;
-    let value = truth(word)?;
-    Some((value, rest))
 }
 
 /// `undo-until LEVEL`

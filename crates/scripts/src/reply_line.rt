@@ -1,7 +1,7 @@
 //! Reply lines.
 #![tactic(auto, using(crate::proofs::Beginnings::begins_more, crate::proofs::Beginnings::begins_whole))]
 
-ghost use Rattle.std.specs.Prelude.{◌++◌, ◌/◌, ◌%◌, ◌<◌, ◌≤◌, codes, decimal, map, flat_map};
+ghost use Rattle.std.specs.Prelude.{◌≡◌, ◌++◌, ◌+◌, ◌/◌, ◌%◌, ◌<◌, ◌≤◌, codes, decimal, map, flat_map};
 ghost use Rattle.resolvo_store.specs.Command.{LoadedAs, Refused, reply_of};
 ghost use Rattle.resolvo_store.specs.ReplyTexts.{field, list_text, others_text, lists_text, conflict_text};
 ghost use Rattle.resolvo_store.specs.ReplyTexts.{tracked_text, decision_text, undone_text, next_text};
@@ -122,10 +122,11 @@ fn push_digits(text: &mut Vec<u8>, number: u64) -> Result<(), AllocError>
     ensures { Pushes result text.old.items text.new.items (decimal number) }
 {
     if number < 100 {
-        push_pair(text, number)
+        let (tens, ones) = pair(number);
+        text.extend_from_slice(&[tens, ones])
     } else if number < 1000 {
-        push_digit(text, number / 100)?;
-        push_pair(text, number % 100)
+        let (tens, ones) = pair(number % 100);
+        text.extend_from_slice(&[b'0' + (number / 100) as u8, tens, ones])
     } else if number < 10_000 {
         push_four(text, number)
     } else if number < 100_000 {
@@ -143,18 +144,20 @@ fn push_four(text: &mut Vec<u8>, number: u64) -> Result<(), AllocError>
     requires { number < 10000 }
     ensures { Pushes result text.old.items text.new.items (pair_of (number / 100) ++ pair_of (number % 100)) }
 {
-    push_pair(text, number / 100)?;
-    push_pair(text, number % 100)
+    let (thousands, hundreds) = pair(number / 100);
+    let (tens, ones) = pair(number % 100);
+    text.extend_from_slice(&[thousands, hundreds, tens, ones])
 }
 
-/// A number below 100 with two digits.
+/// The two digits of a number below 100.
 #[inline(always)]
-fn push_pair(text: &mut Vec<u8>, number: u64) -> Result<(), AllocError>
+fn pair(number: u64) -> (u8, u8)
     requires { number < 100 }
-    ensures { Pushes result text.old.items text.new.items (pair_of number) }
+    ensures tens { result.0 ≡ 48 + number / 10 }
+    ensures ones { result.1 ≡ 48 + number % 10 }
 {
     let at = 2 * number as usize;
-    text.extend_from_slice(&PAIRS[at..at + 2])
+    (PAIRS[at], PAIRS[at + 1])
 }
 
 /// A text, and a number directly after it.
