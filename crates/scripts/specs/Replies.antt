@@ -18,5 +18,5 @@ Pushes (Ok _) old new more = new ≡ old ++ more
 Pushes (Err _) old new more = StartsWith (old ++ more) new
 
 -- the two digits of a number below 100
-abbrev pub pair_of : ℕ → List ℕ
-pair_of n = (48 + n / 10) ∷ (48 + n % 10) ∷ []
+abbrev pub digit_pair : ℕ → List ℕ
+digit_pair n = (48 + n / 10) ∷ (48 + n % 10) ∷ []

@@ -1,12 +1,12 @@
 //! Reply lines.
 #![tactic(auto, using(crate::proofs::Beginnings::begins_more, crate::proofs::Beginnings::begins_whole))]
 
-ghost use Rattle.std.specs.Prelude.{◌≡◌, ◌++◌, ◌+◌, ◌/◌, ◌%◌, ◌<◌, ◌≤◌, codes, decimal, map, flat_map};
+ghost use Rattle.std.specs.Prelude.{◌++◌, ◌/◌, ◌%◌, ◌<◌, ◌≤◌, codes, decimal, map, flat_map};
 ghost use Rattle.resolvo_store.specs.Command.{LoadedAs, Refused, reply_of};
 ghost use Rattle.resolvo_store.specs.ReplyTexts.{field, list_text, others_text, lists_text, conflict_text};
 ghost use Rattle.resolvo_store.specs.ReplyTexts.{tracked_text, decision_text, undone_text, next_text};
 ghost use Rattle.resolvo_store.specs.ReplyTexts.{truth_text, words_text};
-ghost use Rattle.scripts.specs.Replies.{Pushes, pair_of, reply_text, unreadable_text};
+ghost use Rattle.scripts.specs.Replies.{Pushes, digit_pair, reply_text, unreadable_text};
 
 use decisions::Decision;
 use resolvo_queue::QueueDecision;
@@ -122,11 +122,10 @@ fn push_digits(text: &mut Vec<u8>, number: u64) -> Result<(), AllocError>
     ensures { Pushes result text.old.items text.new.items (decimal number) }
 {
     if number < 100 {
-        let (tens, ones) = pair(number);
-        text.extend_from_slice(&[tens, ones])
+        push_pair(text, number)
     } else if number < 1000 {
-        let (tens, ones) = pair(number % 100);
-        text.extend_from_slice(&[b'0' + (number / 100) as u8, tens, ones])
+        push_digit(text, number / 100)?;
+        push_pair(text, number % 100)
     } else if number < 10_000 {
         push_four(text, number)
     } else if number < 100_000 {
@@ -142,22 +141,20 @@ fn push_digits(text: &mut Vec<u8>, number: u64) -> Result<(), AllocError>
 #[inline(always)]
 fn push_four(text: &mut Vec<u8>, number: u64) -> Result<(), AllocError>
     requires { number < 10000 }
-    ensures { Pushes result text.old.items text.new.items (pair_of (number / 100) ++ pair_of (number % 100)) }
+    ensures { Pushes result text.old.items text.new.items (digit_pair (number / 100) ++ digit_pair (number % 100)) }
 {
-    let (thousands, hundreds) = pair(number / 100);
-    let (tens, ones) = pair(number % 100);
-    text.extend_from_slice(&[thousands, hundreds, tens, ones])
+    push_pair(text, number / 100)?;
+    push_pair(text, number % 100)
 }
 
-/// The two digits of a number below 100.
+/// A number below 100 with two digits.
 #[inline(always)]
-fn pair(number: u64) -> (u8, u8)
+fn push_pair(text: &mut Vec<u8>, number: u64) -> Result<(), AllocError>
     requires { number < 100 }
-    ensures tens { result.0 ≡ 48 + number / 10 }
-    ensures ones { result.1 ≡ 48 + number % 10 }
+    ensures { Pushes result text.old.items text.new.items (digit_pair number) }
 {
     let at = 2 * number as usize;
-    (PAIRS[at], PAIRS[at + 1])
+    text.extend_from_slice(&PAIRS[at..at + 2])
 }
 
 /// A text, and a number directly after it.
