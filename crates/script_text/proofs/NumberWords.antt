@@ -1,12 +1,12 @@
 -- Words of digits.
 use Rattle.std.proofs.Common.{◌≡◌, ◌≢◌, ℕ, ◌+◌, ◌*◌, ◌-◌, ◌^◌, ◌<◌, ◌≤◌, ◌==◌, Bool, true, false, ◌&&◌, nat_lt, List, []}
-use Rattle.std.proofs.Common.{◌∷◌, ◌++◌, length, drop, take, get_or, arith, refl, sym, ap, ◌∙◌, append_assoc, append-nil, lit<, Option, None, Some}
-use Rattle.std.proofs.Math.Nat.{pow-le-pow_right}
-use Rattle.std.specs.Prelude.{if◌then◌else◌, option_and_then, slice_get, IfSome, cond}
-use Rattle.std.specs.List.{prefix_len}
+use Rattle.std.proofs.Common.{◌∷◌, ◌++◌, length, drop, take, get_or, arith, refl, sym, ap, ap₂, ◌∙◌, append_assoc, append-nil, lit<, Option, None, Some}
+use Rattle.std.proofs.Common.{◌%◌}
+use Rattle.std.proofs.Math.Nat.{pow-le-pow_right, mod-eq_of_lt}
+use Rattle.std.specs.Prelude.{if◌then◌else◌, option_and_then, slice_get, IfSome}
 use Rattle.std.proofs.lemmas.Bool.Decides.{nat_tests}
 use Rattle.std.proofs.lemmas.Grind.{common_steps}
-use Rattle.std.proofs.lemmas.List.{take_more, drop_more}
+use Rattle.std.proofs.lemmas.List.{take_more, drop_more, take_all, drop_all, take-append-drop, length-take}
 use Rattle.script_text.specs.Numbers.{is_digit, with_digit, value_from, number_of}
 use Rattle.script_text.specs.Words.{words, words_from, begun_word, ends_word}
 
@@ -21,11 +21,6 @@ digit_of n b v h = digit_by (is_digit b) (nat_lt (n * 10 + (b - 48)) (2 ^ 64)) (
 fits : (n b : ℕ) → n < 10 ^ 18 → is_digit b ≡ true → nat_lt (n * 10 + (b - 48)) (2 ^ 64) ≡ true
 fits n b small digit = grind (arith, nat_tests, small, digit)
 
-other_by : (t u : Bool) (n : ℕ) → (t ≡ true → u ≡ true) → (if t && u then Some n else None) ≡ None → t ≡ false
-other_by true true n k h = cc
-other_by true false n k h = let no : false ≡ true = k refl in cc
-other_by false u n k h = refl
-
 pub small_enough : (n i : ℕ) → i ≤ 18 → n < 10 ^ i → n < 10 ^ 18
 small_enough n i few small =
     let bound : 10 ^ i ≤ 10 ^ 18 = pow-le-pow_right {n = 10} (lit< tt) few in
@@ -34,9 +29,14 @@ small_enough n i few small =
 pub one_digit_more : (n m i : ℕ) → n < 10 ^ i → m < 10 * (n + 1) → m < 10 ^ (i + 1)
 one_digit_more n m i small more = grind (arith, common_steps, small, more)
 
--- what doesn't go on a small number is none
-pub no_digit : (n b : ℕ) → n < 10 ^ 18 → with_digit n b ≡ None → is_digit b ≡ false
-no_digit n b small h = other_by (is_digit b) (nat_lt (n * 10 + (b - 48)) (2 ^ 64)) (n * 10 + (b - 48)) (fits n b small) h
+-- a digit goes on a small number
+digit_goes_on : (n b : ℕ) → n < 10 ^ 18 → is_digit b ≡ true → with_digit n b ≡ Some (n * 10 + (b - 48))
+digit_goes_on n b small digit =
+    ap₂ (λ t u. if t && u then Some (n * 10 + (b - 48)) else None) digit (fits n b small digit)
+
+-- and wraps nowhere
+not_wrapped : (n b : ℕ) → n < 10 ^ 18 → is_digit b ≡ true → (n * 10 % (2 ^ 64) + (b - 48)) % (2 ^ 64) ≡ n * 10 + (b - 48)
+not_wrapped n b small digit = grind (arith, nat_tests, mod-eq_of_lt, small, digit)
 
 one_more : (n b : ℕ) (xs : List ℕ) → value_from n (xs ++ b ∷ []) ≡ option_and_then (λ m. value_from m (b ∷ [])) (value_from n xs)
 one_more n b [] = refl
@@ -55,18 +55,23 @@ module _ (text : List ℕ) (i n : ℕ) (within : i < length text) where
       ∙ ap (option_and_then (λ m. value_from m (get_or text i 0 ∷ []))) before
       ∙ ap (option_and_then (λ m. value_from m [])) digit
 
-  pub count_goes_on : is_digit (get_or text i 0) ≡ true →
-      i + 1 + prefix_len is_digit (drop (i + 1) text) ≡ i + prefix_len is_digit (drop i text)
-  count_goes_on digit =
-      let here : prefix_len is_digit (drop i text) ≡ 1 + prefix_len is_digit (drop (i + 1) text) =
-      ap (prefix_len is_digit) (drop_more text i 0 within) ∙ ap (λ t. cond t (1 + prefix_len is_digit (drop (i + 1) text)) 0) digit in
-      omega (arith, here)
+-- of a text this many digits are read, fewer than twenty
+pub record ShortValue (text : List ℕ) (i n : ℕ) : Type 0 where
+  pub value : value_from 0 (take i text) ≡ Some n
+  pub small : n < 10 ^ i
 
-  pub count_ends : is_digit (get_or text i 0) ≡ false → i + prefix_len is_digit (drop i text) ≡ i
-  count_ends other =
-      let here : prefix_len is_digit (drop i text) ≡ 0 =
-      ap (prefix_len is_digit) (drop_more text i 0 within) ∙ ap (λ t. cond t (1 + prefix_len is_digit (drop (i + 1) text)) 0) other in
-      omega (arith, here)
+pub short_goes_on : (text : List ℕ) (i n v : ℕ) → i < length text → (i ≤ 19 → ShortValue text i n) → is_digit (get_or text i 0) ≡ true →
+    v ≡ (n * 10 % (2 ^ 64) + (get_or text i 0 - 48)) % (2 ^ 64) → i + 1 ≤ 19 → ShortValue text (i + 1) v
+short_goes_on text i n v within before digit is few =
+    let b = get_or text i 0 in
+    let here : ShortValue text i n = before (omega arith) in
+    let small : n < 10 ^ 18 = small_enough n i (omega arith) here.small in
+    let plain : v ≡ n * 10 + (b - 48) = is ∙ not_wrapped n b small digit in
+    let digit_small : b - 48 < 10 = grind (arith, nat_tests, digit) in
+    record {
+      value = value_goes_on text i n within v here.value (digit_goes_on n b small digit ∙ ap Some (sym plain));
+      small = one_digit_more n v i here.small (omega (arith, plain, digit_small));
+    }
 
 not_blank : (b : ℕ) → is_digit b ≡ true → (b == 32) ≡ false
 not_blank b digit = grind (arith, nat_tests, digit)
@@ -129,3 +134,29 @@ module _ (text word rest : List ℕ) (v : ℕ) (whole : word ++ rest ≡ text) (
 
   pub number_first : length word ≤ 19 → Some v ≡ number_of word
   number_first few = sym (number_by word refl few ∙ value)
+
+-- what is behind a blank has the same words
+after_blank : (b : ℕ) (bs : List ℕ) → b ≡ 32 → words (b ∷ bs) ≡ words bs
+after_blank b bs is = ap (λ ends. if ends then words bs else words_from (b ∷ []) bs) (ap (λ x. x == 32) is)
+
+-- a short number up to a blank, and up to the end
+module _ (text : List ℕ) (i n : ℕ) (some : 0 < length text) (begins : IfSome (slice_get text 0) (λ b. b ≢ 32)) (few : i ≤ 19)
+    (short : i ≤ 19 → ShortValue text i n) where
+  ends_at : (rest : List ℕ) → drop i text ≡ rest → ends_word rest ≡ true → words text ≡ take i text ∷ words rest
+  ends_at rest is ends =
+      first_number text (take i text) rest n (ap (λ l. take i text ++ l) (sym is) ∙ take-append-drop i text) some begins ends
+      (short few).value
+
+  pub first_until_blank : i < length text → get_or text i 0 ≡ 32 → words text ≡ take i text ∷ words (drop (i + 1) text)
+  first_until_blank within blank =
+      ends_at (get_or text i 0 ∷ drop (i + 1) text) (drop_more text i 0 within) (ap (λ x. x == 32) blank)
+      ∙ ap (λ l. take i text ∷ l) (after_blank (get_or text i 0) (drop (i + 1) text) blank)
+
+  pub first_until_end : length text ≤ i → words text ≡ text ∷ words []
+  first_until_end end = ends_at [] (drop_all i text end) refl ∙ ap (λ w. w ∷ words []) (take_all i text end)
+
+  pub number_until_end : length text ≤ i → number_of text ≡ Some n
+  number_until_end end =
+      ap number_of (sym (take_all i text end))
+      ∙ sym (number_first text (take i text) [] n (ap (λ l. take i text ++ l) (sym (drop_all i text end)) ∙ take-append-drop i text) some begins refl
+      (short few).value (omega (arith, length-take i text, few)))

@@ -35,7 +35,7 @@ fn short_value(digits: &[u8]) -> Option<u64>
 
 /// The value with one more decimal digit after it, of twenty at most.
 #[inline(always)]
-pub(crate) fn with_short_digit(value: u64, digit: u8) -> Option<u64>
+fn with_short_digit(value: u64, digit: u8) -> Option<u64>
     requires { value < 10 ^ 18 }
     ensures value { result ≡ with_digit value digit }
     ensures bound { IfSome result (λ n. n < 10 * (value + 1)) }

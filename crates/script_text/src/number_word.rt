@@ -1,10 +1,10 @@
 //! Words that are read as numbers.
-ghost use Rattle.std.specs.Prelude.{◌≡◌, ◌<◌, ◌≤◌, [], ◌∷◌, length, take, MatchOption, Some, ◌≢◌, slice_get, IfSome};
-ghost use Rattle.std.specs.List.{prefix_len};
-ghost use Rattle.script_text.specs.Numbers.{number_of, value_from, is_digit};
-ghost use Rattle.script_text.specs.Words.{words, ends_word};
+ghost use Rattle.std.specs.Prelude.{◌≡◌, ◌<◌, [], ◌∷◌, length, MatchOption, ◌≢◌, slice_get, IfSome};
+ghost use Rattle.std.specs.Prelude.{Some};
+ghost use Rattle.script_text.specs.Numbers.{number_of};
+ghost use Rattle.script_text.specs.Words.{words};
 
-use crate::decimal::{number, with_short_digit};
+use crate::decimal::number;
 use crate::word::{split_word, without_blanks};
 
 /// So many digits have a value below 2^64 whatever they are.
@@ -17,11 +17,12 @@ pub struct NumberWord<'a> {
     pub number: Option<u64>,
 }
 
-/// Digits at the beginning of a text: how many, and their value.
+/// A short number with which a text begins: its value, its word, and what is after the word and its blank.
 #[derive(Clone, Copy)]
-struct Digits {
-    count: usize,
+struct ShortNumber<'a> {
     value: u64,
+    word: &'a [u8],
+    rest: &'a [u8],
 }
 
 /// The first word of a line with the number that it writes, and what is after it; none where no word is left. A word
@@ -48,21 +49,39 @@ fn split_number(text: &[u8]) -> (NumberWord<'_>, &[u8])
     ensures number { result.0.number ≡ number_of result.0.word.now }
     ensures shorter { length result.1.now < length text.now }
 {
-    let digits = short_digits(&text[..text.len().min(SHORT)]);
-    let (word, rest) = text.split_at(digits.count);
-    if !ends_word(rest) {
-        return other_word(text);
+    match short_number(text) {
+        Some(short) => {
+            let (word, number) = (short.word, Some(short.value));
+            (NumberWord { word, number }, short.rest)
+        }
+        None => other_word(text),
     }
-    let number = Some(digits.value);
-    (NumberWord { word, number }, rest)
 }
 
-/// Whether a word ends before these bytes: at a blank or the end.
+/// The number with which a text begins, if it is its first word, and of no more than nineteen digits.
 #[inline(always)]
-fn ends_word(rest: &[u8]) -> bool
-    ensures { result ≡ ends_word rest.now }
+fn short_number(text: &[u8]) -> Option<ShortNumber<'_>>
+    requires { IfSome (slice_get text.now 0) (λ b. b ≢ 32) }
+    ensures first { IfSome result (λ short. words text.now ≡ short.word.now ∷ words short.rest.now) }
+    ensures number { IfSome result (λ short. number_of short.word.now ≡ Some short.value) }
+    ensures shorter { IfSome result (λ short. length short.rest.now < length text.now) }
 {
-    matches!(rest, [] | [b' ', ..])
+    let mut value = 0u64;
+    for (i, byte) in text.iter().enumerate() {
+        if byte.is_ascii_digit() {
+            value = value.wrapping_mul(10).wrapping_add(u64::from(*byte - b'0'));
+        } else if *byte == b' ' && i <= SHORT {
+            let (word, rest) = (&text[..i], &text[i + 1..]);
+            return Some(ShortNumber { value, word, rest });
+        } else {
+            return None;
+        }
+    }
+    if text.is_empty() || text.len() > SHORT {
+        return None;
+    }
+    let (word, rest) = text.split_at(text.len());
+    Some(ShortNumber { value, word, rest })
 }
 
 /// The first word of a text with its number, and what is after it, where the word isn't of digits alone, or is long.
@@ -77,24 +96,4 @@ fn other_word(text: &[u8]) -> (NumberWord<'_>, &[u8])
     let (word, rest) = split_word(text);
     let number = number(word);
     (NumberWord { word, number }, rest)
-}
-
-/// The digits that a text of no more than nineteen bytes begins with.
-#[inline(always)]
-fn short_digits(text: &[u8]) -> Digits
-    requires { length text.now ≤ 19 }
-    ensures count { result.count ≡ prefix_len is_digit text.now }
-    ensures value { value_from 0 (take result.count text.now) ≡ Some result.value }
-{
-    let mut value = 0;
-    for (count, digit) in text.iter().enumerate() {
-        match with_short_digit(value, *digit) {
-            Some(more) => value = more,
-            None => return Digits { count, value },
-        }
-    }
-    Digits {
-        count: text.len(),
-        value,
-    }
 }

@@ -52,7 +52,7 @@ pub(crate) fn without_blanks(line: &[u8]) -> &[u8]
     text
 }
 
-/// The bytes up to the first blank or the end, and those from there on.
+/// The bytes up to the first blank or the end, and those after the blank.
 #[inline(always)]
 #[tactic(auto, using(crate::proofs::Printing::printed_parts))]
 pub(crate) fn split_word(text: &[u8]) -> (&[u8], &[u8])
@@ -64,7 +64,7 @@ pub(crate) fn split_word(text: &[u8]) -> (&[u8], &[u8])
 {
     for (i, byte) in text.iter().enumerate() {
         if *byte == b' ' {
-            return text.split_at(i);
+            return (&text[..i], &text[i + 1..]);
         }
     }
     (text, &text[text.len()..])

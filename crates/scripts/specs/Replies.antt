@@ -1,5 +1,5 @@
 -- The lines of replies, and the line of an unreadable line.
-use Rattle.std.specs.Prelude.{◌≡◌, ℕ, List, ◌++◌, Result, Ok, Err, codes, decimal}
+use Rattle.std.specs.Prelude.{◌≡◌, ℕ, ◌+◌, ◌/◌, ◌%◌, List, [], ◌∷◌, ◌++◌, Result, Ok, Err, codes, decimal}
 use Rattle.std.specs.Io.{StartsWith}
 use Rattle.resolvo_store.specs.Command.{Reply}
 use Rattle.resolvo_store.specs.ReplyTexts.{reply_words}
@@ -16,3 +16,7 @@ unreadable_text n = codes "line " ++ (decimal n ++ codes " unreadable\n")
 abbrev pub Pushes : {T E : Type 0} → Result T E → List ℕ → List ℕ → List ℕ → Type 0
 Pushes (Ok _) old new more = new ≡ old ++ more
 Pushes (Err _) old new more = StartsWith (old ++ more) new
+
+-- the two digits of a number below 100
+abbrev pub digit_pair : ℕ → List ℕ
+digit_pair n = (48 + n / 10) ∷ (48 + n % 10) ∷ []

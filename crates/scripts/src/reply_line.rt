@@ -1,19 +1,23 @@
 //! Reply lines.
 #![tactic(auto, using(crate::proofs::Beginnings::begins_more, crate::proofs::Beginnings::begins_whole))]
 
-ghost use Rattle.std.specs.Prelude.{◌++◌, ◌<◌, codes, decimal, map, flat_map};
+ghost use Rattle.std.specs.Prelude.{◌++◌, ◌/◌, ◌%◌, ◌<◌, ◌≤◌, codes, decimal, map, flat_map};
 ghost use Rattle.resolvo_store.specs.Command.{LoadedAs, Refused, reply_of};
 ghost use Rattle.resolvo_store.specs.ReplyTexts.{field, list_text, others_text, lists_text, conflict_text};
 ghost use Rattle.resolvo_store.specs.ReplyTexts.{tracked_text, decision_text, undone_text, next_text};
 ghost use Rattle.resolvo_store.specs.ReplyTexts.{truth_text, words_text};
-ghost use Rattle.scripts.specs.Replies.{Pushes, reply_text, unreadable_text};
+ghost use Rattle.scripts.specs.Replies.{Pushes, digit_pair, reply_text, unreadable_text};
 
 use decisions::Decision;
-use itoa::Buffer;
 use resolvo_queue::QueueDecision;
 use resolvo_store::Reply;
 use std::alloc::{AllocError, Allocator};
 use typed_ids::{ClauseId, DenseIndex, StoreError, VariableId};
+
+/// The numbers below 100 in turn, with two digits each.
+static PAIRS: [u8; 200] =
+    *b"0001020304050607080910111213141516171819202122232425262728293031323334353637383940414243444546474849\
+5051525354555657585960616263646566676869707172737475767778798081828384858687888990919293949596979899";
 
 /// Puts the line of a reply after the text.
 pub fn push_reply<A: Allocator>(text: &mut Vec<u8>, reply: &Reply<A>) -> Result<(), AllocError>
@@ -88,40 +92,69 @@ fn push_end(text: &mut Vec<u8>) -> Result<(), AllocError>
     Ok(())
 }
 
-/// A number; one of one digit or two, as most are, needs no buffer.
-#[inline(never)]
+/// A number; one of one digit, as most are, is put with no call.
+#[inline(always)]
 fn push_number(text: &mut Vec<u8>, number: u64) -> Result<(), AllocError>
     ensures { Pushes result text.old.items text.new.items (decimal number) }
 {
-    if number < 100 {
-        push_short(text, number as u8)
+    if number < 10 {
+        push_digit(text, number)
     } else {
         push_digits(text, number)
     }
 }
 
-/// A number of one digit or two.
-#[tactic(auto, using(std::proofs::lemmas::Fmt::decimal_digit, crate::proofs::Digits::two_digits, crate::proofs::Beginnings::begins_whole))]
-fn push_short(text: &mut Vec<u8>, number: u8) -> Result<(), AllocError>
-    requires { number < 100 }
+/// A number of one digit.
+#[inline(always)]
+#[tactic(auto, using(std::proofs::lemmas::Fmt::decimal_digit, crate::proofs::Beginnings::begins_whole))]
+fn push_digit(text: &mut Vec<u8>, number: u64) -> Result<(), AllocError>
+    requires { number < 10 }
     ensures { Pushes result text.old.items text.new.items (decimal number) }
 {
-    let (tens, ones) = (b'0' + number / 10, b'0' + number % 10);
-    if number < 10 {
-        text.push(ones)?;
-        Ok(())
+    text.push(b'0' + number as u8)?;
+    Ok(())
+}
+
+/// A number of more digits than one.
+#[inline(never)]
+fn push_digits(text: &mut Vec<u8>, number: u64) -> Result<(), AllocError>
+    requires { 10 ≤ number }
+    ensures { Pushes result text.old.items text.new.items (decimal number) }
+{
+    if number < 100 {
+        push_pair(text, number)
+    } else if number < 1000 {
+        push_digit(text, number / 100)?;
+        push_pair(text, number % 100)
+    } else if number < 10_000 {
+        push_four(text, number)
+    } else if number < 100_000 {
+        push_digit(text, number / 10_000)?;
+        push_four(text, number % 10_000)
     } else {
-        text.extend_from_slice(&[tens, ones])
+        push_digits(text, number / 10_000)?;
+        push_four(text, number % 10_000)
     }
 }
 
-/// A number of any size.
-#[inline(never)]
-fn push_digits(text: &mut Vec<u8>, number: u64) -> Result<(), AllocError>
-    ensures { Pushes result text.old.items text.new.items (decimal number) }
+/// A number below 10000 with four digits.
+#[inline(always)]
+fn push_four(text: &mut Vec<u8>, number: u64) -> Result<(), AllocError>
+    requires { number < 10000 }
+    ensures { Pushes result text.old.items text.new.items (digit_pair (number / 100) ++ digit_pair (number % 100)) }
 {
-    let mut buffer = Buffer::new();
-    text.extend_from_slice(buffer.format(number).as_bytes())
+    push_pair(text, number / 100)?;
+    push_pair(text, number % 100)
+}
+
+/// A number below 100 with two digits.
+#[inline(always)]
+fn push_pair(text: &mut Vec<u8>, number: u64) -> Result<(), AllocError>
+    requires { number < 100 }
+    ensures { Pushes result text.old.items text.new.items (digit_pair number) }
+{
+    let at = 2 * number as usize;
+    text.extend_from_slice(&PAIRS[at..at + 2])
 }
 
 /// A text, and a number directly after it.
