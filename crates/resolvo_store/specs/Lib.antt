@@ -9,7 +9,6 @@ pub mod Keeping
 pub mod Lists
 pub mod LoadRefusals
 pub mod Models
-pub mod Names
 pub mod Outcome
 pub mod Refusals
 pub mod ReplyLaws

@@ -23,7 +23,6 @@ ghost use Rattle.resolvo_queue.specs.WalkCounts.{owed, walks};
 ghost use Rattle.watch_map.specs.ClauseList.{contents, literals_watched, two_or_none, is_full, with_clause};
 ghost use Rattle.resolvo_store.specs.Command.{DisjunctionIs, ClauseIs, reply_of};
 ghost use Rattle.resolvo_store.specs.Counted.{Follows, no_false, placed};
-ghost use Rattle.resolvo_store.specs.Names.{names_in};
 ghost use Rattle.resolvo_store.specs.Lists.{lists_kept, disjunctions_kept, IsOneMore};
 
 use crate::abstract_store::AbstractStore;
@@ -39,7 +38,6 @@ use id_storage::Arena;
 use providers::{DependencyProvider, Interner, Requirement, RequirementMap};
 use resolvo_queue::DecideQueue;
 use std::alloc::Allocator;
-use std::slice;
 use typed_ids::{
     ClauseId, ConditionId, DenseIndex, DisjunctionId, StoreError, VariableId, VersionSetId,
 };
@@ -353,42 +351,22 @@ fn register<D: DependencyProvider + Drop>(
     Ok(Reply::Clause(id, required.conflict))
 }
 
-/// The packages of a requirement's version sets, in order. One package takes no memory.
-#[derive(Drop)]
-enum PackageNames<N, A: Allocator> {
-    One(N),
-    Many(Vec<N, A>),
-}
-
-impl<N, A: Allocator> PackageNames<N, A> {
-    fn as_slice(&self) -> &[N]
-        ensures { result.now ≡ names_in self.now }
-    {
-        match self {
-            PackageNames::One(name) => slice::from_ref(name),
-            PackageNames::Many(names) => names.as_slice(),
-        }
-    }
-}
-
-/// The packages of a requirement's version sets.
+/// The packages of a requirement's version sets, in order.
 fn package_names<D: DependencyProvider>(
     alloc: D::Alloc,
     provider: &D,
     requirement: Requirement,
-) -> Result<PackageNames<D::NameId, D::Alloc>, StoreError>
+) -> Result<Vec<D::NameId, D::Alloc>, StoreError>
     requires { knows_requirement (D.universe provider.now) requirement ≡ true }
-    ensures ok { IfOk result (λ names. names_in names ≡
+    ensures ok { IfOk result (λ names. names.items ≡
         map (D.universe provider.now).set_name (sets_of (D.universe provider.now) requirement)) }
     ensures memory { IfErr result (λ e. e ≡ OutOfMemory) }
 {
-    match requirement {
-        Requirement::Single(set) => Ok(PackageNames::One(provider.version_set_name(set))),
-        Requirement::Union(union) => {
-            let names = names_of_sets(alloc, provider, provider.version_sets_in_union(union))?;
-            Ok(PackageNames::Many(names))
-        }
-    }
+    names_of_sets(
+        alloc,
+        provider,
+        requirement.version_sets(provider).as_slice(),
+    )
 }
 
 /// The packages of version sets.
