@@ -33,7 +33,6 @@ invariant_of-self g c =
 pub returns-then-is_empty-clause-step : goal.returns-then-is_empty-clause-step
 returns-then-is_empty-clause-step g c = grind (arith, common_steps)
 
-
 pub undo_last-last-requires : goal.undo_last-last-requires
 undo_last-last-requires g c = grind (arith, common_steps)
 
