@@ -3,6 +3,7 @@ pub mod Names
 pub mod Numbering
 pub mod Preferences
 pub mod Ranges
+pub mod Rising
 pub mod Sorting
 pub mod Spans
 pub mod Stars

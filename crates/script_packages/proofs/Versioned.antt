@@ -1,18 +1,17 @@
 -- Solvables that are sorted with their versions are in the order of preference.
 use Rattle.std.proofs.Common.{◌≡◌, ℕ, ◌+◌, ◌<◌, List, [], ◌∷◌, refl, sym, ap, ap₂, subst, ◌∙◌, arith, IsPermutation, IsSorted, is_lt}
-use Rattle.std.proofs.Common.{Bool, true, false, ◌&&◌, nat_le, nat_cmp, Ordering, Less, Equal, Greater}
-use Rattle.std.specs.Prelude.{map, length, reverse, if◌then◌else◌}
+use Rattle.std.proofs.Common.{nat_cmp, Ordering, Less, Equal, Greater}
+use Rattle.std.specs.Prelude.{map, length}
 use Rattle.std.specs.Ordering.{ordering_then}
 use Rattle.std.specs.Cmp.{IsTotalOrder}
 use Rattle.std.specs.List.{swap}
 use Rattle.std.specs.List.Sorted.{apply_swaps, SwapsInRange}
 use Rattle.std.proofs.lemmas.Cmp.{ranked, tied_itself, nat_cmp_total, on_total, back_total, then_total}
 use Rattle.std.proofs.lemmas.List.{get_or-map, length-map}
-use Rattle.std.proofs.lemmas.List.Sorted.{IsPermutation-refl, IsPermutation-reverse}
 use Rattle.indexmap.proofs.ReorderLemmas.{map-swap}
 use Rattle.package_pool.specs.declared.solvable.Solvable.{Solvable}
 use Rattle.script_packages.specs.declared.order.Versioned.{Versioned}
-use Rattle.script_packages.specs.Order.{preference, best_first, with_version, versioned_preference, rises, turned}
+use Rattle.script_packages.specs.Order.{preference, best_first, with_version, versioned_preference}
 use Rattle.script_packages.proofs.Preferences.{sorted_is-best_first}
 
 pub versioned_preference_total : IsTotalOrder versioned_preference
@@ -57,14 +56,6 @@ module _ (all : List (Solvable ℕ)) where
         is = refl;
       } in
       (without ∙ sorted_is-best_first all list now same in_order, subst (IsSorted (preference all)) (sym without) in_order)
-
--- a list that may be turned round keeps its members
-pub turned_permutes : (list : List Versioned) → IsPermutation list (turned list)
-turned_permutes list = by_test (nat_le (length list) 20 && rises list)
-  where
-    by_test : (b : Bool) → IsPermutation list (if b then reverse list else list)
-    by_test true = IsPermutation-reverse list
-    by_test false = IsPermutation-refl list
 
 -- the numbers tell only where the versions are the same
 pub of_one_version : (v w : Versioned) → v.version ≡ w.version → nat_cmp v.solvable w.solvable ≡ versioned_preference v w

@@ -1,6 +1,5 @@
 -- The order of preference.
-use Rattle.std.specs.Prelude.{ℕ, Bool, false, ◌&&◌, nat_lt, nat_le, List, [], ◌∷◌, length, reverse, slice_get, Option, None}
-use Rattle.std.specs.Prelude.{Some, if◌then◌else◌}
+use Rattle.std.specs.Prelude.{ℕ, Bool, true, ◌&&◌, nat_lt, List, [], ◌∷◌, slice_get, Option, None, Some, if◌then◌else◌}
 use Rattle.std.specs.declared.cmp.Ordering.{Ordering}
 use Rattle.std.specs.Ordering.{nat_cmp, ordering_then, is_lt}
 use Rattle.package_pool.specs.declared.solvable.Solvable.{Solvable}
@@ -25,15 +24,15 @@ with_version all s = record { version = version_at all s; solvable = s }
 abbrev pub versioned_preference : Versioned → Versioned → Ordering
 versioned_preference v w = ordering_then (nat_cmp w.version v.version) (nat_cmp v.solvable w.solvable)
 
--- whether the second version is above the first
-abbrev pub rises : List Versioned → Bool
-rises [] = false
-rises (v ∷ []) = false
-rises (v ∷ w ∷ list) = nat_lt v.version w.version
+-- whether each version is above the one before it, the first above this one
+abbrev pub rises_from : List (Solvable ℕ) → ℕ → List ℕ → Bool
+rises_from all version [] = true
+rises_from all version (s ∷ list) = nat_lt version (version_at all s) && rises_from all (version_at all s) list
 
--- a list, turned round if it is short and rises
-abbrev pub turned : List Versioned → List Versioned
-turned list = if nat_le (length list) 20 && rises list then reverse list else list
+-- whether each version is above the one before it
+abbrev pub rises : List (Solvable ℕ) → List ℕ → Bool
+rises all [] = true
+rises all (s ∷ list) = rises_from all (version_at all s) list
 
 -- x behind those at the front that are less
 abbrev pub insert_sorted : {X : Type 0} → (X → X → Ordering) → X → List X → List X

@@ -1,7 +1,7 @@
 //! The order of preference: a higher version comes first, and of one version the solvable with the lower number.
 ghost use Rattle.std.specs.Prelude.{◌≡◌, ◌≤◌, IfOk, OnOk, OnErr, IsPermutation, IsSorted, length, map};
 ghost use Rattle.script_packages.specs.Order.{version_at, preference, best_first};
-ghost use Rattle.script_packages.specs.Order.{with_version, versioned_preference, rises, turned};
+ghost use Rattle.script_packages.specs.Order.{with_version, versioned_preference, rises, rises_from};
 
 use crate::packages::VersionRange;
 use package_pool::Pool;
@@ -34,9 +34,6 @@ const FEW: usize = 3;
 /// So many solvables at most are sorted with no memory of the heap.
 const SHORT: usize = 64;
 
-/// So many solvables at most are sorted one by one, which takes long where they come in the opposite order.
-const ONE_BY_ONE: usize = 20;
-
 /// A solvable, with its version.
 #[derive(Clone, Copy)]
 struct Versioned {
@@ -44,8 +41,9 @@ struct Versioned {
     solvable: SolvableId,
 }
 
-/// Puts solvables in order, the best first. Takes time n log n with their number, and memory where they are many; where
-/// that is refused, it does without.
+/// Puts solvables in order, the best first. Mostly the lowest version is listed first, and then the list is turned
+/// round. Else it takes time n log n with their number, and memory where they are many; where that is refused, it does
+/// without.
 pub(crate) fn sort_best_first(
     alloc: Global,
     pool: &Pool<VersionRange>,
@@ -54,13 +52,40 @@ pub(crate) fn sort_best_first(
     ensures order { solvables.new ≡ best_first pool.now.solvables solvables.old }
     ensures sorted { IsSorted (preference pool.now.solvables) solvables.new }
 {
-    if solvables.len() <= FEW {
+    if rises(pool, solvables) {
+        solvables.reverse();
+    } else if solvables.len() <= FEW {
         sort_in_place(pool, solvables);
     } else if solvables.len() <= SHORT {
         sort_short(pool, solvables);
     } else if sort_looked_up(alloc, pool, solvables).is_err() {
         sort_in_place(pool, solvables);
     }
+}
+
+/// Whether the version of each solvable is above that of the one before it.
+fn rises(pool: &Pool<VersionRange>, solvables: &[SolvableId]) -> bool
+    ensures { result ≡ rises pool.now.solvables solvables.now }
+{
+    match solvables {
+        [first, others @ ..] => rises_from(pool, version_at(pool, *first), others),
+        [] => true,
+    }
+}
+
+/// Whether the version of each solvable is above that of the one before it, and of the first above this one.
+fn rises_from(pool: &Pool<VersionRange>, version: u32, solvables: &[SolvableId]) -> bool
+    ensures { result ≡ rises_from pool.now.solvables version solvables.now }
+{
+    let mut before = version;
+    for solvable in solvables {
+        let next = version_at(pool, *solvable);
+        if next <= before {
+            return false;
+        }
+        before = next;
+    }
+    true
 }
 
 /// Puts solvables in order, and looks up the versions of each two that it compares.
@@ -144,28 +169,7 @@ fn sort_versioned(list: &mut [Versioned])
     ensures permutation { IsPermutation list.old list.new }
     ensures sorted { IsSorted versioned_preference list.new }
 {
-    turn_round(list);
     list.sort_unstable_by(|one, other| versioned_preference(one, other));
-}
-
-/// Turns a short list round, if its second version is above the first: mostly the lowest version is listed first, and
-/// then the list is in order.
-fn turn_round(list: &mut [Versioned])
-    ensures { list.new ≡ turned list.old }
-{
-    if list.len() <= ONE_BY_ONE && rises(list) {
-        list.reverse();
-    }
-}
-
-/// Whether the second version is above the first.
-fn rises(list: &[Versioned]) -> bool
-    ensures { result ≡ rises list.now }
-{
-    match list {
-        [first, second, ..] => first.version < second.version,
-        _ => false,
-    }
 }
 
 /// Which of two solvables stands first. The numbers are compared only where the versions are the same.

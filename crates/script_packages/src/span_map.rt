@@ -6,9 +6,9 @@ ghost use Rattle.typed_ids.specs.declared.error.StoreError.TheVariants.{OutOfMem
 ghost use Rattle.script_packages.specs.Packages.{same_id};
 
 use crate::packages::Span;
-use indexmap::IndexMap;
+use id_maps::{IdMap, SolverId};
+use id_storage::KeptAnswers;
 use std::alloc::Global;
-use std::hash::{BuildHasherDefault, FoldHasher};
 use std::marker::Model;
 use typed_ids::{NameId, StoreError};
 
@@ -16,7 +16,7 @@ use typed_ids::{NameId, StoreError};
 /// entries in the order of insertion.
 #[derive(Drop)]
 pub struct SpanMap {
-    entries: IndexMap<NameId, Span, BuildHasherDefault<FoldHasher>, Global>,
+    entries: KeptAnswers<u32, NameId, Span, Global>,
 }
 
 impl Model for SpanMap {
@@ -25,7 +25,7 @@ impl Model for SpanMap {
 
     ghost Value = { List (ℕ × Span) };
 
-    ghost view = { λ map. map.entries.entries };
+    ghost view = { λ map. map.entries };
 }
 
 impl SpanMap {
@@ -34,7 +34,7 @@ impl SpanMap {
         ensures { result ≡ [] }
     {
         SpanMap {
-            entries: IndexMap::new(alloc),
+            entries: KeptAnswers::new(alloc),
         }
     }
 
@@ -44,7 +44,11 @@ impl SpanMap {
         ensures err { OnErr result (self.new ≡ self.old) }
         ensures memory { IfErr result (λ e. e ≡ OutOfMemory) }
     {
-        let _earlier = self.entries.insert(name, span)?;
+        if self.entries.find(name).is_some() {
+            let _earlier = self.entries.replace(name, span);
+        } else {
+            let _place = self.entries.insert(name, span)?;
+        }
         Ok(())
     }
 
@@ -52,6 +56,9 @@ impl SpanMap {
     pub fn get_copy(&self, name: NameId) -> Option<Span>
         ensures { result ≡ lookup (same_id name) self.now }
     {
-        self.entries.get(&name).copied()
+        match self.entries.find(name) {
+            Some(place) => Some(self.entries[place]),
+            None => None,
+        }
     }
 }

@@ -48,7 +48,7 @@ fn after_end(text: &[u8]) -> Option<&[u8]>
 }
 
 /// The first line of a text, if it isn't printed, or ends with the text.
-#[inline(never)]
+#[inline(always)]
 fn other_line(text: &[u8]) -> FirstLine<'_>
     requires { 0 < length text.now }
     ensures first { lines text.now ≡ result.line.now ∷ lines result.rest.now }
@@ -66,6 +66,7 @@ fn other_line(text: &[u8]) -> FirstLine<'_>
 }
 
 /// The bytes up to the first line feed or the end, and those after it.
+#[inline(never)]
 fn split_line(text: &[u8]) -> (&[u8], &[u8])
     requires { 0 < length text.now }
     ensures first { lines text.now ≡ without_return result.0.now ∷ lines result.1.now }

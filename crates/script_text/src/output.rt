@@ -30,7 +30,7 @@ pub fn write_much<W: Sink>(waiting: &mut Vec<u8>, writer: &mut W) -> Result<(), 
 }
 
 /// Writes what waits.
-#[inline(never)]
+#[inline(always)]
 fn write_waiting<W: Sink>(waiting: &mut Vec<u8>, writer: &mut W) -> Result<(), ScriptFault>
     ensures ok { OnOk result
         (Writes (W.contents writer.old) waiting.old.items (W.contents writer.new) waiting.new.items []) }
@@ -65,6 +65,7 @@ pub fn write_rest<W: Sink>(waiting: &mut Vec<u8>, writer: &mut W) -> Result<(), 
 }
 
 /// Writes these bytes. A write that was interrupted is tried again.
+#[inline(never)]
 fn write_bytes<W: Sink>(bytes: &[u8], writer: &mut W) -> Result<(), ScriptFault>
     ensures ok { OnOk result (Appends (W.contents writer.old) (W.contents writer.new) bytes.now) }
     ensures err { IfErr result (λ e. e ≡ Device) }

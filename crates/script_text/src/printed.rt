@@ -34,6 +34,7 @@ fn printed_by_one(text: &[u8]) -> usize
 }
 
 /// Whether all bytes of a line are those of ASCII's printed characters and the blank.
+#[inline(never)]
 pub(crate) fn is_printed(line: &[u8]) -> bool
     ensures { result ≡ list_all is_printed line.now }
 {

@@ -1,14 +1,13 @@
 -- Numbers of several digits, by pairs of them.
 use Rattle.std.proofs.Common.{◌≡◌, ℕ, zero, suc, ◌+◌, ◌-◌, ◌*◌, ◌/◌, ◌%◌, ◌^◌, ◌<◌, ◌≤◌, Bool, true, ◌&&◌, T, eqb, List, [], ◌∷◌, ◌++◌}
-use Rattle.std.proofs.Common.{length, take, drop, get_or, inl, inr, arith, refl, ap, ap₂, sym, ◌∙◌, append_assoc, eqb→eq, eq-zero-or-pos, Result, Ok, Err}
-use Rattle.std.specs.Prelude.{decimal}
+use Rattle.std.proofs.Common.{length, take, get_or, inl, inr, arith, ap, ap₂, sym, ◌∙◌, append_assoc, eqb→eq, eq-zero-or-pos, Result, Ok, Err}
+use Rattle.std.specs.Prelude.{decimal, if◌then◌else◌, is_ok}
 use Rattle.std.specs.Io.{StartsWith}
 use Rattle.std.proofs.lemmas.Fmt.{decimal_digit, decimal_step}
-use Rattle.std.proofs.lemmas.List.{drop_more}
 use lib.Ieee.Fits.{and_l, and_r}
 use Rattle.scripts.specs.declared.reply_line.TheConstants.{PAIRS}
 use Rattle.scripts.specs.Replies.{Pushes, digit_pair}
-use Rattle.scripts.proofs.Beginnings.{begins_more}
+use Rattle.scripts.proofs.Beginnings.{begins_more, begins_whole}
 
 abbrev are_pairs : ℕ → Bool
 are_pairs zero = true
@@ -22,16 +21,9 @@ below (suc m) n t h =
       | inr g ↦ below m n (and_r _ (are_pairs m) t) (omega arith)
     ]
 
-two_of : (xs : List ℕ) (i : ℕ) → i + 1 < length xs → take 2 (drop i xs) ≡ get_or xs i 0 ∷ get_or xs (i + 1) 0 ∷ []
-two_of xs i h =
-    ap (take 2) (drop_more xs i 0 (omega arith) ∙ ap (λ l. get_or xs i 0 ∷ l) (drop_more xs (i + 1) 0 h))
-
 -- the digits of a number below 100 are in the table
-pub pair_at : (n : ℕ) → n < 100 → take 2 (drop (2 * n) PAIRS) ≡ digit_pair n
-pair_at n h =
-    let digits = below 100 n tt h in
-    let long : length PAIRS ≡ 200 = refl in
-    two_of PAIRS (2 * n) (omega (arith, long)) ∙ ap₂ (λ tens ones. tens ∷ ones ∷ []) digits.0 digits.1
+pub pair_at : (n : ℕ) → n < 100 → get_or PAIRS (2 * n) 0 ∷ get_or PAIRS (2 * n + 1) 0 ∷ [] ≡ digit_pair n
+pair_at n h = let digits = below 100 n tt h in ap₂ (λ tens ones. tens ∷ ones ∷ []) digits.0 digits.1
 
 pub two_digits : (n : ℕ) → 10 ≤ n → n < 100 → decimal n ≡ digit_pair n
 two_digits n large small =
@@ -44,16 +36,34 @@ two_more n large small =
     let ones : n % 10 ≡ n % 100 % 10 = omega arith in
     rw (decimal_step n (omega arith) small, decimal_step (n / 10) (omega arith) (omega arith), append_assoc, hundreds, tens, ← ones)
 
+pub three_digits : (n : ℕ) → 100 ≤ n → n < 1000 → decimal n ≡ (48 + n / 100) ∷ digit_pair (n % 100)
+three_digits n large small =
+    two_more n large (omega arith) ∙ ap (λ ds. ds ++ digit_pair (n % 100)) (decimal_digit (n / 100) (omega arith))
+
 pub four_digits : (n : ℕ) → 1000 ≤ n → n < 10000 → decimal n ≡ digit_pair (n / 100) ++ digit_pair (n % 100)
 four_digits n large small =
     two_more n (omega arith) (omega arith) ∙ ap (λ ds. ds ++ digit_pair (n % 100)) (two_digits (n / 100) (omega arith) (omega arith))
 
-pub four_more : (n : ℕ) → 10000 ≤ n → n < 2 ^ 64 → decimal n ≡ decimal (n / 10000) ++ (digit_pair (n % 10000 / 100) ++ digit_pair (n % 10000 % 100))
+-- the last four digits of a number
+abbrev pub last_four : ℕ → List ℕ
+last_four n = digit_pair (n % 10000 / 100) ++ digit_pair (n % 10000 % 100)
+
+pub four_more : (n : ℕ) → 10000 ≤ n → n < 2 ^ 64 → decimal n ≡ decimal (n / 10000) ++ last_four n
 four_more n large small =
     let front : n / 100 / 100 ≡ n / 10000 = omega arith in
     let hundreds : n / 100 % 100 ≡ n % 10000 / 100 = omega arith in
     let ones : n % 100 ≡ n % 10000 % 100 = omega arith in
     rw (two_more n (omega arith) small, two_more (n / 100) (omega arith) (omega arith), append_assoc, front, hundreds, ones)
+
+pub five_digits : (n : ℕ) → 10000 ≤ n → n < 100000 → decimal n ≡ (48 + n / 10000) ∷ last_four n
+five_digits n large small =
+    four_more n large (omega arith) ∙ ap (λ ds. ds ++ last_four n) (decimal_digit (n / 10000) (omega arith))
+
+-- a whole text is put at once
+pub put : {T E : Type 0} (r : Result T E) (old new more whole : List ℕ) → new ≡ (if is_ok r then old ++ more else old) → whole ≡ more
+    → Pushes r old new whole
+put (Ok t) old new more whole e is = e ∙ ap (λ l. old ++ l) (sym is)
+put (Err x) old new more whole e is = rw e (begins_whole old whole)
 
 -- a text is put behind another one, or memory is refused at the first, or at the second
 module _ (old front back whole : List ℕ) (is : whole ≡ front ++ back) where

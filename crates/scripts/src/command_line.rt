@@ -1,6 +1,7 @@
-//! Command lines.
-ghost use Rattle.std.specs.Prelude.{◌≡◌, option_map};
+//! Command lines. All that reads one is inlined into [`command`], so that no command is carried from call to call.
+ghost use Rattle.std.specs.Prelude.{◌≡◌, option_and_then, option_map};
 ghost use Rattle.script_packages.specs.Ids.{truth_of};
+ghost use Rattle.script_text.specs.Numbers.{below, number_of};
 ghost use Rattle.script_text.specs.Words.{words};
 ghost use Rattle.resolvo_store.specs.Command.{command_of};
 ghost use Rattle.scripts.specs.Commands.{ids_at, only_word, pair_of, pair_and_set_of, helper_origin_of};
@@ -22,6 +23,7 @@ use typed_ids::{DenseIndex, VariableId, VersionSetId};
 
 /// The command that a statement after `begin` gives. A number names the package, or the solvable, of this index. Only
 /// `learnt` and `disjunction` lines take memory.
+#[inline(always)]
 pub fn command<N: DenseIndex, S: DenseIndex, A: Allocator>(
     alloc: A,
     said: Statement<'_>,
@@ -39,6 +41,7 @@ pub fn command<N: DenseIndex, S: DenseIndex, A: Allocator>(
 }
 
 /// `learnt LIT ..`
+#[inline(always)]
 fn learnt<N, S, A: Allocator>(alloc: A, text: &[u8]) -> Result<Command<N, S, A>, LineFault>
     ensures { IsRead (learnt_command (words text.now)) result }
 {
@@ -49,6 +52,7 @@ fn learnt<N, S, A: Allocator>(alloc: A, text: &[u8]) -> Result<Command<N, S, A>,
 }
 
 /// `disjunction CONDITION LIT ..`
+#[inline(always)]
 fn disjunction<N, S, A: Allocator>(alloc: A, text: &[u8]) -> Result<Command<N, S, A>, LineFault>
     ensures { IsRead (disjunction_command (words text.now)) result }
 {
@@ -65,6 +69,7 @@ fn disjunction<N, S, A: Allocator>(alloc: A, text: &[u8]) -> Result<Command<N, S
 }
 
 /// The command that a statement gives, if it is one without a list.
+#[inline(always)]
 fn plain_command<N: DenseIndex, S: DenseIndex, A: Allocator>(
     said: Statement<'_>,
 ) -> Option<Command<N, S, A>>
@@ -95,6 +100,7 @@ fn plain_command<N: DenseIndex, S: DenseIndex, A: Allocator>(
 }
 
 /// The command that a statement gives, if it is one of a package's variables or of scores.
+#[inline(always)]
 fn package_command<N: DenseIndex, S: DenseIndex, A: Allocator>(
     said: Statement<'_>,
 ) -> Option<Command<N, S, A>>
@@ -115,6 +121,7 @@ fn package_command<N: DenseIndex, S: DenseIndex, A: Allocator>(
 }
 
 /// The command that a statement gives, if it is one that is said seldom.
+#[inline(always)]
 fn seldom_command<N: DenseIndex, S: DenseIndex, A: Allocator>(
     said: Statement<'_>,
 ) -> Option<Command<N, S, A>>
@@ -137,6 +144,7 @@ fn seldom_command<N: DenseIndex, S: DenseIndex, A: Allocator>(
 }
 
 /// The command that a statement gives, if it is a clause between two variables.
+#[inline(always)]
 fn between_command<N, S, A: Allocator>(said: Statement<'_>) -> Option<Command<N, S, A>>
     ensures { option_map command_of result ≡ between_command said.entry.keyword.now (words said.entry.rest.now) }
 {
@@ -161,6 +169,7 @@ fn between_command<N, S, A: Allocator>(said: Statement<'_>) -> Option<Command<N,
 }
 
 /// The one word of a text.
+#[inline(always)]
 fn only_word(text: &[u8]) -> Option<&[u8]>
     ensures { option_map (λ w. w.now) result ≡ only_word (words text.now) }
 {
@@ -171,32 +180,50 @@ fn only_word(text: &[u8]) -> Option<&[u8]>
     }
 }
 
+/// The id that the one word of a text stands for.
+#[inline(always)]
+fn only_id<I: DenseIndex>(text: &[u8]) -> Option<I>
+    ensures { result ≡ option_and_then (λ w. option_map I.id_at (below I.limit (number_of w)))
+        (only_word (words text.now)) }
+{
+    let (word, text) = next_number(text)?;
+    match next_word(text) {
+        Some(_) => None,
+        None => id_of(&word),
+    }
+}
+
 /// `V V`
+#[inline(always)]
 fn pair(text: &[u8]) -> Option<(VariableId, VariableId)>
     ensures { result ≡ pair_of (words text.now) }
 {
     let (first, text) = next_number(text)?;
+    let first = id_of(&first)?;
     let (second, text) = next_number(text)?;
     match next_word(text) {
         Some(_) => None,
-        None => Some((id_of(&first)?, id_of(&second)?)),
+        None => Some((first, id_of(&second)?)),
     }
 }
 
 /// `V V SET`
+#[inline(always)]
 fn pair_and_set(text: &[u8]) -> Option<(VariableId, VariableId, VersionSetId)>
     ensures { result ≡ pair_and_set_of (words text.now) }
 {
     let (first, text) = next_number(text)?;
+    let first = id_of(&first)?;
     let (second, text) = next_number(text)?;
     let (set, text) = next_number(text)?;
     match next_word(text) {
         Some(_) => None,
-        None => Some((id_of(&first)?, id_of(&second)?, id_of(&set)?)),
+        None => Some((first, id_of(&second)?, id_of(&set)?)),
     }
 }
 
 /// A command that is said without words.
+#[inline(always)]
 fn bare_command<N: Copy, S: Copy, A: Allocator>(
     text: &[u8],
     command: Command<N, S, A>,
@@ -210,15 +237,17 @@ fn bare_command<N: Copy, S: Copy, A: Allocator>(
 }
 
 /// `variable SOLVABLE`
+#[inline(always)]
 fn variable<N: DenseIndex, S: DenseIndex, A: Allocator>(text: &[u8]) -> Option<Command<N, S, A>>
     ensures { option_map command_of result
         ≡ variable_command (ids_at N.limit N.id_at S.limit S.id_at) (words text.now) }
 {
-    let solvable = id(only_word(text)?)?;
+    let solvable = only_id(text)?;
     Some(Command::Variable(solvable))
 }
 
 /// `helper any-of NAMEID`, `helper violation SET` or `helper gate R`
+#[inline(always)]
 fn helper<N: DenseIndex, S: DenseIndex, A: Allocator>(text: &[u8]) -> Option<Command<N, S, A>>
     ensures { option_map command_of result
         ≡ helper_command (ids_at N.limit N.id_at S.limit S.id_at) (words text.now) }
@@ -247,6 +276,7 @@ fn helper_origin<N: DenseIndex>(kind: &[u8], word: &[u8]) -> Option<HelperOrigin
 }
 
 /// `load R`
+#[inline(always)]
 fn load<N, S, A: Allocator>(text: &[u8]) -> Option<Command<N, S, A>>
     ensures { option_map command_of result ≡ load_command (words text.now) }
 {
@@ -255,17 +285,19 @@ fn load<N, S, A: Allocator>(text: &[u8]) -> Option<Command<N, S, A>>
 }
 
 /// `requires PARENT R` or `requires PARENT R DISJUNCTION`
+#[inline(always)]
 fn requires_clause<N, S, A: Allocator>(text: &[u8]) -> Option<Command<N, S, A>>
     ensures { option_map command_of result ≡ requires_command (words text.now) }
 {
     let (parent, text) = next_number(text)?;
+    let parent = id_of(&parent)?;
     let (required, text) = next_word(text)?;
     match next_word(text) {
-        None => Some(Command::Requires(id_of(&parent)?, requirement(required)?, None)),
+        None => Some(Command::Requires(parent, requirement(required)?, None)),
         Some((disjunction, text)) => match next_word(text) {
             Some(_) => None,
             None => {
-                let (parent, required) = (id_of(&parent)?, requirement(required)?);
+                let required = requirement(required)?;
                 Some(Command::Requires(parent, required, Some(id(disjunction)?)))
             }
         },
@@ -273,6 +305,7 @@ fn requires_clause<N, S, A: Allocator>(text: &[u8]) -> Option<Command<N, S, A>>
 }
 
 /// `exclude V STRING`
+#[inline(always)]
 fn exclude<N, S, A: Allocator>(text: &[u8]) -> Option<Command<N, S, A>>
     ensures { option_map command_of result ≡ exclude_command (words text.now) }
 {
@@ -285,6 +318,7 @@ fn exclude<N, S, A: Allocator>(text: &[u8]) -> Option<Command<N, S, A>>
 }
 
 /// `at-most-once NAMEID V`
+#[inline(always)]
 fn at_most_once<N: DenseIndex, S: DenseIndex, A: Allocator>(text: &[u8]) -> Option<Command<N, S, A>>
     ensures { option_map command_of result
         ≡ at_most_once_command (ids_at N.limit N.id_at S.limit S.id_at) (words text.now) }
@@ -298,31 +332,35 @@ fn at_most_once<N: DenseIndex, S: DenseIndex, A: Allocator>(text: &[u8]) -> Opti
 }
 
 /// `assign V BOOL CLAUSE LEVEL`
+#[inline(always)]
 fn assign<N, S, A: Allocator>(text: &[u8]) -> Option<Command<N, S, A>>
     ensures { option_map command_of result ≡ assign_command (words text.now) }
 {
     let (variable, text) = next_number(text)?;
+    let variable = id_of(&variable)?;
     let (value, text) = next_word(text)?;
     let (clause, text) = next_number(text)?;
     let (level, text) = next_number(text)?;
     match next_word(text) {
         Some(_) => None,
         None => {
-            let (variable, value) = (id_of(&variable)?, truth(value)?);
-            Some(Command::Assign(variable, value, id_of(&clause)?, id_of(&level)?))
+            let (value, clause) = (truth(value)?, id_of(&clause)?);
+            Some(Command::Assign(variable, value, clause, id_of(&level)?))
         }
     }
 }
 
 /// `undo-until LEVEL`
+#[inline(always)]
 fn undo_until<N, S, A: Allocator>(text: &[u8]) -> Option<Command<N, S, A>>
     ensures { option_map command_of result ≡ undo_command (words text.now) }
 {
-    let level = id(only_word(text)?)?;
+    let level = only_id(text)?;
     Some(Command::UndoUntil(level))
 }
 
 /// `bump NAMEID AMOUNT`
+#[inline(always)]
 fn bump<N: DenseIndex, S: DenseIndex, A: Allocator>(text: &[u8]) -> Option<Command<N, S, A>>
     ensures { option_map command_of result
         ≡ bump_command (ids_at N.limit N.id_at S.limit S.id_at) (words text.now) }
@@ -336,6 +374,7 @@ fn bump<N: DenseIndex, S: DenseIndex, A: Allocator>(text: &[u8]) -> Option<Comma
 }
 
 /// `decay N D`
+#[inline(always)]
 fn decay<N, S, A: Allocator>(text: &[u8]) -> Option<Command<N, S, A>>
     ensures { option_map command_of result ≡ decay_command (words text.now) }
 {
@@ -348,6 +387,7 @@ fn decay<N, S, A: Allocator>(text: &[u8]) -> Option<Command<N, S, A>>
 }
 
 /// `standard BOOL`
+#[inline(always)]
 fn standard<N, S, A: Allocator>(text: &[u8]) -> Option<Command<N, S, A>>
     ensures { option_map command_of result ≡ standard_command (words text.now) }
 {
@@ -356,6 +396,7 @@ fn standard<N, S, A: Allocator>(text: &[u8]) -> Option<Command<N, S, A>>
 }
 
 /// `rewatch CLAUSE LIT LIT`
+#[inline(always)]
 fn rewatch<N, S, A: Allocator>(text: &[u8]) -> Option<Command<N, S, A>>
     ensures { option_map command_of result ≡ rewatch_command (words text.now) }
 {
@@ -369,6 +410,7 @@ fn rewatch<N, S, A: Allocator>(text: &[u8]) -> Option<Command<N, S, A>>
 }
 
 /// `watchers LIT`
+#[inline(always)]
 fn watchers<N, S, A: Allocator>(text: &[u8]) -> Option<Command<N, S, A>>
     ensures { option_map command_of result ≡ watchers_command (words text.now) }
 {
@@ -377,10 +419,11 @@ fn watchers<N, S, A: Allocator>(text: &[u8]) -> Option<Command<N, S, A>>
 }
 
 /// `saturate LEVEL`
+#[inline(always)]
 fn saturate<N, S, A: Allocator>(text: &[u8]) -> Option<Command<N, S, A>>
     ensures { option_map command_of result ≡ saturate_command (words text.now) }
 {
-    let level = id(only_word(text)?)?;
+    let level = only_id(text)?;
     Some(Command::Saturate(level))
 }
 

@@ -10,6 +10,7 @@ use script_text::{LineFault, next_word};
 use std::alloc::Allocator;
 
 /// The literals in the text, in turn. Memory counts as refused only where each word is a literal.
+#[inline(never)]
 #[tactic(auto, using(crate::proofs::LiteralLemmas::some_literals, crate::proofs::LiteralLemmas::none_literals))]
 pub(crate) fn literals<A: Allocator>(alloc: A, text: &[u8]) -> Result<Vec<Literal, A>, LineFault>
     ensures ok { IfOk result (λ literals. with_literals [] (words text.now) ≡ Some literals.items) }
@@ -60,6 +61,7 @@ fn are_literals(text: &[u8]) -> bool
 }
 
 /// A literal: `+` or `-`, and the number of its variable directly after it.
+#[inline(always)]
 pub(crate) fn literal(word: &[u8]) -> Option<Literal>
     ensures { result ≡ literal_of word.now }
 {

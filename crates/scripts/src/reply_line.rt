@@ -1,7 +1,7 @@
 //! Reply lines.
 #![tactic(auto, using(crate::proofs::Beginnings::begins_more, crate::proofs::Beginnings::begins_whole))]
 
-ghost use Rattle.std.specs.Prelude.{◌++◌, ◌/◌, ◌%◌, ◌<◌, ◌≤◌, codes, decimal, map, flat_map};
+ghost use Rattle.std.specs.Prelude.{◌≡◌, ◌++◌, ◌/◌, ◌%◌, ◌<◌, ◌≤◌, codes, decimal, map, flat_map};
 ghost use Rattle.resolvo_store.specs.Command.{LoadedAs, Refused, reply_of};
 ghost use Rattle.resolvo_store.specs.ReplyTexts.{field, list_text, others_text, lists_text, conflict_text};
 ghost use Rattle.resolvo_store.specs.ReplyTexts.{tracked_text, decision_text, undone_text, next_text};
@@ -115,46 +115,48 @@ fn push_digit(text: &mut Vec<u8>, number: u64) -> Result<(), AllocError>
     Ok(())
 }
 
-/// A number of more digits than one.
+/// A number of more digits than one. Up to five of them are put at once.
 #[inline(never)]
 fn push_digits(text: &mut Vec<u8>, number: u64) -> Result<(), AllocError>
     requires { 10 ≤ number }
     ensures { Pushes result text.old.items text.new.items (decimal number) }
 {
     if number < 100 {
-        push_pair(text, number)
+        text.extend_from_slice(&pair(number))
     } else if number < 1000 {
-        push_digit(text, number / 100)?;
-        push_pair(text, number % 100)
+        let [tens, ones] = pair(number % 100);
+        text.extend_from_slice(&[b'0' + (number / 100) as u8, tens, ones])
     } else if number < 10_000 {
-        push_four(text, number)
+        text.extend_from_slice(&four(number))
     } else if number < 100_000 {
-        push_digit(text, number / 10_000)?;
-        push_four(text, number % 10_000)
+        let [thousands, hundreds, tens, ones] = four(number % 10_000);
+        let first = b'0' + (number / 10_000) as u8;
+        text.extend_from_slice(&[first, thousands, hundreds, tens, ones])
     } else {
         push_digits(text, number / 10_000)?;
-        push_four(text, number % 10_000)
+        text.extend_from_slice(&four(number % 10_000))
     }
 }
 
-/// A number below 10000 with four digits.
+/// The four digits of a number below 10000.
 #[inline(always)]
-fn push_four(text: &mut Vec<u8>, number: u64) -> Result<(), AllocError>
+fn four(number: u64) -> [u8; 4]
     requires { number < 10000 }
-    ensures { Pushes result text.old.items text.new.items (digit_pair (number / 100) ++ digit_pair (number % 100)) }
+    ensures { result ≡ digit_pair (number / 100) ++ digit_pair (number % 100) }
 {
-    push_pair(text, number / 100)?;
-    push_pair(text, number % 100)
+    let [thousands, hundreds] = pair(number / 100);
+    let [tens, ones] = pair(number % 100);
+    [thousands, hundreds, tens, ones]
 }
 
-/// A number below 100 with two digits.
+/// The two digits of a number below 100.
 #[inline(always)]
-fn push_pair(text: &mut Vec<u8>, number: u64) -> Result<(), AllocError>
+fn pair(number: u64) -> [u8; 2]
     requires { number < 100 }
-    ensures { Pushes result text.old.items text.new.items (digit_pair number) }
+    ensures { result ≡ digit_pair number }
 {
     let at = 2 * number as usize;
-    text.extend_from_slice(&PAIRS[at..at + 2])
+    [PAIRS[at], PAIRS[at + 1]]
 }
 
 /// A text, and a number directly after it.

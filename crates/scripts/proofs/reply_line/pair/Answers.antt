@@ -1,0 +1,5 @@
+use Rattle.scripts.proofs.Digits.{pair_at}
+use Rattle.scripts.proofs.reply_line.pair.Goals as goal
+
+pub returns : goal.returns
+returns c = pair_at c.args.number c.requires
