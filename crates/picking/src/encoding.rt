@@ -1,15 +1,16 @@
 //! What a search tells the store before it runs: all that may be picked, and what each needs and forbids.
 use crate::reason::Reason;
 use crate::search::{Result, Search};
-use resolvo_clauses::{Literal, VariableOrigin};
+use resolvo_clauses::{Decision, Literal, VariableOrigin};
 use resolvo_ids::{
-    ClauseId, ConditionId, DenseIndex, StoreError, StringId, VariableId, VersionSetId,
+    ClauseId, ConditionId, DenseIndex, DisjunctionId, Mapping, StoreError, StringId, VariableId,
+    VersionSetId,
 };
 use resolvo_pool::{
-    ConditionalRequirement, Dependencies, DependencyProvider, Interner, Requirement,
-    convert_conditions_to_dnf,
+    CacheError, ConditionalRequirement, Dependencies, DependencyProvider, Interner, Requirement,
+    SolverCache, convert_conditions_to_dnf,
 };
-use resolvo_store::{Command, HelperOrigin, Reply};
+use resolvo_store::HelperOrigin;
 
 /// Who needs something: a variable, and its solvable where it isn't the root.
 #[derive(Clone, Copy)]
@@ -18,7 +19,28 @@ struct Parent<S> {
     solvable: Option<S>,
 }
 
-impl<D: DependencyProvider + Drop> Search<D> {
+/// Tells the store of a search what may be picked.
+#[derive(Drop)]
+pub(crate) struct Encoder<'s, D: DependencyProvider> {
+    search: &'s mut Search<D>,
+    /// What the provider answered for packages: each is asked for once.
+    cache: SolverCache<D>,
+    /// For each version set that a condition names the variable that is true where one of its candidates is.
+    gates: Mapping<VersionSetId, VariableId, D::Alloc>,
+}
+
+impl<'s, D: DependencyProvider + Copy> Encoder<'s, D> {
+    /// An encoder that told the store nothing yet.
+    pub(crate) fn new(search: &'s mut Search<D>) -> Result<Self> {
+        let gates = Mapping::new(search.alloc)?;
+        let cache = SolverCache::new(search.alloc, *search.store.provider());
+        Ok(Encoder {
+            search,
+            cache,
+            gates,
+        })
+    }
+
     /// Says what is wanted, which the root requires, and what all candidates need. What that loads comes last, so that
     /// each variable of the store is met here.
     pub(crate) fn encode_all(&mut self, wanted: &[ConditionalRequirement]) -> Result<()> {
@@ -29,7 +51,7 @@ impl<D: DependencyProvider + Drop> Search<D> {
         self.require_all(root, wanted)?;
         for index in 0..(1 << 31) - 1 {
             let variable = VariableId::from_index(index);
-            match self.store.origin(variable) {
+            match self.search.store.origin(variable) {
                 Some(VariableOrigin::Solvable(solvable)) => self.encode(variable, solvable)?,
                 Some(_) => {}
                 None => break,
@@ -40,9 +62,9 @@ impl<D: DependencyProvider + Drop> Search<D> {
 
     /// Lets no other version stand beside a solvable, and says what it needs, and whether it may be picked.
     fn encode(&mut self, variable: VariableId, solvable: D::SolvableId) -> Result<()> {
-        self.candidates.push((variable, solvable))?;
+        self.search.candidates.push((variable, solvable))?;
         let (name, needs) = self.needs_of(solvable)?;
-        self.tell(Command::AtMostOnce(name, variable))?;
+        self.search.store.at_most_once(name, variable)?;
         self.leave_out(variable, solvable, name)?;
         match needs {
             Dependencies::Known(needs) => {
@@ -54,18 +76,19 @@ impl<D: DependencyProvider + Drop> Search<D> {
                 self.constrain_all(variable, solvable, &needs.constrains)
             }
             Dependencies::Unknown(reason) => {
-                self.exclude(variable, reason, Reason::Unknown(solvable, reason))
+                self.search
+                    .exclude(variable, reason, Reason::Unknown(solvable, reason))
             }
         }
     }
 
     /// The package of a solvable, and what it needs.
     fn needs_of(&self, solvable: D::SolvableId) -> Result<(D::NameId, Dependencies<D::Alloc>)> {
-        let provider = self.store.provider();
+        let provider = self.cache.provider();
         if !provider.knows_solvable(solvable) {
             return Err(StoreError::UnknownId);
         }
-        let needs = provider.get_dependencies(self.alloc, solvable)?;
+        let needs = provider.get_dependencies(self.search.alloc, solvable)?;
         Ok((provider.solvable_name(solvable), needs))
     }
 
@@ -76,47 +99,20 @@ impl<D: DependencyProvider + Drop> Search<D> {
         solvable: D::SolvableId,
         name: D::NameId,
     ) -> Result<()> {
-        let Some(found) = self.store.provider().get_candidates(self.alloc, name)? else {
-            return Ok(());
-        };
-        for (excluded, reason) in &found.excluded {
+        let package = self
+            .cache
+            .get_or_cache_candidates(name)
+            .map_err(refusal_of)?;
+        for (excluded, reason) in &package.excluded {
             if *excluded == solvable {
-                self.exclude(variable, *reason, Reason::Excluded(solvable, *reason))?;
+                self.search
+                    .exclude(variable, *reason, Reason::Excluded(solvable, *reason))?;
             }
         }
-        match found.locked {
-            Some(locked) if locked != solvable => self.lock(locked, variable),
+        match package.locked {
+            Some(locked) if locked != solvable => self.search.lock(locked, variable),
             _ => Ok(()),
         }
-    }
-
-    /// Makes a variable false at level 1, for a reason.
-    fn exclude(
-        &mut self,
-        variable: VariableId,
-        string: StringId,
-        reason: Reason<D::NameId, D::SolvableId>,
-    ) -> Result<()> {
-        match self.tell_for(Command::Exclude(variable, string), reason)? {
-            Some(clause) => self.rule_out(variable, clause),
-            None => Ok(()),
-        }
-    }
-
-    /// Makes a variable false at level 1, since its package is locked to another solvable.
-    fn lock(&mut self, locked: D::SolvableId, variable: VariableId) -> Result<()> {
-        let Reply::Variable(first) = self.obey(Command::Variable(locked))? else {
-            return Ok(());
-        };
-        match self.tell_for(Command::Lock(first, variable), Reason::Locked(locked))? {
-            Some(clause) => self.rule_out(variable, clause),
-            None => Ok(()),
-        }
-    }
-
-    /// Makes a variable false by a clause, at level 1.
-    fn rule_out(&mut self, variable: VariableId, clause: ClauseId) -> Result<()> {
-        self.assign(Literal::new(variable, true), clause)
     }
 
     fn require_all(
@@ -136,36 +132,23 @@ impl<D: DependencyProvider + Drop> Search<D> {
         parent: Parent<D::SolvableId>,
         wanted: ConditionalRequirement,
     ) -> Result<()> {
-        let reason = if self.load(wanted.requirement)? {
+        self.search.store.load(wanted.requirement)?;
+        let reason = if self.search.has_candidate(wanted.requirement) {
             Reason::Needs(parent.solvable, wanted)
         } else {
             Reason::Lacks(parent.solvable, wanted)
         };
         let (variable, requirement) = (parent.variable, wanted.requirement);
         let Some(condition) = wanted.condition else {
-            self.tell_for(Command::Requires(variable, requirement, None), reason)?;
-            return Ok(());
+            return self.search.require(variable, requirement, None, reason);
         };
         for list in &self.lists_of(condition)? {
             let unless = self.unless(list)?;
-            if let Reply::Disjunction(id) = self.obey(Command::Disjunction(unless, condition))? {
-                self.tell_for(Command::Requires(variable, requirement, Some(id)), reason)?;
-            }
+            let unless = self.search.store.disjunction(&unless, condition)?;
+            self.search
+                .require(variable, requirement, Some(unless), reason)?;
         }
         Ok(())
-    }
-
-    /// Loads a requirement, and answers whether it has a candidate.
-    fn load(&mut self, requirement: Requirement) -> Result<bool> {
-        let Reply::Loaded(lists) = self.obey(Command::Load(requirement))? else {
-            return Err(StoreError::NotLoaded);
-        };
-        for list in &lists {
-            if !list.is_empty() {
-                return Ok(true);
-            }
-        }
-        Ok(false)
     }
 
     /// The normal form of a condition: it holds where all version sets of one list do.
@@ -173,16 +156,16 @@ impl<D: DependencyProvider + Drop> Search<D> {
         &self,
         condition: ConditionId,
     ) -> Result<Vec<Vec<VersionSetId, D::Alloc>, D::Alloc>> {
-        let provider = self.store.provider();
+        let provider = self.cache.provider();
         if !provider.knows_condition(condition) {
             return Err(StoreError::UnknownId);
         }
-        convert_conditions_to_dnf(self.alloc, condition, provider)
+        convert_conditions_to_dnf(self.search.alloc, condition, provider)
     }
 
     /// Literals that are all false where each of the version sets has a candidate that is true.
     fn unless(&mut self, sets: &[VersionSetId]) -> Result<Vec<Literal, D::Alloc>> {
-        let mut unless = Vec::new(self.alloc);
+        let mut unless = Vec::new(self.search.alloc);
         for set in sets {
             let literal = Literal::new(self.gate(*set)?, true);
             if !unless.contains(&literal) {
@@ -198,15 +181,11 @@ impl<D: DependencyProvider + Drop> Search<D> {
             return Ok(*gate);
         }
         let requirement = Requirement::Single(set);
-        let Reply::Loaded(lists) = self.obey(Command::Load(requirement))? else {
-            return Err(StoreError::NotLoaded);
-        };
+        self.search.store.load(requirement)?;
         let origin = HelperOrigin::RequiresGate(requirement);
-        let Reply::Variable(gate) = self.obey(Command::Helper(origin))? else {
-            return Err(StoreError::NotLoaded);
-        };
-        for candidate in lists.iter().flatten() {
-            self.tell(Command::AnyOf(gate, *candidate))?;
+        let gate = self.search.store.helper(origin)?;
+        for candidate in &self.search.variables_of(requirement)? {
+            self.search.store.any_of(gate, *candidate)?;
         }
         self.gates.insert(set, gate)?;
         Ok(gate)
@@ -224,47 +203,112 @@ impl<D: DependencyProvider + Drop> Search<D> {
         Ok(())
     }
 
-    /// Says that the parent, if true, forbids the candidates that the version set doesn't hold. A parent that is one of
-    /// them is false at level 1: its clause has one literal twice, and a clause watches two literals or none.
+    /// Says that the parent, if true, forbids the candidates that the version set doesn't hold.
     fn constrain(
         &mut self,
         parent: VariableId,
         set: VersionSetId,
         reason: Reason<D::NameId, D::SolvableId>,
     ) -> Result<()> {
-        for outside in &self.outside(set)? {
-            if let Reply::Variable(outside) = self.obey(Command::Variable(*outside))? {
-                match self.tell_for(Command::Constrains(parent, outside, set), reason)? {
-                    Some(clause) if outside == parent => self.rule_out(parent, clause)?,
-                    _ => {}
-                }
+        if !self.cache.provider().knows_version_set(set) {
+            return Err(StoreError::UnknownId);
+        }
+        let outside = self
+            .cache
+            .get_or_cache_non_matching_candidates(set)
+            .map_err(refusal_of)?;
+        for solvable in outside {
+            self.search.forbid(parent, *solvable, set, reason)?;
+        }
+        Ok(())
+    }
+}
+
+impl<D: DependencyProvider + Copy> Search<D> {
+    /// Whether a requirement that is loaded has a candidate.
+    fn has_candidate(&self, requirement: Requirement) -> bool {
+        match self.store.lists(requirement) {
+            Some(lists) => lists.iter().any(|list| !list.is_empty()),
+            None => false,
+        }
+    }
+
+    /// The variables of a loaded requirement's candidates.
+    fn variables_of(&self, requirement: Requirement) -> Result<Vec<VariableId, D::Alloc>> {
+        let mut variables = Vec::new(self.alloc);
+        if let Some(lists) = self.store.lists(requirement) {
+            for list in lists {
+                variables.extend_from_slice(list)?;
             }
+        }
+        Ok(variables)
+    }
+
+    /// Says that the parent, if true, requires a candidate where the disjunction's literals, if there is one, are all
+    /// false.
+    fn require(
+        &mut self,
+        parent: VariableId,
+        requirement: Requirement,
+        unless: Option<DisjunctionId>,
+        reason: Reason<D::NameId, D::SolvableId>,
+    ) -> Result<()> {
+        let added = self.store.requires_clause(parent, requirement, unless)?;
+        self.note(added.clause, reason)
+    }
+
+    /// Says that the parent, if true, forbids a solvable that the version set doesn't hold. A parent that is this one
+    /// is false at level 1: its clause has one literal twice, and a clause watches two literals or none.
+    fn forbid(
+        &mut self,
+        parent: VariableId,
+        outside: D::SolvableId,
+        set: VersionSetId,
+        reason: Reason<D::NameId, D::SolvableId>,
+    ) -> Result<()> {
+        let outside = self.store.variable(outside)?;
+        let clause = self.store.constrains(parent, outside, set)?.clause;
+        self.note(clause, reason)?;
+        if outside == parent {
+            self.assign(Decision::new(parent, false, clause))?;
         }
         Ok(())
     }
 
-    /// Obeys a command that adds a clause, and keeps what the clause says.
-    fn tell_for(
+    /// Makes a variable false at level 1, for the reason that the string says.
+    fn exclude(
         &mut self,
-        command: Command<D::NameId, D::SolvableId, D::Alloc>,
+        variable: VariableId,
+        string: StringId,
         reason: Reason<D::NameId, D::SolvableId>,
-    ) -> Result<Option<ClauseId>> {
-        let Reply::Clause(clause, _) = self.obey(command)? else {
-            return Ok(None);
-        };
-        self.told.insert(clause, reason)?;
-        Ok(Some(clause))
+    ) -> Result<()> {
+        let clause = self.store.exclude(variable, string)?.clause;
+        self.rule_out(variable, clause, reason)
     }
 
-    /// The candidates that a version set doesn't hold.
-    fn outside(&self, set: VersionSetId) -> Result<Vec<D::SolvableId, D::Alloc>> {
-        let provider = self.store.provider();
-        if !provider.knows_version_set(set) {
-            return Err(StoreError::UnknownId);
-        }
-        match provider.get_candidates(self.alloc, provider.version_set_name(set))? {
-            Some(all) => provider.filter_candidates(self.alloc, &all.candidates, set, true),
-            None => Ok(Vec::new(self.alloc)),
-        }
+    /// Makes a variable false at level 1, since its package is locked to another solvable.
+    fn lock(&mut self, locked: D::SolvableId, variable: VariableId) -> Result<()> {
+        let first = self.store.variable(locked)?;
+        let clause = self.store.lock(first, variable)?.clause;
+        self.rule_out(variable, clause, Reason::Locked(locked))
+    }
+
+    /// Makes a variable false at level 1 by a clause.
+    fn rule_out(
+        &mut self,
+        variable: VariableId,
+        clause: ClauseId,
+        reason: Reason<D::NameId, D::SolvableId>,
+    ) -> Result<()> {
+        self.note(clause, reason)?;
+        self.assign(Decision::new(variable, false, clause))
+    }
+}
+
+/// The refusal that stands for a question that wasn't answered.
+fn refusal_of<C: Drop>(unanswered: CacheError<C>) -> StoreError {
+    match unanswered {
+        CacheError::Store(refused) => refused,
+        CacheError::Cancelled(_) => StoreError::Cancelled,
     }
 }

@@ -35,7 +35,7 @@ impl<A: Allocator + Copy> WayBack<A> {
     }
 }
 
-impl<D: DependencyProvider + Drop> Search<D> {
+impl<D: DependencyProvider + Copy> Search<D> {
     /// Why nothing serves: what is said by the clauses that the last nogood follows from, each thing once, in the order
     /// in which it was told the store, and at most one version of a package last.
     pub(crate) fn reasons(&self) -> Result<Vec<Reason<D::NameId, D::SolvableId>, D::Alloc>> {

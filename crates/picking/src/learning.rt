@@ -1,9 +1,8 @@
 //! What a search learns from a false clause.
 use crate::search::{Assigned, Result, Search};
-use resolvo_clauses::{Literal, VariableOrigin};
+use resolvo_clauses::{Decision, Literal, VariableOrigin};
 use resolvo_ids::{ClauseId, IndexedSet, VariableId};
 use resolvo_pool::{DependencyProvider, Interner};
-use resolvo_store::{Command, Reply};
 use std::alloc::Allocator;
 
 /// What a package's score gains for each of its versions that a nogood follows from.
@@ -31,7 +30,7 @@ struct Blame<A: Allocator> {
     variables: Vec<VariableId, A>,
 }
 
-impl<D: DependencyProvider + Drop> Search<D> {
+impl<D: DependencyProvider + Copy> Search<D> {
     /// Learns from a false clause that the choices which it follows from can't stand together. Goes back to where all
     /// of them but the last one stand, and makes that one false there. Where the root alone is to blame, no choice is
     /// left.
@@ -64,13 +63,11 @@ impl<D: DependencyProvider + Drop> Search<D> {
         choices: &[Assigned],
         sources: Vec<Source, D::Alloc>,
     ) -> Result<()> {
-        self.go_back(level)?;
+        self.go_back(level);
         let literals = self.negated(choices)?;
-        if let Reply::Clause(learnt, _) = self.obey(Command::Learnt(literals))? {
-            self.derived.insert(learnt, sources)?;
-            self.assign(Literal::new(last.decision.variable, true), learnt)?;
-        }
-        Ok(())
+        let learnt = self.store.learnt(&literals)?.clause;
+        self.derived.insert(learnt, sources)?;
+        self.assign(Decision::new(last.decision.variable, false, learnt))
     }
 
     /// What a false clause follows from. The trail is walked backwards, since what an assignment follows from was
@@ -136,7 +133,7 @@ impl<D: DependencyProvider + Drop> Search<D> {
             }
         }
         if self.nogoods.len() % PERIOD == 0 {
-            self.tell(Command::Decay(1, 2))?;
+            self.store.decay(1, 2)?;
         }
         Ok(())
     }
@@ -145,7 +142,7 @@ impl<D: DependencyProvider + Drop> Search<D> {
         let provider = self.store.provider();
         if provider.knows_solvable(solvable) {
             let name = provider.solvable_name(solvable);
-            self.tell(Command::Bump(name, GAIN))?;
+            self.store.bump(name, GAIN)?;
         }
         Ok(())
     }

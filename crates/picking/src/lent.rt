@@ -5,6 +5,7 @@ use resolvo_ids::{ConditionId, StoreError, StringId, VersionSetId, VersionSetUni
 use resolvo_pool::{Candidates, Condition, Dependencies, DependencyProvider, Interner};
 
 /// A provider that someone else owns, as one that a store can own.
+#[derive_where(Clone, Copy)]
 pub(crate) struct Lent<'p, D> {
     provider: &'p D,
 }
@@ -14,12 +15,6 @@ impl<'p, D> Lent<'p, D> {
         ensures { result.provider.now ≡ provider.now }
     {
         Lent { provider }
-    }
-}
-
-impl<'p, D> Drop for Lent<'p, D> {
-    fn drop(self) {
-        let Lent { provider: _ } = self;
     }
 }
 

@@ -3,12 +3,13 @@
 //! It encodes all that may be picked (`encoding`); then it saturates and decides in turn. Where a clause is false it
 //! learns which choices can't stand together (`learning`), and goes back to where all of them but the last one stand.
 //! Where nothing serves, it tells why (`explaining`).
+use crate::encoding::Encoder;
 use crate::learning::Source;
 use crate::reason::Reason;
-use resolvo_clauses::{Decision, Literal};
-use resolvo_ids::{ClauseId, Mapping, StoreError, VariableId, VersionSetId};
+use resolvo_clauses::Decision;
+use resolvo_ids::{ClauseId, Mapping, StoreError, VariableId};
 use resolvo_pool::{ConditionalRequirement, DependencyProvider};
-use resolvo_store::{ClauseStore, Command, Reply};
+use resolvo_store::ClauseStore;
 use std::alloc::Allocator;
 use std::mem;
 
@@ -57,8 +58,6 @@ pub(crate) struct Search<D: DependencyProvider> {
     pub(crate) store: ClauseStore<D>,
     /// What may be picked.
     pub(crate) candidates: Vec<(VariableId, D::SolvableId), D::Alloc>,
-    /// For each version set that a condition names the variable that is true where one of its candidates is.
-    pub(crate) gates: Mapping<VersionSetId, VariableId, D::Alloc>,
     /// A choice for each level.
     pub(crate) choices: Vec<Choice, D::Alloc>,
     /// The trail as it was read last, oldest first.
@@ -75,7 +74,7 @@ pub(crate) struct Search<D: DependencyProvider> {
 }
 
 /// Searches for what meets the requirements, in so many steps at most.
-pub(crate) fn search_for<D: DependencyProvider + Drop>(
+pub(crate) fn search_for<D: DependencyProvider + Copy>(
     alloc: D::Alloc,
     provider: D,
     wanted: &[ConditionalRequirement],
@@ -87,17 +86,15 @@ pub(crate) fn search_for<D: DependencyProvider + Drop>(
     end
 }
 
-impl<D: DependencyProvider + Drop> Search<D> {
+impl<D: DependencyProvider + Copy> Search<D> {
     /// A search that was told nothing. The store comes last, so that no refusal lets one go.
     fn new(alloc: D::Alloc, provider: D) -> Result<Self> {
-        let gates = Mapping::new(alloc)?;
         let told = Mapping::new(alloc)?;
         let derived = Mapping::new(alloc)?;
         let store = ClauseStore::new(alloc, provider)?;
         Ok(Search {
             store,
             candidates: Vec::new(alloc),
-            gates,
             choices: Vec::new(alloc),
             trail: Vec::new(alloc),
             told,
@@ -114,10 +111,16 @@ impl<D: DependencyProvider + Drop> Search<D> {
         wanted: &[ConditionalRequirement],
         steps: u64,
     ) -> Result<SearchEnd<D::NameId, D::SolvableId, D::Alloc>> {
-        self.tell(Command::Root)?;
+        self.store.root()?;
         self.choose(VariableId::root(), ClauseId::install_root())?;
-        self.encode_all(wanted)?;
+        self.encode(wanted)?;
         self.run(steps)
+    }
+
+    /// Tells the store what is wanted, and all that may be picked.
+    fn encode(&mut self, wanted: &[ConditionalRequirement]) -> Result<()> {
+        let mut encoder = Encoder::new(self)?;
+        encoder.encode_all(wanted)
     }
 
     /// A step makes what follows from the choices true, and then chooses, or learns which choices can't stand together;
@@ -143,15 +146,15 @@ impl<D: DependencyProvider + Drop> Search<D> {
 
     /// Makes a step, and answers whether one was left.
     fn goes_on(&mut self) -> Result<bool> {
-        if let Reply::Conflict(clause) = self.obey(Command::Saturate(self.level()))? {
-            self.learn(clause)?;
+        let level = self.level();
+        if let Some(conflict) = self.store.saturate(level)? {
+            self.learn(conflict)?;
             return Ok(true);
         }
-        match self.obey(Command::Decide)? {
-            Reply::Decided(next) => self.choose(next.candidate, next.clause_id)?,
-            Reply::Falsified(clause) => self.learn(clause)?,
-            _ => return Ok(false),
-        }
+        let Some(next) = self.store.next_decision()? else {
+            return Ok(false);
+        };
+        self.choose(next.candidate, next.clause_id)?;
         Ok(true)
     }
 
@@ -160,7 +163,7 @@ impl<D: DependencyProvider + Drop> Search<D> {
         self.read_trail()?;
         let below = self.trail.len();
         self.choices.push(Choice { variable, below })?;
-        self.assign(Literal::new(variable, false), clause)
+        self.assign(Decision::new(variable, true, clause))
     }
 
     /// The level of the last choice. The store refuses one that is too high.
@@ -169,17 +172,17 @@ impl<D: DependencyProvider + Drop> Search<D> {
     }
 
     /// Assigns at the level of the last choice. What is above is taken back.
-    pub(crate) fn assign(&mut self, literal: Literal, clause: ClauseId) -> Result<()> {
-        let (variable, value) = (literal.variable(), literal.satisfying_value());
+    pub(crate) fn assign(&mut self, decision: Decision) -> Result<()> {
         let level = self.level();
-        self.tell(Command::UndoUntil(level))?;
-        self.tell(Command::Assign(variable, value, clause, level))
+        self.store.undo_until(level);
+        self.store.assign(decision, level)?;
+        Ok(())
     }
 
     /// Reads what was assigned since it was read last, all of it at the level of the last choice.
     pub(crate) fn read_trail(&mut self) -> Result<()> {
         for _ in 0..u32::MAX {
-            let Reply::Next(Some(decision)) = self.obey(Command::Unpropagated)? else {
+            let Some(decision) = self.store.next_unpropagated() else {
                 break;
             };
             let is_choice = match self.choices.last() {
@@ -196,12 +199,13 @@ impl<D: DependencyProvider + Drop> Search<D> {
     }
 
     /// Takes back what is above a level.
-    pub(crate) fn go_back(&mut self, level: usize) -> Result<()> {
+    pub(crate) fn go_back(&mut self, level: usize) {
         if let Some(choice) = self.choices.get(level) {
             self.trail.truncate(choice.below);
         }
         self.choices.truncate(level);
-        self.tell(Command::UndoUntil(self.level()))
+        let level = self.level();
+        self.store.undo_until(level);
     }
 
     /// The candidates that are true.
@@ -215,22 +219,13 @@ impl<D: DependencyProvider + Drop> Search<D> {
         Ok(picked)
     }
 
-    /// Obeys a command whose reply isn't wanted.
-    pub(crate) fn tell(
+    /// Keeps what a clause says.
+    pub(crate) fn note(
         &mut self,
-        command: Command<D::NameId, D::SolvableId, D::Alloc>,
+        clause: ClauseId,
+        reason: Reason<D::NameId, D::SolvableId>,
     ) -> Result<()> {
-        drop(self.obey(command)?);
+        self.told.insert(clause, reason)?;
         Ok(())
-    }
-
-    /// Obeys a command, and lets it go.
-    pub(crate) fn obey(
-        &mut self,
-        command: Command<D::NameId, D::SolvableId, D::Alloc>,
-    ) -> Result<Reply<D::Alloc>> {
-        let reply = self.store.obey(&command);
-        drop(command);
-        reply
     }
 }

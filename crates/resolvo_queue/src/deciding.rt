@@ -21,7 +21,6 @@ use crate::asked::Question;
 use crate::group::Group;
 use crate::inspection::inspect;
 use crate::offer::{Candidate, Frontier, Offer};
-use crate::requires_clause::RequiresClause;
 use crate::row_reader::RowReader;
 use crate::tracked_clause::{Position, TrackedClause};
 use crate::tracked_clauses::TrackedClauses;
@@ -75,12 +74,7 @@ fn offer_at<I: Interner>(
     ensures { result ≡ offer_with (score_by I.universe I.NameId.Scores.value_at question.now) clause.now frontier }
 {
     Offer {
-        clause: RequiresClause {
-            parent: clause.parent,
-            requirement: clause.requirement,
-            condition: clause.condition,
-            clause_id: clause.clause_id,
-        },
+        clause: clause.clause(),
         frontier,
         score: score_of(frontier.set, question.scores, question.interner),
     }

@@ -45,4 +45,3 @@ pub use offer::{Frontier, Offer};
 pub use queue_decision::QueueDecision;
 pub use requires_clause::RequiresClause;
 pub use row_reader::{Occurrences, RowReader};
-pub use tracked_clause::Position;

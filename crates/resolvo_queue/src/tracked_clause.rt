@@ -1,4 +1,8 @@
 //! Requires clauses, as the incremental queue keeps them.
+ghost use Rattle.std.specs.Prelude.{◌≡◌};
+ghost use Rattle.resolvo_queue.specs.Pick.Inspection.{clause_of};
+
+use crate::requires_clause::RequiresClause;
 use providers::Requirement;
 use typed_ids::{ClauseId, DisjunctionId, VariableId};
 
@@ -23,4 +27,18 @@ pub(crate) struct TrackedClause {
     pub(crate) position: Position,
     /// Whether a name of the requirement was ever marked hot. A clause that isn't hot has the score 0.
     pub(crate) is_hot: bool,
+}
+
+impl TrackedClause {
+    /// The clause as it was registered.
+    pub(crate) fn clause(&self) -> RequiresClause
+        ensures { result ≡ clause_of self.now }
+    {
+        RequiresClause {
+            parent: self.parent,
+            requirement: self.requirement,
+            condition: self.condition,
+            clause_id: self.clause_id,
+        }
+    }
 }

@@ -16,8 +16,8 @@ use Rattle.clauses.specs.declared.clause.Clause.{Clause}
 use Rattle.clauses.specs.declared.clause.Clause.TheVariants as Kind
 use Rattle.watch_map.specs.Watching.{is_literal_in}
 use Rattle.watch_map.specs.ClauseList.{Clauses, two_or_none, with_clause as pushed, with_learnt as learnt_one}
-use Rattle.resolvo_store.specs.declared.reply.Reply.{Reply as ProgramReply}
-use Rattle.resolvo_store.specs.Command.{Command, Disjunction, Learnt, Requires, Bump, Rewatch, Watchers, Reply, ClauseIs, Done, WatchersAre, Refused, IsRefused, reply_of, answer_of, is_saturate}
+use Rattle.resolvo_store.specs.Answers.{replied}
+use Rattle.resolvo_store.specs.Command.{Command, Disjunction, Learnt, Requires, Bump, Rewatch, Watchers, Reply, ClauseIs, Done, WatchersAre, Refused, IsRefused, is_saturate}
 use Rattle.resolvo_store.specs.Store.{Store, Provider, Kept, store_of, values, kept_literals, clause_literals, watched_by, lists_of}
 use Rattle.resolvo_store.specs.Refusals.{first_refusal, are_disjunctions_out, are_clauses_out, is_learnt_out, clause_refusals, is_bad_learnt, may_rewatch, knows_clause, knows_literal, knows_variable, knows_pair, knows_disjunction, negates_parent}
 use Rattle.resolvo_store.specs.Adding.{is_direct, adding, names_known}
@@ -41,10 +41,24 @@ growth_refusal false IdSpace h k = (let no : false ≡ true = h in cc)
 growth_refusal false _ h k = absurd h
 
 -- what is true of a refusal is true of the answer that hands it on
-pub err_answer : {A : Type 0} (P : Reply → Type 0) (result : Result (ProgramReply A) StoreError) (e : StoreError) → IsErrAnd result (λ x. x ≡ e) → P (Refused e)
-    → P (answer_of result)
-err_answer P (Ok r) e h p = absurd h
-err_answer P (Err x) e h p = subst (λ y. P (Refused y)) (sym h) p
+pub err_replied : {T : Type 0} (says : T → Reply) (P : Reply → Type 0) (result : Result T StoreError) (e : StoreError) → IsErrAnd result (λ x. x ≡ e) → P (Refused e)
+    → P (replied says result)
+err_replied says P (Ok answer) e h p = absurd h
+err_replied says P (Err x) e h p = subst (λ y. P (Refused y)) (sym h) p
+
+-- of a success what follows of its answer
+pub if_ok : {T E : Type 0} {P Q : T → Type 0} (result : Result T E) → ((x : T) → P x → Q x) → IfOk result P → IfOk result Q
+if_ok (Ok x) f p = f x p
+if_ok (Err e) f p = tt
+
+-- where there is nothing to tell, that is what is said
+pub always_said : {T E : Type 0} (result : Result T E) → IfOk result (λ _. Done ≡ Done)
+always_said (Ok x) = refl
+always_said (Err e) = tt
+
+-- what is true of a parent, a requirement and a condition is true of the same ones
+pub as_asked : {R : Type 0} (P : ℕ → R → Option ℕ → Type 0) {p q : ℕ} {r s : R} {d e : Option ℕ} → p ≡ q → r ≡ s → d ≡ e → P p r d → P q s e
+as_asked P {p} {q} {r} {s} {d} {e} a b c h = subst (λ x. P x s e) a (subst (λ x. P p x e) b (subst (λ x. P p r x) c h))
 
 -- ---- tests
 
@@ -264,17 +278,23 @@ module _ {N S : Type 0} (st : Store N S) where
       by_can false = (refl, same)
 
   -- who watches a literal was told
-  pub step_watchers : (l : Lit) (found : List ℕ) → knows_literal st l ≡ true → found ≡ st.watchers l → Step st (Watchers l) (WatchersAre found) st
+  step_watchers : (l : Lit) (found : List ℕ) → knows_literal st l ≡ true → found ≡ st.watchers l → Step st (Watchers l) (WatchersAre found) st
   step_watchers l found known is =
       subst (λ o. MatchOption o (IsAnswered st (Watchers l) (WatchersAre found) st) (λ e. (WatchersAre found ≡ Refused e) × (st ≡ st)))
       (sym (none_yet (not (knows_literal st l)) UnknownId [] (ap not known))) (refl, ap WatchersAre is, refl)
 
   -- there was no memory to tell it
-  pub step_untold : (l : Lit) (e : StoreError) → knows_literal st l ≡ true → e ≡ OutOfMemory → Step st (Watchers l) (Refused e) st
+  step_untold : (l : Lit) (e : StoreError) → knows_literal st l ≡ true → e ≡ OutOfMemory → Step st (Watchers l) (Refused e) st
   step_untold l e known is =
       subst (λ x. Step st (Watchers l) (Refused x) st) (sym is)
       (subst (λ o. MatchOption o (IsAnswered st (Watchers l) (Refused OutOfMemory) st) (λ x. (Refused OutOfMemory ≡ Refused x) × (st ≡ st)))
       (sym (none_yet (not (knows_literal st l)) UnknownId [] (ap not known))) (refl, refl))
+
+  -- who watches it was told, or there was no memory for that
+  pub step_asked : {V : Type 0} (items : V → List ℕ) (l : Lit) (result : Result V StoreError) → knows_literal st l ≡ true
+      → IfOk result (λ v. items v ≡ st.watchers l) → IfErr result (λ e. e ≡ OutOfMemory) → Step st (Watchers l) (replied (λ v. WatchersAre (items v)) result) st
+  step_asked items l (Ok v) known ok err = step_watchers l (items v) known ok
+  step_asked items l (Err e) known ok err = step_untold l e known err
 
   -- a clause was added
   pub step_clause : (c : Command N S) (id : ℕ) (conflict : Bool) {after : Store N S} → is_saturate c ≡ false → first_refusal st c ≡ None → lacks_ids st c ≡ false
@@ -301,15 +321,15 @@ module _ {N S : Type 0} (st : Store N S) where
   by_reply c _ answered lacks said made = (lacks, said, made)
 
   -- where all that can be foreseen is whether an id is left
-  pub step_grown : {A : Type 0} (c : Command N S) (out : Bool) (result : Result (ProgramReply A) StoreError) (after : Store N S)
+  pub step_grown : {T : Type 0} (says : T → Reply) (c : Command N S) (out : Bool) (result : Result T StoreError) (after : Store N S)
       → is_saturate c ≡ false → first_refusal st c ≡ cond out (Some IdSpace) None → lacks_ids st c ≡ false → takes_no_memory st c ≡ false → (IsRefused (outcome st c).reply → ⊥)
-      → IfOk result (λ reply. reply_of reply ≡ (outcome st c).reply) → OnOk result (after ≡ (outcome st c).store) → OnErr result (after ≡ st)
-      → IfErr result (IsGrowthRefusal out) → (IsTrue out → result ≡ Err IdSpace) → Step st c (answer_of result) after
-  step_grown c out (Ok reply) after plain first lacks memory answered said ok err refused ids_out =
+      → IfOk result (λ reply. says reply ≡ (outcome st c).reply) → OnOk result (after ≡ (outcome st c).store) → OnErr result (after ≡ st)
+      → IfErr result (IsGrowthRefusal out) → (IsTrue out → result ≡ Err IdSpace) → Step st c (replied says result) after
+  step_grown says c out (Ok reply) after plain first lacks memory answered said ok err refused ids_out =
       let none : first_refusal st c ≡ None = first ∙ ap (λ b. cond b (Some IdSpace) None) (growth_fits out (Ok reply) ids_out) in
-      subst (λ o. MatchOption o (IsAnswered st c (reply_of reply) after) (λ e. (reply_of reply ≡ Refused e) × (after ≡ st))) (sym none)
-      (is_answered st after c (reply_of reply) plain (by_reply c (reply_of reply) (λ h. answered (subst (λ r. IsRefused r) said h)) lacks said ok))
-  step_grown c out (Err e) after plain first lacks memory answered said ok err refused ids_out =
+      subst (λ o. MatchOption o (IsAnswered st c (says reply) after) (λ e. (says reply ≡ Refused e) × (after ≡ st))) (sym none)
+      (is_answered st after c (says reply) plain (by_reply c (says reply) (λ h. answered (subst (λ r. IsRefused r) said h)) lacks said ok))
+  step_grown says c out (Err e) after plain first lacks memory answered said ok err refused ids_out =
       step_refused c out e plain first memory (growth_refusal out e refused (λ h. cc (ids_out h))) err
 
 -- a clause with its watches
@@ -356,77 +376,77 @@ module _ {D N S C : Type 0} (provided : D → Provider N S) (scored : C → N �
   abbrev clauses_kept : Kept D N S C → Clauses N
   clauses_kept kept = record { clauses = kept.clauses; watches = (store kept).watches; learnt = kept.learnt; watchers = (store kept).watchers }
 
-  answered : {A : Type 0} (c : Command N S) (conflict out : Bool) (result : Result (ProgramReply A) StoreError) (kept : Kept D N S C)
+  answered : {T : Type 0} (says : T → Reply) (c : Command N S) (conflict out : Bool) (result : Result T StoreError) (kept : Kept D N S C)
       (cs more : Clauses N) (requires registered : List RequiresClause)
       → is_saturate c ≡ false → first_refusal (store kept) c ≡ cond out (Some IdSpace) None → lacks_ids (store kept) c ≡ false → takes_no_memory (store kept) c ≡ false
       → ClauseIs (length kept.clauses) conflict ≡ (outcome (store kept) c).reply → with_both kept more registered ≡ (outcome (store kept) c).store
-      → IfOk result (λ reply. reply_of reply ≡ ClauseIs (length kept.clauses) conflict) → OnOk result (cs ≡ more) → OnOk result (requires ≡ registered)
+      → IfOk result (λ reply. says reply ≡ ClauseIs (length kept.clauses) conflict) → OnOk result (cs ≡ more) → OnOk result (requires ≡ registered)
       → OnErr result (cs ≡ clauses_kept kept) → OnErr result (requires ≡ kept.requires)
       → IfErr result (IsGrowthRefusal out) → (IsTrue out → result ≡ Err IdSpace)
-      → Step (store kept) c (answer_of result) (with_both kept cs requires)
-  answered c conflict out (Ok reply) kept cs more requires registered plain first lacks memory says makes said ok queued err left refused ids_out =
+      → Step (store kept) c (replied says result) (with_both kept cs requires)
+  answered says c conflict out (Ok reply) kept cs more requires registered plain first lacks memory spoken makes said ok queued err left refused ids_out =
       let none : first_refusal (store kept) c ≡ None = first ∙ ap (λ b. cond b (Some IdSpace) None) (growth_fits out (Ok reply) ids_out) in
       subst (λ r. Step (store kept) c r (with_both kept cs requires)) (sym said)
-      (step_clause (store kept) c (length kept.clauses) conflict plain none lacks says
+      (step_clause (store kept) c (length kept.clauses) conflict plain none lacks spoken
       (ap (λ l. with_both kept l requires) ok ∙ ap (with_both kept more) queued ∙ makes))
-  answered c conflict out (Err e) kept cs more requires registered plain first lacks memory says makes said ok queued err left refused ids_out =
+  answered says c conflict out (Err e) kept cs more requires registered plain first lacks memory spoken makes said ok queued err left refused ids_out =
       step_refused (store kept) c out e plain first memory (growth_refusal out e refused (λ h. cc (ids_out h)))
       (ap (λ l. with_both kept l requires) err ∙ ap (with_both kept (clauses_kept kept)) left)
 
   -- where the list is asked to add a clause that the command names whole
-  pub step_added : {A : Type 0} (clause : Clause N) (watch : Option (List Lit)) (conflict : Bool) (result : Result (ProgramReply A) StoreError)
+  pub step_added : {T : Type 0} (says : T → Reply) (clause : Clause N) (watch : Option (List Lit)) (conflict : Bool) (result : Result T StoreError)
       (cs : Clauses N) {kept old : Kept D N S C} (is : kept ≡ old) → is_direct clause ≡ true
       → names_known (provided kept.provider).universe (length kept.origins) clause ≡ true
       → watch ≡ first_watches (kept_literals (store kept)) (values (store kept)) clause → conflict ≡ is_conflict (kept_literals (store kept)) (values (store kept)) clause
-      → IfOk result (λ reply. reply_of reply ≡ ClauseIs (length kept.clauses) conflict)
+      → IfOk result (λ reply. says reply ≡ ClauseIs (length kept.clauses) conflict)
       → OnOk result (cs ≡ pushed (clauses_kept kept) clause watch)
       → OnErr result (cs ≡ clauses_kept kept)
       → IfErr result (IsGrowthRefusal (are_clauses_out (store kept))) → (IsTrue (are_clauses_out (store kept)) → result ≡ Err IdSpace)
-      → Step (store old) (adding clause) (answer_of result) (with_both kept cs kept.requires)
-  step_added clause watch conflict result cs {kept} {old} is direct known w k said ok err refused ids_out =
+      → Step (store old) (adding clause) (replied says result) (with_both kept cs kept.requires)
+  step_added says clause watch conflict result cs {kept} {old} is direct known w k said ok err refused ids_out =
       let c : Command N S = adding clause in
       let more : Clauses N = pushed (clauses_kept kept) clause watch in
       let adds = direct_adds (store kept) clause direct in
-      subst (λ o. Step (store o) c (answer_of result) (with_both kept cs kept.requires)) is
-      (answered c conflict (are_clauses_out (store kept)) result kept cs more kept.requires kept.requires adds.3
+      subst (λ o. Step (store o) c (replied says result) (with_both kept cs kept.requires)) is
+      (answered says c conflict (are_clauses_out (store kept)) result kept cs more kept.requires kept.requires adds.3
       (first_of_direct (store kept) clause direct known) adds.0 adds.1
       (ap (ClauseIs (length kept.clauses)) k ∙ ap (λ o. o.reply) adds.2)
       (with_made (store kept) clause w ∙ ap (λ o. o.store) adds.2) said ok (always result refl) err (always_err result refl) refused ids_out)
 
   -- where it is asked to add a learnt one
-  pub step_learnt : {A : Type 0} (ls : List Lit) (result : Result (ProgramReply A) StoreError) (cs : Clauses N) {kept old : Kept D N S C} (is : kept ≡ old)
+  pub step_learnt : {T : Type 0} (says : T → Reply) (ls : List Lit) (result : Result T StoreError) (cs : Clauses N) {kept old : Kept D N S C} (is : kept ≡ old)
       → first_refusal (store kept) (Learnt ls) ≡ cond (is_learnt_out (store kept)) (Some IdSpace) None
-      → IfOk result (λ reply. reply_of reply ≡ ClauseIs (length kept.clauses) false)
+      → IfOk result (λ reply. says reply ≡ ClauseIs (length kept.clauses) false)
       → OnOk result (cs ≡ learnt_one (clauses_kept kept) ls)
       → OnErr result (cs ≡ clauses_kept kept)
       → IfErr result (IsGrowthRefusal (is_learnt_out (store kept))) → (IsTrue (is_learnt_out (store kept)) → result ≡ Err IdSpace)
-      → Step (store old) (Learnt ls) (answer_of result) (with_both kept cs kept.requires)
-  step_learnt ls result cs {kept} {old} is first said ok err refused ids_out =
+      → Step (store old) (Learnt ls) (replied says result) (with_both kept cs kept.requires)
+  step_learnt says ls result cs {kept} {old} is first said ok err refused ids_out =
       let more : Clauses N = learnt_one (clauses_kept kept) ls in
-      subst (λ o. Step (store o) (Learnt ls) (answer_of result) (with_both kept cs kept.requires)) is
-      (answered (Learnt ls) false (is_learnt_out (store kept)) result kept cs more kept.requires kept.requires
+      subst (λ o. Step (store o) (Learnt ls) (replied says result) (with_both kept cs kept.requires)) is
+      (answered says (Learnt ls) false (is_learnt_out (store kept)) result kept cs more kept.requires kept.requires
       refl first refl refl
       refl (ap (λ x. with_clause (with_learnt (store kept) ls) (Kind.Learnt (length kept.learnt)) (two_or_none x)) (learnt_watches (store kept) ls))
       said ok (always result refl) err (always_err result refl) refused ids_out)
 
   -- where it is asked to add a requires clause, and the queue to register it
-  pub step_registered : {A : Type 0} (parent : ℕ) (r : Requirement) (disjunction : Option ℕ) {clause : Clause N} (watch : Option (List Lit)) (conflict : Bool)
-      (result : Result (ProgramReply A) StoreError) (cs : Clauses N) (requires : List RequiresClause) {kept old : Kept D N S C} (is : kept ≡ old)
+  pub step_registered : {T : Type 0} (says : T → Reply) (parent : ℕ) (r : Requirement) (disjunction : Option ℕ) {clause : Clause N} (watch : Option (List Lit)) (conflict : Bool)
+      (result : Result T StoreError) (cs : Clauses N) (requires : List RequiresClause) {kept old : Kept D N S C} (is : kept ≡ old)
       → clause ≡ Kind.Requires parent disjunction r
       → first_refusal (store kept) (Requires parent r disjunction) ≡ cond (are_clauses_out (store kept)) (Some IdSpace) None
       → watch ≡ first_watches (kept_literals (store kept)) (values (store kept)) clause → conflict ≡ is_conflict (kept_literals (store kept)) (values (store kept)) clause
-      → IfOk result (λ reply. reply_of reply ≡ ClauseIs (length kept.clauses) conflict)
+      → IfOk result (λ reply. says reply ≡ ClauseIs (length kept.clauses) conflict)
       → OnOk result (cs ≡ pushed (clauses_kept kept) clause watch)
       → OnOk result (requires ≡ kept.requires ++ record { parent = parent; requirement = r; condition = disjunction; clause_id = length kept.clauses } ∷ [])
       → OnErr result (cs ≡ clauses_kept kept) → OnErr result (requires ≡ kept.requires)
       → IfErr result (IsGrowthRefusal (are_clauses_out (store kept))) → (IsTrue (are_clauses_out (store kept)) → result ≡ Err IdSpace)
-      → Step (store old) (Requires parent r disjunction) (answer_of result) (with_both kept cs requires)
-  step_registered parent r disjunction {clause} watch conflict result cs requires {kept} {old} is kind first w k said ok queued err left refused ids_out =
+      → Step (store old) (Requires parent r disjunction) (replied says result) (with_both kept cs requires)
+  step_registered says parent r disjunction {clause} watch conflict result cs requires {kept} {old} is kind first w k said ok queued err left refused ids_out =
       let c : Command N S = Requires parent r disjunction in
       let st : Store N S = with_registered (store kept) parent r disjunction in
       let more : Clauses N = pushed (clauses_kept kept) clause watch in
-      subst (λ o. Step (store o) c (answer_of result) (with_both kept cs requires)) is
-      (answered c conflict (are_clauses_out (store kept)) result kept cs more requires
+      subst (λ o. Step (store o) c (replied says result) (with_both kept cs requires)) is
+      (answered says c conflict (are_clauses_out (store kept)) result kept cs more requires
       (kept.requires ++ record { parent = parent; requirement = r; condition = disjunction; clause_id = length kept.clauses } ∷ [])
       refl first refl refl
       (ap (ClauseIs (length kept.clauses)) k ∙ ap (λ x. (adds_clause st x).reply) kind)

@@ -8,7 +8,7 @@ use Rattle.std.proofs.lemmas.Option.{slice_get-map, slice_get-get_or}
 use Rattle.std.proofs.lemmas.List.{length-take, take-take, take_all, take_more}
 use Rattle.std.proofs.Math.Path.{fun_ext}
 use Rattle.std.proofs.lemmas.Bool.{eqb-true, eq-eqb, le-ltb}
-use Rattle.std.proofs.lemmas.List.{length-append, map_push}
+use Rattle.std.proofs.lemmas.List.{length-append, length-map, map_push, take-append-le}
 use Rattle.decisions.specs.Literals.{Lit, Pos, Neg, known_false}
 use Rattle.decisions.specs.Trail.{Entry, Trail, val, level_of, kept_until, IsOnce, AddsEntry}
 use Rattle.decisions.specs.declared.decision.Decision.{Decision}
@@ -16,7 +16,7 @@ use Rattle.decisions.specs.declared.decision_tracker.AddFault.{AddFault}
 use Rattle.decisions.proofs.TrailLemmas.{val-push}
 use Rattle.clauses.specs.Clauses.{same_literal}
 use Rattle.clauses.specs.declared.disjunction.Disjunction.{Disjunction}
-use Rattle.falsified_clauses.specs.Clauses.{Counted, PlacedDemand, counted, with_false, with_undecided}
+use Rattle.falsified_clauses.specs.Clauses.{Counted, Lists, PlacedDemand, counted, with_false, with_undecided}
 use Rattle.falsified_clauses.specs.Counts.{Counts, KeyedCounters}
 use Rattle.falsified_clauses.proofs.Laws.{counts_disjunctions}
 use Rattle.resolvo_queue.specs.Scan.First.{first_of}
@@ -24,7 +24,7 @@ use Rattle.resolvo_queue.specs.declared.requires_clause.RequiresClause.{Requires
 use Rattle.resolvo_queue.specs.declared.tracked_clause.Position.{Position}
 use Rattle.resolvo_queue.proofs.Falsified.Least.{next_position, position_stays}
 use Rattle.resolvo_store.specs.Lists.{IsOneMore}
-use Rattle.resolvo_store.specs.Counted.{Counting, Follows, no_false, false_literal, false_by, demand_of, placed, placed_in}
+use Rattle.resolvo_store.specs.Counted.{AreCounted, Counting, Follows, no_false, false_literal, false_by, demand_of, placed, placed_in}
 
 -- ---- one entry more, or less
 
@@ -294,22 +294,82 @@ placed_more cs c =
     (λ i d l. ap (λ (p : Position). p.first_of_parent) (position_stays cs c i (get_or cs i d) (slice_get-get_or cs i d l))))
     ∙ ap (λ n. placed cs ++ at_parent c n ∷ []) (ap (λ (p : Position). p.first_of_parent) (next_position cs c)))
 
--- a clause was registered, and stands where it was put
-pub placed_registered : (P : List PlacedDemand → Type 0) (requires left : List RequiresClause) (one : RequiresClause) (first : ℕ)
-    → first ≡ first_of requires one.parent → left ≡ requires ++ one ∷ []
-    → P (placed requires ++ record { demand = demand_of one; first_of_parent = first } ∷ []) → P (placed left)
-placed_registered P requires left one first is grown =
-    subst P (ap (λ n. placed requires ++ at_parent one n ∷ []) is ∙ (sym (placed_more requires one) ∙ ap placed (sym grown)))
+-- ---- clauses that are counted
+
+module _ {A : Type 0} {lists : Lists A} {disjunctions : List (Disjunction A)} where
+  -- what follows the trail still counts the same clauses
+  pub keeps_counted : {kept more : Counting} {rs : List RequiresClause} {es fs : List Entry} {loaded : Lists A} {ds : List (Disjunction A)} → more.known ≡ kept.known
+      → (Follows kept es (counted lists disjunctions (take kept.known (placed rs)) no_false) → Follows more fs (counted loaded ds (take kept.known (placed rs)) no_false))
+      → AreCounted kept rs es lists disjunctions → AreCounted more rs fs loaded ds
+  keeps_counted {kept} {more} {rs} {es} {fs} {loaded} {ds} same f h = record {
+    known = subst (λ n. n ≤ length rs) (sym same) h.known;
+    follows = subst (λ n. Follows more fs (counted loaded ds (take n (placed rs)) no_false)) (sym same) (f h.follows);
+  }
+
+  -- the same clauses under the same entries
+  pub counted_still : {kept : Counting} {rs ss : List RequiresClause} {es fs : List Entry} → ss ≡ rs → fs ≡ es
+      → AreCounted kept rs es lists disjunctions → AreCounted kept ss fs lists disjunctions
+  counted_still {kept} {rs} {ss} {es} {fs} same_clauses same_entries h =
+      subst (λ xs. AreCounted kept ss xs lists disjunctions) (sym same_entries) (subst (λ cs. AreCounted kept cs es lists disjunctions) (sym same_clauses) h)
+
+  -- no clause, and no entry
+  pub none_counted : (kept : Counting) (es : List Entry) → kept.known ≡ 0 → kept.counted ≡ 0
+      → ((is_false : Lit → Bool) → Counts kept.clauses (counted lists disjunctions [] is_false)) → AreCounted kept [] es lists disjunctions
+  none_counted kept es known entries counts = record {
+    known = omega (arith, known);
+    follows = record {
+      within = omega (arith, entries);
+      counts = subst (λ n. Counts kept.clauses (counted lists disjunctions (take n (placed [])) (false_by (take kept.counted es)))) (sym known)
+          (counts (false_by (take kept.counted es)));
+    };
+  }
+
+  -- one clause more is registered
+  counted_before : {kept : Counting} {rs : List RequiresClause} {es : List Entry} (one : RequiresClause) → AreCounted kept rs es lists disjunctions
+      → AreCounted kept (rs ++ one ∷ []) es lists disjunctions
+  counted_before {kept} {rs} {es} one h =
+      let few = h.known in
+      let long : length (rs ++ one ∷ []) ≡ length rs + 1 = length-append rs (one ∷ []) in
+      let many : length (placed rs) ≡ length rs = length-map rs (placed_in rs) in
+      let front : take kept.known (placed (rs ++ one ∷ [])) ≡ take kept.known (placed rs) =
+      ap (take kept.known) (placed_more rs one) ∙ take-append-le kept.known (placed rs) (placed_in rs one ∷ []) (omega (arith, few, many)) in
+      record {
+        known = omega (arith, few, long);
+        follows = subst (λ xs. Follows kept es (counted lists disjunctions xs no_false)) (sym front) h.follows;
+      }
+
+  -- or that was refused
+  pub counted_registered : {T E : Type 0} {kept : Counting} {rs more : List RequiresClause} {es : List Entry} (one : RequiresClause) (result : Result T E)
+      → OnOk result (more ≡ rs ++ one ∷ []) → OnErr result (more ≡ rs) → AreCounted kept rs es lists disjunctions → AreCounted kept more es lists disjunctions
+  counted_registered one (Ok x) grown same h = counted_still grown refl (counted_before one h)
+  counted_registered one (Err e) grown same h = counted_still same refl h
+
+  -- one clause more is counted
+  pub one_counted : (kept : Counting) {more : Counting} {rs : List RequiresClause} {es : List Entry} (c : RequiresClause) → slice_get rs kept.known ≡ Some c → kept.known < length rs
+      → more.known ≡ kept.known + 1 → Follows more es (counted lists disjunctions (take kept.known (placed rs) ++ placed_in rs c ∷ []) no_false)
+      → AreCounted more rs es lists disjunctions
+  one_counted kept {more} {rs} {es} c at within next h =
+      let none : PlacedDemand = placed_in rs c in
+      let many : length (placed rs) ≡ length rs = length-map rs (placed_in rs) in
+      let here : slice_get (placed rs) kept.known ≡ Some (placed_in rs c) = slice_get-map (placed_in rs) rs kept.known ∙ ap (option_map (placed_in rs)) at in
+      let own : Some (get_or (placed rs) kept.known none) ≡ Some (placed_in rs c) = sym (slice_get-get_or (placed rs) kept.known none (omega (arith, within, many))) ∙ here in
+      let same : get_or (placed rs) kept.known none ≡ placed_in rs c = cc in
+      let front : take (kept.known + 1) (placed rs) ≡ take kept.known (placed rs) ++ placed_in rs c ∷ [] =
+      take_more (placed rs) kept.known none (omega (arith, within, many)) ∙ ap (λ x. take kept.known (placed rs) ++ x ∷ []) same in
+      record {
+        known = omega (arith, within, next);
+        follows = subst (λ n. Follows more es (counted lists disjunctions (take n (placed rs)) no_false)) (sym next)
+            (subst (λ xs. Follows more es (counted lists disjunctions xs no_false)) (sym front) h);
+      }
+
+  -- where all clauses are counted
+  pub all_counted : {kept : Counting} {rs : List RequiresClause} {es : List Entry} → kept.known ≡ length rs → AreCounted kept rs es lists disjunctions
+      → Follows kept es (counted lists disjunctions (placed rs) no_false)
+  all_counted {kept} {rs} {es} all h =
+      let many : length (placed rs) ≡ length rs = length-map rs (placed_in rs) in
+      subst (λ xs. Follows kept es (counted lists disjunctions xs no_false)) (take_all kept.known (placed rs) (omega (arith, all, many))) h.follows
 
 -- ---- nothing more
-
--- what follows the trail under the same clauses and entries
-pub follows_still : {A : Type 0} (kept : Counting) (loaded : List (Requirement × Vec (Vec ℕ A) A)) (disjunctions : List (Disjunction A))
-    {rs ss : List RequiresClause} {es fs : List Entry} → ss ≡ rs → fs ≡ es
-    → Follows kept es (counted loaded disjunctions (placed rs) no_false) → Follows kept fs (counted loaded disjunctions (placed ss) no_false)
-follows_still kept loaded disjunctions {rs} {ss} {es} {fs} same_clauses same_entries h =
-    subst (λ xs. Follows kept xs (counted loaded disjunctions (placed ss) no_false)) (sym same_entries)
-    (subst (λ cs. Follows kept es (counted loaded disjunctions (placed cs) no_false)) (sym same_clauses) h)
 
 -- after a disjunction was to be kept
 pub follows_disjunction : {A T E : Type 0} (kept : Counting) (es : List Entry) (s : Counted A) (more : List (Disjunction A)) (result : Result T E)

@@ -19,7 +19,8 @@ use Rattle.resolvo_store.specs.Command.{Saturate, Reply, Refused}
 use Rattle.resolvo_store.specs.Store.{Store, clause_literals, watched_by}
 use Rattle.resolvo_store.specs.Lists.{IsConsistent}
 use Rattle.resolvo_store.specs.Refusals.{is_level}
-use Rattle.resolvo_store.specs.Saturating.{IsSaturated, Saturates, found_answer}
+use Rattle.resolvo_store.specs.Saturating.{IsSaturated, Saturates}
+use Rattle.resolvo_store.specs.Answers.{conflict, replied}
 use Rattle.resolvo_store.specs.Step.{Step}
 use Rattle.resolvo_store.specs.Sound.{IsSound}
 use Rattle.resolvo_store.proofs.AddingLemmas.{first_of}
@@ -80,14 +81,14 @@ module _ {N S : Type 0} (st : Store N S) where
     abbrev pub Finds : Option ℕ → Type 0
     Finds found = MatchOption found (AreSettled literals (length st.clauses) (val after.entries)) (IsConflict literals (length st.clauses) (val after.entries))
 
-    saturates : (found : Option ℕ) → Finds found → Saturates level st (found_answer (Ok found)) (with_forced cs after)
+    saturates : (found : Option ℕ) → Finds found → Saturates level st (replied conflict (Ok found)) (with_forced cs after)
     saturates None settled = (saturated, still (λ f n. AreSettled f n (val after.entries)) settled)
     saturates (Some c) conflict = (saturated, still (λ f n. IsConflict f n (val after.entries) c) conflict)
 
     -- and with what it found, or its refusal, a step
     pub step_found : (found : Result (Option ℕ) StoreError) → is_level level ≡ true → IfOk found Finds → IfErr found (λ e. e ≡ OutOfMemory)
-        → Step st (Saturate level) (found_answer found) (with_forced cs after)
-    step_found (Ok found) good ok err = step_saturates level (found_answer (Ok found)) (with_forced cs after) good (saturates found ok)
+        → Step st (Saturate level) (replied conflict found) (with_forced cs after)
+    step_found (Ok found) good ok err = step_saturates level (replied conflict (Ok found)) (with_forced cs after) good (saturates found ok)
     step_found (Err e) good ok err =
         subst (λ x. Step st (Saturate level) (Refused x) (with_forced cs after)) (sym err) (step_saturates level (Refused OutOfMemory) (with_forced cs after) good saturated)
 

@@ -6,8 +6,9 @@ use Rattle.typed_ids.specs.declared.error.StoreError.{StoreError}
 use Rattle.typed_ids.specs.declared.error.StoreError.TheVariants.{OutOfMemory, IdSpace, UnknownId}
 use Rattle.at_most_once.specs.AtMostOne.{is_tracked}
 use Rattle.at_most_once.specs.NameTrackers.{lacks_tracker}
-use Rattle.resolvo_store.specs.declared.reply.Reply.{Reply as ProgramReply}
-use Rattle.resolvo_store.specs.Command.{Command, AtMostOnce, Reply, TrackedAs, Refused, reply_of, answer_of}
+use Rattle.resolvo_store.specs.declared.answers.Tracked.{Tracked}
+use Rattle.resolvo_store.specs.Answers.{replied, tracked as told}
+use Rattle.resolvo_store.specs.Command.{Command, AtMostOnce, Reply, TrackedAs, Refused}
 use Rattle.resolvo_store.specs.Store.{Store}
 use Rattle.resolvo_store.specs.Tracking.{is_helper_among, lacks_more}
 use Rattle.resolvo_store.specs.Refusals.{first_refusal, knows_variable}
@@ -47,16 +48,16 @@ module _ {N S : Type 0} (st : Store N S) (name : N) (v : ℕ) where
       subst (λ o. MatchOption o (IsAnswered st command reply after) (λ e. (reply ≡ Refused e) × (after ≡ st))) (sym (first_of_tracking known)) is
 
   -- it is tracked from now on, or that was refused
-  pub step_tracked : {A : Type 0} (result : Result (ProgramReply A) StoreError) (after : Store N S)
+  pub step_tracked : (result : Result Tracked StoreError) (after : Store N S)
       → (st.provider.universe.knows_name name && (knows_variable st v && not (is_helper_among st.origins v))) ≡ true → tracked ≡ false
-      → IfOk result (λ reply. reply_of reply ≡ TrackedAs true (length (tracking st name v)))
+      → IfOk result (λ t. (t.is_new ≡ true) × (t.clauses ≡ length (tracking st name v)))
       → OnOk result (after ≡ with_tracked st name v) → OnErr result (after ≡ st)
       → OnOk result ((st.provider.is_large_name name || lacks_others) ≡ false) → IfErr result (IsGrowthRefusal lacks_any)
-      → Step st command (answer_of result) after
-  step_tracked (Ok reply) after known new said made left fits refused =
+      → Step st command (replied told result) after
+  step_tracked (Ok t) after known new said made left fits refused =
       let same : outcome st command ≡ record { reply = TrackedAs true (length (tracking st name v)); store = with_tracked st name v } =
       ap (λ b. cond b (let o : Outcome N S = record { reply = TrackedAs false 0; store = st } in o) (record { reply = TrackedAs true (length (tracking st name v)); store = with_tracked st name v })) new in
-      subst (λ r. Step st command r after) (sym said)
+      subst (λ r. Step st command r after) (sym (ap (λ b. TrackedAs b t.clauses) said.0 ∙ ap (TrackedAs true) said.1))
       (answered known (TrackedAs true (length (tracking st name v))) after (
         ap (λ b. not b && (st.provider.is_large_name name || lacks_others)) new ∙ fits,
         sym (ap (λ o. o.reply) same),

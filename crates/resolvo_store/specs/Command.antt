@@ -115,8 +115,3 @@ reply_of Out.NoDecision = NoDecision
 reply_of (Out.Falsified clause) = Falsified clause
 reply_of (Out.Conflict clause) = Conflict clause
 reply_of (Out.Refused e) = Refused e
-
--- what a command is answered: its reply, or its refusal
-abbrev pub answer_of : {A : Type 0} → Result (ProgramReply A) StoreError → Reply
-answer_of (Ok reply) = reply_of reply
-answer_of (Err e) = Refused e

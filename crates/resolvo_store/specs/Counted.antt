@@ -1,11 +1,15 @@
 -- What the counters of falsified clauses count: a store's requires clauses, under its trail.
-use Rattle.std.specs.Prelude.{ℕ, ◌≤◌, Bool, false, if◌then◌else◌, List, length, map, take}
-use Rattle.std.specs.Prelude.{Option, None, Some, slice_get}
+use Rattle.std.specs.Prelude.{ℕ, ◌≤◌, Bool, false, if◌then◌else◌, List, [], length, map, take}
+use Rattle.std.specs.Prelude.{◌<◌, Option, None, Some, IfSome, IsSome, slice_get}
+use Rattle.std.specs.Map.{lookup}
+use Rattle.providers.specs.Requirement.{same_requirement}
+use Rattle.clauses.specs.declared.disjunction.Disjunction.{Disjunction}
 use Rattle.decisions.specs.Literals.{Lit, Pos, Neg, is_false_literal}
-use Rattle.decisions.specs.Trail.{Entry, val}
+use Rattle.decisions.specs.Trail.{Entry, Trail, val}
 use Rattle.decisions.specs.declared.decision.Decision.{Decision}
-use Rattle.falsified_clauses.specs.Clauses.{Counted, PlacedDemand}
-use Rattle.falsified_clauses.specs.Counts.{Counts, KeyedCounters}
+use Rattle.falsified_clauses.specs.Clauses.{Counted, Lists, PlacedDemand, counted, with_clause}
+use Rattle.falsified_clauses.specs.Counts.{Counts, IsReady, KeyedCounters}
+use Rattle.falsified_clauses.specs.declared.clause_groups.ClauseGroups.{ClauseGroups}
 use Rattle.falsified_clauses.specs.declared.demand.Demand.{Demand}
 use Rattle.resolvo_queue.specs.Scan.First.{first_of}
 use Rattle.resolvo_queue.specs.declared.requires_clause.RequiresClause.{RequiresClause}
@@ -39,9 +43,10 @@ clause_at requires (Some number) = slice_get requires number
 abbrev pub no_false : Lit → Bool
 no_false _ = false
 
--- what the counters keep, and how many entries of a trail they have counted, the oldest
+-- what the counters keep, how many clauses they have counted, the first ones, and how many entries of a trail, the oldest
 pub record Counting : Type 0 where
   pub clauses : KeyedCounters
+  pub known : ℕ
   pub counted : ℕ
 
 -- the clauses are counted, and false is what the counted entries of the trail make false, whatever s says is. A are the
@@ -49,3 +54,48 @@ pub record Counting : Type 0 where
 pub record Follows {A : Type 0} (kept : Counting) (entries : List Entry) (s : Counted A) : Type 0 where
   pub within : kept.counted ≤ length entries
   pub counts : Counts kept.clauses (record s { is_false = false_by (take kept.counted entries) })
+
+module _ (A : Type 0) where
+  -- no clause is counted, whatever is false
+  abbrev pub CountsNothing : KeyedCounters → Type 0
+  CountsNothing kept = (lists : Lists A) (disjunctions : List (Disjunction A)) (is_false : Lit → Bool) →
+      Counts kept (counted lists disjunctions [] is_false)
+
+  -- what is followed under one trail is followed under another
+  abbrev pub FollowsOn : Counting → Trail → Counting → Trail → Type 0
+  FollowsOn old was new now = (s : Counted A) → Follows old was.entries s → Follows new now.entries s
+
+  -- what is followed is followed with a clause more, where these are its groups
+  abbrev pub FollowsMore : Counting → Counting → ClauseGroups → ℕ → Type 0
+  FollowsMore old new groups first_of_parent = (s : Counted A) (clause : Demand) (entries : List Entry) →
+      IsReady old.clauses clause groups → Follows old entries s →
+      Follows new entries (with_clause clause first_of_parent s)
+
+module _ {A : Type 0} (lists : Lists A) (disjunctions : List (Disjunction A)) (now : Trail) where
+  -- these clauses are followed
+  abbrev pub FollowsClauses : Counting → List PlacedDemand → Type 0
+  FollowsClauses kept clauses = Follows kept now.entries (counted lists disjunctions clauses no_false)
+
+  -- the clauses that were followed are
+  abbrev pub StillFollows : Counting → Counting → Type 0
+  StillFollows old new = (clauses : List PlacedDemand) → FollowsClauses old clauses → FollowsClauses new clauses
+
+  -- where clauses were followed, these groups are ready for one more
+  abbrev pub MakesReady : Counting → Counting → Demand → ClauseGroups → Type 0
+  MakesReady old new clause groups =
+      (clauses : List PlacedDemand) → FollowsClauses old clauses → IsReady new.clauses clause groups
+
+  -- what is counted under the whole trail
+  abbrev pub counted_now : List RequiresClause → Counted A
+  counted_now requires = counted lists disjunctions (placed requires) (false_by now.entries)
+
+-- what a clause names is there: lists for its requirement, and its disjunction if it has one
+pub record IsThere {A : Type 0} (loaded : Lists A) (disjunctions : List (Disjunction A)) (c : RequiresClause) : Type 0 where
+  pub lists : IsSome (lookup (same_requirement c.requirement) loaded)
+  pub disjunction : IfSome c.condition (λ d. d < length disjunctions)
+
+-- of these clauses and this trail the first ones are counted
+pub record AreCounted {A : Type 0} (kept : Counting) (requires : List RequiresClause) (entries : List Entry)
+    (lists : Lists A) (disjunctions : List (Disjunction A)) : Type 0 where
+  pub known : kept.known ≤ length requires
+  pub follows : Follows kept entries (counted lists disjunctions (take kept.known (placed requires)) no_false)

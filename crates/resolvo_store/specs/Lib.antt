@@ -1,4 +1,5 @@
 pub mod Adding
+pub mod Answers
 pub mod Asked
 pub mod Command
 pub mod CommandLaws

@@ -11,8 +11,7 @@ use Rattle.watch_map.specs.declared.marks.Mark.{Mark}
 use Rattle.resolvo_queue.specs.Queue.{Queue}
 use Rattle.resolvo_queue.specs.References.{references}
 use Rattle.resolvo_queue.specs.Rows.{AreFew}
-use Rattle.falsified_clauses.specs.Clauses.{counted}
-use Rattle.resolvo_store.specs.Counted.{Counting, Follows, no_false, placed}
+use Rattle.resolvo_store.specs.Counted.{AreCounted, Counting}
 use Rattle.resolvo_store.specs.Synced.{MayAsk}
 use Rattle.resolvo_store.specs.Sound.{IsSound}
 use Rattle.resolvo_store.specs.Store.{Store, Provider, KeptDisjunction, clause_literals, watched_by}
@@ -56,16 +55,10 @@ pub record IsConsistent {D N S A H Q : Type 0} (has : Q → N → Bool) (st : St
 abbrev pub HasMarks : {N S : Type 0} → Store N S → List Mark → Type 0
 HasMarks st marks = AreMarks (clause_literals st) (watched_by st) st.trail marks
 
--- the store's requires clauses are counted, by what the counters have counted of its trail
-abbrev pub AreCounted : {N S A : Type 0} → Store N S → List (Requirement × Vec (Vec ℕ A) A) → List (Disjunction A) →
-    Counting → Type 0
-AreCounted st loaded disjunctions falsified =
-    Follows falsified st.trail (counted loaded disjunctions (placed st.requires) no_false)
-
 -- what is kept is in order, the counters and the marks among it
 pub record IsInOrder {D N S A H Q : Type 0} (has : Q → N → Bool) (st : Store N S)
     (loaded : List (Requirement × Vec (Vec ℕ A) A)) (disjunctions : List (Disjunction A)) (cache : Cache D N S A H)
     (queue : Queue N Q) (falsified : Counting) (trail : Trail) (marks : List Mark) : Type 0 where
   pub consistent : IsConsistent has st loaded disjunctions cache queue trail
-  pub counted : AreCounted st loaded disjunctions falsified
+  pub counted : AreCounted falsified st.requires st.trail loaded disjunctions
   pub marked : HasMarks st marks

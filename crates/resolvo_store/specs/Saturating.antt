@@ -10,12 +10,6 @@ use Rattle.watch_map.specs.Saturation.{IsRearranged}
 use Rattle.resolvo_store.specs.Command.{Command, Saturate, Reply, Done, Conflict, Refused}
 use Rattle.resolvo_store.specs.Store.{Store, values, clause_literals, watched_by}
 
--- the answer where the list of clauses found one that is false, or none, or was refused
-abbrev pub found_answer : Result (Option ℕ) StoreError → Reply
-found_answer (Ok (Some c)) = Conflict c
-found_answer (Ok None) = Done
-found_answer (Err e) = Refused e
-
 module _ {N S : Type 0} where
   -- entries were added at the trail's end, each at the level, and forced by its clause under those before it; and
   -- watches may be others of their clauses' literals: each clause has as many as before, and the lists are exact. All

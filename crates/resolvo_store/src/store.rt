@@ -1,31 +1,31 @@
-//! The clause store: what it keeps, and the way of a command through it.
+//! The clause store: what it keeps, and its calls.
 //!
-//! [`ClauseStore::step`] hands a command to the method that obeys it. The methods are in a file for each group of
-//! commands:
+//! A search calls its methods, which are in a file for each group:
 //!
-//! - `store/loading.rt`: `Variable`, `Helper` and `Load`, which make variables and load requirements;
-//! - `store/adding.rt`: the commands that add clauses of the other kinds;
-//! - `store/registering.rt`: `Disjunction` and `Requires`, which keep a condition's literals, and add a clause and
-//! register
-//!   it for decisions;
-//! - `store/tracking.rt`: `AtMostOnce`, which tracks a variable and adds the clauses of that;
-//! - `store/scoring.rt`: `Bump`, `Decay` and `Standard`, which change scores and how the queue may look at them;
-//! - `store/assigning.rt`: `Assign`, `UndoLast`, `UndoUntil` and `Unpropagated`, which change the trail;
-//! - `store/watching.rt`: `Rewatch` and `Watchers`, which move a watch and tell who watches;
-//! - `store/saturating.rt`: `Saturate`, which assigns what clauses force;
-//! - `store/deciding.rt`: `Decide`, which changes nothing that is seen, and its two halves as calls of their own;
-//! - `store/counting.rt`: no commands, but how the counters of falsified clauses follow the trail;
-//! - `store/reading.rt`: no commands, but what is read beside the replies;
-//! - `store/known.rt`: no commands, but tests of what they name.
+//! - `store/loading.rt`: `variable`, `helper`, `load` and `lists`, which make variables and load requirements;
+//! - `store/adding.rt`: those that add clauses of the other kinds, from `root` to `learnt`;
+//! - `store/registering.rt`: `disjunction` and `requires_clause`, which keep a condition's literals, and add a clause
+//!   and register it for decisions;
+//! - `store/tracking.rt`: `at_most_once`, which tracks a variable and adds the clauses of that;
+//! - `store/scoring.rt`: `bump`, `decay` and `set_standard`, which change scores and how the queue may look at them;
+//! - `store/assigning.rt`: `assign`, `undo_last`, `undo_until` and `next_unpropagated`, which change the trail;
+//! - `store/watching.rt`: `rewatch` and `watchers`, which move a watch and tell who watches;
+//! - `store/saturating.rt`: `saturate`, which assigns what clauses force;
+//! - `store/deciding.rt`: `decide`, which changes nothing that is seen, and its two halves as calls of their own;
+//! - `store/counting.rt`: how the counters of falsified clauses follow the trail;
+//! - `store/reading.rt`: what is read beside that;
+//! - `store/known.rt`: tests of what calls name.
 //!
-//! Each method's contract is the step of its command. So a method takes back what it changed before it was refused, as
-//! a `Load` gives up the variables that it made; or it makes room first, as a `Requires` does before it registers its
-//! clause. `Saturate` alone does neither: what it forced follows from the clauses, and stays.
-ghost use Rattle.std.specs.Prelude.{◌≡◌, map, length, vec_len, IfOk, IfErr, OnErr};
+//! Each of these is a command too: [`ClauseStore::step`] hands a [`Command`] to its method, and makes a [`Reply`] of
+//! what the method answers. Each method's contract is the step of its command. So a method takes back what it changed
+//! before it was refused, as `load` gives up the variables that it made; or it makes room first, as `requires_clause`
+//! does before it registers its clause. `saturate` alone does neither: what it forced follows from the clauses, and
+//! stays.
+ghost use Rattle.std.specs.Prelude.{◌≡◌, map, length, vec_len, IfOk, IfErr};
 ghost use Rattle.typed_ids.specs.declared.error.StoreError.TheVariants.{OutOfMemory};
 ghost use Rattle.decisions.specs.Trail.{val};
 ghost use Rattle.providers.specs.declared.requirement.Requirement.{Requirement as ARequirement};
-ghost use Rattle.resolvo_store.specs.Command.{reply_of, answer_of, IsRefused};
+ghost use Rattle.resolvo_store.specs.Command.{reply_of, IsRefused};
 
 mod adding;
 mod assigning;
@@ -43,10 +43,14 @@ mod watching;
 use crate::abstract_store::AbstractStore;
 use crate::command::Command;
 use crate::reply::Reply;
+use crate::replying::{
+    assignment_reply, clause_reply, conflict_reply, disjunction_reply, done_reply, loaded_reply,
+    next_reply, tracked_reply, undone_reply, variable_reply, watchers_reply,
+};
 use crate::store::counting::TrailCounters;
 use at_most_once::NameTrackers;
 use clauses::Disjunction;
-use decisions::DecisionTracker;
+use decisions::{Decision, DecisionTracker};
 use id_maps::{IdMap, IdSet, Scores, SolverId};
 use id_storage::Arena;
 use providers::{DependencyProvider, RequirementMap};
@@ -175,7 +179,8 @@ impl<D: DependencyProvider + Drop> ClauseStore<D> {
         self.cache.provider()
     }
 
-    /// Obeys a command, and answers it. A refusal changes nothing, but for a `Saturate`, which keeps what it forced.
+    /// Obeys a command by its method, and answers it. A refusal is a reply too: it changes nothing, but for a `Saturate`,
+    /// which keeps what it forced.
     pub fn step(&mut self, command: &Command<D::NameId, D::SolvableId, D::Alloc>) -> Reply<D::Alloc>
         ensures step { Step (⟦<D as AbstractStore>⟧.store self.old) (command_of command.now)
             (reply_of result) (⟦<D as AbstractStore>⟧.store self.new) }
@@ -194,28 +199,7 @@ impl<D: DependencyProvider + Drop> ClauseStore<D> {
         self.dispatch(command)
     }
 
-    /// Obeys a command: its reply, or the refusal, which changes nothing, but for a `Saturate`, which keeps what it
-    /// forced. [`ClauseStore::step`] is the same with the refusal among the replies.
-    pub fn obey(
-        &mut self,
-        command: &Command<D::NameId, D::SolvableId, D::Alloc>,
-    ) -> Result<Reply<D::Alloc>, StoreError>
-        ensures step { Step (⟦<D as AbstractStore>⟧.store self.old) (command_of command.now)
-            (answer_of result) (⟦<D as AbstractStore>⟧.store self.new) }
-        ensures ok { IfOk result (λ reply. IsRefused (reply_of reply) → ⊥) }
-        ensures err { OnErr result (RefusalLeaves (command_of command.now)
-            (⟦<D as AbstractStore>⟧.store self.old) (⟦<D as AbstractStore>⟧.store self.new)) }
-        ensures provider { self.new.provider ≡ self.old.provider }
-        ensures asked { let new = ⟦<D as AbstractStore>⟧.store self.new in
-            Asks (⟦<D as AbstractStore>⟧.store self.old) (command_of command.now) (answer_of result) new.trail
-            self.old.asked self.new.asked }
-        ensures was_sound { IsSound (⟦<D as AbstractStore>⟧.store self.old) }
-        ensures sound { IsSound (⟦<D as AbstractStore>⟧.store self.new) }
-    {
-        answered(self.step(command))
-    }
-
-    /// Hands a command to the method that obeys it.
+    /// Hands a command to its method, and makes a reply of what it answers.
     fn dispatch(&mut self, command: &Command<D::NameId, D::SolvableId, D::Alloc>) -> Reply<D::Alloc>
         ensures step { Step (⟦<D as AbstractStore>⟧.store self.old) (command_of command.now)
             (reply_of result) (⟦<D as AbstractStore>⟧.store self.new) }
@@ -225,11 +209,11 @@ impl<D: DependencyProvider + Drop> ClauseStore<D> {
             self.old.asked self.new.asked }
     {
         match command {
-            Command::Variable(solvable) => replied(self.variable(*solvable)),
-            Command::Helper(origin) => replied(self.helper(*origin)),
-            Command::Load(requirement) => replied(self.load(*requirement)),
-            Command::Requires(parent, requirement, disjunction) => {
-                replied(self.requires_clause(*parent, *requirement, *disjunction))
+            Command::Variable(solvable) => variable_reply(self.variable(*solvable)),
+            Command::Helper(origin) => variable_reply(self.helper(*origin)),
+            Command::Load(requirement) => loaded_reply(self.load_copied(*requirement)),
+            Command::Requires(parent, requirement, condition) => {
+                clause_reply(self.requires_clause(*parent, *requirement, *condition))
             }
             Command::Root
             | Command::Constrains(_, _, _)
@@ -238,24 +222,36 @@ impl<D: DependencyProvider + Drop> ClauseStore<D> {
             | Command::Lock(_, _)
             | Command::Exclude(_, _)
             | Command::AnyOf(_, _) => self.add_named(command),
-            Command::Learnt(literals) => replied(self.learnt(literals)),
+            Command::Learnt(literals) => clause_reply(self.learnt(literals)),
             Command::Assign(variable, value, clause, level) => {
-                replied(self.assign(*variable, *value, *clause, *level))
+                let decision = Decision::new(*variable, *value, *clause);
+                assignment_reply(self.assign(decision, *level))
             }
-            Command::UndoLast => replied(self.undo_last()),
-            Command::UndoUntil(level) => self.undo_until(*level),
-            Command::Unpropagated => self.unpropagated(),
-            Command::Rewatch(clause, from, to) => replied(self.rewatch(*clause, *from, *to)),
-            Command::Watchers(literal) => replied(self.watchers_of(*literal)),
-            Command::Saturate(level) => replied(self.saturate(*level)),
-            Command::Decide => replied(self.decide()),
-            Command::Disjunction(literals, condition) => replied(self.disjunction(
-                literals, *condition,
+            Command::UndoLast => undone_reply(self.undo_last()),
+            Command::UndoUntil(level) => {
+                self.undo_until(*level);
+                Reply::Undone(None)
+            }
+            Command::Unpropagated => Reply::Next(self.next_unpropagated()),
+            Command::Rewatch(clause, from, to) => done_reply(self.rewatch(*clause, *from, *to)),
+            Command::Watchers(literal) => watchers_reply(self.watchers(*literal)),
+            Command::Saturate(level) => conflict_reply(self.saturate(*level)),
+            Command::Decide => next_reply(self.decide()),
+            Command::Disjunction(literals, condition) => {
+                disjunction_reply(self.disjunction(literals, *condition))
+            }
+            Command::AtMostOnce(name, variable) => tracked_reply(self.at_most_once(
+                *name, *variable,
             )),
-            Command::AtMostOnce(name, variable) => replied(self.at_most_once(*name, *variable)),
-            Command::Bump(name, amount) => replied(self.bump(*name, *amount)),
-            Command::Decay(numerator, denominator) => replied(self.decay(*numerator, *denominator)),
-            Command::Standard(standard) => self.standard(*standard),
+            Command::Bump(name, amount) => done_reply(self.bump(*name, *amount)),
+            Command::Decay(numerator, denominator) => done_reply(self.decay(
+                *numerator,
+                *denominator,
+            )),
+            Command::Standard(standard) => {
+                self.set_standard(*standard);
+                Reply::Done
+            }
         }
     }
 
@@ -289,26 +285,5 @@ impl<D: DependencyProvider + Drop> ClauseStore<D> {
         ensures sound { IsSound (⟦<D as AbstractStore>⟧.store self.now) }
     {
         self.trail.assigned_value(variable)
-    }
-}
-
-/// An answer as a reply: a refusal is one too.
-fn replied<A: Allocator>(answer: Result<Reply<A>, StoreError>) -> Reply<A>
-    ensures { reply_of result ≡ answer_of answer }
-{
-    match answer {
-        Ok(reply) => reply,
-        Err(e) => Reply::Refused(e),
-    }
-}
-
-/// A reply as an answer, with a refusal apart.
-fn answered<A: Allocator>(reply: Reply<A>) -> Result<Reply<A>, StoreError>
-    ensures same { answer_of result ≡ reply_of reply }
-    ensures ok { IfOk result (λ reply. IsRefused (reply_of reply) → ⊥) }
-{
-    match reply {
-        Reply::Refused(e) => Err(e),
-        reply => Ok(reply),
     }
 }

@@ -252,15 +252,15 @@ fn load<D: DependencyProvider + Drop>(
     ensures { ObeysLine (⟦<D as AbstractStore>⟧.store store.old) (Says (Load requirement))
         waiting.old.items result waiting.new.items (⟦<D as AbstractStore>⟧.store store.new) }
 {
-    if let Some(lists) = store.loaded(requirement) {
+    if let Some(lists) = store.lists(requirement) {
         push_loaded(waiting, lists)?;
         return Ok(());
     }
-    if let Err(refusal) = store.keep_loaded(requirement) {
+    if let Err(refusal) = store.load(requirement) {
         push_refused(waiting, refusal)?;
         return Ok(());
     }
-    match store.loaded(requirement) {
+    match store.lists(requirement) {
         Some(lists) => {
             push_loaded(waiting, lists)?;
             Ok(())

@@ -14,12 +14,10 @@ use Rattle.resolvo_clauses.specs.Types.Clause.TheVariants as Kind
 use Rattle.resolvo_queue.specs.declared.requires_clause.RequiresClause.{RequiresClause}
 use Rattle.resolvo_queue.specs.declared.offer.Offer.{Offer}
 use Rattle.resolvo_store.specs.declared.helper_origin.HelperOrigin.{HelperOrigin}
-use Rattle.resolvo_store.specs.declared.reply.Reply.{Reply as ProgramReply}
-use Rattle.resolvo_store.specs.declared.reply.Reply.TheVariants as Out
 use Rattle.resolvo_store.specs.Command.{Command, Helper, Load, Requires, Root, Constrains, ConstrainsExcluded}
 use Rattle.resolvo_store.specs.Command.{ConstrainsParent, Lock, Exclude, AnyOf, Learnt, AtMostOnce, Assign}
 use Rattle.resolvo_store.specs.Command.{Unpropagated, Saturate, Decide, Reply, VariableIs, ClauseIs}
-use Rattle.resolvo_store.specs.Command.{TrackedAs, Already, Clash, Refused, IsRefused, reply_of}
+use Rattle.resolvo_store.specs.Command.{TrackedAs, Already, Clash, Refused}
 use Rattle.resolvo_store.specs.Store.{Store, values, lists_of, kept_literals}
 use Rattle.resolvo_store.specs.Refusals.{first_refusal}
 use Rattle.resolvo_store.specs.Outcome.{Outcome, outcome, helper_origin, load, adds_clause}
@@ -43,16 +41,6 @@ module _ {X E : Type 0} (r : Result (Option X) E) (f : X → List Lit) (there : 
       by_found : (o : Option X) → option_map f o ≡ there → IfSome o (λ x. f x ≡ ls)
       by_found (Some x) h = let same : Some (f x) ≡ Some ls = h ∙ is in cc
       by_found None h = tt
-
--- the program's reply is told by what it is read as
-module _ {A : Type 0} where
-  clause_of_reply : (r : ProgramReply A) (clause : ℕ) (conflict : Bool) → reply_of r ≡ ClauseIs clause conflict → r ≡ Out.Clause clause conflict
-  clause_of_reply (Out.Clause x y) clause conflict h = cc
-  clause_of_reply _ clause conflict h = cc
-
-  variable_of_reply : (r : ProgramReply A) (variable : ℕ) → reply_of r ≡ VariableIs variable → r ≡ Out.Variable variable
-  variable_of_reply (Out.Variable x) variable h = cc
-  variable_of_reply _ variable h = cc
 
 -- what stands at the end of a list
 last_at : {X : Type 0} (xs : List X) (x : X) → slice_get (xs ++ x ∷ []) (length xs) ≡ Some x
@@ -187,19 +175,3 @@ module _ {N S : Type 0} where
           let origins : new.origins ≡ old.origins ++ helper_origin origin ∷ [] = ap (λ (s : Store N S). s.origins) h.2 in
           rw (origins, id, last_at old.origins (helper_origin origin)) refl
       by_refusal (Some x) h = let no : VariableIs variable ≡ Refused x = h.0 in cc
-
-  module _ {A : Type 0} where
-    -- a command that excludes a variable is answered by a clause, where it isn't refused
-    pub exclude_answers : (old new : Store N S) (v : ℕ) (reason : StringId) (r : ProgramReply A) → Step old (Exclude v reason) (reply_of r) new
-        → (IsRefused (reply_of r) → ⊥) → ((clause : ℕ) (conflict : Bool) → r ≡ Out.Clause clause conflict → ⊥) → ⊥
-    exclude_answers old new v reason r step kept otherwise =
-        let added = adds_clause old (Kind.Excluded v reason) in
-        let same : reply_of r ≡ added.reply = (answered_by_outcome old new (Exclude v reason) (reply_of r) refl step kept).0 in
-        otherwise (length old.clauses) _ (clause_of_reply r (length old.clauses) _ same)
-
-    -- and one that makes a helper variable by a variable
-    pub helper_answers : (old new : Store N S) (origin : HelperOrigin N) (r : ProgramReply A) → Step old (Helper origin) (reply_of r) new
-        → (IsRefused (reply_of r) → ⊥) → ((variable : ℕ) → r ≡ Out.Variable variable → ⊥) → ⊥
-    helper_answers old new origin r step kept otherwise =
-        let same : reply_of r ≡ VariableIs (length old.origins) = (answered_by_outcome old new (Helper origin) (reply_of r) refl step kept).0 in
-        otherwise (length old.origins) (variable_of_reply r (length old.origins) same)

@@ -31,10 +31,8 @@ pub fn exclude<D: DependencyProvider + Drop>(
     ensures known { IfOk result (λ found. IsSome found) }
     ensures literals { IfOk result (λ found. IfSome found (λ literals. literals.items ≡ Neg variable ∷ [])) }
 {
-    match store.obey(&Command::Exclude(variable, reason))? {
-        Reply::Clause(clause, _) => store.literals(clause),
-        _ => unreachable!(),
-    }
+    let added = store.exclude(variable, reason)?;
+    store.literals(added.clause)
 }
 
 /// What a new helper variable stands for: what it was asked to.
@@ -44,8 +42,6 @@ pub fn stands_for<D: DependencyProvider + Drop>(
 ) -> Result<Option<VariableOrigin<D::NameId, D::SolvableId>>, StoreError>
     ensures { IfOk result (λ found. found ≡ Some (helper_origin origin)) }
 {
-    match store.obey(&Command::Helper(origin))? {
-        Reply::Variable(variable) => Ok(store.origin(variable)),
-        _ => unreachable!(),
-    }
+    let variable = store.helper(origin)?;
+    Ok(store.origin(variable))
 }

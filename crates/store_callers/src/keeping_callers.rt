@@ -1,14 +1,15 @@
 //! Callers that hold on to what a store answered while more commands are obeyed: they know nothing of the provider but
 //! its trait, and nothing of the store but its contracts. The laws that their proofs cite are those of
 //! `resolvo_store/proofs/KeepingLaws.antt` and `CandidateLaws.antt`.
-ghost use Rattle.std.specs.Prelude.{◌≡◌, slice_get, Some, IfOk};
+ghost use Rattle.std.specs.Prelude.{◌≡◌, slice_get, Some, IfOk, IfErr};
 ghost use Rattle.resolvo_clauses.specs.Types.Clause.TheVariants.{Excluded};
-ghost use Rattle.resolvo_store.specs.Command.{reply_of, LoadedAs};
+ghost use Rattle.resolvo_store.specs.Command.{reply_of, IsRefused, LoadedAs, Refused};
 ghost use Rattle.resolvo_store.specs.Keeping.{AreCandidates, candidate_variables};
 
 use resolvo_ids::{ClauseId, StoreError, StringId, VariableId};
 use resolvo_pool::{DependencyProvider, Requirement};
 use resolvo_store::{AbstractStore, ClauseStore, Command, Reply};
+use std::alloc::Allocator;
 
 /// Adds a clause, and obeys more commands: whatever they were answered, the clause is still there under its id.
 pub fn exclude_first<D: DependencyProvider + Drop>(
@@ -20,13 +21,9 @@ pub fn exclude_first<D: DependencyProvider + Drop>(
     ensures { IfOk result (λ clause. slice_get (⟦<D as AbstractStore>⟧.store store.new).clauses clause ≡
         Some (Excluded variable reason)) }
 {
-    match store.obey(&Command::Exclude(variable, reason))? {
-        Reply::Clause(clause, _) => {
-            store.run(commands)?;
-            Ok(clause)
-        }
-        _ => unreachable!(),
-    }
+    let added = store.exclude(variable, reason)?;
+    store.run(commands)?;
+    Ok(added.clause)
 }
 
 /// Loads a requirement, obeys another command, and loads the requirement again: whatever the other one was answered,
@@ -41,8 +38,19 @@ pub fn load_again<D: DependencyProvider + Drop>(
     ensures candidates { IfOk result (λ replies. reply_of replies.1 ≡
         LoadedAs (candidate_variables (⟦<D as AbstractStore>⟧.store store.new) requirement)) }
 {
-    let before = store.obey(&Command::Load(requirement))?;
+    let before = answered(store.step(&Command::Load(requirement)))?;
     store.step(between);
-    let after = store.obey(&Command::Load(requirement))?;
+    let after = answered(store.step(&Command::Load(requirement)))?;
     Ok((before, after))
+}
+
+/// The reply, or the refusal that it is.
+fn answered<A: Allocator>(reply: Reply<A>) -> Result<Reply<A>, StoreError>
+    ensures ok { IfOk result (λ answer. (reply_of answer ≡ reply_of reply) × (IsRefused (reply_of answer) → ⊥)) }
+    ensures err { IfErr result (λ error. reply_of reply ≡ Refused error) }
+{
+    match reply {
+        Reply::Refused(error) => Err(error),
+        reply => Ok(reply),
+    }
 }

@@ -5,9 +5,10 @@ ghost use Rattle.resolvo_ids.specs.Types.StoreError.TheVariants.{UnknownId};
 ghost use Rattle.resolvo_pool.specs.Provider.{knows_requirement};
 ghost use Rattle.resolvo_clauses.specs.Trail.{val};
 
+use resolvo_clauses::Decision;
 use resolvo_ids::{ClauseId, StoreError, VariableId};
 use resolvo_pool::{DependencyProvider, Requirement};
-use resolvo_store::{AbstractStore, ClauseStore, Command, Reply};
+use resolvo_store::{AbstractStore, Assignment, ClauseStore};
 
 /// Gives a variable a value, and answers whether it has this one now or the other one.
 pub fn give<D: DependencyProvider + Drop>(
@@ -21,11 +22,9 @@ pub fn give<D: DependencyProvider + Drop>(
         Some (if given then value else not value)) }
     ensures refused { OnErr result (⟦<D as AbstractStore>⟧.store store.new ≡ ⟦<D as AbstractStore>⟧.store store.old) }
 {
-    match store.obey(&Command::Assign(variable, value, clause, level))? {
-        Reply::Assigned => Ok(true),
-        Reply::Already => Ok(true),
-        Reply::Clash => Ok(false),
-        _ => unreachable!(),
+    match store.assign(Decision::new(variable, value, clause), level)? {
+        Assignment::New | Assignment::Already => Ok(true),
+        Assignment::Clash => Ok(false),
     }
 }
 
@@ -38,8 +37,7 @@ pub fn load<D: DependencyProvider + Drop>(
         (⟦<D as AbstractStore>⟧.store store.old).requires }
     ensures unknown { knows_requirement (D.universe store.old.provider) requirement ≡ false → result ≡ Err UnknownId }
 {
-    store.obey(&Command::Load(requirement))?;
-    Ok(())
+    store.load(requirement)
 }
 
 /// Adds the clause that the parent, if true, requires one of the requirement's candidates.
@@ -53,11 +51,8 @@ pub fn register<D: DependencyProvider + Drop>(
         ++ (record { parent = parent; requirement = requirement; condition = None; clause_id = clause }) ∷ []) }
     ensures refused { OnErr result (⟦<D as AbstractStore>⟧.store store.new ≡ ⟦<D as AbstractStore>⟧.store store.old) }
 {
-    match store.step(&Command::Requires(parent, requirement, None)) {
-        Reply::Clause(clause, _) => Ok(clause),
-        Reply::Refused(error) => Err(error),
-        _ => unreachable!(),
-    }
+    let added = store.requires_clause(parent, requirement, None)?;
+    Ok(added.clause)
 }
 
 /// Both: loads the requirement, and adds the clause. Where the clause is refused, the requirement may be loaded all the

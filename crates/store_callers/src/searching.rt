@@ -6,10 +6,11 @@ ghost use Rattle.resolvo_store.specs.Outcome.{falsified_clause, offers};
 ghost use Rattle.store_callers.specs.Search.{IsEnd, IsFault};
 
 use crate::requirement_callers::give;
+use resolvo_clauses::Decision;
 use resolvo_ids::{ClauseId, StoreError, VariableId};
 use resolvo_pool::DependencyProvider;
 use resolvo_queue::QueueDecision;
-use resolvo_store::{AbstractStore, ClauseStore, Command, Reply};
+use resolvo_store::{AbstractStore, ClauseStore, Next};
 use std::ops::Range;
 
 /// How a search ends.
@@ -59,14 +60,14 @@ pub fn search<D: DependencyProvider + Drop>(
     ensures { IfOk result (λ end. IsEnd (⟦<D as AbstractStore>⟧.store store.new) end) }
 {
     for level in levels {
-        let decision = match store.step(&Command::Decide) {
-            Reply::Decided(decision) => decision,
-            Reply::NoDecision => return Ok(SearchEnd::Solved),
-            Reply::Falsified(clause) => return Ok(SearchEnd::Falsified(clause)),
-            Reply::Refused(error) => return Err(error),
-            _ => unreachable!(),
-        };
-        store.obey(&Command::Assign(decision.candidate, true, decision.clause_id, level))?;
+        match store.decide()? {
+            Next::Decided(chosen) => {
+                let decision = Decision::new(chosen.candidate, true, chosen.clause_id);
+                store.assign(decision, level)?;
+            }
+            Next::Done => return Ok(SearchEnd::Solved),
+            Next::Falsified(clause) => return Ok(SearchEnd::Falsified(clause)),
+        }
     }
     Ok(SearchEnd::LevelsUsed)
 }
@@ -81,6 +82,6 @@ pub fn rule_out<D: DependencyProvider + Drop>(
 ) -> Result<bool, StoreError>
     ensures { IfOk result (λ done. val (⟦<D as AbstractStore>⟧.store store.new).trail candidate ≡ Some (not done)) }
 {
-    store.obey(&Command::UndoUntil(level))?;
+    store.undo_until(level);
     give(store, candidate, false, clause, level)
 }

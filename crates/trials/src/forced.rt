@@ -117,6 +117,9 @@ fn look_at<N, S, A: Allocator + Copy, T: Obeys<N, S, A>>(
     }
     for index in 0..VARIABLES {
         let variable = VariableId::from_index(index);
+        if !store.knows(variable) {
+            break;
+        }
         seen.values.push(store.value(variable))?;
         look_at_list(store, Literal::new(variable, false), &mut seen)?;
         look_at_list(store, Literal::new(variable, true), &mut seen)?;

@@ -23,10 +23,13 @@ pub(crate) trait Obeys<N, S, A: Allocator> {
     /// Takes the newest assignment back, if there is one: what it was, and the level of the one before it.
     fn take_back(&mut self) -> Option<(Decision, u32)>;
 
+    /// Whether there is the variable.
+    fn knows(&self, variable: VariableId) -> bool;
+
     /// The value of a variable, if it has one.
     fn value(&self, variable: VariableId) -> Option<bool>;
 
-    /// The clauses that watch a literal.
+    /// The clauses that watch a literal of a variable that is there.
     fn watchers(&self, literal: Literal) -> Result<Vec<ClauseId, A>, StoreError>;
 
     /// The literals of a clause, if it is known.
@@ -71,8 +74,11 @@ impl<D: DependencyProvider + Counting + Drop> Obeys<D::NameId, D::SolvableId, D:
     }
 
     fn take_back(&mut self) -> Option<(Decision, u32)> {
-        let reply = self.step(&Command::UndoLast);
-        taken_back(&reply)
+        self.undo_last().ok()
+    }
+
+    fn knows(&self, variable: VariableId) -> bool {
+        self.origin(variable).is_some()
     }
 
     fn value(&self, variable: VariableId) -> Option<bool> {
@@ -97,13 +103,5 @@ impl<D: DependencyProvider + Counting + Drop> Obeys<D::NameId, D::SolvableId, D:
 
     fn counts(&self) -> Counts {
         self.provider().counts()
-    }
-}
-
-/// What an undo of the newest assignment is answered: the assignment, and the level of the one before it.
-fn taken_back<A: Allocator>(reply: &Reply<A>) -> Option<(Decision, u32)> {
-    match reply {
-        Reply::Undone(last) => *last,
-        _ => None,
     }
 }

@@ -1,5 +1,5 @@
-//! Reading the registered clauses: the first falsified one, the ids, and where the next clause will stand.
-ghost use Rattle.std.specs.Prelude.{◌≡◌, All, length, option_map, slice_get};
+//! Reading the registered clauses: the first falsified one, each by its number, and the first one of a parent.
+ghost use Rattle.std.specs.Prelude.{◌≡◌, All, option_map, slice_get};
 ghost use Rattle.decisions.specs.Decisions.{values_in};
 ghost use Rattle.resolvo_queue.specs.Queue.{StandsOn};
 ghost use Rattle.resolvo_queue.specs.References.{CanWalk, literals_in, references, rows_in};
@@ -9,7 +9,7 @@ ghost use Rattle.resolvo_queue.specs.Scan.First.{first_of};
 use crate::asked::Asked;
 use crate::decide_queue::DecideQueue;
 use crate::falsification::{falsified_clause, id_of};
-use crate::tracked_clause::Position;
+use crate::requires_clause::RequiresClause;
 use clauses::Disjunction;
 use decisions::DecisionMap;
 use id_storage::Arena;
@@ -42,23 +42,20 @@ impl<D: DependencyProvider> DecideQueue<D> {
         id_of(falsified_clause(self.tracked.index.clauses.as_slice(), &asked))
     }
 
-    /// The id of the clause with a number: numbers are those of registration. None past the end.
-    pub fn clause_id(&self, number: u32) -> Option<ClauseId>
-        ensures { result ≡ option_map (λ c. c.clause_id) (slice_get self.now.clauses number) }
+    /// The clause with a number: numbers are those of registration. None past the end. Constant time.
+    pub fn clause(&self, number: usize) -> Option<RequiresClause>
+        ensures { result ≡ slice_get self.now.clauses number }
     {
-        self.tracked
-            .index
-            .clauses
-            .as_slice()
-            .get(number as usize)
-            .map(|clause| clause.clause_id)
+        match self.tracked.index.clauses.as_slice().get(number) {
+            Some(clause) => Some(clause.clause()),
+            None => None,
+        }
     }
 
-    /// Where the next clause will stand in the scan if it has this parent. Constant time.
-    pub fn next_position(&self, parent: VariableId) -> Position
-        ensures number { result.number ≡ length self.now.clauses }
-        ensures first { result.first_of_parent ≡ first_of self.now.clauses parent }
+    /// The number of a parent's first clause; that of the next clause if it has none. Constant time.
+    pub fn first_of(&self, parent: VariableId) -> u32
+        ensures { result ≡ first_of self.now.clauses parent }
     {
-        self.tracked.index.next_position(parent)
+        self.tracked.index.next_position(parent).first_of_parent
     }
 }

@@ -8,24 +8,116 @@ ghost use Rattle.watch_map.specs.Watching.{AreTwoOrNone};
 ghost use Rattle.watch_map.specs.ClauseList.{contents, literals_watched, two_or_none, is_full, is_learnt_full};
 ghost use Rattle.watch_map.specs.ClauseList.{with_clause, with_learnt};
 ghost use Rattle.resolvo_store.specs.Adding.{adding, is_direct, names_clause, names_known};
+ghost use Rattle.resolvo_store.specs.Answers.{added};
 ghost use Rattle.resolvo_store.specs.Command.{ClauseIs, command_of, reply_of};
 ghost use Rattle.resolvo_store.specs.Refusals.{is_bad_learnt};
 
 use crate::abstract_store::AbstractStore;
+use crate::answers::Added;
 use crate::command::Command;
 use crate::reply::Reply;
+use crate::replying::clause_reply;
+use crate::store::ClauseStore;
 use crate::store::known::{are_below, knows_literals};
-use crate::store::{ClauseStore, replied};
 use clauses::Clause;
 use decisions::{DecisionTracker, Literal};
 use providers::{DependencyProvider, Interner};
 use std::alloc::Allocator;
-use typed_ids::{DenseIndex, StoreError, VariableId};
+use typed_ids::{DenseIndex, StoreError, StringId, VariableId, VersionSetId};
 use watch_map::{ClauseList, WatchedLiterals};
 
 impl<D: DependencyProvider + Drop> ClauseStore<D> {
-    ghost use Rattle.resolvo_store.specs.Command.{Learnt, answer_of};
+    ghost use Rattle.resolvo_store.specs.Command.{Root, Constrains, ConstrainsExcluded, ConstrainsParent, Lock};
+    ghost use Rattle.resolvo_store.specs.Command.{Exclude, AnyOf, Learnt};
+    ghost use Rattle.resolvo_store.specs.Answers.{added, replied};
     ghost use Rattle.resolvo_store.specs.Step.{Step};
+
+    /// Adds the clause that the root is true.
+    pub fn root(&mut self) -> Result<Added, StoreError>
+        ensures step { Step (⟦<D as AbstractStore>⟧.store self.old) Root
+            (replied added result) (⟦<D as AbstractStore>⟧.store self.new) }
+        ensures provider { self.new.provider ≡ self.old.provider }
+        ensures asked { self.new.asked ≡ self.old.asked }
+    {
+        self.add(Clause::InstallRoot)
+    }
+
+    /// Adds the clause that the parent, if true, forbids the other variable, which the version set doesn't hold.
+    pub fn constrains(
+        &mut self,
+        parent: VariableId,
+        forbidden: VariableId,
+        set: VersionSetId,
+    ) -> Result<Added, StoreError>
+        ensures step { Step (⟦<D as AbstractStore>⟧.store self.old) (Constrains parent forbidden set)
+            (replied added result) (⟦<D as AbstractStore>⟧.store self.new) }
+        ensures provider { self.new.provider ≡ self.old.provider }
+        ensures asked { self.new.asked ≡ self.old.asked }
+    {
+        self.add(Clause::Constrains(parent, forbidden, set))
+    }
+
+    /// Adds the clause that a candidate outside the version set, if true, makes the variable true that stands for all of
+    /// them.
+    pub fn constrains_excluded(
+        &mut self,
+        candidate: VariableId,
+        aux: VariableId,
+        set: VersionSetId,
+    ) -> Result<Added, StoreError>
+        ensures step { Step (⟦<D as AbstractStore>⟧.store self.old) (ConstrainsExcluded candidate aux set)
+            (replied added result) (⟦<D as AbstractStore>⟧.store self.new) }
+        ensures provider { self.new.provider ≡ self.old.provider }
+        ensures asked { self.new.asked ≡ self.old.asked }
+    {
+        self.add(Clause::ConstrainsExcluded(candidate, aux, set))
+    }
+
+    /// Adds the clause that the parent, if true, forbids the variable that stands for all candidates outside the version
+    /// set.
+    pub fn constrains_parent(
+        &mut self,
+        parent: VariableId,
+        aux: VariableId,
+        set: VersionSetId,
+    ) -> Result<Added, StoreError>
+        ensures step { Step (⟦<D as AbstractStore>⟧.store self.old) (ConstrainsParent parent aux set)
+            (replied added result) (⟦<D as AbstractStore>⟧.store self.new) }
+        ensures provider { self.new.provider ≡ self.old.provider }
+        ensures asked { self.new.asked ≡ self.old.asked }
+    {
+        self.add(Clause::ConstrainsParent(parent, aux, set))
+    }
+
+    /// Adds the clause that, the first variable being locked, the other one isn't true where the root is.
+    pub fn lock(&mut self, locked: VariableId, other: VariableId) -> Result<Added, StoreError>
+        ensures step { Step (⟦<D as AbstractStore>⟧.store self.old) (Lock locked other)
+            (replied added result) (⟦<D as AbstractStore>⟧.store self.new) }
+        ensures provider { self.new.provider ≡ self.old.provider }
+        ensures asked { self.new.asked ≡ self.old.asked }
+    {
+        self.add(Clause::Lock(locked, other))
+    }
+
+    /// Adds the clause that the variable isn't true, for the reason that the string says.
+    pub fn exclude(&mut self, variable: VariableId, reason: StringId) -> Result<Added, StoreError>
+        ensures step { Step (⟦<D as AbstractStore>⟧.store self.old) (Exclude variable reason)
+            (replied added result) (⟦<D as AbstractStore>⟧.store self.new) }
+        ensures provider { self.new.provider ≡ self.old.provider }
+        ensures asked { self.new.asked ≡ self.old.asked }
+    {
+        self.add(Clause::Excluded(variable, reason))
+    }
+
+    /// Adds the clause that the first variable is true where the other one is.
+    pub fn any_of(&mut self, selected: VariableId, other: VariableId) -> Result<Added, StoreError>
+        ensures step { Step (⟦<D as AbstractStore>⟧.store self.old) (AnyOf selected other)
+            (replied added result) (⟦<D as AbstractStore>⟧.store self.new) }
+        ensures provider { self.new.provider ≡ self.old.provider }
+        ensures asked { self.new.asked ≡ self.old.asked }
+    {
+        self.add(Clause::AnyOf(selected, other))
+    }
 
     /// Adds the clause that a command names whole. It is apart from `dispatch` so that no other command pays for it.
     #[inline(never)]
@@ -40,17 +132,17 @@ impl<D: DependencyProvider + Drop> ClauseStore<D> {
         ensures asked { self.new.asked ≡ self.old.asked }
     {
         match clause_named(command) {
-            Some(clause) => replied(self.add(clause)),
+            Some(clause) => clause_reply(self.add(clause)),
             None => unreachable!(),
         }
     }
 
     /// Adds a clause that its command names whole: one that is neither registered for decisions, nor tracked, nor
     /// learnt.
-    fn add(&mut self, clause: Clause<D::NameId>) -> Result<Reply<D::Alloc>, StoreError>
+    fn add(&mut self, clause: Clause<D::NameId>) -> Result<Added, StoreError>
         requires { is_direct clause ≡ true }
         ensures step { Step (⟦<D as AbstractStore>⟧.store self.old) (adding clause)
-            (answer_of result) (⟦<D as AbstractStore>⟧.store self.new) }
+            (replied added result) (⟦<D as AbstractStore>⟧.store self.new) }
         ensures provider { self.new.provider ≡ self.old.provider }
         ensures asked { self.new.asked ≡ self.old.asked }
     {
@@ -59,16 +151,16 @@ impl<D: DependencyProvider + Drop> ClauseStore<D> {
         }
         let (watches, conflict) = first_watches(clause, &self.trail);
         let first = self.clauses.len();
-        let reply = add_clause(&mut self.clauses, clause, watches, conflict);
+        let answer = add_clause(&mut self.clauses, clause, watches, conflict);
         self.clauses
             .forget_false_from(first, &mut self.marks, &self.trail);
-        reply
+        answer
     }
 
     /// Adds a learnt clause with these literals.
-    pub(super) fn learnt(&mut self, literals: &[Literal]) -> Result<Reply<D::Alloc>, StoreError>
+    pub fn learnt(&mut self, literals: &[Literal]) -> Result<Added, StoreError>
         ensures step { Step (⟦<D as AbstractStore>⟧.store self.old) (Learnt literals.now)
-            (answer_of result) (⟦<D as AbstractStore>⟧.store self.new) }
+            (replied added result) (⟦<D as AbstractStore>⟧.store self.new) }
         ensures provider { self.new.provider ≡ self.old.provider }
         ensures asked { self.new.asked ≡ self.old.asked }
     {
@@ -79,10 +171,10 @@ impl<D: DependencyProvider + Drop> ClauseStore<D> {
             return Err(StoreError::BadLearnt);
         }
         let first = self.clauses.len();
-        let reply = learn_clause(&mut self.clauses, literals);
+        let answer = learn_clause(&mut self.clauses, literals);
         self.clauses
             .forget_false_from(first, &mut self.marks, &self.trail);
-        reply
+        answer
     }
 }
 
@@ -190,31 +282,37 @@ fn add_clause<N: Copy, A: Allocator + Copy>(
     clause: Clause<N>,
     watches: Option<WatchedLiterals>,
     conflict: bool,
-) -> Result<Reply<A>, StoreError>
+) -> Result<Added, StoreError>
     requires { AreTwoOrNone (two_or_none (literals_watched watches)) }
-    ensures reply { IfOk result (λ reply. reply_of reply ≡ ClauseIs (length (contents clauses.old).clauses) conflict) }
+    ensures added { IfOk result (λ a. added a ≡ ClauseIs (length (contents clauses.old).clauses) conflict) }
     ensures ok { OnOk result
         (contents clauses.new ≡ with_clause (contents clauses.old) clause (literals_watched watches)) }
     ensures err { OnErr result (contents clauses.new ≡ contents clauses.old) }
     ensures refused { IfErr result (IsGrowthRefusal (is_full (contents clauses.old))) }
     ensures ids_out { IsTrue (is_full (contents clauses.old)) → result ≡ Err IdSpace }
 {
-    let id = clauses.add(clause, watches)?;
-    Ok(Reply::Clause(id, conflict))
+    let clause = clauses.add(clause, watches)?;
+    Ok(Added {
+        clause,
+        is_conflict: conflict,
+    })
 }
 
 /// Adds a learnt clause with these literals, of which there is one at least.
 fn learn_clause<N: Copy, A: Allocator + Copy>(
     clauses: &mut ClauseList<N, A>,
     literals: &[Literal],
-) -> Result<Reply<A>, StoreError>
+) -> Result<Added, StoreError>
     requires { 0 < length literals.now }
-    ensures reply { IfOk result (λ reply. reply_of reply ≡ ClauseIs (length (contents clauses.old).clauses) false) }
+    ensures added { IfOk result (λ a. added a ≡ ClauseIs (length (contents clauses.old).clauses) false) }
     ensures ok { OnOk result (contents clauses.new ≡ with_learnt (contents clauses.old) literals.now) }
     ensures err { OnErr result (contents clauses.new ≡ contents clauses.old) }
     ensures refused { IfErr result (IsGrowthRefusal (is_learnt_full (contents clauses.old))) }
     ensures ids_out { IsTrue (is_learnt_full (contents clauses.old)) → result ≡ Err IdSpace }
 {
-    let id = clauses.learn(literals)?;
-    Ok(Reply::Clause(id, false))
+    let clause = clauses.learn(literals)?;
+    Ok(Added {
+        clause,
+        is_conflict: false,
+    })
 }

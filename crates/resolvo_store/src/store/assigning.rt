@@ -1,52 +1,47 @@
 //! The commands that change the trail: `Assign`, `UndoLast`, `UndoUntil` and `Unpropagated`.
-ghost use Rattle.std.specs.Prelude.{◌≡◌};
+ghost use Rattle.std.specs.Prelude.{◌≡◌, None};
 
 use crate::abstract_store::AbstractStore;
-use crate::reply::Reply;
+use crate::answers::Assignment;
 use crate::store::ClauseStore;
 use decisions::{AddFault, Decision, DecisionTracker};
 use providers::DependencyProvider;
-use typed_ids::{ClauseId, DenseIndex, StoreError, VariableId};
+use typed_ids::{DenseIndex, StoreError};
 
 impl<D: DependencyProvider + Drop> ClauseStore<D> {
-    ghost use Rattle.resolvo_store.specs.Command.{Assign, UndoLast, UndoUntil, Unpropagated, answer_of, reply_of};
+    ghost use Rattle.resolvo_store.specs.Answers.{assignment, replied, undone};
+    ghost use Rattle.resolvo_store.specs.Command.{Assign, UndoLast, UndoUntil, Unpropagated, Next, Undone};
     ghost use Rattle.resolvo_store.specs.Step.{Step};
     ghost use Rattle.resolvo_store.specs.Walks.{taken_back};
 
-    /// Gives a variable a value.
-    pub(super) fn assign(
-        &mut self,
-        variable: VariableId,
-        value: bool,
-        clause: ClauseId,
-        level: u32,
-    ) -> Result<Reply<D::Alloc>, StoreError>
-        ensures step { Step (⟦<D as AbstractStore>⟧.store self.old) (Assign variable value clause level)
-            (answer_of result) (⟦<D as AbstractStore>⟧.store self.new) }
+    /// Gives a variable a value, derived from a clause, at a level.
+    pub fn assign(&mut self, decision: Decision, level: u32) -> Result<Assignment, StoreError>
+        ensures step { Step (⟦<D as AbstractStore>⟧.store self.old)
+            (Assign decision.variable decision.value decision.derived_from level)
+            (replied assignment result) (⟦<D as AbstractStore>⟧.store self.new) }
         ensures provider { self.new.provider ≡ self.old.provider }
         ensures asked { self.new.asked ≡ self.old.asked }
     {
-        if variable.to_index() >= self.variables.count()
-            || clause.to_index() >= self.clauses.len()
+        if decision.variable.to_index() >= self.variables.count()
+            || decision.derived_from.to_index() >= self.clauses.len()
         {
             return Err(StoreError::UnknownId);
         }
         if !DecisionTracker::<D::Alloc>::level_in_range(level) {
             return Err(StoreError::LevelOutOfRange);
         }
-        let decision = Decision::new(variable, value, clause);
         match self.trail.try_add_decision(decision, level) {
-            Ok(true) => Ok(Reply::Assigned),
-            Ok(false) => Ok(Reply::Already),
-            Err(AddFault::Clash) => Ok(Reply::Clash),
+            Ok(true) => Ok(Assignment::New),
+            Ok(false) => Ok(Assignment::Already),
+            Err(AddFault::Clash) => Ok(Assignment::Clash),
             Err(AddFault::Store(e)) => Err(e),
         }
     }
 
-    /// Takes the newest assignment back.
-    pub(super) fn undo_last(&mut self) -> Result<Reply<D::Alloc>, StoreError>
+    /// Takes the newest assignment back, and answers it with the level of the one before it, 0 if there is none.
+    pub fn undo_last(&mut self) -> Result<(Decision, u32), StoreError>
         ensures step { Step (⟦<D as AbstractStore>⟧.store self.old) UndoLast
-            (answer_of result) (⟦<D as AbstractStore>⟧.store self.new) }
+            (replied undone result) (⟦<D as AbstractStore>⟧.store self.new) }
         ensures provider { self.new.provider ≡ self.old.provider }
         ensures asked { self.new.asked ≡ taken_back (⟦<D as AbstractStore>⟧.store self.new).trail self.old.asked }
     {
@@ -56,29 +51,28 @@ impl<D: DependencyProvider + Drop> ClauseStore<D> {
         self.falsified.uncount_newest(&self.trail);
         let last = self.trail.undo_last();
         self.marks.cut_to(&self.trail);
-        Ok(Reply::Undone(Some(last)))
+        Ok(last)
     }
 
-    /// Takes assignments back.
-    pub(super) fn undo_until(&mut self, level: u32) -> Reply<D::Alloc>
+    /// Takes back the assignments at the end of the trail whose levels are above this one.
+    pub fn undo_until(&mut self, level: u32)
         ensures step { Step (⟦<D as AbstractStore>⟧.store self.old) (UndoUntil level)
-            (reply_of result) (⟦<D as AbstractStore>⟧.store self.new) }
+            (Undone None) (⟦<D as AbstractStore>⟧.store self.new) }
         ensures provider { self.new.provider ≡ self.old.provider }
         ensures asked { self.new.asked ≡ taken_back (⟦<D as AbstractStore>⟧.store self.new).trail self.old.asked }
     {
         self.falsified.uncount_above(&self.trail, level);
         self.trail.undo_until(level);
         self.marks.cut_to(&self.trail);
-        Reply::Undone(None)
     }
 
-    /// Hands out the next assignment to propagate.
-    pub(super) fn unpropagated(&mut self) -> Reply<D::Alloc>
+    /// Hands out the next assignment to propagate: the oldest one that wasn't handed out yet.
+    pub fn next_unpropagated(&mut self) -> Option<Decision>
         ensures step { Step (⟦<D as AbstractStore>⟧.store self.old) Unpropagated
-            (reply_of result) (⟦<D as AbstractStore>⟧.store self.new) }
+            (Next result) (⟦<D as AbstractStore>⟧.store self.new) }
         ensures provider { self.new.provider ≡ self.old.provider }
         ensures asked { self.new.asked ≡ self.old.asked }
     {
-        Reply::Next(self.trail.next_unpropagated())
+        self.trail.next_unpropagated()
     }
 }

@@ -1,37 +1,42 @@
 //! The decision: the command `Decide`, and its two halves as calls of their own.
-ghost use Rattle.std.specs.Prelude.{◌≡◌, ◌↔◌, None, All, false, option_map, IfOk, IfErr, OnOk};
+ghost use Rattle.std.specs.Prelude.{◌≡◌, ◌↔◌, None, Ok, All, false, option_map, IfOk, IfErr, OnOk};
 ghost use Rattle.typed_ids.specs.declared.error.StoreError.TheVariants.{OutOfMemory};
 ghost use Rattle.resolvo_queue.specs.Pick.{decided, DecidesUnbeaten};
 ghost use Rattle.resolvo_queue.specs.Scan.{scan};
 ghost use Rattle.resolvo_store.specs.Counted.{clause_at};
+ghost use Rattle.resolvo_store.specs.declared.answers.Next.TheVariants.{Done};
 
 use crate::abstract_store::AbstractStore;
-use crate::reply::Reply;
+use crate::answers::Next;
 use crate::store::ClauseStore;
+use crate::store::counting::first_falsified;
 use providers::DependencyProvider;
 use resolvo_queue::{DecideQueue, QueueDecision, RowReader};
 use typed_ids::{ClauseId, StoreError};
 
 impl<D: DependencyProvider + Drop> ClauseStore<D> {
-    ghost use Rattle.resolvo_store.specs.Command.{Decide, answer_of};
+    ghost use Rattle.resolvo_store.specs.Command.{Decide};
+    ghost use Rattle.resolvo_store.specs.Answers.{next, replied};
     ghost use Rattle.resolvo_store.specs.Outcome.{falsified_clause, is_eligible_clause, offers, picked};
     ghost use Rattle.resolvo_store.specs.Step.{Step};
     ghost use Rattle.resolvo_store.specs.Walks.{Asks, AsksOnce, IsTold};
 
-    /// The first falsified clause, else the decision, else that there is none.
-    pub(super) fn decide(&mut self) -> Result<Reply<D::Alloc>, StoreError>
+    /// What a search does next: the first falsified clause, else the decision that the scan picks, else that it is done.
+    pub fn decide(&mut self) -> Result<Next, StoreError>
         ensures step { Step (⟦<D as AbstractStore>⟧.store self.old) Decide
-            (answer_of result) (⟦<D as AbstractStore>⟧.store self.new) }
+            (replied next result) (⟦<D as AbstractStore>⟧.store self.new) }
+        ensures done { result ≡ Ok Done → All (λ c. is_eligible_clause (⟦<D as AbstractStore>⟧.store self.old) c ≡ false)
+            (scan (⟦<D as AbstractStore>⟧.store self.old).requires) }
         ensures provider { self.new.provider ≡ self.old.provider }
         ensures asked { let old = ⟦<D as AbstractStore>⟧.store self.old in
-            Asks old Decide (answer_of result) old.trail self.old.asked self.new.asked }
+            Asks old Decide (replied next result) old.trail self.old.asked self.new.asked }
     {
-        if let Some(clause) = self.first_falsified() {
-            return Ok(Reply::Falsified(clause));
+        if let Some(clause) = self.first_falsified()? {
+            return Ok(Next::Falsified(clause));
         }
         match self.next_decision() {
-            Ok(Some(decision)) => Ok(Reply::Decided(decision)),
-            Ok(None) => Ok(Reply::NoDecision),
+            Ok(Some(decision)) => Ok(Next::Decided(decision)),
+            Ok(None) => Ok(Next::Done),
             Err(e) => Err(e),
         }
     }
@@ -49,16 +54,31 @@ impl<D: DependencyProvider + Drop> ClauseStore<D> {
         )
     }
 
-    /// What [`ClauseStore::falsified`] answers, by the counters, which catch up with the trail. Takes no memory.
-    fn first_falsified(&mut self) -> Option<ClauseId>
-        ensures found { result ≡ option_map (λ c. c.clause_id)
-            (falsified_clause (⟦<D as AbstractStore>⟧.store self.old)) }
+    /// What [`ClauseStore::falsified`] answers, by the counters, which catch up with the clauses and the trail. Where
+    /// memory for that is refused, the plain scan tells; and where that finds none, this is refused.
+    fn first_falsified(&mut self) -> Result<Option<ClauseId>, StoreError>
+        ensures found { IfOk result (λ clause. clause ≡ option_map (λ c. c.clause_id)
+            (falsified_clause (⟦<D as AbstractStore>⟧.store self.old))) }
+        ensures err { IfErr result (λ e. (e ≡ OutOfMemory)
+            × (falsified_clause (⟦<D as AbstractStore>⟧.store self.old) ≡ None)) }
         ensures same { ⟦<D as AbstractStore>⟧.store self.new ≡ ⟦<D as AbstractStore>⟧.store self.old }
         ensures provider { self.new.provider ≡ self.old.provider }
         ensures asked { self.new.asked ≡ self.old.asked }
     {
-        let first = self.falsified.first(&self.trail);
-        id_at(&self.queue, first)
+        let (lists, disjunctions) = (&self.loaded, &self.disjunctions);
+        match first_falsified(
+            &mut self.falsified,
+            &self.queue,
+            lists,
+            disjunctions,
+            &self.trail,
+        ) {
+            Ok(number) => Ok(id_at(&self.queue, number)),
+            Err(e) => match self.falsified() {
+                Some(clause) => Ok(Some(clause)),
+                None => Err(e),
+            },
+        }
     }
 
     /// The decision that the scan picks, where nothing is falsified: [`ClauseStore::falsified`] is the test. It brings
@@ -103,7 +123,10 @@ fn id_at<D: DependencyProvider>(queue: &DecideQueue<D>, number: Option<u32>) -> 
     ensures { result ≡ option_map (λ c. c.clause_id) (clause_at queue.now.clauses number) }
 {
     match number {
-        Some(number) => queue.clause_id(number),
+        Some(number) => match queue.clause(number as usize) {
+            Some(clause) => Some(clause.clause_id),
+            None => None,
+        },
         None => None,
     }
 }

@@ -8,14 +8,12 @@ ghost use Rattle.typed_ids.specs.Refusals.{IsGrowthRefusal};
 ghost use Rattle.typed_ids.specs.declared.error.StoreError.TheVariants.{IdSpace, OutOfMemory};
 ghost use Rattle.variables.specs.Variables.{are_variables_out};
 ghost use Rattle.resolvo_store.specs.Helpers.{is_helper_known};
-ghost use Rattle.resolvo_store.specs.Command.{VariableIs, reply_of};
 ghost use Rattle.resolvo_store.specs.Lists.{lists_kept};
 ghost use Rattle.resolvo_store.specs.Outcome.{helper_origin};
 
 use crate::abstract_store::AbstractStore;
 use crate::helper_origin::{HelperOrigin, alloc_helper};
 use crate::loaded_lists::load_lists;
-use crate::reply::Reply;
 use crate::store::ClauseStore;
 use crate::store::known::knows_requirement;
 use id_maps::SolverId;
@@ -25,48 +23,45 @@ use typed_ids::{StoreError, VariableId};
 use variables::{VariableLists, VariableMap};
 
 impl<D: DependencyProvider + Drop> ClauseStore<D> {
-    ghost use Rattle.resolvo_store.specs.Command.{Variable, Helper, Load, answer_of, LoadedAs, Refused};
+    ghost use Rattle.resolvo_store.specs.Command.{Variable, Helper, Load, LoadedAs, Refused, VariableIs};
+    ghost use Rattle.resolvo_store.specs.Answers.{replied};
     ghost use Rattle.resolvo_store.specs.Store.{lists_of};
     ghost use Rattle.resolvo_store.specs.Step.{Step, IsAnswered, lacks_ids, may_be_refused};
     ghost use Rattle.resolvo_store.specs.Outcome.{origins_loaded, variables_loaded};
 
-    /// The variable of a solvable.
-    pub(super) fn variable(
-        &mut self,
-        solvable: D::SolvableId,
-    ) -> Result<Reply<D::Alloc>, StoreError>
+    /// The variable of a solvable, which is made where there is none.
+    pub fn variable(&mut self, solvable: D::SolvableId) -> Result<VariableId, StoreError>
         ensures step { Step (⟦<D as AbstractStore>⟧.store self.old) (Variable solvable)
-            (answer_of result) (⟦<D as AbstractStore>⟧.store self.new) }
+            (replied VariableIs result) (⟦<D as AbstractStore>⟧.store self.new) }
         ensures provider { self.new.provider ≡ self.old.provider }
         ensures asked { self.new.asked ≡ self.old.asked }
     {
         if !self.cache.provider().knows_solvable(solvable) {
             return Err(StoreError::UnknownId);
         }
-        let variable = self.variables.intern_solvable(solvable)?;
-        Ok(Reply::Variable(variable))
+        self.variables.intern_solvable(solvable)
     }
 
     /// A new variable that stands for this.
-    pub(super) fn helper(
-        &mut self,
-        origin: HelperOrigin<D::NameId>,
-    ) -> Result<Reply<D::Alloc>, StoreError>
+    pub fn helper(&mut self, origin: HelperOrigin<D::NameId>) -> Result<VariableId, StoreError>
         ensures step { Step (⟦<D as AbstractStore>⟧.store self.old) (Helper origin)
-            (answer_of result) (⟦<D as AbstractStore>⟧.store self.new) }
+            (replied VariableIs result) (⟦<D as AbstractStore>⟧.store self.new) }
         ensures provider { self.new.provider ≡ self.old.provider }
         ensures asked { self.new.asked ≡ self.old.asked }
     {
         if !knows_helper(self.cache.provider(), origin) {
             return Err(StoreError::UnknownId);
         }
-        add_helper(&mut self.variables, origin)
+        alloc_helper(&mut self.variables, origin)
     }
 
-    /// The candidates' variables of a requirement, loaded where they aren't yet.
-    pub(super) fn load(&mut self, requirement: Requirement) -> Result<Reply<D::Alloc>, StoreError>
+    /// What a `Load` replies: the requirement is loaded where it isn't yet, and its lists are copied.
+    pub(super) fn load_copied(
+        &mut self,
+        requirement: Requirement,
+    ) -> Result<VariableLists<D::Alloc>, StoreError>
         ensures step { Step (⟦<D as AbstractStore>⟧.store self.old) (Load requirement)
-            (answer_of result) (⟦<D as AbstractStore>⟧.store self.new) }
+            (replied (λ lists. LoadedAs (map (λ l. l.items) lists.items)) result) (⟦<D as AbstractStore>⟧.store self.new) }
         ensures provider { self.new.provider ≡ self.old.provider }
         ensures asked { self.new.asked ≡ self.old.asked }
     {
@@ -77,12 +72,12 @@ impl<D: DependencyProvider + Drop> ClauseStore<D> {
             Some(lists) => lists.clone()?,
             None => self.load_new(requirement, true)?,
         };
-        Ok(Reply::Loaded(lists))
+        Ok(lists)
     }
 
     /// The candidates' variables of a requirement that is loaded, which is what a `Load` of it answers again: lent, and
     /// not copied. None of one that isn't loaded, or that the provider doesn't know. Takes constant time.
-    pub fn loaded(&self, requirement: Requirement) -> Option<&[Vec<VariableId, D::Alloc>]>
+    pub fn lists(&self, requirement: Requirement) -> Option<&[Vec<VariableId, D::Alloc>]>
         ensures lists { IfSome result (λ lists. lists_of (⟦<D as AbstractStore>⟧.store self.now) requirement ≡
             Some (map (λ l. l.items) lists.now)) }
         ensures again { IfSome result (λ lists. Step (⟦<D as AbstractStore>⟧.store self.now) (Load requirement)
@@ -99,9 +94,9 @@ impl<D: DependencyProvider + Drop> ClauseStore<D> {
         }
     }
 
-    /// Loads a requirement that isn't loaded yet, as a `Load` does, and copies no lists: [`ClauseStore::loaded`] lends
+    /// Loads a requirement that isn't loaded yet, as a `Load` does, and copies no lists: [`ClauseStore::lists`] lends
     /// them then. One that is loaded takes constant time.
-    pub fn keep_loaded(&mut self, requirement: Requirement) -> Result<(), StoreError>
+    pub fn load(&mut self, requirement: Requirement) -> Result<(), StoreError>
         ensures kept { OnOk result (MatchOption (lists_of (⟦<D as AbstractStore>⟧.store self.new) requirement) ⊥
             (λ lists. Step (⟦<D as AbstractStore>⟧.store self.old) (Load requirement) (LoadedAs lists)
             (⟦<D as AbstractStore>⟧.store self.new))) }
@@ -206,21 +201,6 @@ fn knows_helper<D: DependencyProvider>(provider: &D, origin: HelperOrigin<D::Nam
         HelperOrigin::ConstrainsViolation(set) => provider.knows_version_set(set),
         HelperOrigin::RequiresGate(requirement) => knows_requirement(provider, requirement),
     }
-}
-
-/// Makes a new variable that stands for this, and answers it.
-fn add_helper<N: Copy, S: SolverId<A>, A: Allocator + Copy>(
-    variables: &mut VariableMap<N, S, A>,
-    origin: HelperOrigin<N>,
-) -> Result<Reply<A>, StoreError>
-    ensures reply { IfOk result (λ reply. reply_of reply ≡ VariableIs (length variables.old)) }
-    ensures ok { OnOk result (variables.new ≡ variables.old ++ helper_origin origin ∷ []) }
-    ensures err { OnErr result (variables.new ≡ variables.old) }
-    ensures refused { IfErr result (IsGrowthRefusal (are_variables_out (length variables.old))) }
-    ensures ids_out { IsTrue (are_variables_out (length variables.old)) → result ≡ Err IdSpace }
-{
-    let variable = alloc_helper(variables, origin)?;
-    Ok(Reply::Variable(variable))
 }
 
 /// The lists of a requirement, if it was loaded.

@@ -29,20 +29,6 @@ impl<D: DependencyProvider + Drop> ClauseStore<D> {
         Some(self.variables.origin(variable))
     }
 
-    /// The clauses that watch the literal, front first; none of an unknown variable. Takes memory for them.
-    pub fn watchers(&self, literal: Literal) -> Result<Vec<ClauseId, D::Alloc>, StoreError>
-        ensures ok { IfOk result (λ found. found.items ≡
-            (if knows_literal (⟦<D as AbstractStore>⟧.store self.now) literal
-            then (⟦<D as AbstractStore>⟧.store self.now).watchers literal else [])) }
-        ensures exact { (let st = ⟦<D as AbstractStore>⟧.store self.now in IsExact (watched_by st) st.watchers) }
-        ensures memory { IfErr result (λ e. e ≡ OutOfMemory) }
-    {
-        if !knows_variable(&self.variables, literal.variable()) {
-            return Ok(Vec::new(self.alloc));
-        }
-        self.clauses.watchers(literal)
-    }
-
     /// The literals of a clause, in order; none of an unknown one. Takes memory for them.
     pub fn literals(&self, clause: ClauseId) -> Result<Option<Vec<Literal, D::Alloc>>, StoreError>
         ensures ok { IfOk result (λ found. option_map (λ literals. literals.items) found ≡

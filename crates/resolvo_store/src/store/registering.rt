@@ -1,6 +1,6 @@
 //! The commands that keep conditions' literals and add requires clauses.
 ghost use Rattle.std.specs.Prelude.{◌≡◌, ◌⊎◌, ◌-◌, ◌^◌, ◌∷◌, ◌++◌, List, [], length, true, false};
-ghost use Rattle.std.specs.Prelude.{nat_le, nat_lt, ◌&&◌, is_some, unwrap_or, map, ◌<◌, IsSome};
+ghost use Rattle.std.specs.Prelude.{nat_le, nat_lt, ◌&&◌, map, ◌<◌, IsSome};
 ghost use Rattle.std.specs.Prelude.{IfSome, All, Err, IsTrue, IfOk, OnOk, OnErr, IfErr};
 ghost use Rattle.decisions.specs.Literals.{Neg};
 ghost use Rattle.decisions.specs.Trail.{val};
@@ -16,19 +16,17 @@ ghost use Rattle.clauses.specs.Clauses.{Kept, first_watches, is_conflict, condit
 ghost use Rattle.clauses.specs.Stored.{kept_in};
 ghost use Rattle.clauses.specs.declared.clause.Clause.TheVariants as Kind;
 ghost use Rattle.watch_map.specs.Watching.{AreTwoOrNone, is_literal_in};
-ghost use Rattle.falsified_clauses.specs.Clauses.{counted};
 ghost use Rattle.resolvo_queue.specs.Queue.{IsRegistered, IsUnchanged, StandsOn};
 ghost use Rattle.resolvo_queue.specs.References.{references};
 ghost use Rattle.resolvo_queue.specs.WalkCounts.{owed, walks};
 ghost use Rattle.watch_map.specs.ClauseList.{contents, literals_watched, two_or_none, is_full, with_clause};
-ghost use Rattle.resolvo_store.specs.Command.{DisjunctionIs, ClauseIs, reply_of};
-ghost use Rattle.resolvo_store.specs.Counted.{Follows, no_false, placed};
+ghost use Rattle.resolvo_store.specs.Answers.{added};
+ghost use Rattle.resolvo_store.specs.Command.{ClauseIs};
 ghost use Rattle.resolvo_store.specs.Lists.{lists_kept, disjunctions_kept, IsOneMore};
 
 use crate::abstract_store::AbstractStore;
-use crate::reply::Reply;
+use crate::answers::Added;
 use crate::store::ClauseStore;
-use crate::store::counting::TrailCounters;
 use crate::store::known::{knows_parts, knows_requirement, knows_variable};
 use crate::store::loading::lists;
 use clauses::{Clause, Disjunction};
@@ -45,18 +43,20 @@ use variables::{VariableLists, VariableMap};
 use watch_map::{ClauseList, WatchedLiterals};
 
 impl<D: DependencyProvider + Drop> ClauseStore<D> {
-    ghost use Rattle.resolvo_store.specs.Command.{Disjunction as KeepDisjunction, Requires, answer_of};
+    ghost use Rattle.resolvo_store.specs.Command.{Disjunction as KeepDisjunction, DisjunctionIs, Requires};
+    ghost use Rattle.resolvo_store.specs.Answers.{added, replied};
     ghost use Rattle.resolvo_store.specs.Step.{Step};
     ghost use Rattle.resolvo_store.specs.Walks.{OwesFirst};
 
-    /// Keeps the literals of a condition.
-    pub(super) fn disjunction(
+    /// Keeps literals, all of which are false where this condition, or the part of it that they come of, holds. No
+    /// literal is needed.
+    pub fn disjunction(
         &mut self,
         literals: &[Literal],
         condition: ConditionId,
-    ) -> Result<Reply<D::Alloc>, StoreError>
+    ) -> Result<DisjunctionId, StoreError>
         ensures step { Step (⟦<D as AbstractStore>⟧.store self.old) (KeepDisjunction literals.now condition)
-            (answer_of result) (⟦<D as AbstractStore>⟧.store self.new) }
+            (replied DisjunctionIs result) (⟦<D as AbstractStore>⟧.store self.new) }
         ensures provider { self.new.provider ≡ self.old.provider }
         ensures asked { self.new.asked ≡ self.old.asked }
     {
@@ -71,74 +71,51 @@ impl<D: DependencyProvider + Drop> ClauseStore<D> {
         keep_disjunction(self.alloc, &mut self.disjunctions, literals, condition)
     }
 
-    /// Adds a requires clause, and registers it.
-    pub(super) fn requires_clause(
+    /// Adds the clause that the parent, if true, requires one of the requirement's candidates, under the condition that
+    /// all literals of the disjunction are false; and registers it for decisions.
+    pub fn requires_clause(
         &mut self,
         parent: VariableId,
         requirement: Requirement,
-        disjunction: Option<DisjunctionId>,
-    ) -> Result<Reply<D::Alloc>, StoreError>
-        ensures step { Step (⟦<D as AbstractStore>⟧.store self.old) (Requires parent requirement disjunction)
-            (answer_of result) (⟦<D as AbstractStore>⟧.store self.new) }
+        condition: Option<DisjunctionId>,
+    ) -> Result<Added, StoreError>
+        ensures step { Step (⟦<D as AbstractStore>⟧.store self.old) (Requires parent requirement condition)
+            (replied added result) (⟦<D as AbstractStore>⟧.store self.new) }
         ensures provider { self.new.provider ≡ self.old.provider }
         ensures asked { OwesFirst requirement self.old.asked self.new.asked }
     {
-        let provider = self.cache.provider();
-        if !knows_required(
-            provider,
-            &self.variables,
-            &self.disjunctions,
+        let demand = Demand {
             parent,
             requirement,
-            &disjunction,
-        ) {
+            condition,
+        };
+        let provider = self.cache.provider();
+        if !knows_required(provider, &self.variables, &self.disjunctions, &demand) {
             return Err(StoreError::UnknownId);
         }
-        if !is_loaded(&self.loaded, requirement) {
+        let Some(lists) = lists(&self.loaded, requirement) else {
             return Err(StoreError::NotLoaded);
-        }
-        if negates_parent(&self.disjunctions, parent, &disjunction) {
+        };
+        let literals = literals_of(&self.disjunctions, demand.condition);
+        if negates(literals, parent) {
             return Err(StoreError::NegatesParent);
         }
         if self.queue.is_full() {
             return Err(StoreError::TooManyClauses);
         }
-        let trail = &self.trail;
-        let (watches, conflict, clause) = clause_of(
-            &self.loaded,
-            &self.disjunctions,
-            trail,
-            parent,
-            requirement,
-            &disjunction,
-        );
-        let required = Required {
-            parent,
-            requirement,
-            condition: disjunction,
-            parent_value: trail.assigned_value(parent),
-            clause,
-            watches,
-            conflict,
-        };
+        let required = required_by(&demand, lists.as_slice(), literals, &self.trail);
         let context = Context {
             alloc: self.alloc,
             provider,
             loaded: &self.loaded,
             disjunctions: &self.disjunctions,
-            trail,
+            trail: &self.trail,
         };
         let first = self.clauses.len();
-        let reply = register(
-            &mut self.clauses,
-            &mut self.queue,
-            &mut self.falsified,
-            &context,
-            required,
-        );
+        let answer = register(&mut self.clauses, &mut self.queue, &context, required);
         self.clauses
             .forget_false_from(first, &mut self.marks, &self.trail);
-        reply
+        answer
     }
 }
 
@@ -147,91 +124,79 @@ fn knows_required<D: DependencyProvider>(
     provider: &D,
     variables: &VariableMap<D::NameId, D::SolvableId, D::Alloc>,
     disjunctions: &Arena<DisjunctionId, Disjunction<D::Alloc>, D::Alloc>,
-    parent: VariableId,
-    requirement: Requirement,
-    disjunction: &Option<DisjunctionId>,
+    demand: &Demand,
 ) -> bool
-    ensures { result ≡ (nat_lt parent (length variables.now) && (knows_requirement (D.universe provider.now) requirement
-        && option_map_or (λ d. nat_lt d (length disjunctions.now)) disjunction.now true)) }
+    ensures { result ≡ (nat_lt demand.now.parent (length variables.now) &&
+        (knows_requirement (D.universe provider.now) demand.now.requirement
+        && option_map_or (λ d. nat_lt d (length disjunctions.now)) demand.now.condition true)) }
 {
-    knows_variable(variables, parent)
-        && (knows_requirement(provider, requirement)
-            && knows_disjunction(disjunctions.len(), disjunction))
+    knows_variable(variables, demand.parent)
+        && (knows_requirement(provider, demand.requirement)
+            && knows_disjunction(disjunctions.len(), demand.condition))
 }
 
 /// Whether the disjunction, if there is one, is among the first so many.
-fn knows_disjunction(disjunctions: usize, disjunction: &Option<DisjunctionId>) -> bool
-    ensures { result ≡ option_map_or (λ d. nat_lt d disjunctions) disjunction.now true }
+fn knows_disjunction(disjunctions: usize, disjunction: Option<DisjunctionId>) -> bool
+    ensures { result ≡ option_map_or (λ d. nat_lt d disjunctions) disjunction true }
 {
-    match *disjunction {
+    match disjunction {
         Some(id) => id.to_index() < disjunctions,
         None => true,
     }
 }
 
-/// Whether the parent's negative literal is among those of the condition.
-fn negates_parent<A: Allocator + Copy>(
-    disjunctions: &Arena<DisjunctionId, Disjunction<A>, A>,
+/// A requires clause that is to be added and registered.
+#[derive(Drop)]
+struct Required<N> {
     parent: VariableId,
-    disjunction: &Option<DisjunctionId>,
-) -> bool
-    ensures { result ≡ is_literal_in (Neg parent)
-        (condition_literals (kept_in [] [] disjunctions.now) disjunction.now) }
-{
-    has_literal(
-        literals_of(disjunctions, disjunction),
-        Literal::new(parent, true),
-    )
-}
-
-/// Whether the requirement is loaded.
-fn is_loaded<A: Allocator + Copy>(
-    loaded: &RequirementMap<VariableLists<A>, A>,
     requirement: Requirement,
-) -> bool
-    ensures { result ≡ is_some (lookup (same_requirement requirement) (lists_kept loaded.now)) }
-{
-    lists(loaded, requirement).is_some()
+    condition: Option<DisjunctionId>,
+    clause: Clause<N>,
+    watches: Option<WatchedLiterals>,
+    is_conflict: bool,
 }
 
-/// The candidates' variables of a requirement, no list if it isn't loaded.
-fn candidates<A: Allocator + Copy>(
-    loaded: &RequirementMap<VariableLists<A>, A>,
-    requirement: Requirement,
-) -> &[Vec<VariableId, A>]
-    ensures { map (λ l. l.items) result.now ≡
-        unwrap_or (lookup (same_requirement requirement) (lists_kept loaded.now)) [] }
-{
-    match lists(loaded, requirement) {
-        Some(lists) => lists.as_slice(),
-        None => &[],
-    }
-}
-
-/// A requires clause, with what it watches at first and whether it is a conflict, for whoever keeps these lists and
-/// disjunctions.
-fn clause_of<N, A: Allocator + Copy>(
-    loaded: &RequirementMap<VariableLists<A>, A>,
-    disjunctions: &Arena<DisjunctionId, Disjunction<A>, A>,
+/// The clause of a demand, with what it watches at first and whether it is a conflict, for whoever keeps these lists of
+/// its requirement and these literals of its condition.
+fn required_by<N, A: Allocator + Copy>(
+    demand: &Demand,
+    lists: &[Vec<VariableId, A>],
+    literals: &[Literal],
     trail: &DecisionTracker<A>,
-    parent: VariableId,
-    requirement: Requirement,
-    disjunction: &Option<DisjunctionId>,
-) -> (Option<WatchedLiterals>, bool, Clause<N>)
-    ensures clause { result.2 ≡ Kind.Requires parent disjunction.now requirement }
-    ensures kept { (k : Kept) → condition_literals k disjunction.now ≡
-        condition_literals (kept_in [] [] disjunctions.now) disjunction.now →
-        k.lists requirement ≡ unwrap_or (lookup (same_requirement requirement) (lists_kept loaded.now)) [] →
-        (literals_watched result.0 ≡ first_watches k (val trail.now.entries) result.2) ×
-        (result.1 ≡ is_conflict k (val trail.now.entries) result.2) }
+) -> Required<N>
+    ensures parent { result.parent ≡ demand.now.parent }
+    ensures requirement { result.requirement ≡ demand.now.requirement }
+    ensures condition { result.condition ≡ demand.now.condition }
+    ensures clause { result.clause ≡ Kind.Requires demand.now.parent demand.now.condition demand.now.requirement }
+    ensures kept { (k : Kept) → condition_literals k demand.now.condition ≡ literals.now →
+        k.lists demand.now.requirement ≡ map (λ l. l.items) lists.now →
+        (literals_watched result.watches ≡ first_watches k (val trail.now.entries) result.clause) ×
+        (result.is_conflict ≡ is_conflict k (val trail.now.entries) result.clause) }
 {
-    let lists = candidates(loaded, requirement);
-    let literals = literals_of(disjunctions, disjunction);
-    let condition = match *disjunction {
+    let Demand {
+        parent,
+        requirement,
+        condition,
+    } = *demand;
+    let literals = match condition {
         Some(id) => Some((id, literals)),
         None => None,
     };
-    WatchedLiterals::requires_of_lists(parent, requirement, lists, &condition, trail)
+    let (watches, is_conflict, clause) = WatchedLiterals::requires_of_lists(
+        parent,
+        requirement,
+        lists,
+        &literals,
+        trail,
+    );
+    Required {
+        parent,
+        requirement,
+        condition,
+        clause,
+        watches,
+        is_conflict,
+    }
 }
 
 /// Keeps one disjunction more, and answers its id. Takes memory for a copy of the literals, and where there is no room
@@ -241,9 +206,8 @@ fn keep_disjunction<A: Allocator + Copy>(
     disjunctions: &mut Arena<DisjunctionId, Disjunction<A>, A>,
     literals: &[Literal],
     condition: ConditionId,
-) -> Result<Reply<A>, StoreError>
-    ensures reply { IfOk result (λ reply. reply_of reply ≡
-        DisjunctionIs (length (disjunctions_kept disjunctions.old))) }
+) -> Result<DisjunctionId, StoreError>
+    ensures disjunction { IfOk result (λ d. d ≡ length (disjunctions_kept disjunctions.old)) }
     ensures ok { OnOk result (disjunctions_kept disjunctions.new ≡
         disjunctions_kept disjunctions.old ++ record { literals = literals.now; condition = condition } ∷ []) }
     ensures more { OnOk result (IsOneMore disjunctions.old disjunctions.new) }
@@ -261,19 +225,7 @@ fn keep_disjunction<A: Allocator + Copy>(
         literals,
         condition,
     })?;
-    Ok(Reply::Disjunction(id))
-}
-
-/// A requires clause that is to be added and registered.
-#[derive(Drop)]
-struct Required<N> {
-    parent: VariableId,
-    requirement: Requirement,
-    condition: Option<DisjunctionId>,
-    parent_value: Option<bool>,
-    clause: Clause<N>,
-    watches: Option<WatchedLiterals>,
-    conflict: bool,
+    Ok(id)
 }
 
 /// What a store has that the clause refers to, and its trail.
@@ -286,25 +238,22 @@ struct Context<'s, D: DependencyProvider> {
     trail: &'s DecisionTracker<D::Alloc>,
 }
 
-/// Registers the clause under the next id, counts it, and adds it; the reply says whether it is a conflict. The room
-/// for it is made first.
+/// Registers the clause under the next id, and adds it; the answer says whether it is a conflict. The room for it is
+/// made first.
 fn register<D: DependencyProvider + Drop>(
     clauses: &mut ClauseList<D::NameId, D::Alloc>,
     queue: &mut DecideQueue<D>,
-    falsified: &mut TrailCounters<D::Alloc>,
     context: &Context<'_, D>,
     required: Required<D::NameId>,
-) -> Result<Reply<D::Alloc>, StoreError>
+) -> Result<Added, StoreError>
     requires known { knows_requirement (D.universe context.now.provider.now) required.requirement ≡ true }
     requires loaded { IsSome (lookup (same_requirement required.requirement) context.now.loaded.now) }
     requires kept { IfSome required.condition (λ d. d < length context.now.disjunctions.now) }
-    requires counted { Follows falsified.old context.now.trail.now.entries (counted context.now.loaded.now
-        context.now.disjunctions.now (placed queue.old.clauses) no_false) }
     requires few { nat_le (2 ^ 32 - 1) (length queue.old.clauses) ≡ false }
     requires two { AreTwoOrNone (two_or_none (literals_watched required.watches)) }
-    ensures reply { IfOk result (λ reply. reply_of reply ≡
-        ClauseIs (length (contents clauses.old).clauses) required.conflict) }
-    ensures added { OnOk result (contents clauses.new ≡
+    ensures added { IfOk result (λ a. added a ≡
+        ClauseIs (length (contents clauses.old).clauses) required.is_conflict) }
+    ensures listed { OnOk result (contents clauses.new ≡
         with_clause (contents clauses.old) required.clause (literals_watched required.watches)) }
     ensures registered { OnOk result (IsRegistered D.NameId.Set.has
         (record {
@@ -323,20 +272,11 @@ fn register<D: DependencyProvider + Drop>(
         ⊎ ((r ≡ required.requirement) × (owed queue.old r ≡ 0) × (owed queue.new r ≡ 1)) }
     ensures stands { let refs = references (D.universe context.now.provider.now) context.now.loaded.now
         context.now.disjunctions.now in StandsOn refs queue.old → StandsOn refs queue.new }
-    ensures counted { Follows falsified.new context.now.trail.now.entries (counted context.now.loaded.now
-        context.now.disjunctions.now (placed queue.new.clauses) no_false) }
     ensures refused { IfErr result (IsGrowthRefusal (is_full (contents clauses.old))) }
     ensures ids_out { IsTrue (is_full (contents clauses.old)) → result ≡ Err IdSpace }
 {
     clauses.make_room(&required.watches)?;
     let names = package_names(context.alloc, context.provider, required.requirement)?;
-    let demand = Demand {
-        parent: required.parent,
-        requirement: required.requirement,
-        condition: required.condition,
-    };
-    let groups = falsified.prepare(demand, context.loaded, context.disjunctions, context.trail)?;
-    let next = queue.next_position(required.parent);
     queue.register_clause(
         required.parent,
         required.requirement,
@@ -344,11 +284,13 @@ fn register<D: DependencyProvider + Drop>(
         ClauseId::from_index(clauses.len()),
         names.as_slice(),
         context.disjunctions,
-        required.parent_value,
+        context.trail.assigned_value(required.parent),
     )?;
-    falsified.add(groups, next.first_of_parent);
-    let id = clauses.push_reserved(required.clause, required.watches);
-    Ok(Reply::Clause(id, required.conflict))
+    let clause = clauses.push_reserved(required.clause, required.watches);
+    Ok(Added {
+        clause,
+        is_conflict: required.is_conflict,
+    })
 }
 
 /// The packages of a requirement's version sets, in order.
@@ -389,14 +331,21 @@ fn names_of_sets<D: DependencyProvider>(
 /// The literals of a disjunction, none without one.
 fn literals_of<'d, A: Allocator + Copy>(
     disjunctions: &'d Arena<DisjunctionId, Disjunction<A>, A>,
-    disjunction: &Option<DisjunctionId>,
+    condition: Option<DisjunctionId>,
 ) -> &'d [Literal]
-    ensures { result.now ≡ condition_literals (kept_in [] [] disjunctions.now) disjunction.now }
+    ensures { result.now ≡ condition_literals (kept_in [] [] disjunctions.now) condition }
 {
-    match *disjunction {
+    match condition {
         Some(id) if id.to_index() < disjunctions.len() => disjunctions[id].literals.as_slice(),
         _ => &[],
     }
+}
+
+/// Whether a variable's negative literal is one of these.
+fn negates(literals: &[Literal], variable: VariableId) -> bool
+    ensures { result ≡ is_literal_in (Neg variable) literals.now }
+{
+    has_literal(literals, Literal::new(variable, true))
 }
 
 /// Whether the literal is one of these.

@@ -7,10 +7,8 @@ ghost use Rattle.id_maps.specs.Scores.{bumped};
 ghost use Rattle.resolvo_queue.specs.Queue.{SameClauses, SameSync, StandsOn};
 ghost use Rattle.resolvo_queue.specs.References.{References};
 ghost use Rattle.resolvo_queue.specs.WalkCounts.{owed, walks};
-ghost use Rattle.resolvo_store.specs.Command.{Done, reply_of};
 
 use crate::abstract_store::AbstractStore;
-use crate::reply::Reply;
 use crate::store::ClauseStore;
 use id_maps::{IdMap, IdSet, Scores, SolverId};
 use providers::{DependencyProvider, Interner};
@@ -18,19 +16,16 @@ use resolvo_queue::DecideQueue;
 use typed_ids::StoreError;
 
 impl<D: DependencyProvider + Drop> ClauseStore<D> {
-    ghost use Rattle.resolvo_store.specs.Command.{Bump, Decay, Standard, answer_of, reply_of};
+    ghost use Rattle.resolvo_store.specs.Command.{Bump, Decay, Done, Standard};
+    ghost use Rattle.resolvo_store.specs.Answers.{done, replied};
     ghost use Rattle.resolvo_store.specs.Refusals.{is_bad_fraction};
     ghost use Rattle.resolvo_store.specs.Step.{Step};
     ghost use Rattle.resolvo_store.specs.Walks.{WalksNothing};
 
-    /// Raises the score of a name.
-    pub(super) fn bump(
-        &mut self,
-        name: D::NameId,
-        amount: u64,
-    ) -> Result<Reply<D::Alloc>, StoreError>
+    /// Adds to a package's score, which stays at 2^64 - 1 at most.
+    pub fn bump(&mut self, name: D::NameId, amount: u64) -> Result<(), StoreError>
         ensures step { Step (⟦<D as AbstractStore>⟧.store self.old) (Bump name amount)
-            (answer_of result) (⟦<D as AbstractStore>⟧.store self.new) }
+            (replied done result) (⟦<D as AbstractStore>⟧.store self.new) }
         ensures provider { self.new.provider ≡ self.old.provider }
         ensures asked { WalksNothing self.old.asked self.new.asked }
     {
@@ -40,14 +35,10 @@ impl<D: DependencyProvider + Drop> ClauseStore<D> {
         raise(&mut self.scores, &mut self.queue, name, amount)
     }
 
-    /// Takes all scores times a fraction.
-    pub(super) fn decay(
-        &mut self,
-        numerator: u64,
-        denominator: u64,
-    ) -> Result<Reply<D::Alloc>, StoreError>
+    /// Multiplies each score by the first number, divides it by the second one, and rounds down.
+    pub fn decay(&mut self, numerator: u64, denominator: u64) -> Result<(), StoreError>
         ensures step { Step (⟦<D as AbstractStore>⟧.store self.old) (Decay numerator denominator)
-            (answer_of result) (⟦<D as AbstractStore>⟧.store self.new) }
+            (replied done result) (⟦<D as AbstractStore>⟧.store self.new) }
         ensures provider { self.new.provider ≡ self.old.provider }
         ensures asked { self.new.asked ≡ self.old.asked }
     {
@@ -55,18 +46,18 @@ impl<D: DependencyProvider + Drop> ClauseStore<D> {
             return Err(StoreError::BadFraction);
         }
         self.scores.decay(numerator, denominator);
-        Ok(Reply::Done)
+        Ok(())
     }
 
-    /// Tells the queue whether scores are raised and lowered by the standard parameters.
-    pub(super) fn standard(&mut self, standard: bool) -> Reply<D::Alloc>
+    /// Tells whether a decision may count on it that scores never fall below 0. Both settings answer alike; the first,
+    /// `true`, is the faster one.
+    pub fn set_standard(&mut self, standard: bool)
         ensures step { Step (⟦<D as AbstractStore>⟧.store self.old) (Standard standard)
-            (reply_of result) (⟦<D as AbstractStore>⟧.store self.new) }
+            Done (⟦<D as AbstractStore>⟧.store self.new) }
         ensures provider { self.new.provider ≡ self.old.provider }
         ensures asked { WalksNothing self.old.asked self.new.asked }
     {
         self.queue.set_standard_activity_params(standard);
-        Reply::Done
     }
 }
 
@@ -77,8 +68,7 @@ fn raise<D: DependencyProvider>(
     queue: &mut DecideQueue<D>,
     name: D::NameId,
     amount: u64,
-) -> Result<Reply<D::Alloc>, StoreError>
-    ensures reply { IfOk result (λ reply. reply_of reply ≡ Done) }
+) -> Result<(), StoreError>
     ensures bumped { OnOk result (D.NameId.Scores.value_at scores.new.map
         ≡ bumped D.NameId.eq name amount (D.NameId.Scores.value_at scores.old.map)) }
     ensures hot { OnOk result (IsUpdate (D.NameId.Set.has queue.old.hot) name true (D.NameId.Set.has queue.new.hot)) }
@@ -97,5 +87,5 @@ fn raise<D: DependencyProvider>(
     scores.make_room(name)?;
     queue.mark_name_hot(name)?;
     scores.bump(name, amount);
-    Ok(Reply::Done)
+    Ok(())
 }

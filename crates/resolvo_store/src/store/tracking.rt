@@ -7,11 +7,10 @@ ghost use Rattle.variables.specs.Variables.{are_variables_out};
 ghost use Rattle.at_most_once.specs.AtMostOne.{is_tracked, new_clauses};
 ghost use Rattle.at_most_once.specs.NameTrackers.{tracker_of, with_tracked, lacks_tracker};
 ghost use Rattle.watch_map.specs.ClauseList.{contents, with_forbidden, are_ids_out_for};
-ghost use Rattle.resolvo_store.specs.Command.{TrackedAs, reply_of};
 ghost use Rattle.resolvo_store.specs.Tracking.{next_helper, origins_with, lacks_more, is_helper_among};
 
 use crate::abstract_store::AbstractStore;
-use crate::reply::Reply;
+use crate::answers::Tracked;
 use crate::store::ClauseStore;
 use crate::store::known::knows_variable;
 use at_most_once::NameTrackers;
@@ -23,18 +22,19 @@ use variables::{VariableMap, VariableOrigin};
 use watch_map::ClauseList;
 
 impl<D: DependencyProvider + Drop> ClauseStore<D> {
-    ghost use Rattle.resolvo_store.specs.Command.{AtMostOnce, answer_of};
+    ghost use Rattle.resolvo_store.specs.Command.{AtMostOnce};
+    ghost use Rattle.resolvo_store.specs.Answers.{replied, tracked};
     ghost use Rattle.resolvo_store.specs.Step.{Step};
 
     /// Tracks a variable under a name. The clauses are made first, then room for them and for the variable, so that
     /// nothing has changed where this is refused; the helper, if one is needed, is made last.
-    pub(super) fn at_most_once(
+    pub fn at_most_once(
         &mut self,
         name: D::NameId,
         variable: VariableId,
-    ) -> Result<Reply<D::Alloc>, StoreError>
+    ) -> Result<Tracked, StoreError>
         ensures step { Step (⟦<D as AbstractStore>⟧.store self.old) (AtMostOnce name variable)
-            (answer_of result) (⟦<D as AbstractStore>⟧.store self.new) }
+            (replied tracked result) (⟦<D as AbstractStore>⟧.store self.new) }
         ensures provider { self.new.provider ≡ self.old.provider }
         ensures asked { self.new.asked ≡ self.old.asked }
     {
@@ -42,10 +42,13 @@ impl<D: DependencyProvider + Drop> ClauseStore<D> {
             return Err(StoreError::UnknownId);
         }
         if self.trackers.is_tracked(name, variable) {
-            return Ok(Reply::Tracked(false, 0));
+            return Ok(Tracked {
+                is_new: false,
+                clauses: 0,
+            });
         }
         let first = self.clauses.len();
-        let reply = track(
+        let answer = track(
             self.alloc,
             &mut self.variables,
             &mut self.clauses,
@@ -55,7 +58,7 @@ impl<D: DependencyProvider + Drop> ClauseStore<D> {
         );
         self.clauses
             .forget_false_from(first, &mut self.marks, &self.trail);
-        reply
+        answer
     }
 }
 
@@ -98,11 +101,11 @@ fn track<N: SolverId<A>, S: SolverId<A>, A: Allocator + Copy>(
     trackers: &mut NameTrackers<N, A>,
     name: N,
     variable: VariableId,
-) -> Result<Reply<A>, StoreError>
+) -> Result<Tracked, StoreError>
     requires { is_tracked nat_eq (tracker_of N.eq trackers.old name) variable ≡ false }
-    ensures reply { let t = tracker_of N.eq trackers.old name in
-        IfOk result (λ reply. reply_of reply ≡ TrackedAs true
-        (length (new_clauses t (next_helper variables.old t variable) variable))) }
+    ensures tracked { let t = tracker_of N.eq trackers.old name in
+        IfOk result (λ t'. (t'.is_new ≡ true)
+        × (t'.clauses ≡ length (new_clauses t (next_helper variables.old t variable) variable))) }
     ensures variables { let t = tracker_of N.eq trackers.old name in
         OnOk result (variables.new ≡ origins_with variables.old name (next_helper variables.old t variable)) }
     ensures clauses { let t = tracker_of N.eq trackers.old name in
@@ -129,7 +132,10 @@ fn track<N: SolverId<A>, S: SolverId<A>, A: Allocator + Copy>(
     make_helper(variables, name, helper)?;
     trackers.add_reserved(name, variable, helper);
     clauses.push_forbidden_reserved(name, added.as_slice());
-    Ok(Reply::Tracked(true, added.len()))
+    Ok(Tracked {
+        is_new: true,
+        clauses: added.len(),
+    })
 }
 
 /// The helper that the variable needs under the name, if it needs one: the variable that comes next.

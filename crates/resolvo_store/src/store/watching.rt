@@ -4,10 +4,9 @@ ghost use Rattle.decisions.specs.Literals.{variable_of};
 ghost use Rattle.clauses.specs.Clauses.{literals_of, same_literal};
 ghost use Rattle.clauses.specs.Stored.{kept_in};
 ghost use Rattle.watch_map.specs.ClauseList.{contents};
-ghost use Rattle.watch_map.specs.Watching.{is_literal_in};
+ghost use Rattle.watch_map.specs.Watching.{IsExact, is_literal_in};
 
 use crate::abstract_store::AbstractStore;
-use crate::reply::Reply;
 use crate::store::ClauseStore;
 use crate::store::known::{are_below, knows_variable};
 use clauses::Disjunction;
@@ -21,18 +20,20 @@ use variables::{VariableLists, VariableMap};
 use watch_map::ClauseList;
 
 impl<D: DependencyProvider + Drop> ClauseStore<D> {
-    ghost use Rattle.resolvo_store.specs.Command.{Rewatch, Watchers, answer_of};
+    ghost use Rattle.resolvo_store.specs.Command.{Rewatch, Watchers, WatchersAre};
+    ghost use Rattle.resolvo_store.specs.Answers.{done, replied};
     ghost use Rattle.resolvo_store.specs.Step.{Step};
+    ghost use Rattle.resolvo_store.specs.Store.{watched_by};
 
     /// Lets a clause watch another of its literals in the place of one that it watches.
-    pub(super) fn rewatch(
+    pub fn rewatch(
         &mut self,
         clause: ClauseId,
         from: Literal,
         to: Literal,
-    ) -> Result<Reply<D::Alloc>, StoreError>
+    ) -> Result<(), StoreError>
         ensures step { Step (⟦<D as AbstractStore>⟧.store self.old) (Rewatch clause from to)
-            (answer_of result) (⟦<D as AbstractStore>⟧.store self.new) }
+            (replied done result) (⟦<D as AbstractStore>⟧.store self.new) }
         ensures provider { self.new.provider ≡ self.old.provider }
         ensures asked { self.new.asked ≡ self.old.asked }
     {
@@ -45,19 +46,19 @@ impl<D: DependencyProvider + Drop> ClauseStore<D> {
         self.clauses.rewatch(clause, from, to)?;
         self.clauses
             .forget_false(clause, &mut self.marks, &self.trail);
-        Ok(Reply::Done)
+        Ok(())
     }
 
-    /// Tells which clauses watch the literal.
-    pub(super) fn watchers_of(&self, literal: Literal) -> Result<Reply<D::Alloc>, StoreError>
+    /// The clauses that watch the literal, front first. Takes memory for them.
+    pub fn watchers(&self, literal: Literal) -> Result<Vec<ClauseId, D::Alloc>, StoreError>
         ensures step { Step (⟦<D as AbstractStore>⟧.store self.now) (Watchers literal)
-            (answer_of result) (⟦<D as AbstractStore>⟧.store self.now) }
+            (replied (λ found. WatchersAre found.items) result) (⟦<D as AbstractStore>⟧.store self.now) }
+        ensures exact { (let st = ⟦<D as AbstractStore>⟧.store self.now in IsExact (watched_by st) st.watchers) }
     {
         if !knows_variable(&self.variables, literal.variable()) {
             return Err(StoreError::UnknownId);
         }
-        let found = self.clauses.watchers(literal)?;
-        Ok(Reply::Watchers(found))
+        self.clauses.watchers(literal)
     }
 }
 

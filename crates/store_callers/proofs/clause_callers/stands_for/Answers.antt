@@ -1,19 +1,16 @@
-use Rattle.std.proofs.Common.{subst, ◌∙◌}
-use Rattle.resolvo_store.specs.Command.{Helper, reply_of}
-use Rattle.resolvo_store.specs.Step.{Step}
-use Rattle.resolvo_store.proofs.CallerLaws.{store_in}
-use Rattle.store_callers.proofs.ClauseLaws.{helper_answers, helper_stands}
+use Rattle.std.proofs.Common.{◌∙◌}
+use Rattle.resolvo_store.specs.Store.{Provider, store_of, gathered}
+use Rattle.store_callers.proofs.ClauseLaws.{helper_stands}
+use Rattle.store_callers.proofs.clause_callers.stands_for.Given.{Over}
 use Rattle.store_callers.proofs.clause_callers.stands_for.Goals as goal
 
-pub unreachable-requires : goal.unreachable-requires
-unreachable-requires g c =
-    let old = store_in c.obey.ensures.was_sound in
-    let new = store_in c.obey.ensures.sound in
-    helper_answers old new c.args.origin c.in_ok-variable.field-0 c.in_ok-variable.ensures.step c.in_ok-variable.ensures.ok c.in_default.not-Variable
+-- the provider's functions
+abbrev given : (g : Over) → g.row.D.Denot → Provider g.row.D-NameId.Denot g.row.D-SolvableId.Denot
+given g = gathered g.D.NameId.PartialEq.eq g.D.SolvableId.PartialEq.eq g.D.NameId.Slots.IdMap.is_too_large g.D.SolvableId.Slots.IdMap.is_too_large
+    g.D.SolvableId.Set.IdSet.is_too_large g.D.NameId.SolverId.are_many g.D.Interner.universe g.D.DependencyProvider.answers
 
 pub returns : goal.returns
 returns g c =
-    let old = store_in c.obey.ensures.was_sound in
-    let new = store_in c.obey.ensures.sound in
-    let step = subst (λ reply. Step old (Helper c.args.origin) (reply_of reply) new) c.in-Variable.is c.in_ok-variable.ensures.step in
-    c.origin.ensures ∙ helper_stands old new c.args.origin c.in-Variable.variable step
+    let store = store_of (given g) g.D.NameId.Scores.IdMap.value_at in
+    c.origin.ensures
+    ∙ helper_stands (store c.args.store.now) (store c.helper.new.self) c.args.origin c.in_ok-variable.variable c.in_ok-variable.ensures.step

@@ -1,11 +1,8 @@
-use Rattle.std.proofs.Common.{subst}
-use Rattle.resolvo_store.specs.Command.{Exclude, reply_of}
-use Rattle.resolvo_store.specs.Step.{Step}
-use Rattle.resolvo_store.specs.Store.{Provider, gathered}
+use Rattle.resolvo_store.specs.Store.{Provider, store_of, gathered}
 use Rattle.resolvo_store.proofs.CallerLaws.{store_in}
 use Rattle.resolvo_store.proofs.KeepingLaws.{Keeps-run, clause_stays}
 use Rattle.resolvo_store.proofs.KnownLemmas.{IsLawful}
-use Rattle.store_callers.proofs.ClauseLaws.{exclude_answers, excluded_there}
+use Rattle.store_callers.proofs.ClauseLaws.{excluded_there}
 use Rattle.store_callers.proofs.keeping_callers.exclude_first.Given.{Over}
 use Rattle.store_callers.proofs.keeping_callers.exclude_first.Goals as goal
 
@@ -24,17 +21,12 @@ lawful g p = record {
   order = g.met.D.DependencyProvider.order_permutes p;
 }
 
-pub unreachable-requires : goal.unreachable-requires
-unreachable-requires g c =
-    let old = store_in c.obey.ensures.was_sound in
-    let new = store_in c.obey.ensures.sound in
-    exclude_answers old new c.args.variable c.args.reason c.in_ok-clause.field-0 c.in_ok-clause.ensures.step c.in_ok-clause.ensures.ok c.in_default.not-Clause
-
 pub returns : goal.returns
 returns g c =
-    let old = store_in c.obey.ensures.was_sound in
-    let mid = store_in c.obey.ensures.sound in
+    let store = store_of (given g) g.D.NameId.Scores.IdMap.value_at in
+    let old = store c.args.store.now in
+    let mid = store c.exclude.new.self in
     let new = store_in c.run.ensures.sound in
-    let step = subst (λ reply. Step old (Exclude c.args.variable c.args.reason) (reply_of reply) mid) c.in-Clause.is c.in_ok-clause.ensures.step in
-    clause_stays (Keeps-run mid new _ _ (lawful g _) c.in_ok-run-in-Clause.ensures.ok) c.in-Clause.clause _
-    (excluded_there old mid c.args.variable c.args.reason c.in-Clause.clause c.in-Clause.field-1 step)
+    let added = c.in_ok-added.added in
+    clause_stays (Keeps-run mid new _ _ (lawful g _) c.in_ok-run.ensures.ok) added.clause _
+    (excluded_there old mid c.args.variable c.args.reason added.clause added.is_conflict c.in_ok-added.ensures.step)

@@ -1,4 +1,6 @@
-use Rattle.resolvo_store.specs.Command.{command_of, reply_of}
+use Rattle.std.proofs.Common.{subst, sym}
+use Rattle.resolvo_store.specs.Command.{Load, command_of, reply_of}
+use Rattle.resolvo_store.specs.Step.{Step}
 use Rattle.resolvo_store.specs.Store.{Provider, gathered}
 use Rattle.resolvo_store.proofs.CallerLaws.{store_in}
 use Rattle.resolvo_store.proofs.KnownLemmas.{IsLawful}
@@ -23,12 +25,26 @@ lawful g p = record {
 
 pub returns-clause-same : goal.returns-clause-same
 returns-clause-same g c =
-    same_loads (store_in c.obey.ensures.was_sound) (store_in c.obey.ensures.sound) (store_in c.step.ensures.sound) (store_in c.obey-2.ensures.sound)
-    c.args.requirement (command_of c.args.between.now) (reply_of c.in_ok-before.before) (reply_of c.step.result) (reply_of c.in_ok-after.after)
-    (lawful g c.args.store.now.provider) c.in_ok-before.ensures.step c.step.ensures.step c.in_ok-after.ensures.step c.in_ok-after.ensures.ok c.in_ok-before.ensures.ok
+    let start = store_in c.step.ensures.was_sound in
+    let loaded = store_in c.step.ensures.sound in
+    let between = store_in c.step-2.ensures.sound in
+    let end = store_in c.step-3.ensures.sound in
+    let before = reply_of c.in_ok-before.before in
+    let after = reply_of c.in_ok-after.after in
+    let first = subst (λ reply. Step start (Load c.args.requirement) reply loaded) (sym c.in_ok-before.ensures.ok.0) c.step.ensures.step in
+    let third = subst (λ reply. Step between (Load c.args.requirement) reply end) (sym c.in_ok-after.ensures.ok.0) c.step-3.ensures.step in
+    same_loads start loaded between end c.args.requirement (command_of c.args.between.now) before (reply_of c.step-2.result) after
+    (lawful g c.args.store.now.provider) first c.step-2.ensures.step third c.in_ok-after.ensures.ok.1 c.in_ok-before.ensures.ok.1
 
 pub returns-clause-candidates : goal.returns-clause-candidates
 returns-clause-candidates g c =
-    loads_candidates (store_in c.obey.ensures.was_sound) (store_in c.obey.ensures.sound) (store_in c.step.ensures.sound) (store_in c.obey-2.ensures.sound)
-    c.args.requirement (command_of c.args.between.now) (reply_of c.in_ok-before.before) (reply_of c.step.result) (reply_of c.in_ok-after.after)
-    (lawful g c.args.store.now.provider) c.in_ok-before.ensures.step c.step.ensures.step c.in_ok-after.ensures.step c.in_ok-after.ensures.ok c.requires
+    let start = store_in c.step.ensures.was_sound in
+    let loaded = store_in c.step.ensures.sound in
+    let between = store_in c.step-2.ensures.sound in
+    let end = store_in c.step-3.ensures.sound in
+    let before = reply_of c.in_ok-before.before in
+    let after = reply_of c.in_ok-after.after in
+    let first = subst (λ reply. Step start (Load c.args.requirement) reply loaded) (sym c.in_ok-before.ensures.ok.0) c.step.ensures.step in
+    let third = subst (λ reply. Step between (Load c.args.requirement) reply end) (sym c.in_ok-after.ensures.ok.0) c.step-3.ensures.step in
+    loads_candidates start loaded between end c.args.requirement (command_of c.args.between.now) before (reply_of c.step-2.result) after
+    (lawful g c.args.store.now.provider) first c.step-2.ensures.step third c.in_ok-after.ensures.ok.1 c.requires

@@ -1,26 +1,40 @@
-use Rattle.std.proofs.Common.{subst}
-use Rattle.resolvo_store.specs.Command.{Assign, reply_of}
+use Rattle.std.proofs.Common.{◌≡◌, Some, cond, not, subst, inl, inr}
+use Rattle.resolvo_clauses.specs.Types.Decision.{Decision}
+use Rattle.resolvo_store.specs.Answers.{assignment}
+use Rattle.resolvo_store.specs.Command.{Assign}
 use Rattle.resolvo_store.specs.Step.{Step}
-use Rattle.resolvo_store.proofs.CallerLaws.{store_in, assigned_value, clashing_value}
-use Rattle.store_callers.proofs.AnswerLaws.{one_of_three}
+use Rattle.resolvo_store.specs.Store.{Provider, store_of, gathered, values}
+use Rattle.store_callers.proofs.AnswerLaws.{given_value, is_given}
+use Rattle.store_callers.proofs.requirement_callers.give.Given.{Over}
 use Rattle.store_callers.proofs.requirement_callers.give.Goals as goal
 
-pub returns-in-Assigned-clause-given : goal.returns-in-Assigned-clause-given
-returns-in-Assigned-clause-given g c =
-    let old = store_in c.obey.ensures.was_sound in
-    let new = store_in c.obey.ensures.sound in
-    assigned_value old new c.args.variable c.args.value c.args.clause c.args.level
-    (subst (λ reply. Step old (Assign c.args.variable c.args.value c.args.clause c.args.level) (reply_of reply) new) c.in-Assigned.is c.in_ok-obey.ensures.step)
+-- the provider's functions
+abbrev given : (g : Over) → g.row.D.Denot → Provider g.row.D-NameId.Denot g.row.D-SolvableId.Denot
+given g = gathered g.D.NameId.PartialEq.eq g.D.SolvableId.PartialEq.eq g.D.NameId.Slots.IdMap.is_too_large g.D.SolvableId.Slots.IdMap.is_too_large
+    g.D.SolvableId.Set.IdSet.is_too_large g.D.NameId.SolverId.are_many g.D.Interner.universe g.D.DependencyProvider.answers
+
+pub returns-in-New-clause-given : goal.returns-in-New-clause-given
+returns-in-New-clause-given g c =
+    let store = store_of (given g) g.D.NameId.Scores.IdMap.value_at in
+    let old = store c.args.store.now in
+    let new = store c.assign.new.self in
+    let v = c.args.variable in
+    let value = c.args.value in
+    let made = c.in_ok-assign.field-0 in
+    let step = subst (λ (d : Decision). Step old (Assign d.variable d.value d.derived_from c.args.level) (assignment made) new) c.new.ensures c.in_ok-assign.ensures.step in
+    let told = given_value old new v value c.args.clause c.args.level made step in
+    elim c.in-New.is [
+      | inl is ↦ subst (λ m. values new v ≡ Some (cond (is_given m) value (not value))) is told
+      | inr is ↦ subst (λ m. values new v ≡ Some (cond (is_given m) value (not value))) is told
+    ]
 
 pub returns-in-Clash-clause-given : goal.returns-in-Clash-clause-given
 returns-in-Clash-clause-given g c =
-    let old = store_in c.obey.ensures.was_sound in
-    let new = store_in c.obey.ensures.sound in
-    clashing_value old new c.args.variable c.args.value c.args.clause c.args.level
-    (subst (λ reply. Step old (Assign c.args.variable c.args.value c.args.clause c.args.level) (reply_of reply) new) c.in-Clash.is c.in_ok-obey.ensures.step)
-
-pub unreachable-requires : goal.unreachable-requires
-unreachable-requires g c =
-    one_of_three (store_in c.obey.ensures.was_sound)
-    (store_in c.obey.ensures.sound) c.args.variable c.args.value c.args.clause c.args.level c.in_ok-obey.field-0
-    c.in_ok-obey.ensures.step c.in_ok-obey.ensures.ok c.in_default.not-Assigned c.in_default.not-Already c.in_default.not-Clash
+    let store = store_of (given g) g.D.NameId.Scores.IdMap.value_at in
+    let old = store c.args.store.now in
+    let new = store c.assign.new.self in
+    let v = c.args.variable in
+    let value = c.args.value in
+    let made = c.in_ok-assign.field-0 in
+    let step = subst (λ (d : Decision). Step old (Assign d.variable d.value d.derived_from c.args.level) (assignment made) new) c.new.ensures c.in_ok-assign.ensures.step in
+    subst (λ m. values new v ≡ Some (cond (is_given m) value (not value))) c.in-Clash.is (given_value old new v value c.args.clause c.args.level made step)

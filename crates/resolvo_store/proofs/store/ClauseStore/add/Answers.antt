@@ -1,6 +1,7 @@
 use Rattle.std.proofs.Common.{◌≡◌, ◌∙◌, true, sym, subst}
 use Rattle.watch_map.specs.ClauseList.{contents, literals_watched}
 use Rattle.resolvo_store.specs.Adding.{names_known}
+use Rattle.resolvo_store.specs.Answers.{added}
 use Rattle.resolvo_store.specs.Store.{Provider, gathered, kept_literals, values}
 use Rattle.resolvo_store.specs.Lists.{HasMarks}
 use Rattle.resolvo_store.proofs.CallerLaws.{store_in}
@@ -16,8 +17,8 @@ abbrev given : (g : Over) → g.row.D.Denot → Provider g.row.D-NameId.Denot g.
 given g = gathered g.D.NameId.PartialEq.eq g.D.SolvableId.PartialEq.eq g.D.NameId.Slots.IdMap.is_too_large g.D.SolvableId.Slots.IdMap.is_too_large
     g.D.SolvableId.Set.IdSet.is_too_large g.D.NameId.SolverId.are_many g.D.Interner.universe g.D.DependencyProvider.answers
 
-pub add_clause-reply-requires : goal.add_clause-reply-requires
-add_clause-reply-requires g c =
+pub add_clause-answer-requires : goal.add_clause-answer-requires
+add_clause-answer-requires g c =
     let st = store_in c.self.invariant.consistent.sound in
     two_if_first (kept_literals st) (values st) c.args.clause (c.first_watches-conflict.ensures.watches (kept_literals st))
 
@@ -27,7 +28,7 @@ invariant_of-self g c =
     let made = c.first_watches-conflict in
     let known = subst (λ n. names_known (g.D.Interner.universe c.self.inside.cache.provider) n c.args.clause ≡ true) c.count.ensures.value
     (subst (λ p. names_known (g.D.Interner.universe p) c.count.result c.args.clause ≡ true) c.provider.ensures.provider (sym c.knows_named.ensures ∙ c.if-not-knows_named.false)) in
-    let call = c.add_clause-reply in
+    let call = c.add_clause-answer in
     let first = c.len-first.ensures.value ∙ sym c.self.invariant.consistent.sound.watched in
     record {
       consistent = after_direct c.self.invariant.consistent c.args.clause (literals_watched made.result.0) call.result c.requires known (made.ensures.watches (kept_literals st)) call.ensures.ok call.ensures.err;
@@ -42,6 +43,6 @@ returns-clause-step g c =
     let made = c.first_watches-conflict in
     let known = subst (λ n. names_known (g.D.Interner.universe c.self.inside.cache.provider) n c.args.clause ≡ true) c.count.ensures.value
     (subst (λ p. names_known (g.D.Interner.universe p) c.count.result c.args.clause ≡ true) c.provider.ensures.provider (sym c.knows_named.ensures ∙ c.if-not-knows_named.false)) in
-    step_added (given g) g.D.NameId.Scores.IdMap.value_at c.args.clause (literals_watched made.result.0) made.result.1 c.add_clause-reply.result (contents c.add_clause-reply.new.clauses) c.self.view_is
+    step_added (given g) g.D.NameId.Scores.IdMap.value_at added c.args.clause (literals_watched made.result.0) made.result.1 c.add_clause-answer.result (contents c.add_clause-answer.new.clauses) c.self.view_is
     c.requires known (made.ensures.watches (kept_literals st)) (made.ensures.conflict (kept_literals st))
-    c.add_clause-reply.ensures.reply c.add_clause-reply.ensures.ok c.add_clause-reply.ensures.err c.add_clause-reply.ensures.refused c.add_clause-reply.ensures.ids_out
+    c.add_clause-answer.ensures.added c.add_clause-answer.ensures.ok c.add_clause-answer.ensures.err c.add_clause-answer.ensures.refused c.add_clause-answer.ensures.ids_out

@@ -4,7 +4,8 @@ use Rattle.std.specs.Prelude.{◌&&◌, not, nat_lt}
 use Rattle.std.proofs.lemmas.Bool.Decides.{nat_tests}
 use Rattle.watch_map.specs.ClauseList.{contents}
 use Rattle.at_most_once.specs.NameTrackers.{tracker_of}
-use Rattle.resolvo_store.specs.Command.{AtMostOnce, answer_of}
+use Rattle.resolvo_store.specs.Command.{AtMostOnce}
+use Rattle.resolvo_store.specs.Answers.{replied, tracked}
 use Rattle.resolvo_store.specs.Lists.{HasMarks}
 use Rattle.resolvo_store.specs.Outcome.{tracking}
 use Rattle.resolvo_store.specs.Step.{Step}
@@ -44,7 +45,7 @@ invariant_of-self g c =
     let one = both named (nat_lt v (length os) && not (is_helper_among os v)) known in
     let two = both (nat_lt v (length os)) (not (is_helper_among os v)) one.1 in
     let within : v < length os = (let test = two.0 in grind (arith, nat_tests, test)) in
-    let call = c.track-reply in
+    let call = c.track-answer in
     let first = c.len-first.ensures.value ∙ sym c.self.invariant.consistent.sound.watched in
     record {
       consistent = after_tracked c.self.invariant.consistent name v call.result (lawful g c.self.inside.cache.provider) one.0 within (failed (is_helper_among os v) two.1) (sym c.is_tracked.ensures ∙ c.if-is_tracked.false)
@@ -61,14 +62,14 @@ returns-clause-step g c =
     let old = store_in c.self.invariant.consistent.sound in
     let os = c.self.inside.variables in
     let may = subst (λ p. ((g.D.Interner.universe p).knows_name name && (nat_lt v (length os) && not (is_helper_among os v))) ≡ true) c.provider.ensures.provider (sym c.may_track.ensures ∙ c.if-not-may_track.false) in
-    let origins = c.track-reply.new.variables in
-    let clauses = contents c.track-reply.new.clauses in
-    let trackers = tracker_of g.D.NameId.PartialEq.eq c.track-reply.new.trackers in
+    let origins = c.track-answer.new.variables in
+    let clauses = contents c.track-answer.new.clauses in
+    let trackers = tracker_of g.D.NameId.PartialEq.eq c.track-answer.new.trackers in
     let after : Store g.row.D-NameId.Denot g.row.D-SolvableId.Denot = record (with_list old clauses) { origins = origins; trackers = trackers } in
-    let parts = tracked_or_same old name v origins clauses trackers c.track-reply.result c.track-reply.ensures.variables c.track-reply.ensures.clauses c.track-reply.ensures.trackers
-    c.track-reply.ensures.same_variables c.track-reply.ensures.same_clauses c.track-reply.ensures.same_trackers in
-    subst (λ (k : Kept g.row.D.Denot g.row.D-NameId.Denot g.row.D-SolvableId.Denot g.row.D-NameId-Scores.Denot). Step (store_of (given g) g.D.NameId.Scores.IdMap.value_at k) (AtMostOnce name v) (answer_of c.track-reply.result) after) c.self.view_is
-    (step_tracked old name v c.track-reply.result after may (sym c.is_tracked.ensures ∙ c.if-is_tracked.false) c.track-reply.ensures.reply parts.0 parts.1 c.track-reply.ensures.fits c.track-reply.ensures.refused)
+    let parts = tracked_or_same old name v origins clauses trackers c.track-answer.result c.track-answer.ensures.variables c.track-answer.ensures.clauses c.track-answer.ensures.trackers
+    c.track-answer.ensures.same_variables c.track-answer.ensures.same_clauses c.track-answer.ensures.same_trackers in
+    subst (λ (k : Kept g.row.D.Denot g.row.D-NameId.Denot g.row.D-SolvableId.Denot g.row.D-NameId-Scores.Denot). Step (store_of (given g) g.D.NameId.Scores.IdMap.value_at k) (AtMostOnce name v) (replied tracked c.track-answer.result) after) c.self.view_is
+    (step_tracked old name v c.track-answer.result after may (sym c.is_tracked.ensures ∙ c.if-is_tracked.false) c.track-answer.ensures.tracked parts.0 parts.1 c.track-answer.ensures.fits c.track-answer.ensures.refused)
 
 pub returns-clause-provider : goal.returns-clause-provider
 returns-clause-provider g c = grind (arith, common_steps)

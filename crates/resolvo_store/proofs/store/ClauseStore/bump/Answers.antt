@@ -1,13 +1,14 @@
 use Rattle.std.proofs.Common.{◌≡◌, ◌∙◌, refl, sym, subst, true}
 use Rattle.resolvo_queue.specs.References.{references}
 use Rattle.resolvo_store.specs.Asked.{asked_of}
-use Rattle.resolvo_store.specs.Command.{Bump, answer_of}
+use Rattle.resolvo_store.specs.Command.{Bump}
+use Rattle.resolvo_store.specs.Answers.{done, replied}
 use Rattle.resolvo_store.specs.Step.{Step}
 use Rattle.resolvo_store.specs.Walks.{WalksNothing}
 use Rattle.resolvo_store.specs.Store.{Store, Kept, Provider, store_of, gathered}
-use Rattle.resolvo_store.proofs.AddingLemmas.{step_grown, first_of_bump}
+use Rattle.resolvo_store.proofs.AddingLemmas.{step_grown, first_of_bump, always_said}
 use Rattle.resolvo_store.proofs.CallerLaws.{store_in}
-use Rattle.resolvo_store.proofs.CountedLemmas.{follows_still}
+use Rattle.resolvo_store.proofs.CountedLemmas.{counted_still}
 use Rattle.resolvo_store.proofs.InvariantLemmas.{after_bumped, bumped_or_same}
 use Rattle.resolvo_store.proofs.WalkLemmas.{walks_no_more, walks_still}
 use Rattle.resolvo_store.proofs.store.ClauseStore.bump.Given.{Over}
@@ -25,7 +26,7 @@ invariant_of-self g c =
       consistent = after_bumped c.self.invariant.consistent g.D.NameId.PartialEq.eq g.met.D.NameId.SameValue.same c.args.name c.args.amount c.raise.result refl c.raise.ensures.clauses c.raise.ensures.synced
           (c.raise.ensures.stands (references (g.D.Interner.universe inside.cache.provider) inside.loaded inside.disjunctions) c.self.invariant.consistent.may_ask.stands)
           c.raise.ensures.bumped c.raise.ensures.hot c.raise.ensures.same_scores c.raise.ensures.same_hot;
-      counted = follows_still inside.falsified inside.loaded inside.disjunctions c.raise.ensures.clauses.clauses refl c.self.invariant.counted;
+      counted = counted_still c.raise.ensures.clauses.clauses refl c.self.invariant.counted;
       marked = c.self.invariant.marked;
     }
 
@@ -37,10 +38,10 @@ returns-clause-step g c =
     record st { scores = g.D.NameId.Scores.IdMap.value_at c.raise.new.scores.map; requires = c.raise.new.queue.clauses } in
     let large = g.D.NameId.Slots.IdMap.is_too_large name in
     let parts = bumped_or_same st name c.args.amount (g.D.NameId.Scores.IdMap.value_at c.raise.new.scores.map) c.raise.result refl c.raise.ensures.clauses.clauses c.raise.ensures.bumped c.raise.ensures.same_scores in
-    subst (λ (k : Kept g.row.D.Denot g.row.D-NameId.Denot g.row.D-SolvableId.Denot g.row.D-NameId-Scores.Denot). Step (store_of (given g) g.D.NameId.Scores.IdMap.value_at k) (Bump name c.args.amount) (answer_of c.raise.result) after) c.self.view_is
-    (step_grown st (Bump name c.args.amount) large c.raise.result after refl
+    subst (λ (k : Kept g.row.D.Denot g.row.D-NameId.Denot g.row.D-SolvableId.Denot g.row.D-NameId-Scores.Denot). Step (store_of (given g) g.D.NameId.Scores.IdMap.value_at k) (Bump name c.args.amount) (replied done c.raise.result) after) c.self.view_is
+    (step_grown st done (Bump name c.args.amount) large c.raise.result after refl
     (first_of_bump st name c.args.amount (subst (λ p. (g.D.Interner.universe p).knows_name name ≡ true) c.provider.ensures.provider (sym c.knows_name.ensures ∙ c.if-not-knows_name.false)))
-    refl refl (λ h. h) c.raise.ensures.reply parts.0 parts.1 c.raise.ensures.refused c.raise.ensures.too_large)
+    refl refl (λ h. h) (always_said c.raise.result) parts.0 parts.1 c.raise.ensures.refused c.raise.ensures.too_large)
 
 pub returns-then-not-knows_name-clause-asked : goal.returns-then-not-knows_name-clause-asked
 returns-then-not-knows_name-clause-asked g c = walks_no_more c.args.self.now.asked

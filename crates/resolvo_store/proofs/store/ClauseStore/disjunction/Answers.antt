@@ -2,14 +2,15 @@ use Rattle.std.proofs.Common.{◌≡◌, ◌∙◌, refl, ap, sym, subst, true}
 use Rattle.std.specs.List.{list_all}
 use Rattle.std.specs.Prelude.{Bool, length, ◌&&◌, nat_lt}
 use Rattle.decisions.specs.Literals.{variable_of}
-use Rattle.resolvo_store.specs.Command.{Disjunction, answer_of}
+use Rattle.resolvo_store.specs.Command.{Disjunction, DisjunctionIs}
+use Rattle.resolvo_store.specs.Answers.{replied}
 use Rattle.resolvo_store.specs.Lists.{disjunctions_kept}
 use Rattle.resolvo_store.specs.Refusals.{are_disjunctions_out}
 use Rattle.resolvo_store.specs.Step.{Step}
 use Rattle.resolvo_store.specs.Store.{Kept, Provider, store_of, gathered}
 use Rattle.resolvo_store.proofs.CallerLaws.{store_in}
-use Rattle.resolvo_store.proofs.AddingLemmas.{both, step_grown, first_of_disjunction}
-use Rattle.resolvo_store.proofs.CountedLemmas.{follows_disjunction}
+use Rattle.resolvo_store.proofs.AddingLemmas.{both, if_ok, step_grown, first_of_disjunction}
+use Rattle.resolvo_store.proofs.CountedLemmas.{follows_disjunction, keeps_counted}
 use Rattle.resolvo_store.proofs.InvariantLemmas.{after_disjunction, on_ok, on_err}
 use Rattle.resolvo_store.proofs.MarkedLaws.{marks_asked}
 use Rattle.resolvo_store.proofs.store.ClauseStore.disjunction.Given.{Over}
@@ -29,7 +30,7 @@ invariant_of-self g c =
     record {
       consistent = after_disjunction c.self.invariant.consistent c.args.literals.now c.args.condition c.keep_disjunction.result refl (both knows ((g.D.Interner.universe c.provider.result.now).knows_condition c.args.condition) known).0
           c.keep_disjunction.ensures.more c.keep_disjunction.ensures.ok c.keep_disjunction.ensures.err;
-      counted = follows_disjunction c.self.inside.falsified c.self.inside.trail.entries _ call.new.disjunctions call.result call.ensures.more call.ensures.err c.self.invariant.counted;
+      counted = keeps_counted refl (λ h. follows_disjunction c.self.inside.falsified c.self.inside.trail.entries _ call.new.disjunctions call.result call.ensures.more call.ensures.err h) c.self.invariant.counted;
       marked = marks_asked (store_in c.self.invariant.consistent.sound) c.self.inside.marks c.self.invariant.marked c.self.inside.disjunctions c.args.literals.now c.args.condition call.new.disjunctions call.result refl call.ensures.ok call.ensures.err;
     }
 
@@ -40,8 +41,8 @@ returns-clause-step g c =
     (subst (λ p. (list_all (λ l. nat_lt (variable_of l) c.count.result) c.args.literals.now && (g.D.Interner.universe p).knows_condition c.args.condition) ≡ true) c.provider.ensures.provider
     (sym c.knows_parts.ensures ∙ c.if-not-knows_parts.false)) in
     let made = record st { disjunctions = disjunctions_kept c.keep_disjunction.new.disjunctions } in
-    subst (λ (k : Kept g.row.D.Denot g.row.D-NameId.Denot g.row.D-SolvableId.Denot g.row.D-NameId-Scores.Denot). Step (store_of (given g) g.D.NameId.Scores.IdMap.value_at k) (Disjunction c.args.literals.now c.args.condition) (answer_of c.keep_disjunction.result) made) c.self.view_is
-    (step_grown st (Disjunction c.args.literals.now c.args.condition) (are_disjunctions_out st) c.keep_disjunction.result made refl
+    subst (λ (k : Kept g.row.D.Denot g.row.D-NameId.Denot g.row.D-SolvableId.Denot g.row.D-NameId-Scores.Denot). Step (store_of (given g) g.D.NameId.Scores.IdMap.value_at k) (Disjunction c.args.literals.now c.args.condition) (replied DisjunctionIs c.keep_disjunction.result) made) c.self.view_is
+    (step_grown st DisjunctionIs (Disjunction c.args.literals.now c.args.condition) (are_disjunctions_out st) c.keep_disjunction.result made refl
     (first_of_disjunction st c.args.literals.now c.args.condition known)
-    refl refl (λ h. h) c.keep_disjunction.ensures.reply (on_ok c.keep_disjunction.result (ap (λ ds. record st { disjunctions = ds })) c.keep_disjunction.ensures.ok)
+    refl refl (λ h. h) (if_ok c.keep_disjunction.result (λ d. ap DisjunctionIs) c.keep_disjunction.ensures.disjunction) (on_ok c.keep_disjunction.result (ap (λ ds. record st { disjunctions = ds })) c.keep_disjunction.ensures.ok)
     (on_err c.keep_disjunction.result (ap (λ ds. record st { disjunctions = disjunctions_kept ds })) c.keep_disjunction.ensures.err) c.keep_disjunction.ensures.refused c.keep_disjunction.ensures.ids_out)

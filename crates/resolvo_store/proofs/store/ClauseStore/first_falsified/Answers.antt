@@ -1,9 +1,10 @@
 use Rattle.std.proofs.Common.{◌≡◌, ◌∙◌, ap, refl, sym, subst}
-use Rattle.std.specs.Prelude.{option_map}
+use Rattle.std.specs.Prelude.{IfOk, option_map}
+use Rattle.falsified_clauses.specs.Falsified.{IsFirstFalsified}
 use Rattle.decisions.specs.Trail.{val}
 use Rattle.falsified_clauses.specs.Clauses.{counted}
 use Rattle.resolvo_queue.specs.Scan.{first_falsified}
-use Rattle.resolvo_store.specs.Counted.{clause_at, no_false, placed}
+use Rattle.resolvo_store.specs.Counted.{clause_at, false_by, placed}
 use Rattle.resolvo_store.specs.Outcome.{falsified_clause}
 use Rattle.resolvo_store.specs.Store.{Kept, Provider, store_of, gathered, kept_literals}
 use Rattle.resolvo_store.proofs.AskingLemmas.{can_walk, seen_by_store}
@@ -17,24 +18,25 @@ abbrev given : (g : Over) → g.row.D.Denot → Provider g.row.D-NameId.Denot g.
 given g = gathered g.D.NameId.PartialEq.eq g.D.SolvableId.PartialEq.eq g.D.NameId.Slots.IdMap.is_too_large g.D.SolvableId.Slots.IdMap.is_too_large
     g.D.SolvableId.Set.IdSet.is_too_large g.D.NameId.SolverId.are_many g.D.Interner.universe g.D.DependencyProvider.answers
 
-pub invariant_of-self : goal.invariant_of-self
-invariant_of-self g c =
-    let inside = c.self.inside in
-    record {
-      consistent = c.self.invariant.consistent;
-      counted = c.first-first.ensures.follows (counted inside.loaded inside.disjunctions (placed inside.queue.clauses) no_false) c.self.invariant.counted;
-      marked = c.self.invariant.marked;
-    }
+pub first_falsified-requires-clause-there : goal.first_falsified-requires-clause-there
+first_falsified-requires-clause-there g c = λ k d within. (let parts = c.self.invariant.consistent.may_ask.stands.parts k d within in record { lists = parts.lists; disjunction = parts.disjunction })
 
-pub returns-clause-found : goal.returns-clause-found
-returns-clause-found g c =
+pub invariant_of-self : goal.invariant_of-self
+invariant_of-self g c = record {
+  consistent = c.self.invariant.consistent;
+  counted = c.first_falsified.ensures.counted;
+  marked = c.self.invariant.marked;
+}
+
+pub returns-in-Ok-clause-found : goal.returns-in-Ok-clause-found
+returns-in-Ok-clause-found g c =
     let inside = c.self.inside in
     let kept = kept_literals (store_in c.self.invariant.consistent.sound) in
     let universe = g.D.Interner.universe inside.cache.provider in
     let values = val inside.trail.entries in
-    let first = c.first-first.ensures.first (counted inside.loaded inside.disjunctions (placed inside.queue.clauses) no_false) c.self.invariant.counted in
+    let first = subst (λ r. IfOk r (IsFirstFalsified (counted inside.loaded inside.disjunctions (placed inside.queue.clauses) (false_by inside.trail.entries)))) c.in-Ok.is c.first_falsified.ensures.first in
     let found = c.id_at.ensures ∙ ap (option_map (λ q. q.clause_id))
-    (first_counted universe inside.loaded inside.disjunctions values inside.queue.clauses (can_walk c.self.invariant.consistent refl refl) c.first-first.result first) in
+    (first_counted universe inside.loaded inside.disjunctions values inside.queue.clauses (can_walk c.self.invariant.consistent refl refl) c.in-Ok.number first) in
     subst (λ (k : Kept g.row.D.Denot g.row.D-NameId.Denot g.row.D-SolvableId.Denot g.row.D-NameId-Scores.Denot). c.id_at.result ≡ option_map (λ q. q.clause_id) (falsified_clause (store_of (given g) g.D.NameId.Scores.IdMap.value_at k))) c.self.view_is
     (seen_by_store universe inside.loaded inside.disjunctions kept.learnt kept.lists {seen = values} {val = values}
     (λ val_ literals_of rows_of. c.id_at.result ≡ option_map (λ q. q.clause_id) (first_falsified val_ literals_of rows_of inside.queue.clauses)) refl found)

@@ -3,12 +3,13 @@ use Rattle.typed_ids.specs.declared.error.StoreError.TheVariants.{UnknownId}
 use Rattle.variables.specs.declared.variable_origin.VariableOrigin.{VariableOrigin}
 use Rattle.variables.specs.Variables.{are_variables_out}
 use Rattle.resolvo_store.specs.Helpers.{is_helper_known}
-use Rattle.resolvo_store.specs.Command.{Helper, Refused, answer_of}
+use Rattle.resolvo_store.specs.Command.{Helper, Refused, VariableIs}
+use Rattle.resolvo_store.specs.Answers.{replied}
 use Rattle.resolvo_store.specs.Outcome.{helper_origin}
 use Rattle.resolvo_store.specs.Step.{Step}
 use Rattle.resolvo_store.specs.Store.{Kept, Provider, store_of, gathered}
 use Rattle.std.specs.Prelude.{List}
-use Rattle.resolvo_store.proofs.AddingLemmas.{step_foreseen, step_grown}
+use Rattle.resolvo_store.proofs.AddingLemmas.{step_foreseen, step_grown, if_ok}
 use Rattle.resolvo_store.proofs.HelperLemmas.{helper_known_is, first_of_helper, first_of_unknown_helper}
 use Rattle.resolvo_store.proofs.CallerLaws.{store_in}
 use Rattle.resolvo_store.proofs.InvariantLemmas.{after_origins, on_ok, on_err}
@@ -35,8 +36,8 @@ invariant_of-self g c =
     let origin = c.args.origin in
     let known_is = subst (λ p. c.knows_helper.result ≡ is_helper_known (g.D.Interner.universe p) origin) c.provider.ensures.provider c.knows_helper.ensures ∙ helper_known_is st origin in
     record {
-      consistent = after_origins c.self.invariant.consistent (c.self.inside.variables ++ helper_origin origin ∷ []) c.add_helper.result
-          (IsSound-helper _ c.self.invariant.consistent.sound origin (sym known_is ∙ c.if-not-knows_helper.false)) c.add_helper.ensures.ok c.add_helper.ensures.err;
+      consistent = after_origins c.self.invariant.consistent (c.self.inside.variables ++ helper_origin origin ∷ []) c.alloc_helper.result
+          (IsSound-helper _ c.self.invariant.consistent.sound origin (sym known_is ∙ c.if-not-knows_helper.false)) c.alloc_helper.ensures.ok c.alloc_helper.ensures.err;
       counted = c.self.invariant.counted;
       marked = c.self.invariant.marked;
     }
@@ -47,7 +48,7 @@ returns-clause-step g c =
     let origin = c.args.origin in
     let known_is = subst (λ p. c.knows_helper.result ≡ is_helper_known (g.D.Interner.universe p) origin) c.provider.ensures.provider c.knows_helper.ensures ∙ helper_known_is st origin in
     let with_origins = λ (os : List (VariableOrigin g.row.D-NameId.Denot g.row.D-SolvableId.Denot)). record st { origins = os } in
-    let made = with_origins c.add_helper.new.variables in
-    subst (λ (k : Kept g.row.D.Denot g.row.D-NameId.Denot g.row.D-SolvableId.Denot g.row.D-NameId-Scores.Denot). Step (store_of (given g) g.D.NameId.Scores.IdMap.value_at k) (Helper origin) (answer_of c.add_helper.result) made) c.self.view_is
-    (step_grown st (Helper origin) (are_variables_out (length st.origins)) c.add_helper.result made refl (first_of_helper st origin (sym known_is ∙ c.if-not-knows_helper.false)) refl refl (λ h. h) c.add_helper.ensures.reply
-    (on_ok c.add_helper.result (ap with_origins) c.add_helper.ensures.ok) (on_err c.add_helper.result (ap with_origins) c.add_helper.ensures.err) c.add_helper.ensures.refused c.add_helper.ensures.ids_out)
+    let made = with_origins c.alloc_helper.new.variables in
+    subst (λ (k : Kept g.row.D.Denot g.row.D-NameId.Denot g.row.D-SolvableId.Denot g.row.D-NameId-Scores.Denot). Step (store_of (given g) g.D.NameId.Scores.IdMap.value_at k) (Helper origin) (replied VariableIs c.alloc_helper.result) made) c.self.view_is
+    (step_grown st VariableIs (Helper origin) (are_variables_out (length st.origins)) c.alloc_helper.result made refl (first_of_helper st origin (sym known_is ∙ c.if-not-knows_helper.false)) refl refl (λ h. h) (if_ok c.alloc_helper.result (λ v. ap VariableIs) c.alloc_helper.ensures.variable)
+    (on_ok c.alloc_helper.result (ap with_origins) c.alloc_helper.ensures.ok) (on_err c.alloc_helper.result (ap with_origins) c.alloc_helper.ensures.err) c.alloc_helper.ensures.refused c.alloc_helper.ensures.ids_out)

@@ -10,9 +10,9 @@ use Rattle.variables.specs.Variables.{interned_variable}
 use Rattle.solver_cache.specs.Cache.{sorted_of_set, sorted_of}
 use Rattle.solver_cache.proofs.CacheLemmas.{handed_on}
 use Rattle.resolvo_store.specs.Command.{Load}
-use Rattle.falsified_clauses.specs.Clauses.{counted}
 use Rattle.falsified_clauses.proofs.Laws.{counts_lists}
-use Rattle.resolvo_store.specs.Counted.{Follows, no_false, placed}
+use Rattle.resolvo_store.specs.Counted.{AreCounted}
+use Rattle.resolvo_store.proofs.CountedLemmas.{keeps_counted}
 use Rattle.resolvo_store.specs.Lists.{lists_kept, IsConsistent, HasMarks}
 use Rattle.resolvo_store.specs.Outcome.{origins_loaded, variables_loaded}
 use Rattle.resolvo_store.specs.Step.{lacks_ids, may_be_refused}
@@ -83,7 +83,7 @@ invariant_of-self-in_err-insert g c =
           (after_variables (given g) g.D.NameId.Scores.IdMap.value_at g.D.SolvableId.Set.IdSet.has g.D.NameId.Set.IdSet.has (left_of c.self.view_is) inside.variables inside.loaded inside.disjunctions inside.queue inside.trail inside.cache new c.in_ok-lists.ensures.later
           c.self.invariant.consistent (lawful g inside.cache.provider) (sorted_of (given g inside.cache.provider) c.args.requirement) c.load_lists.new.variables
           (candidates_known g inside.cache.provider c.args.requirement) c.in_ok-lists.ensures.ok);
-      counted = subst (λ kept. Follows inside.falsified inside.trail.entries (counted kept inside.disjunctions (placed inside.queue.clauses) no_false))
+      counted = subst (λ kept. AreCounted inside.falsified inside.queue.clauses inside.trail.entries kept inside.disjunctions)
           (sym c.in_err-insert.ensures.err.1) c.self.invariant.counted;
       marked = subst (λ kept. HasMarks (store_with (given g) g.D.NameId.Scores.IdMap.value_at (left_of c.self.view_is) new.provider c.load_lists.new.variables kept) inside.marks)
           (sym c.in_err-insert.ensures.err.1) c.self.invariant.marked;
@@ -100,11 +100,11 @@ invariant_of-self-2 g c =
       consistent = after_load (given g) g.D.NameId.Scores.IdMap.value_at g.D.SolvableId.Set.IdSet.has g.D.NameId.Set.IdSet.has (left_of c.self.view_is) inside.variables inside.loaded inside.disjunctions inside.queue inside.trail inside.cache c.load_lists.new.cache c.in_ok-lists.ensures.later
           c.self.invariant.consistent (lawful g inside.cache.provider) r (sorted_of_set (given g inside.cache.provider)) c.load_lists.new.variables c.in_ok-lists.lists c.insert.new.self
           (candidates_known g inside.cache.provider r) fresh c.in_ok-lists.ensures.ok c.in_ok-lists.ensures.lists c.in_ok-lists.ensures.few c.in_ok-lists.ensures.asked c.in_ok-insert.ensures.ok;
-      counted = subst (λ kept. Follows inside.falsified inside.trail.entries (counted kept inside.disjunctions (placed inside.queue.clauses) no_false))
-          (sym c.in_ok-insert.ensures.ok) (record {
-            within = c.self.invariant.counted.within;
-            counts = counts_lists inside.falsified.clauses _ c.self.invariant.counted.counts r c.in_ok-lists.lists (lookup-none inside.loaded r fresh);
-          });
+      counted = subst (λ kept. AreCounted inside.falsified inside.queue.clauses inside.trail.entries kept inside.disjunctions)
+          (sym c.in_ok-insert.ensures.ok) (keeps_counted refl (λ h. record {
+            within = h.within;
+            counts = counts_lists inside.falsified.clauses _ h.counts r c.in_ok-lists.lists (lookup-none inside.loaded r fresh);
+          }) c.self.invariant.counted);
       marked = marks_loaded (store_in c.self.invariant.consistent.sound) inside.marks c.self.invariant.marked inside.loaded r c.in_ok-lists.lists fresh refl c.in_ok-insert.ensures.ok;
     }
 

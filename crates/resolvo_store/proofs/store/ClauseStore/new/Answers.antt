@@ -1,8 +1,8 @@
 use Rattle.std.proofs.Common.{rules, refl, subst, sym, take, [], arith}
 use Rattle.watch_map.specs.ClauseList.{Clauses}
-use Rattle.falsified_clauses.specs.Clauses.{counted}
 use Rattle.resolvo_store.specs.Asked.{asked_of}
-use Rattle.resolvo_store.specs.Counted.{Follows, false_by, no_false, placed}
+use Rattle.resolvo_store.specs.Counted.{AreCounted}
+use Rattle.resolvo_store.proofs.CountedLemmas.{none_counted}
 use Rattle.resolvo_store.specs.Lists.{lists_kept, disjunctions_kept, IsConsistent}
 use Rattle.resolvo_store.specs.Sound.{IsSound}
 use Rattle.resolvo_store.specs.Store.{Kept, Provider, store_of, gathered}
@@ -44,11 +44,8 @@ invariant_of-result g c =
             asked = search rules;
             may_ask = new_may_ask c.new-6.result _ _ c.new-6.ensures.new c.new-6.ensures.stands refl;
           }));
-      counted = subst (λ rs. Follows c.new-7.result c.new-8.result.entries (counted c.new-4.result c.new-5.result (placed rs) no_false)) (sym c.new-6.ensures.new.clauses)
-          (record {
-            within = omega (arith, c.new-7.ensures.none);
-            counts = c.new-7.ensures.clauses c.new-4.result c.new-5.result (false_by (take c.new-7.result.counted c.new-8.result.entries));
-          });
+      counted = subst (λ rs. AreCounted c.new-7.result rs c.new-8.result.entries c.new-4.result c.new-5.result) (sym c.new-6.ensures.new.clauses)
+          (none_counted c.new-7.result c.new-8.result.entries c.new-7.ensures.none.0 c.new-7.ensures.none.1 (c.new-7.ensures.clauses c.new-4.result c.new-5.result));
       marked = rw c.new-9.ensures (λ k d h. absurd (omega (arith, h)));
     }
 

@@ -15,7 +15,7 @@ use Rattle.resolvo_store.specs.Synced.{decisions_of}
 use Rattle.resolvo_store.specs.Walks.{AsksOnce, IsTold}
 use Rattle.resolvo_store.proofs.AskingLemmas.{can_walk, asked_as_store, asked_by_store}
 use Rattle.resolvo_store.proofs.CallerLaws.{store_in}
-use Rattle.resolvo_store.proofs.CountedLemmas.{follows_still}
+use Rattle.resolvo_store.proofs.CountedLemmas.{counted_still}
 use Rattle.resolvo_store.proofs.InvariantLemmas.{after_sync}
 use Rattle.resolvo_store.proofs.MarkedLaws.{marks_same}
 use Rattle.resolvo_store.proofs.WalkLemmas.{asks_told, asks_walked, on_any, told_of}
@@ -58,7 +58,7 @@ invariant_of-self g c =
           (c.sync.ensures.stands (references (g.D.Interner.universe inside.cache.provider) inside.loaded inside.disjunctions) c.self.invariant.consistent.may_ask.stands)
           (subst (λ ds. OnOk c.sync.result (HasTrail ds c.sync.new.self)) (c.assignments.ensures.decisions ∙ ap (λ t. decisions_of t.entries) c.take_sync_floor-floor.ensures.trail) c.sync.ensures.ok)
           c.sync.ensures.err);
-      counted = follows_still inside.falsified inside.loaded inside.disjunctions c.sync.ensures.clauses.clauses (ap (λ (t : Trail). t.entries) c.take_sync_floor-floor.ensures.trail) c.self.invariant.counted;
+      counted = counted_still c.sync.ensures.clauses.clauses (ap (λ (t : Trail). t.entries) c.take_sync_floor-floor.ensures.trail) c.self.invariant.counted;
       marked = marks_same st inside.marks c.self.invariant.marked c.take_sync_floor-floor.new.self (ap (λ (t : Trail). t.entries) c.take_sync_floor-floor.ensures.trail);
     }
 

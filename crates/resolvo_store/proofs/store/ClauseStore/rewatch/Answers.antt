@@ -6,9 +6,10 @@ use Rattle.watch_map.specs.ClauseList.{Clauses, contents}
 use Rattle.typed_ids.specs.declared.error.StoreError.TheVariants.{BadWatch}
 use Rattle.resolvo_store.specs.Command.{Rewatch, Done, Refused}
 use Rattle.resolvo_store.specs.Lists.{HasMarks}
+use Rattle.resolvo_store.specs.Answers.{done}
 use Rattle.resolvo_store.specs.Step.{Step}
 use Rattle.resolvo_store.specs.Store.{Kept, Provider, store_of, gathered}
-use Rattle.resolvo_store.proofs.AddingLemmas.{first_of_rewatch, step_foreseen, without_literal, step_rewatched, step_unmoved, err_answer}
+use Rattle.resolvo_store.proofs.AddingLemmas.{first_of_rewatch, step_foreseen, without_literal, step_rewatched, step_unmoved, err_replied}
 use Rattle.resolvo_store.proofs.CallerLaws.{store_in}
 use Rattle.resolvo_store.proofs.InvariantLemmas.{after_rewatch, with_list}
 use Rattle.resolvo_store.proofs.ListLemmas.{literals-kept}
@@ -66,7 +67,7 @@ returns-in_err-rewatch-clause-step g c =
     let made = with_list st (contents c.rewatch.new.self) in
     let e = c.in_err-rewatch.field-0.0 in
     let left = ap (λ (cs : Clauses g.row.D-NameId.Denot). with_list st cs) c.in_err-rewatch.ensures.err in
-    err_answer (λ reply. Step (store_of (given g) g.D.NameId.Scores.IdMap.value_at c.args.self.now) (Rewatch c.args.clause c.args.from c.args.to) reply made) c.from_residual.result e c.from_residual.ensures.1
+    err_replied done (λ reply. Step (store_of (given g) g.D.NameId.Scores.IdMap.value_at c.args.self.now) (Rewatch c.args.clause c.args.from c.args.to) reply made) c.from_residual.result e c.from_residual.ensures.1
     (subst (λ (k : Kept g.row.D.Denot g.row.D-NameId.Denot g.row.D-SolvableId.Denot g.row.D-NameId-Scores.Denot). Step (store_of (given g) g.D.NameId.Scores.IdMap.value_at k) (Rewatch c.args.clause c.args.from c.args.to) (Refused e) made) c.self.view_is
     (step_unmoved st c.args.clause c.args.from c.args.to _ e first c.in_err-rewatch.ensures.refused left))
 

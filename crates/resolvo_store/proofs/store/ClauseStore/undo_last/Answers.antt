@@ -1,9 +1,9 @@
 use Rattle.std.proofs.Common.{◌≡◌, ◌∙◌, ◌-◌, length, ap, arith, refl, subst, sym}
 use Rattle.std.proofs.lemmas.Grind.{common_steps}
 use Rattle.decisions.specs.Trail.{Trail, undo_last}
-use Rattle.falsified_clauses.specs.Clauses.{counted}
 use Rattle.resolvo_store.specs.Asked.{asked_of}
-use Rattle.resolvo_store.specs.Counted.{Follows, no_false, placed}
+use Rattle.resolvo_store.specs.Counted.{AreCounted}
+use Rattle.resolvo_store.proofs.CountedLemmas.{keeps_counted}
 use Rattle.resolvo_store.specs.Lists.{HasMarks}
 use Rattle.resolvo_store.specs.Store.{Kept}
 use Rattle.resolvo_store.specs.Walks.{taken_back}
@@ -24,8 +24,8 @@ invariant_of-self g c =
     record {
       consistent = after_trail c.self.invariant.consistent (undo_last old) (IsSound-without_newest _ c.self.invariant.consistent.sound)
           (in_step-undo_last old c.self.invariant.consistent.may_ask.in_step) c.undo_last-last.ensures.trail;
-      counted = subst (λ (t : Trail). Follows c.uncount_newest.new.self t.entries (counted inside.loaded inside.disjunctions (placed inside.queue.clauses) no_false)) (sym c.undo_last-last.ensures.trail)
-          (c.uncount_newest.ensures (counted inside.loaded inside.disjunctions (placed inside.queue.clauses) no_false) c.self.invariant.counted);
+      counted = subst (λ (t : Trail). AreCounted c.uncount_newest.new.self inside.queue.clauses t.entries inside.loaded inside.disjunctions) (sym c.undo_last-last.ensures.trail)
+          (keeps_counted c.uncount_newest.ensures.known (c.uncount_newest.ensures.follows _) c.self.invariant.counted);
       marked = subst (HasMarks (record st { trail = new.entries; place = new.place })) (sym c.cut_to.ensures)
           (marks_cut st inside.marks c.self.invariant.marked new (length old.entries - 1) cut);
     }

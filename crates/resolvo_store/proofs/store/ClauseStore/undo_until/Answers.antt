@@ -1,8 +1,8 @@
 use Rattle.std.proofs.Common.{◌≡◌, ◌∙◌, length, ap, refl, subst, sym}
 use Rattle.decisions.specs.Trail.{Trail, undo_until, kept_until}
-use Rattle.falsified_clauses.specs.Clauses.{counted}
 use Rattle.resolvo_store.specs.Asked.{asked_of}
-use Rattle.resolvo_store.specs.Counted.{Follows, no_false, placed}
+use Rattle.resolvo_store.specs.Counted.{AreCounted}
+use Rattle.resolvo_store.proofs.CountedLemmas.{keeps_counted}
 use Rattle.resolvo_store.specs.Lists.{HasMarks}
 use Rattle.resolvo_store.specs.Store.{Kept}
 use Rattle.resolvo_store.specs.Walks.{taken_back}
@@ -24,14 +24,14 @@ invariant_of-self g c =
     record {
       consistent = after_trail c.self.invariant.consistent (undo_until level old) (IsSound-kept_until _ c.self.invariant.consistent.sound level)
           (in_step-undo_until level old c.self.invariant.consistent.may_ask.in_step) c.undo_until.ensures.kept;
-      counted = subst (λ (t : Trail). Follows c.uncount_above.new.self t.entries (counted inside.loaded inside.disjunctions (placed inside.queue.clauses) no_false)) (sym c.undo_until.ensures.kept)
-          (c.uncount_above.ensures (counted inside.loaded inside.disjunctions (placed inside.queue.clauses) no_false) c.self.invariant.counted);
+      counted = subst (λ (t : Trail). AreCounted c.uncount_above.new.self inside.queue.clauses t.entries inside.loaded inside.disjunctions) (sym c.undo_until.ensures.kept)
+          (keeps_counted c.uncount_above.ensures.known (c.uncount_above.ensures.follows _) c.self.invariant.counted);
       marked = subst (HasMarks (record st { trail = new.entries; place = new.place })) (sym c.cut_to.ensures)
           (marks_cut st inside.marks c.self.invariant.marked new (length (kept_until level old.entries)) (cut ∙ kept_front level old.entries));
     }
 
 pub uncount_above-requires : goal.uncount_above-requires
-uncount_above-requires g c = c.self.invariant.counted.within
+uncount_above-requires g c = c.self.invariant.counted.follows.within
 
 pub returns-clause-asked : goal.returns-clause-asked
 returns-clause-asked g c =

@@ -32,14 +32,3 @@ invariant_of-self g c =
       counted = c.self.invariant.counted;
       marked = c.self.invariant.marked;
     }
-
-pub invariant_of-self-2 : goal.invariant_of-self-2
-invariant_of-self-2 g c =
-    let known : (g.D.Interner.universe c.self.inside.cache.provider).knows_solvable c.args.solvable ≡ true =
-    ap (λ p. (g.D.Interner.universe p).knows_solvable c.args.solvable) (sym c.provider.ensures.provider) ∙ sym c.knows_solvable.ensures ∙ c.if-not-knows_solvable.false in
-    record {
-      consistent = after_origins c.self.invariant.consistent (with_variable g.D.SolvableId.PartialEq.eq c.self.inside.variables c.args.solvable) c.intern_solvable.result
-          (IsSound-with_variable _ c.self.invariant.consistent.sound (lawful g c.self.inside.cache.provider) c.args.solvable known) c.intern_solvable.ensures.ok c.intern_solvable.ensures.err;
-      counted = c.self.invariant.counted;
-      marked = c.self.invariant.marked;
-    }

@@ -8,9 +8,6 @@ returns-in_err-literals-clause-ids_out g c = grind (arith, common_steps)
 pub returns-in_err-id-clause-ids_out : goal.returns-in_err-id-clause-ids_out
 returns-in_err-id-clause-ids_out g c = grind (arith, common_steps)
 
-pub returns-clause-reply : goal.returns-clause-reply
-returns-clause-reply g c = grind (arith, common_steps)
-
 pub returns-clause-ok : goal.returns-clause-ok
 returns-clause-ok g c = grind (arith, common_steps)
 

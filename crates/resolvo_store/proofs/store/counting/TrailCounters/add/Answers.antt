@@ -3,8 +3,8 @@ use Rattle.falsified_clauses.specs.Counts.{IsReady}
 use Rattle.resolvo_store.specs.Counted.{Counting, Follows, false_by}
 use Rattle.resolvo_store.proofs.store.counting.TrailCounters.add.Goals as goal
 
-pub returns : goal.returns
-returns g c s clause entries ready h =
+pub returns-clause-follows : goal.returns-clause-follows
+returns-clause-follows g c s clause entries ready h =
     let was = subst (λ (k : Counting). Follows k entries s) (sym c.self.view_is) h in
     record {
       within = was.within;

@@ -1,4 +1,4 @@
-use Rattle.std.specs.Prelude.{take}
+use Rattle.std.specs.Prelude.{◌≡◌, take}
 use Rattle.falsified_clauses.specs.Clauses.{Counted}
 use Rattle.falsified_clauses.specs.Counts.{Counts}
 use Rattle.resolvo_store.specs.Counted.{Follows, false_by}
@@ -6,5 +6,8 @@ use Rattle.resolvo_store.specs.contracts.store.counting.TrailCounters.catch_up.{
 use Rattle.resolvo_store.proofs.store.counting.TrailCounters.catch_up.Given as goal
 
 abbrev pub invariant-loop-index : goal.invariant-loop-index
-invariant-loop-index g l = (s : Counted (A-type g.row.A)) → Follows l.fn.self l.trail.entries s
-    → Counts l.self-inside.clauses (record s { is_false = false_by (take l.index l.trail.entries) })
+invariant-loop-index g l = record {
+  known : l.self-inside.known ≡ l.fn.self.known;
+  counts : (s : Counted (A-type g.row.A)) → Follows l.fn.self l.trail.entries s
+      → Counts l.self-inside.clauses (record s { is_false = false_by (take l.index l.trail.entries) });
+}

@@ -1,4 +1,4 @@
-use Rattle.std.specs.Prelude.{◌≤◌, length}
+use Rattle.std.specs.Prelude.{◌≡◌, ◌≤◌, length}
 use Rattle.falsified_clauses.specs.Clauses.{Counted}
 use Rattle.resolvo_store.specs.Counted.{Follows}
 use Rattle.resolvo_store.specs.contracts.store.counting.TrailCounters.uncount_above.{A-type}
@@ -6,6 +6,7 @@ use Rattle.resolvo_store.proofs.store.counting.TrailCounters.uncount_above.Given
 
 abbrev pub invariant-loop-self : goal.invariant-loop-self
 invariant-loop-self g l = record {
+  known : l.self.known ≡ l.fn.self.known;
   within : l.self.counted ≤ length l.trail.entries;
   follows : (s : Counted (A-type g.row.A)) → Follows l.fn.self l.trail.entries s → Follows l.self l.trail.entries s;
 }

@@ -1,12 +1,12 @@
 use Rattle.std.proofs.Common.{ap, refl}
 use Rattle.decisions.specs.Trail.{Trail, propagated}
 use Rattle.resolvo_store.proofs.CallerLaws.{store_in}
-use Rattle.resolvo_store.proofs.CountedLemmas.{follows_still}
+use Rattle.resolvo_store.proofs.CountedLemmas.{counted_still}
 use Rattle.resolvo_store.proofs.InvariantLemmas.{after_trail}
 use Rattle.resolvo_store.proofs.MarkedLaws.{marks_same}
 use Rattle.resolvo_store.proofs.SyncedLemmas.{in_step-propagated}
 use Rattle.resolvo_store.proofs.SoundLaws.{IsSound-propagated}
-use Rattle.resolvo_store.proofs.store.ClauseStore.unpropagated.Goals as goal
+use Rattle.resolvo_store.proofs.store.ClauseStore.next_unpropagated.Goals as goal
 
 pub invariant_of-self : goal.invariant_of-self
 invariant_of-self g c =
@@ -14,7 +14,7 @@ invariant_of-self g c =
       consistent = after_trail c.self.invariant.consistent (propagated c.self.inside.trail) (IsSound-propagated _ c.self.invariant.consistent.sound c.self.inside.trail.floor)
           (in_step-propagated c.self.inside.trail c.self.invariant.consistent.may_ask.in_step)
           c.next_unpropagated.ensures.trail;
-      counted = follows_still c.self.inside.falsified c.self.inside.loaded c.self.inside.disjunctions refl (ap (λ (t : Trail). t.entries) c.next_unpropagated.ensures.trail) c.self.invariant.counted;
+      counted = counted_still refl (ap (λ (t : Trail). t.entries) c.next_unpropagated.ensures.trail) c.self.invariant.counted;
       marked = marks_same (store_in c.self.invariant.consistent.sound) c.self.inside.marks c.self.invariant.marked c.next_unpropagated.new.self
           (ap (λ (t : Trail). t.entries) c.next_unpropagated.ensures.trail);
     }

@@ -3,10 +3,10 @@ use Rattle.resolvo_queue.specs.Queue.{Queue}
 use Rattle.resolvo_queue.specs.Rows.ByVariable.{list_at}
 use Rattle.resolvo_queue.specs.Scan.First.{first_of}
 use Rattle.resolvo_queue.proofs.Clauses.Firsts.{next_first}
-use Rattle.resolvo_queue.proofs.decide_queue.DecideQueue.next_position.Goals as goal
+use Rattle.resolvo_queue.proofs.decide_queue.DecideQueue.first_of.Goals as goal
 
-pub returns-clause-first : goal.returns-clause-first
-returns-clause-first g c =
+pub returns : goal.returns
+returns g c =
     let index = c.self.inside.tracked.index in
     next_first index.clauses.items c.args.parent c.next_position.result.first_of_parent
     (slice_get (list_at index.by_parent c.args.parent) 0) (c.self.invariant.0.order.first c.args.parent)

@@ -1,12 +1,12 @@
 use Rattle.std.proofs.Common.{refl, subst}
 use Rattle.resolvo_queue.specs.References.{references}
-use Rattle.resolvo_store.proofs.CountedLemmas.{follows_still}
+use Rattle.resolvo_store.proofs.CountedLemmas.{counted_still}
 use Rattle.resolvo_store.proofs.InvariantLemmas.{after_question}
 use Rattle.resolvo_store.specs.Asked.{asked_of}
 use Rattle.resolvo_store.specs.Store.{Kept}
 use Rattle.resolvo_store.specs.Walks.{WalksNothing}
 use Rattle.resolvo_store.proofs.WalkLemmas.{walks_still}
-use Rattle.resolvo_store.proofs.store.ClauseStore.standard.Goals as goal
+use Rattle.resolvo_store.proofs.store.ClauseStore.set_standard.Goals as goal
 
 pub invariant_of-self : goal.invariant_of-self
 invariant_of-self g c =
@@ -14,7 +14,7 @@ invariant_of-self g c =
     record {
       consistent = after_question c.self.invariant.consistent refl c.set_standard_activity_params.ensures.unchanged
           (c.set_standard_activity_params.ensures.stands (references (g.D.Interner.universe inside.cache.provider) inside.loaded inside.disjunctions) c.self.invariant.consistent.may_ask.stands);
-      counted = follows_still inside.falsified inside.loaded inside.disjunctions c.set_standard_activity_params.ensures.unchanged.clauses.clauses refl c.self.invariant.counted;
+      counted = counted_still c.set_standard_activity_params.ensures.unchanged.clauses.clauses refl c.self.invariant.counted;
       marked = c.self.invariant.marked;
     }
 
