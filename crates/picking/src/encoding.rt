@@ -1,4 +1,5 @@
 //! What a search tells the store before it runs: all that may be picked, and what each needs and forbids.
+use crate::choosing::Want;
 use crate::reason::Reason;
 use crate::search::{Result, Search};
 use resolvo_clauses::{Decision, Literal, VariableOrigin};
@@ -140,13 +141,16 @@ impl<'s, D: DependencyProvider + Copy> Encoder<'s, D> {
         };
         let (variable, requirement) = (parent.variable, wanted.requirement);
         let Some(condition) = wanted.condition else {
-            return self.search.require(variable, requirement, None, reason);
+            let gates = Vec::new(self.search.alloc);
+            return self
+                .search
+                .require(variable, requirement, None, gates, reason);
         };
         for list in &self.lists_of(condition)? {
-            let unless = self.unless(list)?;
-            let unless = self.search.store.disjunction(&unless, condition)?;
+            let gates = self.gates_of(list)?;
+            let unless = self.search.unless(&gates, condition)?;
             self.search
-                .require(variable, requirement, Some(unless), reason)?;
+                .require(variable, requirement, Some(unless), gates, reason)?;
         }
         Ok(())
     }
@@ -163,16 +167,16 @@ impl<'s, D: DependencyProvider + Copy> Encoder<'s, D> {
         convert_conditions_to_dnf(self.search.alloc, condition, provider)
     }
 
-    /// Literals that are all false where each of the version sets has a candidate that is true.
-    fn unless(&mut self, sets: &[VersionSetId]) -> Result<Vec<Literal, D::Alloc>> {
-        let mut unless = Vec::new(self.search.alloc);
+    /// The variables that are all true where each of the version sets has a candidate that is true.
+    fn gates_of(&mut self, sets: &[VersionSetId]) -> Result<Vec<VariableId, D::Alloc>> {
+        let mut gates = Vec::new(self.search.alloc);
         for set in sets {
-            let literal = Literal::new(self.gate(*set)?, true);
-            if !unless.contains(&literal) {
-                unless.push(literal)?;
+            let gate = self.gate(*set)?;
+            if !gates.contains(&gate) {
+                gates.push(gate)?;
             }
         }
-        Ok(unless)
+        Ok(gates)
     }
 
     /// The variable that is true where a candidate of the version set is; it is made once.
@@ -251,10 +255,29 @@ impl<D: DependencyProvider + Copy> Search<D> {
         parent: VariableId,
         requirement: Requirement,
         unless: Option<DisjunctionId>,
+        gates: Vec<VariableId, D::Alloc>,
         reason: Reason<D::NameId, D::SolvableId>,
     ) -> Result<()> {
-        let added = self.store.requires_clause(parent, requirement, unless)?;
-        self.note(added.clause, reason)
+        let clause = self
+            .store
+            .requires_clause(parent, requirement, unless)?
+            .clause;
+        self.note(clause, reason)?;
+        let want = Want {
+            requirement,
+            gates,
+            clause,
+        };
+        self.add_want(parent, want)
+    }
+
+    /// That one of the gates isn't true.
+    fn unless(&mut self, gates: &[VariableId], condition: ConditionId) -> Result<DisjunctionId> {
+        let mut unless = Vec::new(self.alloc);
+        for gate in gates {
+            unless.push(Literal::new(*gate, true))?;
+        }
+        self.store.disjunction(&unless, condition)
     }
 
     /// Says that the parent, if true, forbids a solvable that the version set doesn't hold. A parent that is this one

@@ -1,13 +1,14 @@
-//! Why nothing serves: what the last nogood, that of the root alone, follows from in the end.
+//! Why nothing serves: what the last conflict, which rests on the root alone, follows from in the end.
 use crate::learning::Source;
 use crate::reason::Reason;
-use crate::search::{Result, Search};
+use crate::search::{Refutation, Result, Search};
 use resolvo_clauses::VariableOrigin;
 use resolvo_ids::{ClauseId, IdSet, IndexedSet, Mapping, SolverId, VariableId};
 use resolvo_pool::DependencyProvider;
+use serving::Claim;
 use std::alloc::Allocator;
 
-/// A way back from the last nogood.
+/// A way back from the last conflict.
 #[derive(Drop)]
 struct WayBack<A: Allocator> {
     /// What is still to be followed.
@@ -36,10 +37,43 @@ impl<A: Allocator + Copy> WayBack<A> {
 }
 
 impl<D: DependencyProvider + Copy> Search<D> {
-    /// Why nothing serves: what is said by the clauses that the last nogood follows from, each thing once, in the order
-    /// in which it was told the store, and at most one version of a package last.
-    pub(crate) fn reasons(&self) -> Result<Vec<Reason<D::NameId, D::SolvableId>, D::Alloc>> {
+    /// That nothing serves, and why.
+    pub(crate) fn refutation(
+        &self,
+        steps: u64,
+    ) -> Result<Refutation<D::NameId, D::SolvableId, D::Alloc>> {
         let way = self.way_back()?;
+        let reasons = self.reasons(&way)?;
+        let learnt = self.learnt(&way)?;
+        Ok(Refutation {
+            learnt,
+            reasons,
+            steps,
+        })
+    }
+
+    /// What was learnt, of what was met.
+    fn learnt(
+        &self,
+        way: &WayBack<D::Alloc>,
+    ) -> Result<Vec<Vec<Claim<D::SolvableId>, D::Alloc>, D::Alloc>> {
+        let mut learnt = Vec::new(self.alloc);
+        for lesson in &self.lessons {
+            if way.clauses.contains(lesson.clause) {
+                let mut claims = Vec::new(self.alloc);
+                claims.extend_from_slice(&lesson.claims)?;
+                learnt.push(claims)?;
+            }
+        }
+        Ok(learnt)
+    }
+
+    /// What is said by the clauses that were met, each thing once, in the order in which it was told the store, and at
+    /// most one version of a package last.
+    fn reasons(
+        &self,
+        way: &WayBack<D::Alloc>,
+    ) -> Result<Vec<Reason<D::NameId, D::SolvableId>, D::Alloc>> {
         let mut reasons = Vec::new(self.alloc);
         for (clause, reason) in self.told.iter() {
             if way.clauses.contains(clause) && !reasons.contains(reason) {
@@ -80,7 +114,7 @@ impl<D: DependencyProvider + Copy> Search<D> {
         Ok(None)
     }
 
-    /// The way back from the last nogood to its end.
+    /// The way back from the last conflict to its end.
     fn way_back(&self) -> Result<WayBack<D::Alloc>> {
         let facts = self.facts()?;
         let mut way = WayBack {

@@ -45,7 +45,9 @@ pub fn pick<D: DependencyProvider>(
             }
         }
         SearchEnd::Unsolvable(refutation) => {
-            if refutes(alloc, provider, wanted, &refutation.nogoods)? {
+            if refutation.learnt.len() as u64 > refutation.steps {
+                Ok(Answer::StepsUsed)
+            } else if refutes(alloc, provider, wanted, &refutation.learnt)? {
                 Ok(Answer::Unsolvable(refutation.reasons))
             } else {
                 Ok(Answer::Unshown(refutation.reasons))

@@ -11,11 +11,13 @@
 //! one that is lent.
 #![tactic(auto)]
 
+mod choosing;
 mod encoding;
 mod explaining;
 mod finding;
 mod learning;
 mod lent;
+mod pace;
 mod reason;
 mod search;
 

@@ -1,17 +1,20 @@
 //! A search over the clause store.
 //!
 //! It encodes all that may be picked (`encoding`); then it saturates and decides in turn. Where a clause is false it
-//! learns which choices can't stand together (`learning`), and goes back to where all of them but the last one stand.
-//! Where nothing serves, it tells why (`explaining`).
+//! learns what can't stand together (`learning`), and goes back to where all of it but the last thing stands. After many
+//! conflicts it decides by scores (`choosing`), and begins anew from time to time (`pace`). Where nothing serves, it
+//! tells why (`explaining`).
+use crate::choosing::Want;
 use crate::encoding::Encoder;
-use crate::learning::Source;
+use crate::learning::{Lesson, Source};
+use crate::pace::{Pace, Scores};
 use crate::reason::Reason;
-use resolvo_clauses::Decision;
+use resolvo_clauses::{Decision, Literal};
 use resolvo_ids::{ClauseId, Mapping, StoreError, VariableId};
 use resolvo_pool::{ConditionalRequirement, DependencyProvider};
 use resolvo_store::ClauseStore;
+use serving::Claim;
 use std::alloc::Allocator;
-use std::mem;
 
 pub(crate) type Result<T> = std::result::Result<T, StoreError>;
 
@@ -29,11 +32,13 @@ pub(crate) enum SearchEnd<N, S, A: Allocator> {
 /// That nothing serves.
 #[derive(Drop)]
 pub(crate) struct Refutation<N, S, A: Allocator> {
-    /// Solvables that can't all be picked, list after list: each follows by unit propagation from what was told the
-    /// store and from the lists before it. The last one is empty.
-    pub(crate) nogoods: Vec<Vec<S, A>, A>,
-    /// What the last one follows from in the end.
+    /// Clauses: each follows by unit propagation from what was told the store and from those before it, and all together
+    /// contradict it.
+    pub(crate) learnt: Vec<Vec<Claim<S>, A>, A>,
+    /// What that follows from in the end.
     pub(crate) reasons: Vec<Reason<N, S>, A>,
+    /// How many steps are left.
+    pub(crate) steps: u64,
 }
 
 /// What was chosen to be true at a level: at level 1 the root, and then candidates.
@@ -52,6 +57,13 @@ pub(crate) struct Assigned {
     pub(crate) is_choice: bool,
 }
 
+impl Assigned {
+    /// That it isn't so.
+    pub(crate) fn opposite(&self) -> Literal {
+        Literal::new(self.decision.variable, self.decision.value)
+    }
+}
+
 /// A search, which owns its store.
 #[derive(Drop)]
 pub(crate) struct Search<D: DependencyProvider> {
@@ -62,10 +74,16 @@ pub(crate) struct Search<D: DependencyProvider> {
     pub(crate) choices: Vec<Choice, D::Alloc>,
     /// The trail as it was read last, oldest first.
     pub(crate) trail: Vec<Assigned, D::Alloc>,
+    /// The place of a variable there, if it is there.
+    places: Mapping<VariableId, usize, D::Alloc>,
+    /// What each variable requires.
+    pub(crate) wants: Mapping<VariableId, Vec<Want<D::Alloc>, D::Alloc>, D::Alloc>,
+    pub(crate) scores: Scores<D::NameId, D::Alloc>,
+    pub(crate) pace: Pace,
     /// What clauses say.
     pub(crate) told: Mapping<ClauseId, Reason<D::NameId, D::SolvableId>, D::Alloc>,
-    /// Solvables that can't all be picked, list after list as they were learnt.
-    pub(crate) nogoods: Vec<Vec<D::SolvableId, D::Alloc>, D::Alloc>,
+    /// What was learnt, in order.
+    pub(crate) lessons: Vec<Lesson<D::SolvableId, D::Alloc>, D::Alloc>,
     /// What each learnt clause follows from.
     pub(crate) derived: Mapping<ClauseId, Vec<Source, D::Alloc>, D::Alloc>,
     /// What follows from the root alone, and so leaves no choice.
@@ -91,14 +109,20 @@ impl<D: DependencyProvider + Copy> Search<D> {
     fn new(alloc: D::Alloc, provider: D) -> Result<Self> {
         let told = Mapping::new(alloc)?;
         let derived = Mapping::new(alloc)?;
+        let places = Mapping::new(alloc)?;
+        let wants = Mapping::new(alloc)?;
         let store = ClauseStore::new(alloc, provider)?;
         Ok(Search {
             store,
             candidates: Vec::new(alloc),
             choices: Vec::new(alloc),
             trail: Vec::new(alloc),
+            places,
+            wants,
+            scores: Scores::new(alloc),
+            pace: Pace::new(),
             told,
-            nogoods: Vec::new(alloc),
+            lessons: Vec::new(alloc),
             derived,
             root_cause: Vec::new(alloc),
             alloc,
@@ -126,9 +150,9 @@ impl<D: DependencyProvider + Copy> Search<D> {
     /// A step makes what follows from the choices true, and then chooses, or learns which choices can't stand together;
     /// these don't come together again. So it ends, but perhaps after very many steps.
     fn run(&mut self, steps: u64) -> Result<SearchEnd<D::NameId, D::SolvableId, D::Alloc>> {
-        for _ in 0..steps {
+        for step in 0..steps {
             if self.choices.is_empty() {
-                return Ok(SearchEnd::Unsolvable(self.refutation()?));
+                return Ok(SearchEnd::Unsolvable(self.refutation(steps - step)?));
             }
             if !self.goes_on()? {
                 return Ok(SearchEnd::Picked(self.picked()?));
@@ -137,24 +161,42 @@ impl<D: DependencyProvider + Copy> Search<D> {
         Ok(SearchEnd::StepsUsed)
     }
 
-    /// What was learnt, and why nothing serves.
-    fn refutation(&mut self) -> Result<Refutation<D::NameId, D::SolvableId, D::Alloc>> {
-        let reasons = self.reasons()?;
-        let nogoods = mem::replace(&mut self.nogoods, Vec::new(self.alloc));
-        Ok(Refutation { nogoods, reasons })
-    }
-
     /// Makes a step, and answers whether one was left.
     fn goes_on(&mut self) -> Result<bool> {
         let level = self.level();
         if let Some(conflict) = self.store.saturate(level)? {
             self.learn(conflict)?;
+            return self.is_let();
+        }
+        if self.pace.is_over() {
+            self.go_back(1);
             return Ok(true);
+        }
+        if self.pace.is_by_score() {
+            return self.goes_on_by_score();
         }
         let Some(next) = self.store.next_decision()? else {
             return Ok(false);
         };
         self.choose(next.candidate, next.clause_id)?;
+        Ok(true)
+    }
+
+    /// Refuses to go on where the provider says so.
+    fn is_let(&self) -> Result<bool> {
+        match self.store.provider().should_cancel_with_value() {
+            Some(_) => Err(StoreError::Cancelled),
+            None => Ok(true),
+        }
+    }
+
+    /// Chooses by scores. Answers whether a step was left.
+    fn goes_on_by_score(&mut self) -> Result<bool> {
+        self.read_trail()?;
+        let Some(offer) = self.best_offer() else {
+            return Ok(false);
+        };
+        self.choose(offer.candidate, offer.clause)?;
         Ok(true)
     }
 
@@ -189,6 +231,7 @@ impl<D: DependencyProvider + Copy> Search<D> {
                 Some(choice) => choice.variable == decision.variable,
                 None => false,
             };
+            self.places.insert(decision.variable, self.trail.len())?;
             self.trail.push(Assigned {
                 decision,
                 level: self.choices.len(),
@@ -196,6 +239,17 @@ impl<D: DependencyProvider + Copy> Search<D> {
             })?;
         }
         Ok(())
+    }
+
+    /// The assignment of a variable, as it was read last.
+    pub(crate) fn assigned(&self, variable: VariableId) -> Option<Assigned> {
+        let Some(place) = self.places.get(variable) else {
+            return None;
+        };
+        match self.trail.get(*place) {
+            Some(assigned) if assigned.decision.variable == variable => Some(*assigned),
+            _ => None,
+        }
     }
 
     /// Takes back what is above a level.
