@@ -1,10 +1,10 @@
 //! The clause store: what a search over packages keeps, decides and takes back, as one abstract machine.
 //!
 //! A [`ClauseStore`] stands over the packages of a provider. It keeps what each variable stands for, the candidates'
-//! variables of each requirement that was loaded, the requires clauses, and the trail of assignments. A search calls its
-//! methods, which answer what they mean in small types. The same is there as data: [`ClauseStore::step`] obeys one
-//! [`Command`] and answers it with one [`Reply`], and [`ClauseStore::run`] obeys a list of them in turn. What is refused
-//! changes nothing, but for `saturate`, which keeps what it forced.
+//! variables of each requirement that was loaded, the requires clauses, and the trail of assignments. A search calls
+//! its methods, which answer what they mean in small types. The same is there as data: [`ClauseStore::step`] obeys one
+//! [`Command`] and answers it with one [`Reply`], and [`ClauseStore::run`] obeys a list of them in turn. What is
+//! refused changes nothing, but for `saturate`, which keeps what it forced.
 //!
 //! Contracts don't speak of the store's fields. They name the abstract store, `⟦<D as AbstractStore>⟧.store self.now`,
 //! a record of plain lists and functions:

@@ -179,8 +179,8 @@ impl<D: DependencyProvider + Drop> ClauseStore<D> {
         self.cache.provider()
     }
 
-    /// Obeys a command by its method, and answers it. A refusal is a reply too: it changes nothing, but for a `Saturate`,
-    /// which keeps what it forced.
+    /// Obeys a command by its method, and answers it. A refusal is a reply too: it changes nothing, but for a
+    /// `Saturate`, which keeps what it forced.
     pub fn step(&mut self, command: &Command<D::NameId, D::SolvableId, D::Alloc>) -> Reply<D::Alloc>
         ensures step { Step (⟦<D as AbstractStore>⟧.store self.old) (command_of command.now)
             (reply_of result) (⟦<D as AbstractStore>⟧.store self.new) }

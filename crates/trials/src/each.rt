@@ -118,7 +118,8 @@ impl<N, S, A: Allocator + Copy> Refused<'_, N, S, A> {
             return Ok(true);
         };
         let (reply, is_met) = refused_reply(store, command, self.heap, number);
-        // A saturation that left its mark out is given again as one that was refused, and must be answered alike then.
+        // A saturation that left its mark out, or a decision that told a falsified clause, is given again as one that
+        // was refused, and must be answered alike then.
         if is_met && may_do_without(command) && !is_refused(&reply) {
             told.push_str(REFUSED)?;
         } else {

@@ -77,9 +77,10 @@ pub(crate) fn is_refused<A: Allocator>(reply: &Reply<A>) -> bool {
     matches!(reply, Reply::Refused(StoreError::OutOfMemory))
 }
 
-/// Whether the command may be answered though a request of it was refused: a saturation leaves its mark out then.
+/// Whether the command may be answered though a request of it was refused: a saturation leaves its mark out then, and a
+/// decision finds a falsified clause by the plain scan.
 pub(crate) fn may_do_without<N, S, A: Allocator>(command: &Command<N, S, A>) -> bool {
-    matches!(command, Command::Saturate(_))
+    matches!(command, Command::Saturate(_) | Command::Decide)
 }
 
 /// The reply to a command of which the request of this number is refused, and whether that came.
@@ -176,7 +177,9 @@ fn push_step<N, S, A: Allocator + Copy, T: Obeys<N, S, A>>(
     drop(reply);
     let is_wanted = is_left || line.as_str() == expected.line;
     let is_passed_over = is_met && !is_refused && !may_do_without(command);
-    if !is_wanted || is_passed_over || (is_met && expected.is_free) {
+    // Where a clause is falsified, a decision may take memory, but is never refused.
+    let is_withheld = is_refused && expected.line.starts_with("falsified");
+    if !is_wanted || is_passed_over || is_withheld || (is_met && expected.is_free) {
         unlike.push_str(line.as_str())?;
         unlike.push_str("\n")?;
     }

@@ -3,8 +3,8 @@ use crate::trial::Trial;
 use script_text::{Statement, is_word};
 
 /// Whether the command takes no memory where this line is wanted of it: it takes something back, hands an assignment
-/// out, or changes what is there already; or it finds a value that is there, a tracked variable, or a falsified clause;
-/// or it is refused by what it names.
+/// out, or changes what is there already; or it finds a value that is there, or a tracked variable; or it is refused by
+/// what it names.
 pub(crate) fn takes_no_memory(said: &Statement<'_>, wanted: &str) -> bool {
     const COMMANDS: [&str; 5] = [
         "undo-last",
@@ -18,7 +18,6 @@ pub(crate) fn takes_no_memory(said: &Statement<'_>, wanted: &str) -> bool {
         .iter()
         .any(|name| is_word(said.keyword, name.as_bytes()))
         || LINES.contains(&wanted)
-        || wanted.starts_with("falsified")
         || is_foreseen(wanted)
 }
 

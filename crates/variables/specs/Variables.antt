@@ -1,7 +1,7 @@
 -- The variables: a list of origins, one for each variable. N are the names, S the solvables.
 use Rattle.std.specs.Prelude.{◌≡◌, ℕ, ◌≤◌, ◌^◌, ◌-◌, Bool, false, ◌&&◌, ◌||◌, nat_le, nat_lt}
 use Rattle.std.specs.Prelude.{if◌then◌else◌, List, [], ◌∷◌, ◌++◌, length, take, fold, Option, None, Some}
-use Rattle.std.specs.Prelude.{is_some, is_none, unwrap_or, slice_get, IsTrue, Result, Ok, Err, IfErr, OnOk}
+use Rattle.std.specs.Prelude.{is_some, is_none, unwrap_or, slice_get, IsTrue, Result, Err, IfErr, OnOk}
 use Rattle.std.specs.List.{position_from, list_any}
 use Rattle.typed_ids.specs.Refusals.{IsGrowthRefusal}
 use Rattle.typed_ids.specs.declared.error.StoreError.{StoreError}

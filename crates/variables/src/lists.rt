@@ -30,7 +30,7 @@ pub fn intern_list<N: Copy, S: SolverId<A>, A: Allocator + Copy>(
     let mut list = Vec::with_capacity(alloc, solvables.len())?;
     for solvable in solvables {
         let variable = variables.intern_solvable(*solvable)?;
-        list.push(variable)?;
+        list.push_reserved(variable);
     }
     prove!(variables.count() < 1 << 31);
     Ok(list)

@@ -9,7 +9,7 @@ use Rattle.watch_map.specs.Watching.{is_literal_in, is_clause_in, before, behind
 use Rattle.watch_map.specs.WatchLists.{WatchLists, Watches, watched_by}
 use Rattle.watch_map.specs.WatchLists.{link, IsChain, watchers, AreWatched}
 use Rattle.watch_map.specs.WatchLists.{IsPrevious, IsCursorAt, clause_of, index_of}
-use Rattle.watch_map.specs.WatchCalls.{StandsBehind, remaining}
+use Rattle.watch_map.specs.WatchCalls.{StandsBehind, IsReached, remaining}
 use Rattle.watch_map.proofs.WatchingLaws.{parts}
 use Rattle.watch_map.proofs.ChainLaws.{in_middle}
 
@@ -62,3 +62,13 @@ module _ (map : WatchLists) (ws : Watches) (watched : AreWatched map ws) (l : Li
     arrived (Some c) (Some cursor) linked at =
         let s = starts_with back (Some c) linked c refl in
         at_clause c s.0 s.1 cursor at.0 at.1 at.2 at.3.within at.3.watch
+
+-- from where a walk came, on to the next clause
+module _ (map : WatchLists) (ws : Watches) (watched : AreWatched map ws) (l : Lit) (previous : Option WatchNode) (next : Option ℕ)
+    (front ahead : List ℕ) (reached : IsReached l previous next map ws front ahead) where
+  pub reached_watches : (c : ℕ) → next ≡ Some c → is_literal_in l (watched_by ws c) ≡ true
+  reached_watches = next_watches_it map ws watched l previous front ahead reached.list next reached.linked
+
+  pub reached_cursor : (result : Option Position) → IsCursorAt ws l previous next result →
+      (remaining result map ws ≡ ahead) × IfSome result (StandsBehind front l map ws)
+  reached_cursor result at = arrived map ws watched l previous front ahead reached.list reached.known next result reached.linked at

@@ -3,7 +3,6 @@ use Rattle.std.proofs.Common.{◌≡◌, ◌≢◌, ℕ, zero, suc, ◌<◌, Boo
 use Rattle.std.proofs.Common.{nat_eq, List, [], ◌∷◌, ◌++◌, Option, Some, None, length}
 use Rattle.std.proofs.Common.{slice_index_or, set, sym, ap, refl, subst, ◌∙◌, arith, eqb-true}
 use Rattle.std.specs.List.{IsDistinct}
-use Rattle.std.specs.Prelude.{IfSome}
 use Rattle.std.proofs.lemmas.Bool.{eqb-false}
 use Rattle.std.proofs.lemmas.List.{append_assoc}
 use Rattle.typed_ids.specs.TotalMaps.{IsUpdate}
@@ -16,11 +15,10 @@ use Rattle.clauses.specs.Clauses.{same_literal}
 use Rattle.watch_map.specs.Watching.{is_literal_in, is_clause_in, AreTwoOrNone, IsExact, without, moved}
 use Rattle.watch_map.specs.WatchLists.{WatchLists, Watches, record_of, literals_in, watched_by, next_in, next_at}
 use Rattle.watch_map.specs.WatchLists.{link, IsChain, watchers, HasTwoLinks, AreWatched, with_next, with_watch}
-use Rattle.watch_map.specs.WatchLists.{IsPrevious, IsCursorAt, IsRelinked, literal_of, clause_of, index_of}
-use Rattle.watch_map.specs.WatchCalls.{StandsIn, StandsBehind, Moves, passed, rest, remaining}
+use Rattle.watch_map.specs.WatchLists.{IsPrevious, IsRelinked, literal_of, clause_of, index_of}
+use Rattle.watch_map.specs.WatchCalls.{StandsIn, IsReached, Moves, passed, rest}
 use Rattle.watch_map.proofs.WatchingLaws.{same_is, same_self, same_swap, split, without_parts, distinct_head, distinct_tail, exact_same, moved_exact}
 use Rattle.watch_map.proofs.ChainLaws.{in_head, in_rest, in_middle, chain_same, chain_behind, chain_less}
-use Rattle.watch_map.proofs.CursorLaws.{next_watches_it, arrived}
 use Rattle.watch_map.proofs.LinkLaws.{record_at, record_next_kept, record_next_set, record_watch_kept, record_watch_set}
 use Rattle.watch_map.proofs.LinkLaws.{next_literals, watch_literals, next_links, watch_links, lists_made}
 
@@ -107,18 +105,14 @@ module _ (cursor : Position) (map : WatchLists) (ws : Watches) (stands : StandsI
   linked_rest = subst (λ o. IsChain (link ws from) o (rest cursor map ws)) (sym next_is)
       (chain_behind (link ws from) (value_at map (literal_index from)) (passed cursor map ws) clause (rest cursor map ws) linked_whole)
 
-  module _ (next : Option ℕ) (next_now : next ≡ next_at (record_of ws clause) (index_of cursor)) where
-    linked_next : IsChain (link ws from) next (rest cursor map ws)
-    linked_next = subst (λ o. IsChain (link ws from) o (rest cursor map ws)) (sym next_now) linked_rest
-
-    pub watched_next : (c : ℕ) → next ≡ Some c → is_literal_in from (watched_by ws c) ≡ true
-    watched_next = next_watches_it map ws stands.watched from (Some cursor.current)
-        (passed cursor map ws ++ clause ∷ []) (rest cursor map ws) whole_past next linked_next
-
-    pub goes_past : (result : Option Position) → IsCursorAt ws from (Some cursor.current) next result →
-        (remaining result map ws ≡ rest cursor map ws) × IfSome result (StandsBehind (passed cursor map ws ++ clause ∷ []) from map ws)
-    goes_past result = arrived map ws stands.watched from (Some cursor.current) (passed cursor map ws ++ clause ∷ []) (rest cursor map ws) whole_past
-        (record { within = stands.within; watch = stands.watch }, (passed cursor map ws, refl)) next result linked_next
+  -- past the clause
+  pub reached_past : IsReached from (Some cursor.current) (next_at (record_of ws clause) (index_of cursor)) map ws
+      (passed cursor map ws ++ clause ∷ []) (rest cursor map ws)
+  reached_past = record {
+    list = whole_past;
+    known = (record { within = stands.within; watch = stands.watch }, (passed cursor map ws, refl));
+    linked = linked_rest;
+  }
 
   pub unlinked : (previous : Option WatchNode) (map' : WatchLists) (ws' : Watches) → IsPrevious ws from previous (passed cursor map ws) →
       IsRelinked previous from (next_at (record_of ws clause) (index_of cursor)) map ws map' ws' →
@@ -357,15 +351,10 @@ module _ (cursor : Position) (map : WatchLists) (ws : Watches) (stands : StandsI
         let same : watched_by ws2 node.clause_id ≡ watched_by ws node.clause_id = literals_after.1 node.clause_id ne in
         (record { within = rw same front.0.within; watch = rw same front.0.watch }, front.1)
 
-    module _ (next : Option ℕ) (next_now : next ≡ next_at (record_of ws clause) (index_of cursor)) where
-      linked_now : IsChain (link ws2 from) next (rest cursor map ws)
-      linked_now = subst (λ o. IsChain (link ws2 from) o (rest cursor map ws)) (sym next_now) rest_linked_after
-
-      pub watched_behind : (c : ℕ) → next ≡ Some c → is_literal_in from (watched_by ws2 c) ≡ true
-      watched_behind = next_watches_it map2 ws2 watched_after from cursor.previous (passed cursor map ws) (rest cursor map ws) left_after next linked_now
-
-      pub goes_on : (result : Option Position) → IsCursorAt ws2 from cursor.previous next result →
-          (remaining result map2 ws2 ≡ rest cursor map ws) × IfSome result (StandsBehind (passed cursor map ws) from map2 ws2)
-      goes_on result =
-          arrived map2 ws2 watched_after from cursor.previous (passed cursor map ws) (rest cursor map ws) left_after
-          (previous_after cursor.previous stands.placed) next result linked_now
+    pub reached_after : IsReached from cursor.previous (next_at (record_of ws clause) (index_of cursor)) map2 ws2
+        (passed cursor map ws) (rest cursor map ws)
+    reached_after = record {
+      list = left_after;
+      known = previous_after cursor.previous stands.placed;
+      linked = rest_linked_after;
+    }

@@ -1,13 +1,20 @@
 -- A walk over the clauses that watch a literal: what each of its steps leaves.
-use Rattle.std.specs.Prelude.{IfSome}
-use Rattle.std.proofs.Common.{◌≡◌, ℕ, true, List, ◌∷◌, slice_index_or, Option, Some, None, subst, ◌∙◌}
+use Rattle.std.proofs.Common.{◌≡◌, ℕ, ◌<◌, true, nat_eq, List, [], ◌∷◌, ◌++◌, length, slice_index_or, Option, Some, None, refl, sym, ap, subst, ◌∙◌, arith}
+use Rattle.std.specs.List.{IsDistinct}
+use Rattle.std.proofs.lemmas.List.{append_assoc}
 use Rattle.decisions.specs.Literals.{Lit, is_false_literal}
 use Rattle.decisions.specs.Trail.{Trail, val}
-use Rattle.watch_map.specs.WatchLists.{WatchLists, Watches, Position, watched_by, AreWatched, clause_of, index_of, literal_of}
-use Rattle.watch_map.specs.WatchCalls.{StandsIn, StandsBehind, Moves, rest}
+use Rattle.watch_map.specs.declared.nodes.WatchNode.{WatchNode}
+use Rattle.watch_map.specs.Watching.{behind}
+use Rattle.watch_map.specs.WatchLists.{WatchLists, Watches, Position, watched_by, watchers, AreWatched, clause_of, index_of, literal_of}
+use Rattle.watch_map.specs.WatchLists.{IsNode, IsCursorAt, IsChain, link, next_at, record_of}
+use Rattle.watch_map.specs.WatchCalls.{StandsIn, IsReached, Moves, passed, rest}
 use Rattle.watch_map.specs.Saturation.{HasForced, IsRearranged}
 use Rattle.watch_map.specs.WatchInvariant.{has_true_beside, KeepsMet, AreMetBut}
 use Rattle.watch_map.specs.Visits.{IsWatching, MayWatch}
+use Rattle.watch_map.proofs.CursorLaws.{reached_cursor}
+use Rattle.watch_map.proofs.MoveLaws.{reached_past}
+use Rattle.watch_map.proofs.WatchingLaws.{parts}
 use Rattle.watch_map.proofs.LiteralLists.{read_in}
 use Rattle.watch_map.proofs.ValueLaws.{extends_on, false_kept}
 use Rattle.watch_map.proofs.ForcingLaws.{forced_then, forced_extends}
@@ -18,10 +25,76 @@ pub record IsAt (l : Lit) (map : WatchLists) (watches : Watches) (at : Position)
   pub stands : StandsIn at map watches
   pub literal_is : literal_of at ≡ l
 
-pub is_at : (o : Option Position) (front : List ℕ) (l m : Lit) (map : WatchLists) (watches : Watches) → m ≡ l
-    → IfSome o (StandsBehind front m map watches) → IfSome o (IsAt l map watches)
-is_at None front l m map watches e h = tt
-is_at (Some at) front l m map watches e h = record { stands = h.stands; literal_is = h.literal_is ∙ e }
+-- the clauses of a list behind a node, all where there is none
+abbrev pub ahead_of : Option WatchNode → List ℕ → List ℕ
+ahead_of None list = list
+ahead_of (Some node) list = behind node.clause_id list
+
+pub ahead_is : (map : WatchLists) (ws : Watches) (l : Lit) (previous : Option WatchNode) (next : Option ℕ) (front ahead : List ℕ)
+    → AreWatched map ws → IsReached l previous next map ws front ahead → ahead_of previous (watchers map ws l) ≡ ahead
+ahead_is map ws l None next front ahead watched reached = reached.list ∙ ap (λ xs. xs ++ ahead) reached.known
+ahead_is map ws l (Some node) next front ahead watched reached =
+    let whole : watchers map ws l ≡ reached.known.1.0 ++ node.clause_id ∷ ahead =
+    reached.list ∙ ap (λ xs. xs ++ ahead) reached.known.1.1 ∙ append_assoc reached.known.1.0 (node.clause_id ∷ []) ahead in
+    ap (behind node.clause_id) whole
+    ∙ (parts node.clause_id reached.known.1.0 ahead (subst (IsDistinct nat_eq) whole (watched.exact.once l))).1
+
+-- where a walk is, behind some clauses
+pub record IsBehind (l : Lit) (previous : Option WatchNode) (next : Option ℕ) (map : WatchLists) (watches : Watches) : Type 0 where
+  pub front : List ℕ
+  pub reached : IsReached l previous next map watches front (ahead_of previous (watchers map watches l))
+
+pub behind_from : (map : WatchLists) (ws : Watches) (l : Lit) (previous : Option WatchNode) (next : Option ℕ) (front ahead : List ℕ)
+    → AreWatched map ws → IsReached l previous next map ws front ahead → IsBehind l previous next map ws
+behind_from map ws l previous next front ahead watched reached = record {
+  front = front;
+  reached = subst (λ xs. IsReached l previous next map ws front xs)
+      (sym (ahead_is map ws l previous next front ahead watched reached)) reached;
+}
+
+-- the place at which it is then
+pub record IsPlace (l : Lit) (previous : Option WatchNode) (map : WatchLists) (watches : Watches) (place : Position) : Type 0 where
+  pub at : IsAt l map watches place
+  pub ahead : clause_of place ∷ rest place map watches ≡ ahead_of previous (watchers map watches l)
+
+pub placed_at : (map : WatchLists) (ws : Watches) (l : Lit) (previous : Option WatchNode) (next : Option ℕ)
+    → AreWatched map ws → IsBehind l previous next map ws → (c : ℕ) → next ≡ Some c → (node : WatchNode) → node.clause_id ≡ c
+    → node.watch_index < length (watched_by ws c) → slice_index_or (watched_by ws c) node.watch_index l ≡ l
+    → IsPlace l previous map ws (record { literal = l; previous = previous; current = node })
+placed_at map ws l previous next watched is_behind c e node e_node within watch =
+    let place : Position = record { literal = l; previous = previous; current = node } in
+    let is_node : IsNode ws l node = record {
+      within = subst (λ x. node.watch_index < length (watched_by ws x)) (sym e_node) within;
+      watch = subst (λ x. slice_index_or (watched_by ws x) node.watch_index l ≡ l) (sym e_node) watch;
+    } in
+    let at = reached_cursor map ws watched l previous next is_behind.front (ahead_of previous (watchers map ws l))
+    is_behind.reached (Some place)
+    (subst (λ o. IsCursorAt ws l previous o (Some place)) (sym e) (refl, refl, e_node, is_node)) in
+    record { at = record { stands = at.1.stands; literal_is = at.1.literal_is }; ahead = at.0 }
+
+-- past a clause
+pub behind_past : (map : WatchLists) (ws : Watches) (place : Position) (next : Option ℕ) → StandsIn place map ws
+    → next ≡ next_at (record_of ws (clause_of place)) (index_of place)
+    → IsBehind (literal_of place) (Some place.current) next map ws
+behind_past map ws place next stands e =
+    let front = passed place map ws ++ clause_of place ∷ [] in
+    behind_from map ws (literal_of place) (Some place.current) next front (rest place map ws) stands.watched
+    (subst (λ o. IsReached (literal_of place) (Some place.current) o map ws front (rest place map ws)) (sym e)
+    (reached_past place map ws stands))
+
+-- where there is no next clause
+pub nothing_ahead : (map : WatchLists) (ws : Watches) (l : Lit) (previous : Option WatchNode) (next : Option ℕ)
+    → IsBehind l previous next map ws → next ≡ None → ahead_of previous (watchers map ws l) ≡ []
+nothing_ahead map ws l previous next is_behind e =
+    go (ahead_of previous (watchers map ws l))
+    (subst (λ o. IsChain (link ws l) o (ahead_of previous (watchers map ws l))) e is_behind.reached.linked)
+  where
+    go : (xs : List ℕ) → IsChain (link ws l) None xs → xs ≡ []
+    go [] h = refl
+    go (x ∷ xs) h = absurd (let z : None ≡ Some x = h.0 in cc)
+
+pub smaller_by : (c : ℕ) (rest ahead : List ℕ) → c ∷ rest ≡ ahead → length rest < length ahead
+smaller_by c rest ahead e = subst (λ xs. length rest < length xs) e (omega arith)
 
 -- what is true since a walk of `l` began, with the trail `t` and the watches `w`; those `ahead` are yet to be visited
 pub record IsWalked (literals : ℕ → List Lit) (level : ℕ) (l : Lit) (t : Trail) (w : ℕ → List Lit) (map : WatchLists)

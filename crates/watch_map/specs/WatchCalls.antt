@@ -6,7 +6,9 @@ use Rattle.decisions.specs.Literals.{Lit}
 use Rattle.watch_map.specs.declared.watched_literals.WatchedLiterals.{WatchedLiterals}
 use Rattle.watch_map.specs.Watching.{is_literal_in, is_clause_in, started, moved, before, behind}
 use Rattle.watch_map.specs.WatchLists.{WatchLists, Watches, Position, record_of, watched_by, watchers}
-use Rattle.watch_map.specs.WatchLists.{HasRoom, AreWatched, literal_of, clause_of, index_of, IsPlaced}
+use Rattle.watch_map.specs.WatchLists.{HasRoom, AreWatched, literal_of, clause_of, index_of, IsPlaced, IsPrevious}
+use Rattle.watch_map.specs.WatchLists.{link, IsChain}
+use Rattle.watch_map.specs.declared.nodes.WatchNode.{WatchNode}
 
 -- ---- lists
 
@@ -71,6 +73,14 @@ pub record StandsBehind (front : List ℕ) (literal : Lit) (map : WatchLists) (w
   pub stands : StandsIn cursor map watches
   pub literal_is : literal_of cursor ≡ literal
   pub front_is : passed cursor map watches ≡ front
+
+-- a walk of this literal's list came behind the node `previous`, and behind these clauses; `next` is the first of those
+-- ahead
+pub record IsReached (literal : Lit) (previous : Option WatchNode) (next : Option ℕ) (map : WatchLists)
+    (watches : Watches) (front ahead : List ℕ) : Type 0 where
+  pub list : watchers map watches literal ≡ front ++ ahead
+  pub known : IsPrevious watches literal previous front
+  pub linked : IsChain (link watches literal) next ahead
 
 -- the clause at which a cursor stands watches another literal in the place of the cursor's
 pub record Moves (cursor : Position) (to : Lit) (map : WatchLists) (watches : Watches) (map' : WatchLists)

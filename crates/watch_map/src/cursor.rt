@@ -4,18 +4,18 @@ ghost use Rattle.std.specs.Prelude.{Some, OnOk, OnErr, IfOk, IfErr, IsOk, IfSome
 ghost use Rattle.std.specs.Option.{ForSome};
 ghost use Rattle.typed_ids.specs.declared.error.StoreError.TheVariants.{OutOfMemory};
 ghost use Rattle.watch_map.specs.Watching.{AreTwoOrNone, is_literal_in};
-ghost use Rattle.watch_map.specs.WatchLists.{watched_by, record_of, HasRoom, IsCursorAt};
+ghost use Rattle.watch_map.specs.WatchLists.{watched_by, record_of, next_at, HasRoom, IsCursorAt};
 ghost use Rattle.watch_map.specs.WatchLists.{clause_of, index_of, literal_of};
 ghost use Rattle.watch_map.specs.WatchCalls.{SameLists, KeepsRoom, UsesRoom, StandsIn};
-ghost use Rattle.watch_map.specs.WatchCalls.{StandsBehind, Moves, passed, rest, remaining};
+ghost use Rattle.watch_map.specs.WatchCalls.{StandsBehind, IsReached, Moves, passed, rest, remaining};
 
 use crate::lists::WatchMap;
-use crate::nodes::{Place, WatchNode, next_of, node_at, set_watch};
+use crate::nodes::{Place, WatchNode, next_of, node_at, record_at, set_watch};
 use crate::watched_literals::WatchedLiterals;
 use decisions::Literal;
 use std::alloc::Allocator;
 use std::marker::Model;
-use typed_ids::{ClauseId, DenseIndex, InsertError};
+use typed_ids::{ClauseId, InsertError, StoreError};
 
 /// A position in a literal's list, at one of its clauses.
 ///
@@ -93,10 +93,7 @@ impl WatchMapCursor {
         requires { 0 < length (watched_by watches.now (clause_of self.now)) }
         ensures { record_of watches.now (clause_of self.now) ≡ Some result.now }
     {
-        match &watches[self.place.current.clause_id.to_index()] {
-            Some(watched) => watched,
-            None => unreachable!(),
-        }
+        record_at(watches, self.place.current.clause_id)
     }
 
     /// The position behind it, `None` at the end of the list. Constant time; takes no memory.
@@ -119,8 +116,6 @@ impl WatchMapCursor {
     /// `None` at the end of the list. A refusal gives the position back.
     ///
     /// Constant time, at any place of the list. Takes memory where the other literal's list has no room.
-    // Most clauses that a walk visits stay. Out of line, a move takes no registers from what is done with those.
-    #[inline(never)]
     pub fn update<A: Allocator + Copy>(
         self,
         map: &mut WatchMap<A>,
@@ -182,8 +177,51 @@ fn move_clause<A: Allocator + Copy>(
     ensures rooms { KeepsRoom map.old map.new }
 {
     let next = next_of(watches, &place.current);
+    relink(map, watches, place, new_watch);
+    WatchMapCursor::at_clause(watches, place.literal, place.previous, next)
+}
+
+/// The same for a walk that is at this place, and goes on by itself. Takes memory where the other literal's list has no
+/// room.
+// Most clauses that a walk visits stay. Out of line, a move takes no registers from what is done with those.
+#[inline(never)]
+pub(crate) fn move_watch<A: Allocator + Copy>(
+    map: &mut WatchMap<A>,
+    watches: &mut [Option<WatchedLiterals>],
+    place: Place,
+    new_watch: Literal,
+) -> Result<(), StoreError>
+    requires stands { StandsIn place map.old watches.old }
+    requires other { is_literal_in new_watch (watched_by watches.old (clause_of place)) ≡ false }
+    ensures lists { OnOk result (Moves place new_watch map.old watches.old map.new watches.new) }
+    ensures reached { OnOk result (IsReached (literal_of place) place.previous
+        (next_at (record_of watches.old (clause_of place)) (index_of place)) map.new watches.new
+        (passed place map.old watches.old) (rest place map.old watches.old)) }
+    ensures err_lists { OnErr result (SameLists map.old map.new × (watches.new ≡ watches.old)) }
+    ensures memory { IfErr result (λ e. e ≡ OutOfMemory) }
+{
+    map.make_room(new_watch)?;
+    relink(map, watches, &place, new_watch);
+    Ok(())
+}
+
+/// Takes the clause at this place out of the list, and puts it to the front of another literal's, where there is room.
+fn relink<A: Allocator + Copy>(
+    map: &mut WatchMap<A>,
+    watches: &mut [Option<WatchedLiterals>],
+    place: &Place,
+    new_watch: Literal,
+)
+    requires stands { StandsIn place.now map.old watches.old }
+    requires other { is_literal_in new_watch (watched_by watches.old (clause_of place.now)) ≡ false }
+    requires room { HasRoom map.old new_watch 1 }
+    ensures lists { Moves place.now new_watch map.old watches.old map.new watches.new }
+    ensures reached { IsReached (literal_of place.now) place.now.previous
+        (next_at (record_of watches.old (clause_of place.now)) (index_of place.now)) map.new watches.new
+        (passed place.now map.old watches.old) (rest place.now map.old watches.old) }
+    ensures rooms { KeepsRoom map.old map.new }
+{
     map.unlink(watches, place);
     let next_of_new = map.put_first(new_watch, place.current.clause_id);
     set_watch(watches, &place.current, new_watch, next_of_new);
-    WatchMapCursor::at_clause(watches, place.literal, place.previous, next)
 }

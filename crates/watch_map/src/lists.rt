@@ -153,7 +153,7 @@ impl<A: Allocator + Copy> WatchMap<A> {
     }
 
     /// The first of a literal's clauses.
-    fn first(&self, literal: Literal) -> Option<ClauseId>
+    pub(crate) fn first(&self, literal: Literal) -> Option<ClauseId>
         ensures { result ≡ value_at self.now (literal_index literal) }
     {
         self.firsts.get(literal).copied()

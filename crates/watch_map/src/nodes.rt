@@ -48,6 +48,20 @@ pub(crate) fn node_at(
     }
 }
 
+/// The record of a clause that watches something.
+pub(crate) fn record_at(
+    watches: &[Option<WatchedLiterals>],
+    clause_id: ClauseId,
+) -> &WatchedLiterals
+    requires { 0 < length (watched_by watches.now clause_id) }
+    ensures { record_of watches.now clause_id ≡ Some result.now }
+{
+    match &watches[clause_id.to_index()] {
+        Some(watched) => watched,
+        None => unreachable!(),
+    }
+}
+
 /// The clause behind a node.
 pub(crate) fn next_of(watches: &[Option<WatchedLiterals>], node: &WatchNode) -> Option<ClauseId>
     requires { CanBeLinked node.now (record_of watches.now node.now.clause_id) }

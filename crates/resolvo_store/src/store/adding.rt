@@ -57,8 +57,8 @@ impl<D: DependencyProvider + Drop> ClauseStore<D> {
         self.add(Clause::Constrains(parent, forbidden, set))
     }
 
-    /// Adds the clause that a candidate outside the version set, if true, makes the variable true that stands for all of
-    /// them.
+    /// Adds the clause that a candidate outside the version set, if true, makes the variable true that stands for all
+    /// of them.
     pub fn constrains_excluded(
         &mut self,
         candidate: VariableId,
@@ -73,8 +73,8 @@ impl<D: DependencyProvider + Drop> ClauseStore<D> {
         self.add(Clause::ConstrainsExcluded(candidate, aux, set))
     }
 
-    /// Adds the clause that the parent, if true, forbids the variable that stands for all candidates outside the version
-    /// set.
+    /// Adds the clause that the parent, if true, forbids the variable that stands for all candidates outside the
+    /// version set.
     pub fn constrains_parent(
         &mut self,
         parent: VariableId,

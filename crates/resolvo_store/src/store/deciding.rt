@@ -21,11 +21,12 @@ impl<D: DependencyProvider + Drop> ClauseStore<D> {
     ghost use Rattle.resolvo_store.specs.Step.{Step};
     ghost use Rattle.resolvo_store.specs.Walks.{Asks, AsksOnce, IsTold};
 
-    /// What a search does next: the first falsified clause, else the decision that the scan picks, else that it is done.
+    /// What a search does next: the first falsified clause, else the decision that the scan picks, else it is done.
     pub fn decide(&mut self) -> Result<Next, StoreError>
         ensures step { Step (⟦<D as AbstractStore>⟧.store self.old) Decide
             (replied next result) (⟦<D as AbstractStore>⟧.store self.new) }
-        ensures done { result ≡ Ok Done → All (λ c. is_eligible_clause (⟦<D as AbstractStore>⟧.store self.old) c ≡ false)
+        ensures done { result ≡ Ok Done →
+            All (λ c. is_eligible_clause (⟦<D as AbstractStore>⟧.store self.old) c ≡ false)
             (scan (⟦<D as AbstractStore>⟧.store self.old).requires) }
         ensures provider { self.new.provider ≡ self.old.provider }
         ensures asked { let old = ⟦<D as AbstractStore>⟧.store self.old in
@@ -99,7 +100,7 @@ impl<D: DependencyProvider + Drop> ClauseStore<D> {
         ensures provider { self.new.provider ≡ self.old.provider }
         ensures memory { IfErr result (λ e. e ≡ OutOfMemory) }
 
-        // No requirement is walked twice, whatever the result; and the queue has this trail then, unless it was refused.
+        // No requirement is walked twice, whatever the result; and the queue has this trail, unless it was refused.
         ensures asked { AsksOnce (⟦<D as AbstractStore>⟧.store self.old) self.old.asked self.new.asked }
         ensures told { OnOk result (IsTold (⟦<D as AbstractStore>⟧.store self.old).trail self.new.asked) }
     {

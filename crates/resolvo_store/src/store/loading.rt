@@ -61,7 +61,8 @@ impl<D: DependencyProvider + Drop> ClauseStore<D> {
         requirement: Requirement,
     ) -> Result<VariableLists<D::Alloc>, StoreError>
         ensures step { Step (⟦<D as AbstractStore>⟧.store self.old) (Load requirement)
-            (replied (λ lists. LoadedAs (map (λ l. l.items) lists.items)) result) (⟦<D as AbstractStore>⟧.store self.new) }
+            (replied (λ lists. LoadedAs (map (λ l. l.items) lists.items)) result)
+            (⟦<D as AbstractStore>⟧.store self.new) }
         ensures provider { self.new.provider ≡ self.old.provider }
         ensures asked { self.new.asked ≡ self.old.asked }
     {

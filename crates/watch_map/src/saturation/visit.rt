@@ -10,7 +10,7 @@ ghost use Rattle.watch_map.specs.Saturation.{HasForced};
 ghost use Rattle.watch_map.specs.WatchInvariant.{is_true_literal};
 ghost use Rattle.watch_map.specs.Visits.{literals_at, IsWatching, IsLook, IsVisit};
 
-use crate::cursor::WatchMapCursor;
+use crate::nodes::{Place, record_at};
 use crate::saturation::given::{Given, clause_at};
 use crate::watched_literals::WatchedLiterals;
 use decisions::{Decision, DecisionMap, DecisionTracker, Literal};
@@ -43,7 +43,7 @@ pub(crate) enum Upshot {
 pub(crate) fn visit<N: Copy, A: Allocator + Copy>(
     given: &Given<N, A>,
     watches: &[Option<WatchedLiterals>],
-    at: &WatchMapCursor,
+    at: &Place,
     trail: &mut DecisionTracker<A>,
 ) -> Result<Upshot, StoreError>
     requires own { IsWatching (literals_at given.now (clause_of at.now)) (watched_by watches.now (clause_of at.now)) }
@@ -59,7 +59,7 @@ pub(crate) fn visit<N: Copy, A: Allocator + Copy>(
         Sight::Moves(literal) => Ok(Upshot::Moves(literal)),
         Sight::Conflict => Ok(Upshot::Conflict),
         Sight::Forces(other) => {
-            force(given, at.clause_id(), other, trail)?;
+            force(given, at.current.clause_id, other, trail)?;
             Ok(Upshot::Met)
         }
     }
@@ -69,7 +69,7 @@ pub(crate) fn visit<N: Copy, A: Allocator + Copy>(
 fn look<N: Copy, A: Allocator + Copy>(
     given: &Given<N, A>,
     watches: &[Option<WatchedLiterals>],
-    at: &WatchMapCursor,
+    at: &Place,
     map: &DecisionMap<A>,
 ) -> Sight
     requires own { IsWatching (literals_at given.now (clause_of at.now)) (watched_by watches.now (clause_of at.now)) }
@@ -78,14 +78,14 @@ fn look<N: Copy, A: Allocator + Copy>(
     ensures { IsLook (values_in map.now) (literals_at given.now (clause_of at.now))
         (watched_by watches.now (clause_of at.now)) (literal_of at.now) result }
 {
-    let index = at.watch_index();
-    let watched = at.watched_literals(watches);
+    let index = at.current.watch_index as usize;
+    let watched = record_at(watches, at.current.clause_id);
     let other = watched.watched_literals[1 - index];
     let value = other.eval(map);
     if value == Some(true) {
         return Sight::Met;
     }
-    let Some(clause) = clause_at(given, at.clause_id()) else {
+    let Some(clause) = clause_at(given, at.current.clause_id) else {
         unreachable!();
     };
     let next = watched.next_unwatched_literal(

@@ -9,7 +9,9 @@ ghost use Rattle.watch_map.specs.Saturation.{WatchOwn, HasForced, IsRearranged};
 ghost use Rattle.watch_map.specs.WatchInvariant.{KeepsMet, AreMetBut};
 ghost use Rattle.watch_map.specs.Visits.{literals_at};
 
+use crate::cursor::move_watch;
 use crate::lists::WatchMap;
+use crate::nodes::{Place, next_of, node_at};
 use crate::saturation::given::Given;
 use crate::saturation::visit::{Upshot, visit};
 use crate::watched_literals::WatchedLiterals;
@@ -39,15 +41,24 @@ pub(crate) fn walk<N: Copy, A: Allocator + Copy>(
         (IsConflict (literals_at given.now) (length given.now.clauses.now) (val trail.new.entries))) }
     ensures memory { IfErr result (λ e. e ≡ OutOfMemory) }
 {
-    let mut cursor = map.cursor(watches, literal);
-    while let Some(at) = cursor {
-        match visit(given, watches, &at, trail)? {
-            Upshot::Met => cursor = at.next(map, watches),
-            Upshot::Moves(other) => match at.update(map, watches, other) {
-                Ok(behind) => cursor = behind,
-                Err(refused) => return Err(refused.error),
-            },
-            Upshot::Conflict => return Ok(Some(at.clause_id())),
+    let mut previous = None;
+    let mut next = map.first(literal);
+    while let Some(clause_id) = next {
+        let place = Place {
+            literal,
+            previous,
+            current: node_at(watches, literal, clause_id),
+        };
+        next = next_of(watches, &place.current);
+        match visit(given, watches, &place, trail)? {
+            Upshot::Met => {
+                previous = Some(place.current);
+            }
+            Upshot::Moves(other) => {
+                move_watch(map, watches, place, other)?;
+                previous = place.previous;
+            }
+            Upshot::Conflict => return Ok(Some(clause_id)),
         }
     }
     Ok(None)

@@ -8,7 +8,7 @@ use Rattle.variables.proofs.InterningLemmas.{variables-in-turn, lacks_for_one, r
 use Rattle.variables.proofs.InterningLemmas.{list_any-fails, wholly, front_of_part, longer_part}
 use Rattle.variables.proofs.lists.intern_list.Given.{Over}
 use Rattle.variables.proofs.lists.intern_list.Goals as goal
-use Rattle.variables.proofs.lists.intern_list.Goals.{After-drop-list, After-drop-list-in_err-push, Else-prove}
+use Rattle.variables.proofs.lists.intern_list.Goals.{After-drop-list, Else-prove}
 
 pub loop-solvable-preserved : goal.loop-solvable-preserved
 loop-solvable-preserved g c =
@@ -22,7 +22,8 @@ loop-solvable-preserved g c =
     let done = take i ss in
     let more : take (i + 1) ss ≡ done ++ x ∷ [] = take_more ss i x c.loop-solvable-test.true ∙ ap (λ y. done ++ y ∷ []) (sym c.solvable-item.is) in
     record {
-      list = c.in_ok-push.ensures.items ∙ ap (λ l. l ++ v ∷ []) c.loop-solvable.invariant.list
+      room = omega (arith, c.loop-solvable-test.true, c.loop-solvable.invariant.room, c.push_reserved.ensures.len, c.push_reserved.ensures.capacity);
+      list = c.push_reserved.ensures.items ∙ ap (λ l. l ++ v ∷ []) c.loop-solvable.invariant.list
           ∙ ap (λ w. variables_in_turn same first done ++ w ∷ [])
           (c.in_ok-variable.ensures.variable ∙
           ap (λ os. interned_variable same os x) c.loop-solvable.invariant.done)
@@ -78,32 +79,6 @@ returns-in_err-variable-clause-refused g c =
     (λ out. subst (λ l. lacks_variables same large first l ≡ true) (sym split)
     (lacks_for_one same large first done x rest (subst (λ os. lacks_variable same large os x ≡ true) c.loop-solvable.invariant.done out)))
     c.in_err-variable.ensures.ids.refused)
-
--- where the variable's place was refused, so has the solvable
-part-push : (g : Over) (c : After-drop-list-in_err-push g) →
-    IsPartlyInterned g.S.PartialEq.eq c.args.variables.now c.args.solvables.now c.intern_solvable.new.self
-part-push g c =
-    let same = g.S.PartialEq.eq in
-    let first = c.args.variables.now in
-    let ss = c.args.solvables.now in
-    let i = c.loop-solvable.solvable-index in
-    let x = c.solvable-item.result in
-    let done = take i ss in
-    let more : take (i + 1) ss ≡ done ++ x ∷ [] = take_more ss i x c.loop-solvable-test.true ∙ ap (λ y. done ++ y ∷ []) (sym c.solvable-item.is) in (
-      i + 1,
-      one-more same first c.loop-solvable.variables c.intern_solvable.new.self done x c.loop-solvable.invariant.done c.in_ok-variable.ensures.ok
-          ∙ ap (with_variables same first) (sym more),
-    )
-
-pub returns-in_err-push-clause-err : goal.returns-in_err-push-clause-err
-returns-in_err-push-clause-err g c =
-    handed_on _ c.from_residual-in_err-push.result _ c.from_residual-in_err-push.ensures.1 (part-push g c)
-
-pub returns-in_err-push-clause-front : goal.returns-in_err-push-clause-front
-returns-in_err-push-clause-front g c = front_of_part g.S.PartialEq.eq c.args.variables.now c.args.solvables.now c.intern_solvable.new.self (part-push g c)
-
-pub returns-in_err-push-clause-longer : goal.returns-in_err-push-clause-longer
-returns-in_err-push-clause-longer g c = longer_part g.S.PartialEq.eq c.args.variables.now c.args.solvables.now c.intern_solvable.new.self (part-push g c)
 
 -- in the end all of them have variables
 part-whole : (g : Over) (c : Else-prove g) → IsPartlyInterned g.S.PartialEq.eq c.args.variables.now c.args.solvables.now c.loop-solvable.variables

@@ -1,59 +1,38 @@
-use Rattle.std.proofs.Common.{arith}
-use Rattle.watch_map.proofs.MoveLaws.{first_is, unlinked, watched_after, moves, watched_behind, goes_on}
-use Rattle.watch_map.proofs.StartLaws.{slot_of_first, room_by_length}
+use Rattle.std.proofs.Common.{sym, subst}
+use Rattle.watch_map.specs.WatchLists.{literal_of}
+use Rattle.watch_map.specs.WatchCalls.{IsReached, passed, rest}
+use Rattle.watch_map.proofs.CursorLaws.{reached_watches, reached_cursor}
 use Rattle.watch_map.proofs.cursor.move_clause.Goals as goal
 
-pub unlink-requires-clause-room : goal.unlink-requires-clause-room
-unlink-requires-clause-room g c =
-    let f = first_is c.args.place.now c.args.map.now c.args.watches.now c.requires.stands in slot_of_first c.args.map.now c.args.place.now.literal f.0 1 f.1
-
-pub put_first-next_of_new-requires : goal.put_first-next_of_new-requires
-put_first-next_of_new-requires g c =
-    let s = (unlinked c.args.place.now c.args.map.now c.args.watches.now c.requires.stands c.args.place.now.previous
-    c.unlink.new.self c.unlink.new.watches c.requires.stands.placed c.unlink.ensures).slots in
-    room_by_length c.args.map.now c.unlink.new.self c.args.new_watch 1 1 (omega (arith, s)) c.requires.room
-
 pub at_clause-requires-clause-two : goal.at_clause-requires-clause-two
-at_clause-requires-clause-two g c x e =
-    (watched_after c.args.place.now c.args.map.now c.args.watches.now c.requires.stands c.args.new_watch
-    c.requires.other c.unlink.new.self c.unlink.new.watches c.unlink.ensures
-    c.put_first-next_of_new.new.self c.set_watch.new.watches c.put_first-next_of_new.result
-    c.put_first-next_of_new.ensures.earlier c.put_first-next_of_new.ensures.first c.set_watch.ensures).exact.two x
+at_clause-requires-clause-two g c x e = c.relink.ensures.lists.watched.exact.two x
 
 pub at_clause-requires-clause-watched : goal.at_clause-requires-clause-watched
 at_clause-requires-clause-watched g c =
-    watched_behind c.args.place.now c.args.map.now c.args.watches.now c.requires.stands c.args.new_watch
-    c.requires.other c.unlink.new.self c.unlink.new.watches c.unlink.ensures
-    c.put_first-next_of_new.new.self c.set_watch.new.watches c.put_first-next_of_new.result
-    c.put_first-next_of_new.ensures.earlier c.put_first-next_of_new.ensures.first c.set_watch.ensures
-    c.next_of-next.result c.next_of-next.ensures
-
-pub returns-clause-lists : goal.returns-clause-lists
-returns-clause-lists g c =
-    moves c.args.place.now c.args.map.now c.args.watches.now c.requires.stands c.args.new_watch c.requires.other
-    c.unlink.new.self c.unlink.new.watches c.unlink.ensures
-    c.put_first-next_of_new.new.self c.set_watch.new.watches c.put_first-next_of_new.result
-    c.put_first-next_of_new.ensures.earlier c.put_first-next_of_new.ensures.first c.set_watch.ensures
+    let place = c.args.place.now in
+    let front = passed place c.args.map.now c.args.watches.now in
+    let ahead = rest place c.args.map.now c.args.watches.now in
+    reached_watches c.relink.new.map c.relink.new.watches c.relink.ensures.lists.watched (literal_of place) place.previous
+    c.next_of-next.result front ahead
+    (subst (λ o. IsReached (literal_of place) place.previous o c.relink.new.map c.relink.new.watches front ahead)
+    (sym c.next_of-next.ensures) c.relink.ensures.reached)
 
 pub returns-clause-list : goal.returns-clause-list
 returns-clause-list g c =
-    (goes_on c.args.place.now c.args.map.now c.args.watches.now c.requires.stands c.args.new_watch c.requires.other
-    c.unlink.new.self c.unlink.new.watches c.unlink.ensures
-    c.put_first-next_of_new.new.self c.set_watch.new.watches c.put_first-next_of_new.result
-    c.put_first-next_of_new.ensures.earlier c.put_first-next_of_new.ensures.first c.set_watch.ensures
-    c.next_of-next.result c.next_of-next.ensures c.at_clause.result c.at_clause.ensures).0
+    let place = c.args.place.now in
+    let front = passed place c.args.map.now c.args.watches.now in
+    let ahead = rest place c.args.map.now c.args.watches.now in
+    (reached_cursor c.relink.new.map c.relink.new.watches c.relink.ensures.lists.watched (literal_of place) place.previous
+    c.next_of-next.result front ahead
+    (subst (λ o. IsReached (literal_of place) place.previous o c.relink.new.map c.relink.new.watches front ahead)
+    (sym c.next_of-next.ensures) c.relink.ensures.reached) c.at_clause.result c.at_clause.ensures).0
 
 pub returns-clause-stands : goal.returns-clause-stands
 returns-clause-stands g c =
-    (goes_on c.args.place.now c.args.map.now c.args.watches.now c.requires.stands c.args.new_watch c.requires.other
-    c.unlink.new.self c.unlink.new.watches c.unlink.ensures
-    c.put_first-next_of_new.new.self c.set_watch.new.watches c.put_first-next_of_new.result
-    c.put_first-next_of_new.ensures.earlier c.put_first-next_of_new.ensures.first c.set_watch.ensures
-    c.next_of-next.result c.next_of-next.ensures c.at_clause.result c.at_clause.ensures).1
-
-pub returns-clause-rooms : goal.returns-clause-rooms
-returns-clause-rooms g c l n =
-    let s = (unlinked c.args.place.now c.args.map.now c.args.watches.now c.requires.stands c.args.place.now.previous
-    c.unlink.new.self c.unlink.new.watches c.requires.stands.placed c.unlink.ensures).slots in
-    let p = c.put_first-next_of_new.ensures.slots in
-    room_by_length c.args.map.now c.put_first-next_of_new.new.self l n n (omega (arith, s, p))
+    let place = c.args.place.now in
+    let front = passed place c.args.map.now c.args.watches.now in
+    let ahead = rest place c.args.map.now c.args.watches.now in
+    (reached_cursor c.relink.new.map c.relink.new.watches c.relink.ensures.lists.watched (literal_of place) place.previous
+    c.next_of-next.result front ahead
+    (subst (λ o. IsReached (literal_of place) place.previous o c.relink.new.map c.relink.new.watches front ahead)
+    (sym c.next_of-next.ensures) c.relink.ensures.reached) c.at_clause.result c.at_clause.ensures).1

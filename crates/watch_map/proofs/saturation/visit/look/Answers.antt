@@ -1,5 +1,4 @@
-use Rattle.std.proofs.Common.{rules, ◌≡◌, true, false, sym, ap, subst, ◌∙◌}
-use Rattle.std.specs.Prelude.{slice_get}
+use Rattle.std.proofs.Common.{rules, ◌≡◌, true, false, refl, sym, ap, subst, ◌∙◌}
 use Rattle.decisions.specs.Decisions.{values_in}
 use Rattle.decisions.specs.Literals.{known_true, known_false, is_false_literal}
 use Rattle.clauses.specs.Stored.{kept_in}
@@ -20,10 +19,10 @@ returns-then-eq g c =
     let now = values_in c.args.map.now in
     let literals = literals_at c.args.given.now (clause_of at) in
     let watched = watched_by c.args.watches.now (clause_of at) in
-    let ws = c.watched_literals-watched.result.now.watched_literals in
+    let ws = c.record_at-watched.result.now.watched_literals in
     let other = c.index-watched-index.result in
-    let pair = pair_read literals watched ws (index_of at) c.watch_index-index.result (literal_of at) other
-    (ap literals_in c.watched_literals-watched.ensures) c.watch_index-index.ensures
+    let pair = pair_read literals watched ws (index_of at) (index_of at) (literal_of at) other
+    (ap literals_in c.record_at-watched.ensures) refl
     c.requires.own c.requires.node.within
     c.requires.node.watch (search rules) c.index-watched-index.is in
     look_met now watched (index_of at) (literal_of at) other pair
@@ -37,7 +36,7 @@ unreachable-requires g c =
     let watched = watched_by c.args.watches.now (clause_of at) in
     let here = read_in watched (index_of at) (literal_of at) c.requires.node.within c.requires.node.watch in
     let gone = literals_nowhere given (clause_of at)
-    (ap (slice_get given.clauses.now) (sym c.clause_id.ensures) ∙ sym c.clause_at.ensures ∙ c.in_default.is) in
+    (sym c.clause_at.ensures ∙ c.in_default.is) in
     let z : false ≡ true = subst (λ ls. is_literal_in (literal_of at) ls ≡ true) gone
     (c.requires.own.own (literal_of at) here) in
     cc
@@ -49,18 +48,18 @@ returns-in-Some-next g c =
     let k = kept_in given.learnt.now given.lists.now given.disjunctions.now in
     let now = values_in c.args.map.now in
     let watched = watched_by c.args.watches.now (clause_of at) in
-    let ws = c.watched_literals-watched.result.now.watched_literals in
-    let index = c.watch_index-index.result in
+    let ws = c.record_at-watched.result.now.watched_literals in
+    let index = index_of at in
     let other = c.index-watched-index.result in
-    let e_ws = ap literals_in c.watched_literals-watched.ensures in
+    let e_ws = ap literals_in c.record_at-watched.ensures in
     let there = literals_there given (clause_of at) c.in-Some.clause
-    (ap (slice_get given.clauses.now) (sym c.clause_id.ensures) ∙ sym c.clause_at.ensures ∙ c.in-Some.is) in
+    (sym c.clause_at.ensures ∙ c.in-Some.is) in
     let pair = pair_read (literals_at given (clause_of at)) watched ws (index_of at) index (literal_of at) other e_ws
-    c.watch_index-index.ensures c.requires.own c.requires.node.within c.requires.node.watch
+    refl c.requires.own c.requires.node.within c.requires.node.watch
     (search rules) c.index-watched-index.is in
     let own = subst (λ ls. IsWatching ls watched) there c.requires.own in
     let next = next_read k now c.in-Some.clause watched ws (index_of at) index c.next_unwatched_literal-next.result e_ws
-    c.watch_index-index.ensures c.next_unwatched_literal-next.ensures ∙ c.in-Some-next.is in
+    refl c.next_unwatched_literal-next.ensures ∙ c.in-Some-next.is in
     subst (λ ls. MayWatch now ls watched c.in-Some-next.next) (sym there)
     (look_moves k now c.in-Some.clause watched (index_of at)
     (literal_of at) other pair own c.requires.is_false c.in-Some-next.next next)
@@ -72,18 +71,18 @@ returns-in-None g c =
     let k = kept_in given.learnt.now given.lists.now given.disjunctions.now in
     let now = values_in c.args.map.now in
     let watched = watched_by c.args.watches.now (clause_of at) in
-    let ws = c.watched_literals-watched.result.now.watched_literals in
-    let index = c.watch_index-index.result in
+    let ws = c.record_at-watched.result.now.watched_literals in
+    let index = index_of at in
     let other = c.index-watched-index.result in
-    let e_ws = ap literals_in c.watched_literals-watched.ensures in
+    let e_ws = ap literals_in c.record_at-watched.ensures in
     let there = literals_there given (clause_of at) c.in-Some.clause
-    (ap (slice_get given.clauses.now) (sym c.clause_id.ensures) ∙ sym c.clause_at.ensures ∙ c.in-Some.is) in
+    (sym c.clause_at.ensures ∙ c.in-Some.is) in
     let pair = pair_read (literals_at given (clause_of at)) watched ws (index_of at) index (literal_of at) other e_ws
-    c.watch_index-index.ensures c.requires.own c.requires.node.within c.requires.node.watch
+    refl c.requires.own c.requires.node.within c.requires.node.watch
     (search rules) c.index-watched-index.is in
     let own = subst (λ ls. IsWatching ls watched) there c.requires.own in
     let next = next_read k now c.in-Some.clause watched ws (index_of at) index c.next_unwatched_literal-next.result e_ws
-    c.watch_index-index.ensures c.next_unwatched_literal-next.ensures ∙ c.in-None.is in
+    refl c.next_unwatched_literal-next.ensures ∙ c.in-None.is in
     subst (λ ls. is_false now ls ≡ true) (sym there)
     (look_conflicts k now c.in-Some.clause watched (index_of at) (literal_of at) other pair own c.requires.is_false next
     (subst (λ x. is_false_literal now x ≡ true) (sym c.index-watched-index.is)
@@ -98,18 +97,18 @@ returns-in-None-2 g c =
     let k = kept_in given.learnt.now given.lists.now given.disjunctions.now in
     let now = values_in c.args.map.now in
     let watched = watched_by c.args.watches.now (clause_of at) in
-    let ws = c.watched_literals-watched.result.now.watched_literals in
-    let index = c.watch_index-index.result in
+    let ws = c.record_at-watched.result.now.watched_literals in
+    let index = index_of at in
     let other = c.index-watched-index.result in
-    let e_ws = ap literals_in c.watched_literals-watched.ensures in
+    let e_ws = ap literals_in c.record_at-watched.ensures in
     let there = literals_there given (clause_of at) c.in-Some.clause
-    (ap (slice_get given.clauses.now) (sym c.clause_id.ensures) ∙ sym c.clause_at.ensures ∙ c.in-Some.is) in
+    (sym c.clause_at.ensures ∙ c.in-Some.is) in
     let pair = pair_read (literals_at given (clause_of at)) watched ws (index_of at) index (literal_of at) other e_ws
-    c.watch_index-index.ensures c.requires.own c.requires.node.within c.requires.node.watch
+    refl c.requires.own c.requires.node.within c.requires.node.watch
     (search rules) c.index-watched-index.is in
     let own = subst (λ ls. IsWatching ls watched) there c.requires.own in
     let next = next_read k now c.in-Some.clause watched ws (index_of at) index c.next_unwatched_literal-next.result e_ws
-    c.watch_index-index.ensures c.next_unwatched_literal-next.ensures ∙ c.in-None-2.is in
+    refl c.next_unwatched_literal-next.ensures ∙ c.in-None-2.is in
     subst (λ x. ForcesOther now (literals_at given (clause_of at)) watched (literal_of at) x) c.index-watched-index.is
     (subst (λ ls. ForcesOther now ls watched (literal_of at) other) (sym there)
     (look_forces k now c.in-Some.clause watched (index_of at) (literal_of at) other pair own c.requires.is_false next

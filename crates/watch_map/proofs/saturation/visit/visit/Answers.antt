@@ -1,4 +1,4 @@
-use Rattle.std.proofs.Common.{◌≡◌, true, sym, subst}
+use Rattle.std.proofs.Common.{◌≡◌, true, subst}
 use Rattle.decisions.specs.Literals.{Values}
 use Rattle.decisions.specs.Trail.{val}
 use Rattle.watch_map.specs.WatchLists.{watched_by, clause_of, literal_of}
@@ -9,10 +9,8 @@ use Rattle.watch_map.proofs.saturation.visit.visit.Goals as goal
 
 pub force-requires : goal.force-requires
 force-requires g c = record {
-  forces = subst (λ x. forces (val c.args.trail.now.entries)
-      (literals_at c.args.given.now x) c.in-Forces.other ≡ true) (sym c.clause_id.ensures)
-      (subst (λ (now : Values). forces now (literals_at c.args.given.now (clause_of c.args.at.now)) c.in-Forces.other
-      ≡ true) c.map.ensures.values c.in-Forces.ensures.forced);
+  forces = subst (λ (now : Values). forces now (literals_at c.args.given.now (clause_of c.args.at.now)) c.in-Forces.other
+      ≡ true) c.map.ensures.values c.in-Forces.ensures.forced;
 }
 
 pub returns-in_ok-force-in-Forces-clause-ok : goal.returns-in_ok-force-in-Forces-clause-ok

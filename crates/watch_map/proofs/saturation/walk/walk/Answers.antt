@@ -1,174 +1,241 @@
-use Rattle.std.proofs.Common.{◌≡◌, ◌<◌, ◌∷◌, true, length, sym, subst}
-use Rattle.std.specs.Prelude.{IfSome, Option}
-use Rattle.decisions.specs.Literals.{is_false_literal}
+use Rattle.std.proofs.Common.{◌≡◌, ◌<◌, ◌∷◌, [], true, length, ap, sym, subst, ◌∙◌}
 use Rattle.decisions.specs.Trail.{val}
-use Rattle.watch_map.specs.WatchLists.{Watches, Position, watched_by, literal_of, clause_of, index_of}
+use Rattle.watch_map.specs.WatchLists.{Position, watched_by, watchers}
 use Rattle.watch_map.specs.Forcing.{is_false}
-use Rattle.watch_map.specs.WatchCalls.{remaining, rest}
-use Rattle.watch_map.specs.WatchInvariant.{AreMet, has_true_beside}
+use Rattle.watch_map.specs.WatchCalls.{IsReached, passed, rest}
+use Rattle.watch_map.specs.WatchInvariant.{AreMetBut, has_true_beside}
 use Rattle.watch_map.specs.Visits.{literals_at, IsVisit, MayWatch}
 use Rattle.watch_map.specs.declared.saturation.visit.Upshot.{Upshot}
 use Rattle.watch_map.proofs.LiteralLists.{read_in}
 use Rattle.watch_map.proofs.GivenLaws.{given_within}
-use Rattle.watch_map.proofs.WalkLaws.{IsAt, IsWalked, walked_more, walked_next, walked_moved, walked_false, walked_watching, is_at}
+use Rattle.watch_map.proofs.CursorLaws.{reached_watches}
+use Rattle.watch_map.proofs.WalkLaws.{ahead_of, ahead_is, behind_from, behind_past, placed_at, nothing_ahead, smaller_by}
+use Rattle.watch_map.proofs.WalkLaws.{IsWalked, walked_more, walked_next, walked_moved, walked_false, walked_watching}
 use Rattle.watch_map.proofs.saturation.walk.walk.Goals as goal
+
+pub node_at-requires-clause-watched : goal.node_at-requires-clause-watched
+node_at-requires-clause-watched g c =
+    let l = c.args.literal in
+    let map = c.loop-next.map in
+    let ws = c.loop-next.watches in
+    let previous = c.loop-next.previous in
+    let ahead = ahead_of previous (watchers map ws l) in
+    reached_watches map ws c.loop-next.invariant.walked.watched l previous c.loop-next.next
+    c.loop-next.invariant.reached.front ahead c.loop-next.invariant.reached.reached c.in-Some.clause_id c.in-Some.is
 
 pub visit-requires-clause-own : goal.visit-requires-clause-own
 visit-requires-clause-own g c =
-    walked_watching (literals_at c.args.given.now) c.args.given.now.level c.args.literal c.args.trail.now
-    (watched_by c.args.watches.now)
-    c.loop-cursor.map c.loop-cursor.watches c.loop-cursor.trail
-    (remaining c.loop-cursor.cursor c.loop-cursor.map c.loop-cursor.watches)
-    (clause_of c.in-Some.at) c.loop-cursor.invariant.walked
+    let literals = literals_at c.args.given.now in
+    let level = c.args.given.now.level in
+    let l = c.args.literal in
+    let t = c.args.trail.now in
+    let w = watched_by c.args.watches.now in
+    let map = c.loop-next.map in
+    let ws = c.loop-next.watches in
+    let previous = c.loop-next.previous in
+    let ahead = ahead_of previous (watchers map ws l) in
+    walked_watching literals level l t w map ws c.loop-next.trail ahead c.node_at.result.clause_id
+    c.loop-next.invariant.walked
 
 pub visit-requires-clause-is_false : goal.visit-requires-clause-is_false
 visit-requires-clause-is_false g c =
-    let now = val c.loop-cursor.trail.entries in
-    let at : IsAt c.args.literal c.loop-cursor.map c.loop-cursor.watches c.in-Some.at =
-    subst (λ (o : Option Position). IfSome o (IsAt c.args.literal c.loop-cursor.map c.loop-cursor.watches))
-    c.in-Some.is c.loop-cursor.invariant.at in
-    subst (λ x. is_false_literal now x ≡ true) (sym at.literal_is)
-    (walked_false (literals_at c.args.given.now) c.args.given.now.level c.args.literal c.args.trail.now
-    (watched_by c.args.watches.now)
-    c.loop-cursor.map c.loop-cursor.watches c.loop-cursor.trail
-    (remaining c.loop-cursor.cursor c.loop-cursor.map c.loop-cursor.watches)
-    c.requires.is_false c.loop-cursor.invariant.walked)
+    let literals = literals_at c.args.given.now in
+    let level = c.args.given.now.level in
+    let l = c.args.literal in
+    let t = c.args.trail.now in
+    let w = watched_by c.args.watches.now in
+    let map = c.loop-next.map in
+    let ws = c.loop-next.watches in
+    let previous = c.loop-next.previous in
+    let ahead = ahead_of previous (watchers map ws l) in
+    walked_false literals level l t w map ws c.loop-next.trail ahead c.requires.is_false c.loop-next.invariant.walked
 
 pub returns-in_err-visit-clause-forced : goal.returns-in_err-visit-clause-forced
 returns-in_err-visit-clause-forced g c =
-    (walked_more (literals_at c.args.given.now) c.args.given.now.level c.args.literal c.args.trail.now
-    (watched_by c.args.watches.now)
-    c.loop-cursor.map c.loop-cursor.watches c.loop-cursor.trail c.visit.new.trail
-    (remaining c.loop-cursor.cursor c.loop-cursor.map c.loop-cursor.watches) c.visit.ensures.forced
-    c.loop-cursor.invariant.walked).forced
+    let literals = literals_at c.args.given.now in
+    let level = c.args.given.now.level in
+    let l = c.args.literal in
+    let t = c.args.trail.now in
+    let w = watched_by c.args.watches.now in
+    let map = c.loop-next.map in
+    let ws = c.loop-next.watches in
+    let previous = c.loop-next.previous in
+    let ahead = ahead_of previous (watchers map ws l) in
+    (walked_more literals level l t w map ws c.loop-next.trail c.visit.new.trail ahead c.visit.ensures.forced
+    c.loop-next.invariant.walked).forced
 
-pub returns-in_err-visit-clause-kept : goal.returns-in_err-visit-clause-kept
-returns-in_err-visit-clause-kept g c before seen ex ex_seen met =
-    (walked_more (literals_at c.args.given.now) c.args.given.now.level c.args.literal c.args.trail.now
-    (watched_by c.args.watches.now)
-    c.loop-cursor.map c.loop-cursor.watches c.loop-cursor.trail c.visit.new.trail
-    (remaining c.loop-cursor.cursor c.loop-cursor.map c.loop-cursor.watches) c.visit.ensures.forced
-    c.loop-cursor.invariant.walked).kept before seen ex ex_seen met
-
-pub returns-in-Err-clause-forced : goal.returns-in-Err-clause-forced
-returns-in-Err-clause-forced g c =
-    (walked_more (literals_at c.args.given.now) c.args.given.now.level c.args.literal c.args.trail.now
-    (watched_by c.args.watches.now)
-    c.loop-cursor.map c.loop-cursor.watches c.loop-cursor.trail c.visit.new.trail
-    (remaining c.loop-cursor.cursor c.loop-cursor.map c.loop-cursor.watches) c.visit.ensures.forced
-    c.loop-cursor.invariant.walked).forced
-
-pub returns-in-Err-clause-kept : goal.returns-in-Err-clause-kept
-returns-in-Err-clause-kept g c before seen ex ex_seen met =
-    subst (λ (ws : Watches). AreMet before seen (watched_by ws))
-    (sym c.in-Err.ensures.err_lists.1)
-    ((walked_more (literals_at c.args.given.now) c.args.given.now.level c.args.literal c.args.trail.now
-    (watched_by c.args.watches.now)
-    c.loop-cursor.map c.loop-cursor.watches c.loop-cursor.trail c.visit.new.trail
-    (remaining c.loop-cursor.cursor c.loop-cursor.map c.loop-cursor.watches) c.visit.ensures.forced
-    c.loop-cursor.invariant.walked).kept before seen ex ex_seen met)
+pub returns-in_err-move_watch-in-Moves-clause-forced : goal.returns-in_err-move_watch-in-Moves-clause-forced
+returns-in_err-move_watch-in-Moves-clause-forced g c =
+    let literals = literals_at c.args.given.now in
+    let level = c.args.given.now.level in
+    let l = c.args.literal in
+    let t = c.args.trail.now in
+    let w = watched_by c.args.watches.now in
+    let map = c.loop-next.map in
+    let ws = c.loop-next.watches in
+    let previous = c.loop-next.previous in
+    let ahead = ahead_of previous (watchers map ws l) in
+    (walked_more literals level l t w map ws c.loop-next.trail c.visit.new.trail ahead c.visit.ensures.forced
+    c.loop-next.invariant.walked).forced
 
 pub returns-in-Conflict-clause-forced : goal.returns-in-Conflict-clause-forced
 returns-in-Conflict-clause-forced g c =
-    (walked_more (literals_at c.args.given.now) c.args.given.now.level c.args.literal c.args.trail.now
-    (watched_by c.args.watches.now)
-    c.loop-cursor.map c.loop-cursor.watches c.loop-cursor.trail c.visit.new.trail
-    (remaining c.loop-cursor.cursor c.loop-cursor.map c.loop-cursor.watches) c.visit.ensures.forced
-    c.loop-cursor.invariant.walked).forced
+    let literals = literals_at c.args.given.now in
+    let level = c.args.given.now.level in
+    let l = c.args.literal in
+    let t = c.args.trail.now in
+    let w = watched_by c.args.watches.now in
+    let map = c.loop-next.map in
+    let ws = c.loop-next.watches in
+    let previous = c.loop-next.previous in
+    let ahead = ahead_of previous (watchers map ws l) in
+    (walked_more literals level l t w map ws c.loop-next.trail c.visit.new.trail ahead c.visit.ensures.forced
+    c.loop-next.invariant.walked).forced
 
-pub returns-in-Conflict-clause-kept : goal.returns-in-Conflict-clause-kept
-returns-in-Conflict-clause-kept g c before seen ex ex_seen met =
-    (walked_more (literals_at c.args.given.now) c.args.given.now.level c.args.literal c.args.trail.now
-    (watched_by c.args.watches.now)
-    c.loop-cursor.map c.loop-cursor.watches c.loop-cursor.trail c.visit.new.trail
-    (remaining c.loop-cursor.cursor c.loop-cursor.map c.loop-cursor.watches) c.visit.ensures.forced
-    c.loop-cursor.invariant.walked).kept before seen ex ex_seen met
+pub move_watch-requires-clause-stands : goal.move_watch-requires-clause-stands
+move_watch-requires-clause-stands g c =
+    let l = c.args.literal in
+    let map = c.loop-next.map in
+    let ws = c.loop-next.watches in
+    let previous = c.loop-next.previous in
+    let place : Position = record { literal = l; previous = previous; current = c.node_at.result } in
+    let p = placed_at map ws l previous c.loop-next.next c.loop-next.invariant.walked.watched c.loop-next.invariant.reached
+    c.in-Some.clause_id c.in-Some.is c.node_at.result c.node_at.ensures.clause c.node_at.ensures.within
+    c.node_at.ensures.watch in
+    p.at.stands
+
+pub loop-next-smaller-in-Met : goal.loop-next-smaller-in-Met
+loop-next-smaller-in-Met g c =
+    let l = c.args.literal in
+    let map = c.loop-next.map in
+    let ws = c.loop-next.watches in
+    let previous = c.loop-next.previous in
+    let ahead = ahead_of previous (watchers map ws l) in
+    let place : Position = record { literal = l; previous = previous; current = c.node_at.result } in
+    let p = placed_at map ws l previous c.loop-next.next c.loop-next.invariant.walked.watched c.loop-next.invariant.reached
+    c.in-Some.clause_id c.in-Some.is c.node_at.result c.node_at.ensures.clause c.node_at.ensures.within
+    c.node_at.ensures.watch in
+    smaller_by c.node_at.result.clause_id (rest place map ws) ahead p.ahead
+
+pub loop-next-preserved-in-Met : goal.loop-next-preserved-in-Met
+loop-next-preserved-in-Met g c =
+    let literals = literals_at c.args.given.now in
+    let level = c.args.given.now.level in
+    let l = c.args.literal in
+    let t = c.args.trail.now in
+    let w = watched_by c.args.watches.now in
+    let map = c.loop-next.map in
+    let ws = c.loop-next.watches in
+    let previous = c.loop-next.previous in
+    let ahead = ahead_of previous (watchers map ws l) in
+    let place : Position = record { literal = l; previous = previous; current = c.node_at.result } in
+    let p = placed_at map ws l previous c.loop-next.next c.loop-next.invariant.walked.watched c.loop-next.invariant.reached
+    c.in-Some.clause_id c.in-Some.is c.node_at.result c.node_at.ensures.clause c.node_at.ensures.within
+    c.node_at.ensures.watch in
+    let more : IsWalked literals level l t w map ws c.visit.new.trail (c.node_at.result.clause_id ∷ rest place map ws) =
+    subst (λ xs. IsWalked literals level l t w map ws c.visit.new.trail xs) (sym p.ahead)
+    (walked_more literals level l t w map ws c.loop-next.trail c.visit.new.trail ahead c.visit.ensures.forced
+    c.loop-next.invariant.walked) in
+    let now = val c.visit.new.trail.entries in
+    let id = c.node_at.result.clause_id in
+    let seen : has_true_beside now (watched_by ws id) l ≡ true =
+    subst (λ (v : Upshot). IsVisit now (literals id) (watched_by ws id) l v) c.in-Met.is c.in_ok-visit.ensures.ok in
+    record {
+      reached = behind_past map ws place c.next_of-next.result p.at.stands c.next_of-next.ensures;
+      walked = walked_next literals level l t w map ws c.visit.new.trail id (rest place map ws) seen more;
+    }
+
+pub loop-next-smaller : goal.loop-next-smaller
+loop-next-smaller g c =
+    let l = c.args.literal in
+    let map = c.loop-next.map in
+    let ws = c.loop-next.watches in
+    let previous = c.loop-next.previous in
+    let ahead = ahead_of previous (watchers map ws l) in
+    let place : Position = record { literal = l; previous = previous; current = c.node_at.result } in
+    let p = placed_at map ws l previous c.loop-next.next c.loop-next.invariant.walked.watched c.loop-next.invariant.reached
+    c.in-Some.clause_id c.in-Some.is c.node_at.result c.node_at.ensures.clause c.node_at.ensures.within
+    c.node_at.ensures.watch in
+    let reached : IsReached l previous c.next_of-next.result c.move_watch.new.map c.move_watch.new.watches
+    (passed place map ws) (rest place map ws) =
+    subst (λ o. IsReached l previous o c.move_watch.new.map c.move_watch.new.watches (passed place map ws)
+    (rest place map ws)) (sym c.next_of-next.ensures) c.in_ok-move_watch-in-Moves.ensures.reached in
+    let watched = c.in_ok-move_watch-in-Moves.ensures.lists.watched in
+    let is = ahead_is c.move_watch.new.map c.move_watch.new.watches l previous c.next_of-next.result
+    (passed place map ws) (rest place map ws) watched reached in
+    smaller_by c.node_at.result.clause_id (ahead_of previous (watchers c.move_watch.new.map c.move_watch.new.watches l)) ahead
+    (ap (λ xs. c.node_at.result.clause_id ∷ xs) is ∙ p.ahead)
+
+pub loop-next-preserved : goal.loop-next-preserved
+loop-next-preserved g c =
+    let literals = literals_at c.args.given.now in
+    let level = c.args.given.now.level in
+    let l = c.args.literal in
+    let t = c.args.trail.now in
+    let w = watched_by c.args.watches.now in
+    let map = c.loop-next.map in
+    let ws = c.loop-next.watches in
+    let previous = c.loop-next.previous in
+    let ahead = ahead_of previous (watchers map ws l) in
+    let place : Position = record { literal = l; previous = previous; current = c.node_at.result } in
+    let p = placed_at map ws l previous c.loop-next.next c.loop-next.invariant.walked.watched c.loop-next.invariant.reached
+    c.in-Some.clause_id c.in-Some.is c.node_at.result c.node_at.ensures.clause c.node_at.ensures.within
+    c.node_at.ensures.watch in
+    let more : IsWalked literals level l t w map ws c.visit.new.trail (c.node_at.result.clause_id ∷ rest place map ws) =
+    subst (λ xs. IsWalked literals level l t w map ws c.visit.new.trail xs) (sym p.ahead)
+    (walked_more literals level l t w map ws c.loop-next.trail c.visit.new.trail ahead c.visit.ensures.forced
+    c.loop-next.invariant.walked) in
+    let reached : IsReached l previous c.next_of-next.result c.move_watch.new.map c.move_watch.new.watches
+    (passed place map ws) (rest place map ws) =
+    subst (λ o. IsReached l previous o c.move_watch.new.map c.move_watch.new.watches (passed place map ws)
+    (rest place map ws)) (sym c.next_of-next.ensures) c.in_ok-move_watch-in-Moves.ensures.reached in
+    let watched = c.in_ok-move_watch-in-Moves.ensures.lists.watched in
+    let is = ahead_is c.move_watch.new.map c.move_watch.new.watches l previous c.next_of-next.result
+    (passed place map ws) (rest place map ws) watched reached in
+    let now = val c.visit.new.trail.entries in
+    let id = c.node_at.result.clause_id in
+    let may : MayWatch now (literals id) (watched_by ws id) c.in-Moves.other =
+    subst (λ (v : Upshot). IsVisit now (literals id) (watched_by ws id) l v) c.in-Moves.is c.in_ok-visit.ensures.ok in
+    let l_false = walked_false literals level l t w map ws c.visit.new.trail (id ∷ rest place map ws) c.requires.is_false
+    more in
+    record {
+      reached = behind_from c.move_watch.new.map c.move_watch.new.watches l previous c.next_of-next.result
+          (passed place map ws) (rest place map ws) watched reached;
+      walked = subst (λ xs. IsWalked literals level l t w c.move_watch.new.map c.move_watch.new.watches c.visit.new.trail xs)
+          (sym is)
+          (walked_moved literals level l t w map c.move_watch.new.map ws c.move_watch.new.watches c.visit.new.trail place
+          c.in-Moves.other p.at l_false may c.in_ok-move_watch-in-Moves.ensures.lists more);
+    }
 
 pub returns-in-Conflict-clause-ok : goal.returns-in-Conflict-clause-ok
 returns-in-Conflict-clause-ok g c =
     let given = c.args.given.now in
     let now = val c.visit.new.trail.entries in
-    let map = c.loop-cursor.map in
-    let watches = c.loop-cursor.watches in
-    let id = clause_of c.in-Some.at in
-    let at : IsAt c.args.literal map watches c.in-Some.at =
-    subst (λ (o : Option Position). IfSome o (IsAt c.args.literal map watches)) c.in-Some.is
-    c.loop-cursor.invariant.at in
-    let here = read_in (watched_by watches id) (index_of c.in-Some.at)
-    (literal_of c.in-Some.at) at.stands.within at.stands.watch in
-    let within = given_within given id (literal_of c.in-Some.at)
-    (c.loop-cursor.invariant.walked.rearranged.own id (literal_of c.in-Some.at) here) in
+    let l = c.args.literal in
+    let ws = c.loop-next.watches in
+    let id = c.node_at.result.clause_id in
+    let map = c.loop-next.map in
+    let previous = c.loop-next.previous in
+    let place : Position = record { literal = l; previous = previous; current = c.node_at.result } in
+    let p = placed_at map ws l previous c.loop-next.next c.loop-next.invariant.walked.watched c.loop-next.invariant.reached
+    c.in-Some.clause_id c.in-Some.is c.node_at.result c.node_at.ensures.clause c.node_at.ensures.within
+    c.node_at.ensures.watch in
+    let here = read_in (watched_by ws id) c.node_at.result.watch_index l p.at.stands.within p.at.stands.watch in
+    let within = given_within given id l (c.loop-next.invariant.walked.rearranged.own id l here) in
     let seen : is_false now (literals_at given id) ≡ true =
-    subst (λ (v : Upshot). IsVisit now (literals_at given id) (watched_by watches id) (literal_of c.in-Some.at) v)
-    c.in-Conflict.is c.in_ok-visit.ensures.ok in
+    subst (λ (v : Upshot). IsVisit now (literals_at given id) (watched_by ws id) l v) c.in-Conflict.is
+    c.in_ok-visit.ensures.ok in
     subst (λ x. (x < length given.clauses.now) × (is_false now (literals_at given x) ≡ true))
-    (sym c.clause_id.ensures) (within, seen)
+    c.node_at.ensures.clause (within, seen)
 
-pub loop-cursor-preserved-in-Met : goal.loop-cursor-preserved-in-Met
-loop-cursor-preserved-in-Met g c =
-    let literals = literals_at c.args.given.now in
-    let level = c.args.given.now.level in
+pub returns-clause-ok : goal.returns-clause-ok
+returns-clause-ok g c =
     let l = c.args.literal in
-    let t = c.args.trail.now in
-    let w = watched_by c.args.watches.now in
-    let cursor = c.in-Some.at in
-    let id = clause_of cursor in
-    let map = c.loop-cursor.map in
-    let watches = c.loop-cursor.watches in
-    let now = val c.visit.new.trail.entries in
-    let at : IsAt l map watches cursor =
-    subst (λ (o : Option Position). IfSome o (IsAt l map watches)) c.in-Some.is c.loop-cursor.invariant.at in
-    let walked : IsWalked literals level l t w map watches c.loop-cursor.trail (id ∷ rest cursor map watches) =
-    subst (λ (o : Option Position). IsWalked literals level l t w map watches c.loop-cursor.trail
-    (remaining o map watches)) c.in-Some.is
-    c.loop-cursor.invariant.walked in
-    let more = walked_more literals level l t w map watches c.loop-cursor.trail c.visit.new.trail
-    (id ∷ rest cursor map watches)
-    c.visit.ensures.forced walked in
-    let seen : has_true_beside now (watched_by watches id) (literal_of cursor) ≡ true =
-    subst (λ (v : Upshot). IsVisit now (literals id) (watched_by watches id) (literal_of cursor) v) c.in-Met.is
-    c.in_ok-visit.ensures.ok in
-    let here = subst (λ x. has_true_beside now (watched_by watches id) x ≡ true) at.literal_is seen in
-    let done = walked_next literals level l t w map watches c.visit.new.trail id (rest cursor map watches) here more in
-    record {
-      at = is_at c.next-cursor.result _ l (literal_of cursor) map watches at.literal_is c.next-cursor.ensures.stands;
-      walked = subst (λ ahead. IsWalked literals level l t w map watches c.visit.new.trail ahead)
-          (sym c.next-cursor.ensures.list) done;
-    }
-
-pub loop-cursor-preserved : goal.loop-cursor-preserved
-loop-cursor-preserved g c =
-    let literals = literals_at c.args.given.now in
-    let level = c.args.given.now.level in
-    let l = c.args.literal in
-    let t = c.args.trail.now in
-    let w = watched_by c.args.watches.now in
-    let cursor = c.in-Some.at in
-    let id = clause_of cursor in
-    let map = c.loop-cursor.map in
-    let watches = c.loop-cursor.watches in
-    let now = val c.visit.new.trail.entries in
-    let at : IsAt l map watches cursor =
-    subst (λ (o : Option Position). IfSome o (IsAt l map watches)) c.in-Some.is c.loop-cursor.invariant.at in
-    let walked : IsWalked literals level l t w map watches c.loop-cursor.trail (id ∷ rest cursor map watches) =
-    subst (λ (o : Option Position). IsWalked literals level l t w map watches c.loop-cursor.trail
-    (remaining o map watches)) c.in-Some.is
-    c.loop-cursor.invariant.walked in
-    let more = walked_more literals level l t w map watches c.loop-cursor.trail c.visit.new.trail
-    (id ∷ rest cursor map watches)
-    c.visit.ensures.forced walked in
-    let may : MayWatch now (literals id) (watched_by watches id) c.in-Moves.other =
-    subst (λ (v : Upshot). IsVisit now (literals id) (watched_by watches id) (literal_of cursor) v) c.in-Moves.is
-    c.in_ok-visit.ensures.ok in
-    let l_false = walked_false literals level l t w map watches c.visit.new.trail
-    (id ∷ rest cursor map watches) c.requires.is_false more in
-    let map' = c.update.new.map in
-    let watches' = c.update.new.watches in
-    let done = walked_moved literals level l t w map map' watches watches' c.visit.new.trail cursor
-    c.in-Moves.other at l_false may
-    c.in-Ok.ensures.lists more in
-    record {
-      at = is_at c.in-Ok.behind _ l (literal_of cursor) map' watches' at.literal_is c.in-Ok.ensures.stands;
-      walked = subst (λ ahead. IsWalked literals level l t w map' watches' c.visit.new.trail ahead)
-          (sym c.in-Ok.ensures.list) done;
-    }
+    let map = c.loop-next.map in
+    let ws = c.loop-next.watches in
+    let previous = c.loop-next.previous in
+    let met : AreMetBut [] l (val c.loop-next.trail.entries) (watched_by ws) =
+    subst (λ xs. AreMetBut xs l (val c.loop-next.trail.entries) (watched_by ws))
+    (nothing_ahead map ws l previous c.loop-next.next c.loop-next.invariant.reached c.in_default.is)
+    c.loop-next.invariant.walked.ahead_met in
+    met
