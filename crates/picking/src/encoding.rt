@@ -1,5 +1,5 @@
-//! What a search tells the store before it runs: all that may be picked, and what each needs and forbids.
-use crate::choosing::Want;
+//! How a search encodes a request: all that may be picked, and what each needs and forbids.
+use crate::deciding::Required;
 use crate::reason::Reason;
 use crate::search::{Result, Search};
 use resolvo_clauses::{Decision, Literal, VariableOrigin};
@@ -20,7 +20,7 @@ struct Parent<S> {
     solvable: Option<S>,
 }
 
-/// Tells the store of a search what may be picked.
+/// Encodes into the store of a search what may be picked.
 #[derive(Drop)]
 pub(crate) struct Encoder<'s, D: DependencyProvider> {
     search: &'s mut Search<D>,
@@ -31,7 +31,7 @@ pub(crate) struct Encoder<'s, D: DependencyProvider> {
 }
 
 impl<'s, D: DependencyProvider + Copy> Encoder<'s, D> {
-    /// An encoder that told the store nothing yet.
+    /// An encoder that has encoded nothing yet.
     pub(crate) fn new(search: &'s mut Search<D>) -> Result<Self> {
         let gates = Mapping::new(search.alloc)?;
         let cache = SolverCache::new(search.alloc, *search.store.provider());
@@ -43,7 +43,7 @@ impl<'s, D: DependencyProvider + Copy> Encoder<'s, D> {
     }
 
     /// Says what is wanted, which the root requires, and what all candidates need. What that loads comes last, so that
-    /// each variable of the store is met here.
+    /// each variable of the store is seen here.
     pub(crate) fn encode_all(&mut self, wanted: &[ConditionalRequirement]) -> Result<()> {
         let root = Parent {
             variable: VariableId::root(),
@@ -263,12 +263,12 @@ impl<D: DependencyProvider + Copy> Search<D> {
             .requires_clause(parent, requirement, unless)?
             .clause;
         self.note(clause, reason)?;
-        let want = Want {
+        let required = Required {
             requirement,
             gates,
             clause,
         };
-        self.add_want(parent, want)
+        self.add_required(parent, required)
     }
 
     /// That one of the gates isn't true.

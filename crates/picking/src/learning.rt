@@ -1,4 +1,4 @@
-//! What a search learns from a false clause.
+//! Conflict analysis: what a search learns from a false clause.
 use crate::search::{Assigned, Result, Search};
 use resolvo_clauses::{Decision, Literal, VariableOrigin};
 use resolvo_ids::{ClauseId, IndexedSet, VariableId};
@@ -7,148 +7,150 @@ use serving::Claim;
 use std::alloc::Allocator;
 use std::mem;
 
-/// What a learnt clause follows from.
+/// What a learnt clause, or a value at level 1, follows from.
 #[derive(Clone, Copy)]
-pub(crate) enum Source {
+pub(crate) enum Antecedent {
     /// A clause.
     Clause(ClauseId),
-    /// The value of a variable that has it at level 1.
+    /// The value of a variable at level 1.
     Fact(VariableId),
 }
 
 /// A clause that was learnt, in the provider's ids.
 #[derive(Drop)]
-pub(crate) struct Lesson<S, A: Allocator> {
+pub(crate) struct LearntClause<S, A: Allocator> {
     pub(crate) clause: ClauseId,
-    /// One of these is so.
+    /// One of these holds.
     pub(crate) claims: Vec<Claim<S>, A>,
 }
 
-/// What a false clause follows from: assignments that can't all be made.
+/// The analysis of a conflict: which assignments can't stand together.
 #[derive(Drop)]
-struct Blame<A: Allocator> {
-    /// The level at which the clause got false.
+struct Analysis<A: Allocator> {
+    /// The level of the conflict.
     level: usize,
-    /// The variables that were met.
-    met: IndexedSet<VariableId, A>,
-    /// How many of them have that level, and weren't followed yet.
+    /// The variables that were seen.
+    seen: IndexedSet<VariableId, A>,
+    /// How many of them have that level, and aren't resolved yet.
     open: usize,
     /// The assignments of lower levels.
     lower: Vec<Assigned, A>,
-    /// Clauses that are still to be met.
+    /// Clauses that are still to be seen.
     pending: Vec<ClauseId, A>,
-    sources: Vec<Source, A>,
-    /// The variables above level 1 that were met.
+    antecedents: Vec<Antecedent, A>,
+    /// The variables above level 1 that were seen.
     variables: Vec<VariableId, A>,
 }
 
 impl<D: DependencyProvider + Copy> Search<D> {
-    /// Learns from a false clause which assignments can't all be made. Goes back to the lowest level at which all of
-    /// them but the last one are, and makes that one's opposite there. Where the root alone is to blame, no choice is
-    /// left.
+    /// Learns a clause from a conflict: that the first unique implication point and some assignments of lower levels
+    /// can't stand together. Backjumps to the highest of these levels, and propagates the clause there. A conflict that
+    /// follows from the root alone leaves no level.
     pub(crate) fn learn(&mut self, conflict: ClauseId) -> Result<()> {
         self.read_trail()?;
-        let mut blame = self.begun(conflict)?;
-        let last = self.first_unique(&mut blame)?;
-        self.raise_scores(&blame.variables)?;
-        let lower = self.shortened(&blame.lower, &blame.met, &mut blame.sources)?;
-        let sources = mem::replace(&mut blame.sources, Vec::new(self.alloc));
+        let mut analysis = self.analysis_of(conflict)?;
+        let last = self.first_uip(&mut analysis)?;
+        self.raise_scores(&analysis.variables)?;
+        let lower = self.minimized(&analysis.lower, &analysis.seen, &mut analysis.antecedents)?;
+        let antecedents = mem::replace(&mut analysis.antecedents, Vec::new(self.alloc));
         let Some(last) = last else {
-            self.choices.clear();
-            self.root_cause = sources;
+            self.levels.clear();
+            self.root_cause = antecedents;
             return Ok(());
         };
-        self.go_on_without(last, &lower, sources)
+        self.learn_clause(last, &lower, antecedents)
     }
 
-    /// The beginning of a blame: a false clause, and the highest level in it.
-    fn begun(&self, conflict: ClauseId) -> Result<Blame<D::Alloc>> {
-        let mut blame = Blame {
-            level: self.highest(conflict)?,
-            met: IndexedSet::new(self.alloc),
+    /// An analysis begins with the false clause, and the highest level in it.
+    fn analysis_of(&self, conflict: ClauseId) -> Result<Analysis<D::Alloc>> {
+        let mut analysis = Analysis {
+            level: self.highest_level(conflict)?,
+            seen: IndexedSet::new(self.alloc),
             open: 0,
             lower: Vec::new(self.alloc),
             pending: Vec::new(self.alloc),
-            sources: Vec::new(self.alloc),
+            antecedents: Vec::new(self.alloc),
             variables: Vec::new(self.alloc),
         };
-        self.meet(conflict, &mut blame)?;
-        Ok(blame)
+        self.see(conflict, &mut analysis)?;
+        Ok(analysis)
     }
 
     /// The highest level in a clause.
-    fn highest(&self, clause: ClauseId) -> Result<usize> {
-        let mut highest = 0;
+    fn highest_level(&self, clause: ClauseId) -> Result<usize> {
+        let mut highest_level = 0;
         for literal in self.store.literals(clause)?.iter().flatten() {
             if let Some(assigned) = self.assigned(literal.variable()) {
-                highest = highest.max(assigned.level);
+                highest_level = highest_level.max(assigned.level);
             }
         }
-        Ok(highest)
+        Ok(highest_level)
     }
 
-    /// Follows what was met back to the first assignment of the clause's level on which all others of that level rest.
-    /// The trail is walked backwards, since what an assignment follows from was assigned before it. There is none where
-    /// all follows from the root.
-    fn first_unique(&self, blame: &mut Blame<D::Alloc>) -> Result<Option<Assigned>> {
-        if blame.level < 2 {
+    /// The first unique implication point: the last assignment of the conflict's level from which, with lower levels,
+    /// the conflict follows. The trail is walked backwards, since an assignment's antecedents come before it. There is
+    /// none if the conflict follows from the root alone.
+    fn first_uip(&self, analysis: &mut Analysis<D::Alloc>) -> Result<Option<Assigned>> {
+        if analysis.level < 2 {
             return Ok(None);
         }
         for assigned in self.trail.iter().rev() {
-            if assigned.level == blame.level && blame.met.contains(assigned.decision.variable) {
-                if self.is_last(assigned, blame) {
+            if assigned.level == analysis.level
+                && analysis.seen.contains(assigned.decision.variable)
+            {
+                if self.is_unique(assigned, analysis) {
                     return Ok(Some(*assigned));
                 }
-                blame.open = blame.open.saturating_sub(1);
-                self.meet(assigned.decision.derived_from, blame)?;
+                analysis.open = analysis.open.saturating_sub(1);
+                self.see(assigned.decision.derived_from, analysis)?;
             }
         }
         Ok(None)
     }
 
-    /// Whether all that was met of the clause's level rests on an assignment that was met, and that may be named.
-    fn is_last(&self, assigned: &Assigned, blame: &Blame<D::Alloc>) -> bool {
-        assigned.is_choice || blame.open < 2 && !self.is_helper(assigned.decision.variable)
+    /// Whether an assignment that was seen is the only open one of the conflict's level, and may be in a learnt clause.
+    fn is_unique(&self, assigned: &Assigned, analysis: &Analysis<D::Alloc>) -> bool {
+        assigned.is_decision || analysis.open < 2 && !self.is_helper(assigned.decision.variable)
     }
 
-    /// Adds a clause and its variables; and where a lower level has a helper, the clause that it follows from.
-    fn meet(&self, clause: ClauseId, blame: &mut Blame<D::Alloc>) -> Result<()> {
-        blame.pending.push(clause)?;
+    /// Sees a clause and its variables. For a helper of a lower level its antecedent is seen as well.
+    fn see(&self, clause: ClauseId, analysis: &mut Analysis<D::Alloc>) -> Result<()> {
+        analysis.pending.push(clause)?;
         for _ in 0..u64::MAX {
-            let Some(clause) = blame.pending.pop() else {
+            let Some(clause) = analysis.pending.pop() else {
                 break;
             };
-            blame.sources.push(Source::Clause(clause))?;
+            analysis.antecedents.push(Antecedent::Clause(clause))?;
             for literal in self.store.literals(clause)?.iter().flatten() {
-                self.meet_variable(literal.variable(), blame)?;
+                self.see_variable(literal.variable(), analysis)?;
             }
         }
         Ok(())
     }
 
-    fn meet_variable(&self, variable: VariableId, blame: &mut Blame<D::Alloc>) -> Result<()> {
+    fn see_variable(&self, variable: VariableId, analysis: &mut Analysis<D::Alloc>) -> Result<()> {
         let Some(assigned) = self.assigned(variable) else {
             return Ok(());
         };
-        if !blame.met.insert(variable)? {
+        if !analysis.seen.insert(variable)? {
             return Ok(());
         }
         if assigned.level < 2 {
-            blame.sources.push(Source::Fact(variable))?;
+            analysis.antecedents.push(Antecedent::Fact(variable))?;
             return Ok(());
         }
-        blame.variables.push(variable)?;
-        if assigned.level == blame.level {
-            blame.open = blame.open.saturating_add(1);
+        analysis.variables.push(variable)?;
+        if assigned.level == analysis.level {
+            analysis.open = analysis.open.saturating_add(1);
         } else if self.is_helper(variable) {
-            blame.pending.push(assigned.decision.derived_from)?;
+            analysis.pending.push(assigned.decision.derived_from)?;
         } else {
-            blame.lower.push(assigned)?;
+            analysis.lower.push(assigned)?;
         }
         Ok(())
     }
 
-    /// Whether a variable helps to say that at most one version of a package is picked. What is learnt names none.
+    /// Whether a variable is a helper of an at-most-one encoding. No learnt clause has one.
     fn is_helper(&self, variable: VariableId) -> bool {
         match self.store.origin(variable) {
             Some(VariableOrigin::ForbidMultiple(_)) => true,
@@ -156,17 +158,17 @@ impl<D: DependencyProvider + Copy> Search<D> {
         }
     }
 
-    /// Assignments without those that follow from the other ones that were met.
-    fn shortened(
+    /// The assignments without the redundant ones.
+    fn minimized(
         &self,
         lower: &[Assigned],
-        met: &IndexedSet<VariableId, D::Alloc>,
-        sources: &mut Vec<Source, D::Alloc>,
+        seen: &IndexedSet<VariableId, D::Alloc>,
+        antecedents: &mut Vec<Antecedent, D::Alloc>,
     ) -> Result<Vec<Assigned, D::Alloc>> {
         let mut kept = Vec::new(self.alloc);
         for assigned in lower {
-            if self.follows(assigned, met)? {
-                self.add_step(assigned.decision.derived_from, sources)?;
+            if self.is_redundant(assigned, seen)? {
+                self.add_antecedents_of(assigned.decision.derived_from, antecedents)?;
             } else {
                 kept.push(*assigned)?;
             }
@@ -174,9 +176,13 @@ impl<D: DependencyProvider + Copy> Search<D> {
         Ok(kept)
     }
 
-    /// Whether an assignment follows from others that were met, and from the root.
-    fn follows(&self, assigned: &Assigned, met: &IndexedSet<VariableId, D::Alloc>) -> Result<bool> {
-        if assigned.is_choice {
+    /// Whether an assignment follows from others that were seen, and from the root: a learnt clause can do without it.
+    fn is_redundant(
+        &self,
+        assigned: &Assigned,
+        seen: &IndexedSet<VariableId, D::Alloc>,
+    ) -> Result<bool> {
+        if assigned.is_decision {
             return Ok(false);
         }
         for literal in self
@@ -186,19 +192,23 @@ impl<D: DependencyProvider + Copy> Search<D> {
             .flatten()
         {
             let variable = literal.variable();
-            if !met.contains(variable) && !self.is_fact(variable) {
+            if !seen.contains(variable) && !self.is_fact(variable) {
                 return Ok(false);
             }
         }
         Ok(true)
     }
 
-    /// Adds a clause, and the variables in it that have their values at level 1.
-    fn add_step(&self, clause: ClauseId, sources: &mut Vec<Source, D::Alloc>) -> Result<()> {
-        sources.push(Source::Clause(clause))?;
+    /// Adds a clause, and the variables in it that have their values at level 1, to the antecedents.
+    fn add_antecedents_of(
+        &self,
+        clause: ClauseId,
+        antecedents: &mut Vec<Antecedent, D::Alloc>,
+    ) -> Result<()> {
+        antecedents.push(Antecedent::Clause(clause))?;
         for literal in self.store.literals(clause)?.iter().flatten() {
             if self.is_fact(literal.variable()) {
-                sources.push(Source::Fact(literal.variable()))?;
+                antecedents.push(Antecedent::Fact(literal.variable()))?;
             }
         }
         Ok(())
@@ -212,21 +222,21 @@ impl<D: DependencyProvider + Copy> Search<D> {
         }
     }
 
-    /// Goes back to where the lower assignments stand, and makes the opposite of the last one there, by a clause that
-    /// is learnt: that not all of them stand.
-    fn go_on_without(
+    /// Learns that not all of these assignments stand: backjumps to the highest level of the lower ones, and propagates
+    /// the opposite of the last one.
+    fn learn_clause(
         &mut self,
         last: Assigned,
         lower: &[Assigned],
-        sources: Vec<Source, D::Alloc>,
+        antecedents: Vec<Antecedent, D::Alloc>,
     ) -> Result<()> {
-        let level = highest_of(lower);
-        self.go_back(level);
-        let literals = self.opposites(last, lower, level)?;
+        let level = highest_level_of(lower);
+        self.backjump(level);
+        let literals = self.literals_against(last, lower, level)?;
         let clause = self.store.learnt(&literals)?.clause;
-        self.derived.insert(clause, sources)?;
+        self.derived.insert(clause, antecedents)?;
         let claims = self.claims(&literals)?;
-        self.lessons.push(Lesson { clause, claims })?;
+        self.learnt_clauses.push(LearntClause { clause, claims })?;
         let Decision {
             variable,
             value,
@@ -235,9 +245,9 @@ impl<D: DependencyProvider + Copy> Search<D> {
         self.assign(Decision::new(variable, !value, clause))
     }
 
-    /// That not all of the assignments stand: first the last one, and at the end one of the level, since a learnt
-    /// clause watches its ends.
-    fn opposites(
+    /// The literals of the clause that not all of these assignments stand. The last one comes first, and one of the
+    /// level comes last, since a learnt clause watches its first and its last literal.
+    fn literals_against(
         &self,
         last: Assigned,
         lower: &[Assigned],
@@ -259,7 +269,7 @@ impl<D: DependencyProvider + Copy> Search<D> {
         Ok(literals)
     }
 
-    /// What the literals say.
+    /// What the literals claim, in the provider's ids.
     fn claims(&self, literals: &[Literal]) -> Result<Vec<Claim<D::SolvableId>, D::Alloc>> {
         let mut claims = Vec::new(self.alloc);
         for literal in literals {
@@ -278,11 +288,11 @@ impl<D: DependencyProvider + Copy> Search<D> {
     }
 }
 
-/// The highest level of these, or the root's.
-fn highest_of(assigned: &[Assigned]) -> usize {
-    let mut highest = 1;
+/// The highest level of these assignments, or the root's.
+fn highest_level_of(assigned: &[Assigned]) -> usize {
+    let mut highest_level = 1;
     for one in assigned {
-        highest = highest.max(one.level);
+        highest_level = highest_level.max(one.level);
     }
-    highest
+    highest_level
 }

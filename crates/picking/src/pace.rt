@@ -1,23 +1,23 @@
-//! How a search counts conflicts: scores of packages, and when it begins anew.
+//! How a search counts conflicts: scores of packages, and when it restarts.
 use resolvo_ids::{IdMap, Slot, SolverId, StoreError};
 use std::alloc::Allocator;
 
-/// After so many conflicts a search begins anew from time to time, and decides by scores alone every other time.
+/// After this many conflicts a search restarts from time to time, and decides by scores alone every other time.
 const PATIENCE: u64 = 300;
 
-/// After so many conflicts at least it begins anew.
+/// A restart comes after this many conflicts at least.
 const UNIT: u64 = 100;
 
-/// After so many conflicts the store's scores are halved.
+/// The store's scores are halved each time after this many conflicts.
 const PERIOD: u64 = 8;
 
-/// Where a gain is above this, all scores are made less.
+/// When the gain is above this, all scores are scaled down.
 const TOP: u64 = 1 << 56;
 
-/// By so much they are divided then.
+/// The divisor by which they are scaled down.
 const SHARE: u64 = 1 << 40;
 
-/// For each package how much conflicts follow from it, the last ones most.
+/// Each package's activity: how often conflicts had a version of it, recent ones counted most.
 #[derive(Drop)]
 pub(crate) struct Scores<N: SolverId<A>, A: Allocator + Copy> {
     numbers: N::Slots,
@@ -66,7 +66,7 @@ impl<N: SolverId<A>, A: Allocator + Copy> Scores<N, A> {
         Ok(number)
     }
 
-    /// Lets what comes count for more than what was.
+    /// Raises the gain, so that later conflicts count for more.
     pub(crate) fn age(&mut self) {
         self.gain = self.gain.saturating_add(self.gain / 16);
         if self.gain > TOP {
@@ -78,12 +78,11 @@ impl<N: SolverId<A>, A: Allocator + Copy> Scores<N, A> {
     }
 }
 
-/// How many conflicts there were, and when the search begins anew: after times of the lengths 1 1 2 1 1 2 4 1 .. in
-/// turn.
+/// How many conflicts there were, and when the search restarts: after intervals of Luby's lengths, 1 1 2 1 1 2 4 1 ..
 #[derive(Clone, Copy)]
 pub(crate) struct Pace {
     conflicts: u64,
-    /// At how many conflicts it begins anew.
+    /// At how many conflicts it restarts.
     next: u64,
     turn: u64,
     length: u64,
@@ -107,12 +106,12 @@ impl Pace {
         self.conflicts % PERIOD == 0
     }
 
-    /// Whether scores alone decide.
+    /// Whether the search decides by scores alone.
     pub(crate) fn is_by_score(&self) -> bool {
         self.is_by_score
     }
 
-    /// Whether the search is to begin anew, which it does then.
+    /// Whether a restart is due; it counts as done then.
     pub(crate) fn is_over(&mut self) -> bool {
         if self.conflicts < self.next {
             return false;

@@ -1,12 +1,11 @@
 //! A search over the clause store.
 //!
-//! It encodes all that may be picked (`encoding`); then it saturates and decides in turn. Where a clause is false it
-//! learns what can't stand together (`learning`), and goes back to where all of it but the last thing stands. After many
-//! conflicts it decides by scores (`choosing`), and begins anew from time to time (`pace`). Where nothing serves, it
-//! tells why (`explaining`).
-use crate::choosing::Want;
+//! It encodes all that may be picked (`encoding`); then it propagates and decides in turn. From a conflict it learns a
+//! clause, and backjumps (`learning`). After many conflicts it decides by scores (`deciding`), and restarts now and
+//! then (`pace`). If nothing serves, it explains why (`explaining`).
+use crate::deciding::Required;
 use crate::encoding::Encoder;
-use crate::learning::{Lesson, Source};
+use crate::learning::{Antecedent, LearntClause};
 use crate::pace::{Pace, Scores};
 use crate::reason::Reason;
 use resolvo_clauses::{Decision, Literal};
@@ -25,15 +24,15 @@ pub(crate) enum SearchEnd<N, S, A: Allocator> {
     Picked(Vec<S, A>),
     /// Nothing serves.
     Unsolvable(Refutation<N, S, A>),
-    /// So many steps were too few.
+    /// The steps were too few.
     StepsUsed,
 }
 
 /// That nothing serves.
 #[derive(Drop)]
 pub(crate) struct Refutation<N, S, A: Allocator> {
-    /// Clauses: each follows by unit propagation from what was told the store and from those before it, and all together
-    /// contradict it.
+    /// Learnt clauses: each follows by unit propagation from the encoded clauses and from those before it, and all of
+    /// them together contradict the encoded clauses.
     pub(crate) learnt: Vec<Vec<Claim<S>, A>, A>,
     /// What that follows from in the end.
     pub(crate) reasons: Vec<Reason<N, S>, A>,
@@ -41,11 +40,11 @@ pub(crate) struct Refutation<N, S, A: Allocator> {
     pub(crate) steps: u64,
 }
 
-/// What was chosen to be true at a level: at level 1 the root, and then candidates.
+/// A level begins with a decision: the root's at level 1, and then that a candidate is true.
 #[derive(Clone, Copy)]
-pub(crate) struct Choice {
+pub(crate) struct DecisionLevel {
     variable: VariableId,
-    /// How many assignments were made below its level.
+    /// How many assignments are below the level.
     below: usize,
 }
 
@@ -54,11 +53,11 @@ pub(crate) struct Choice {
 pub(crate) struct Assigned {
     pub(crate) decision: Decision,
     pub(crate) level: usize,
-    pub(crate) is_choice: bool,
+    pub(crate) is_decision: bool,
 }
 
 impl Assigned {
-    /// That it isn't so.
+    /// That it doesn't stand.
     pub(crate) fn opposite(&self) -> Literal {
         Literal::new(self.decision.variable, self.decision.value)
     }
@@ -70,28 +69,28 @@ pub(crate) struct Search<D: DependencyProvider> {
     pub(crate) store: ClauseStore<D>,
     /// What may be picked.
     pub(crate) candidates: Vec<(VariableId, D::SolvableId), D::Alloc>,
-    /// A choice for each level.
-    pub(crate) choices: Vec<Choice, D::Alloc>,
+    /// The levels, lowest first.
+    pub(crate) levels: Vec<DecisionLevel, D::Alloc>,
     /// The trail as it was read last, oldest first.
     pub(crate) trail: Vec<Assigned, D::Alloc>,
     /// The place of a variable there, if it is there.
     places: Mapping<VariableId, usize, D::Alloc>,
     /// What each variable requires.
-    pub(crate) wants: Mapping<VariableId, Vec<Want<D::Alloc>, D::Alloc>, D::Alloc>,
+    pub(crate) requirements: Mapping<VariableId, Vec<Required<D::Alloc>, D::Alloc>, D::Alloc>,
     pub(crate) scores: Scores<D::NameId, D::Alloc>,
     pub(crate) pace: Pace,
-    /// What clauses say.
-    pub(crate) told: Mapping<ClauseId, Reason<D::NameId, D::SolvableId>, D::Alloc>,
-    /// What was learnt, in order.
-    pub(crate) lessons: Vec<Lesson<D::SolvableId, D::Alloc>, D::Alloc>,
-    /// What each learnt clause follows from.
-    pub(crate) derived: Mapping<ClauseId, Vec<Source, D::Alloc>, D::Alloc>,
-    /// What follows from the root alone, and so leaves no choice.
-    pub(crate) root_cause: Vec<Source, D::Alloc>,
+    /// What the encoded clauses say.
+    pub(crate) encoded: Mapping<ClauseId, Reason<D::NameId, D::SolvableId>, D::Alloc>,
+    /// The learnt clauses, in order.
+    pub(crate) learnt_clauses: Vec<LearntClause<D::SolvableId, D::Alloc>, D::Alloc>,
+    /// The antecedents of each learnt clause.
+    pub(crate) derived: Mapping<ClauseId, Vec<Antecedent, D::Alloc>, D::Alloc>,
+    /// The antecedents of the last conflict, which follows from the root alone.
+    pub(crate) root_cause: Vec<Antecedent, D::Alloc>,
     pub(crate) alloc: D::Alloc,
 }
 
-/// Searches for what meets the requirements, in so many steps at most.
+/// Searches for solvables that meet the requirements, within a number of steps.
 pub(crate) fn search_for<D: DependencyProvider + Copy>(
     alloc: D::Alloc,
     provider: D,
@@ -105,24 +104,24 @@ pub(crate) fn search_for<D: DependencyProvider + Copy>(
 }
 
 impl<D: DependencyProvider + Copy> Search<D> {
-    /// A search that was told nothing. The store comes last, so that no refusal lets one go.
+    /// A search with nothing encoded. The store is made last, so that no refusal has to free one.
     fn new(alloc: D::Alloc, provider: D) -> Result<Self> {
-        let told = Mapping::new(alloc)?;
+        let encoded = Mapping::new(alloc)?;
         let derived = Mapping::new(alloc)?;
         let places = Mapping::new(alloc)?;
-        let wants = Mapping::new(alloc)?;
+        let requirements = Mapping::new(alloc)?;
         let store = ClauseStore::new(alloc, provider)?;
         Ok(Search {
             store,
             candidates: Vec::new(alloc),
-            choices: Vec::new(alloc),
+            levels: Vec::new(alloc),
             trail: Vec::new(alloc),
             places,
-            wants,
+            requirements,
             scores: Scores::new(alloc),
             pace: Pace::new(),
-            told,
-            lessons: Vec::new(alloc),
+            encoded,
+            learnt_clauses: Vec::new(alloc),
             derived,
             root_cause: Vec::new(alloc),
             alloc,
@@ -136,84 +135,84 @@ impl<D: DependencyProvider + Copy> Search<D> {
         steps: u64,
     ) -> Result<SearchEnd<D::NameId, D::SolvableId, D::Alloc>> {
         self.store.root()?;
-        self.choose(VariableId::root(), ClauseId::install_root())?;
+        self.decide(VariableId::root(), ClauseId::install_root())?;
         self.encode(wanted)?;
         self.run(steps)
     }
 
-    /// Tells the store what is wanted, and all that may be picked.
+    /// Encodes what is wanted, and all that may be picked.
     fn encode(&mut self, wanted: &[ConditionalRequirement]) -> Result<()> {
         let mut encoder = Encoder::new(self)?;
         encoder.encode_all(wanted)
     }
 
-    /// A step makes what follows from the choices true, and then chooses, or learns which choices can't stand together;
-    /// these don't come together again. So it ends, but perhaps after very many steps.
+    /// A step propagates, and then decides or learns from a conflict. No assignment comes back that a learnt clause
+    /// rules out, so a search ends, but perhaps after very many steps.
     fn run(&mut self, steps: u64) -> Result<SearchEnd<D::NameId, D::SolvableId, D::Alloc>> {
         for step in 0..steps {
-            if self.choices.is_empty() {
+            if self.levels.is_empty() {
                 return Ok(SearchEnd::Unsolvable(self.refutation(steps - step)?));
             }
-            if !self.goes_on()? {
+            if !self.step()? {
                 return Ok(SearchEnd::Picked(self.picked()?));
             }
         }
         Ok(SearchEnd::StepsUsed)
     }
 
-    /// Makes a step, and answers whether one was left.
-    fn goes_on(&mut self) -> Result<bool> {
+    /// Makes a step, and answers whether there was one to make.
+    fn step(&mut self) -> Result<bool> {
         let level = self.level();
         if let Some(conflict) = self.store.saturate(level)? {
             self.learn(conflict)?;
-            return self.is_let();
+            return self.may_go_on();
         }
         if self.pace.is_over() {
-            self.go_back(1);
+            self.backjump(1);
             return Ok(true);
         }
         if self.pace.is_by_score() {
-            return self.goes_on_by_score();
+            return self.decide_by_score();
         }
         let Some(next) = self.store.next_decision()? else {
             return Ok(false);
         };
-        self.choose(next.candidate, next.clause_id)?;
+        self.decide(next.candidate, next.clause_id)?;
         Ok(true)
     }
 
-    /// Refuses to go on where the provider says so.
-    fn is_let(&self) -> Result<bool> {
+    /// Refuses to go on if the provider says so.
+    fn may_go_on(&self) -> Result<bool> {
         match self.store.provider().should_cancel_with_value() {
             Some(_) => Err(StoreError::Cancelled),
             None => Ok(true),
         }
     }
 
-    /// Chooses by scores. Answers whether a step was left.
-    fn goes_on_by_score(&mut self) -> Result<bool> {
+    /// Decides by scores. Answers whether something was open.
+    fn decide_by_score(&mut self) -> Result<bool> {
         self.read_trail()?;
         let Some(offer) = self.best_offer() else {
             return Ok(false);
         };
-        self.choose(offer.candidate, offer.clause)?;
+        self.decide(offer.candidate, offer.clause)?;
         Ok(true)
     }
 
-    /// Makes a candidate true at a new level.
-    fn choose(&mut self, variable: VariableId, clause: ClauseId) -> Result<()> {
+    /// Decides that a variable is true, at a new level.
+    fn decide(&mut self, variable: VariableId, clause: ClauseId) -> Result<()> {
         self.read_trail()?;
         let below = self.trail.len();
-        self.choices.push(Choice { variable, below })?;
+        self.levels.push(DecisionLevel { variable, below })?;
         self.assign(Decision::new(variable, true, clause))
     }
 
-    /// The level of the last choice. The store refuses one that is too high.
+    /// The current level. The store refuses one that is too high.
     fn level(&self) -> u32 {
-        u32::try_from(self.choices.len()).unwrap_or(u32::MAX)
+        u32::try_from(self.levels.len()).unwrap_or(u32::MAX)
     }
 
-    /// Assigns at the level of the last choice. What is above is taken back.
+    /// Assigns at the current level. What is above is undone.
     pub(crate) fn assign(&mut self, decision: Decision) -> Result<()> {
         let level = self.level();
         self.store.undo_until(level);
@@ -221,21 +220,21 @@ impl<D: DependencyProvider + Copy> Search<D> {
         Ok(())
     }
 
-    /// Reads what was assigned since it was read last, all of it at the level of the last choice.
+    /// Reads the assignments that are new, all of them at the current level.
     pub(crate) fn read_trail(&mut self) -> Result<()> {
         for _ in 0..u32::MAX {
             let Some(decision) = self.store.next_unpropagated() else {
                 break;
             };
-            let is_choice = match self.choices.last() {
-                Some(choice) => choice.variable == decision.variable,
+            let is_decision = match self.levels.last() {
+                Some(level) => level.variable == decision.variable,
                 None => false,
             };
             self.places.insert(decision.variable, self.trail.len())?;
             self.trail.push(Assigned {
                 decision,
-                level: self.choices.len(),
-                is_choice,
+                level: self.levels.len(),
+                is_decision,
             })?;
         }
         Ok(())
@@ -252,12 +251,12 @@ impl<D: DependencyProvider + Copy> Search<D> {
         }
     }
 
-    /// Takes back what is above a level.
-    pub(crate) fn go_back(&mut self, level: usize) {
-        if let Some(choice) = self.choices.get(level) {
-            self.trail.truncate(choice.below);
+    /// Undoes what is above a level.
+    pub(crate) fn backjump(&mut self, level: usize) {
+        if let Some(above) = self.levels.get(level) {
+            self.trail.truncate(above.below);
         }
-        self.choices.truncate(level);
+        self.levels.truncate(level);
         let level = self.level();
         self.store.undo_until(level);
     }
@@ -279,7 +278,7 @@ impl<D: DependencyProvider + Copy> Search<D> {
         clause: ClauseId,
         reason: Reason<D::NameId, D::SolvableId>,
     ) -> Result<()> {
-        self.told.insert(clause, reason)?;
+        self.encoded.insert(clause, reason)?;
         Ok(())
     }
 }

@@ -1,23 +1,23 @@
-//! What a search decides where it had many conflicts: by scores of packages.
+//! How a search decides by scores of packages, once it had many conflicts.
 use crate::search::{Result, Search};
 use resolvo_clauses::VariableOrigin;
 use resolvo_ids::{ClauseId, VariableId};
 use resolvo_pool::{DependencyProvider, Interner, Requirement};
 use std::alloc::Allocator;
 
-/// What a package's score in the store gains for each of its versions that a conflict follows from.
+/// What a package's score in the store gains for each of its versions that a conflict's analysis sees.
 const GAIN: u64 = 1 << 16;
 
 /// What a variable requires, if it is true.
 #[derive(Drop)]
-pub(crate) struct Want<A: Allocator> {
+pub(crate) struct Required<A: Allocator> {
     pub(crate) requirement: Requirement,
-    /// It is asked for where these are all true.
+    /// The requirement counts only while these are all true.
     pub(crate) gates: Vec<VariableId, A>,
     pub(crate) clause: ClauseId,
 }
 
-/// A candidate that may be chosen.
+/// A candidate that may be decided.
 #[derive(Clone, Copy)]
 pub(crate) struct Offer {
     pub(crate) candidate: VariableId,
@@ -27,19 +27,22 @@ pub(crate) struct Offer {
 
 impl<D: DependencyProvider + Copy> Search<D> {
     /// Keeps what a variable requires.
-    pub(crate) fn add_want(&mut self, parent: VariableId, want: Want<D::Alloc>) -> Result<()> {
-        if let Some(wants) = self.wants.get_mut(parent) {
-            wants.push(want)?;
+    pub(crate) fn add_required(
+        &mut self,
+        parent: VariableId,
+        required: Required<D::Alloc>,
+    ) -> Result<()> {
+        if let Some(requirements) = self.requirements.get_mut(parent) {
+            requirements.push(required)?;
             return Ok(());
         }
-        let mut wants = Vec::new(self.alloc);
-        wants.push(want)?;
-        self.wants.insert(parent, wants)?;
+        let mut requirements = Vec::new(self.alloc);
+        requirements.push(required)?;
+        self.requirements.insert(parent, requirements)?;
         Ok(())
     }
 
-    /// Of what is required and has no candidate yet, the best candidate whose package has the highest score; the first
-    /// one of those that are alike.
+    /// Of the open requirements' best candidates the one whose package has the highest score; the first one of a tie.
     pub(crate) fn best_offer(&self) -> Option<Offer> {
         let mut best = None;
         for assigned in &self.trail {
@@ -50,25 +53,25 @@ impl<D: DependencyProvider + Copy> Search<D> {
         best
     }
 
-    /// The better of an offer and those for what a variable requires.
+    /// The better of an offer and those for the requirements of a variable.
     fn better_of(&self, offer: Option<Offer>, parent: VariableId) -> Option<Offer> {
         let mut best = offer;
-        if let Some(wants) = self.wants.get(parent) {
-            for want in wants {
-                best = better(best, self.offer(want));
+        if let Some(requirements) = self.requirements.get(parent) {
+            for required in requirements {
+                best = better(best, self.offer(required));
             }
         }
         best
     }
 
-    /// The best candidate of the package that has the highest score, where none is true. A package has no true version
-    /// where one isn't false and isn't true: so each list is read up to the first that isn't false.
-    fn offer(&self, want: &Want<D::Alloc>) -> Option<Offer> {
-        if !self.are_true(&want.gates) {
+    /// The best candidate of the package that has the highest score, unless a candidate is true. Each list is read up
+    /// to the first candidate that isn't false: if a later one is true, at-most-one has made the earlier ones false.
+    fn offer(&self, required: &Required<D::Alloc>) -> Option<Offer> {
+        if !self.are_true(&required.gates) {
             return None;
         }
         let mut best = None;
-        let Some(lists) = self.store.lists(want.requirement) else {
+        let Some(lists) = self.store.lists(required.requirement) else {
             return None;
         };
         for list in lists {
@@ -77,7 +80,7 @@ impl<D: DependencyProvider + Copy> Search<D> {
                     return None;
                 }
                 let score = self.score_of(candidate);
-                let clause = want.clause;
+                let clause = required.clause;
                 best = better(
                     best,
                     Some(Offer {
@@ -131,8 +134,8 @@ impl<D: DependencyProvider + Copy> Search<D> {
         Some(provider.solvable_name(solvable))
     }
 
-    /// Raises the scores of the packages of these variables, so that what fails often is decided early; and lets what
-    /// failed lately count for more.
+    /// Raises the scores of the packages of these variables, so that what is often in conflict is decided early.
+    /// Recent conflicts count for more.
     pub(crate) fn raise_scores(&mut self, variables: &[VariableId]) -> Result<()> {
         for variable in variables {
             if let Some(name) = self.package_of_variable(*variable) {
@@ -148,7 +151,7 @@ impl<D: DependencyProvider + Copy> Search<D> {
     }
 }
 
-/// The better of two offers, the first one if they are alike.
+/// The better of two offers, the first one of a tie.
 fn better(one: Option<Offer>, other: Option<Offer>) -> Option<Offer> {
     match one {
         None => other,
