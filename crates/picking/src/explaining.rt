@@ -45,8 +45,10 @@ impl<D: DependencyProvider + Copy> Search<D> {
         let trace = self.trace()?;
         let reasons = self.reasons(&trace)?;
         let learnt = self.learnt(&trace)?;
+        let solvables = self.solvables(&reasons)?;
         Ok(Refutation {
             learnt,
+            solvables,
             reasons,
             steps,
         })
@@ -66,6 +68,22 @@ impl<D: DependencyProvider + Copy> Search<D> {
             }
         }
         Ok(learnt)
+    }
+
+    /// The solvables of which the reasons tell dependencies. Reasons of one solvable come in turn.
+    fn solvables(
+        &self,
+        reasons: &[Reason<D::NameId, D::SolvableId>],
+    ) -> Result<Vec<D::SolvableId, D::Alloc>> {
+        let mut solvables = Vec::new(self.alloc);
+        for reason in reasons {
+            if let Some(solvable) = reason.dependent() {
+                if !is_last(&solvables, solvable) {
+                    solvables.push(solvable)?;
+                }
+            }
+        }
+        Ok(solvables)
     }
 
     /// What the clauses that were seen say, each reason once, in the order in which they were encoded; then the
@@ -186,5 +204,13 @@ impl<D: DependencyProvider + Copy> Search<D> {
             trace.pending.push(Antecedent::Fact(literal.variable()))?;
         }
         Ok(())
+    }
+}
+
+/// Whether the last one of a list is this.
+fn is_last<S: Copy + PartialEq>(list: &[S], one: S) -> bool {
+    match list.last() {
+        Some(last) => *last == one,
+        None => false,
     }
 }

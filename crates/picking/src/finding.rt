@@ -47,7 +47,13 @@ pub fn pick<D: DependencyProvider>(
         SearchEnd::Unsolvable(refutation) => {
             if refutation.learnt.len() as u64 > refutation.steps {
                 Ok(Answer::StepsUsed)
-            } else if refutes(alloc, provider, wanted, &refutation.learnt)? {
+            } else if refutes(
+                alloc,
+                provider,
+                wanted,
+                &refutation.solvables,
+                &refutation.learnt,
+            )? {
                 Ok(Answer::Unsolvable(refutation.reasons))
             } else {
                 Ok(Answer::Unshown(refutation.reasons))

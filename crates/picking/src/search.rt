@@ -34,6 +34,8 @@ pub(crate) struct Refutation<N, S, A: Allocator> {
     /// Learnt clauses: each follows by unit propagation from the encoded clauses and from those before it, and all of
     /// them together contradict the encoded clauses.
     pub(crate) learnt: Vec<Vec<Claim<S>, A>, A>,
+    /// The solvables whose dependencies that takes.
+    pub(crate) solvables: Vec<S, A>,
     /// What that follows from in the end.
     pub(crate) reasons: Vec<Reason<N, S>, A>,
     /// How many steps are left.
@@ -73,6 +75,8 @@ pub(crate) struct Search<D: DependencyProvider> {
     pub(crate) levels: Vec<DecisionLevel, D::Alloc>,
     /// The trail as it was read last, oldest first.
     pub(crate) trail: Vec<Assigned, D::Alloc>,
+    /// The dependencies of what is true in the trail below this are encoded.
+    pub(crate) encoded_below: usize,
     /// The place of a variable there, if it is there.
     places: Mapping<VariableId, usize, D::Alloc>,
     /// What each variable requires.
@@ -116,6 +120,7 @@ impl<D: DependencyProvider + Copy> Search<D> {
             candidates: Vec::new(alloc),
             levels: Vec::new(alloc),
             trail: Vec::new(alloc),
+            encoded_below: 0,
             places,
             requirements,
             scores: Scores::new(alloc),
@@ -136,24 +141,23 @@ impl<D: DependencyProvider + Copy> Search<D> {
     ) -> Result<SearchEnd<D::NameId, D::SolvableId, D::Alloc>> {
         self.store.root()?;
         self.decide(VariableId::root(), ClauseId::install_root())?;
-        self.encode(wanted)?;
-        self.run(steps)
-    }
-
-    /// Encodes what is wanted, and all that may be picked.
-    fn encode(&mut self, wanted: &[ConditionalRequirement]) -> Result<()> {
         let mut encoder = Encoder::new(self)?;
-        encoder.encode_all(wanted)
+        encoder.request(self, wanted)?;
+        self.run(&mut encoder, steps)
     }
 
-    /// A step propagates, and then decides or learns from a conflict. No assignment comes back that a learnt clause
-    /// rules out, so a search ends, but perhaps after very many steps.
-    fn run(&mut self, steps: u64) -> Result<SearchEnd<D::NameId, D::SolvableId, D::Alloc>> {
+    /// A step propagates; then it learns from a conflict, encodes what is newly true, or decides. No assignment comes
+    /// back that a learnt clause rules out, so a search ends, but perhaps after very many steps.
+    fn run(
+        &mut self,
+        encoder: &mut Encoder<D>,
+        steps: u64,
+    ) -> Result<SearchEnd<D::NameId, D::SolvableId, D::Alloc>> {
         for step in 0..steps {
             if self.levels.is_empty() {
                 return Ok(SearchEnd::Unsolvable(self.refutation(steps - step)?));
             }
-            if !self.step()? {
+            if !self.step(encoder)? {
                 return Ok(SearchEnd::Picked(self.picked()?));
             }
         }
@@ -161,11 +165,15 @@ impl<D: DependencyProvider + Copy> Search<D> {
     }
 
     /// Makes a step, and answers whether there was one to make.
-    fn step(&mut self) -> Result<bool> {
+    fn step(&mut self, encoder: &mut Encoder<D>) -> Result<bool> {
         let level = self.level();
         if let Some(conflict) = self.store.saturate(level)? {
             self.learn(conflict)?;
             return self.may_go_on();
+        }
+        self.read_trail()?;
+        if encoder.encode_new(self)? {
+            return Ok(true);
         }
         if self.pace.is_over() {
             self.backjump(1);
@@ -191,7 +199,6 @@ impl<D: DependencyProvider + Copy> Search<D> {
 
     /// Decides by scores. Answers whether something was open.
     fn decide_by_score(&mut self) -> Result<bool> {
-        self.read_trail()?;
         let Some(offer) = self.best_offer() else {
             return Ok(false);
         };
@@ -255,6 +262,7 @@ impl<D: DependencyProvider + Copy> Search<D> {
     pub(crate) fn backjump(&mut self, level: usize) {
         if let Some(above) = self.levels.get(level) {
             self.trail.truncate(above.below);
+            self.encoded_below = self.encoded_below.min(above.below);
         }
         self.levels.truncate(level);
         let level = self.level();

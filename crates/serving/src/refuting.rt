@@ -14,27 +14,27 @@ use resolvo_pool::{ConditionalRequirement, DependencyProvider, Interner, Provide
 use std::alloc::Allocator;
 
 /// Whether clauses that a search learnt show that no solvables serve whoever wants these requirements. Of such a clause
-/// one claim is so in each choice that serves. It counts where that follows from what the packages say and from the
-/// clauses before it: where all its claims aren't so, one conclusion after another, each from a clause of which one
-/// literal is left, ends in a contradiction. One that doesn't is passed over. The provider is asked after each whether
-/// to stop.
+/// one claim holds in each choice that serves. It counts if it follows by unit propagation from the requirements, from
+/// the dependencies of these solvables, and from the clauses before it. One that doesn't is passed over. The provider is
+/// asked after each whether to stop.
 ///
 /// Where the answer is no, something may serve or nothing. Solvables that a package excludes, or that aren't the one
 /// that it is locked to, are candidates as others here.
 ///
-/// Costs time and memory in what is reached from what is wanted: its solvables, requirements with their candidates, the
-/// lists of conditions and the pairs that constraints forbid; and for each learnt clause what its conclusions touch: a
-/// clause is looked at where one of two of its literals gets false.
+/// Costs time and memory in the requirements with their candidates, the dependencies of these solvables, the lists of
+/// conditions and the pairs that constraints forbid; and for each learnt clause in what its propagation visits: a clause
+/// is visited when one of two of its literals becomes false.
 pub fn refutes<D: DependencyProvider>(
     alloc: D::Alloc,
     provider: &D,
     wanted: &[ConditionalRequirement],
+    solvables: &[D::SolvableId],
     learnt: &[Vec<Claim<D::SolvableId>, D::Alloc>],
 ) -> Result<bool, StoreError>
     ensures { IfOk result (λ yes. yes ≡ true →
         IsUnsolvable (⟦<D as ProviderFunctions>⟧.functions provider.now) wanted.now) }
 {
-    let theory = encoded(alloc, provider, wanted)?;
+    let theory = encoded(alloc, provider, wanted, solvables)?;
     let known = Known::new(alloc, theory.atoms.len())?;
     let mut replay = Replay {
         alloc,
