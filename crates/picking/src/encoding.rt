@@ -1,10 +1,11 @@
-//! What a search tells the store before it runs: all that may be picked, and what each needs and forbids.
+//! How a search encodes: clauses of what is required come first, and those of a candidate once it is true.
+use crate::deciding::Required;
 use crate::reason::Reason;
 use crate::search::{Result, Search};
-use resolvo_clauses::{Decision, Literal, VariableOrigin};
+use resolvo_clauses::{Literal, VariableOrigin};
 use resolvo_ids::{
-    ClauseId, ConditionId, DenseIndex, DisjunctionId, Mapping, StoreError, StringId, VariableId,
-    VersionSetId,
+    ClauseId, ConditionId, DenseIndex, DisjunctionId, IndexedSet, Mapping, StoreError, StringId,
+    VariableId, VersionSetId,
 };
 use resolvo_pool::{
     CacheError, ConditionalRequirement, Dependencies, DependencyProvider, Interner, Requirement,
@@ -12,89 +13,152 @@ use resolvo_pool::{
 };
 use resolvo_store::HelperOrigin;
 
-/// Who needs something: a variable, and its solvable where it isn't the root.
+/// A store has fewer variables than this.
+const MOST_VARIABLES: usize = (1 << 31) - 1;
+
+/// Who needs something: a variable, and its solvable unless it is the root.
 #[derive(Clone, Copy)]
 struct Parent<S> {
     variable: VariableId,
     solvable: Option<S>,
 }
 
-/// Tells the store of a search what may be picked.
+/// Encodes into the store of a search what may be picked. The provider is asked for a package's candidates when a
+/// requirement names it, and for a solvable's dependencies when it first is true.
 #[derive(Drop)]
-pub(crate) struct Encoder<'s, D: DependencyProvider> {
-    search: &'s mut Search<D>,
+pub(crate) struct Encoder<D: DependencyProvider> {
     /// What the provider answered for packages: each is asked for once.
     cache: SolverCache<D>,
-    /// For each version set that a condition names the variable that is true where one of its candidates is.
+    /// For each version set of a condition the variable that is true if one of its candidates is.
     gates: Mapping<VersionSetId, VariableId, D::Alloc>,
+    /// How many variables of the store were introduced.
+    introduced: usize,
+    /// The solvables whose dependencies are encoded.
+    encoded: IndexedSet<VariableId, D::Alloc>,
 }
 
-impl<'s, D: DependencyProvider + Copy> Encoder<'s, D> {
-    /// An encoder that told the store nothing yet.
-    pub(crate) fn new(search: &'s mut Search<D>) -> Result<Self> {
+impl<D: DependencyProvider + Copy> Encoder<D> {
+    /// An encoder that has encoded nothing yet.
+    pub(crate) fn new(search: &Search<D>) -> Result<Self> {
         let gates = Mapping::new(search.alloc)?;
-        let cache = SolverCache::new(search.alloc, *search.store.provider());
         Ok(Encoder {
-            search,
-            cache,
+            cache: SolverCache::new(search.alloc, *search.store.provider()),
             gates,
+            introduced: 0,
+            encoded: IndexedSet::new(search.alloc),
         })
     }
 
-    /// Says what is wanted, which the root requires, and what all candidates need. What that loads comes last, so that
-    /// each variable of the store is met here.
-    pub(crate) fn encode_all(&mut self, wanted: &[ConditionalRequirement]) -> Result<()> {
+    /// Encodes what is wanted, which the root requires.
+    pub(crate) fn request(
+        &mut self,
+        search: &mut Search<D>,
+        wanted: &[ConditionalRequirement],
+    ) -> Result<()> {
         let root = Parent {
             variable: VariableId::root(),
             solvable: None,
         };
-        self.require_all(root, wanted)?;
-        for index in 0..(1 << 31) - 1 {
+        self.require_all(search, root, wanted)?;
+        self.introduce_all(search)
+    }
+
+    /// Encodes the dependencies of the candidates that are newly true. Answers whether there are any.
+    pub(crate) fn encode_new(&mut self, search: &mut Search<D>) -> Result<bool> {
+        let mut some = false;
+        for index in search.encoded_below..search.trail.len() {
+            let Some(assigned) = search.trail.get(index).copied() else {
+                break;
+            };
+            if assigned.decision.value && self.encode(search, assigned.decision.variable)? {
+                some = true;
+            }
+        }
+        search.encoded_below = search.trail.len();
+        self.introduce_all(search)?;
+        Ok(some)
+    }
+
+    /// Introduces the variables that are new in the store.
+    fn introduce_all(&mut self, search: &mut Search<D>) -> Result<()> {
+        for index in self.introduced..MOST_VARIABLES {
             let variable = VariableId::from_index(index);
-            match self.search.store.origin(variable) {
-                Some(VariableOrigin::Solvable(solvable)) => self.encode(variable, solvable)?,
+            match search.store.origin(variable) {
+                Some(VariableOrigin::Solvable(solvable)) => {
+                    self.introduce(search, variable, solvable)?;
+                }
                 Some(_) => {}
-                None => break,
+                None => {
+                    self.introduced = index;
+                    break;
+                }
             }
         }
         Ok(())
     }
 
-    /// Lets no other version stand beside a solvable, and says what it needs, and whether it may be picked.
-    fn encode(&mut self, variable: VariableId, solvable: D::SolvableId) -> Result<()> {
-        self.search.candidates.push((variable, solvable))?;
-        let (name, needs) = self.needs_of(solvable)?;
-        self.search.store.at_most_once(name, variable)?;
-        self.leave_out(variable, solvable, name)?;
-        match needs {
-            Dependencies::Known(needs) => {
-                let parent = Parent {
-                    variable,
-                    solvable: Some(solvable),
-                };
-                self.require_all(parent, &needs.requirements)?;
-                self.constrain_all(variable, solvable, &needs.constrains)
-            }
-            Dependencies::Unknown(reason) => {
-                self.search
-                    .exclude(variable, reason, Reason::Unknown(solvable, reason))
-            }
-        }
+    /// Lets no other version stand beside a solvable, and makes it false if its package excludes it.
+    fn introduce(
+        &mut self,
+        search: &mut Search<D>,
+        variable: VariableId,
+        solvable: D::SolvableId,
+    ) -> Result<()> {
+        search.candidates.push((variable, solvable))?;
+        let name = self.package_of(solvable)?;
+        search.store.at_most_once(name, variable)?;
+        self.leave_out(search, variable, solvable, name)
     }
 
-    /// The package of a solvable, and what it needs.
-    fn needs_of(&self, solvable: D::SolvableId) -> Result<(D::NameId, Dependencies<D::Alloc>)> {
+    fn package_of(&self, solvable: D::SolvableId) -> Result<D::NameId> {
         let provider = self.cache.provider();
         if !provider.knows_solvable(solvable) {
             return Err(StoreError::UnknownId);
         }
-        let needs = provider.get_dependencies(self.search.alloc, solvable)?;
-        Ok((provider.solvable_name(solvable), needs))
+        Ok(provider.solvable_name(solvable))
     }
 
-    /// Makes a solvable false where its package excludes it, or is locked to another one.
+    /// Encodes the dependencies of a variable's solvable, unless they are encoded. Answers whether it did.
+    fn encode(&mut self, search: &mut Search<D>, variable: VariableId) -> Result<bool> {
+        let Some(VariableOrigin::Solvable(solvable)) = search.store.origin(variable) else {
+            return Ok(false);
+        };
+        if !self.encoded.insert(variable)? {
+            return Ok(false);
+        }
+        let parent = Parent {
+            variable,
+            solvable: Some(solvable),
+        };
+        match self.needs_of(search, solvable)? {
+            Dependencies::Known(needs) => {
+                self.require_all(search, parent, &needs.requirements)?;
+                self.constrain_all(search, variable, solvable, &needs.constrains)?;
+            }
+            Dependencies::Unknown(reason) => {
+                search.exclude(variable, reason, Reason::Unknown(solvable, reason))?;
+            }
+        }
+        Ok(true)
+    }
+
+    /// The dependencies of a solvable.
+    fn needs_of(
+        &self,
+        search: &Search<D>,
+        solvable: D::SolvableId,
+    ) -> Result<Dependencies<D::Alloc>> {
+        let provider = self.cache.provider();
+        if !provider.knows_solvable(solvable) {
+            return Err(StoreError::UnknownId);
+        }
+        provider.get_dependencies(search.alloc, solvable)
+    }
+
+    /// Makes a solvable false if its package excludes it, or is locked to another one.
     fn leave_out(
         &mut self,
+        search: &mut Search<D>,
         variable: VariableId,
         solvable: D::SolvableId,
         name: D::NameId,
@@ -105,23 +169,23 @@ impl<'s, D: DependencyProvider + Copy> Encoder<'s, D> {
             .map_err(refusal_of)?;
         for (excluded, reason) in &package.excluded {
             if *excluded == solvable {
-                self.search
-                    .exclude(variable, *reason, Reason::Excluded(solvable, *reason))?;
+                search.exclude(variable, *reason, Reason::Excluded(solvable, *reason))?;
             }
         }
         match package.locked {
-            Some(locked) if locked != solvable => self.search.lock(locked, variable),
+            Some(locked) if locked != solvable => search.lock(locked, variable),
             _ => Ok(()),
         }
     }
 
     fn require_all(
         &mut self,
+        search: &mut Search<D>,
         parent: Parent<D::SolvableId>,
         wanted: &[ConditionalRequirement],
     ) -> Result<()> {
         for wanted in wanted {
-            self.require(parent, *wanted)?;
+            self.require(search, parent, *wanted)?;
         }
         Ok(())
     }
@@ -129,24 +193,25 @@ impl<'s, D: DependencyProvider + Copy> Encoder<'s, D> {
     /// Says that the parent, if true, requires a candidate; under a condition once for each list of its normal form.
     fn require(
         &mut self,
+        search: &mut Search<D>,
         parent: Parent<D::SolvableId>,
         wanted: ConditionalRequirement,
     ) -> Result<()> {
-        self.search.store.load(wanted.requirement)?;
-        let reason = if self.search.has_candidate(wanted.requirement) {
+        search.store.load(wanted.requirement)?;
+        let reason = if search.has_candidate(wanted.requirement) {
             Reason::Needs(parent.solvable, wanted)
         } else {
             Reason::Lacks(parent.solvable, wanted)
         };
         let (variable, requirement) = (parent.variable, wanted.requirement);
         let Some(condition) = wanted.condition else {
-            return self.search.require(variable, requirement, None, reason);
+            let gates = Vec::new(search.alloc);
+            return search.require(variable, requirement, None, gates, reason);
         };
-        for list in &self.lists_of(condition)? {
-            let unless = self.unless(list)?;
-            let unless = self.search.store.disjunction(&unless, condition)?;
-            self.search
-                .require(variable, requirement, Some(unless), reason)?;
+        for list in &self.lists_of(search, condition)? {
+            let gates = self.gates_of(search, list)?;
+            let unless = search.unless(&gates, condition)?;
+            search.require(variable, requirement, Some(unless), gates, reason)?;
         }
         Ok(())
     }
@@ -154,38 +219,43 @@ impl<'s, D: DependencyProvider + Copy> Encoder<'s, D> {
     /// The normal form of a condition: it holds where all version sets of one list do.
     fn lists_of(
         &self,
+        search: &Search<D>,
         condition: ConditionId,
     ) -> Result<Vec<Vec<VersionSetId, D::Alloc>, D::Alloc>> {
         let provider = self.cache.provider();
         if !provider.knows_condition(condition) {
             return Err(StoreError::UnknownId);
         }
-        convert_conditions_to_dnf(self.search.alloc, condition, provider)
+        convert_conditions_to_dnf(search.alloc, condition, provider)
     }
 
-    /// Literals that are all false where each of the version sets has a candidate that is true.
-    fn unless(&mut self, sets: &[VersionSetId]) -> Result<Vec<Literal, D::Alloc>> {
-        let mut unless = Vec::new(self.search.alloc);
+    /// The variables that are all true where each of the version sets has a candidate that is true.
+    fn gates_of(
+        &mut self,
+        search: &mut Search<D>,
+        sets: &[VersionSetId],
+    ) -> Result<Vec<VariableId, D::Alloc>> {
+        let mut gates = Vec::new(search.alloc);
         for set in sets {
-            let literal = Literal::new(self.gate(*set)?, true);
-            if !unless.contains(&literal) {
-                unless.push(literal)?;
+            let gate = self.gate(search, *set)?;
+            if !gates.contains(&gate) {
+                gates.push(gate)?;
             }
         }
-        Ok(unless)
+        Ok(gates)
     }
 
     /// The variable that is true where a candidate of the version set is; it is made once.
-    fn gate(&mut self, set: VersionSetId) -> Result<VariableId> {
+    fn gate(&mut self, search: &mut Search<D>, set: VersionSetId) -> Result<VariableId> {
         if let Some(gate) = self.gates.get(set) {
             return Ok(*gate);
         }
         let requirement = Requirement::Single(set);
-        self.search.store.load(requirement)?;
+        search.store.load(requirement)?;
         let origin = HelperOrigin::RequiresGate(requirement);
-        let gate = self.search.store.helper(origin)?;
-        for candidate in &self.search.variables_of(requirement)? {
-            self.search.store.any_of(gate, *candidate)?;
+        let gate = search.store.helper(origin)?;
+        for candidate in &search.variables_of(requirement)? {
+            search.store.any_of(gate, *candidate)?;
         }
         self.gates.insert(set, gate)?;
         Ok(gate)
@@ -193,12 +263,13 @@ impl<'s, D: DependencyProvider + Copy> Encoder<'s, D> {
 
     fn constrain_all(
         &mut self,
+        search: &mut Search<D>,
         variable: VariableId,
         solvable: D::SolvableId,
         sets: &[VersionSetId],
     ) -> Result<()> {
         for set in sets {
-            self.constrain(variable, *set, Reason::Limits(solvable, *set))?;
+            self.constrain(search, variable, *set, Reason::Limits(solvable, *set))?;
         }
         Ok(())
     }
@@ -206,6 +277,7 @@ impl<'s, D: DependencyProvider + Copy> Encoder<'s, D> {
     /// Says that the parent, if true, forbids the candidates that the version set doesn't hold.
     fn constrain(
         &mut self,
+        search: &mut Search<D>,
         parent: VariableId,
         set: VersionSetId,
         reason: Reason<D::NameId, D::SolvableId>,
@@ -218,7 +290,7 @@ impl<'s, D: DependencyProvider + Copy> Encoder<'s, D> {
             .get_or_cache_non_matching_candidates(set)
             .map_err(refusal_of)?;
         for solvable in outside {
-            self.search.forbid(parent, *solvable, set, reason)?;
+            search.forbid(parent, *solvable, set, reason)?;
         }
         Ok(())
     }
@@ -251,14 +323,32 @@ impl<D: DependencyProvider + Copy> Search<D> {
         parent: VariableId,
         requirement: Requirement,
         unless: Option<DisjunctionId>,
+        gates: Vec<VariableId, D::Alloc>,
         reason: Reason<D::NameId, D::SolvableId>,
     ) -> Result<()> {
-        let added = self.store.requires_clause(parent, requirement, unless)?;
-        self.note(added.clause, reason)
+        let clause = self
+            .store
+            .requires_clause(parent, requirement, unless)?
+            .clause;
+        self.note(clause, reason)?;
+        let required = Required {
+            requirement,
+            gates,
+            clause,
+        };
+        self.add_required(parent, required)
     }
 
-    /// Says that the parent, if true, forbids a solvable that the version set doesn't hold. A parent that is this one
-    /// is false at level 1: its clause has one literal twice, and a clause watches two literals or none.
+    /// That one of the gates isn't true.
+    fn unless(&mut self, gates: &[VariableId], condition: ConditionId) -> Result<DisjunctionId> {
+        let mut unless = Vec::new(self.alloc);
+        for gate in gates {
+            unless.push(Literal::new(*gate, true))?;
+        }
+        self.store.disjunction(&unless, condition)
+    }
+
+    /// Says that the parent, if true, forbids a solvable that the version set doesn't hold.
     fn forbid(
         &mut self,
         parent: VariableId,
@@ -268,14 +358,10 @@ impl<D: DependencyProvider + Copy> Search<D> {
     ) -> Result<()> {
         let outside = self.store.variable(outside)?;
         let clause = self.store.constrains(parent, outside, set)?.clause;
-        self.note(clause, reason)?;
-        if outside == parent {
-            self.assign(Decision::new(parent, false, clause))?;
-        }
-        Ok(())
+        self.note(clause, reason)
     }
 
-    /// Makes a variable false at level 1, for the reason that the string says.
+    /// Makes a variable false, for the reason that the string says.
     fn exclude(
         &mut self,
         variable: VariableId,
@@ -283,25 +369,14 @@ impl<D: DependencyProvider + Copy> Search<D> {
         reason: Reason<D::NameId, D::SolvableId>,
     ) -> Result<()> {
         let clause = self.store.exclude(variable, string)?.clause;
-        self.rule_out(variable, clause, reason)
+        self.note(clause, reason)
     }
 
-    /// Makes a variable false at level 1, since its package is locked to another solvable.
+    /// Makes a variable false, since its package is locked to another solvable.
     fn lock(&mut self, locked: D::SolvableId, variable: VariableId) -> Result<()> {
         let first = self.store.variable(locked)?;
         let clause = self.store.lock(first, variable)?.clause;
-        self.rule_out(variable, clause, Reason::Locked(locked))
-    }
-
-    /// Makes a variable false at level 1 by a clause.
-    fn rule_out(
-        &mut self,
-        variable: VariableId,
-        clause: ClauseId,
-        reason: Reason<D::NameId, D::SolvableId>,
-    ) -> Result<()> {
-        self.note(clause, reason)?;
-        self.assign(Decision::new(variable, false, clause))
+        self.note(clause, Reason::Locked(locked))
     }
 }
 

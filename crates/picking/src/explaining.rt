@@ -1,52 +1,104 @@
-//! Why nothing serves: what the last nogood, that of the root alone, follows from in the end.
-use crate::learning::Source;
+//! Why nothing serves: the encoded clauses from which the last conflict follows.
+use crate::learning::Antecedent;
 use crate::reason::Reason;
-use crate::search::{Result, Search};
+use crate::search::{Refutation, Result, Search};
 use resolvo_clauses::VariableOrigin;
 use resolvo_ids::{ClauseId, IdSet, IndexedSet, Mapping, SolverId, VariableId};
 use resolvo_pool::DependencyProvider;
+use serving::Claim;
 use std::alloc::Allocator;
 
-/// A way back from the last nogood.
+/// A trace from the last conflict back to encoded clauses.
 #[derive(Drop)]
-struct WayBack<A: Allocator> {
+struct Trace<A: Allocator> {
     /// What is still to be followed.
-    pending: Vec<Source, A>,
-    /// The clauses that were met, and in which order.
+    pending: Vec<Antecedent, A>,
+    /// The clauses that were seen, and in which order.
     clauses: IndexedSet<ClauseId, A>,
-    met: Vec<ClauseId, A>,
-    /// The variables with a value at level 1 that were met.
+    seen: Vec<ClauseId, A>,
+    /// The variables with a value at level 1 that were seen.
     variables: IndexedSet<VariableId, A>,
 }
 
-impl<A: Allocator + Copy> WayBack<A> {
-    /// Notes a source, and answers whether it is met for the first time.
-    fn is_new(&mut self, source: &Source) -> Result<bool> {
-        match source {
-            Source::Clause(clause) => {
+impl<A: Allocator + Copy> Trace<A> {
+    /// Notes an antecedent, and answers whether it is new.
+    fn is_new(&mut self, antecedent: &Antecedent) -> Result<bool> {
+        match antecedent {
+            Antecedent::Clause(clause) => {
                 if !self.clauses.insert(*clause)? {
                     return Ok(false);
                 }
-                self.met.push(*clause)?;
+                self.seen.push(*clause)?;
                 Ok(true)
             }
-            Source::Fact(variable) => self.variables.insert(*variable),
+            Antecedent::Fact(variable) => self.variables.insert(*variable),
         }
     }
 }
 
 impl<D: DependencyProvider + Copy> Search<D> {
-    /// Why nothing serves: what is said by the clauses that the last nogood follows from, each thing once, in the order
-    /// in which it was told the store, and at most one version of a package last.
-    pub(crate) fn reasons(&self) -> Result<Vec<Reason<D::NameId, D::SolvableId>, D::Alloc>> {
-        let way = self.way_back()?;
+    /// That nothing serves, and why.
+    pub(crate) fn refutation(
+        &self,
+        steps: u64,
+    ) -> Result<Refutation<D::NameId, D::SolvableId, D::Alloc>> {
+        let trace = self.trace()?;
+        let reasons = self.reasons(&trace)?;
+        let learnt = self.learnt(&trace)?;
+        let solvables = self.solvables(&reasons)?;
+        Ok(Refutation {
+            learnt,
+            solvables,
+            reasons,
+            steps,
+        })
+    }
+
+    /// The learnt clauses that were seen.
+    fn learnt(
+        &self,
+        trace: &Trace<D::Alloc>,
+    ) -> Result<Vec<Vec<Claim<D::SolvableId>, D::Alloc>, D::Alloc>> {
+        let mut learnt = Vec::new(self.alloc);
+        for own in &self.learnt_clauses {
+            if trace.clauses.contains(own.clause) {
+                let mut claims = Vec::new(self.alloc);
+                claims.extend_from_slice(&own.claims)?;
+                learnt.push(claims)?;
+            }
+        }
+        Ok(learnt)
+    }
+
+    /// The solvables of which the reasons tell dependencies. Reasons of one solvable come in turn.
+    fn solvables(
+        &self,
+        reasons: &[Reason<D::NameId, D::SolvableId>],
+    ) -> Result<Vec<D::SolvableId, D::Alloc>> {
+        let mut solvables = Vec::new(self.alloc);
+        for reason in reasons {
+            if let Some(solvable) = reason.dependent() {
+                if !is_last(&solvables, solvable) {
+                    solvables.push(solvable)?;
+                }
+            }
+        }
+        Ok(solvables)
+    }
+
+    /// What the clauses that were seen say, each reason once, in the order in which they were encoded; then the
+    /// packages of which at most one version may be picked.
+    fn reasons(
+        &self,
+        trace: &Trace<D::Alloc>,
+    ) -> Result<Vec<Reason<D::NameId, D::SolvableId>, D::Alloc>> {
         let mut reasons = Vec::new(self.alloc);
-        for (clause, reason) in self.told.iter() {
-            if way.clauses.contains(clause) && !reasons.contains(reason) {
+        for (clause, reason) in self.encoded.iter() {
+            if trace.clauses.contains(clause) && !reasons.contains(reason) {
                 reasons.push(*reason)?;
             }
         }
-        self.add_packages(&way.met, &mut reasons)?;
+        self.add_packages(&trace.seen, &mut reasons)?;
         Ok(reasons)
     }
 
@@ -80,38 +132,38 @@ impl<D: DependencyProvider + Copy> Search<D> {
         Ok(None)
     }
 
-    /// The way back from the last nogood to its end.
-    fn way_back(&self) -> Result<WayBack<D::Alloc>> {
+    /// The whole trace from the last conflict.
+    fn trace(&self) -> Result<Trace<D::Alloc>> {
         let facts = self.facts()?;
-        let mut way = WayBack {
+        let mut trace = Trace {
             pending: Vec::new(self.alloc),
             clauses: IndexedSet::new(self.alloc),
-            met: Vec::new(self.alloc),
+            seen: Vec::new(self.alloc),
             variables: IndexedSet::new(self.alloc),
         };
-        way.pending.extend_from_slice(&self.root_cause)?;
-        self.go_to_its_end(&facts, &mut way)?;
-        Ok(way)
+        trace.pending.extend_from_slice(&self.root_cause)?;
+        self.follow_all(&facts, &mut trace)?;
+        Ok(trace)
     }
 
     /// Follows what is pending until nothing is.
-    fn go_to_its_end(
+    fn follow_all(
         &self,
         facts: &Mapping<VariableId, ClauseId, D::Alloc>,
-        way: &mut WayBack<D::Alloc>,
+        trace: &mut Trace<D::Alloc>,
     ) -> Result<()> {
         for _ in 0..u64::MAX {
-            let Some(source) = way.pending.pop() else {
+            let Some(antecedent) = trace.pending.pop() else {
                 break;
             };
-            if way.is_new(&source)? {
-                self.add_sources(&source, facts, way)?;
+            if trace.is_new(&antecedent)? {
+                self.add_antecedents(&antecedent, facts, trace)?;
             }
         }
         Ok(())
     }
 
-    /// The clauses that gave the values at level 1.
+    /// The antecedents of the values at level 1.
     fn facts(&self) -> Result<Mapping<VariableId, ClauseId, D::Alloc>> {
         let mut facts = Mapping::new(self.alloc)?;
         for assigned in &self.trail {
@@ -122,24 +174,24 @@ impl<D: DependencyProvider + Copy> Search<D> {
         Ok(facts)
     }
 
-    /// Adds what a source follows from: what a learnt clause does, and a value at level 1 from its clause and the other
-    /// values in it.
-    fn add_sources(
+    /// Adds what an antecedent follows from: a learnt clause from its own antecedents, and a value at level 1 from its
+    /// clause and the other values in it.
+    fn add_antecedents(
         &self,
-        source: &Source,
+        antecedent: &Antecedent,
         facts: &Mapping<VariableId, ClauseId, D::Alloc>,
-        way: &mut WayBack<D::Alloc>,
+        trace: &mut Trace<D::Alloc>,
     ) -> Result<()> {
-        match source {
-            Source::Clause(clause) => {
-                if let Some(sources) = self.derived.get(*clause) {
-                    way.pending.extend_from_slice(sources)?;
+        match antecedent {
+            Antecedent::Clause(clause) => {
+                if let Some(antecedents) = self.derived.get(*clause) {
+                    trace.pending.extend_from_slice(antecedents)?;
                 }
             }
-            Source::Fact(variable) => {
+            Antecedent::Fact(variable) => {
                 if let Some(clause) = facts.get(*variable) {
-                    way.pending.push(Source::Clause(*clause))?;
-                    self.add_facts(*clause, way)?;
+                    trace.pending.push(Antecedent::Clause(*clause))?;
+                    self.add_facts(*clause, trace)?;
                 }
             }
         }
@@ -147,10 +199,18 @@ impl<D: DependencyProvider + Copy> Search<D> {
     }
 
     /// Adds the variables of a clause that gave a value at level 1.
-    fn add_facts(&self, clause: ClauseId, way: &mut WayBack<D::Alloc>) -> Result<()> {
+    fn add_facts(&self, clause: ClauseId, trace: &mut Trace<D::Alloc>) -> Result<()> {
         for literal in self.store.literals(clause)?.iter().flatten() {
-            way.pending.push(Source::Fact(literal.variable()))?;
+            trace.pending.push(Antecedent::Fact(literal.variable()))?;
         }
         Ok(())
+    }
+}
+
+/// Whether the last one of a list is this.
+fn is_last<S: Copy + PartialEq>(list: &[S], one: S) -> bool {
+    match list.last() {
+        Some(last) => *last == one,
+        None => false,
     }
 }

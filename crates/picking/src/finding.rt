@@ -2,7 +2,7 @@
 ghost use Rattle.std.specs.Prelude.{IfOk};
 ghost use Rattle.picking.specs.Answers.{IsComplete, IsSound};
 
-use crate::lent::Lent;
+use crate::borrowed::Borrowed;
 use crate::reason::Reason;
 use crate::search::{SearchEnd, search_for};
 use resolvo_ids::StoreError;
@@ -36,7 +36,7 @@ pub fn pick<D: DependencyProvider>(
     ensures sound { IfOk result (IsSound (⟦<D as ProviderFunctions>⟧.functions provider.now) wanted.now) }
     ensures complete { IfOk result (IsComplete (⟦<D as ProviderFunctions>⟧.functions provider.now) wanted.now) }
 {
-    match search_for(alloc, Lent::new(provider), wanted, steps)? {
+    match search_for(alloc, Borrowed::new(provider), wanted, steps)? {
         SearchEnd::Picked(solvables) => {
             if serves(alloc, provider, wanted, &solvables)? {
                 Ok(Answer::Picked(solvables))
@@ -45,7 +45,15 @@ pub fn pick<D: DependencyProvider>(
             }
         }
         SearchEnd::Unsolvable(refutation) => {
-            if refutes(alloc, provider, wanted, &refutation.nogoods)? {
+            if refutation.learnt.len() as u64 > refutation.steps {
+                Ok(Answer::StepsUsed)
+            } else if refutes(
+                alloc,
+                provider,
+                wanted,
+                &refutation.solvables,
+                &refutation.learnt,
+            )? {
                 Ok(Answer::Unsolvable(refutation.reasons))
             } else {
                 Ok(Answer::Unshown(refutation.reasons))

@@ -1,170 +1,298 @@
-//! What a search learns from a false clause.
+//! Conflict analysis: what a search learns from a false clause.
 use crate::search::{Assigned, Result, Search};
 use resolvo_clauses::{Decision, Literal, VariableOrigin};
 use resolvo_ids::{ClauseId, IndexedSet, VariableId};
-use resolvo_pool::{DependencyProvider, Interner};
+use resolvo_pool::{DependencyProvider, Requirement};
+use serving::Claim;
 use std::alloc::Allocator;
+use std::mem;
 
-/// What a package's score gains for each of its versions that a nogood follows from.
-const GAIN: u64 = 1 << 16;
-
-/// After so many nogoods all scores are halved.
-const PERIOD: usize = 8;
-
-/// What a nogood follows from.
+/// What a learnt clause, or a value at level 1, follows from.
 #[derive(Clone, Copy)]
-pub(crate) enum Source {
+pub(crate) enum Antecedent {
     /// A clause.
     Clause(ClauseId),
-    /// The value of a variable that has it at level 1.
+    /// The value of a variable at level 1.
     Fact(VariableId),
 }
 
-/// What a false clause follows from.
+/// A clause that was learnt, in the provider's ids.
 #[derive(Drop)]
-struct Blame<A: Allocator> {
-    /// The choices above the root, the last one first.
-    choices: Vec<Assigned, A>,
-    sources: Vec<Source, A>,
-    /// The variables above level 1 that were met.
+pub(crate) struct LearntClause<S, A: Allocator> {
+    pub(crate) clause: ClauseId,
+    /// One of these holds.
+    pub(crate) claims: Vec<Claim<S>, A>,
+}
+
+/// The analysis of a conflict: which assignments can't stand together.
+#[derive(Drop)]
+struct Analysis<A: Allocator> {
+    /// The level of the conflict.
+    level: usize,
+    /// The variables that were seen.
+    seen: IndexedSet<VariableId, A>,
+    /// How many of them have that level, and aren't resolved yet.
+    open: usize,
+    /// The assignments of lower levels.
+    lower: Vec<Assigned, A>,
+    /// Clauses that are still to be seen.
+    pending: Vec<ClauseId, A>,
+    antecedents: Vec<Antecedent, A>,
+    /// The variables above level 1 that were seen.
     variables: Vec<VariableId, A>,
 }
 
 impl<D: DependencyProvider + Copy> Search<D> {
-    /// Learns from a false clause that the choices which it follows from can't stand together. Goes back to where all
-    /// of them but the last one stand, and makes that one false there. Where the root alone is to blame, no choice is
-    /// left.
+    /// Learns a clause from a conflict: that the first unique implication point and some assignments of lower levels
+    /// can't stand together. Backjumps to the highest of these levels, and propagates the clause there. A conflict that
+    /// follows from the root alone leaves no level.
     pub(crate) fn learn(&mut self, conflict: ClauseId) -> Result<()> {
         self.read_trail()?;
-        let Blame {
-            choices,
-            sources,
-            variables,
-        } = self.blame(conflict)?;
-        let nogood = self.solvables(&choices)?;
-        self.nogoods.push(nogood)?;
-        self.raise_scores(&variables)?;
-        match choices.as_slice() {
-            [] => {
-                self.choices.clear();
-                self.root_cause = sources;
-                Ok(())
-            }
-            [last] => self.go_on_without(*last, 1, &choices, sources),
-            [last, next, ..] => self.go_on_without(*last, next.level, &choices, sources),
-        }
+        let mut analysis = self.analysis_of(conflict)?;
+        let last = self.first_uip(&mut analysis)?;
+        self.raise_scores(&analysis.variables)?;
+        let lower = self.minimized(&analysis.lower, &analysis.seen, &mut analysis.antecedents)?;
+        let antecedents = mem::replace(&mut analysis.antecedents, Vec::new(self.alloc));
+        let Some(last) = last else {
+            self.levels.clear();
+            self.root_cause = antecedents;
+            return Ok(());
+        };
+        self.learn_clause(last, &lower, antecedents)
     }
 
-    /// Goes back to a level, and makes a choice false there by a clause that is learnt: that not all of some stand.
-    fn go_on_without(
-        &mut self,
-        last: Assigned,
-        level: usize,
-        choices: &[Assigned],
-        sources: Vec<Source, D::Alloc>,
-    ) -> Result<()> {
-        self.go_back(level);
-        let literals = self.negated(choices)?;
-        let learnt = self.store.learnt(&literals)?.clause;
-        self.derived.insert(learnt, sources)?;
-        self.assign(Decision::new(last.decision.variable, false, learnt))
-    }
-
-    /// What a false clause follows from. The trail is walked backwards, since what an assignment follows from was
-    /// assigned before it.
-    fn blame(&self, conflict: ClauseId) -> Result<Blame<D::Alloc>> {
-        let mut blame = Blame {
-            choices: Vec::new(self.alloc),
-            sources: Vec::new(self.alloc),
+    /// An analysis begins with the false clause, and the highest level in it.
+    fn analysis_of(&self, conflict: ClauseId) -> Result<Analysis<D::Alloc>> {
+        let mut analysis = Analysis {
+            level: self.highest_level(conflict)?,
+            seen: IndexedSet::new(self.alloc),
+            open: 0,
+            lower: Vec::new(self.alloc),
+            pending: Vec::new(self.alloc),
+            antecedents: Vec::new(self.alloc),
             variables: Vec::new(self.alloc),
         };
-        let mut met = IndexedSet::new(self.alloc);
-        self.meet(conflict, &mut met, &mut blame)?;
-        for assigned in self.trail.iter().rev() {
-            if met.contains(assigned.decision.variable) {
-                self.follow(assigned, &mut met, &mut blame)?;
-            }
-        }
-        Ok(blame)
+        self.see(conflict, &mut analysis)?;
+        Ok(analysis)
     }
 
-    /// Adds what an assignment follows from.
-    fn follow(
+    /// The highest level in a clause.
+    fn highest_level(&self, clause: ClauseId) -> Result<usize> {
+        let mut highest_level = 0;
+        for literal in self.store.literals(clause)?.iter().flatten() {
+            if let Some(assigned) = self.assigned(literal.variable()) {
+                highest_level = highest_level.max(assigned.level);
+            }
+        }
+        Ok(highest_level)
+    }
+
+    /// The first unique implication point: the last assignment of the conflict's level from which, with lower levels,
+    /// the conflict follows. The trail is walked backwards, since an assignment's antecedents come before it. There is
+    /// none if the conflict follows from the root alone.
+    fn first_uip(&self, analysis: &mut Analysis<D::Alloc>) -> Result<Option<Assigned>> {
+        if analysis.level < 2 {
+            return Ok(None);
+        }
+        for assigned in self.trail.iter().rev() {
+            if assigned.level == analysis.level
+                && analysis.seen.contains(assigned.decision.variable)
+            {
+                if self.is_unique(assigned, analysis) {
+                    return Ok(Some(*assigned));
+                }
+                analysis.open = analysis.open.saturating_sub(1);
+                self.see(assigned.decision.derived_from, analysis)?;
+            }
+        }
+        Ok(None)
+    }
+
+    /// Whether an assignment that was seen is the only open one of the conflict's level, and may be in a learnt clause.
+    fn is_unique(&self, assigned: &Assigned, analysis: &Analysis<D::Alloc>) -> bool {
+        assigned.is_decision || analysis.open < 2 && !self.is_helper(assigned.decision.variable)
+    }
+
+    /// Sees a clause and its variables. For a helper of a lower level its antecedent is seen as well.
+    fn see(&self, clause: ClauseId, analysis: &mut Analysis<D::Alloc>) -> Result<()> {
+        analysis.pending.push(clause)?;
+        for _ in 0..u64::MAX {
+            let Some(clause) = analysis.pending.pop() else {
+                break;
+            };
+            analysis.antecedents.push(Antecedent::Clause(clause))?;
+            for literal in self.store.literals(clause)?.iter().flatten() {
+                self.see_variable(literal.variable(), analysis)?;
+            }
+        }
+        Ok(())
+    }
+
+    fn see_variable(&self, variable: VariableId, analysis: &mut Analysis<D::Alloc>) -> Result<()> {
+        let Some(assigned) = self.assigned(variable) else {
+            return Ok(());
+        };
+        if !analysis.seen.insert(variable)? {
+            return Ok(());
+        }
+        if assigned.level < 2 {
+            analysis.antecedents.push(Antecedent::Fact(variable))?;
+            return Ok(());
+        }
+        analysis.variables.push(variable)?;
+        if assigned.level == analysis.level {
+            analysis.open = analysis.open.saturating_add(1);
+        } else if self.is_helper(variable) {
+            analysis.pending.push(assigned.decision.derived_from)?;
+        } else {
+            analysis.lower.push(assigned)?;
+        }
+        Ok(())
+    }
+
+    /// Whether a variable is a helper of an at-most-one encoding. No learnt clause has one.
+    fn is_helper(&self, variable: VariableId) -> bool {
+        match self.store.origin(variable) {
+            Some(VariableOrigin::ForbidMultiple(_)) => true,
+            _ => false,
+        }
+    }
+
+    /// The assignments without the redundant ones.
+    fn minimized(
+        &self,
+        lower: &[Assigned],
+        seen: &IndexedSet<VariableId, D::Alloc>,
+        antecedents: &mut Vec<Antecedent, D::Alloc>,
+    ) -> Result<Vec<Assigned, D::Alloc>> {
+        let mut kept = Vec::new(self.alloc);
+        for assigned in lower {
+            if self.is_redundant(assigned, seen)? {
+                self.add_antecedents_of(assigned.decision.derived_from, antecedents)?;
+            } else {
+                kept.push(*assigned)?;
+            }
+        }
+        Ok(kept)
+    }
+
+    /// Whether an assignment follows from others that were seen, and from the root: a learnt clause can do without it.
+    fn is_redundant(
         &self,
         assigned: &Assigned,
-        met: &mut IndexedSet<VariableId, D::Alloc>,
-        blame: &mut Blame<D::Alloc>,
-    ) -> Result<()> {
-        if assigned.level < 2 {
-            blame
-                .sources
-                .push(Source::Fact(assigned.decision.variable))?;
-            return Ok(());
+        seen: &IndexedSet<VariableId, D::Alloc>,
+    ) -> Result<bool> {
+        if assigned.is_decision {
+            return Ok(false);
         }
-        blame.variables.push(assigned.decision.variable)?;
-        if assigned.is_choice {
-            blame.choices.push(*assigned)?;
-            return Ok(());
+        for literal in self
+            .store
+            .literals(assigned.decision.derived_from)?
+            .iter()
+            .flatten()
+        {
+            let variable = literal.variable();
+            if !seen.contains(variable) && !self.is_fact(variable) {
+                return Ok(false);
+            }
         }
-        self.meet(assigned.decision.derived_from, met, blame)
+        Ok(true)
     }
 
-    /// Adds a clause and its variables.
-    fn meet(
+    /// Adds a clause, and the variables in it that have their values at level 1, to the antecedents.
+    fn add_antecedents_of(
         &self,
         clause: ClauseId,
-        met: &mut IndexedSet<VariableId, D::Alloc>,
-        blame: &mut Blame<D::Alloc>,
+        antecedents: &mut Vec<Antecedent, D::Alloc>,
     ) -> Result<()> {
-        blame.sources.push(Source::Clause(clause))?;
+        antecedents.push(Antecedent::Clause(clause))?;
         for literal in self.store.literals(clause)?.iter().flatten() {
-            met.insert(literal.variable())?;
-        }
-        Ok(())
-    }
-
-    /// Raises the scores of the packages of these variables, so that what fails often is decided early; and halves all
-    /// scores from time to time, so that what failed lately counts for more.
-    fn raise_scores(&mut self, variables: &[VariableId]) -> Result<()> {
-        for variable in variables {
-            let origin = self.store.origin(*variable);
-            if let Some(VariableOrigin::Solvable(solvable)) = origin {
-                self.raise_score(solvable)?;
+            if self.is_fact(literal.variable()) {
+                antecedents.push(Antecedent::Fact(literal.variable()))?;
             }
         }
-        if self.nogoods.len() % PERIOD == 0 {
-            self.store.decay(1, 2)?;
-        }
         Ok(())
     }
 
-    fn raise_score(&mut self, solvable: D::SolvableId) -> Result<()> {
-        let provider = self.store.provider();
-        if provider.knows_solvable(solvable) {
-            let name = provider.solvable_name(solvable);
-            self.store.bump(name, GAIN)?;
+    /// Whether a variable has its value at level 1.
+    fn is_fact(&self, variable: VariableId) -> bool {
+        match self.assigned(variable) {
+            Some(assigned) => assigned.level < 2,
+            None => false,
         }
-        Ok(())
     }
 
-    /// The solvables that were chosen.
-    fn solvables(&self, choices: &[Assigned]) -> Result<Vec<D::SolvableId, D::Alloc>> {
-        let mut solvables = Vec::new(self.alloc);
-        for choice in choices {
-            let origin = self.store.origin(choice.decision.variable);
-            if let Some(VariableOrigin::Solvable(solvable)) = origin {
-                solvables.push(solvable)?;
-            }
-        }
-        Ok(solvables)
+    /// Learns that not all of these assignments stand: backjumps to the highest level of the lower ones, and propagates
+    /// the opposite of the last one.
+    fn learn_clause(
+        &mut self,
+        last: Assigned,
+        lower: &[Assigned],
+        antecedents: Vec<Antecedent, D::Alloc>,
+    ) -> Result<()> {
+        let level = highest_level_of(lower);
+        self.backjump(level);
+        let literals = self.literals_against(last, lower, level)?;
+        let clause = self.store.learnt(&literals)?.clause;
+        self.derived.insert(clause, antecedents)?;
+        let claims = self.claims(&literals)?;
+        self.learnt_clauses.push(LearntClause { clause, claims })?;
+        let Decision {
+            variable,
+            value,
+            ..
+        } = last.decision;
+        self.assign(Decision::new(variable, !value, clause))
     }
 
-    /// That not all of them were chosen.
-    fn negated(&self, choices: &[Assigned]) -> Result<Vec<Literal, D::Alloc>> {
+    /// The literals of the clause that not all of these assignments stand. The last one comes first, and one of the
+    /// level comes last, since a learnt clause watches its first and its last literal.
+    fn literals_against(
+        &self,
+        last: Assigned,
+        lower: &[Assigned],
+        level: usize,
+    ) -> Result<Vec<Literal, D::Alloc>> {
         let mut literals = Vec::new(self.alloc);
-        for choice in choices {
-            literals.push(Literal::new(choice.decision.variable, true))?;
+        literals.push(last.opposite())?;
+        let mut end = None;
+        for assigned in lower {
+            if end.is_none() && assigned.level == level {
+                end = Some(assigned.opposite());
+            } else {
+                literals.push(assigned.opposite())?;
+            }
+        }
+        if let Some(end) = end {
+            literals.push(end)?;
         }
         Ok(literals)
     }
+
+    /// What the literals claim, in the provider's ids.
+    fn claims(&self, literals: &[Literal]) -> Result<Vec<Claim<D::SolvableId>, D::Alloc>> {
+        let mut claims = Vec::new(self.alloc);
+        for literal in literals {
+            let value = literal.satisfying_value();
+            match self.store.origin(literal.variable()) {
+                Some(VariableOrigin::Solvable(solvable)) => {
+                    claims.push(Claim::Picked(solvable, value))?;
+                }
+                Some(VariableOrigin::RequiresGate(Requirement::Single(set))) => {
+                    claims.push(Claim::Held(set, value))?;
+                }
+                _ => {}
+            }
+        }
+        Ok(claims)
+    }
+}
+
+/// The highest level of these assignments, or the root's.
+fn highest_level_of(assigned: &[Assigned]) -> usize {
+    let mut highest_level = 1;
+    for one in assigned {
+        highest_level = highest_level.max(one.level);
+    }
+    highest_level
 }

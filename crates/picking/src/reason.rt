@@ -22,6 +22,17 @@ pub enum Reason<N, S> {
     OneVersion(N),
 }
 
+impl<N: Copy, S: Copy> Reason<N, S> {
+    /// The solvable of whose dependencies it tells.
+    pub(crate) fn dependent(&self) -> Option<S> {
+        match self {
+            Reason::Needs(solvable, _) | Reason::Lacks(solvable, _) => *solvable,
+            Reason::Limits(solvable, _) | Reason::Unknown(solvable, _) => Some(*solvable),
+            Reason::Excluded(_, _) | Reason::Locked(_) | Reason::OneVersion(_) => None,
+        }
+    }
+}
+
 impl<N: SameValue, S: SameValue> SameValue for Reason<N, S> {
     ghost use Rattle.std.proofs.Common.{rules};
 

@@ -1,17 +1,19 @@
 //! A search over the clause store.
 //!
-//! It encodes all that may be picked (`encoding`); then it saturates and decides in turn. Where a clause is false it
-//! learns which choices can't stand together (`learning`), and goes back to where all of them but the last one stand.
-//! Where nothing serves, it tells why (`explaining`).
+//! It encodes all that may be picked (`encoding`); then it propagates and decides in turn. From a conflict it learns a
+//! clause, and backjumps (`learning`). After many conflicts it decides by scores (`deciding`), and restarts now and
+//! then (`pace`). If nothing serves, it explains why (`explaining`).
+use crate::deciding::Required;
 use crate::encoding::Encoder;
-use crate::learning::Source;
+use crate::learning::{Antecedent, LearntClause};
+use crate::pace::{Pace, Scores};
 use crate::reason::Reason;
-use resolvo_clauses::Decision;
+use resolvo_clauses::{Decision, Literal};
 use resolvo_ids::{ClauseId, Mapping, StoreError, VariableId};
 use resolvo_pool::{ConditionalRequirement, DependencyProvider};
 use resolvo_store::ClauseStore;
+use serving::Claim;
 use std::alloc::Allocator;
-use std::mem;
 
 pub(crate) type Result<T> = std::result::Result<T, StoreError>;
 
@@ -22,25 +24,29 @@ pub(crate) enum SearchEnd<N, S, A: Allocator> {
     Picked(Vec<S, A>),
     /// Nothing serves.
     Unsolvable(Refutation<N, S, A>),
-    /// So many steps were too few.
+    /// The steps were too few.
     StepsUsed,
 }
 
 /// That nothing serves.
 #[derive(Drop)]
 pub(crate) struct Refutation<N, S, A: Allocator> {
-    /// Solvables that can't all be picked, list after list: each follows by unit propagation from what was told the
-    /// store and from the lists before it. The last one is empty.
-    pub(crate) nogoods: Vec<Vec<S, A>, A>,
-    /// What the last one follows from in the end.
+    /// Learnt clauses: each follows by unit propagation from the encoded clauses and from those before it, and all of
+    /// them together contradict the encoded clauses.
+    pub(crate) learnt: Vec<Vec<Claim<S>, A>, A>,
+    /// The solvables whose dependencies that takes.
+    pub(crate) solvables: Vec<S, A>,
+    /// What that follows from in the end.
     pub(crate) reasons: Vec<Reason<N, S>, A>,
+    /// How many steps are left.
+    pub(crate) steps: u64,
 }
 
-/// What was chosen to be true at a level: at level 1 the root, and then candidates.
+/// A level begins with a decision: the root's at level 1, and then that a candidate is true.
 #[derive(Clone, Copy)]
-pub(crate) struct Choice {
+pub(crate) struct DecisionLevel {
     variable: VariableId,
-    /// How many assignments were made below its level.
+    /// How many assignments are below the level.
     below: usize,
 }
 
@@ -49,7 +55,14 @@ pub(crate) struct Choice {
 pub(crate) struct Assigned {
     pub(crate) decision: Decision,
     pub(crate) level: usize,
-    pub(crate) is_choice: bool,
+    pub(crate) is_decision: bool,
+}
+
+impl Assigned {
+    /// That it doesn't stand.
+    pub(crate) fn opposite(&self) -> Literal {
+        Literal::new(self.decision.variable, self.decision.value)
+    }
 }
 
 /// A search, which owns its store.
@@ -58,22 +71,30 @@ pub(crate) struct Search<D: DependencyProvider> {
     pub(crate) store: ClauseStore<D>,
     /// What may be picked.
     pub(crate) candidates: Vec<(VariableId, D::SolvableId), D::Alloc>,
-    /// A choice for each level.
-    pub(crate) choices: Vec<Choice, D::Alloc>,
+    /// The levels, lowest first.
+    pub(crate) levels: Vec<DecisionLevel, D::Alloc>,
     /// The trail as it was read last, oldest first.
     pub(crate) trail: Vec<Assigned, D::Alloc>,
-    /// What clauses say.
-    pub(crate) told: Mapping<ClauseId, Reason<D::NameId, D::SolvableId>, D::Alloc>,
-    /// Solvables that can't all be picked, list after list as they were learnt.
-    pub(crate) nogoods: Vec<Vec<D::SolvableId, D::Alloc>, D::Alloc>,
-    /// What each learnt clause follows from.
-    pub(crate) derived: Mapping<ClauseId, Vec<Source, D::Alloc>, D::Alloc>,
-    /// What follows from the root alone, and so leaves no choice.
-    pub(crate) root_cause: Vec<Source, D::Alloc>,
+    /// The dependencies of what is true in the trail below this are encoded.
+    pub(crate) encoded_below: usize,
+    /// The place of a variable there, if it is there.
+    places: Mapping<VariableId, usize, D::Alloc>,
+    /// What each variable requires.
+    pub(crate) requirements: Mapping<VariableId, Vec<Required<D::Alloc>, D::Alloc>, D::Alloc>,
+    pub(crate) scores: Scores<D::NameId, D::Alloc>,
+    pub(crate) pace: Pace,
+    /// What the encoded clauses say.
+    pub(crate) encoded: Mapping<ClauseId, Reason<D::NameId, D::SolvableId>, D::Alloc>,
+    /// The learnt clauses, in order.
+    pub(crate) learnt_clauses: Vec<LearntClause<D::SolvableId, D::Alloc>, D::Alloc>,
+    /// The antecedents of each learnt clause.
+    pub(crate) derived: Mapping<ClauseId, Vec<Antecedent, D::Alloc>, D::Alloc>,
+    /// The antecedents of the last conflict, which follows from the root alone.
+    pub(crate) root_cause: Vec<Antecedent, D::Alloc>,
     pub(crate) alloc: D::Alloc,
 }
 
-/// Searches for what meets the requirements, in so many steps at most.
+/// Searches for solvables that meet the requirements, within a number of steps.
 pub(crate) fn search_for<D: DependencyProvider + Copy>(
     alloc: D::Alloc,
     provider: D,
@@ -87,18 +108,25 @@ pub(crate) fn search_for<D: DependencyProvider + Copy>(
 }
 
 impl<D: DependencyProvider + Copy> Search<D> {
-    /// A search that was told nothing. The store comes last, so that no refusal lets one go.
+    /// A search with nothing encoded. The store is made last, so that no refusal has to free one.
     fn new(alloc: D::Alloc, provider: D) -> Result<Self> {
-        let told = Mapping::new(alloc)?;
+        let encoded = Mapping::new(alloc)?;
         let derived = Mapping::new(alloc)?;
+        let places = Mapping::new(alloc)?;
+        let requirements = Mapping::new(alloc)?;
         let store = ClauseStore::new(alloc, provider)?;
         Ok(Search {
             store,
             candidates: Vec::new(alloc),
-            choices: Vec::new(alloc),
+            levels: Vec::new(alloc),
             trail: Vec::new(alloc),
-            told,
-            nogoods: Vec::new(alloc),
+            encoded_below: 0,
+            places,
+            requirements,
+            scores: Scores::new(alloc),
+            pace: Pace::new(),
+            encoded,
+            learnt_clauses: Vec::new(alloc),
             derived,
             root_cause: Vec::new(alloc),
             alloc,
@@ -112,66 +140,86 @@ impl<D: DependencyProvider + Copy> Search<D> {
         steps: u64,
     ) -> Result<SearchEnd<D::NameId, D::SolvableId, D::Alloc>> {
         self.store.root()?;
-        self.choose(VariableId::root(), ClauseId::install_root())?;
-        self.encode(wanted)?;
-        self.run(steps)
-    }
-
-    /// Tells the store what is wanted, and all that may be picked.
-    fn encode(&mut self, wanted: &[ConditionalRequirement]) -> Result<()> {
+        self.decide(VariableId::root(), ClauseId::install_root())?;
         let mut encoder = Encoder::new(self)?;
-        encoder.encode_all(wanted)
+        encoder.request(self, wanted)?;
+        self.run(&mut encoder, steps)
     }
 
-    /// A step makes what follows from the choices true, and then chooses, or learns which choices can't stand together;
-    /// these don't come together again. So it ends, but perhaps after very many steps.
-    fn run(&mut self, steps: u64) -> Result<SearchEnd<D::NameId, D::SolvableId, D::Alloc>> {
-        for _ in 0..steps {
-            if self.choices.is_empty() {
-                return Ok(SearchEnd::Unsolvable(self.refutation()?));
+    /// A step propagates; then it learns from a conflict, encodes what is newly true, or decides. No assignment comes
+    /// back that a learnt clause rules out, so a search ends, but perhaps after very many steps.
+    fn run(
+        &mut self,
+        encoder: &mut Encoder<D>,
+        steps: u64,
+    ) -> Result<SearchEnd<D::NameId, D::SolvableId, D::Alloc>> {
+        for step in 0..steps {
+            if self.levels.is_empty() {
+                return Ok(SearchEnd::Unsolvable(self.refutation(steps - step)?));
             }
-            if !self.goes_on()? {
+            if !self.step(encoder)? {
                 return Ok(SearchEnd::Picked(self.picked()?));
             }
         }
         Ok(SearchEnd::StepsUsed)
     }
 
-    /// What was learnt, and why nothing serves.
-    fn refutation(&mut self) -> Result<Refutation<D::NameId, D::SolvableId, D::Alloc>> {
-        let reasons = self.reasons()?;
-        let nogoods = mem::replace(&mut self.nogoods, Vec::new(self.alloc));
-        Ok(Refutation { nogoods, reasons })
-    }
-
-    /// Makes a step, and answers whether one was left.
-    fn goes_on(&mut self) -> Result<bool> {
+    /// Makes a step, and answers whether there was one to make.
+    fn step(&mut self, encoder: &mut Encoder<D>) -> Result<bool> {
         let level = self.level();
         if let Some(conflict) = self.store.saturate(level)? {
             self.learn(conflict)?;
+            return self.may_go_on();
+        }
+        self.read_trail()?;
+        if encoder.encode_new(self)? {
             return Ok(true);
+        }
+        if self.pace.is_over() {
+            self.backjump(1);
+            return Ok(true);
+        }
+        if self.pace.is_by_score() {
+            return self.decide_by_score();
         }
         let Some(next) = self.store.next_decision()? else {
             return Ok(false);
         };
-        self.choose(next.candidate, next.clause_id)?;
+        self.decide(next.candidate, next.clause_id)?;
         Ok(true)
     }
 
-    /// Makes a candidate true at a new level.
-    fn choose(&mut self, variable: VariableId, clause: ClauseId) -> Result<()> {
+    /// Refuses to go on if the provider says so.
+    fn may_go_on(&self) -> Result<bool> {
+        match self.store.provider().should_cancel_with_value() {
+            Some(_) => Err(StoreError::Cancelled),
+            None => Ok(true),
+        }
+    }
+
+    /// Decides by scores. Answers whether something was open.
+    fn decide_by_score(&mut self) -> Result<bool> {
+        let Some(offer) = self.best_offer() else {
+            return Ok(false);
+        };
+        self.decide(offer.candidate, offer.clause)?;
+        Ok(true)
+    }
+
+    /// Decides that a variable is true, at a new level.
+    fn decide(&mut self, variable: VariableId, clause: ClauseId) -> Result<()> {
         self.read_trail()?;
         let below = self.trail.len();
-        self.choices.push(Choice { variable, below })?;
+        self.levels.push(DecisionLevel { variable, below })?;
         self.assign(Decision::new(variable, true, clause))
     }
 
-    /// The level of the last choice. The store refuses one that is too high.
+    /// The current level. The store refuses one that is too high.
     fn level(&self) -> u32 {
-        u32::try_from(self.choices.len()).unwrap_or(u32::MAX)
+        u32::try_from(self.levels.len()).unwrap_or(u32::MAX)
     }
 
-    /// Assigns at the level of the last choice. What is above is taken back.
+    /// Assigns at the current level. What is above is undone.
     pub(crate) fn assign(&mut self, decision: Decision) -> Result<()> {
         let level = self.level();
         self.store.undo_until(level);
@@ -179,31 +227,44 @@ impl<D: DependencyProvider + Copy> Search<D> {
         Ok(())
     }
 
-    /// Reads what was assigned since it was read last, all of it at the level of the last choice.
+    /// Reads the assignments that are new, all of them at the current level.
     pub(crate) fn read_trail(&mut self) -> Result<()> {
         for _ in 0..u32::MAX {
             let Some(decision) = self.store.next_unpropagated() else {
                 break;
             };
-            let is_choice = match self.choices.last() {
-                Some(choice) => choice.variable == decision.variable,
+            let is_decision = match self.levels.last() {
+                Some(level) => level.variable == decision.variable,
                 None => false,
             };
+            self.places.insert(decision.variable, self.trail.len())?;
             self.trail.push(Assigned {
                 decision,
-                level: self.choices.len(),
-                is_choice,
+                level: self.levels.len(),
+                is_decision,
             })?;
         }
         Ok(())
     }
 
-    /// Takes back what is above a level.
-    pub(crate) fn go_back(&mut self, level: usize) {
-        if let Some(choice) = self.choices.get(level) {
-            self.trail.truncate(choice.below);
+    /// The assignment of a variable, as it was read last.
+    pub(crate) fn assigned(&self, variable: VariableId) -> Option<Assigned> {
+        let Some(place) = self.places.get(variable) else {
+            return None;
+        };
+        match self.trail.get(*place) {
+            Some(assigned) if assigned.decision.variable == variable => Some(*assigned),
+            _ => None,
         }
-        self.choices.truncate(level);
+    }
+
+    /// Undoes what is above a level.
+    pub(crate) fn backjump(&mut self, level: usize) {
+        if let Some(above) = self.levels.get(level) {
+            self.trail.truncate(above.below);
+            self.encoded_below = self.encoded_below.min(above.below);
+        }
+        self.levels.truncate(level);
         let level = self.level();
         self.store.undo_until(level);
     }
@@ -225,7 +286,7 @@ impl<D: DependencyProvider + Copy> Search<D> {
         clause: ClauseId,
         reason: Reason<D::NameId, D::SolvableId>,
     ) -> Result<()> {
-        self.told.insert(clause, reason)?;
+        self.encoded.insert(clause, reason)?;
         Ok(())
     }
 }

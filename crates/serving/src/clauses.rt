@@ -8,6 +8,7 @@ use crate::atoms::{Atoms, Packages};
 use crate::known::Known;
 use crate::literal::{Atom, Fact, Literal};
 use crate::rest::{Rest, rest_of};
+use crate::watches::{Cursor, Sign};
 use resolvo_ids::{SameId, SolverId, StoreError};
 use std::alloc::Allocator;
 
@@ -16,7 +17,6 @@ use std::alloc::Allocator;
 pub(crate) struct Theory<N: SolverId<A>, S: SolverId<A>, A: Allocator + Copy> {
     pub(crate) atoms: Atoms<N, S, A>,
     pub(crate) clauses: Vec<Vec<Literal<N, S>, A>, A>,
-    naming: Naming<A>,
 }
 
 impl<N: SolverId<A>, S: SolverId<A>, A: Allocator + Copy> Theory<N, S, A> {
@@ -26,17 +26,12 @@ impl<N: SolverId<A>, S: SolverId<A>, A: Allocator + Copy> Theory<N, S, A> {
         Ok(Theory {
             atoms: Atoms::new(alloc)?,
             clauses: Vec::new(alloc),
-            naming: Naming {
-                clauses: Vec::new(alloc),
-                alloc,
-            },
         })
     }
 
     pub(crate) fn add(&mut self, clause: Vec<Literal<N, S>, A>) -> Result<(), StoreError>
         ensures { OnOk result (self.new.clauses.items ≡ self.old.clauses.items ++ clause ∷ []) }
     {
-        self.naming.note_all(self.clauses.len(), &clause)?;
         self.clauses.push(clause)?;
         Ok(())
     }
@@ -47,48 +42,16 @@ impl<N: SolverId<A>, S: SolverId<A>, A: Allocator + Copy> Theory<N, S, A> {
     {
         Rules {
             clauses: self.clauses.as_slice(),
-            naming: &self.naming,
             packages: &self.atoms.packages,
         }
     }
 }
 
-/// For each number of a fact the places of the clauses that name it. They tell where to look.
-#[derive(Drop)]
-struct Naming<A: Allocator + Copy> {
-    clauses: Vec<Vec<usize, A>, A>,
-    alloc: A,
-}
-
-impl<A: Allocator + Copy> Naming<A> {
-    fn note_all<N: SameId, S: SameId>(
-        &mut self,
-        place: usize,
-        clause: &[Literal<N, S>],
-    ) -> Result<(), StoreError> {
-        for literal in clause {
-            self.note(place, literal.number)?;
-        }
-        Ok(())
-    }
-
-    fn note(&mut self, place: usize, number: u32) -> Result<(), StoreError> {
-        for _ in self.clauses.len()..number as usize + 1 {
-            self.clauses.push(Vec::new(self.alloc))?;
-        }
-        if let Some(places) = self.clauses.get_mut(number as usize) {
-            places.push(place)?;
-        }
-        Ok(())
-    }
-}
-
 /// What literals follow by: clauses, and that at most one version of a package is picked. Where a literal gets known,
-/// the clauses that name its fact are looked at, and the other versions of its package.
+/// the clauses that wait for its opposite are looked at, and the other versions of its package.
 #[derive(Clone, Copy)]
 pub(crate) struct Rules<'t, N: SameId, S: SameId, A: Allocator + Copy> {
     pub(crate) clauses: &'t [Vec<Literal<N, S>, A>],
-    naming: &'t Naming<A>,
     packages: &'t Packages<N, S, A>,
 }
 
@@ -110,20 +73,39 @@ impl<'t, N: SameId, S: SameId, A: Allocator + Copy> Rules<'t, N, S, A> {
             known.old.literals.items known.new.literals.items) }
     {
         for place in 0..self.clauses.len() {
-            if self.look_at(known, place)? {
+            if self.begin_at(known, place)? {
                 return Ok(true);
             }
         }
         Ok(false)
     }
 
-    /// Adds what follows from the clause at a place. Answers whether that contradicts what is known.
+    /// Adds what follows from the clause at a place, and lets it wait. Answers whether that contradicts what is known.
+    fn begin_at(&self, known: &mut Known<N, S, A>, place: usize) -> Result<bool, StoreError>
+        ensures { IfOk result (Follows (λ holds. AreMet holds self.now.clauses.now)
+            known.old.literals.items known.new.literals.items) }
+    {
+        self.watch_at(known, place)?;
+        self.look_at(known, place)
+    }
+
+    /// Lets the clause at a place wait.
+    fn watch_at(&self, known: &mut Known<N, S, A>, place: usize) -> Result<(), StoreError>
+        ensures { known.new.literals.items ≡ known.old.literals.items }
+    {
+        match self.clauses.get(place) {
+            Some(clause) => known.watch(clause),
+            None => Ok(()),
+        }
+    }
+
+    /// Adds what follows from the new clause at a place. Answers whether that contradicts what is known.
     pub(crate) fn draw(&self, known: &mut Known<N, S, A>, place: usize) -> Result<bool, StoreError>
         ensures { IfOk result (Follows (λ holds. IsOneAName holds × AreMet holds self.now.clauses.now)
             known.old.literals.items known.new.literals.items) }
     {
         let count = known.literals.len();
-        if self.look_at(known, place)? {
+        if self.begin_at(known, place)? {
             return Ok(true);
         }
         self.propagate(known, count)
@@ -187,7 +169,7 @@ impl<'t, N: SameId, S: SameId, A: Allocator + Copy> Rules<'t, N, S, A> {
         if self.leave_others_out(known, literal)? {
             return Ok(true);
         }
-        self.look_where_named(known, literal.number)
+        self.look_where_awaited(known, literal.sign().opposite())
     }
 
     /// Where a literal that is known picks a version, leaves out the others of its package.
@@ -210,16 +192,17 @@ impl<'t, N: SameId, S: SameId, A: Allocator + Copy> Rules<'t, N, S, A> {
         Ok(false)
     }
 
-    /// Looks at the clauses that name a fact.
-    fn look_where_named(&self, known: &mut Known<N, S, A>, number: u32) -> Result<bool, StoreError>
+    /// Looks at the clauses that wait for a literal, of which one other is left at most.
+    fn look_where_awaited(&self, known: &mut Known<N, S, A>, sign: Sign) -> Result<bool, StoreError>
         ensures { IfOk result (Follows (λ holds. AreMet holds self.now.clauses.now)
             known.old.literals.items known.new.literals.items) }
     {
-        let Some(places) = self.naming.clauses.get(number as usize) else {
-            return Ok(false);
-        };
-        for place in places {
-            if self.look_at(known, *place)? {
+        let mut cursor = Cursor::new(sign);
+        for _ in 0..usize::MAX {
+            let Some(place) = known.next_place(self.clauses, &mut cursor)? else {
+                return Ok(false);
+            };
+            if self.look_at(known, place)? {
                 return Ok(true);
             }
         }

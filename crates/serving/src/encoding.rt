@@ -1,4 +1,4 @@
-//! What packages say of a choice that serves, as clauses about all solvables that may be picked.
+//! What packages say of a choice that serves, as clauses.
 ghost use Rattle.std.specs.Prelude.{◌≡◌, ◌∷◌, Bool, true, false, not, All, List, [], IfOk, OnOk, map, ⊤};
 ghost use Rattle.std.specs.List.{list_any, list_all};
 ghost use Rattle.resolvo_ids.specs.Types.VersionSetId.{VersionSetId};
@@ -14,31 +14,33 @@ ghost use Rattle.serving.specs.declared.literal.Fact.TheVariants.{Held, Picked};
 use crate::asking::{candidates, knows};
 use crate::atoms::Atoms;
 use crate::clauses::Theory;
-use crate::literal::{Atom, Fact, Literal};
+use crate::literal::{Atom, Literal};
 use resolvo_ids::{ConditionId, SolverId, StoreError, VersionSetId};
 use resolvo_pool::{
     ConditionalRequirement, Dependencies, DependencyProvider, Interner, ProviderFunctions,
     Requirement, convert_conditions_to_dnf,
 };
 
-/// Clauses that each choice meets that serves whoever wants these requirements. They are about all solvables that can
-/// be reached from what is wanted.
+/// Clauses that each choice meets that serves whoever wants these requirements: those of the requirements, and of the
+/// dependencies of some solvables.
 pub(crate) fn encoded<D: DependencyProvider>(
     alloc: D::Alloc,
     provider: &D,
     wanted: &[ConditionalRequirement],
+    solvables: &[D::SolvableId],
 ) -> Result<Theory<D::NameId, D::SolvableId, D::Alloc>, StoreError>
     ensures { IfOk result (λ theory. AreMetStill (⟦<D as ProviderFunctions>⟧.functions provider.now)
         (Serves (⟦<D as ProviderFunctions>⟧.functions provider.now) wanted.now) [] theory.clauses.items) }
 {
     let encoder = Encoder { alloc, provider };
-    encoded_by(&encoder, wanted)
+    encoded_by(&encoder, wanted, solvables)
 }
 
 /// The same clauses, by an encoder.
 fn encoded_by<D: DependencyProvider>(
     encoder: &Encoder<D>,
     wanted: &[ConditionalRequirement],
+    solvables: &[D::SolvableId],
 ) -> Result<Theory<D::NameId, D::SolvableId, D::Alloc>, StoreError>
     ensures { IfOk result (λ theory. AreMetStill (⟦<D as ProviderFunctions>⟧.functions encoder.now.provider.now)
         (Serves (⟦<D as ProviderFunctions>⟧.functions encoder.now.provider.now) wanted.now) [] theory.clauses.items) }
@@ -46,7 +48,7 @@ fn encoded_by<D: DependencyProvider>(
     let mut theory = Theory::new(encoder.alloc)?;
     let none = Vec::new(encoder.alloc);
     encoder.require_all(&mut theory, &none, wanted)?;
-    encoder.encode_all(&mut theory)?;
+    encoder.encode_all(&mut theory, solvables)?;
     Ok(theory)
 }
 
@@ -58,38 +60,20 @@ struct Encoder<'p, D: DependencyProvider> {
 }
 
 impl<'p, D: DependencyProvider> Encoder<'p, D> {
-    /// Says what the solvables need that were met, and those that are met on the way.
+    /// Says what each of the solvables needs, if it is picked.
     fn encode_all(
         &self,
         theory: &mut Theory<D::NameId, D::SolvableId, D::Alloc>,
+        solvables: &[D::SolvableId],
     ) -> Result<(), StoreError>
         ensures { OnOk result (AreMetStill (⟦<D as ProviderFunctions>⟧.functions self.now.provider.now)
             (AreContent (⟦<D as ProviderFunctions>⟧.functions self.now.provider.now))
             theory.old.clauses.items theory.new.clauses.items) }
     {
-        for number in 0..u32::MAX {
-            let Some(atom) = theory.atoms.get(number) else {
-                return Ok(());
-            };
-            self.encode(theory, atom)?;
+        for solvable in solvables {
+            self.encode_solvable(theory, *solvable)?;
         }
         Ok(())
-    }
-
-    /// Says what is needed where a fact is so: something if it is that a solvable is picked.
-    fn encode(
-        &self,
-        theory: &mut Theory<D::NameId, D::SolvableId, D::Alloc>,
-        atom: Atom<D::NameId, D::SolvableId>,
-    ) -> Result<(), StoreError>
-        ensures { OnOk result (AreMetStill (⟦<D as ProviderFunctions>⟧.functions self.now.provider.now)
-            (AreContent (⟦<D as ProviderFunctions>⟧.functions self.now.provider.now))
-            theory.old.clauses.items theory.new.clauses.items) }
-    {
-        match atom.fact {
-            Fact::Picked(solvable, _) => self.encode_solvable(theory, solvable),
-            Fact::Held(_) => Ok(()),
-        }
     }
 
     /// Says what a solvable needs where it is picked.

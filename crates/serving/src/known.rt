@@ -4,6 +4,7 @@ ghost use Rattle.serving.specs.Clauses.{AreTrue, Follows, is_true};
 ghost use Rattle.serving.specs.declared.literal.Fact.{Fact};
 
 use crate::literal::Literal;
+use crate::watches::{Cursor, Sign, Watches};
 use resolvo_ids::{SameId, StoreError};
 use std::alloc::Allocator;
 
@@ -14,6 +15,7 @@ pub(crate) struct Known<N: SameId, S: SameId, A: Allocator + Copy> {
     pub(crate) literals: Vec<Literal<N, S>, A>,
     /// For each number of a fact a place among the literals.
     places: Vec<usize, A>,
+    watches: Watches<A>,
 }
 
 impl<N: SameId, S: SameId, A: Allocator + Copy> Known<N, S, A> {
@@ -28,6 +30,7 @@ impl<N: SameId, S: SameId, A: Allocator + Copy> Known<N, S, A> {
         Ok(Known {
             literals: Vec::new(alloc),
             places,
+            watches: Watches::new(alloc),
         })
     }
 
@@ -69,5 +72,97 @@ impl<N: SameId, S: SameId, A: Allocator + Copy> Known<N, S, A> {
             *noted = place;
         }
         Ok(())
+    }
+
+    /// Lets the next clause wait for two literals that aren't false, if it has them.
+    pub(crate) fn watch(&mut self, clause: &[Literal<N, S>]) -> Result<(), StoreError>
+        ensures { self.new.literals.items ≡ self.old.literals.items }
+    {
+        let pair = self.pair(clause);
+        self.watches.add(pair)
+    }
+
+    /// Two literals of a clause that aren't false.
+    fn pair(&self, clause: &[Literal<N, S>]) -> Option<(Sign, Sign)> {
+        let first = self.left(clause, None)?;
+        let second = self.left(clause, Some(first))?;
+        Some((first, second))
+    }
+
+    /// The first literal of a clause that isn't false, and isn't this one.
+    fn left(&self, clause: &[Literal<N, S>], but: Option<Sign>) -> Option<Sign> {
+        for literal in clause {
+            let sign = literal.sign();
+            if Some(sign) != but && self.seems(sign) != Some(false) {
+                return Some(sign);
+            }
+        }
+        None
+    }
+
+    /// Whether a literal is true, as its number tells.
+    fn seems(&self, sign: Sign) -> Option<bool> {
+        let place = *self.places.get(sign.number as usize)?;
+        let found = self.literals.get(place)?;
+        if found.number == sign.number {
+            Some(found.value == sign.value)
+        } else {
+            None
+        }
+    }
+
+    /// The place of the next clause that waits for a literal that is false, and of which one other is left at most.
+    /// Those that have more wait for another one then.
+    pub(crate) fn next_place(
+        &mut self,
+        clauses: &[Vec<Literal<N, S>, A>],
+        cursor: &mut Cursor,
+    ) -> Result<Option<usize>, StoreError>
+        ensures { self.new.literals.items ≡ self.old.literals.items }
+    {
+        for _ in 0..usize::MAX {
+            let Some(place) = self.watches.get(cursor) else {
+                return Ok(None);
+            };
+            if self.is_short(clauses, cursor, place)? {
+                return Ok(Some(place));
+            }
+        }
+        Ok(None)
+    }
+
+    /// Whether one literal is left at most of the clause at the cursor, which goes on then. Else the clause waits for
+    /// another one, or is met.
+    fn is_short(
+        &mut self,
+        clauses: &[Vec<Literal<N, S>, A>],
+        cursor: &mut Cursor,
+        place: usize,
+    ) -> Result<bool, StoreError>
+        ensures { self.new.literals.items ≡ self.old.literals.items }
+    {
+        let Some(kept) = self.watches.other(place, cursor.sign) else {
+            cursor.advance();
+            return Ok(false);
+        };
+        if self.seems(kept) == Some(true) {
+            cursor.advance();
+            return Ok(false);
+        }
+        match self.left_at(clauses, place, kept) {
+            Some(sign) => {
+                self.watches.change(cursor, place, kept, sign)?;
+                Ok(false)
+            }
+            None => {
+                cursor.advance();
+                Ok(true)
+            }
+        }
+    }
+
+    /// The first literal of the clause at a place that isn't false, and isn't this one.
+    fn left_at(&self, clauses: &[Vec<Literal<N, S>, A>], place: usize, but: Sign) -> Option<Sign> {
+        self.left(clauses.get(place)?, Some(but))
     }
 }

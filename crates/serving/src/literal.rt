@@ -1,6 +1,7 @@
 //! Facts of a choice, and whether they are so.
 ghost use Rattle.std.specs.Prelude.{◌≡◌, not, IsTrue};
 
+use crate::watches::Sign;
 use resolvo_ids::{SameId, VersionSetId};
 
 /// What may be so of a choice.
@@ -70,6 +71,14 @@ impl<N: SameId, S: SameId> Literal<N, S> {
             fact,
             number,
             value: !value,
+        }
+    }
+
+    /// Without its fact.
+    pub(crate) fn sign(&self) -> Sign {
+        Sign {
+            number: self.number,
+            value: self.value,
         }
     }
 

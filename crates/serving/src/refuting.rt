@@ -4,6 +4,7 @@ ghost use Rattle.serving.specs.Clauses.{AreMet, AreTrue, IsOneAName, Replayed};
 ghost use Rattle.serving.specs.Serves.{IsUnsolvable};
 ghost use Rattle.serving.specs.declared.literal.Fact.{Fact};
 
+use crate::claim::Claim;
 use crate::clauses::Theory;
 use crate::encoding::encoded;
 use crate::known::Known;
@@ -12,32 +13,35 @@ use resolvo_ids::{SolverId, StoreError};
 use resolvo_pool::{ConditionalRequirement, DependencyProvider, Interner, ProviderFunctions};
 use std::alloc::Allocator;
 
-/// Whether nogoods show that no solvables serve whoever wants these requirements. A nogood is a list of solvables that
-/// can't all be picked together: it counts where that follows from what the packages say and from the nogoods before
-/// it, one conclusion after another, each from a clause of which one literal is left. One that doesn't is passed over.
+/// Whether clauses that a search learnt show that no solvables serve whoever wants these requirements. Of such a clause
+/// one claim holds in each choice that serves. It counts if it follows by unit propagation from the requirements, from
+/// the dependencies of these solvables, and from the clauses before it. One that doesn't is passed over. The provider is
+/// asked after each whether to stop.
 ///
 /// Where the answer is no, something may serve or nothing. Solvables that a package excludes, or that aren't the one
 /// that it is locked to, are candidates as others here.
 ///
-/// Costs time and memory in what is reached from what is wanted: its solvables, requirements with their candidates, the
-/// lists of conditions and the pairs that constraints forbid; and for each nogood what its conclusions touch.
+/// Costs time and memory in the requirements with their candidates, the dependencies of these solvables, the lists of
+/// conditions and the pairs that constraints forbid; and for each learnt clause in what its propagation visits: a clause
+/// is visited when one of two of its literals becomes false.
 pub fn refutes<D: DependencyProvider>(
     alloc: D::Alloc,
     provider: &D,
     wanted: &[ConditionalRequirement],
-    nogoods: &[Vec<D::SolvableId, D::Alloc>],
+    solvables: &[D::SolvableId],
+    learnt: &[Vec<Claim<D::SolvableId>, D::Alloc>],
 ) -> Result<bool, StoreError>
     ensures { IfOk result (λ yes. yes ≡ true →
         IsUnsolvable (⟦<D as ProviderFunctions>⟧.functions provider.now) wanted.now) }
 {
-    let theory = encoded(alloc, provider, wanted)?;
+    let theory = encoded(alloc, provider, wanted, solvables)?;
     let known = Known::new(alloc, theory.atoms.len())?;
     let mut replay = Replay {
         alloc,
         theory,
         known,
     };
-    replay.all(nogoods)
+    replay.all(provider, learnt)
 }
 
 /// What was shown so far.
@@ -49,43 +53,52 @@ struct Replay<N: SolverId<A>, S: SolverId<A>, A: Allocator + Copy> {
 }
 
 impl<N: SolverId<A>, S: SolverId<A>, A: Allocator + Copy> Replay<N, S, A> {
-    /// Replays nogoods. Answers whether they contradict what is known.
-    fn all(&mut self, nogoods: &[Vec<S, A>]) -> Result<bool, StoreError>
+    /// Replays learnt clauses. Answers whether they contradict what is known.
+    fn all<D: DependencyProvider>(
+        &mut self,
+        provider: &D,
+        learnt: &[Vec<Claim<S>, A>],
+    ) -> Result<bool, StoreError>
         ensures { IfOk result (Replayed self.old.theory.clauses.items self.old.known.literals.items
             self.new.theory.clauses.items self.new.known.literals.items) }
     {
         if self.theory.rules().settle(&mut self.known)? {
             return Ok(true);
         }
-        for nogood in nogoods {
-            if self.one(nogood)? {
+        for claims in learnt {
+            if self.one(claims)? {
                 return Ok(true);
             }
+            go_on(provider)?;
         }
         Ok(false)
     }
 
-    /// Replays a nogood.
-    fn one(&mut self, nogood: &[S]) -> Result<bool, StoreError>
+    /// Replays a learnt clause.
+    fn one(&mut self, claims: &[Claim<S>]) -> Result<bool, StoreError>
         ensures { IfOk result (Replayed self.old.theory.clauses.items self.old.known.literals.items
             self.new.theory.clauses.items self.new.known.literals.items) }
     {
-        let picked = self.picked(nogood)?;
-        if !self.theory.rules().refute(&mut self.known, &picked)? {
+        let against = self.against(claims)?;
+        if !self.theory.rules().refute(&mut self.known, &against)? {
             return Ok(false);
         }
-        self.learn(&picked)
+        self.learn(&against)
     }
 
-    /// That the solvables are picked; of those that were met.
-    fn picked(&self, solvables: &[S]) -> Result<Vec<Literal<N, S>, A>, StoreError> {
-        let mut picked = Vec::new(self.alloc);
-        for solvable in solvables {
-            if let Some(atom) = self.theory.atoms.find(*solvable) {
-                picked.push(Literal::new(atom, true))?;
+    /// That none of the claims is so; of those about facts that were met.
+    fn against(&self, claims: &[Claim<S>]) -> Result<Vec<Literal<N, S>, A>, StoreError> {
+        let mut against = Vec::new(self.alloc);
+        for claim in claims {
+            let (atom, value) = match claim {
+                Claim::Picked(solvable, value) => (self.theory.atoms.find(*solvable), *value),
+                Claim::Held(set, value) => (self.theory.atoms.find_held(*set), *value),
+            };
+            if let Some(atom) = atom {
+                against.push(Literal::new(atom, !value))?;
             }
         }
-        Ok(picked)
+        Ok(against)
     }
 
     /// Adds that not all of the literals are true, and what follows. Answers whether that contradicts what is known.
@@ -125,4 +138,12 @@ fn negated<N: SolverId<A>, S: SolverId<A>, A: Allocator + Copy>(
         negated.push(literal.negated())?;
     }
     Ok(negated)
+}
+
+/// Refuses to go on where the provider says so.
+fn go_on<D: DependencyProvider>(provider: &D) -> Result<(), StoreError> {
+    match provider.should_cancel_with_value() {
+        Some(_) => Err(StoreError::Cancelled),
+        None => Ok(()),
+    }
 }

@@ -6,17 +6,17 @@ use Rattle.serving.proofs.clauses.Rules.draw.Goals as goal
 
 pub returns-then-branch : goal.returns-then-branch
 returns-then-branch g c =
-    let yes : c.in_ok-look_at.field-0 ≡ true = search rules in
-    follows_step (λ holds. IsOneAName holds × AreMet holds c.args.self.now.clauses.now) (λ holds. AreMet holds c.args.self.now.clauses.now) c.args.known.now.literals.items c.args.known.now.literals.items c.look_at.new.known.literals.items c.in_ok-look_at.field-0 true yes
-    (λ holds such known. such.1) (follows_none (λ holds. IsOneAName holds × AreMet holds c.args.self.now.clauses.now) c.args.known.now.literals.items) c.in_ok-look_at.ensures
+    let yes : c.in_ok-begin_at.field-0 ≡ true = search rules in
+    follows_step (λ holds. IsOneAName holds × AreMet holds c.args.self.now.clauses.now) (λ holds. AreMet holds c.args.self.now.clauses.now) c.args.known.now.literals.items c.args.known.now.literals.items c.begin_at.new.known.literals.items c.in_ok-begin_at.field-0 true yes
+    (λ holds such known. such.1) (follows_none (λ holds. IsOneAName holds × AreMet holds c.args.self.now.clauses.now) c.args.known.now.literals.items) c.in_ok-begin_at.ensures
 
 pub returns : goal.returns
 returns g c =
-    let no : c.in_ok-look_at.field-0 ≡ false = search rules in
+    let no : c.in_ok-begin_at.field-0 ≡ false = search rules in
     answered c.propagate.result
-    (λ answer follows. follows_step (λ holds. IsOneAName holds × AreMet holds c.args.self.now.clauses.now) (λ holds. IsOneAName holds × AreMet holds c.args.self.now.clauses.now) c.args.known.now.literals.items c.look_at.new.known.literals.items c.propagate.new.known.literals.items answer answer refl
+    (λ answer follows. follows_step (λ holds. IsOneAName holds × AreMet holds c.args.self.now.clauses.now) (λ holds. IsOneAName holds × AreMet holds c.args.self.now.clauses.now) c.args.known.now.literals.items c.begin_at.new.known.literals.items c.propagate.new.known.literals.items answer answer refl
     (λ holds such known. such)
-    (follows_step (λ holds. IsOneAName holds × AreMet holds c.args.self.now.clauses.now) (λ holds. AreMet holds c.args.self.now.clauses.now) c.args.known.now.literals.items c.args.known.now.literals.items c.look_at.new.known.literals.items c.in_ok-look_at.field-0 false no
-    (λ holds such known. such.1) (follows_none (λ holds. IsOneAName holds × AreMet holds c.args.self.now.clauses.now) c.args.known.now.literals.items) c.in_ok-look_at.ensures)
+    (follows_step (λ holds. IsOneAName holds × AreMet holds c.args.self.now.clauses.now) (λ holds. AreMet holds c.args.self.now.clauses.now) c.args.known.now.literals.items c.args.known.now.literals.items c.begin_at.new.known.literals.items c.in_ok-begin_at.field-0 false no
+    (λ holds such known. such.1) (follows_none (λ holds. IsOneAName holds × AreMet holds c.args.self.now.clauses.now) c.args.known.now.literals.items) c.in_ok-begin_at.ensures)
     follows)
     c.propagate.ensures

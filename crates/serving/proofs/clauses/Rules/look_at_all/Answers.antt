@@ -8,12 +8,12 @@ loop-place-init g c = follows_none (λ holds. AreMet holds c.args.self.now.claus
 
 pub loop-place-preserved : goal.loop-place-preserved
 loop-place-preserved g c =
-    let no : c.in_ok-look_at.field-0 ≡ false = search rules in
-    follows_step (λ holds. AreMet holds c.args.self.now.clauses.now) (λ holds. AreMet holds c.args.self.now.clauses.now) c.args.known.now.literals.items c.loop-place.known.literals.items c.look_at.new.known.literals.items
-    c.in_ok-look_at.field-0 false no (λ holds such known. such) c.loop-place.invariant c.in_ok-look_at.ensures
+    let no : c.in_ok-begin_at.field-0 ≡ false = search rules in
+    follows_step (λ holds. AreMet holds c.args.self.now.clauses.now) (λ holds. AreMet holds c.args.self.now.clauses.now) c.args.known.now.literals.items c.loop-place.known.literals.items c.begin_at.new.known.literals.items
+    c.in_ok-begin_at.field-0 false no (λ holds such known. such) c.loop-place.invariant c.in_ok-begin_at.ensures
 
 pub returns-then-branch : goal.returns-then-branch
 returns-then-branch g c =
-    let yes : c.in_ok-look_at.field-0 ≡ true = search rules in
-    follows_step (λ holds. AreMet holds c.args.self.now.clauses.now) (λ holds. AreMet holds c.args.self.now.clauses.now) c.args.known.now.literals.items c.loop-place.known.literals.items c.look_at.new.known.literals.items
-    c.in_ok-look_at.field-0 true yes (λ holds such known. such) c.loop-place.invariant c.in_ok-look_at.ensures
+    let yes : c.in_ok-begin_at.field-0 ≡ true = search rules in
+    follows_step (λ holds. AreMet holds c.args.self.now.clauses.now) (λ holds. AreMet holds c.args.self.now.clauses.now) c.args.known.now.literals.items c.loop-place.known.literals.items c.begin_at.new.known.literals.items
+    c.in_ok-begin_at.field-0 true yes (λ holds such known. such) c.loop-place.invariant c.in_ok-begin_at.ensures

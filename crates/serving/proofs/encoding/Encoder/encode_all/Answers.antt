@@ -9,13 +9,13 @@ abbrev provided : (g : Over) → g.row.D.Denot → Provider g.row.D-NameId.Denot
 provided g = gathered g.D.NameId.PartialEq.eq g.D.SolvableId.PartialEq.eq g.D.NameId.Slots.IdMap.is_too_large g.D.SolvableId.Slots.IdMap.is_too_large
     g.D.SolvableId.Set.IdSet.is_too_large g.D.NameId.SolverId.are_many g.D.Interner.universe g.D.DependencyProvider.answers
 
-pub loop-number-init : goal.loop-number-init
-loop-number-init g c =
+pub loop-solvable-init : goal.loop-solvable-init
+loop-solvable-init g c =
     let p = provided g c.args.self.now.provider.now in
     L.still p (AreContent p) c.args.theory.now.clauses.items
 
-pub loop-number-preserved : goal.loop-number-preserved
-loop-number-preserved g c =
+pub loop-solvable-preserved : goal.loop-solvable-preserved
+loop-solvable-preserved g c =
     let p = provided g c.args.self.now.provider.now in
-    L.still_then p (AreContent p) c.args.theory.now.clauses.items c.loop-number.theory.clauses.items c.encode.new.theory.clauses.items
-    c.loop-number.invariant c.in_ok-encode.ensures
+    L.still_then p (AreContent p) c.args.theory.now.clauses.items c.loop-solvable.theory.clauses.items c.encode_solvable.new.theory.clauses.items
+    c.loop-solvable.invariant c.in_ok-encode_solvable.ensures

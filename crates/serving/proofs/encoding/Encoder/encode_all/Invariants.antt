@@ -2,8 +2,8 @@ use Rattle.resolvo_pool.specs.Functions.{gathered}
 use Rattle.serving.specs.Truth.{AreContent, AreMetStill}
 use Rattle.serving.proofs.encoding.Encoder.encode_all.Given as goal
 
-abbrev pub invariant-loop-number : goal.invariant-loop-number
-invariant-loop-number g l =
+abbrev pub invariant-loop-solvable : goal.invariant-loop-solvable
+invariant-loop-solvable g l =
     let D = g.D in
     let p = gathered D.NameId.PartialEq.eq D.SolvableId.PartialEq.eq D.NameId.Slots.IdMap.is_too_large D.SolvableId.Slots.IdMap.is_too_large
     D.SolvableId.Set.IdSet.is_too_large D.NameId.SolverId.are_many D.Interner.universe D.DependencyProvider.answers l.self.provider.now in

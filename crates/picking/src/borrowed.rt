@@ -1,4 +1,4 @@
-//! A provider that is lent.
+//! A provider that is borrowed.
 ghost use Rattle.std.specs.Prelude.{◌≡◌};
 
 use resolvo_ids::{ConditionId, StoreError, StringId, VersionSetId, VersionSetUnionId};
@@ -6,40 +6,40 @@ use resolvo_pool::{Candidates, Condition, Dependencies, DependencyProvider, Inte
 
 /// A provider that someone else owns, as one that a store can own.
 #[derive_where(Clone, Copy)]
-pub(crate) struct Lent<'p, D> {
+pub(crate) struct Borrowed<'p, D> {
     provider: &'p D,
 }
 
-impl<'p, D> Lent<'p, D> {
+impl<'p, D> Borrowed<'p, D> {
     pub(crate) fn new(provider: &'p D) -> Self
         ensures { result.provider.now ≡ provider.now }
     {
-        Lent { provider }
+        Borrowed { provider }
     }
 }
 
-impl<'p, D: DependencyProvider> Interner for Lent<'p, D> {
+impl<'p, D: DependencyProvider> Interner for Borrowed<'p, D> {
     type Alloc = D::Alloc;
 
     type NameId = D::NameId;
 
     type SolvableId = D::SolvableId;
 
-    ghost universe = { λ lent. D.universe lent.provider.now };
+    ghost universe = { λ borrowed. D.universe borrowed.provider.now };
 
-    ghost texts = { λ lent. D.texts lent.provider.now };
+    ghost texts = { λ borrowed. D.texts borrowed.provider.now };
 
-    ghost own_solvable_name = { λ lent. D.own_solvable_name lent.provider.now };
+    ghost own_solvable_name = { λ borrowed. D.own_solvable_name borrowed.provider.now };
 
-    ghost own_merged = { λ lent. D.own_merged lent.provider.now };
+    ghost own_merged = { λ borrowed. D.own_merged borrowed.provider.now };
 
-    ghost solvable_names_known = { λ lent. D.solvable_names_known lent.provider.now };
+    ghost solvable_names_known = { λ borrowed. D.solvable_names_known borrowed.provider.now };
 
-    ghost set_names_known = { λ lent. D.set_names_known lent.provider.now };
+    ghost set_names_known = { λ borrowed. D.set_names_known borrowed.provider.now };
 
-    ghost union_sets_known = { λ lent. D.union_sets_known lent.provider.now };
+    ghost union_sets_known = { λ borrowed. D.union_sets_known borrowed.provider.now };
 
-    ghost operands_known = { λ lent. D.operands_known lent.provider.now };
+    ghost operands_known = { λ borrowed. D.operands_known borrowed.provider.now };
 
     fn knows_string(&self, string: StringId) -> bool {
         self.provider.knows_string(string)
@@ -126,16 +126,16 @@ impl<'p, D: DependencyProvider> Interner for Lent<'p, D> {
     }
 }
 
-impl<'p, D: DependencyProvider> DependencyProvider for Lent<'p, D> {
+impl<'p, D: DependencyProvider> DependencyProvider for Borrowed<'p, D> {
     type Cancel = D::Cancel;
 
-    ghost answers = { λ lent. D.answers lent.provider.now };
+    ghost answers = { λ borrowed. D.answers borrowed.provider.now };
 
-    ghost may_answer = { λ lent. D.may_answer lent.provider.now };
+    ghost may_answer = { λ borrowed. D.may_answer borrowed.provider.now };
 
-    ghost candidates_known = { λ lent. D.candidates_known lent.provider.now };
+    ghost candidates_known = { λ borrowed. D.candidates_known borrowed.provider.now };
 
-    ghost order_permutes = { λ lent. D.order_permutes lent.provider.now };
+    ghost order_permutes = { λ borrowed. D.order_permutes borrowed.provider.now };
 
     fn filter_candidates(
         &self,

@@ -1,0 +1,189 @@
+"""What bench/hard and bench/ecosystem share: an index, numbers by a recurrence, and the programs that answer one."""
+import argparse
+import itertools
+import os
+import resource
+import shutil
+import subprocess
+import sys
+
+HERE = os.path.dirname(os.path.abspath(__file__))
+PROGRAM = os.path.normpath(os.path.join(HERE, "../crates/pick_versions/out/pick_versions"))
+PYTHON = "/usr/bin/python3"
+COLUMNS = "{:24} {:>8} {:>8} {:>8}  {:30} {:>14} {:>14}  {}"
+
+
+class Numbers:
+    """Numbers that follow from a seed, by a linear recurrence."""
+
+    def __init__(self, seed):
+        self.last = seed
+
+    def below(self, end):
+        self.last = (self.last * 6364136223846793005 + 1442695040888963407) % 2**64
+        return (self.last >> 33) % end
+
+    def sample(self, end, count):
+        """So many different numbers below the end."""
+        found = {}
+        while len(found) < count:
+            found[self.below(end)] = None
+        return list(found)
+
+
+class Index:
+    """What is wanted, and of each version what it needs, unions of ranges, and to which ranges it limits others. A
+    range is a name, its first number, and the one behind its last.
+    """
+
+    def __init__(self, title):
+        self.title, self.wanted, self.versions = title, [], {}
+
+    def add(self, name, number, needs=(), limits=()):
+        self.versions[name, number] = list(needs), list(limits)
+
+    def text(self):
+        lines = [" ".join(["request 1", *map(need, self.wanted)])]
+        for (name, number), (needs, limits) in self.versions.items():
+            lines.append(" ".join([f"{name} {number}", *map(need, needs), *(f"limits {span(it)}" for it in limits)]))
+        return "\n".join(lines) + "\n"
+
+    def by_name(self):
+        groups = {}
+        for name, number in self.versions:
+            groups.setdefault(name, []).append(number)
+        return groups
+
+    def dimacs(self):
+        """The same as clauses."""
+        places = {version: place for place, version in enumerate(self.versions, 1)}
+        groups = self.by_name()
+        held = lambda name, first, end: [places[name, it] for it in groups.get(name, ()) if first <= it < end]
+        union = lambda ranges: list(itertools.chain(*(held(*it) for it in ranges)))
+        clauses = [union(it) for it in self.wanted]
+        for version, (needs, limits) in self.versions.items():
+            clauses += [[-places[version], *union(it)] for it in needs]
+            for name, first, end in limits:
+                others = set(groups.get(name, ())) - set(range(first, end))
+                clauses += [[-places[version], -places[name, it]] for it in sorted(others)]
+        for name, group in groups.items():
+            clauses += [[-places[name, a], -places[name, b]] for a, b in itertools.combinations(group, 2)]
+        lines = [f"p cnf {len(places)} {len(clauses)}", *(" ".join(map(str, [*it, 0])) for it in clauses)]
+        return "\n".join(lines) + "\n"
+
+    def judge(self, picked):
+        """What isn't right of picked versions, or nothing."""
+        chosen = dict(picked)
+        met = lambda ranges: any(first <= chosen.get(name, -1) < end for name, first, end in ranges)
+        if len(chosen) < len(picked):
+            return "two versions of a package"
+        if not all(map(met, self.wanted)):
+            return "something wanted isn't there"
+        for version in picked:
+            needs, limits = self.versions.get(version, ([[]], []))
+            if not all(map(met, needs)):
+                return f"{version} lacks something"
+            if any(name in chosen and not first <= chosen[name] < end for name, first, end in limits):
+                return f"{version} forbids something"
+        return ""
+
+    def distance(self, picked):
+        """How many versions of the picked packages are newer, in all."""
+        groups = self.by_name()
+        return sum(sum(it > number for it in groups[name]) for name, number in picked)
+
+
+def span(it):
+    return f"{it[0]} {it[1]}..{it[2]}"
+
+
+def need(union):
+    return "needs " + " | ".join(map(span, union))
+
+
+def run(words, text, limit):
+    """What a program wrote, or none where it took more processor seconds than this, and those that it took."""
+    begun = resource.getrusage(resource.RUSAGE_CHILDREN)
+    bound = lambda: resource.setrlimit(resource.RLIMIT_CPU, (limit, limit))
+    done = subprocess.run(words, input=text, capture_output=True, text=True, preexec_fn=bound)
+    used = resource.getrusage(resource.RUSAGE_CHILDREN)
+    seconds = used.ru_utime - begun.ru_utime + used.ru_stime - begun.ru_stime
+    return None if done.returncode < 0 else done.stdout, seconds
+
+
+def picked_of(lines):
+    return [(name, int(number)) for name, number in map(str.split, lines)]
+
+
+def by_program(program, index, limit):
+    """The answer of pick_versions: what it picked, if it did, and a word; with its seconds."""
+    wrote, seconds = run([program], index.text(), limit)
+    if wrote is None:
+        return None, "stopped", seconds
+    lines = wrote.splitlines()[1:]
+    if lines[:1] == ["none"] or lines[:1] and lines[0].startswith("gave up"):
+        return None, lines[0], seconds
+    return picked_of(lines), "found", seconds
+
+
+def by_cadical(index, limit):
+    """A word, and seconds and conflicts as a text."""
+    if not shutil.which("cadical"):
+        return "", ""
+    wrote, seconds = run(["cadical", "-n"], index.dimacs(), limit)
+    if wrote is None:
+        return "stopped", f"{seconds:.2f}"
+    counts = [line.split()[2] for line in wrote.splitlines() if line.startswith("c conflicts:")]
+    answer = "none" if "s UNSATISFIABLE" in wrote else "found"
+    return answer, f"{seconds:.2f} {counts[0] if counts else '?'}"
+
+
+def by_libsolv(index, limit):
+    """What libsolv picked, if it did, a word, and the seconds that its solver took."""
+    if not os.access(PYTHON, os.X_OK):
+        return None, "", ""
+    wrote, _ = run([PYTHON, f"{HERE}/libsolv.py"], index.text(), limit)
+    if wrote is None:
+        return None, "stopped", ""
+    lines = wrote.splitlines()
+    if not lines:
+        return None, "", ""
+    answer, seconds = lines[0].split()
+    return (picked_of(lines[1:]) if answer == "found" else None), answer, f"{float(seconds):.3f}"
+
+
+def measure(about, kinds):
+    """Answers the indexes of the kinds that are named on the command line, or all, and prints a line for each."""
+    parser = argparse.ArgumentParser(description=about, formatter_class=argparse.RawDescriptionHelpFormatter)
+    parser.add_argument("--program", default=PROGRAM, help="pick_versions unless given")
+    parser.add_argument("--seconds", type=int, default=60, help="of the processor, for a program: 60 unless given")
+    parser.add_argument("--print", action="store_true", help="prints the indexes, and answers none")
+    parser.add_argument("kinds", nargs="*", metavar="KIND", help=f"some of {', '.join(kinds)}; all unless given")
+    given = parser.parse_args()
+    if not set(given.kinds) <= set(kinds):
+        parser.error("there is no such kind")
+    chosen = [index for kind in given.kinds or kinds for index in kinds[kind]()]
+    if given.print:
+        print("\n".join(index.text() for index in chosen), end="")
+        return
+    if not os.access(given.program, os.X_OK):
+        parser.error(f"there is no {given.program}: `rt run < stdin` in crates/pick_versions builds it")
+    print(COLUMNS.format("index", "versions", "seconds", "distance", "answer", "libsolv", "cadical", "").rstrip())
+    sys.exit(any([tell(index, given.program, given.seconds) for index in chosen]))
+
+
+def tell(index, program, limit):
+    """Prints a line, and answers whether something in it is wrong."""
+    picked, answer, seconds = by_program(program, index, limit)
+    theirs, libsolv, libsolv_seconds = by_libsolv(index, limit)
+    cadical, cadical_seconds = by_cadical(index, limit)
+    wrong = index.judge(picked) if picked is not None else ""
+    others = {it for it in (libsolv, cadical) if it in ("found", "none")}
+    if answer in ("found", "none") and others - {answer}:
+        wrong = f"others say {' '.join(others)}"
+    away = index.distance(picked) if picked is not None else ""
+    if theirs is not None:
+        libsolv_seconds += f" {index.distance(theirs)}"
+    print(COLUMNS.format(index.title, len(index.versions), f"{seconds:.2f}", away, answer, libsolv_seconds,
+                         cadical_seconds, wrong).rstrip(), flush=True)
+    return bool(wrong)
