@@ -149,10 +149,11 @@ impl<D: DependencyProvider + Copy> Encoder<D> {
         solvable: D::SolvableId,
     ) -> Result<Dependencies<D::Alloc>> {
         let provider = self.cache.provider();
-        if !provider.knows_solvable(solvable) {
-            return Err(StoreError::UnknownId);
+        if provider.knows_solvable(solvable) {
+            provider.get_dependencies(search.alloc, solvable)
+        } else {
+            Err(StoreError::UnknownId)
         }
-        provider.get_dependencies(search.alloc, solvable)
     }
 
     /// Makes a solvable false if its package excludes it, or is locked to another one.
