@@ -6,7 +6,7 @@
 //! [`Command`] and answers it with one [`Reply`], and [`ClauseStore::run`] obeys a list of them in turn. What is
 //! refused changes nothing, but for `saturate`, which keeps what it forced.
 //!
-//! Contracts don't speak of the store's fields. They name the abstract store, `⟦<D as AbstractStore>⟧.store self.now`,
+//! Contracts don't speak of the store's fields. They name the abstract store, `⟦<D as Abstract>⟧.store self.now`,
 //! a record of plain lists and functions:
 //!
 //! - `specs/Store.antt`: the abstract store;
@@ -32,7 +32,7 @@ mod reply_text;
 mod replying;
 mod store;
 
-pub use abstract_store::AbstractStore;
+pub use abstract_store::Abstract;
 pub use answers::{Added, Assignment, Next, Tracked};
 pub use command::{AbstractCommand, Command};
 pub use helper_origin::HelperOrigin;
