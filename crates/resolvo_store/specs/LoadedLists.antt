@@ -1,6 +1,6 @@
 -- What the lists of a load are, and when a load is refused, as the cache and the variables tell it. N are the names, S
 -- the solvables.
-use Rattle.std.specs.Prelude.{◌≡◌, ◌<◌, ℕ, ◌^◌, Bool, false, true, not, ◌&&◌, ◌||◌, nat_le, List, map, flat_map}
+use Rattle.std.specs.Prelude.{◌≡◌, ◌<◌, ℕ, ◌^◌, Bool, false, true, not, ◌&&◌, ◌||◌, nat_le, List, map}
 use Rattle.std.specs.Prelude.{length, All}
 use Rattle.std.specs.List.{list_any, list_all}
 use Rattle.std.specs.declared.vec.Vec.{Vec}

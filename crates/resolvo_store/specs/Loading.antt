@@ -1,5 +1,5 @@
 -- What a load of a requirement does, and what is told of one that was loaded. N are the names, S the solvables.
-use Rattle.std.specs.Prelude.{◌≡◌, ℕ, Bool, true, List, [], ◌∷◌, ◌++◌, map, Option, None, Some, IsTrue, MatchOption}
+use Rattle.std.specs.Prelude.{◌≡◌, ℕ, Bool, true, List, [], ◌∷◌, ◌++◌, map, None, Some, IsTrue, MatchOption}
 use Rattle.std.specs.declared.vec.Vec.{Vec}
 use Rattle.typed_ids.specs.declared.error.StoreError.{StoreError}
 use Rattle.providers.specs.declared.requirement.Requirement.{Requirement}

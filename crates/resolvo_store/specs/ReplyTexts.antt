@@ -32,8 +32,8 @@ abbrev pub clause_text : ℕ → Bool → List ℕ
 clause_text clause conflict = field (codes "clause ") clause ++ conflict_text conflict
 
 -- the lists of a requirement
-abbrev pub loaded_text : List (List ℕ) → List ℕ
-loaded_text lists = codes "loaded" ++ lists_text lists
+abbrev pub load_text : List (List ℕ) → List ℕ
+load_text lists = codes "loaded" ++ lists_text lists
 
 -- whether a variable is new, and a number
 abbrev pub tracked_text : Bool → ℕ → List ℕ
@@ -72,7 +72,7 @@ decision_text d =
 -- the words of a reply
 abbrev pub reply_words : Reply → List ℕ
 reply_words (VariableIs v) = field (codes "variable ") v
-reply_words (LoadedAs lists) = loaded_text lists
+reply_words (LoadedAs lists) = load_text lists
 reply_words (DisjunctionIs d) = field (codes "disjunction ") d
 reply_words (ClauseIs c conflict) = clause_text c conflict
 reply_words (TrackedAs new n) = tracked_text new n

@@ -4,7 +4,7 @@ ghost use Rattle.std.specs.Fmt.{DisplaysOnOk};
 ghost use Rattle.resolvo_store.specs.ReplyTexts.{field, lists_text, list_text, others_text};
 ghost use Rattle.resolvo_store.specs.ReplyTexts.{tracked_text, truth_text, assignment_text, undone_text};
 ghost use Rattle.resolvo_store.specs.ReplyTexts.{next_text, decision_text};
-ghost use Rattle.resolvo_store.specs.ReplyTexts.{clause_text, loaded_text, watchers_text};
+ghost use Rattle.resolvo_store.specs.ReplyTexts.{clause_text, load_text, watchers_text};
 
 use crate::reply::Reply;
 use decisions::Decision;
@@ -154,7 +154,7 @@ fn write_lists<W: fmt::Write, A: Allocator>(
     f: &mut fmt::Formatter<W>,
     lists: &[Vec<VariableId, A>],
 ) -> fmt::Result
-    ensures { DisplaysOnOk W.write_str_gives f.old result (Some (loaded_text (map (λ l. l.items) lists.now))) f.new }
+    ensures { DisplaysOnOk W.write_str_gives f.old result (Some (load_text (map (λ l. l.items) lists.now))) f.new }
 {
     f.write_str("loaded")?;
     write_words(f, lists)
