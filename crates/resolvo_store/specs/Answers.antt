@@ -1,5 +1,5 @@
 -- What the typed calls answer, as replies, and what they are told, as commands.
-use Rattle.std.specs.Prelude.{ℕ, List, map, Option, Some, None, Result, Ok, Err}
+use Rattle.std.specs.Prelude.{ℕ, map, Option, Some, None, Result, Ok, Err}
 use Rattle.std.specs.declared.vec.Vec.{Vec}
 use Rattle.typed_ids.specs.declared.error.StoreError.{StoreError}
 use Rattle.decisions.specs.declared.decision.Decision.{Decision}
