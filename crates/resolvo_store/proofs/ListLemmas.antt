@@ -18,16 +18,13 @@ use Rattle.clauses.specs.Stored.{kept_in, lists_found}
 use Rattle.clauses.specs.declared.disjunction.Disjunction.{Disjunction}
 use Rattle.resolvo_queue.specs.Rows.{Row, rows, lists_or_none, loaded_rows, AreFew}
 use Rattle.resolvo_store.specs.Lists.{lists_kept, disjunctions_kept}
+pub use Rattle.resolvo_store.specs.Lists.{items_of}
 
 -- lists have few rows in all
 abbrev pub HasFew : List (List ℕ) → Type 0
 HasFew lists = length (flat_map (λ list. list) lists) < 2 ^ 40
 
 module _ {A : Type 0} where
-  -- the lists in a vector of vectors
-  abbrev pub items_of : Vec (Vec ℕ A) A → List (List ℕ)
-  items_of lists = map (λ l. l.items) lists.items
-
   -- a requirement's lists, looked up in what is kept
   pub lookup-kept : (loaded : List (Requirement × Vec (Vec ℕ A) A)) (r : Requirement)
       → lookup (same_requirement r) (lists_kept loaded) ≡ option_map items_of (lookup (same_requirement r) loaded)

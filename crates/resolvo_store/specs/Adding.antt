@@ -1,8 +1,10 @@
 -- The commands that add a clause which they name whole. N are the names, S the solvables.
-use Rattle.std.specs.Prelude.{ℕ, Bool, true, false, ◌&&◌, nat_lt}
+use Rattle.std.specs.Prelude.{◌≡◌, ℕ, Option, Bool, true, false, ◌&&◌, nat_lt}
 use Rattle.providers.specs.Provider.{Universe}
 use Rattle.clauses.specs.declared.clause.Clause.{Clause}
 use Rattle.clauses.specs.declared.clause.Clause.TheVariants as Kind
+use Rattle.watch_map.specs.ClauseList.{Clauses, literals_watched, with_clause}
+use Rattle.watch_map.specs.declared.watched_literals.WatchedLiterals.{WatchedLiterals}
 use Rattle.resolvo_store.specs.Command.{Command, Root, Constrains, ConstrainsExcluded}
 use Rattle.resolvo_store.specs.Command.{ConstrainsParent, Lock, Exclude, AnyOf, Decide}
 
@@ -49,3 +51,7 @@ module _ {N S : Type 0} where
   names_known universe variables (Kind.Excluded a reason) = nat_lt a variables && universe.knows_string reason
   names_known universe variables (Kind.AnyOf selected other) = nat_lt selected variables && nat_lt other variables
   names_known universe variables _ = false
+
+-- one clause more is kept, with what it watches
+abbrev pub HasMore : {N : Type 0} → Clauses N → Clause N → Option WatchedLiterals → Clauses N → Type 0
+HasMore old clause watches new = new ≡ with_clause old clause (literals_watched watches)

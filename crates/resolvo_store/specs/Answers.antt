@@ -1,5 +1,6 @@
--- What the typed calls answer, as replies.
-use Rattle.std.specs.Prelude.{ℕ, List, map, Option, Some, None, Result, Ok, Err}
+-- What the typed calls answer, as replies, and what they are told, as commands.
+use Rattle.std.specs.Prelude.{ℕ, map, Option, Some, None, Result, Ok, Err}
+use Rattle.std.specs.declared.vec.Vec.{Vec}
 use Rattle.typed_ids.specs.declared.error.StoreError.{StoreError}
 use Rattle.decisions.specs.declared.decision.Decision.{Decision}
 use Rattle.resolvo_store.specs.declared.answers.Added.{Added}
@@ -8,8 +9,9 @@ use Rattle.resolvo_store.specs.declared.answers.Assignment.{Assignment}
 use Rattle.resolvo_store.specs.declared.answers.Assignment.TheVariants as Made
 use Rattle.resolvo_store.specs.declared.answers.Next.{Next}
 use Rattle.resolvo_store.specs.declared.answers.Next.TheVariants as Found
-use Rattle.resolvo_store.specs.Command.{Reply, ClauseIs, TrackedAs, Assigned, Already, Clash, Undone, Done}
-use Rattle.resolvo_store.specs.Command.{Decided, NoDecision, Falsified, Conflict, Refused}
+use Rattle.resolvo_store.specs.Command.{Command, Assign, Reply, LoadedAs, ClauseIs, TrackedAs, Assigned, Already}
+use Rattle.resolvo_store.specs.Command.{Clash, Undone, Done, WatchersAre, Decided, NoDecision, Falsified, Conflict}
+use Rattle.resolvo_store.specs.Command.{Refused}
 
 -- an answer as a reply: a refusal is one too
 abbrev pub replied : {T : Type 0} → (T → Reply) → Result T StoreError → Reply
@@ -22,6 +24,14 @@ done _ = Done
 
 abbrev pub added : Added → Reply
 added a = ClauseIs a.clause a.is_conflict
+
+-- the lists of a requirement
+abbrev pub loaded_as : {A : Type 0} → Vec (Vec ℕ A) A → Reply
+loaded_as lists = LoadedAs (map (λ l. l.items) lists.items)
+
+-- the clauses that watch a literal
+abbrev pub watchers_are : {A : Type 0} → Vec ℕ A → Reply
+watchers_are found = WatchersAre found.items
 
 abbrev pub tracked : Tracked → Reply
 tracked t = TrackedAs t.is_new t.clauses
@@ -43,3 +53,7 @@ abbrev pub next : Next → Reply
 next (Found.Decided q) = Decided q
 next Found.Done = NoDecision
 next (Found.Falsified c) = Falsified c
+
+-- the command that gives the decision's variable its value at the level
+abbrev pub assigning : {N S : Type 0} → Decision → ℕ → Command N S
+assigning d level = Assign d.variable d.value d.derived_from level

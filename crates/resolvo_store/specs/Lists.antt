@@ -1,8 +1,12 @@
 -- Lists of variables as they are kept, and what is true of what a store keeps.
-use Rattle.std.specs.Prelude.{◌≡◌, ℕ, Bool, true, List, [], ◌∷◌, ◌++◌, map, All}
+use Rattle.std.specs.Prelude.{◌≡◌, ℕ, ◌-◌, ◌^◌, Bool, true, List, [], ◌∷◌, ◌++◌, length, map, Option, All}
+use Rattle.std.specs.Map.{lookup}
 use Rattle.std.specs.declared.vec.Vec.{Vec}
 use Rattle.providers.specs.declared.requirement.Requirement.{Requirement}
 use Rattle.providers.specs.Provider.{Universe, knows_requirement, sets_of}
+use Rattle.providers.specs.Requirement.{same_requirement}
+use Rattle.typed_ids.specs.Refusals.{are_ids_out}
+use Rattle.decisions.specs.Literals.{Lit}
 use Rattle.clauses.specs.declared.disjunction.Disjunction.{Disjunction}
 use Rattle.resolvo_queue.specs.declared.requires_clause.RequiresClause.{RequiresClause}
 use Rattle.decisions.specs.Trail.{Trail}
@@ -17,13 +21,30 @@ use Rattle.resolvo_store.specs.Sound.{IsSound}
 use Rattle.resolvo_store.specs.Store.{Store, Provider, KeptDisjunction, clause_literals, watched_by}
 use Rattle.solver_cache.specs.Cache.{Cache, is_set_asked}
 
+-- the lists in a vector of vectors
+abbrev pub items_of : {A : Type 0} → Vec (Vec ℕ A) A → List (List ℕ)
+items_of lists = map (λ l. l.items) lists.items
+
 -- the requirements with the lists that are kept for them
 abbrev pub lists_kept : {A : Type 0} → List (Requirement × Vec (Vec ℕ A) A) → List (Requirement × List (List ℕ))
 lists_kept loaded = map (λ e. (e.0, map (λ l. l.items) e.1.items)) loaded
 
+-- the lists that are kept for a requirement, if there are any
+abbrev pub kept_for : {A : Type 0} → Requirement → List (Requirement × Vec (Vec ℕ A) A) → Option (List (List ℕ))
+kept_for r loaded = lookup (same_requirement r) (lists_kept loaded)
+
 -- the disjunctions that are kept
 abbrev pub disjunctions_kept : {A : Type 0} → List (Disjunction A) → List KeptDisjunction
 disjunctions_kept disjunctions = map (λ d. record { literals = d.literals.items; condition = d.condition }) disjunctions
+
+-- no id is left for one more
+abbrev pub are_disjunctions_full : {A : Type 0} → List (Disjunction A) → Bool
+are_disjunctions_full disjunctions = are_ids_out (2 ^ 32 - 1) (length (disjunctions_kept disjunctions))
+
+-- one more is kept: these literals, of the condition
+abbrev pub KeepsMore : {A : Type 0} → List Lit → ℕ → List (Disjunction A) → List (Disjunction A) → Type 0
+KeepsMore literals condition old new =
+    disjunctions_kept new ≡ disjunctions_kept old ++ record { literals = literals; condition = condition } ∷ []
 
 -- one disjunction more is kept
 pub record IsOneMore {A : Type 0} (old new : List (Disjunction A)) : Type 0 where

@@ -27,6 +27,14 @@ lists_text ls = flat_map (λ l. codes " " ++ list_text l) ls
 abbrev pub conflict_text : Bool → List ℕ
 conflict_text conflict = if conflict then codes " conflict" else []
 
+-- a clause, and whether it is a conflict
+abbrev pub clause_text : ℕ → Bool → List ℕ
+clause_text clause conflict = field (codes "clause ") clause ++ conflict_text conflict
+
+-- the lists of a requirement
+abbrev pub load_text : List (List ℕ) → List ℕ
+load_text lists = codes "loaded" ++ lists_text lists
+
 -- whether a variable is new, and a number
 abbrev pub tracked_text : Bool → ℕ → List ℕ
 tracked_text new n = if new then field (codes "tracked yes ") n else field (codes "tracked no ") n
@@ -51,6 +59,10 @@ abbrev pub words_text : List ℕ → List ℕ
 words_text [] = codes " -"
 words_text (n ∷ ns) = flat_map (field (codes " ")) (n ∷ ns)
 
+-- the clauses that watch a literal
+abbrev pub watchers_text : List ℕ → List ℕ
+watchers_text clauses = codes "watchers" ++ words_text clauses
+
 abbrev pub decision_text : QueueDecision → List ℕ
 decision_text d =
     field (codes "decided ") d.candidate ++
@@ -60,9 +72,9 @@ decision_text d =
 -- the words of a reply
 abbrev pub reply_words : Reply → List ℕ
 reply_words (VariableIs v) = field (codes "variable ") v
-reply_words (LoadedAs lists) = codes "loaded" ++ lists_text lists
+reply_words (LoadedAs lists) = load_text lists
 reply_words (DisjunctionIs d) = field (codes "disjunction ") d
-reply_words (ClauseIs c conflict) = field (codes "clause ") c ++ conflict_text conflict
+reply_words (ClauseIs c conflict) = clause_text c conflict
 reply_words (TrackedAs new n) = tracked_text new n
 reply_words Assigned = codes "assigned"
 reply_words Already = codes "already"
@@ -70,7 +82,7 @@ reply_words Clash = codes "clash"
 reply_words (Undone last) = undone_text last
 reply_words (Next decision) = next_text decision
 reply_words Done = codes "done"
-reply_words (WatchersAre clauses) = codes "watchers" ++ words_text clauses
+reply_words (WatchersAre clauses) = watchers_text clauses
 reply_words (Decided d) = decision_text d
 reply_words NoDecision = codes "no decision"
 reply_words (Falsified c) = field (codes "falsified ") c

@@ -1,15 +1,21 @@
 -- What is tracked under names, and the clauses of it. N are the names, S the solvables.
 use Rattle.std.specs.Prelude.{◌≡◌, ℕ, ◌+◌, ◌-◌, ◌^◌, ◌<◌, Bool, true, false, ◌&&◌, ◌||◌, nat_eq, nat_lt}
 use Rattle.std.specs.Prelude.{if◌then◌else◌, List, [], ◌∷◌, ◌++◌, length, slice_get, Option, None, Some, is_some, All}
+use Rattle.std.specs.Prelude.{IsTrue}
 use Rattle.std.specs.Option.{option_map_or}
+use Rattle.typed_ids.specs.Refusals.{IsGrowthRefusal}
+use Rattle.typed_ids.specs.declared.error.StoreError.{StoreError}
+use Rattle.typed_ids.specs.declared.error.StoreError.TheVariants.{IdSpace}
 use Rattle.variables.specs.declared.variable_origin.VariableOrigin.{VariableOrigin}
 use Rattle.variables.specs.declared.variable_origin.VariableOrigin.TheVariants.{ForbidMultiple}
 use Rattle.variables.specs.Variables.{are_variables_out}
 use Rattle.decisions.specs.Literals.{Pos, Neg}
 use Rattle.clauses.specs.declared.clause.Clause.{Clause}
 use Rattle.clauses.specs.declared.clause.Clause.TheVariants.{ForbidMultipleInstances}
-use Rattle.at_most_once.specs.AtMostOne.{Tracker, BitClause, Adds, needs_helper}
-use Rattle.watch_map.specs.ClauseList.{helper_literal}
+use Rattle.at_most_once.specs.AtMostOne.{Tracker, BitClause, Kept, Adds, needs_helper, new_clauses}
+use Rattle.at_most_once.specs.NameTrackers.{tracker_of, with_tracked, lacks_tracker}
+use Rattle.watch_map.specs.ClauseList.{Kept as KeptClauses, contents, helper_literal, with_forbidden}
+use Rattle.resolvo_store.specs.declared.answers.Tracked.{Tracked}
 
 -- it stands for a helper of tracked variables
 abbrev pub is_helper_origin : {N S : Type 0} → VariableOrigin N S → Bool
@@ -36,6 +42,50 @@ origins_with os name (Some h) = os ++ ForbidMultiple name ∷ []
 -- no id is left for the helper, or for so many clauses more
 abbrev pub lacks_more : {N S : Type 0} → List (VariableOrigin N S) → Option ℕ → ℕ → ℕ → Bool
 lacks_more os h clauses more = (is_some h && are_variables_out (length os)) || nat_lt (2 ^ 32 - 1) (clauses + more)
+
+-- tracking one variable more under a name, where these trackers are kept
+module _ {N S : Type 0} (same : N → N → Bool) (os : List (VariableOrigin N S)) (kept : List (N × Kept ℕ)) (name : N)
+    (v : ℕ) where
+  -- the helper that the variable needs
+  abbrev pub helper_needed : Option ℕ
+  helper_needed = next_helper os (tracker_of same kept name) v
+
+  -- the clauses of it
+  abbrev pub clauses_needed : List (BitClause ℕ)
+  clauses_needed = new_clauses (tracker_of same kept name) helper_needed v
+
+  -- the answer says so
+  abbrev pub IsNewlyTracked : Tracked → Type 0
+  IsNewlyTracked answer = (answer.is_new ≡ true) × (answer.clauses ≡ length clauses_needed)
+
+  -- the variables have its helper
+  abbrev pub GetsHelper : List (VariableOrigin N S) → Type 0
+  GetsHelper new = new ≡ origins_with os name helper_needed
+
+  -- the clauses have its own
+  abbrev pub GetsClauses : KeptClauses N → KeptClauses N → Type 0
+  GetsClauses old new = contents new ≡ with_forbidden name (contents old) clauses_needed
+
+  -- the trackers have it
+  abbrev pub GetsTracker : List (N × Kept ℕ) → Type 0
+  GetsTracker new = tracker_of same new ≡ with_tracked same name v helper_needed (tracker_of same kept)
+
+  -- no id is left for its helper, or for its clauses
+  abbrev pub lacks_needed : KeptClauses N → Bool
+  lacks_needed clauses = lacks_more os helper_needed (length (contents clauses).clauses) (length clauses_needed)
+
+  -- there are ids for all of it
+  abbrev pub Fits : (N → Bool) → KeptClauses N → Type 0
+  Fits is_large clauses = (is_large name || lacks_needed clauses) ≡ false
+
+  -- why it may be refused
+  abbrev pub IsRefusal : (N → Bool) → Bool → KeptClauses N → StoreError → Type 0
+  IsRefusal is_large are_many clauses =
+      IsGrowthRefusal (lacks_tracker (is_large name) are_many (tracker_of same kept name) || lacks_needed clauses)
+
+  -- why its helper may be
+  abbrev pub IsHelperRefusal : StoreError → Type 0
+  IsHelperRefusal e = (e ≡ IdSpace) × IsTrue (is_some helper_needed && are_variables_out (length os))
 
 -- of a clause that tracking added under a name that passes the test: its variable, its helper, and whether that is to
 -- be true

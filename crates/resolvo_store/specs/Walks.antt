@@ -29,6 +29,10 @@ pub record OwesFirst (own : Requirement) (old new : Asked) : Type 0 where
   pub owed : (r : Requirement) → (owed new r ≡ owed old r) ⊎ ((r ≡ own) × (owed old r ≡ 0) × (owed new r ≡ 1))
   pub told : ToldNothing old new
 
+-- no requirement owes more walks, but this one its first, if it owed none
+abbrev pub MayOweFirst : Requirement → (Requirement → ℕ) → (Requirement → ℕ) → Type 0
+MayOweFirst own old new = (r : Requirement) → (new r ≡ old r) ⊎ ((r ≡ own) × (old r ≡ 0) × (new r ≡ 1))
+
 -- the trail became shorter, or stayed
 abbrev pub taken_back : List Entry → Asked → Asked
 taken_back left asked = record asked { floor = min asked.floor (length left) }
@@ -67,3 +71,7 @@ module _ {N S : Type 0} (st : Store N S) where
   Asks Decide NoDecision left old new = AsksOnce old new × IsTold st.trail new
   Asks Decide reply left old new = AsksOnce old new
   Asks command reply left old new = new ≡ old
+
+  -- what a Decide with this reply does to it
+  abbrev pub DecideAsks : Reply → Asked → Asked → Type 0
+  DecideAsks reply old new = Asks Decide reply st.trail old new

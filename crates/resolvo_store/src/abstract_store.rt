@@ -1,22 +1,76 @@
 //! How contracts name the abstract store.
 use id_maps::{IdMap, IdSet, SolverId};
 use providers::{DependencyProvider, Interner};
+use solver_cache::ProviderFunctions;
 
-/// The abstract store of what a clause store keeps: contracts write it `⟦<D as AbstractStore>⟧.store self.now`.
+/// The abstract store of what a clause store keeps, which contracts write `⟦<D as Abstract>⟧.store self.now`, and what
+/// contracts say of two of them, before a call and after it.
 ///
 /// Each provider has it. It ties the provider's fixed functions, the equality of its ids and the limits of their
 /// storage into the one value of which steps and runs speak.
-pub trait AbstractStore: DependencyProvider {
+pub trait Abstract: DependencyProvider {
+    ghost use Rattle.std.specs.Prelude.{List};
+    ghost use Rattle.providers.specs.declared.requirement.Requirement.{Requirement};
+    ghost use Rattle.resolvo_store.specs.Command.{Command, Reply};
     ghost use Rattle.resolvo_store.specs.Store.{Kept, Store};
+    ghost use Rattle.resolvo_store.specs.declared.command.Command.{Command as ProgramCommand};
+    ghost use Rattle.resolvo_store.specs.declared.reply.Reply.{Reply as ProgramReply};
 
+    /// The abstract store.
     ghost store: { Kept Self Self.NameId Self.SolvableId Self.NameId.Scores → Store Self.NameId Self.SolvableId };
+
+    /// A command is given this reply: a `Step`.
+    ghost step: { Kept Self Self.NameId Self.SolvableId Self.NameId.Scores → Command Self.NameId Self.SolvableId →
+        Reply → Kept Self Self.NameId Self.SolvableId Self.NameId.Scores → Type 0 };
+
+    /// Commands of the program are given these replies in turn: a `Run`.
+    ghost run: { Kept Self Self.NameId Self.SolvableId Self.NameId.Scores →
+        List (ProgramCommand Self.NameId Self.SolvableId Self.Alloc) → List (ProgramReply Self.Alloc) →
+        Kept Self Self.NameId Self.SolvableId Self.NameId.Scores → Type 0 };
+
+    /// Nothing changed.
+    ghost same: { Kept Self Self.NameId Self.SolvableId Self.NameId.Scores →
+        Kept Self Self.NameId Self.SolvableId Self.NameId.Scores → Type 0 };
+
+    /// What a command leaves that is refused.
+    ghost refused: { Kept Self Self.NameId Self.SolvableId Self.NameId.Scores → Command Self.NameId Self.SolvableId →
+        Kept Self Self.NameId Self.SolvableId Self.NameId.Scores → Type 0 };
+
+    /// How a command with this reply walks rows, and what it tells the queue: `Asks`.
+    ghost asks: { Kept Self Self.NameId Self.SolvableId Self.NameId.Scores → Command Self.NameId Self.SolvableId →
+        Reply → Kept Self Self.NameId Self.SolvableId Self.NameId.Scores → Type 0 };
+
+    /// The requirement is loaded, and a `Load` of it is given the lists that are kept for it.
+    ghost loads: { Kept Self Self.NameId Self.SolvableId Self.NameId.Scores → Requirement →
+        Kept Self Self.NameId Self.SolvableId Self.NameId.Scores → Type 0 };
 }
 
-impl<D: DependencyProvider> AbstractStore for D {
+impl<D: DependencyProvider> Abstract for D {
+    ghost use Rattle.std.specs.Prelude.{◌≡◌, map};
+    ghost use Rattle.resolvo_store.specs.Command.{command_of, reply_of};
+    ghost use Rattle.resolvo_store.specs.Loading.{IsLoadedAs};
+    ghost use Rattle.resolvo_store.specs.Saturating.{RefusalLeaves};
+    ghost use Rattle.resolvo_store.specs.Step.{Step, Run};
     ghost use Rattle.resolvo_store.specs.Store.{store_of};
-    ghost use Rattle.solver_cache.specs.Functions.{gathered};
+    ghost use Rattle.resolvo_store.specs.Walks.{Asks};
 
-    ghost store = { store_of
-        (gathered D.NameId.eq D.SolvableId.eq D.NameId.Slots.is_too_large D.SolvableId.Slots.is_too_large
-        D.SolvableId.Set.is_too_large D.NameId.are_many D.universe D.answers) D.NameId.Scores.value_at };
+    ghost store = { store_of ⟦<D as ProviderFunctions>⟧.functions D.NameId.Scores.value_at };
+
+    ghost step = { let st = store_of ⟦<D as ProviderFunctions>⟧.functions D.NameId.Scores.value_at in
+        λ old c reply new. Step (st old) c reply (st new) };
+
+    ghost run = { let st = store_of ⟦<D as ProviderFunctions>⟧.functions D.NameId.Scores.value_at in
+        λ old cs replies new. Run (st old) (map command_of cs) (map reply_of replies) (st new) };
+
+    ghost same = { let st = store_of ⟦<D as ProviderFunctions>⟧.functions D.NameId.Scores.value_at in
+        λ old new. st new ≡ st old };
+
+    ghost refused = { let st = store_of ⟦<D as ProviderFunctions>⟧.functions D.NameId.Scores.value_at in
+        λ old c new. RefusalLeaves c (st old) (st new) };
+
+    ghost asks = { let st = store_of ⟦<D as ProviderFunctions>⟧.functions D.NameId.Scores.value_at in
+        λ old c reply new. Asks (st old) c reply new.trail old.asked new.asked };
+
+    ghost loads = { let st = store_of ⟦<D as ProviderFunctions>⟧.functions D.NameId.Scores.value_at in
+        λ old r new. IsLoadedAs (st old) r (st new) };
 }

@@ -6,8 +6,8 @@
 //! [`Command`] and answers it with one [`Reply`], and [`ClauseStore::run`] obeys a list of them in turn. What is
 //! refused changes nothing, but for `saturate`, which keeps what it forced.
 //!
-//! Contracts don't speak of the store's fields. They name the abstract store, `⟦<D as AbstractStore>⟧.store self.now`,
-//! a record of plain lists and functions:
+//! Contracts don't speak of the store's fields. They name the abstract store, `⟦<D as Abstract>⟧.store self.now`, a
+//! record of plain lists and functions, and a step of it, `⟦<D as Abstract>⟧.step self.old command reply self.new`:
 //!
 //! - `specs/Store.antt`: the abstract store;
 //! - `specs/Refusals.antt`: the refusals that a caller can foresee, in the order in which they are tested;
@@ -16,6 +16,7 @@
 //! - `specs/Step.antt`: a step, which adds the refusals for want of memory or of ids, and a run, one step after
 //!   another;
 //! - `specs/Answers.antt`: what the methods answer, as replies;
+//! - `specs/Loading.antt`, `specs/Deciding.antt`, `specs/Reading.antt`: what some methods tell beside their step;
 //! - `specs/ReplyTexts.antt`: the texts of replies.
 //!
 //! What a method or `step` answers and leaves is a step of the abstract store, and what `run` answers and leaves is a
@@ -32,7 +33,7 @@ mod reply_text;
 mod replying;
 mod store;
 
-pub use abstract_store::AbstractStore;
+pub use abstract_store::Abstract;
 pub use answers::{Added, Assignment, Next, Tracked};
 pub use command::{AbstractCommand, Command};
 pub use helper_origin::HelperOrigin;

@@ -1,9 +1,10 @@
 //! The texts of replies: what the program's lines have, without the line feed.
 ghost use Rattle.std.specs.Prelude.{◌≡◌, ◌++◌, codes, map, flat_map, Some};
 ghost use Rattle.std.specs.Fmt.{DisplaysOnOk};
-ghost use Rattle.resolvo_store.specs.ReplyTexts.{field, lists_text, list_text, others_text, conflict_text};
+ghost use Rattle.resolvo_store.specs.ReplyTexts.{field, lists_text, list_text, others_text};
 ghost use Rattle.resolvo_store.specs.ReplyTexts.{tracked_text, truth_text, assignment_text, undone_text};
-ghost use Rattle.resolvo_store.specs.ReplyTexts.{next_text, words_text, decision_text};
+ghost use Rattle.resolvo_store.specs.ReplyTexts.{next_text, decision_text};
+ghost use Rattle.resolvo_store.specs.ReplyTexts.{clause_text, load_text, watchers_text};
 
 use crate::reply::Reply;
 use decisions::Decision;
@@ -56,8 +57,7 @@ fn write_clause<W: fmt::Write>(
     clause: ClauseId,
     conflict: bool,
 ) -> fmt::Result
-    ensures { DisplaysOnOk W.write_str_gives f.old result
-        (Some (field (codes "clause ") clause ++ conflict_text conflict)) f.new }
+    ensures { DisplaysOnOk W.write_str_gives f.old result (Some (clause_text clause conflict)) f.new }
 {
     let flag = if conflict { " conflict" } else { "" };
     let clause = clause.to_index();
@@ -130,7 +130,7 @@ fn write_decision<W: fmt::Write>(f: &mut fmt::Formatter<W>, decision: &QueueDeci
 
 /// `watchers`, and a word for each clause, or `-` for none.
 fn write_watchers<W: fmt::Write>(f: &mut fmt::Formatter<W>, clauses: &[ClauseId]) -> fmt::Result
-    ensures { DisplaysOnOk W.write_str_gives f.old result (Some (codes "watchers" ++ words_text clauses.now)) f.new }
+    ensures { DisplaysOnOk W.write_str_gives f.old result (Some (watchers_text clauses.now)) f.new }
 {
     f.write_str("watchers")?;
     match clauses {
@@ -154,8 +154,7 @@ fn write_lists<W: fmt::Write, A: Allocator>(
     f: &mut fmt::Formatter<W>,
     lists: &[Vec<VariableId, A>],
 ) -> fmt::Result
-    ensures { DisplaysOnOk W.write_str_gives f.old result
-        (Some (codes "loaded" ++ lists_text (map (λ l. l.items) lists.now))) f.new }
+    ensures { DisplaysOnOk W.write_str_gives f.old result (Some (load_text (map (λ l. l.items) lists.now))) f.new }
 {
     f.write_str("loaded")?;
     write_words(f, lists)

@@ -1,7 +1,8 @@
 //! The typed calls' answers as replies.
-ghost use Rattle.std.specs.Prelude.{◌≡◌, map};
+ghost use Rattle.std.specs.Prelude.{◌≡◌};
 ghost use Rattle.resolvo_store.specs.Answers.{added, assignment, conflict, done, next, replied, tracked, undone};
-ghost use Rattle.resolvo_store.specs.Command.{DisjunctionIs, LoadedAs, VariableIs, WatchersAre, reply_of};
+ghost use Rattle.resolvo_store.specs.Command.{DisjunctionIs, VariableIs, reply_of};
+ghost use Rattle.resolvo_store.specs.Answers.{loaded_as, watchers_are};
 
 use crate::answers::{Added, Assignment, Next, Tracked};
 use crate::reply::Reply;
@@ -80,7 +81,7 @@ pub(crate) fn done_reply<A: Allocator>(answer: Result<(), StoreError>) -> Reply<
 }
 
 pub(crate) fn watchers_reply<A: Allocator>(answer: Result<Vec<ClauseId, A>, StoreError>) -> Reply<A>
-    ensures { reply_of result ≡ replied (λ found. WatchersAre found.items) answer }
+    ensures { reply_of result ≡ replied watchers_are answer }
 {
     match answer {
         Ok(found) => Reply::Watchers(found),
@@ -91,7 +92,7 @@ pub(crate) fn watchers_reply<A: Allocator>(answer: Result<Vec<ClauseId, A>, Stor
 pub(crate) fn loaded_reply<A: Allocator>(
     answer: Result<Vec<Vec<VariableId, A>, A>, StoreError>,
 ) -> Reply<A>
-    ensures { reply_of result ≡ replied (λ lists. LoadedAs (map (λ l. l.items) lists.items)) answer }
+    ensures { reply_of result ≡ replied loaded_as answer }
 {
     match answer {
         Ok(lists) => Reply::Loaded(lists),

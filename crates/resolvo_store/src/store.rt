@@ -40,7 +40,7 @@ mod scoring;
 mod tracking;
 mod watching;
 
-use crate::abstract_store::AbstractStore;
+use crate::abstract_store::Abstract;
 use crate::command::Command;
 use crate::reply::Reply;
 use crate::replying::{
@@ -64,7 +64,7 @@ use watch_map::{ClauseList, Marks};
 
 /// A clause store over the packages of a provider.
 ///
-/// A contract speaks of the abstract store, `⟦<D as AbstractStore>⟧.store self.now`. Whatever a command is refused for,
+/// A contract speaks of the abstract store, `⟦<D as Abstract>⟧.store self.now`. Whatever a command is refused for,
 /// the store is as it was; a `Saturate` alone keeps what it forced before memory was refused.
 #[derive(Drop)]
 pub struct ClauseStore<D: DependencyProvider> {
@@ -138,19 +138,15 @@ impl<D: DependencyProvider> Model for ClauseStore<D> {
 impl<D: DependencyProvider + Drop> ClauseStore<D> {
     ghost use Rattle.resolvo_store.specs.Command.{command_of};
     ghost use Rattle.resolvo_store.specs.Store.{new_store};
-    ghost use Rattle.resolvo_store.specs.Saturating.{RefusalLeaves};
-    ghost use Rattle.resolvo_store.specs.Step.{Step, Run};
     ghost use Rattle.resolvo_store.specs.ForbidsTwo.{ForbidsTwo};
     ghost use Rattle.resolvo_store.specs.Sound.{IsSound};
     ghost use Rattle.resolvo_store.specs.Asked.{owed};
-    ghost use Rattle.resolvo_store.specs.Walks.{Asks};
 
     /// A store that has the root's variable, and nothing else.
     pub fn new(alloc: D::Alloc, provider: D) -> Result<Self, StoreError>
         ensures provider { IfOk result (λ s. s.provider ≡ provider) }
-        ensures ok { IfOk result (λ s. ⟦<D as AbstractStore>⟧.store s
-            ≡ new_store (⟦<D as AbstractStore>⟧.store s).provider) }
-        ensures sound { IfOk result (λ s. IsSound (⟦<D as AbstractStore>⟧.store s)) }
+        ensures ok { IfOk result (λ s. ⟦<D as Abstract>⟧.store s ≡ new_store (⟦<D as Abstract>⟧.store s).provider) }
+        ensures sound { IfOk result (λ s. IsSound (⟦<D as Abstract>⟧.store s)) }
         ensures owed { IfOk result (λ s. (r : ARequirement) → owed s.asked r ≡ 0) }
         ensures err { IfErr result (λ e. e ≡ OutOfMemory) }
     {
@@ -182,17 +178,14 @@ impl<D: DependencyProvider + Drop> ClauseStore<D> {
     /// Obeys a command by its method, and answers it. A refusal is a reply too: it changes nothing, but for a
     /// `Saturate`, which keeps what it forced.
     pub fn step(&mut self, command: &Command<D::NameId, D::SolvableId, D::Alloc>) -> Reply<D::Alloc>
-        ensures step { Step (⟦<D as AbstractStore>⟧.store self.old) (command_of command.now)
-            (reply_of result) (⟦<D as AbstractStore>⟧.store self.new) }
-        ensures refused { IsRefused (reply_of result) → RefusalLeaves (command_of command.now)
-            (⟦<D as AbstractStore>⟧.store self.old) (⟦<D as AbstractStore>⟧.store self.new) }
+        ensures step { ⟦<D as Abstract>⟧.step self.old (command_of command.now) (reply_of result) self.new }
+        ensures refused { IsRefused (reply_of result) →
+            ⟦<D as Abstract>⟧.refused self.old (command_of command.now) self.new }
         ensures provider { self.new.provider ≡ self.old.provider }
-        ensures asked { let new = ⟦<D as AbstractStore>⟧.store self.new in
-            Asks (⟦<D as AbstractStore>⟧.store self.old) (command_of command.now) (reply_of result) new.trail
-            self.old.asked self.new.asked }
-        ensures was_sound { IsSound (⟦<D as AbstractStore>⟧.store self.old) }
-        ensures sound { IsSound (⟦<D as AbstractStore>⟧.store self.new) }
-        ensures at_most_one { (name : D.NameId) → ForbidsTwo (⟦<D as AbstractStore>⟧.store self.new) name }
+        ensures asked { ⟦<D as Abstract>⟧.asks self.old (command_of command.now) (reply_of result) self.new }
+        ensures was_sound { IsSound (⟦<D as Abstract>⟧.store self.old) }
+        ensures sound { IsSound (⟦<D as Abstract>⟧.store self.new) }
+        ensures at_most_one { (name : D.NameId) → ForbidsTwo (⟦<D as Abstract>⟧.store self.new) name }
     {
         // What is true of each store is true of this one: a look at a field tells it.
         let _cache = &self.cache;
@@ -201,12 +194,9 @@ impl<D: DependencyProvider + Drop> ClauseStore<D> {
 
     /// Hands a command to its method, and makes a reply of what it answers.
     fn dispatch(&mut self, command: &Command<D::NameId, D::SolvableId, D::Alloc>) -> Reply<D::Alloc>
-        ensures step { Step (⟦<D as AbstractStore>⟧.store self.old) (command_of command.now)
-            (reply_of result) (⟦<D as AbstractStore>⟧.store self.new) }
+        ensures step { ⟦<D as Abstract>⟧.step self.old (command_of command.now) (reply_of result) self.new }
         ensures provider { self.new.provider ≡ self.old.provider }
-        ensures asked { let new = ⟦<D as AbstractStore>⟧.store self.new in
-            Asks (⟦<D as AbstractStore>⟧.store self.old) (command_of command.now) (reply_of result) new.trail
-            self.old.asked self.new.asked }
+        ensures asked { ⟦<D as Abstract>⟧.asks self.old (command_of command.now) (reply_of result) self.new }
     {
         match command {
             Command::Variable(solvable) => variable_reply(self.variable(*solvable)),
@@ -262,14 +252,12 @@ impl<D: DependencyProvider + Drop> ClauseStore<D> {
         &mut self,
         commands: &[Command<D::NameId, D::SolvableId, D::Alloc>],
     ) -> Result<Vec<Reply<D::Alloc>, D::Alloc>, StoreError>
-        ensures ok { IfOk result (λ replies. Run (⟦<D as AbstractStore>⟧.store self.old) (map command_of commands.now)
-            (map reply_of replies.items) (⟦<D as AbstractStore>⟧.store self.new)) }
+        ensures ok { IfOk result (λ replies. ⟦<D as Abstract>⟧.run self.old commands.now replies.items self.new) }
         ensures provider { self.new.provider ≡ self.old.provider }
         ensures one_each { IfOk result (λ replies. vec_len replies ≡ length commands.now) }
-        ensures err { IfErr result (λ e. (e ≡ OutOfMemory)
-            × (⟦<D as AbstractStore>⟧.store self.new ≡ ⟦<D as AbstractStore>⟧.store self.old)) }
-        ensures sound { IsSound (⟦<D as AbstractStore>⟧.store self.new) }
-        ensures at_most_one { (name : D.NameId) → ForbidsTwo (⟦<D as AbstractStore>⟧.store self.new) name }
+        ensures err { IfErr result (λ e. (e ≡ OutOfMemory) × ⟦<D as Abstract>⟧.same self.old self.new) }
+        ensures sound { IsSound (⟦<D as Abstract>⟧.store self.new) }
+        ensures at_most_one { (name : D.NameId) → ForbidsTwo (⟦<D as Abstract>⟧.store self.new) name }
     {
         let mut replies = Vec::with_capacity(self.alloc, commands.len())?;
         for command in commands {
@@ -281,8 +269,8 @@ impl<D: DependencyProvider + Drop> ClauseStore<D> {
 
     /// The value of a variable, if it has one: that of its entry on the trail. Takes constant time.
     pub fn value(&self, variable: VariableId) -> Option<bool>
-        ensures value { result ≡ val (⟦<D as AbstractStore>⟧.store self.now).trail variable }
-        ensures sound { IsSound (⟦<D as AbstractStore>⟧.store self.now) }
+        ensures value { result ≡ val (⟦<D as Abstract>⟧.store self.now).trail variable }
+        ensures sound { IsSound (⟦<D as Abstract>⟧.store self.now) }
     {
         self.trail.assigned_value(variable)
     }

@@ -8,7 +8,7 @@ ghost use Rattle.script_dialogs.specs.ScriptLines.{IsAnswered, IsUnreadable};
 use crate::stage::{OverPackages, Stage};
 use dialogs::Answerer;
 use providers::DependencyProvider;
-use resolvo_store::{AbstractStore, ClauseStore};
+use resolvo_store::{Abstract, ClauseStore};
 use script_packages::{Packages, list_line};
 use script_text::{Line, LineFault, Statement};
 use scripts::obey_line;
@@ -45,7 +45,7 @@ impl<
 > Answerer for ScriptLines<D> {
     ghost answers = { λ a line text b. IsAnswered
         (ids_at D.NameId.limit D.NameId.id_at D.SolvableId.limit D.SolvableId.id_at)
-        (λ p. ⟦<D as ProviderFunctions>⟧.functions (D.made_of p)) ⟦<D as AbstractStore>⟧.store
+        (λ p. ⟦<D as ProviderFunctions>⟧.functions (D.made_of p)) ⟦<D as Abstract>⟧.store
         a.stage line text b.stage };
 
     ghost refuses = { λ a line. IsUnreadable
@@ -74,7 +74,7 @@ fn store_over<D: DependencyProvider + Drop>(
     alloc: D::Alloc,
     provider: D,
 ) -> Result<ClauseStore<D>, LineFault>
-    ensures ok { IfOk result (λ store. ⟦<D as AbstractStore>⟧.store store ≡ new_store
+    ensures ok { IfOk result (λ store. ⟦<D as Abstract>⟧.store store ≡ new_store
         (⟦<D as ProviderFunctions>⟧.functions provider)) }
     ensures err { IfErr result (λ e. e ≡ Memory) }
 {

@@ -18,7 +18,7 @@ ghost use Rattle.scripts.specs.Transcript.{ObeysLine, Answered, HasCommand, IfRe
 use crate::command_line::command;
 use crate::reply_line::{push_loaded, push_refused, push_reply, push_unreadable};
 use providers::{DependencyProvider, Requirement};
-use resolvo_store::{AbstractStore, ClauseStore, Command};
+use resolvo_store::{Abstract, ClauseStore, Command};
 use script_packages::read_catalogue;
 use script_text::{
     Line, LineFault, ScriptFault, Sink, Source, Statement, next_statement, read_whole, write_much,
@@ -143,7 +143,7 @@ fn store_over<D: DependencyProvider + Drop>(
     alloc: D::Alloc,
     provider: D,
 ) -> Result<ClauseStore<D>, ScriptFault>
-    ensures ok { IfOk result (λ store. ⟦<D as AbstractStore>⟧.store store ≡ new_store
+    ensures ok { IfOk result (λ store. ⟦<D as Abstract>⟧.store store ≡ new_store
         (⟦<D as ProviderFunctions>⟧.functions provider)) }
     ensures err { IfErr result (λ e. e ≡ Memory) }
 {
@@ -161,7 +161,7 @@ fn obey_lines<D: DependencyProvider<NameId: DenseIndex, SolvableId: DenseIndex> 
 ) -> Result<(), ScriptFault>
     requires { before + length lines.now < 2 ^ 64 }
     ensures answer { HandsAnswer (Answered (ids_at D.NameId.limit D.NameId.id_at D.SolvableId.limit D.SolvableId.id_at)
-        (⟦<D as AbstractStore>⟧.store store.old) before)
+        (⟦<D as Abstract>⟧.store store.old) before)
         (lines_of lines.now) (W.contents writer.old) waiting.old.items result (W.contents writer.new)
         waiting.new.items }
     ensures ends { WriterEnds W.writes W.fails writer.old result writer.new }
@@ -190,9 +190,9 @@ pub fn obey_line<D: DependencyProvider<NameId: DenseIndex, SolvableId: DenseInde
     said: Line<Statement<'_>>,
     waiting: &mut Vec<u8>,
 ) -> Result<(), LineFault>
-    ensures { ObeysLine (⟦<D as AbstractStore>⟧.store store.old)
+    ensures { ObeysLine (⟦<D as Abstract>⟧.store store.old)
         (command_meant (ids_at D.NameId.limit D.NameId.id_at D.SolvableId.limit D.SolvableId.id_at) said.entry)
-        waiting.old.items result waiting.new.items (⟦<D as AbstractStore>⟧.store store.new) }
+        waiting.old.items result waiting.new.items (⟦<D as Abstract>⟧.store store.new) }
 {
     match said {
         Line::Skipped => Ok(()),
@@ -211,11 +211,11 @@ fn obey_words<D: DependencyProvider<NameId: DenseIndex, SolvableId: DenseIndex> 
     rest: &[u8],
     waiting: &mut Vec<u8>,
 ) -> Result<(), LineFault>
-    ensures { ObeysLine (⟦<D as AbstractStore>⟧.store store.old)
+    ensures { ObeysLine (⟦<D as Abstract>⟧.store store.old)
         (says (command_said (ids_at D.NameId.limit D.NameId.id_at D.SolvableId.limit D.SolvableId.id_at))
         (command_said (ids_at D.NameId.limit D.NameId.id_at D.SolvableId.limit D.SolvableId.id_at) keyword.now
         (words rest.now)))
-        waiting.old.items result waiting.new.items (⟦<D as AbstractStore>⟧.store store.new) }
+        waiting.old.items result waiting.new.items (⟦<D as Abstract>⟧.store store.new) }
 {
     match command(alloc, Statement { keyword, rest }) {
         Ok(command) => obey(store, &command, waiting),
@@ -230,8 +230,8 @@ fn obey<D: DependencyProvider + Drop>(
     command: &Command<D::NameId, D::SolvableId, D::Alloc>,
     waiting: &mut Vec<u8>,
 ) -> Result<(), LineFault>
-    ensures { ObeysLine (⟦<D as AbstractStore>⟧.store store.old) (Says (command_of command.now))
-        waiting.old.items result waiting.new.items (⟦<D as AbstractStore>⟧.store store.new) }
+    ensures { ObeysLine (⟦<D as Abstract>⟧.store store.old) (Says (command_of command.now))
+        waiting.old.items result waiting.new.items (⟦<D as Abstract>⟧.store store.new) }
 {
     if let Command::Load(requirement) = command {
         return load(store, *requirement, waiting);
@@ -249,8 +249,8 @@ fn load<D: DependencyProvider + Drop>(
     requirement: Requirement,
     waiting: &mut Vec<u8>,
 ) -> Result<(), LineFault>
-    ensures { ObeysLine (⟦<D as AbstractStore>⟧.store store.old) (Says (Load requirement))
-        waiting.old.items result waiting.new.items (⟦<D as AbstractStore>⟧.store store.new) }
+    ensures { ObeysLine (⟦<D as Abstract>⟧.store store.old) (Says (Load requirement))
+        waiting.old.items result waiting.new.items (⟦<D as Abstract>⟧.store store.new) }
 {
     if let Some(lists) = store.lists(requirement) {
         push_loaded(waiting, lists)?;

@@ -7,7 +7,7 @@ ghost use Rattle.resolvo_store.specs.Saturating.{RefusalLeaves};
 ghost use Rattle.resolvo_store.specs.Store.{lists_of};
 
 use resolvo_pool::{DependencyProvider, Interner, Requirement};
-use resolvo_store::{AbstractStore, ClauseStore, Command, Reply};
+use resolvo_store::{Abstract, ClauseStore, Command, Reply};
 
 /// A command that is refused, whatever it is and why, changes nothing, but for a `Saturate`, which keeps what it
 /// forced.
@@ -16,7 +16,7 @@ pub fn obey<D: DependencyProvider + Drop>(
     command: &Command<D::NameId, D::SolvableId, D::Alloc>,
 ) -> Reply<D::Alloc>
     ensures { IsRefused (reply_of result) → RefusalLeaves (command_of command.now)
-        (⟦<D as AbstractStore>⟧.store store.old) (⟦<D as AbstractStore>⟧.store store.new) }
+        (⟦<D as Abstract>⟧.store store.old) (⟦<D as Abstract>⟧.store store.new) }
 {
     store.step(command)
 }
@@ -28,7 +28,7 @@ pub fn unknown<D: DependencyProvider + Drop>(
 ) -> Reply<D::Alloc>
     requires { (D.universe store.old.provider).knows_solvable solvable ≢ true }
     ensures reply { reply_of result ≡ Refused UnknownId }
-    ensures same { ⟦<D as AbstractStore>⟧.store store.new ≡ ⟦<D as AbstractStore>⟧.store store.old }
+    ensures same { ⟦<D as Abstract>⟧.store store.new ≡ ⟦<D as Abstract>⟧.store store.old }
 {
     store.step(&Command::Variable(solvable))
 }
@@ -39,7 +39,7 @@ pub fn load_first<D: DependencyProvider + Drop>(
     store: &mut ClauseStore<D>,
     requirement: Requirement,
 ) -> Reply<D::Alloc>
-    requires { lists_of (⟦<D as AbstractStore>⟧.store store.old) requirement ≡ None }
+    requires { lists_of (⟦<D as Abstract>⟧.store store.old) requirement ≡ None }
     ensures { (lists : List (List ℕ)) → reply_of result ≡ LoadedAs lists →
         length lists ≡ length (sets_of (D.universe store.old.provider) requirement) }
 {
@@ -48,16 +48,16 @@ pub fn load_first<D: DependencyProvider + Drop>(
 
 /// Asking for a decision changes nothing.
 pub fn decide<D: DependencyProvider + Drop>(store: &mut ClauseStore<D>) -> Reply<D::Alloc>
-    ensures { ⟦<D as AbstractStore>⟧.store store.new ≡ ⟦<D as AbstractStore>⟧.store store.old }
+    ensures { ⟦<D as Abstract>⟧.store store.new ≡ ⟦<D as Abstract>⟧.store store.old }
 {
     store.step(&Command::Decide)
 }
 
 /// Where nothing is assigned there is nothing to take back, also where memory is short.
 pub fn undo_nothing<D: DependencyProvider + Drop>(store: &mut ClauseStore<D>) -> Reply<D::Alloc>
-    requires { (⟦<D as AbstractStore>⟧.store store.old).trail ≡ [] }
+    requires { (⟦<D as Abstract>⟧.store store.old).trail ≡ [] }
     ensures reply { reply_of result ≡ Refused EmptyTrail }
-    ensures same { ⟦<D as AbstractStore>⟧.store store.new ≡ ⟦<D as AbstractStore>⟧.store store.old }
+    ensures same { ⟦<D as Abstract>⟧.store store.new ≡ ⟦<D as Abstract>⟧.store store.old }
 {
     store.step(&Command::UndoLast)
 }

@@ -7,7 +7,7 @@ ghost use Rattle.resolvo_store.specs.Outcome.{helper_origin};
 use resolvo_clauses::{Literal, VariableOrigin};
 use resolvo_ids::{StoreError, StringId, VariableId};
 use resolvo_pool::{DependencyProvider, Interner};
-use resolvo_store::{AbstractStore, ClauseStore, Command, HelperOrigin, Reply};
+use resolvo_store::{Abstract, ClauseStore, Command, HelperOrigin, Reply};
 
 /// A clause that is added gets the next id, and is known from then on: its id is a place in the list of clauses.
 pub fn add<D: DependencyProvider + Drop>(
@@ -15,9 +15,9 @@ pub fn add<D: DependencyProvider + Drop>(
     command: &Command<D::NameId, D::SolvableId, D::Alloc>,
 ) -> Reply<D::Alloc>
     ensures next { (clause : ℕ) (conflict : Bool) → reply_of result ≡ ClauseIs clause conflict →
-        clause ≡ length (⟦<D as AbstractStore>⟧.store store.old).clauses }
+        clause ≡ length (⟦<D as Abstract>⟧.store store.old).clauses }
     ensures known { (clause : ℕ) (conflict : Bool) → reply_of result ≡ ClauseIs clause conflict →
-        clause < length (⟦<D as AbstractStore>⟧.store store.new).clauses }
+        clause < length (⟦<D as Abstract>⟧.store store.new).clauses }
 {
     store.step(command)
 }

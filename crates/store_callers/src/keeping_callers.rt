@@ -8,7 +8,7 @@ ghost use Rattle.resolvo_store.specs.Keeping.{AreCandidates, candidate_variables
 
 use resolvo_ids::{ClauseId, StoreError, StringId, VariableId};
 use resolvo_pool::{DependencyProvider, Requirement};
-use resolvo_store::{AbstractStore, ClauseStore, Command, Reply};
+use resolvo_store::{Abstract, ClauseStore, Command, Reply};
 use std::alloc::Allocator;
 
 /// Adds a clause, and obeys more commands: whatever they were answered, the clause is still there under its id.
@@ -18,7 +18,7 @@ pub fn exclude_first<D: DependencyProvider + Drop>(
     reason: StringId,
     commands: &[Command<D::NameId, D::SolvableId, D::Alloc>],
 ) -> Result<ClauseId, StoreError>
-    ensures { IfOk result (λ clause. slice_get (⟦<D as AbstractStore>⟧.store store.new).clauses clause ≡
+    ensures { IfOk result (λ clause. slice_get (⟦<D as Abstract>⟧.store store.new).clauses clause ≡
         Some (Excluded variable reason)) }
 {
     let added = store.exclude(variable, reason)?;
@@ -33,10 +33,10 @@ pub fn load_again<D: DependencyProvider + Drop>(
     requirement: Requirement,
     between: &Command<D::NameId, D::SolvableId, D::Alloc>,
 ) -> Result<(Reply<D::Alloc>, Reply<D::Alloc>), StoreError>
-    requires { AreCandidates (⟦<D as AbstractStore>⟧.store store.old) }
+    requires { AreCandidates (⟦<D as Abstract>⟧.store store.old) }
     ensures same { IfOk result (λ replies. reply_of replies.0 ≡ reply_of replies.1) }
     ensures candidates { IfOk result (λ replies. reply_of replies.1 ≡
-        LoadedAs (candidate_variables (⟦<D as AbstractStore>⟧.store store.new) requirement)) }
+        LoadedAs (candidate_variables (⟦<D as Abstract>⟧.store store.new) requirement)) }
 {
     let before = answered(store.step(&Command::Load(requirement)))?;
     store.step(between);

@@ -13,14 +13,14 @@ ghost use Rattle.resolvo_clauses.specs.Watching.{IsExact};
 
 use resolvo_ids::{StoreError, VariableId};
 use resolvo_pool::DependencyProvider;
-use resolvo_store::{AbstractStore, ClauseStore, Command, Reply};
+use resolvo_store::{Abstract, ClauseStore, Command, Reply};
 
 /// A variable that the store doesn't have has no value.
 pub fn value_of_unknown<D: DependencyProvider + Drop>(
     store: &ClauseStore<D>,
     variable: VariableId,
 ) -> Option<bool>
-    requires { length (⟦<D as AbstractStore>⟧.store store.now).origins ≤ variable }
+    requires { length (⟦<D as Abstract>⟧.store store.now).origins ≤ variable }
     ensures { result ≡ None }
 {
     store.value(variable)
@@ -28,15 +28,15 @@ pub fn value_of_unknown<D: DependencyProvider + Drop>(
 
 /// An undo to level 0 takes every assignment back: then no variable has a value.
 pub fn start_again<D: DependencyProvider + Drop>(store: &mut ClauseStore<D>) -> Reply<D::Alloc>
-    ensures trail { (⟦<D as AbstractStore>⟧.store store.new).trail ≡ [] }
-    ensures values { (variable : ℕ) → values (⟦<D as AbstractStore>⟧.store store.new) variable ≡ None }
+    ensures trail { (⟦<D as Abstract>⟧.store store.new).trail ≡ [] }
+    ensures values { (variable : ℕ) → values (⟦<D as Abstract>⟧.store store.new) variable ≡ None }
 {
     store.step(&Command::UndoUntil(0))
 }
 
 /// Where no decision is left the store is solved: each registered clause whose parent is true has a true candidate.
 pub fn search_is_done<D: DependencyProvider + Drop>(store: &mut ClauseStore<D>) -> Reply<D::Alloc>
-    ensures { reply_of result ≡ NoDecision → IsSolved (⟦<D as AbstractStore>⟧.store store.new) }
+    ensures { reply_of result ≡ NoDecision → IsSolved (⟦<D as Abstract>⟧.store store.new) }
 {
     store.step(&Command::Decide)
 }
@@ -49,7 +49,7 @@ pub fn saturate_and_decide<D: DependencyProvider + Drop>(
     level: u32,
 ) -> Reply<D::Alloc>
     ensures unfalsified { (clause : ℕ) → reply_of result ≡ Falsified clause → ⊥ }
-    ensures model { let st = ⟦<D as AbstractStore>⟧.store store.new in
+    ensures model { let st = ⟦<D as Abstract>⟧.store store.new in
         All (MayLeaveFalse st) st.clauses → reply_of result ≡ NoDecision → IsModel st (true_alone (values st)) }
 {
     match store.step(&Command::Saturate(level)) {
@@ -65,12 +65,12 @@ pub fn saturate_soundly<D: DependencyProvider + Drop>(
     store: &mut ClauseStore<D>,
     level: u32,
 ) -> Reply<D::Alloc>
-    ensures forced { HasForcedMore level (⟦<D as AbstractStore>⟧.store store.old)
-        (⟦<D as AbstractStore>⟧.store store.new) }
-    ensures kept { (a : ℕ → Bool) → IsModelNow (⟦<D as AbstractStore>⟧.store store.old) a
-        → IsModelNow (⟦<D as AbstractStore>⟧.store store.new) a }
+    ensures forced { HasForcedMore level (⟦<D as Abstract>⟧.store store.old)
+        (⟦<D as Abstract>⟧.store store.new) }
+    ensures kept { (a : ℕ → Bool) → IsModelNow (⟦<D as Abstract>⟧.store store.old) a
+        → IsModelNow (⟦<D as Abstract>⟧.store store.new) a }
     ensures conflict { (clause : ℕ) → reply_of result ≡ Conflict clause
-        → (a : ℕ → Bool) → IsModelNow (⟦<D as AbstractStore>⟧.store store.old) a → ⊥ }
+        → (a : ℕ → Bool) → IsModelNow (⟦<D as Abstract>⟧.store store.old) a → ⊥ }
 {
     store.step(&Command::Saturate(level))
 }
@@ -81,8 +81,8 @@ pub fn obey_watched<D: DependencyProvider + Drop>(
     store: &mut ClauseStore<D>,
     commands: &[Command<D::NameId, D::SolvableId, D::Alloc>],
 ) -> Result<Vec<Reply<D::Alloc>, D::Alloc>, StoreError>
-    ensures exact { let st = ⟦<D as AbstractStore>⟧.store store.new in IsExact (watched_by st) st.watchers }
-    ensures own { WatchOwn (⟦<D as AbstractStore>⟧.store store.new) }
+    ensures exact { let st = ⟦<D as Abstract>⟧.store store.new in IsExact (watched_by st) st.watchers }
+    ensures own { WatchOwn (⟦<D as Abstract>⟧.store store.new) }
 {
     store.run(commands)
 }
@@ -93,7 +93,7 @@ pub fn obey_forbids_two<D: DependencyProvider + Drop>(
     store: &mut ClauseStore<D>,
     list: &[Command<D::NameId, D::SolvableId, D::Alloc>],
 ) -> Result<Vec<Reply<D::Alloc>, D::Alloc>, StoreError>
-    ensures { let st = ⟦<D as AbstractStore>⟧.store store.new in
+    ensures { let st = ⟦<D as Abstract>⟧.store store.new in
         (a : ℕ → Bool) → IsModel st a → (name : D.NameId) → AtMostOne a (st.trackers name).variables }
 {
     store.run(list)

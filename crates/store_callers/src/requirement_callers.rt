@@ -8,7 +8,7 @@ ghost use Rattle.resolvo_clauses.specs.Trail.{val};
 use resolvo_clauses::Decision;
 use resolvo_ids::{ClauseId, StoreError, VariableId};
 use resolvo_pool::{DependencyProvider, Requirement};
-use resolvo_store::{AbstractStore, Assignment, ClauseStore};
+use resolvo_store::{Abstract, Assignment, ClauseStore};
 
 /// Gives a variable a value, and answers whether it has this one now or the other one.
 pub fn give<D: DependencyProvider + Drop>(
@@ -18,9 +18,9 @@ pub fn give<D: DependencyProvider + Drop>(
     clause: ClauseId,
     level: u32,
 ) -> Result<bool, StoreError>
-    ensures given { IfOk result (λ given. val (⟦<D as AbstractStore>⟧.store store.new).trail variable ≡
+    ensures given { IfOk result (λ given. val (⟦<D as Abstract>⟧.store store.new).trail variable ≡
         Some (if given then value else not value)) }
-    ensures refused { OnErr result (⟦<D as AbstractStore>⟧.store store.new ≡ ⟦<D as AbstractStore>⟧.store store.old) }
+    ensures refused { OnErr result (⟦<D as Abstract>⟧.store store.new ≡ ⟦<D as Abstract>⟧.store store.old) }
 {
     match store.assign(Decision::new(variable, value, clause), level)? {
         Assignment::New | Assignment::Already => Ok(true),
@@ -33,8 +33,8 @@ pub fn load<D: DependencyProvider + Drop>(
     store: &mut ClauseStore<D>,
     requirement: Requirement,
 ) -> Result<(), StoreError>
-    ensures clauses { (⟦<D as AbstractStore>⟧.store store.new).requires ≡
-        (⟦<D as AbstractStore>⟧.store store.old).requires }
+    ensures clauses { (⟦<D as Abstract>⟧.store store.new).requires ≡
+        (⟦<D as Abstract>⟧.store store.old).requires }
     ensures unknown { knows_requirement (D.universe store.old.provider) requirement ≡ false → result ≡ Err UnknownId }
 {
     store.load(requirement)
@@ -46,10 +46,10 @@ pub fn register<D: DependencyProvider + Drop>(
     parent: VariableId,
     requirement: Requirement,
 ) -> Result<ClauseId, StoreError>
-    ensures added { IfOk result (λ clause. (⟦<D as AbstractStore>⟧.store store.new).requires ≡
-        (⟦<D as AbstractStore>⟧.store store.old).requires
+    ensures added { IfOk result (λ clause. (⟦<D as Abstract>⟧.store store.new).requires ≡
+        (⟦<D as Abstract>⟧.store store.old).requires
         ++ (record { parent = parent; requirement = requirement; condition = None; clause_id = clause }) ∷ []) }
-    ensures refused { OnErr result (⟦<D as AbstractStore>⟧.store store.new ≡ ⟦<D as AbstractStore>⟧.store store.old) }
+    ensures refused { OnErr result (⟦<D as Abstract>⟧.store store.new ≡ ⟦<D as Abstract>⟧.store store.old) }
 {
     let added = store.requires_clause(parent, requirement, None)?;
     Ok(added.clause)
@@ -62,11 +62,11 @@ pub fn require<D: DependencyProvider + Drop>(
     parent: VariableId,
     requirement: Requirement,
 ) -> Result<ClauseId, StoreError>
-    ensures added { IfOk result (λ clause. (⟦<D as AbstractStore>⟧.store store.new).requires ≡
-        (⟦<D as AbstractStore>⟧.store store.old).requires
+    ensures added { IfOk result (λ clause. (⟦<D as Abstract>⟧.store store.new).requires ≡
+        (⟦<D as Abstract>⟧.store store.old).requires
         ++ (record { parent = parent; requirement = requirement; condition = None; clause_id = clause }) ∷ []) }
-    ensures refused { OnErr result ((⟦<D as AbstractStore>⟧.store store.new).requires ≡
-        (⟦<D as AbstractStore>⟧.store store.old).requires) }
+    ensures refused { OnErr result ((⟦<D as Abstract>⟧.store store.new).requires ≡
+        (⟦<D as Abstract>⟧.store store.old).requires) }
     ensures unknown { knows_requirement (D.universe store.old.provider) requirement ≡ false → result ≡ Err UnknownId }
 {
     load(store, requirement)?;

@@ -10,7 +10,7 @@ use resolvo_clauses::Decision;
 use resolvo_ids::{ClauseId, StoreError, VariableId};
 use resolvo_pool::DependencyProvider;
 use resolvo_queue::QueueDecision;
-use resolvo_store::{AbstractStore, ClauseStore, Next};
+use resolvo_store::{Abstract, ClauseStore, Next};
 use std::ops::Range;
 
 /// How a search ends.
@@ -38,10 +38,10 @@ pub fn ask<D: DependencyProvider + Drop>(
     store: &mut ClauseStore<D>,
 ) -> Result<Option<QueueDecision>, AskFault>
     ensures decision { IfOk result (λ decision.
-        DecidesUnbeaten (offers (⟦<D as AbstractStore>⟧.store store.old)) decision) }
-    ensures unfalsified { OnOk result (falsified_clause (⟦<D as AbstractStore>⟧.store store.old) ≡ None) }
-    ensures fault { IfErr result (IsFault (⟦<D as AbstractStore>⟧.store store.old)) }
-    ensures same { ⟦<D as AbstractStore>⟧.store store.new ≡ ⟦<D as AbstractStore>⟧.store store.old }
+        DecidesUnbeaten (offers (⟦<D as Abstract>⟧.store store.old)) decision) }
+    ensures unfalsified { OnOk result (falsified_clause (⟦<D as Abstract>⟧.store store.old) ≡ None) }
+    ensures fault { IfErr result (IsFault (⟦<D as Abstract>⟧.store store.old)) }
+    ensures same { ⟦<D as Abstract>⟧.store store.new ≡ ⟦<D as Abstract>⟧.store store.old }
 {
     if let Some(clause) = store.falsified() {
         return Err(AskFault::Falsified(clause));
@@ -57,7 +57,7 @@ pub fn search<D: DependencyProvider + Drop>(
     store: &mut ClauseStore<D>,
     levels: Range<u32>,
 ) -> Result<SearchEnd, StoreError>
-    ensures { IfOk result (λ end. IsEnd (⟦<D as AbstractStore>⟧.store store.new) end) }
+    ensures { IfOk result (λ end. IsEnd (⟦<D as Abstract>⟧.store store.new) end) }
 {
     for level in levels {
         match store.decide()? {
@@ -80,7 +80,7 @@ pub fn rule_out<D: DependencyProvider + Drop>(
     clause: ClauseId,
     level: u32,
 ) -> Result<bool, StoreError>
-    ensures { IfOk result (λ done. val (⟦<D as AbstractStore>⟧.store store.new).trail candidate ≡ Some (not done)) }
+    ensures { IfOk result (λ done. val (⟦<D as Abstract>⟧.store store.new).trail candidate ≡ Some (not done)) }
 {
     store.undo_until(level);
     give(store, candidate, false, clause, level)

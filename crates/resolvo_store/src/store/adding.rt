@@ -6,13 +6,14 @@ ghost use Rattle.decisions.specs.Trail.{val};
 ghost use Rattle.clauses.specs.Clauses.{Kept, first_watches, is_conflict};
 ghost use Rattle.watch_map.specs.Watching.{AreTwoOrNone};
 ghost use Rattle.watch_map.specs.ClauseList.{contents, literals_watched, two_or_none, is_full, is_learnt_full};
-ghost use Rattle.watch_map.specs.ClauseList.{with_clause, with_learnt};
+ghost use Rattle.watch_map.specs.ClauseList.{with_learnt};
 ghost use Rattle.resolvo_store.specs.Adding.{adding, is_direct, names_clause, names_known};
 ghost use Rattle.resolvo_store.specs.Answers.{added};
 ghost use Rattle.resolvo_store.specs.Command.{ClauseIs, command_of, reply_of};
 ghost use Rattle.resolvo_store.specs.Refusals.{is_bad_learnt};
+ghost use Rattle.resolvo_store.specs.Adding.{HasMore};
 
-use crate::abstract_store::AbstractStore;
+use crate::abstract_store::Abstract;
 use crate::answers::Added;
 use crate::command::Command;
 use crate::reply::Reply;
@@ -30,12 +31,10 @@ impl<D: DependencyProvider + Drop> ClauseStore<D> {
     ghost use Rattle.resolvo_store.specs.Command.{Root, Constrains, ConstrainsExcluded, ConstrainsParent, Lock};
     ghost use Rattle.resolvo_store.specs.Command.{Exclude, AnyOf, Learnt};
     ghost use Rattle.resolvo_store.specs.Answers.{added, replied};
-    ghost use Rattle.resolvo_store.specs.Step.{Step};
 
     /// Adds the clause that the root is true.
     pub fn root(&mut self) -> Result<Added, StoreError>
-        ensures step { Step (⟦<D as AbstractStore>⟧.store self.old) Root
-            (replied added result) (⟦<D as AbstractStore>⟧.store self.new) }
+        ensures step { ⟦<D as Abstract>⟧.step self.old Root (replied added result) self.new }
         ensures provider { self.new.provider ≡ self.old.provider }
         ensures asked { self.new.asked ≡ self.old.asked }
     {
@@ -49,8 +48,8 @@ impl<D: DependencyProvider + Drop> ClauseStore<D> {
         forbidden: VariableId,
         set: VersionSetId,
     ) -> Result<Added, StoreError>
-        ensures step { Step (⟦<D as AbstractStore>⟧.store self.old) (Constrains parent forbidden set)
-            (replied added result) (⟦<D as AbstractStore>⟧.store self.new) }
+        ensures step { ⟦<D as Abstract>⟧.step self.old (Constrains parent forbidden set)
+            (replied added result) self.new }
         ensures provider { self.new.provider ≡ self.old.provider }
         ensures asked { self.new.asked ≡ self.old.asked }
     {
@@ -65,8 +64,8 @@ impl<D: DependencyProvider + Drop> ClauseStore<D> {
         aux: VariableId,
         set: VersionSetId,
     ) -> Result<Added, StoreError>
-        ensures step { Step (⟦<D as AbstractStore>⟧.store self.old) (ConstrainsExcluded candidate aux set)
-            (replied added result) (⟦<D as AbstractStore>⟧.store self.new) }
+        ensures step { ⟦<D as Abstract>⟧.step self.old (ConstrainsExcluded candidate aux set)
+            (replied added result) self.new }
         ensures provider { self.new.provider ≡ self.old.provider }
         ensures asked { self.new.asked ≡ self.old.asked }
     {
@@ -81,8 +80,8 @@ impl<D: DependencyProvider + Drop> ClauseStore<D> {
         aux: VariableId,
         set: VersionSetId,
     ) -> Result<Added, StoreError>
-        ensures step { Step (⟦<D as AbstractStore>⟧.store self.old) (ConstrainsParent parent aux set)
-            (replied added result) (⟦<D as AbstractStore>⟧.store self.new) }
+        ensures step { ⟦<D as Abstract>⟧.step self.old (ConstrainsParent parent aux set)
+            (replied added result) self.new }
         ensures provider { self.new.provider ≡ self.old.provider }
         ensures asked { self.new.asked ≡ self.old.asked }
     {
@@ -91,8 +90,7 @@ impl<D: DependencyProvider + Drop> ClauseStore<D> {
 
     /// Adds the clause that, the first variable being locked, the other one isn't true where the root is.
     pub fn lock(&mut self, locked: VariableId, other: VariableId) -> Result<Added, StoreError>
-        ensures step { Step (⟦<D as AbstractStore>⟧.store self.old) (Lock locked other)
-            (replied added result) (⟦<D as AbstractStore>⟧.store self.new) }
+        ensures step { ⟦<D as Abstract>⟧.step self.old (Lock locked other) (replied added result) self.new }
         ensures provider { self.new.provider ≡ self.old.provider }
         ensures asked { self.new.asked ≡ self.old.asked }
     {
@@ -101,8 +99,7 @@ impl<D: DependencyProvider + Drop> ClauseStore<D> {
 
     /// Adds the clause that the variable isn't true, for the reason that the string says.
     pub fn exclude(&mut self, variable: VariableId, reason: StringId) -> Result<Added, StoreError>
-        ensures step { Step (⟦<D as AbstractStore>⟧.store self.old) (Exclude variable reason)
-            (replied added result) (⟦<D as AbstractStore>⟧.store self.new) }
+        ensures step { ⟦<D as Abstract>⟧.step self.old (Exclude variable reason) (replied added result) self.new }
         ensures provider { self.new.provider ≡ self.old.provider }
         ensures asked { self.new.asked ≡ self.old.asked }
     {
@@ -111,8 +108,7 @@ impl<D: DependencyProvider + Drop> ClauseStore<D> {
 
     /// Adds the clause that the first variable is true where the other one is.
     pub fn any_of(&mut self, selected: VariableId, other: VariableId) -> Result<Added, StoreError>
-        ensures step { Step (⟦<D as AbstractStore>⟧.store self.old) (AnyOf selected other)
-            (replied added result) (⟦<D as AbstractStore>⟧.store self.new) }
+        ensures step { ⟦<D as Abstract>⟧.step self.old (AnyOf selected other) (replied added result) self.new }
         ensures provider { self.new.provider ≡ self.old.provider }
         ensures asked { self.new.asked ≡ self.old.asked }
     {
@@ -126,8 +122,7 @@ impl<D: DependencyProvider + Drop> ClauseStore<D> {
         command: &Command<D::NameId, D::SolvableId, D::Alloc>,
     ) -> Reply<D::Alloc>
         requires { names_clause (command_of command.now) ≡ true }
-        ensures step { Step (⟦<D as AbstractStore>⟧.store self.old) (command_of command.now)
-            (reply_of result) (⟦<D as AbstractStore>⟧.store self.new) }
+        ensures step { ⟦<D as Abstract>⟧.step self.old (command_of command.now) (reply_of result) self.new }
         ensures provider { self.new.provider ≡ self.old.provider }
         ensures asked { self.new.asked ≡ self.old.asked }
     {
@@ -141,8 +136,7 @@ impl<D: DependencyProvider + Drop> ClauseStore<D> {
     /// learnt.
     fn add(&mut self, clause: Clause<D::NameId>) -> Result<Added, StoreError>
         requires { is_direct clause ≡ true }
-        ensures step { Step (⟦<D as AbstractStore>⟧.store self.old) (adding clause)
-            (replied added result) (⟦<D as AbstractStore>⟧.store self.new) }
+        ensures step { ⟦<D as Abstract>⟧.step self.old (adding clause) (replied added result) self.new }
         ensures provider { self.new.provider ≡ self.old.provider }
         ensures asked { self.new.asked ≡ self.old.asked }
     {
@@ -159,8 +153,7 @@ impl<D: DependencyProvider + Drop> ClauseStore<D> {
 
     /// Adds a learnt clause with these literals.
     pub fn learnt(&mut self, literals: &[Literal]) -> Result<Added, StoreError>
-        ensures step { Step (⟦<D as AbstractStore>⟧.store self.old) (Learnt literals.now)
-            (replied added result) (⟦<D as AbstractStore>⟧.store self.new) }
+        ensures step { ⟦<D as Abstract>⟧.step self.old (Learnt literals.now) (replied added result) self.new }
         ensures provider { self.new.provider ≡ self.old.provider }
         ensures asked { self.new.asked ≡ self.old.asked }
     {
@@ -285,8 +278,7 @@ fn add_clause<N: Copy, A: Allocator + Copy>(
 ) -> Result<Added, StoreError>
     requires { AreTwoOrNone (two_or_none (literals_watched watches)) }
     ensures added { IfOk result (λ a. added a ≡ ClauseIs (length (contents clauses.old).clauses) conflict) }
-    ensures ok { OnOk result
-        (contents clauses.new ≡ with_clause (contents clauses.old) clause (literals_watched watches)) }
+    ensures ok { OnOk result (HasMore (contents clauses.old) clause watches (contents clauses.new)) }
     ensures err { OnErr result (contents clauses.new ≡ contents clauses.old) }
     ensures refused { IfErr result (IsGrowthRefusal (is_full (contents clauses.old))) }
     ensures ids_out { IsTrue (is_full (contents clauses.old)) → result ≡ Err IdSpace }

@@ -1,7 +1,7 @@
 //! The commands that change the trail: `Assign`, `UndoLast`, `UndoUntil` and `Unpropagated`.
 ghost use Rattle.std.specs.Prelude.{◌≡◌, None};
 
-use crate::abstract_store::AbstractStore;
+use crate::abstract_store::Abstract;
 use crate::answers::Assignment;
 use crate::store::ClauseStore;
 use decisions::{AddFault, Decision, DecisionTracker};
@@ -10,15 +10,13 @@ use typed_ids::{DenseIndex, StoreError};
 
 impl<D: DependencyProvider + Drop> ClauseStore<D> {
     ghost use Rattle.resolvo_store.specs.Answers.{assignment, replied, undone};
-    ghost use Rattle.resolvo_store.specs.Command.{Assign, UndoLast, UndoUntil, Unpropagated, Next, Undone};
-    ghost use Rattle.resolvo_store.specs.Step.{Step};
+    ghost use Rattle.resolvo_store.specs.Command.{UndoLast, UndoUntil, Unpropagated, Next, Undone};
     ghost use Rattle.resolvo_store.specs.Walks.{taken_back};
+    ghost use Rattle.resolvo_store.specs.Answers.{assigning};
 
     /// Gives a variable a value, derived from a clause, at a level.
     pub fn assign(&mut self, decision: Decision, level: u32) -> Result<Assignment, StoreError>
-        ensures step { Step (⟦<D as AbstractStore>⟧.store self.old)
-            (Assign decision.variable decision.value decision.derived_from level)
-            (replied assignment result) (⟦<D as AbstractStore>⟧.store self.new) }
+        ensures step { ⟦<D as Abstract>⟧.step self.old (assigning decision level) (replied assignment result) self.new }
         ensures provider { self.new.provider ≡ self.old.provider }
         ensures asked { self.new.asked ≡ self.old.asked }
     {
@@ -40,10 +38,9 @@ impl<D: DependencyProvider + Drop> ClauseStore<D> {
 
     /// Takes the newest assignment back, and answers it with the level of the one before it, 0 if there is none.
     pub fn undo_last(&mut self) -> Result<(Decision, u32), StoreError>
-        ensures step { Step (⟦<D as AbstractStore>⟧.store self.old) UndoLast
-            (replied undone result) (⟦<D as AbstractStore>⟧.store self.new) }
+        ensures step { ⟦<D as Abstract>⟧.step self.old UndoLast (replied undone result) self.new }
         ensures provider { self.new.provider ≡ self.old.provider }
-        ensures asked { self.new.asked ≡ taken_back (⟦<D as AbstractStore>⟧.store self.new).trail self.old.asked }
+        ensures asked { self.new.asked ≡ taken_back (⟦<D as Abstract>⟧.store self.new).trail self.old.asked }
     {
         if self.trail.assignments().is_empty() {
             return Err(StoreError::EmptyTrail);
@@ -56,10 +53,9 @@ impl<D: DependencyProvider + Drop> ClauseStore<D> {
 
     /// Takes back the assignments at the end of the trail whose levels are above this one.
     pub fn undo_until(&mut self, level: u32)
-        ensures step { Step (⟦<D as AbstractStore>⟧.store self.old) (UndoUntil level)
-            (Undone None) (⟦<D as AbstractStore>⟧.store self.new) }
+        ensures step { ⟦<D as Abstract>⟧.step self.old (UndoUntil level) (Undone None) self.new }
         ensures provider { self.new.provider ≡ self.old.provider }
-        ensures asked { self.new.asked ≡ taken_back (⟦<D as AbstractStore>⟧.store self.new).trail self.old.asked }
+        ensures asked { self.new.asked ≡ taken_back (⟦<D as Abstract>⟧.store self.new).trail self.old.asked }
     {
         self.falsified.uncount_above(&self.trail, level);
         self.trail.undo_until(level);
@@ -68,8 +64,7 @@ impl<D: DependencyProvider + Drop> ClauseStore<D> {
 
     /// Hands out the next assignment to propagate: the oldest one that wasn't handed out yet.
     pub fn next_unpropagated(&mut self) -> Option<Decision>
-        ensures step { Step (⟦<D as AbstractStore>⟧.store self.old) Unpropagated
-            (Next result) (⟦<D as AbstractStore>⟧.store self.new) }
+        ensures step { ⟦<D as Abstract>⟧.step self.old Unpropagated (Next result) self.new }
         ensures provider { self.new.provider ≡ self.old.provider }
         ensures asked { self.new.asked ≡ self.old.asked }
     {

@@ -1,12 +1,11 @@
 //! The decision: the command `Decide`, and its two halves as calls of their own.
-ghost use Rattle.std.specs.Prelude.{◌≡◌, ◌↔◌, None, Ok, All, false, option_map, IfOk, IfErr, OnOk};
+ghost use Rattle.std.specs.Prelude.{◌≡◌, ◌↔◌, None, Ok, option_map, IfOk, IfErr, OnOk};
 ghost use Rattle.typed_ids.specs.declared.error.StoreError.TheVariants.{OutOfMemory};
 ghost use Rattle.resolvo_queue.specs.Pick.{decided, DecidesUnbeaten};
-ghost use Rattle.resolvo_queue.specs.Scan.{scan};
 ghost use Rattle.resolvo_store.specs.Counted.{clause_at};
 ghost use Rattle.resolvo_store.specs.declared.answers.Next.TheVariants.{Done};
 
-use crate::abstract_store::AbstractStore;
+use crate::abstract_store::Abstract;
 use crate::answers::Next;
 use crate::store::ClauseStore;
 use crate::store::counting::first_falsified;
@@ -17,20 +16,18 @@ use typed_ids::{ClauseId, StoreError};
 impl<D: DependencyProvider + Drop> ClauseStore<D> {
     ghost use Rattle.resolvo_store.specs.Command.{Decide};
     ghost use Rattle.resolvo_store.specs.Answers.{next, replied};
-    ghost use Rattle.resolvo_store.specs.Outcome.{falsified_clause, is_eligible_clause, offers, picked};
-    ghost use Rattle.resolvo_store.specs.Step.{Step};
-    ghost use Rattle.resolvo_store.specs.Walks.{Asks, AsksOnce, IsTold};
+    ghost use Rattle.resolvo_store.specs.Outcome.{falsified_clause, offers, picked};
+    ghost use Rattle.resolvo_store.specs.Walks.{AsksOnce, IsTold};
+    ghost use Rattle.resolvo_store.specs.Deciding.{falsified_id, NoneEligible};
+    ghost use Rattle.resolvo_store.specs.Walks.{DecideAsks};
 
     /// What a search does next: the first falsified clause, else the decision that the scan picks, else it is done.
     pub fn decide(&mut self) -> Result<Next, StoreError>
-        ensures step { Step (⟦<D as AbstractStore>⟧.store self.old) Decide
-            (replied next result) (⟦<D as AbstractStore>⟧.store self.new) }
-        ensures done { result ≡ Ok Done →
-            All (λ c. is_eligible_clause (⟦<D as AbstractStore>⟧.store self.old) c ≡ false)
-            (scan (⟦<D as AbstractStore>⟧.store self.old).requires) }
+        ensures step { ⟦<D as Abstract>⟧.step self.old Decide (replied next result) self.new }
+        ensures done { result ≡ Ok Done → NoneEligible (⟦<D as Abstract>⟧.store self.old) }
         ensures provider { self.new.provider ≡ self.old.provider }
-        ensures asked { let old = ⟦<D as AbstractStore>⟧.store self.old in
-            Asks old Decide (replied next result) old.trail self.old.asked self.new.asked }
+        ensures asked { DecideAsks (⟦<D as Abstract>⟧.store self.old) (replied next result)
+            self.old.asked self.new.asked }
     {
         if let Some(clause) = self.first_falsified()? {
             return Ok(Next::Falsified(clause));
@@ -45,7 +42,7 @@ impl<D: DependencyProvider + Drop> ClauseStore<D> {
     /// The first falsified clause of the scan, if there is one: its parent is true, its condition is met, and all its
     /// candidates are false. Takes no memory. It goes over all clauses that decide; a `Decide` asks counters instead.
     pub fn falsified(&self) -> Option<ClauseId>
-        ensures { result ≡ option_map (λ c. c.clause_id) (falsified_clause (⟦<D as AbstractStore>⟧.store self.now)) }
+        ensures { result ≡ falsified_id (⟦<D as Abstract>⟧.store self.now) }
     {
         self.queue.falsified(
             self.trail.map(),
@@ -58,11 +55,10 @@ impl<D: DependencyProvider + Drop> ClauseStore<D> {
     /// What [`ClauseStore::falsified`] answers, by the counters, which catch up with the clauses and the trail. Where
     /// memory for that is refused, the plain scan tells; and where that finds none, this is refused.
     fn first_falsified(&mut self) -> Result<Option<ClauseId>, StoreError>
-        ensures found { IfOk result (λ clause. clause ≡ option_map (λ c. c.clause_id)
-            (falsified_clause (⟦<D as AbstractStore>⟧.store self.old))) }
+        ensures found { IfOk result (λ clause. clause ≡ falsified_id (⟦<D as Abstract>⟧.store self.old)) }
         ensures err { IfErr result (λ e. (e ≡ OutOfMemory)
-            × (falsified_clause (⟦<D as AbstractStore>⟧.store self.old) ≡ None)) }
-        ensures same { ⟦<D as AbstractStore>⟧.store self.new ≡ ⟦<D as AbstractStore>⟧.store self.old }
+            × (falsified_clause (⟦<D as Abstract>⟧.store self.old) ≡ None)) }
+        ensures same { ⟦<D as Abstract>⟧.store self.new ≡ ⟦<D as Abstract>⟧.store self.old }
         ensures provider { self.new.provider ≡ self.old.provider }
         ensures asked { self.new.asked ≡ self.old.asked }
     {
@@ -87,22 +83,20 @@ impl<D: DependencyProvider + Drop> ClauseStore<D> {
     /// where it is refused. Linear in what the trail changed by since the last decision and the clauses that this
     /// wakes, in those of them that aren't eligible, and in the rows of which nothing is known since.
     pub fn next_decision(&mut self) -> Result<Option<QueueDecision>, StoreError>
-        requires { falsified_clause (⟦<D as AbstractStore>⟧.store self.old) ≡ None }
+        requires { falsified_clause (⟦<D as Abstract>⟧.store self.old) ≡ None }
         ensures picked { IfOk result (λ decision.
-            decision ≡ option_map decided (picked (⟦<D as AbstractStore>⟧.store self.old))) }
+            decision ≡ option_map decided (picked (⟦<D as Abstract>⟧.store self.old))) }
 
         // There is none exactly when no clause of the scan is eligible, and no eligible clause beats it.
-        ensures none { IfOk result (λ decision. (decision ≡ None) ↔
-            All (λ c. is_eligible_clause (⟦<D as AbstractStore>⟧.store self.old) c ≡ false)
-            (scan (⟦<D as AbstractStore>⟧.store self.old).requires)) }
-        ensures unbeaten { IfOk result (DecidesUnbeaten (offers (⟦<D as AbstractStore>⟧.store self.old))) }
-        ensures same { ⟦<D as AbstractStore>⟧.store self.new ≡ ⟦<D as AbstractStore>⟧.store self.old }
+        ensures none { IfOk result (λ decision. (decision ≡ None) ↔ NoneEligible (⟦<D as Abstract>⟧.store self.old)) }
+        ensures unbeaten { IfOk result (DecidesUnbeaten (offers (⟦<D as Abstract>⟧.store self.old))) }
+        ensures same { ⟦<D as Abstract>⟧.store self.new ≡ ⟦<D as Abstract>⟧.store self.old }
         ensures provider { self.new.provider ≡ self.old.provider }
         ensures memory { IfErr result (λ e. e ≡ OutOfMemory) }
 
         // No requirement is walked twice, whatever the result; and the queue has this trail, unless it was refused.
-        ensures asked { AsksOnce (⟦<D as AbstractStore>⟧.store self.old) self.old.asked self.new.asked }
-        ensures told { OnOk result (IsTold (⟦<D as AbstractStore>⟧.store self.old).trail self.new.asked) }
+        ensures asked { AsksOnce (⟦<D as Abstract>⟧.store self.old) self.old.asked self.new.asked }
+        ensures told { OnOk result (IsTold (⟦<D as Abstract>⟧.store self.old).trail self.new.asked) }
     {
         let floor = self.trail.take_sync_floor();
         self.queue

@@ -3,6 +3,7 @@ ghost use Rattle.std.specs.Prelude.{◌≡◌, ◌&&◌, length, nat_lt};
 ghost use Rattle.std.specs.List.{list_all};
 ghost use Rattle.decisions.specs.Literals.{variable_of};
 ghost use Rattle.providers.specs.Provider.{knows_requirement};
+ghost use Rattle.resolvo_store.specs.Known.{knows_parts};
 
 use decisions::Literal;
 use id_maps::SolverId;
@@ -44,8 +45,7 @@ pub(super) fn knows_parts<D: DependencyProvider>(
     literals: &[Literal],
     condition: ConditionId,
 ) -> bool
-    ensures { result ≡ (list_all (λ l. nat_lt (variable_of l) variables) literals.now
-        && (D.universe provider.now).knows_condition condition) }
+    ensures { result ≡ knows_parts (D.universe provider.now) variables literals.now condition }
 {
     knows_literals(literals, variables) && provider.knows_condition(condition)
 }

@@ -1,17 +1,15 @@
 //! The commands that bring variables: `Variable`, `Helper` and `Load`.
-ghost use Rattle.std.specs.Prelude.{◌≡◌, ◌∷◌, ◌++◌, [], None, true, false, map, option_map};
-ghost use Rattle.std.specs.Prelude.{length, take, Some, Err, IsTrue, IfSome, IfOk, OnOk, OnErr, IfErr, MatchOption};
-ghost use Rattle.std.specs.Map.{lookup};
+ghost use Rattle.std.specs.Prelude.{◌≡◌, None, true, false, option_map};
+ghost use Rattle.std.specs.Prelude.{length, take, Err, IsTrue, IfSome, IfOk, OnOk, OnErr, IfErr};
 ghost use Rattle.providers.specs.Provider.{knows_requirement};
-ghost use Rattle.providers.specs.Requirement.{same_requirement};
 ghost use Rattle.typed_ids.specs.Refusals.{IsGrowthRefusal};
 ghost use Rattle.typed_ids.specs.declared.error.StoreError.TheVariants.{IdSpace, OutOfMemory};
 ghost use Rattle.variables.specs.Variables.{are_variables_out};
 ghost use Rattle.resolvo_store.specs.Helpers.{is_helper_known};
-ghost use Rattle.resolvo_store.specs.Lists.{lists_kept};
 ghost use Rattle.resolvo_store.specs.Outcome.{helper_origin};
+ghost use Rattle.resolvo_store.specs.Lists.{items_of, kept_for};
 
-use crate::abstract_store::AbstractStore;
+use crate::abstract_store::Abstract;
 use crate::helper_origin::{HelperOrigin, alloc_helper};
 use crate::loaded_lists::load_lists;
 use crate::store::ClauseStore;
@@ -23,16 +21,17 @@ use typed_ids::{StoreError, VariableId};
 use variables::{VariableLists, VariableMap};
 
 impl<D: DependencyProvider + Drop> ClauseStore<D> {
-    ghost use Rattle.resolvo_store.specs.Command.{Variable, Helper, Load, LoadedAs, Refused, VariableIs};
+    ghost use Rattle.resolvo_store.specs.Command.{Variable, Helper, Load, Refused, VariableIs};
     ghost use Rattle.resolvo_store.specs.Answers.{replied};
     ghost use Rattle.resolvo_store.specs.Store.{lists_of};
-    ghost use Rattle.resolvo_store.specs.Step.{Step, IsAnswered, lacks_ids, may_be_refused};
-    ghost use Rattle.resolvo_store.specs.Outcome.{origins_loaded, variables_loaded};
+    ghost use Rattle.resolvo_store.specs.Step.{lacks_ids, may_be_refused};
+    ghost use Rattle.resolvo_store.specs.Answers.{loaded_as};
+    ghost use Rattle.resolvo_store.specs.Loading.{AreListsOf, LoadsAgain, IsUnloaded, LoadsNew, FailsNew, AreCopied};
+    ghost use Rattle.resolvo_store.specs.Loading.{with_loaded};
 
     /// The variable of a solvable, which is made where there is none.
     pub fn variable(&mut self, solvable: D::SolvableId) -> Result<VariableId, StoreError>
-        ensures step { Step (⟦<D as AbstractStore>⟧.store self.old) (Variable solvable)
-            (replied VariableIs result) (⟦<D as AbstractStore>⟧.store self.new) }
+        ensures step { ⟦<D as Abstract>⟧.step self.old (Variable solvable) (replied VariableIs result) self.new }
         ensures provider { self.new.provider ≡ self.old.provider }
         ensures asked { self.new.asked ≡ self.old.asked }
     {
@@ -44,8 +43,7 @@ impl<D: DependencyProvider + Drop> ClauseStore<D> {
 
     /// A new variable that stands for this.
     pub fn helper(&mut self, origin: HelperOrigin<D::NameId>) -> Result<VariableId, StoreError>
-        ensures step { Step (⟦<D as AbstractStore>⟧.store self.old) (Helper origin)
-            (replied VariableIs result) (⟦<D as AbstractStore>⟧.store self.new) }
+        ensures step { ⟦<D as Abstract>⟧.step self.old (Helper origin) (replied VariableIs result) self.new }
         ensures provider { self.new.provider ≡ self.old.provider }
         ensures asked { self.new.asked ≡ self.old.asked }
     {
@@ -60,9 +58,7 @@ impl<D: DependencyProvider + Drop> ClauseStore<D> {
         &mut self,
         requirement: Requirement,
     ) -> Result<VariableLists<D::Alloc>, StoreError>
-        ensures step { Step (⟦<D as AbstractStore>⟧.store self.old) (Load requirement)
-            (replied (λ lists. LoadedAs (map (λ l. l.items) lists.items)) result)
-            (⟦<D as AbstractStore>⟧.store self.new) }
+        ensures step { ⟦<D as Abstract>⟧.step self.old (Load requirement) (replied loaded_as result) self.new }
         ensures provider { self.new.provider ≡ self.old.provider }
         ensures asked { self.new.asked ≡ self.old.asked }
     {
@@ -79,12 +75,9 @@ impl<D: DependencyProvider + Drop> ClauseStore<D> {
     /// The candidates' variables of a requirement that is loaded, which is what a `Load` of it answers again: lent, and
     /// not copied. None of one that isn't loaded, or that the provider doesn't know. Takes constant time.
     pub fn lists(&self, requirement: Requirement) -> Option<&[Vec<VariableId, D::Alloc>]>
-        ensures lists { IfSome result (λ lists. lists_of (⟦<D as AbstractStore>⟧.store self.now) requirement ≡
-            Some (map (λ l. l.items) lists.now)) }
-        ensures again { IfSome result (λ lists. Step (⟦<D as AbstractStore>⟧.store self.now) (Load requirement)
-            (LoadedAs (map (λ l. l.items) lists.now)) (⟦<D as AbstractStore>⟧.store self.now)) }
-        ensures none { result ≡ None → knows_requirement (D.universe self.now.provider) requirement ≡ true →
-            lists_of (⟦<D as AbstractStore>⟧.store self.now) requirement ≡ None }
+        ensures lists { IfSome result (λ lists. AreListsOf (⟦<D as Abstract>⟧.store self.now) requirement lists.now) }
+        ensures again { IfSome result (λ lists. LoadsAgain (⟦<D as Abstract>⟧.store self.now) requirement lists.now) }
+        ensures none { result ≡ None → IsUnloaded (⟦<D as Abstract>⟧.store self.now) requirement }
     {
         if !knows_requirement(self.cache.provider(), requirement) {
             return None;
@@ -98,12 +91,9 @@ impl<D: DependencyProvider + Drop> ClauseStore<D> {
     /// Loads a requirement that isn't loaded yet, as a `Load` does, and copies no lists: [`ClauseStore::lists`] lends
     /// them then. One that is loaded takes constant time.
     pub fn load(&mut self, requirement: Requirement) -> Result<(), StoreError>
-        ensures kept { OnOk result (MatchOption (lists_of (⟦<D as AbstractStore>⟧.store self.new) requirement) ⊥
-            (λ lists. Step (⟦<D as AbstractStore>⟧.store self.old) (Load requirement) (LoadedAs lists)
-            (⟦<D as AbstractStore>⟧.store self.new))) }
+        ensures kept { OnOk result (⟦<D as Abstract>⟧.loads self.old requirement self.new) }
         ensures known { OnOk result (knows_requirement (D.universe self.new.provider) requirement ≡ true) }
-        ensures refused { IfErr result (λ e. Step (⟦<D as AbstractStore>⟧.store self.old) (Load requirement) (Refused e)
-            (⟦<D as AbstractStore>⟧.store self.new)) }
+        ensures refused { IfErr result (λ e. ⟦<D as Abstract>⟧.step self.old (Load requirement) (Refused e) self.new) }
         ensures provider { self.new.provider ≡ self.old.provider }
         ensures asked { self.new.asked ≡ self.old.asked }
     {
@@ -125,15 +115,12 @@ impl<D: DependencyProvider + Drop> ClauseStore<D> {
         copied: bool,
     ) -> Result<VariableLists<D::Alloc>, StoreError>
         requires known { knows_requirement (D.universe self.old.provider) requirement ≡ true }
-        requires new { lists_of (⟦<D as AbstractStore>⟧.store self.old) requirement ≡ None }
-        ensures lists { IfOk result (λ lists. IsTrue copied → map (λ l. l.items) lists.items ≡
-            variables_loaded (⟦<D as AbstractStore>⟧.store self.old) requirement) }
-        ensures ok { OnOk result (IsAnswered (⟦<D as AbstractStore>⟧.store self.old) (Load requirement)
-            (LoadedAs (variables_loaded (⟦<D as AbstractStore>⟧.store self.old) requirement))
-            (⟦<D as AbstractStore>⟧.store self.new)) }
-        ensures err { IfErr result (λ e. IsAnswered (⟦<D as AbstractStore>⟧.store self.old)
-            (Load requirement) (Refused e)
-            (⟦<D as AbstractStore>⟧.store self.new)) }
+        requires new { lists_of (⟦<D as Abstract>⟧.store self.old) requirement ≡ None }
+        ensures lists { IfOk result (AreCopied (⟦<D as Abstract>⟧.store self.old) requirement copied) }
+        ensures ok { let st = ⟦<D as Abstract>⟧.store in
+            OnOk result (LoadsNew (st self.old) requirement (st self.new)) }
+        ensures err { let st = ⟦<D as Abstract>⟧.store in
+            IfErr result (FailsNew (st self.old) requirement (st self.new)) }
         ensures provider { self.new.provider ≡ self.old.provider }
         ensures asked { self.new.asked ≡ self.old.asked }
     {
@@ -153,22 +140,14 @@ impl<D: DependencyProvider + Drop> ClauseStore<D> {
         copied: bool,
     ) -> Result<VariableLists<D::Alloc>, StoreError>
         requires known { knows_requirement (D.universe self.old.provider) requirement ≡ true }
-        requires new { lists_of (⟦<D as AbstractStore>⟧.store self.old) requirement ≡ None }
-        ensures lists { IfOk result (λ lists. IsTrue copied → map (λ l. l.items) lists.items ≡
-            variables_loaded (⟦<D as AbstractStore>⟧.store self.old) requirement) }
-        ensures ok { OnOk result (self.new ≡ record self.old {
-          origins = origins_loaded (⟦<D as AbstractStore>⟧.store self.old) requirement;
-          loaded = self.old.loaded ++ (
-            requirement,
-            variables_loaded (⟦<D as AbstractStore>⟧.store self.old)
-                requirement,
-          ) ∷ [];
-        }) }
-        ensures fit { OnOk result (lacks_ids (⟦<D as AbstractStore>⟧.store self.old) (Load requirement) ≡ false) }
+        requires new { lists_of (⟦<D as Abstract>⟧.store self.old) requirement ≡ None }
+        ensures lists { IfOk result (AreCopied (⟦<D as Abstract>⟧.store self.old) requirement copied) }
+        ensures ok { OnOk result (self.new ≡ with_loaded (⟦<D as Abstract>⟧.store self.old) requirement self.old) }
+        ensures fit { OnOk result (lacks_ids (⟦<D as Abstract>⟧.store self.old) (Load requirement) ≡ false) }
         ensures err { OnErr result (self.new ≡ record self.old { origins = self.new.origins }) }
         ensures front { take (length self.old.origins) self.new.origins ≡ self.old.origins }
-        ensures refused { IfErr result (λ e. may_be_refused (⟦<D as AbstractStore>⟧.store self.old)
-            (Load requirement) e ≡ true) }
+        ensures refused { IfErr result (λ e.
+            may_be_refused (⟦<D as Abstract>⟧.store self.old) (Load requirement) e ≡ true) }
     {
         let lists = load_lists(&mut self.cache, &mut self.variables, requirement)?;
         let reply = copy_of(&lists, copied)?;
@@ -182,8 +161,7 @@ fn copy_of<A: Allocator + Copy>(
     lists: &VariableLists<A>,
     copied: bool,
 ) -> Result<VariableLists<A>, StoreError>
-    ensures ok { IfOk result (λ copy. IsTrue copied →
-        map (λ l. l.items) copy.items ≡ map (λ l. l.items) lists.now.items) }
+    ensures ok { IfOk result (λ copy. IsTrue copied → items_of copy ≡ items_of lists.now) }
     ensures memory { IfErr result (λ e. e ≡ OutOfMemory) }
 {
     if copied {
@@ -209,8 +187,7 @@ pub(super) fn lists<A: Allocator + Copy>(
     loaded: &RequirementMap<VariableLists<A>, A>,
     requirement: Requirement,
 ) -> Option<&VariableLists<A>>
-    ensures { option_map (λ lists. map (λ l. l.items) lists.now.items) result ≡
-        lookup (same_requirement requirement) (lists_kept loaded.now) }
+    ensures { option_map (λ lists. items_of lists.now) result ≡ kept_for requirement loaded.now }
 {
     loaded.get(requirement)
 }

@@ -1,13 +1,11 @@
 //! What a search or a report reads of a store beside the replies.
-ghost use Rattle.std.specs.Prelude.{◌≡◌, [], if◌then◌else◌, is_some, slice_get};
-ghost use Rattle.std.specs.Prelude.{option_map, IsSomeAnd, IfOk, OnOk, OnErr, IfErr};
-ghost use Rattle.typed_ids.specs.declared.error.StoreError.TheVariants.{OutOfMemory, UnknownId};
-ghost use Rattle.providers.specs.Texts.{IsAppended, IsSameText};
+ghost use Rattle.std.specs.Prelude.{◌≡◌, [], slice_get};
+ghost use Rattle.std.specs.Prelude.{IfOk, OnOk, OnErr, IfErr};
+ghost use Rattle.typed_ids.specs.declared.error.StoreError.TheVariants.{OutOfMemory};
+ghost use Rattle.providers.specs.Texts.{IsSameText};
 ghost use Rattle.watch_map.specs.Watching.{IsExact};
-ghost use Rattle.clauses.specs.Clauses.{literals_of};
-ghost use Rattle.clauses.specs.ClauseTexts.{clause_text};
 
-use crate::abstract_store::AbstractStore;
+use crate::abstract_store::Abstract;
 use crate::store::ClauseStore;
 use crate::store::known::knows_variable;
 use decisions::Literal;
@@ -16,12 +14,13 @@ use typed_ids::{ClauseId, StoreError, VariableId};
 use variables::VariableOrigin;
 
 impl<D: DependencyProvider + Drop> ClauseStore<D> {
-    ghost use Rattle.resolvo_store.specs.Store.{kept_literals, watched_by};
+    ghost use Rattle.resolvo_store.specs.Store.{watched_by};
     ghost use Rattle.resolvo_store.specs.Refusals.{knows_literal};
+    ghost use Rattle.resolvo_store.specs.Reading.{HasLiterals, IsDisplayed, text_refusal};
 
     /// What a variable stands for; none of an unknown one. Takes constant time.
     pub fn origin(&self, variable: VariableId) -> Option<VariableOrigin<D::NameId, D::SolvableId>>
-        ensures { result ≡ slice_get (⟦<D as AbstractStore>⟧.store self.now).origins variable }
+        ensures { result ≡ slice_get (⟦<D as Abstract>⟧.store self.now).origins variable }
     {
         if !knows_variable(&self.variables, variable) {
             return None;
@@ -31,9 +30,7 @@ impl<D: DependencyProvider + Drop> ClauseStore<D> {
 
     /// The literals of a clause, in order; none of an unknown one. Takes memory for them.
     pub fn literals(&self, clause: ClauseId) -> Result<Option<Vec<Literal, D::Alloc>>, StoreError>
-        ensures ok { IfOk result (λ found. option_map (λ literals. literals.items) found ≡
-            option_map (literals_of (kept_literals (⟦<D as AbstractStore>⟧.store self.now)))
-            (slice_get (⟦<D as AbstractStore>⟧.store self.now).clauses clause)) }
+        ensures ok { IfOk result (HasLiterals (⟦<D as Abstract>⟧.store self.now) clause) }
         ensures memory { IfErr result (λ e. e ≡ OutOfMemory) }
     {
         let Some(clause) = self.clauses.get(clause) else {
@@ -53,14 +50,9 @@ impl<D: DependencyProvider + Drop> ClauseStore<D> {
         out: &mut String<D::Alloc>,
     ) -> Result<(), StoreError>
         ensures ok { OnOk result
-            (IsSomeAnd (slice_get (⟦<D as AbstractStore>⟧.store self.now).clauses clause) (λ c.
-            IsAppended out.old out.new
-            (clause_text (D.universe self.now.provider) (D.texts self.now.provider)
-            (⟦<D as AbstractStore>⟧.store self.now).origins c))) }
+            (IsDisplayed (⟦<D as Abstract>⟧.store self.now) clause (D.texts self.now.provider) out.old out.new) }
         ensures err { OnErr result (IsSameText out.old out.new) }
-        ensures refused { IfErr result (λ e. e ≡
-            (if is_some (slice_get (⟦<D as AbstractStore>⟧.store self.now).clauses clause) then OutOfMemory
-            else UnknownId)) }
+        ensures refused { IfErr result (λ e. e ≡ text_refusal (⟦<D as Abstract>⟧.store self.now) clause) }
     {
         let Some(clause) = self.clauses.get(clause) else {
             return Err(StoreError::UnknownId);

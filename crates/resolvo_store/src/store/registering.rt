@@ -1,30 +1,32 @@
 //! The commands that keep conditions' literals and add requires clauses.
-ghost use Rattle.std.specs.Prelude.{◌≡◌, ◌⊎◌, ◌-◌, ◌^◌, ◌∷◌, ◌++◌, List, [], length, true, false};
-ghost use Rattle.std.specs.Prelude.{nat_le, nat_lt, ◌&&◌, map, ◌<◌, IsSome};
+ghost use Rattle.std.specs.Prelude.{◌≡◌, ◌-◌, ◌^◌, List, [], length, true, false};
+ghost use Rattle.std.specs.Prelude.{nat_le, nat_lt, map, ◌<◌, IsSome};
 ghost use Rattle.std.specs.Prelude.{IfSome, All, Err, IsTrue, IfOk, OnOk, OnErr, IfErr};
 ghost use Rattle.decisions.specs.Literals.{Neg};
-ghost use Rattle.decisions.specs.Trail.{val};
-ghost use Rattle.typed_ids.specs.Refusals.{IsGrowthRefusal, are_ids_out};
+ghost use Rattle.typed_ids.specs.Refusals.{IsGrowthRefusal};
 ghost use Rattle.typed_ids.specs.TotalMaps.{SameValues};
 ghost use Rattle.std.specs.Map.{lookup};
 ghost use Rattle.std.specs.Option.{option_map_or};
 ghost use Rattle.typed_ids.specs.declared.error.StoreError.TheVariants.{IdSpace, OutOfMemory};
 ghost use Rattle.providers.specs.Requirement.{same_requirement};
-ghost use Rattle.providers.specs.Provider.{knows_requirement, sets_of};
-ghost use Rattle.providers.specs.declared.requirement.Requirement.{Requirement as ARequirement};
-ghost use Rattle.clauses.specs.Clauses.{Kept, first_watches, is_conflict, condition_literals};
+ghost use Rattle.providers.specs.Provider.{knows_requirement};
+ghost use Rattle.clauses.specs.Clauses.{is_conflict, condition_literals};
 ghost use Rattle.clauses.specs.Stored.{kept_in};
 ghost use Rattle.clauses.specs.declared.clause.Clause.TheVariants as Kind;
 ghost use Rattle.watch_map.specs.Watching.{AreTwoOrNone, is_literal_in};
-ghost use Rattle.resolvo_queue.specs.Queue.{IsRegistered, IsUnchanged, StandsOn};
-ghost use Rattle.resolvo_queue.specs.References.{references};
+ghost use Rattle.resolvo_queue.specs.Queue.{IsUnchanged};
 ghost use Rattle.resolvo_queue.specs.WalkCounts.{owed, walks};
-ghost use Rattle.watch_map.specs.ClauseList.{contents, literals_watched, two_or_none, is_full, with_clause};
+ghost use Rattle.watch_map.specs.ClauseList.{contents, literals_watched, two_or_none, is_full};
 ghost use Rattle.resolvo_store.specs.Answers.{added};
 ghost use Rattle.resolvo_store.specs.Command.{ClauseIs};
 ghost use Rattle.resolvo_store.specs.Lists.{lists_kept, disjunctions_kept, IsOneMore};
+ghost use Rattle.resolvo_store.specs.Adding.{HasMore};
+ghost use Rattle.resolvo_store.specs.Known.{knows_demand};
+ghost use Rattle.resolvo_store.specs.Lists.{are_disjunctions_full, KeepsMore};
+ghost use Rattle.resolvo_store.specs.Registering.{StartsRight, packages_of, HasRequired, StillStandsOn};
+ghost use Rattle.resolvo_store.specs.Walks.{MayOweFirst};
 
-use crate::abstract_store::AbstractStore;
+use crate::abstract_store::Abstract;
 use crate::answers::Added;
 use crate::store::ClauseStore;
 use crate::store::known::{knows_parts, knows_requirement, knows_variable};
@@ -45,7 +47,6 @@ use watch_map::{ClauseList, WatchedLiterals};
 impl<D: DependencyProvider + Drop> ClauseStore<D> {
     ghost use Rattle.resolvo_store.specs.Command.{Disjunction as KeepDisjunction, DisjunctionIs, Requires};
     ghost use Rattle.resolvo_store.specs.Answers.{added, replied};
-    ghost use Rattle.resolvo_store.specs.Step.{Step};
     ghost use Rattle.resolvo_store.specs.Walks.{OwesFirst};
 
     /// Keeps literals, all of which are false where this condition, or the part of it that they come of, holds. No
@@ -55,8 +56,8 @@ impl<D: DependencyProvider + Drop> ClauseStore<D> {
         literals: &[Literal],
         condition: ConditionId,
     ) -> Result<DisjunctionId, StoreError>
-        ensures step { Step (⟦<D as AbstractStore>⟧.store self.old) (KeepDisjunction literals.now condition)
-            (replied DisjunctionIs result) (⟦<D as AbstractStore>⟧.store self.new) }
+        ensures step { ⟦<D as Abstract>⟧.step self.old (KeepDisjunction literals.now condition)
+            (replied DisjunctionIs result) self.new }
         ensures provider { self.new.provider ≡ self.old.provider }
         ensures asked { self.new.asked ≡ self.old.asked }
     {
@@ -79,8 +80,8 @@ impl<D: DependencyProvider + Drop> ClauseStore<D> {
         requirement: Requirement,
         condition: Option<DisjunctionId>,
     ) -> Result<Added, StoreError>
-        ensures step { Step (⟦<D as AbstractStore>⟧.store self.old) (Requires parent requirement condition)
-            (replied added result) (⟦<D as AbstractStore>⟧.store self.new) }
+        ensures step { ⟦<D as Abstract>⟧.step self.old (Requires parent requirement condition)
+            (replied added result) self.new }
         ensures provider { self.new.provider ≡ self.old.provider }
         ensures asked { OwesFirst requirement self.old.asked self.new.asked }
     {
@@ -126,9 +127,7 @@ fn knows_required<D: DependencyProvider>(
     disjunctions: &Arena<DisjunctionId, Disjunction<D::Alloc>, D::Alloc>,
     demand: &Demand,
 ) -> bool
-    ensures { result ≡ (nat_lt demand.now.parent (length variables.now) &&
-        (knows_requirement (D.universe provider.now) demand.now.requirement
-        && option_map_or (λ d. nat_lt d (length disjunctions.now)) demand.now.condition true)) }
+    ensures { result ≡ knows_demand (D.universe provider.now) variables.now disjunctions.now demand.now }
 {
     knows_variable(variables, demand.parent)
         && (knows_requirement(provider, demand.requirement)
@@ -168,10 +167,7 @@ fn required_by<N, A: Allocator + Copy>(
     ensures requirement { result.requirement ≡ demand.now.requirement }
     ensures condition { result.condition ≡ demand.now.condition }
     ensures clause { result.clause ≡ Kind.Requires demand.now.parent demand.now.condition demand.now.requirement }
-    ensures kept { (k : Kept) → condition_literals k demand.now.condition ≡ literals.now →
-        k.lists demand.now.requirement ≡ map (λ l. l.items) lists.now →
-        (literals_watched result.watches ≡ first_watches k (val trail.now.entries) result.clause) ×
-        (result.is_conflict ≡ is_conflict k (val trail.now.entries) result.clause) }
+    ensures kept { StartsRight demand.now lists.now literals.now trail.now result }
 {
     let Demand {
         parent,
@@ -208,14 +204,11 @@ fn keep_disjunction<A: Allocator + Copy>(
     condition: ConditionId,
 ) -> Result<DisjunctionId, StoreError>
     ensures disjunction { IfOk result (λ d. d ≡ length (disjunctions_kept disjunctions.old)) }
-    ensures ok { OnOk result (disjunctions_kept disjunctions.new ≡
-        disjunctions_kept disjunctions.old ++ record { literals = literals.now; condition = condition } ∷ []) }
+    ensures ok { OnOk result (KeepsMore literals.now condition disjunctions.old disjunctions.new) }
     ensures more { OnOk result (IsOneMore disjunctions.old disjunctions.new) }
     ensures err { OnErr result (disjunctions.new ≡ disjunctions.old) }
-    ensures refused { IfErr result
-        (IsGrowthRefusal (are_ids_out (2 ^ 32 - 1) (length (disjunctions_kept disjunctions.old)))) }
-    ensures ids_out { IsTrue (are_ids_out (2 ^ 32 - 1) (length (disjunctions_kept disjunctions.old))) →
-        result ≡ Err IdSpace }
+    ensures refused { IfErr result (IsGrowthRefusal (are_disjunctions_full disjunctions.old)) }
+    ensures ids_out { IsTrue (are_disjunctions_full disjunctions.old) → result ≡ Err IdSpace }
 {
     if !DisjunctionId::in_range(disjunctions.len()) {
         return Err(StoreError::IdSpace);
@@ -251,27 +244,17 @@ fn register<D: DependencyProvider + Drop>(
     requires kept { IfSome required.condition (λ d. d < length context.now.disjunctions.now) }
     requires few { nat_le (2 ^ 32 - 1) (length queue.old.clauses) ≡ false }
     requires two { AreTwoOrNone (two_or_none (literals_watched required.watches)) }
-    ensures added { IfOk result (λ a. added a ≡
-        ClauseIs (length (contents clauses.old).clauses) required.is_conflict) }
-    ensures listed { OnOk result (contents clauses.new ≡
-        with_clause (contents clauses.old) required.clause (literals_watched required.watches)) }
-    ensures registered { OnOk result (IsRegistered D.NameId.Set.has
-        (record {
-          parent = required.parent;
-          requirement = required.requirement;
-          condition = required.condition;
-          clause_id = length (contents clauses.old).clauses;
-        })
-        (map (D.universe context.now.provider.now).set_name
-        (sets_of (D.universe context.now.provider.now) required.requirement))
-        queue.old queue.new) }
+    ensures added { IfOk result (λ a. added a ≡ ClauseIs (length (contents clauses.old).clauses) required.is_conflict) }
+    ensures listed { OnOk result
+        (HasMore (contents clauses.old) required.clause required.watches (contents clauses.new)) }
+    ensures registered { OnOk result (HasRequired (D.universe context.now.provider.now) D.NameId.Set.has
+        required (length (contents clauses.old).clauses) queue.old queue.new) }
     ensures unadded { OnErr result (contents clauses.new ≡ contents clauses.old) }
     ensures unregistered { OnErr result (IsUnchanged queue.old queue.new D.NameId.Set.has) }
     ensures walks { SameValues (walks queue.old) (walks queue.new) }
-    ensures owed { (r : ARequirement) → (owed queue.new r ≡ owed queue.old r)
-        ⊎ ((r ≡ required.requirement) × (owed queue.old r ≡ 0) × (owed queue.new r ≡ 1)) }
-    ensures stands { let refs = references (D.universe context.now.provider.now) context.now.loaded.now
-        context.now.disjunctions.now in StandsOn refs queue.old → StandsOn refs queue.new }
+    ensures owed { MayOweFirst required.requirement (owed queue.old) (owed queue.new) }
+    ensures stands { StillStandsOn (D.universe context.now.provider.now)
+        context.now.loaded.now context.now.disjunctions.now queue.old queue.new }
     ensures refused { IfErr result (IsGrowthRefusal (is_full (contents clauses.old))) }
     ensures ids_out { IsTrue (is_full (contents clauses.old)) → result ≡ Err IdSpace }
 {
@@ -300,8 +283,7 @@ fn package_names<D: DependencyProvider>(
     requirement: Requirement,
 ) -> Result<Vec<D::NameId, D::Alloc>, StoreError>
     requires { knows_requirement (D.universe provider.now) requirement ≡ true }
-    ensures ok { IfOk result (λ names. names.items ≡
-        map (D.universe provider.now).set_name (sets_of (D.universe provider.now) requirement)) }
+    ensures ok { IfOk result (λ names. names.items ≡ packages_of (D.universe provider.now) requirement) }
     ensures memory { IfErr result (λ e. e ≡ OutOfMemory) }
 {
     names_of_sets(

@@ -1,7 +1,7 @@
 //! The command that assigns what clauses force: `Saturate`.
 ghost use Rattle.std.specs.Prelude.{◌≡◌, None, Ok};
 
-use crate::abstract_store::AbstractStore;
+use crate::abstract_store::Abstract;
 use crate::store::ClauseStore;
 use decisions::DecisionTracker;
 use providers::DependencyProvider;
@@ -12,16 +12,14 @@ impl<D: DependencyProvider + Drop> ClauseStore<D> {
     ghost use Rattle.resolvo_store.specs.Answers.{conflict, replied};
     ghost use Rattle.resolvo_store.specs.Outcome.{falsified_clause};
     ghost use Rattle.resolvo_store.specs.Saturating.{HasSettled};
-    ghost use Rattle.resolvo_store.specs.Step.{Step};
 
     /// Gives values, at the level, to the variables whose values clauses force, until no clause forces one, or until a
     /// clause is false, which is the answer: a conflict. Where it answers none, no clause is false, and none forces a
     /// value that isn't there. A refusal of memory takes nothing back.
     pub fn saturate(&mut self, level: u32) -> Result<Option<ClauseId>, StoreError>
-        ensures step { Step (⟦<D as AbstractStore>⟧.store self.old) (Saturate level)
-            (replied conflict result) (⟦<D as AbstractStore>⟧.store self.new) }
-        ensures settled { result ≡ Ok None → HasSettled (⟦<D as AbstractStore>⟧.store self.new) }
-        ensures unfalsified { result ≡ Ok None → falsified_clause (⟦<D as AbstractStore>⟧.store self.new) ≡ None }
+        ensures step { ⟦<D as Abstract>⟧.step self.old (Saturate level) (replied conflict result) self.new }
+        ensures settled { result ≡ Ok None → HasSettled (⟦<D as Abstract>⟧.store self.new) }
+        ensures unfalsified { result ≡ Ok None → falsified_clause (⟦<D as Abstract>⟧.store self.new) ≡ None }
         ensures provider { self.new.provider ≡ self.old.provider }
         ensures asked { self.new.asked ≡ self.old.asked }
     {

@@ -3,12 +3,11 @@ ghost use Rattle.std.specs.Prelude.{◌≡◌, true, Err, IsTrue, IfOk, OnOk, On
 ghost use Rattle.typed_ids.specs.Refusals.{IsGrowthRefusal};
 ghost use Rattle.typed_ids.specs.TotalMaps.{IsUpdate, SameValues};
 ghost use Rattle.typed_ids.specs.declared.error.StoreError.TheVariants.{IdSpace};
-ghost use Rattle.id_maps.specs.Scores.{bumped};
-ghost use Rattle.resolvo_queue.specs.Queue.{SameClauses, SameSync, StandsOn};
-ghost use Rattle.resolvo_queue.specs.References.{References};
+ghost use Rattle.resolvo_queue.specs.Queue.{SameClauses, SameSync};
 ghost use Rattle.resolvo_queue.specs.WalkCounts.{owed, walks};
+ghost use Rattle.resolvo_store.specs.Scoring.{IsRaised, StandsAsBefore};
 
-use crate::abstract_store::AbstractStore;
+use crate::abstract_store::Abstract;
 use crate::store::ClauseStore;
 use id_maps::{IdMap, IdSet, Scores, SolverId};
 use providers::{DependencyProvider, Interner};
@@ -19,13 +18,11 @@ impl<D: DependencyProvider + Drop> ClauseStore<D> {
     ghost use Rattle.resolvo_store.specs.Command.{Bump, Decay, Done, Standard};
     ghost use Rattle.resolvo_store.specs.Answers.{done, replied};
     ghost use Rattle.resolvo_store.specs.Refusals.{is_bad_fraction};
-    ghost use Rattle.resolvo_store.specs.Step.{Step};
     ghost use Rattle.resolvo_store.specs.Walks.{WalksNothing};
 
     /// Adds to a package's score, which stays at 2^64 - 1 at most.
     pub fn bump(&mut self, name: D::NameId, amount: u64) -> Result<(), StoreError>
-        ensures step { Step (⟦<D as AbstractStore>⟧.store self.old) (Bump name amount)
-            (replied done result) (⟦<D as AbstractStore>⟧.store self.new) }
+        ensures step { ⟦<D as Abstract>⟧.step self.old (Bump name amount) (replied done result) self.new }
         ensures provider { self.new.provider ≡ self.old.provider }
         ensures asked { WalksNothing self.old.asked self.new.asked }
     {
@@ -37,8 +34,7 @@ impl<D: DependencyProvider + Drop> ClauseStore<D> {
 
     /// Multiplies each score by the first number, divides it by the second one, and rounds down.
     pub fn decay(&mut self, numerator: u64, denominator: u64) -> Result<(), StoreError>
-        ensures step { Step (⟦<D as AbstractStore>⟧.store self.old) (Decay numerator denominator)
-            (replied done result) (⟦<D as AbstractStore>⟧.store self.new) }
+        ensures step { ⟦<D as Abstract>⟧.step self.old (Decay numerator denominator) (replied done result) self.new }
         ensures provider { self.new.provider ≡ self.old.provider }
         ensures asked { self.new.asked ≡ self.old.asked }
     {
@@ -52,8 +48,7 @@ impl<D: DependencyProvider + Drop> ClauseStore<D> {
     /// Tells whether a decision may count on it that scores never fall below 0. Both settings answer alike; the first,
     /// `true`, is the faster one.
     pub fn set_standard(&mut self, standard: bool)
-        ensures step { Step (⟦<D as AbstractStore>⟧.store self.old) (Standard standard)
-            Done (⟦<D as AbstractStore>⟧.store self.new) }
+        ensures step { ⟦<D as Abstract>⟧.step self.old (Standard standard) Done self.new }
         ensures provider { self.new.provider ≡ self.old.provider }
         ensures asked { WalksNothing self.old.asked self.new.asked }
     {
@@ -69,8 +64,7 @@ fn raise<D: DependencyProvider>(
     name: D::NameId,
     amount: u64,
 ) -> Result<(), StoreError>
-    ensures bumped { OnOk result (D.NameId.Scores.value_at scores.new.map
-        ≡ bumped D.NameId.eq name amount (D.NameId.Scores.value_at scores.old.map)) }
+    ensures bumped { OnOk result (IsRaised D.NameId.eq D.NameId.Scores.value_at name amount scores.old scores.new) }
     ensures hot { OnOk result (IsUpdate (D.NameId.Set.has queue.old.hot) name true (D.NameId.Set.has queue.new.hot)) }
     ensures same_scores { OnErr result (D.NameId.Scores.value_at scores.new.map ≡
         D.NameId.Scores.value_at scores.old.map) }
@@ -79,8 +73,7 @@ fn raise<D: DependencyProvider>(
     ensures synced { SameSync queue.old queue.new }
     ensures walks { SameValues (walks queue.old) (walks queue.new) }
     ensures owed { SameValues (owed queue.old) (owed queue.new) }
-    ensures stands { (refs : References D.NameId D.SolvableId D.Alloc) → StandsOn refs queue.old →
-        StandsOn refs queue.new }
+    ensures stands { StandsAsBefore D.SolvableId D.Alloc queue.old queue.new }
     ensures refused { IfErr result (IsGrowthRefusal (D.NameId.Slots.is_too_large name)) }
     ensures too_large { IsTrue (D.NameId.Slots.is_too_large name) → result ≡ Err IdSpace }
 {

@@ -1,15 +1,17 @@
 //! The command that tracks variables of which at most one may be true.
-ghost use Rattle.std.specs.Prelude.{◌≡◌, ℕ, ◌+◌, ◌-◌, ◌^◌, ◌&&◌, ◌||◌, ◌++◌, [], true, false, not, nat_eq};
-ghost use Rattle.std.specs.Prelude.{nat_lt, length, is_some, IfOk, OnOk, OnErr, IfErr, IsTrue, Err};
-ghost use Rattle.typed_ids.specs.Refusals.{IsGrowthRefusal};
-ghost use Rattle.typed_ids.specs.declared.error.StoreError.TheVariants.{IdSpace, OutOfMemory};
+ghost use Rattle.std.specs.Prelude.{◌≡◌, ℕ, ◌+◌, ◌-◌, ◌^◌, ◌&&◌, ◌++◌, [], false, nat_eq};
+ghost use Rattle.std.specs.Prelude.{length, is_some, IfOk, OnOk, OnErr, IfErr, Err};
+ghost use Rattle.typed_ids.specs.declared.error.StoreError.TheVariants.{OutOfMemory};
 ghost use Rattle.variables.specs.Variables.{are_variables_out};
-ghost use Rattle.at_most_once.specs.AtMostOne.{is_tracked, new_clauses};
-ghost use Rattle.at_most_once.specs.NameTrackers.{tracker_of, with_tracked, lacks_tracker};
-ghost use Rattle.watch_map.specs.ClauseList.{contents, with_forbidden, are_ids_out_for};
-ghost use Rattle.resolvo_store.specs.Tracking.{next_helper, origins_with, lacks_more, is_helper_among};
+ghost use Rattle.at_most_once.specs.AtMostOne.{is_tracked};
+ghost use Rattle.at_most_once.specs.NameTrackers.{tracker_of};
+ghost use Rattle.watch_map.specs.ClauseList.{contents, are_ids_out_for};
+ghost use Rattle.resolvo_store.specs.Tracking.{origins_with, is_helper_among};
+ghost use Rattle.resolvo_store.specs.Known.{may_track};
+ghost use Rattle.resolvo_store.specs.Tracking.{helper_needed, IsNewlyTracked, GetsHelper, GetsClauses, GetsTracker};
+ghost use Rattle.resolvo_store.specs.Tracking.{Fits, IsRefusal, IsHelperRefusal};
 
-use crate::abstract_store::AbstractStore;
+use crate::abstract_store::Abstract;
 use crate::answers::Tracked;
 use crate::store::ClauseStore;
 use crate::store::known::knows_variable;
@@ -24,7 +26,6 @@ use watch_map::ClauseList;
 impl<D: DependencyProvider + Drop> ClauseStore<D> {
     ghost use Rattle.resolvo_store.specs.Command.{AtMostOnce};
     ghost use Rattle.resolvo_store.specs.Answers.{replied, tracked};
-    ghost use Rattle.resolvo_store.specs.Step.{Step};
 
     /// Tracks a variable under a name. The clauses are made first, then room for them and for the variable, so that
     /// nothing has changed where this is refused; the helper, if one is needed, is made last.
@@ -33,8 +34,7 @@ impl<D: DependencyProvider + Drop> ClauseStore<D> {
         name: D::NameId,
         variable: VariableId,
     ) -> Result<Tracked, StoreError>
-        ensures step { Step (⟦<D as AbstractStore>⟧.store self.old) (AtMostOnce name variable)
-            (replied tracked result) (⟦<D as AbstractStore>⟧.store self.new) }
+        ensures step { ⟦<D as Abstract>⟧.step self.old (AtMostOnce name variable) (replied tracked result) self.new }
         ensures provider { self.new.provider ≡ self.old.provider }
         ensures asked { self.new.asked ≡ self.old.asked }
     {
@@ -69,8 +69,7 @@ fn may_track<D: DependencyProvider>(
     name: D::NameId,
     variable: VariableId,
 ) -> bool
-    ensures { result ≡ ((D.universe provider.now).knows_name name
-        && (nat_lt variable (length variables.now) && not (is_helper_among variables.now variable))) }
+    ensures { result ≡ may_track (D.universe provider.now) variables.now name variable }
 {
     provider.knows_name(name)
         && (knows_variable(variables, variable) && !is_helper(variables, variable))
@@ -103,26 +102,16 @@ fn track<N: SolverId<A>, S: SolverId<A>, A: Allocator + Copy>(
     variable: VariableId,
 ) -> Result<Tracked, StoreError>
     requires { is_tracked nat_eq (tracker_of N.eq trackers.old name) variable ≡ false }
-    ensures tracked { let t = tracker_of N.eq trackers.old name in
-        IfOk result (λ t'. (t'.is_new ≡ true)
-        × (t'.clauses ≡ length (new_clauses t (next_helper variables.old t variable) variable))) }
-    ensures variables { let t = tracker_of N.eq trackers.old name in
-        OnOk result (variables.new ≡ origins_with variables.old name (next_helper variables.old t variable)) }
-    ensures clauses { let t = tracker_of N.eq trackers.old name in
-        OnOk result (contents clauses.new ≡ with_forbidden name (contents clauses.old)
-        (new_clauses t (next_helper variables.old t variable) variable)) }
-    ensures trackers { let t = tracker_of N.eq trackers.old name in
-        OnOk result (tracker_of N.eq trackers.new ≡
-        with_tracked N.eq name variable (next_helper variables.old t variable) (tracker_of N.eq trackers.old)) }
+    ensures tracked { IfOk result (IsNewlyTracked N.eq variables.old trackers.old name variable) }
+    ensures variables { OnOk result (GetsHelper N.eq variables.old trackers.old name variable variables.new) }
+    ensures clauses { OnOk result (GetsClauses N.eq variables.old trackers.old name variable clauses.old clauses.new) }
+    ensures trackers { OnOk result (GetsTracker N.eq variables.old trackers.old name variable trackers.new) }
     ensures same_variables { OnErr result (variables.new ≡ variables.old) }
     ensures same_clauses { OnErr result (contents clauses.new ≡ contents clauses.old) }
     ensures same_trackers { OnErr result (tracker_of N.eq trackers.new ≡ tracker_of N.eq trackers.old) }
-    ensures fits { let t = tracker_of N.eq trackers.old name in let h = next_helper variables.old t variable in
-        OnOk result ((N.Slots.is_too_large name || lacks_more variables.old h (length (contents clauses.old).clauses)
-        (length (new_clauses t h variable))) ≡ false) }
-    ensures refused { let t = tracker_of N.eq trackers.old name in let h = next_helper variables.old t variable in
-        IfErr result (IsGrowthRefusal (lacks_tracker (N.Slots.is_too_large name) N.are_many t
-        || lacks_more variables.old h (length (contents clauses.old).clauses) (length (new_clauses t h variable)))) }
+    ensures fits { OnOk result (Fits N.eq variables.old trackers.old name variable N.Slots.is_too_large clauses.old) }
+    ensures refused { IfErr result
+        (IsRefusal N.eq variables.old trackers.old name variable N.Slots.is_too_large N.are_many clauses.old) }
 {
     let helper = next_helper(variables, trackers, name, variable)?;
     let mut added = Vec::new(alloc);
@@ -145,12 +134,9 @@ fn next_helper<N: SolverId<A>, S: SolverId<A>, A: Allocator + Copy>(
     name: N,
     variable: VariableId,
 ) -> Result<Option<VariableId>, StoreError>
-    ensures ok { IfOk result (λ helper. helper ≡
-        next_helper variables.now (tracker_of N.eq trackers.now name) variable) }
+    ensures ok { IfOk result (λ helper. helper ≡ helper_needed N.eq variables.now trackers.now name variable) }
     ensures fits { IfOk result (λ helper. (is_some helper && are_variables_out (length variables.now)) ≡ false) }
-    ensures err { IfErr result (λ e. (e ≡ IdSpace)
-        × IsTrue (is_some (next_helper variables.now (tracker_of N.eq trackers.now name) variable) &&
-        are_variables_out (length variables.now))) }
+    ensures err { IfErr result (IsHelperRefusal N.eq variables.now trackers.now name variable) }
 {
     if !trackers.needs_helper(name, variable) {
         return Ok(None);

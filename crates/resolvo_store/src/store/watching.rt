@@ -1,12 +1,11 @@
 //! The commands about watches: `Rewatch` and `Watchers`.
-ghost use Rattle.std.specs.Prelude.{◌≡◌, ◌&&◌, [], length, nat_lt, option_map, slice_get, unwrap_or};
-ghost use Rattle.decisions.specs.Literals.{variable_of};
-ghost use Rattle.clauses.specs.Clauses.{literals_of, same_literal};
-ghost use Rattle.clauses.specs.Stored.{kept_in};
+ghost use Rattle.std.specs.Prelude.{◌≡◌};
+ghost use Rattle.clauses.specs.Clauses.{same_literal};
 ghost use Rattle.watch_map.specs.ClauseList.{contents};
-ghost use Rattle.watch_map.specs.Watching.{IsExact, is_literal_in};
+ghost use Rattle.watch_map.specs.Watching.{IsExact};
+ghost use Rattle.resolvo_store.specs.Known.{knows_watches, has_literal};
 
-use crate::abstract_store::AbstractStore;
+use crate::abstract_store::Abstract;
 use crate::store::ClauseStore;
 use crate::store::known::{are_below, knows_variable};
 use clauses::Disjunction;
@@ -20,10 +19,10 @@ use variables::{VariableLists, VariableMap};
 use watch_map::ClauseList;
 
 impl<D: DependencyProvider + Drop> ClauseStore<D> {
-    ghost use Rattle.resolvo_store.specs.Command.{Rewatch, Watchers, WatchersAre};
+    ghost use Rattle.resolvo_store.specs.Command.{Rewatch, Watchers};
     ghost use Rattle.resolvo_store.specs.Answers.{done, replied};
-    ghost use Rattle.resolvo_store.specs.Step.{Step};
     ghost use Rattle.resolvo_store.specs.Store.{watched_by};
+    ghost use Rattle.resolvo_store.specs.Answers.{watchers_are};
 
     /// Lets a clause watch another of its literals in the place of one that it watches.
     pub fn rewatch(
@@ -32,8 +31,7 @@ impl<D: DependencyProvider + Drop> ClauseStore<D> {
         from: Literal,
         to: Literal,
     ) -> Result<(), StoreError>
-        ensures step { Step (⟦<D as AbstractStore>⟧.store self.old) (Rewatch clause from to)
-            (replied done result) (⟦<D as AbstractStore>⟧.store self.new) }
+        ensures step { ⟦<D as Abstract>⟧.step self.old (Rewatch clause from to) (replied done result) self.new }
         ensures provider { self.new.provider ≡ self.old.provider }
         ensures asked { self.new.asked ≡ self.old.asked }
     {
@@ -51,9 +49,8 @@ impl<D: DependencyProvider + Drop> ClauseStore<D> {
 
     /// The clauses that watch the literal, front first. Takes memory for them.
     pub fn watchers(&self, literal: Literal) -> Result<Vec<ClauseId, D::Alloc>, StoreError>
-        ensures step { Step (⟦<D as AbstractStore>⟧.store self.now) (Watchers literal)
-            (replied (λ found. WatchersAre found.items) result) (⟦<D as AbstractStore>⟧.store self.now) }
-        ensures exact { (let st = ⟦<D as AbstractStore>⟧.store self.now in IsExact (watched_by st) st.watchers) }
+        ensures step { ⟦<D as Abstract>⟧.step self.now (Watchers literal) (replied watchers_are result) self.now }
+        ensures exact { (let st = ⟦<D as Abstract>⟧.store self.now in IsExact (watched_by st) st.watchers) }
     {
         if !knows_variable(&self.variables, literal.variable()) {
             return Err(StoreError::UnknownId);
@@ -70,8 +67,7 @@ fn knows_watches<N: Copy, S: SolverId<A>, A: Allocator + Copy>(
     from: Literal,
     to: Literal,
 ) -> bool
-    ensures { result ≡ (nat_lt clause (length (contents clauses.now).clauses)
-        && (nat_lt (variable_of from) (length variables.now) && nat_lt (variable_of to) (length variables.now))) }
+    ensures { result ≡ knows_watches (contents clauses.now) variables.now clause from to }
 {
     clause.to_index() < clauses.len()
         && are_below(from.variable(), to.variable(), variables.count())
@@ -85,9 +81,7 @@ fn has_literal<N: Copy, A: Allocator + Copy>(
     clause: ClauseId,
     literal: Literal,
 ) -> bool
-    ensures { let kept = record (kept_in [] loaded.now disjunctions.now) { learnt = (contents clauses.now).learnt } in
-        result ≡ is_literal_in literal
-        (unwrap_or (option_map (literals_of kept) (slice_get (contents clauses.now).clauses clause)) []) }
+    ensures { result ≡ has_literal (contents clauses.now) loaded.now disjunctions.now clause literal }
 {
     let Some(clause) = clauses.get(clause) else {
         return false;
