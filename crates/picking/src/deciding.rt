@@ -153,11 +153,16 @@ impl<D: DependencyProvider + Copy> Search<D> {
 
 /// The better of two offers, the first one of a tie.
 fn better(one: Option<Offer>, other: Option<Offer>) -> Option<Offer> {
-    match one {
-        None => other,
-        Some(first) => match other {
-            Some(second) if second.score > first.score => other,
-            _ => one,
+    if beats(&other, &one) { other } else { one }
+}
+
+/// Whether there is an offer that is better than another one, or than none.
+fn beats(offer: &Option<Offer>, other: &Option<Offer>) -> bool {
+    match offer {
+        Some(offer) => match other {
+            Some(other) => offer.score > other.score,
+            None => true,
         },
+        None => false,
     }
 }

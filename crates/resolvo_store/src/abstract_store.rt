@@ -9,12 +9,9 @@ use solver_cache::ProviderFunctions;
 /// Each provider has it. It ties the provider's fixed functions, the equality of its ids and the limits of their
 /// storage into the one value of which steps and runs speak.
 pub trait Abstract: DependencyProvider {
-    ghost use Rattle.std.specs.Prelude.{List};
     ghost use Rattle.providers.specs.declared.requirement.Requirement.{Requirement};
     ghost use Rattle.resolvo_store.specs.Command.{Command, Reply};
     ghost use Rattle.resolvo_store.specs.Store.{Kept, Store};
-    ghost use Rattle.resolvo_store.specs.declared.command.Command.{Command as ProgramCommand};
-    ghost use Rattle.resolvo_store.specs.declared.reply.Reply.{Reply as ProgramReply};
 
     /// The abstract store.
     ghost store: { Kept Self Self.NameId Self.SolvableId Self.NameId.Scores → Store Self.NameId Self.SolvableId };
@@ -22,11 +19,6 @@ pub trait Abstract: DependencyProvider {
     /// A command is given this reply: a `Step`.
     ghost step: { Kept Self Self.NameId Self.SolvableId Self.NameId.Scores → Command Self.NameId Self.SolvableId →
         Reply → Kept Self Self.NameId Self.SolvableId Self.NameId.Scores → Type 0 };
-
-    /// Commands of the program are given these replies in turn: a `Run`.
-    ghost run: { Kept Self Self.NameId Self.SolvableId Self.NameId.Scores →
-        List (ProgramCommand Self.NameId Self.SolvableId Self.Alloc) → List (ProgramReply Self.Alloc) →
-        Kept Self Self.NameId Self.SolvableId Self.NameId.Scores → Type 0 };
 
     /// Nothing changed.
     ghost same: { Kept Self Self.NameId Self.SolvableId Self.NameId.Scores →
@@ -46,11 +38,10 @@ pub trait Abstract: DependencyProvider {
 }
 
 impl<D: DependencyProvider> Abstract for D {
-    ghost use Rattle.std.specs.Prelude.{◌≡◌, map};
-    ghost use Rattle.resolvo_store.specs.Command.{command_of, reply_of};
+    ghost use Rattle.std.specs.Prelude.{◌≡◌};
     ghost use Rattle.resolvo_store.specs.Loading.{IsLoadedAs};
     ghost use Rattle.resolvo_store.specs.Saturating.{RefusalLeaves};
-    ghost use Rattle.resolvo_store.specs.Step.{Step, Run};
+    ghost use Rattle.resolvo_store.specs.Step.{Step};
     ghost use Rattle.resolvo_store.specs.Store.{store_of};
     ghost use Rattle.resolvo_store.specs.Walks.{Asks};
 
@@ -58,9 +49,6 @@ impl<D: DependencyProvider> Abstract for D {
 
     ghost step = { let st = store_of ⟦<D as ProviderFunctions>⟧.functions D.NameId.Scores.value_at in
         λ old c reply new. Step (st old) c reply (st new) };
-
-    ghost run = { let st = store_of ⟦<D as ProviderFunctions>⟧.functions D.NameId.Scores.value_at in
-        λ old cs replies new. Run (st old) (map command_of cs) (map reply_of replies) (st new) };
 
     ghost same = { let st = store_of ⟦<D as ProviderFunctions>⟧.functions D.NameId.Scores.value_at in
         λ old new. st new ≡ st old };

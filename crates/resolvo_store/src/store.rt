@@ -138,6 +138,7 @@ impl<D: DependencyProvider> Model for ClauseStore<D> {
 impl<D: DependencyProvider + Drop> ClauseStore<D> {
     ghost use Rattle.resolvo_store.specs.Command.{command_of};
     ghost use Rattle.resolvo_store.specs.Store.{new_store};
+    ghost use Rattle.resolvo_store.specs.Step.{Step, Run};
     ghost use Rattle.resolvo_store.specs.ForbidsTwo.{ForbidsTwo};
     ghost use Rattle.resolvo_store.specs.Sound.{IsSound};
     ghost use Rattle.resolvo_store.specs.Asked.{owed};
@@ -178,7 +179,8 @@ impl<D: DependencyProvider + Drop> ClauseStore<D> {
     /// Obeys a command by its method, and answers it. A refusal is a reply too: it changes nothing, but for a
     /// `Saturate`, which keeps what it forced.
     pub fn step(&mut self, command: &Command<D::NameId, D::SolvableId, D::Alloc>) -> Reply<D::Alloc>
-        ensures step { ⟦<D as Abstract>⟧.step self.old (command_of command.now) (reply_of result) self.new }
+        ensures step { Step (⟦<D as Abstract>⟧.store self.old) (command_of command.now)
+            (reply_of result) (⟦<D as Abstract>⟧.store self.new) }
         ensures refused { IsRefused (reply_of result) →
             ⟦<D as Abstract>⟧.refused self.old (command_of command.now) self.new }
         ensures provider { self.new.provider ≡ self.old.provider }
@@ -252,7 +254,8 @@ impl<D: DependencyProvider + Drop> ClauseStore<D> {
         &mut self,
         commands: &[Command<D::NameId, D::SolvableId, D::Alloc>],
     ) -> Result<Vec<Reply<D::Alloc>, D::Alloc>, StoreError>
-        ensures ok { IfOk result (λ replies. ⟦<D as Abstract>⟧.run self.old commands.now replies.items self.new) }
+        ensures ok { IfOk result (λ replies. Run (⟦<D as Abstract>⟧.store self.old) (map command_of commands.now)
+            (map reply_of replies.items) (⟦<D as Abstract>⟧.store self.new)) }
         ensures provider { self.new.provider ≡ self.old.provider }
         ensures one_each { IfOk result (λ replies. vec_len replies ≡ length commands.now) }
         ensures err { IfErr result (λ e. (e ≡ OutOfMemory) × ⟦<D as Abstract>⟧.same self.old self.new) }
