@@ -15,15 +15,15 @@ use std::alloc::Allocator;
 
 /// Whether clauses that a search learnt show that no solvables serve whoever wants these requirements. Of such a clause
 /// one claim holds in each choice that serves. It counts if it follows by unit propagation from the requirements, from
-/// the dependencies of these solvables, and from the clauses before it. One that doesn't is passed over. The provider is
-/// asked after each whether to stop.
+/// the dependencies of these solvables, and from the clauses before it. One that doesn't is passed over. The provider
+/// is asked after each whether to stop.
 ///
 /// Where the answer is no, something may serve or nothing. Solvables that a package excludes, or that aren't the one
 /// that it is locked to, are candidates as others here.
 ///
 /// Costs time and memory in the requirements with their candidates, the dependencies of these solvables, the lists of
-/// conditions and the pairs that constraints forbid; and for each learnt clause in what its propagation visits: a clause
-/// is visited when one of two of its literals becomes false.
+/// conditions and the pairs that constraints forbid; and for each learnt clause in what its propagation visits: a
+/// clause is visited when one of two of its literals becomes false.
 pub fn refutes<D: DependencyProvider>(
     alloc: D::Alloc,
     provider: &D,
