@@ -146,8 +146,8 @@ impl<D: DependencyProvider + Copy> Search<D> {
         self.run(&mut encoder, steps)
     }
 
-    /// A step propagates; then it learns from a conflict, encodes what is newly true, or decides. No assignment comes
-    /// back that a learnt clause rules out, so a search ends, but perhaps after very many steps.
+    /// A step propagates, and encodes what is newly true; then it learns from a conflict, or decides. No assignment
+    /// comes back that a learnt clause rules out, so a search ends, but perhaps after very many steps.
     fn run(
         &mut self,
         encoder: &mut Encoder<D>,
@@ -166,14 +166,11 @@ impl<D: DependencyProvider + Copy> Search<D> {
 
     /// Makes a step, and answers whether there was one to make.
     fn step(&mut self, encoder: &mut Encoder<D>) -> Result<bool> {
+        self.encode_true(encoder)?;
         let level = self.level();
         if let Some(conflict) = self.store.saturate(level)? {
             self.learn(conflict)?;
             return self.may_go_on();
-        }
-        self.read_trail()?;
-        if encoder.encode_new(self)? {
-            return Ok(true);
         }
         if self.pace.is_over() {
             self.backjump(1);
@@ -187,6 +184,21 @@ impl<D: DependencyProvider + Copy> Search<D> {
         };
         self.decide(next.candidate, next.clause_id)?;
         Ok(true)
+    }
+
+    /// Propagates, and encodes what is newly true, until nothing is, or a clause is false.
+    fn encode_true(&mut self, encoder: &mut Encoder<D>) -> Result<()> {
+        for _ in 0..u64::MAX {
+            let level = self.level();
+            if self.store.saturate(level)?.is_some() {
+                break;
+            }
+            self.read_trail()?;
+            if !encoder.encode_new(self)? {
+                break;
+            }
+        }
+        Ok(())
     }
 
     /// Refuses to go on if the provider says so.
