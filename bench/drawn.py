@@ -2,7 +2,6 @@
 import argparse
 import itertools
 import os
-import resource
 import shutil
 import subprocess
 import sys
@@ -10,7 +9,20 @@ import sys
 HERE = os.path.dirname(os.path.abspath(__file__))
 PROGRAM = os.path.normpath(os.path.join(HERE, "../crates/pick_versions/out/pick_versions"))
 PYTHON = "/usr/bin/python3"
-COLUMNS = "{:24} {:>8} {:>8} {:>8}  {:30} {:>14} {:>14}  {}"
+COLUMNS = "{:24} {:>8} {:>8} {:>6} {:>8}  {:30} {:>8} {:>6} {:>8} {:>14}  {}"
+HEADS = ("index", "versions", "seconds", "MB", "distance", "answer", "libsolv", "MB", "distance", "cadical", "")
+
+# Runs a program for so many processor seconds at most, and writes those that it took, its peak and its exit status as
+# the last line of standard error. A small interpreter of its own does it, since a process begins with the peak of the
+# one that starts it.
+STARTER = """
+import os, resource, subprocess, sys
+resource.setrlimit(resource.RLIMIT_CPU, (int(sys.argv[1]),) * 2)
+child = subprocess.Popen(sys.argv[2:])
+_, status, used = os.wait4(child.pid, 0)
+ended = os.waitstatus_to_exitcode(status)
+print(used.ru_utime + used.ru_stime, used.ru_maxrss // 1024, ended, file=sys.stderr)
+"""
 
 
 class Numbers:
@@ -102,13 +114,13 @@ def need(union):
 
 
 def run(words, text, limit):
-    """What a program wrote, or none where it took more processor seconds than this, and those that it took."""
-    begun = resource.getrusage(resource.RUSAGE_CHILDREN)
-    bound = lambda: resource.setrlimit(resource.RLIMIT_CPU, (limit, limit))
-    done = subprocess.run(words, input=text, capture_output=True, text=True, preexec_fn=bound)
-    used = resource.getrusage(resource.RUSAGE_CHILDREN)
-    seconds = used.ru_utime - begun.ru_utime + used.ru_stime - begun.ru_stime
-    return None if done.returncode < 0 else done.stdout, seconds
+    """What a program wrote, or none where it took more processor seconds than this; those that it took, and its peak
+    of megabytes.
+    """
+    starter = [sys.executable, "-I", "-S", "-c", STARTER, str(limit), *words]
+    done = subprocess.run(starter, input=text, capture_output=True, text=True)
+    seconds, peak, status = done.stderr.splitlines()[-1].split()
+    return None if int(status) < 0 else done.stdout, float(seconds), peak
 
 
 def picked_of(lines):
@@ -116,21 +128,22 @@ def picked_of(lines):
 
 
 def by_program(program, index, limit):
-    """The answer of pick_versions: what it picked, if it did, and a word; with its seconds."""
-    wrote, seconds = run([program], index.text(), limit)
+    """The answer of pick_versions: what it picked, if it did, and a word; with its seconds and its peak."""
+    wrote, seconds, peak = run([program], index.text(), limit)
+    used = f"{seconds:.2f}", peak
     if wrote is None:
-        return None, "stopped", seconds
+        return None, "stopped", *used
     lines = wrote.splitlines()[1:]
     if lines[:1] == ["none"] or lines[:1] and lines[0].startswith("gave up"):
-        return None, lines[0], seconds
-    return picked_of(lines), "found", seconds
+        return None, lines[0], *used
+    return picked_of(lines), "found", *used
 
 
 def by_cadical(index, limit):
     """A word, and seconds and conflicts as a text."""
     if not shutil.which("cadical"):
         return "", ""
-    wrote, seconds = run(["cadical", "-n"], index.dimacs(), limit)
+    wrote, seconds, _ = run(["cadical", "-n"], index.dimacs(), limit)
     if wrote is None:
         return "stopped", f"{seconds:.2f}"
     counts = [line.split()[2] for line in wrote.splitlines() if line.startswith("c conflicts:")]
@@ -139,17 +152,17 @@ def by_cadical(index, limit):
 
 
 def by_libsolv(index, limit):
-    """What libsolv picked, if it did, a word, and the seconds that its solver took."""
+    """What libsolv picked, if it did, a word, the seconds that its solver took, and the peak of its Python."""
     if not os.access(PYTHON, os.X_OK):
-        return None, "", ""
-    wrote, _ = run([PYTHON, f"{HERE}/libsolv.py"], index.text(), limit)
+        return None, "", "", ""
+    wrote, _, peak = run([PYTHON, f"{HERE}/libsolv.py"], index.text(), limit)
     if wrote is None:
-        return None, "stopped", ""
+        return None, "stopped", "stopped", peak
     lines = wrote.splitlines()
     if not lines:
-        return None, "", ""
+        return None, "", "", ""
     answer, seconds = lines[0].split()
-    return (picked_of(lines[1:]) if answer == "found" else None), answer, f"{float(seconds):.3f}"
+    return (picked_of(lines[1:]) if answer == "found" else None), answer, f"{float(seconds):.3f}", peak
 
 
 def measure(about, kinds):
@@ -168,22 +181,20 @@ def measure(about, kinds):
         return
     if not os.access(given.program, os.X_OK):
         parser.error(f"there is no {given.program}: `rt run < stdin` in crates/pick_versions builds it")
-    print(COLUMNS.format("index", "versions", "seconds", "distance", "answer", "libsolv", "cadical", "").rstrip())
+    print(COLUMNS.format(*HEADS).rstrip())
     sys.exit(any([tell(index, given.program, given.seconds) for index in chosen]))
 
 
 def tell(index, program, limit):
     """Prints a line, and answers whether something in it is wrong."""
-    picked, answer, seconds = by_program(program, index, limit)
-    theirs, libsolv, libsolv_seconds = by_libsolv(index, limit)
-    cadical, cadical_seconds = by_cadical(index, limit)
+    picked, answer, seconds, peak = by_program(program, index, limit)
+    theirs, libsolv, *used = by_libsolv(index, limit)
+    cadical, conflicts = by_cadical(index, limit)
     wrong = index.judge(picked) if picked is not None else ""
     others = {it for it in (libsolv, cadical) if it in ("found", "none")}
     if answer in ("found", "none") and others - {answer}:
         wrong = f"others say {' '.join(others)}"
-    away = index.distance(picked) if picked is not None else ""
-    if theirs is not None:
-        libsolv_seconds += f" {index.distance(theirs)}"
-    print(COLUMNS.format(index.title, len(index.versions), f"{seconds:.2f}", away, answer, libsolv_seconds,
-                         cadical_seconds, wrong).rstrip(), flush=True)
+    away, further = ("" if it is None else index.distance(it) for it in (picked, theirs))
+    row = (index.title, len(index.versions), seconds, peak, away, answer, *used, further, conflicts, wrong)
+    print(COLUMNS.format(*row).rstrip(), flush=True)
     return bool(wrong)
