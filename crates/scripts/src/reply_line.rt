@@ -115,10 +115,25 @@ fn push_digit(text: &mut Vec<u8>, number: u64) -> Result<(), AllocError>
     Ok(())
 }
 
-/// A number of more digits than one. Up to five of them are put at once.
+/// A number of more digits than one.
 #[inline(never)]
 fn push_digits(text: &mut Vec<u8>, number: u64) -> Result<(), AllocError>
     requires { 10 ≤ number }
+    ensures { Pushes result text.old.items text.new.items (decimal number) }
+{
+    if number < 100_000 {
+        push_few_digits(text, number)
+    } else {
+        push_digits(text, number / 10_000)?;
+        text.extend_from_slice(&four(number % 10_000))
+    }
+}
+
+/// A number of two to five digits, which are put at once.
+#[inline(always)]
+fn push_few_digits(text: &mut Vec<u8>, number: u64) -> Result<(), AllocError>
+    requires more { 10 ≤ number }
+    requires few { number < 100000 }
     ensures { Pushes result text.old.items text.new.items (decimal number) }
 {
     if number < 100 {
@@ -128,13 +143,10 @@ fn push_digits(text: &mut Vec<u8>, number: u64) -> Result<(), AllocError>
         text.extend_from_slice(&[b'0' + (number / 100) as u8, tens, ones])
     } else if number < 10_000 {
         text.extend_from_slice(&four(number))
-    } else if number < 100_000 {
+    } else {
         let [thousands, hundreds, tens, ones] = four(number % 10_000);
         let first = b'0' + (number / 10_000) as u8;
         text.extend_from_slice(&[first, thousands, hundreds, tens, ones])
-    } else {
-        push_digits(text, number / 10_000)?;
-        text.extend_from_slice(&four(number % 10_000))
     }
 }
 
@@ -311,12 +323,27 @@ fn push_list(text: &mut Vec<u8>, list: &[VariableId]) -> Result<(), AllocError>
     }
 }
 
-/// Each variable after a comma.
+/// Each variable after a comma. Most of what a load writes is here, so few digits are put with no call.
 fn push_others(text: &mut Vec<u8>, others: &[VariableId]) -> Result<(), AllocError>
     ensures { Pushes result text.old.items text.new.items (others_text others.now) }
 {
     for variable in others {
-        push_field(text, b",", variable.to_index())?;
+        push_member(text, variable.to_index() as u64)?;
     }
     Ok(())
+}
+
+/// A comma, and a number.
+#[inline(always)]
+fn push_member(text: &mut Vec<u8>, number: u64) -> Result<(), AllocError>
+    ensures { Pushes result text.old.items text.new.items (codes "," ++ decimal number) }
+{
+    text.push(b',')?;
+    if number < 10 {
+        push_digit(text, number)
+    } else if number < 100_000 {
+        push_few_digits(text, number)
+    } else {
+        push_digits(text, number)
+    }
 }

@@ -1,8 +1,7 @@
-use Rattle.std.proofs.Common.{◌≡◌, ◌+◌, ◌/◌, ◌%◌, ◌∷◌, ◌∙◌, arith, sym}
+use Rattle.std.proofs.Common.{◌/◌, arith, sym}
 use Rattle.std.specs.Prelude.{decimal}
 use Rattle.std.proofs.lemmas.Grind.{common_steps}
-use Rattle.scripts.specs.Replies.{digit_pair}
-use Rattle.scripts.proofs.Digits.{two_digits, three_digits, four_digits, five_digits, four_more, last_four, put, begun, put_behind}
+use Rattle.scripts.proofs.Digits.{four_more, last_four, put, begun, put_behind}
 use Rattle.scripts.proofs.reply_line.+push_digits.Goals as goal
 
 pub returns-in_err-push_digits : goal.returns-in_err-push_digits
@@ -14,30 +13,9 @@ returns-in_err-push_digits t c =
       begun c.args.text.now.items (decimal (n / 10000)) (last_four n) (decimal n) (four_more n (omega arith) (omega arith)) _ c.in_err-push_digits.ensures,
     )
 
-pub returns-then-number-lt100 : goal.returns-then-number-lt100
-returns-then-number-lt100 t c =
-    put _ _ _ _ _ c.extend_from_slice.ensures.items (two_digits c.args.number c.requires (omega arith) ∙ sym c.pair.ensures)
-
-pub returns-then-number-lt1000 : goal.returns-then-number-lt1000
-returns-then-number-lt1000 t c =
-    let n = c.args.number in
-    let is : decimal n ≡ (48 + n / 100) ∷ digit_pair (n % 100) = three_digits n (omega arith) (omega arith) in
-    put _ _ _ _ _ c.extend_from_slice-then-number-lt1000.ensures.items (grind (arith, common_steps, is))
-
-pub returns-then-number-lt10000 : goal.returns-then-number-lt10000
-returns-then-number-lt10000 t c =
-    put _ _ _ _ _ c.extend_from_slice-then-number-lt10000.ensures.items
-    (four_digits c.args.number (omega arith) (omega arith) ∙ sym c.four.ensures)
-
-pub returns-then-number-lt100000 : goal.returns-then-number-lt100000
-returns-then-number-lt100000 t c =
-    let n = c.args.number in
-    let is : decimal n ≡ (48 + n / 10000) ∷ last_four n = five_digits n (omega arith) (omega arith) in
-    put _ _ _ _ _ c.extend_from_slice-then-number-lt100000.ensures.items (grind (arith, common_steps, is))
-
 pub returns-in_ok-push_digits : goal.returns-in_ok-push_digits
 returns-in_ok-push_digits t c =
     let n = c.args.number in
     put_behind c.args.text.now.items (decimal (n / 10000)) (last_four n) (decimal n) (four_more n (omega arith) (omega arith)) _ _ _
     c.in_ok-push_digits.ensures
-    (put _ _ _ _ _ c.extend_from_slice-else-number-lt100000.ensures.items (sym c.four-else-number-lt100000.ensures))
+    (put _ _ _ _ _ c.extend_from_slice.ensures.items (sym c.four.ensures))
