@@ -1,11 +1,13 @@
 -- What a tracker's fields show after a decision is added or taken back.
 use Rattle.std.specs.Prelude.{◌≡◌, ◌≢◌, ℕ, ◌-◌, ◌≤◌, ◌==◌, if◌then◌else◌, Bool, true, false, refl}
 use Rattle.std.specs.Prelude.{List, [], ◌∷◌, ◌++◌, map, length, take, Option, Some, None, option_map}
+use Rattle.std.specs.Prelude.{◌<◌, slice_get, slice_index_or}
 use Rattle.std.specs.List.{find}
-use Rattle.std.specs.Option.{option_map_or}
+use Rattle.std.specs.Option.{option_map_or, option_to_list}
 use Rattle.std.proofs.Common.{ap, ◌∙◌, sym, arith}
 use Rattle.std.proofs.lemmas.Bool.{eqb-true, eqb-false}
 use Rattle.std.proofs.lemmas.List.{map-append, length-map}
+use Rattle.std.proofs.lemmas.Option.{slice_get_within, get_or_from_slice_get}
 use Rattle.typed_ids.specs.TotalMaps.{IsUpdate}
 use Rattle.decisions.specs.Decisions.{decision_in, values_in, level_in}
 use Rattle.decisions.specs.Tracker.{entries_of, IsTracked}
@@ -155,3 +157,12 @@ module _ (old new : MapItems) (ds : List Decision) (d : Decision)
     values = λ x. values-pop x (d.variable == x) refl ∙ ap (λ es. val es x) (sym unchanged);
     trail = rw unchanged (IsTrail-pop (entries_of old ds) (entry old d) was_trail);
   }
+
+-- what is popped off a list is its last item
+pub popped_is_last : {X : Type 0} (xs rest : List X) (len : ℕ) (popped : Option X) (x : X) → len ≡ length xs
+    → slice_get xs (length xs - 1) ≡ Some x → (0 < len → popped ≡ Some (slice_index_or xs (len - 1) x))
+    → xs ≡ rest ++ option_to_list popped → xs ≡ rest ++ x ∷ []
+popped_is_last xs rest len popped x is_len last value items =
+    let within = slice_get_within xs (length xs - 1) x last in
+    let read = rw is_len at value (omega (arith, within, is_len)) in
+    rw (read ∙ ap Some (get_or_from_slice_get xs (length xs - 1) x x last)) at items

@@ -128,12 +128,31 @@ impl<A: Allocator + Copy> DecisionMap<A> {
         ensures err { OnErr result (SameValues (decision_in self.old) (decision_in self.new)) }
         ensures memory { IfErr result (λ e. e ≡ OutOfMemory) }
     {
+        if self.set_in_place(variable, value, level) {
+            return Ok(());
+        }
+        self.set_growing(variable, value, level)
+    }
+
+    /// What [`DecisionMap::set`] does where it takes memory: apart, so that one that takes none makes no call.
+    #[inline(never)]
+    fn set_growing(
+        &mut self,
+        variable: VariableId,
+        value: bool,
+        level: u32,
+    ) -> Result<(), StoreError>
+        ensures ok { OnOk result
+            (IsUpdate (decision_in self.old) variable (Some (value, level)) (decision_in self.new)) }
+        ensures err { OnErr result (SameValues (decision_in self.old) (decision_in self.new)) }
+        ensures memory { IfErr result (λ e. e ≡ OutOfMemory) }
+    {
         let decided = DecisionAndLevel::decided(value, level);
         IdMap::<VariableId, DecisionAndLevel, A>::set(&mut self.map, variable, decided)
     }
 
     /// Gives the variable a value, at a level, where that takes no memory. Answers whether it did.
-    pub(crate) fn set_in_place(&mut self, variable: VariableId, value: bool, level: u32) -> bool
+    fn set_in_place(&mut self, variable: VariableId, value: bool, level: u32) -> bool
         ensures set { result ≡ true →
             IsUpdate (decision_in self.old) variable (Some (value, level)) (decision_in self.new) }
         ensures left { result ≡ false → self.new ≡ self.old }

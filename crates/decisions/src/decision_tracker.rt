@@ -15,7 +15,7 @@
 //! variable at most once, and levels from 1 to below 2^31; and to `IsWithin`: neither number is above that of the
 //! entries.
 ghost use Rattle.std.specs.Prelude.{◌≡◌, ◌<◌, ◌≤◌, ◌^◌, ◌↔◌, ◌-◌, Some, None, length, take, map, option_map};
-ghost use Rattle.std.specs.Prelude.{IsTrue, OnOk, OnErr, IfErr};
+ghost use Rattle.std.specs.Prelude.{IsTrue, OnOk, OnErr, IfErr, vec_len, vec_capacity};
 ghost use Rattle.typed_ids.specs.declared.error.StoreError.TheVariants.{OutOfMemory};
 ghost use Rattle.decisions.specs.Decisions.{values_in, level_in};
 ghost use Rattle.decisions.specs.Tracker.{entries_of, IsTracked};
@@ -174,15 +174,10 @@ impl<A: Allocator + Copy> DecisionTracker<A> {
         ensures err { OnErr result (self.new ≡ self.old) }
         ensures memory { IfErr result (λ e. e ≡ OutOfMemory) }
     {
-        if self.stack.len() < self.stack.capacity()
-            && self
-                .map
-                .set_in_place(decision.variable, decision.value, level)
-        {
-            self.stack.push_reserved(decision);
-            return Ok(());
-        }
-        self.push_growing(decision, level)
+        make_room(&mut self.stack)?;
+        self.map.set(decision.variable, decision.value, level)?;
+        self.stack.push_reserved(decision);
+        Ok(())
     }
 
     /// Takes back the newest decision, of which there must be one: [`DecisionTracker::assignments`] has it last.
@@ -243,23 +238,6 @@ impl<A: Allocator + Copy> DecisionTracker<A> {
         floor
     }
 
-    /// What [`DecisionTracker::push`] does where it takes memory: apart, so that a push that takes none makes no call.
-    /// The room on the stack comes first, so that a refusal changes nothing.
-    #[inline(never)]
-    fn push_growing(&mut self, decision: Decision, level: u32) -> Result<(), StoreError>
-        requires level { (1 ≤ level) × (level < 2 ^ 31) }
-        requires undecided { val self.old.entries decision.variable ≡ None }
-        ensures ok { OnOk result
-            (self.new ≡ pushed self.old (record { decision = decision; level = level })) }
-        ensures err { OnErr result (self.new ≡ self.old) }
-        ensures memory { IfErr result (λ e. e ≡ OutOfMemory) }
-    {
-        self.stack.reserve(1)?;
-        self.map.set(decision.variable, decision.value, level)?;
-        self.stack.push_reserved(decision);
-        Ok(())
-    }
-
     /// The level of the newest decision, 0 if there is none.
     fn top_level(&self) -> u32
         ensures { result ≡ top_level self.now.entries }
@@ -294,6 +272,29 @@ fn drop_above<A: Allocator + Copy>(
     }
 }
 
+/// Takes the memory that one decision more needs.
+fn make_room<A: Allocator + Copy>(stack: &mut Vec<Decision, A>) -> Result<(), StoreError>
+    ensures items { stack.new.items ≡ stack.old.items }
+    ensures room { OnOk result (vec_len stack.new < vec_capacity stack.new) }
+    ensures memory { IfErr result (λ e. e ≡ OutOfMemory) }
+{
+    if stack.len() < stack.capacity() {
+        return Ok(());
+    }
+    grow(stack)
+}
+
+/// What [`make_room`] does where there is no room: apart, so that where there is some no call is made.
+#[inline(never)]
+fn grow<A: Allocator + Copy>(stack: &mut Vec<Decision, A>) -> Result<(), StoreError>
+    ensures items { stack.new.items ≡ stack.old.items }
+    ensures room { OnOk result (vec_len stack.new < vec_capacity stack.new) }
+    ensures memory { IfErr result (λ e. e ≡ OutOfMemory) }
+{
+    stack.reserve(1)?;
+    Ok(())
+}
+
 /// The level of the newest decision, 0 if there is none.
 fn top_level<A: Allocator + Copy>(map: &DecisionMap<A>, stack: &[Decision]) -> u32
     ensures { result ≡ top_level (entries_of map.now stack.now) }
@@ -311,7 +312,8 @@ fn drop_newest<A: Allocator + Copy>(map: &mut DecisionMap<A>, stack: &mut Vec<De
     ensures entries { entries_of map.new stack.new.items
         ≡ take (length stack.old.items - 1) (entries_of map.old stack.old.items) }
 {
-    if let Some(decision) = stack.pop() {
+    if let Some(decision) = stack.last() {
         map.reset(decision.variable);
+        stack.pop();
     }
 }
