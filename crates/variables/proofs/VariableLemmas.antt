@@ -53,7 +53,7 @@ module _ {X : Type 0} (test : X → Bool) where
         | false ↦ λ t e. (let rest = position_at (n + 1) v xs e in (suc rest.0, rest.1, omega (arith, rest.2), rest.3, rest.4))
       ]) refl h
 
-  -- a position among the first so many is the position in these
+  -- a position before a place is the same in the part before that place
   pub position-take : (n k v : ℕ) (xs : List X) → position_from test n xs ≡ Some v → v < n + k → position_from test n (take k xs) ≡ Some v
   position-take n zero v xs h within = (let no : ⊥ = omega (arith, (position_at n v xs h).2, within) in absurd no)
   position-take n (suc k) v [] h within = h
@@ -71,7 +71,7 @@ slice_get-last [] x y (suc v) h = (let no : ⊥ = cc in absurd no)
 slice_get-last (z ∷ xs) x y zero h = inl h
 slice_get-last (z ∷ xs) x y (suc v) h = elim (slice_get-last xs x y v h) [ inl e ↦ inl e | inr e ↦ inr (omega (arith, e.0), e.1) ]
 
--- an element of the first so many of a list
+-- an element of a beginning of a list
 pub slice_get-take : {X : Type 0} (k v : ℕ) (xs : List X) (x : X) → slice_get (take k xs) v ≡ Some x → (v < k) × (slice_get xs v ≡ Some x)
 slice_get-take zero v xs x h = (let no : ⊥ = cc in absurd no)
 slice_get-take (suc k) v [] x h = (let no : ⊥ = cc in absurd no)
@@ -166,7 +166,7 @@ module _ {N S : Type 0} (same : S → S → Bool) where
           λ g. (let no : ⊥ = omega arith in no))
       by_place (Some q) h false = refl
 
-  -- the first so many of distinct ones
+  -- a beginning of distinct ones
   pub distinct-take : (k : ℕ) (os : List (VariableOrigin N S)) → AreSolvablesDistinct same os → AreSolvablesDistinct same (take k os)
   distinct-take k os distinct v s h =
       let at = slice_get-take k v os (Solvable s) h in

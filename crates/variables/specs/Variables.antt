@@ -72,7 +72,7 @@ module _ {N S : Type 0} (same : S → S → Bool) where
   abbrev pub with_variables : List (VariableOrigin N S) → List S → List (VariableOrigin N S)
   with_variables origins ss = fold with_variable origins ss
 
-  -- the origins once the first so many of the solvables have variables
+  -- the origins once a beginning of the solvables have variables
   abbrev pub IsPartlyInterned : List (VariableOrigin N S) → List S → List (VariableOrigin N S) → Type 0
   IsPartlyInterned origins ss after = (n : ℕ) × (after ≡ with_variables origins (take n ss))
 

@@ -30,7 +30,7 @@ in_back c (x ∷ front) back h = in_rest c x (front ++ back) (in_back c front ba
 pub in_middle : (c : ℕ) (front back : List ℕ) → is_clause_in c (front ++ c ∷ back) ≡ true
 in_middle c front back = in_back c front (c ∷ back) (in_head c back)
 
--- a chain that is no longer than so many is found whole
+-- a chain that is no longer than the bound is found whole
 pub chain_is : (next : ℕ → Option ℕ) (first : Option ℕ) (cs : List ℕ) (n : ℕ) → IsChain next first cs → length cs ≤ n → chain n next first ≡ cs
 chain_is next first [] zero h le = refl
 chain_is next first [] (suc n) h le = rw h refl

@@ -10,7 +10,7 @@ use Rattle.id_storage.specs.Mapping.{value_at, value_count}
 use Rattle.watch_map.specs.WatchLists.{WatchLists, Watches, watchers, link, IsChain, AreWatched}
 use Rattle.watch_map.specs.Watching.{count_lists, IsListCount}
 
--- so many numbers added up, the last one first
+-- the numbers below a bound added up, the last one first
 sum_below : ℕ → (ℕ → ℕ) → ℕ
 sum_below zero f = 0
 sum_below (suc n) f = f n + sum_below n f

@@ -236,7 +236,7 @@ module _ {N : Type 0} where
 
 -- ---- ids that are left, and refusals
 
--- where so many clauses come to no more than there are ids left, all of them have ids
+-- where no more clauses come than there are ids left, all of them have ids
 pub ids_are_left : (many after count len : ℕ) → count ≤ (2 ^ 32 - 1) - len → len ≡ many → after ≡ many → many ≤ 2 ^ 32 - 1 → after + count ≤ 2 ^ 32 - 1
 ids_are_left many after count len left is same few = omega arith
 

@@ -112,7 +112,7 @@ module _ {N : Type 0} where
     watchers = moved clause from to cs.watchers;
   }
 
-  -- so many clauses more have no ids
+  -- this number of clauses more have no ids
   abbrev pub are_ids_out_for : ℕ → Clauses N → Bool
   are_ids_out_for count cs = nat_lt (2 ^ 32 - 1) (length cs.clauses + count)
 
@@ -125,7 +125,7 @@ module _ {N : Type 0} where
   abbrev pub with_forbidden : N → Clauses N → List (ℕ × ℕ × Bool) → Clauses N
   with_forbidden name cs bits = fold (with_forbidden_one name) cs bits
 
-  -- there are ids and room for so many clauses more that watch what these do
+  -- there are ids and room for this number of clauses more that watch what these do
   pub record HasRoomFor (count : ℕ) (bits : List (ℕ × ℕ × Bool)) (kept : Kept N) : Type 0 where
     pub ids : are_ids_out_for count (contents kept) ≡ false
     pub clauses : length kept.clauses + count ≤ kept.clause_room

@@ -12,7 +12,7 @@ use Rattle.watch_map.specs.declared.marks.Limit.TheVariants.{Place, Level}
 
 -- ---- what a mark says
 
--- a mark of a trail: what its entries, the first so many of the trail, make false they meet; each clause below its
+-- a mark of a trail: its entries are those before its place. What they make false they meet; each clause below its
 -- bound that watches nothing they make true; and no level of them is above its level
 pub record IsMark (literals watched : ℕ → List Lit) (entries : List Entry) (mark : Mark) : Type 0 where
   pub within : mark.place ≤ length entries

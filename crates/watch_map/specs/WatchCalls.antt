@@ -39,7 +39,7 @@ UsesRoom literals old new =
 abbrev pub HaveRoom : WatchLists → List Lit → Type 0
 HaveRoom map literals = (l : Lit) → is_literal_in l literals ≡ true → HasRoom map l 1
 
--- there is room for so many additions to the list of each of these literals
+-- there is room for this number of additions to the list of each of these literals
 abbrev pub HaveRooms : WatchLists → ℕ → List Lit → Type 0
 HaveRooms map additions literals = (l : Lit) → is_literal_in l literals ≡ true → HasRoom map l additions
 

@@ -68,7 +68,7 @@ next_at (Some watched) index = slice_index_or watched.next_watches index None
 abbrev pub link : Watches → Lit → ℕ → Option ℕ
 link watches l clause = next_in (record_of watches clause) l
 
--- the clauses from the first on, each the next one of that before it, but no more than so many
+-- the clauses from the first on, each the next one of that before it, but no more than a bound
 abbrev pub chain : ℕ → (ℕ → Option ℕ) → Option ℕ → List ℕ
 chain zero next first = []
 chain (suc n) next None = []
@@ -95,7 +95,7 @@ pub record AreWatched (map : WatchLists) (watches : Watches) : Type 0 where
   pub links : (clause : ℕ) → HasTwoLinks (record_of watches clause)
   pub linked : (l : Lit) → IsChain (link watches l) (value_at map (literal_index l)) (watchers map watches l)
 
--- the next so many additions to the list of this literal take no memory: a slot serves any number
+-- this number of additions to the list of the literal take no memory: a slot serves any number
 unfoldable pub HasRoom : WatchLists → Lit → ℕ → Type 0
 HasRoom map l n = literal_index l < length map
 

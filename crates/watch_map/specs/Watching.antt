@@ -63,7 +63,7 @@ abbrev pub behind : ℕ → List ℕ → List ℕ
 behind clause [] = []
 behind clause (c ∷ cs) = if c == clause then cs else behind clause cs
 
--- how many of the literals with the first so many indexes have clauses
+-- how many of the literals with indexes below a bound have clauses
 abbrev pub count_lists : ℕ → (Lit → List ℕ) → ℕ
 count_lists zero lists = 0
 count_lists (suc bound) lists = (if length (lists (literal_at bound)) == 0 then 0 else 1) + count_lists bound lists

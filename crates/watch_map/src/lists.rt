@@ -75,8 +75,8 @@ impl<A: Allocator + Copy> WatchMap<A> {
         self.make_room_many(literal, 1)
     }
 
-    /// Makes room for so many more clauses in a literal's list, so that its next additions up to that number take no
-    /// memory. Room that is there is kept. Constant time, whatever the number.
+    /// Makes room for a number of clauses more in a literal's list, so that its next additions up to that number take
+    /// no memory. Room that is there is kept. Constant time, whatever the number.
     pub fn make_room_many(&mut self, literal: Literal, additions: usize) -> Result<(), StoreError>
         ensures lists { SameLists self.old self.new }
         ensures rooms { KeepsRoom self.old self.new }

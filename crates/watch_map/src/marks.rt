@@ -39,7 +39,7 @@ pub struct Mark {
 /// From where on marks are forgotten.
 #[derive(Clone, Copy)]
 pub enum Limit {
-    /// Those of so many entries and more.
+    /// Those of this number of entries and more.
     Place(usize),
     /// Those of this level and above.
     Level(u32),

@@ -45,8 +45,8 @@ pub(crate) fn count_before<N: Copy, A: Allocator + Copy>(given: &Given<N, A>, bo
     0
 }
 
-/// Visits each clause that watches nothing, but for the first so many, which are true. Answers one that is false, if it
-/// meets one; else all are settled where no entry was added.
+/// Visits each clause that watches nothing, from a place in their list on: those before it are true. Answers one that is
+/// false, if it meets one; else all are settled where no entry was added.
 pub(crate) fn visit_all_unwatched<N: Copy, A: Allocator + Copy>(
     given: &Given<N, A>,
     trail: &mut DecisionTracker<A>,
@@ -70,7 +70,7 @@ pub(crate) fn visit_all_unwatched<N: Copy, A: Allocator + Copy>(
     Ok(None)
 }
 
-/// A bound of ids: each clause below it that watches nothing is true. The first so many are.
+/// A bound of ids: each clause below it that watches nothing is true. Those before the place in their list are.
 pub(crate) fn bound_of_true<N: Copy, A: Allocator + Copy>(
     given: &Given<N, A>,
     map: &DecisionMap<A>,
