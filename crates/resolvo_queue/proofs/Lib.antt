@@ -6,3 +6,4 @@ pub mod Picks
 pub mod Rows
 pub mod Syncs
 pub mod Walks
+pub mod Words

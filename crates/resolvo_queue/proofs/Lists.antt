@@ -1,6 +1,7 @@
 -- Members of lists: that they stand in them, that the lists contain them, and what stands at a place; and tests.
-use Rattle.std.proofs.Common.{◌≡◌, ℕ, zero, suc, ◌<◌, List, [], ◌∷◌, length, get_or, Some, slice_get}
-use Rattle.std.proofs.Common.{refl, arith, subst, Bool, true, false, ◌≢◌, eqb, eqb-true, eq-eqb, ◌⊎◌, inl, inr}
+use Rattle.std.proofs.Common.{◌≡◌, ℕ, zero, suc, ◌<◌, ◌≤◌, List, [], ◌∷◌, ◌++◌, filter, length, get_or, Some, slice_get}
+use Rattle.std.proofs.Common.{refl, arith, sym, subst, Bool, true, false, cond, ◌≢◌, eqb, eqb-true, eq-eqb, ltb}
+use Rattle.std.proofs.Common.{ltb-true, ltb-false, ◌⊎◌, inl, inr}
 use Rattle.std.specs.Prelude.{Contains}
 use Rattle.resolvo_queue.specs.Members.{Stands, here, there}
 
@@ -22,6 +23,13 @@ same_or_not a b = go (eqb a b) refl
 pub no_or_yes : (b : Bool) → (b ≡ true → ⊥) → b ≡ false
 no_or_yes true h = absurd (h refl)
 no_or_yes false h = refl
+
+pub le_or_lt : (a b : ℕ) → (a ≤ b) ⊎ (b < a)
+le_or_lt a b = go (ltb b a) refl
+  where
+    go : (t : Bool) → ltb b a ≡ t → (a ≤ b) ⊎ (b < a)
+    go true e = inr (ltb-true b a e)
+    go false e = inl (ltb-false b a e)
 
 -- ---- members
 
@@ -45,3 +53,51 @@ pub stands_at : {X : Type 0} (xs : List X) (n : ℕ) (x : X) → slice_get xs n 
 stands_at [] n x is = cc
 stands_at (y ∷ ys) zero x is = subst (λ z. Stands z (y ∷ ys)) (same_some y x is) here
 stands_at (y ∷ ys) (suc n) x is = there (stands_at ys n x is)
+
+module _ {X : Type 0} where
+  at_front : (t : X → Bool) (ys zs : List X) (x y : X) → Stands x (y ∷ zs) → t y ≡ true →
+      (Stands x zs → Stands x ys × (t x ≡ true)) → Stands x (y ∷ ys) × (t x ≡ true)
+  at_front t ys zs y z here e more = (here, e)
+  at_front t ys zs x y (there r) e more = let m = more r in (there m.0, m.1)
+
+  pub stands_filter : (t : X → Bool) (xs : List X) (x : X) → Stands x (filter t xs) → Stands x xs × (t x ≡ true)
+  stands_filter t [] x s = elim s [ ]
+  stands_filter t (y ∷ ys) x s = go (t y) refl s (stands_filter t ys x)
+    where
+      go : (b : Bool) → t y ≡ b → Stands x (cond b (y ∷ filter t ys) (filter t ys)) →
+          (Stands x (filter t ys) → Stands x ys × (t x ≡ true)) → Stands x (y ∷ ys) × (t x ≡ true)
+      go true e r more = at_front t ys (filter t ys) x y r e more
+      go false e r more = let m = more r in (there m.0, m.1)
+
+  pub filter_stands : (t : X → Bool) (xs : List X) (x : X) → Stands x xs → t x ≡ true → Stands x (filter t xs)
+  filter_stands t [] x s e = elim s [ ]
+  filter_stands t (y ∷ ys) z here e = subst (λ b. Stands y (cond b (y ∷ filter t ys) (filter t ys))) (sym e) here
+  filter_stands t (y ∷ ys) x (there s) e = go (t y) (filter_stands t ys x s e)
+    where
+      go : (b : Bool) → Stands x (filter t ys) → Stands x (cond b (y ∷ filter t ys) (filter t ys))
+      go true r = there r
+      go false r = r
+
+  pub stands_append : (xs ys : List X) (x : X) → Stands x (xs ++ ys) → Stands x xs ⊎ Stands x ys
+  stands_append [] ys x s = inr s
+  stands_append (z ∷ zs) ys y here = inl here
+  stands_append (z ∷ zs) ys x (there s) = elim (stands_append zs ys x s) [ inl a ↦ inl (there a) | inr b ↦ inr b ]
+
+  pub append_left : (xs ys : List X) (x : X) → Stands x xs → Stands x (xs ++ ys)
+  append_left [] ys x s = elim s [ ]
+  append_left (z ∷ zs) ys y here = here
+  append_left (z ∷ zs) ys x (there s) = there (append_left zs ys x s)
+
+  pub append_right : (xs ys : List X) (x : X) → Stands x ys → Stands x (xs ++ ys)
+  append_right [] ys x s = s
+  append_right (z ∷ zs) ys x s = there (append_right zs ys x s)
+
+pub stands_last : {X : Type 0} (xs : List X) (x : X) → Stands x (xs ++ x ∷ [])
+stands_last [] x = here
+stands_last (y ∷ ys) x = there (stands_last ys x)
+
+pub stands_cases : {X : Type 0} (xs : List X) (y x : X) → Stands x (xs ++ y ∷ []) → Stands x xs ⊎ (x ≡ y)
+stands_cases [] y x here = inr refl
+stands_cases [] y x (there s) = elim s [ ]
+stands_cases (z ∷ zs) y x here = inl here
+stands_cases (z ∷ zs) y x (there s) = elim (stands_cases zs y x s) [ inl h ↦ inl (there h) | inr e ↦ inr e ]

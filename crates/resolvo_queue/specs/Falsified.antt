@@ -1,14 +1,11 @@
 -- Which clauses are falsified, and which of them stands first in the scan.
 use Rattle.std.specs.Prelude.{◌≡◌, ◌<◌, ℕ, Bool, true, false, List, Option, None, Some, length, slice_get, IfSome}
-use Rattle.std.specs.Ordering.{is_lt}
-use Rattle.decisions.specs.Literals.{Values}
-use Rattle.providers.specs.Provider.{Universe}
+use Rattle.resolvo_queue.specs.Types.{is_lt, TrackedClause, Universe, Values}
 use Rattle.resolvo_queue.specs.Pick.Inspection.{clause_of}
 use Rattle.resolvo_queue.specs.Scan.Positions.{position_cmp, is_after}
 use Rattle.resolvo_queue.specs.References.{References, literals_in, references, rows_in}
 use Rattle.resolvo_queue.specs.Scan.{is_falsified}
 use Rattle.resolvo_queue.specs.declared.asked.Asked.{Asked}
-use Rattle.resolvo_queue.specs.declared.tracked_clause.TrackedClause.{TrackedClause}
 
 -- the clause is falsified
 abbrev pub is_falsified_in : {N S A : Type 0} → References N S A → Values → TrackedClause → Bool
@@ -28,13 +25,9 @@ abbrev pub Covers : Option TrackedClause → TrackedClause → Type 0
 Covers first c = (d : TrackedClause) × (first ≡ Some d) × (is_after d.position c.position ≡ false)
 
 module _ (clauses : List TrackedClause) (holds : TrackedClause → Bool) where
-  -- nothing, or a clause that holds
-  abbrev pub IsFound : Option TrackedClause → Type 0
-  IsFound first = IfSome first (λ c. (n : ℕ) × (slice_get clauses n ≡ Some c) × (holds c ≡ true))
-
   -- of the clauses numbered below this, the one that holds and stands first in the scan, if one holds
   pub record FindsBelow (number : ℕ) (first : Option TrackedClause) : Type 0 where
-    pub found : IsFound first
+    pub found : IfSome first (λ c. (n : ℕ) × (slice_get clauses n ≡ Some c) × (holds c ≡ true))
     pub covers : (n : ℕ) (c : TrackedClause) → slice_get clauses n ≡ Some c → n < number → holds c ≡ true →
         Covers first c
 

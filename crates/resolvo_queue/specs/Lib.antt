@@ -1,5 +1,4 @@
 pub mod Falsified
-pub mod Laws
 pub mod Members
 pub mod Occurrences
 pub mod Parts
@@ -9,4 +8,5 @@ pub mod References
 pub mod Routing
 pub mod Rows
 pub mod Scan
+pub mod Types
 pub mod WalkCounts

@@ -1,8 +1,6 @@
 -- Which requirements list a variable, and how reading a requirement's rows changes it.
 use Rattle.std.specs.Prelude.{◌≡◌, ◌⊎◌, ℕ, Bool, List, Contains, count_by}
-use Rattle.std.specs.List.{list_any}
-use Rattle.providers.specs.Requirement.{same_requirement}
-use Rattle.providers.specs.declared.requirement.Requirement.{Requirement}
+use Rattle.resolvo_queue.specs.Types.{list_any, Requirement, same_requirement}
 use Rattle.resolvo_queue.specs.Rows.ByVariable.{list_at}
 use Rattle.resolvo_queue.specs.References.{Lists}
 

@@ -1,18 +1,12 @@
 -- What eligible clauses offer, and which offer is picked.
-pub mod Behind
 pub mod Grounds
 pub mod Groups
 pub mod Inspection
 pub mod Questions
 pub mod Ready
-pub mod Steps
 use Rattle.std.specs.Prelude.{◌≡◌, ℕ, Bool, false, not, ◌==◌, ◌&&◌, ◌||◌, nat_lt, if◌then◌else◌, List, [], filter}
 use Rattle.std.specs.Prelude.{filter_map, fold, Option, None, Some, option_map, All, Contains, MatchOption}
-use Rattle.std.specs.List.{list_any}
-use Rattle.typed_ids.specs.declared.version_set_id.VersionSetId.{VersionSetId}
-use Rattle.providers.specs.declared.requirement.Requirement.{Requirement}
-use Rattle.decisions.specs.Literals.{Lit, Values}
-use Rattle.resolvo_queue.specs.declared.requires_clause.RequiresClause.{RequiresClause}
+use Rattle.resolvo_queue.specs.Types.{list_any, Lit, Requirement, RequiresClause, Values, VersionSetId}
 pub use Rattle.resolvo_queue.specs.declared.offer.Offer.{Offer}
 use Rattle.resolvo_queue.specs.declared.queue_decision.QueueDecision.{QueueDecision}
 use Rattle.resolvo_queue.specs.Rows.{Row, frontier}
@@ -22,8 +16,7 @@ module _ (val : Values) (literals_of : Option ℕ → List Lit) (rows_of : Requi
     (score : VersionSetId → ℕ) where
   -- what a clause offers: none unless it is eligible; the score is that of its frontier's version set
   abbrev pub offer : RequiresClause → Option Offer
-  offer c =
-      if is_open val literals_of rows_of c then
+  offer c = if is_open val literals_of rows_of c then
       option_map (λ f. record { clause = c; frontier = f; score = score f.set }) (frontier val (rows_of c.requirement))
       else None
 
@@ -70,6 +63,5 @@ IsUnbeaten offers best = All (λ e. beats e best ≡ false) offers
 
 -- the decision is that of an offer that no offer beats; no decision stands for no offers
 abbrev pub DecidesUnbeaten : List Offer → Option QueueDecision → Type 0
-DecidesUnbeaten offers decision =
-    MatchOption decision (offers ≡ [])
+DecidesUnbeaten offers decision = MatchOption decision (offers ≡ [])
     (λ d. (best : Offer) × (d ≡ decided best) × Contains offers best × IsUnbeaten offers best)

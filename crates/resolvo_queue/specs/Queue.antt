@@ -1,17 +1,18 @@
 -- What contracts see of a queue, and how its calls change it. N are the names of packages, H the sets of them.
-use Rattle.std.specs.Prelude.{◌≡◌, ℕ, Bool, false, ◌==◌, ◌≤◌, if◌then◌else◌, List, []}
-use Rattle.std.specs.Prelude.{◌∷◌, ◌++◌, map, take, length, All, Some, None}
-use Rattle.typed_ids.specs.TotalMaps.{SameValues}
-use Rattle.providers.specs.Provider.{Universe, sets_of}
-use Rattle.decisions.specs.Literals.{Values}
-use Rattle.decisions.specs.declared.decision.Decision.{Decision}
+use Rattle.std.specs.Prelude.{◌≡◌, ℕ, Bool, false, ◌≤◌, List, [], ◌∷◌, ◌++◌, map, take}
+use Rattle.std.specs.Prelude.{length, All, Option, IsSome}
+use Rattle.resolvo_queue.specs.Types.{Decision, Disjunction, lookup, Requirement, same_requirement, SameValues, sets_of}
+use Rattle.resolvo_queue.specs.Types.{Universe, Values}
+use Rattle.resolvo_queue.specs.Pick.{Offer, eligible}
 use Rattle.resolvo_queue.specs.Pick.Inspection.{clause_of}
 use Rattle.resolvo_queue.specs.Rows.Listing.{IsListedWell}
-use Rattle.resolvo_queue.specs.Parts.Names.{AreCold}
+use Rattle.resolvo_queue.specs.Parts.{AreCold}
 use Rattle.resolvo_queue.specs.Pick.Questions.{clause_literals}
-use Rattle.resolvo_queue.specs.References.{References, HasParts, rows_in}
+use Rattle.resolvo_queue.specs.References.{HasParts, Lists, References, literals_in, references, rows_in, score_in}
 use Rattle.resolvo_queue.specs.Routing.Synced.{FindsConditions, KeepsQueued, counts}
+pub use Rattle.resolvo_queue.specs.Routing.Synced.{values_of}
 use Rattle.resolvo_queue.specs.Parts.Tracking.{IsInOrder, Tracking, tracking_of}
+use Rattle.resolvo_queue.specs.Scan.{first_falsified, is_eligible, scan}
 use Rattle.resolvo_queue.specs.declared.tracked_clauses.TrackedClauses.{TrackedClauses}
 use Rattle.resolvo_queue.specs.declared.requires_clause.RequiresClause.{RequiresClause}
 
@@ -41,11 +42,6 @@ queue_of tracked names hot woken = record {
   inside = tracking_of tracked;
   woken = woken;
 }
-
--- the value of each variable by a trail: that of its decision, undecided if there is none
-abbrev pub values_of : List Decision → Values
-values_of [] x = None
-values_of (d ∷ ds) x = if d.variable == x then Some d.value else values_of ds x
 
 -- ---- what a call leaves as it was
 
@@ -118,6 +114,32 @@ pub record StandsOn {N S A H : Type 0} (refs : References N S A) (q : Queue N H)
   pub synced : q.must_start_anew ≡ false →
       KeepsQueued q.inside.clauses (clause_literals refs) (rows_in refs) (values_of q.trail)
       (counts (values_of q.trail) q.woken) q.inside.requirements q.inside.queued
+
+-- what stood, stands
+abbrev pub StandsStill : (S A : Type 0) → {N H : Type 0} → (old new : Queue N H) → Type 0
+StandsStill S A {N} old new = (refs : References N S A) → StandsOn refs old → StandsOn refs new
+
+-- what stood by lists that have one for the requirement, stands by them
+abbrev pub StandsWithListed : (S : Type 0) → {N A H : Type 0} → Requirement → List (Disjunction A) →
+    (old new : Queue N H) → Type 0
+StandsWithListed S {N} {A} r disjunctions old new =
+    (universe : Universe N S) (lists : Lists A) → IsSome (lookup (same_requirement r) lists) →
+    StandsOn (references universe lists disjunctions) old → StandsOn (references universe lists disjunctions) new
+
+-- ---- what questions answer
+
+module _ {N S A H : Type 0} (refs : References N S A) (val : Values) (q : Queue N H) where
+  -- what the eligible clauses offer, in the order of the scan
+  abbrev pub offers_in : (N → ℕ) → List Offer
+  offers_in scores = eligible val (literals_in refs) (rows_in refs) (score_in refs scores) q.clauses
+
+  -- no clause of the scan is eligible
+  abbrev pub HasNoneEligible : Type 0
+  HasNoneEligible = All (λ c. is_eligible val (literals_in refs) (rows_in refs) c ≡ false) (scan q.clauses)
+
+  -- the first falsified clause of the scan
+  abbrev pub falsified_in : Option RequiresClause
+  falsified_in = first_falsified val (literals_in refs) (rows_in refs) q.clauses
 
 -- what always holds of a queue
 pub record IsKept {N H : Type 0} (has : H → N → Bool) (q : Queue N H) : Type 0 where

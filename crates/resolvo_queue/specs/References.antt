@@ -1,16 +1,8 @@
 -- What clauses name by ids. N are the names of packages, S the solvables, A the allocators.
 use Rattle.std.specs.Prelude.{◌≡◌, ℕ, ◌<◌, ◌^◌, true, List, [], length, Option, IsSome, IfSome}
-use Rattle.std.specs.Map.{lookup}
-use Rattle.std.specs.declared.vec.Vec.{Vec}
-use Rattle.typed_ids.specs.declared.version_set_id.VersionSetId.{VersionSetId}
-use Rattle.providers.specs.Provider.{Universe, knows_requirement, sets_of}
-use Rattle.providers.specs.Requirement.{same_requirement}
-use Rattle.providers.specs.declared.requirement.Requirement.{Requirement}
-use Rattle.decisions.specs.Literals.{Lit}
-use Rattle.clauses.specs.Clauses.{condition_literals}
-use Rattle.clauses.specs.Stored.{kept_in}
-use Rattle.clauses.specs.declared.disjunction.Disjunction.{Disjunction}
-use Rattle.resolvo_queue.specs.declared.requires_clause.RequiresClause.{RequiresClause}
+use Rattle.resolvo_queue.specs.Types.{condition_literals, Disjunction, kept_in, knows_requirement, Lit, lookup}
+use Rattle.resolvo_queue.specs.Types.{Requirement, RequiresClause, same_requirement, sets_of, Universe, Vec}
+use Rattle.resolvo_queue.specs.Types.{VersionSetId}
 use Rattle.resolvo_queue.specs.Rows.{Row, lists_loaded, loaded_rows, candidates}
 
 -- the lists of candidates by requirements

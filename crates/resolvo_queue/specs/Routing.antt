@@ -1,20 +1,15 @@
 -- What routing variables leaves: who is queued, and of which requirements nothing is known any more.
 pub mod Possible
 pub mod Synced
-pub mod Trails
 use Rattle.std.specs.Prelude.{◌≡◌, ℕ, ◌⊎◌, ◌++◌, true, List, Some, None, is_some, option_map, drop, map, slice_get}
-use Rattle.decisions.specs.Decisions.{values_in}
-use Rattle.decisions.specs.Literals.{Values}
-use Rattle.decisions.specs.declared.decision.Decision.{Decision}
-use Rattle.providers.specs.declared.requirement.Requirement.{Requirement}
+use Rattle.resolvo_queue.specs.Types.{Decision, Requirement, TrackedClause, Values, values_in}
 use Rattle.resolvo_queue.specs.Rows.ByVariable.{list_at}
 use Rattle.resolvo_queue.specs.Occurrences.{Listed, listing}
 use Rattle.resolvo_queue.specs.Members.{Stands}
-use Rattle.resolvo_queue.specs.Parts.Queued.{Queued, GrowsBy, IsOfClause, AreWoken}
-use Rattle.resolvo_queue.specs.Parts.Records.{Record, known_at, clauses_at, IsPlaceOf, forgotten}
+use Rattle.resolvo_queue.specs.Parts.{Queued, GrowsBy, IsOfClause, AreWoken}
+use Rattle.resolvo_queue.specs.Parts.{Record, known_at, clauses_at, IsPlaceOf, forgotten}
 use Rattle.resolvo_queue.specs.declared.clause_index.ClauseIndex.{ClauseIndex}
 use Rattle.resolvo_queue.specs.declared.routing.Routing.{Routing}
-use Rattle.resolvo_queue.specs.declared.tracked_clause.TrackedClause.{TrackedClause}
 
 -- records stay, but that nothing may be known of their rows any more
 abbrev pub OnlyForgets : List Record → List Record → Type 0
@@ -32,8 +27,7 @@ ForgetsAmong rs old now =
 
 -- the records of requirements that list none of the variables stay
 abbrev pub Unrouted : (ℕ → List Requirement) → List ℕ → List Record → List Record → Type 0
-Unrouted listing variables old now =
-    (k : ℕ) (t : Record) → slice_get old k ≡ Some t →
+Unrouted listing variables old now = (k : ℕ) (t : Record) → slice_get old k ≡ Some t →
     ((v : ℕ) → Stands v variables → Stands t.requirement (listing v) → ⊥) → slice_get now k ≡ Some t
 
 -- what variables are routed by: the clauses and who finds them, the requirements with a variable in a row, and values

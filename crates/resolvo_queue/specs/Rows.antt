@@ -1,19 +1,11 @@
 -- The rows of a requirement, and its frontier under the values of the variables.
 pub mod ByVariable
 pub mod Listing
-pub mod ShortLists
 pub mod States
 use Rattle.std.specs.Prelude.{ℕ, ◌<◌, ◌^◌, Bool, ◌==◌, ◌&&◌, if◌then◌else◌, List, [], map, find}
 use Rattle.std.specs.Prelude.{count_by, flat_map, length, zip, Option, None, Some, option_map}
-use Rattle.std.specs.List.{list_all, list_any}
-use Rattle.std.specs.Map.{lookup}
-use Rattle.std.specs.declared.vec.Vec.{Vec}
-use Rattle.typed_ids.specs.declared.version_set_id.VersionSetId.{VersionSetId}
-use Rattle.providers.specs.Provider.{Universe, sets_of}
-use Rattle.providers.specs.Requirement.{same_requirement}
-use Rattle.providers.specs.declared.requirement.Requirement.{Requirement}
-use Rattle.decisions.specs.Literals.{Values, known_true, known_false, undecided}
-use Rattle.resolvo_queue.specs.declared.offer.Frontier.{Frontier}
+use Rattle.resolvo_queue.specs.Types.{Frontier, known_false, known_true, list_all, list_any, lookup, Requirement}
+use Rattle.resolvo_queue.specs.Types.{same_requirement, sets_of, undecided, Universe, Values, Vec, VersionSetId}
 
 -- a row: the variable of a candidate, and the version set in whose list it stands
 pub record Row : Type 0 where

@@ -1,13 +1,10 @@
 -- The scan of the requires clauses, and which of them are open.
 pub mod First
-pub mod Order
 pub mod Positions
 use Rattle.std.specs.Prelude.{ℕ, Bool, not, ◌==◌, ◌&&◌, if◌then◌else◌, List, [], ◌∷◌, ◌++◌}
 use Rattle.std.specs.Prelude.{map, filter, flat_map, find, fold, Option, is_some, is_none}
-use Rattle.std.specs.List.{list_all, list_any}
-use Rattle.providers.specs.declared.requirement.Requirement.{Requirement}
-use Rattle.decisions.specs.Literals.{Lit, Values, known_true, is_false_literal}
-use Rattle.resolvo_queue.specs.declared.requires_clause.RequiresClause.{RequiresClause}
+use Rattle.resolvo_queue.specs.Types.{is_false_literal, known_true, list_all, list_any, Lit, Requirement}
+use Rattle.resolvo_queue.specs.Types.{RequiresClause, Values}
 use Rattle.resolvo_queue.specs.Rows.{Row, has_true_row, frontier}
 
 -- a parent is listed once
@@ -33,8 +30,7 @@ are_literals_false val literals = list_all (is_false_literal val) literals
 module _ (val : Values) (literals_of : Option ℕ → List Lit) (rows_of : Requirement → List Row) where
   -- the parent is true, the literals of the condition are false, and no row is true
   abbrev pub is_open : RequiresClause → Bool
-  is_open c =
-      known_true (val c.parent) &&
+  is_open c = known_true (val c.parent) &&
       (are_literals_false val (literals_of c.condition) && not (has_true_row val (rows_of c.requirement)))
 
   -- open, with an undecided row

@@ -1,15 +1,14 @@
 -- How often the rows of requirements were walked, and how often they may be walked before a variable changes.
 use Rattle.std.specs.Prelude.{◌≡◌, ◌⊎◌, ℕ, ◌+◌, ◌≤◌, Bool, true, false, is_some}
 use Rattle.std.specs.Prelude.{List, ◌++◌, Option, None, Some, find, drop}
-use Rattle.decisions.specs.declared.decision.Decision.{Decision}
-use Rattle.providers.specs.Requirement.{same_requirement}
-use Rattle.providers.specs.declared.requirement.Requirement.{Requirement}
+use Rattle.resolvo_queue.specs.Types.{Decision, Requirement, same_requirement}
 use Rattle.resolvo_queue.specs.Occurrences.{times}
 use Rattle.resolvo_queue.specs.Members.{Stands}
-use Rattle.resolvo_queue.specs.Queue.{Queue}
+use Rattle.resolvo_queue.specs.Queue.{Queue, StandsOn}
+use Rattle.resolvo_queue.specs.References.{IsWalkable, References, rows_in}
 use Rattle.resolvo_queue.specs.Routing.{variables_of}
 use Rattle.resolvo_queue.specs.Rows.{Row}
-use Rattle.resolvo_queue.specs.Parts.Records.{Record, owed_of, walk_of}
+use Rattle.resolvo_queue.specs.Parts.{Record, owed_of, walk_of}
 
 -- the record of a requirement, if it has one
 abbrev pub record_of : List Record → Requirement → Option Record
@@ -71,3 +70,9 @@ changed_from floor entries q = variables_of (drop floor q.trail) ++ variables_of
 -- no row has one of the variables
 abbrev pub HasNoneOf : List ℕ → List Row → Type 0
 HasNoneOf variables rows = (row : Row) → Stands row rows → Stands row.variable variables → ⊥
+
+-- where what the clauses name is there, no walk more is owed of a requirement whose rows have none of the variables
+abbrev pub OwesMoreAmong : (S A : Type 0) → {N H : Type 0} → (variables : List ℕ) → (old new : Queue N H) → Type 0
+OwesMoreAmong S A {N} variables old new =
+    (refs : References N S A) → StandsOn refs old → (r : Requirement) → IsWalkable refs.universe refs.lists r →
+    HasNoneOf variables (rows_in refs r) → owed new r ≡ owed old r

@@ -2,7 +2,7 @@
 ghost use Rattle.std.specs.Prelude.{◌≡◌, ◌<◌, ◌^◌, length, slice_get, option_map, MatchOption, OnOk, IfErr};
 ghost use Rattle.typed_ids.specs.declared.error.StoreError.TheVariants.{OutOfMemory};
 ghost use Rattle.resolvo_queue.specs.Rows.ByVariable.{list_at};
-ghost use Rattle.resolvo_queue.specs.Parts.Numbers.{FoundByAll, GainsNumber};
+ghost use Rattle.resolvo_queue.specs.Parts.{FoundByAll, GainsNumber};
 ghost use Rattle.resolvo_queue.specs.declared.group.Group.TheVariants.{OfParent};
 
 use crate::group::Group;

@@ -1,9 +1,8 @@
 //! Clauses found by the names of their packages.
 ghost use Rattle.std.specs.Prelude.{◌≡◌, ◌↔◌, ◌-◌, true, [], Ok, Some, None, length, slice_get, IsTrue, OnOk, IfOk};
 ghost use Rattle.std.specs.Prelude.{IfErr};
-ghost use Rattle.typed_ids.specs.declared.error.StoreError.TheVariants.{OutOfMemory};
-ghost use Rattle.typed_ids.specs.TotalMaps.{SameValues};
-ghost use Rattle.resolvo_queue.specs.Parts.ByName.{IsEntered, KeepsNumbers, numbers_under};
+ghost use Rattle.resolvo_queue.specs.Types.{OutOfMemory, SameValues};
+ghost use Rattle.resolvo_queue.specs.Parts.{IsEntered, KeepsNumbers, numbers_under};
 ghost use Rattle.resolvo_queue.specs.Members.{Stands};
 
 use id_maps::{IdMap, Slot, SolverId};
@@ -21,7 +20,7 @@ pub(crate) struct ClausesByName<N: SolverId<A>, A: Allocator + Copy> {
 
 impl<N: SolverId<A>, A: Allocator + Copy> Model for ClausesByName<N, A> {
     ghost use Rattle.std.specs.Prelude.{map};
-    ghost use Rattle.resolvo_queue.specs.Parts.ByName.{ByName, HaveLists};
+    ghost use Rattle.resolvo_queue.specs.Parts.{ByName, HaveLists};
 
     ghost Value = { ByName N.Slots };
 

@@ -1,8 +1,6 @@
 //! Whether a clause's condition is met.
 ghost use Rattle.std.specs.Prelude.{◌≡◌, ◌<◌, [], length, IfSome};
-ghost use Rattle.decisions.specs.Decisions.{values_in};
-ghost use Rattle.clauses.specs.Clauses.{condition_literals};
-ghost use Rattle.clauses.specs.Stored.{kept_in};
+ghost use Rattle.resolvo_queue.specs.Types.{condition_literals, kept_in, values_in};
 ghost use Rattle.resolvo_queue.specs.Scan.{are_literals_false};
 
 use clauses::Disjunction;

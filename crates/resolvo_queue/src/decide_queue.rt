@@ -1,75 +1,26 @@
-//! The queue of requires clauses: what is falsified, and what to decide next.
+//! The queue of requires clauses: which one is falsified, and what to decide next.
 //!
-//! A requires clause says that where its parent is true, one of its requirement's candidates is true as well; if it has
-//! a condition, only where all literals of the condition's disjunction are false. A search asks after each step whether
-//! a clause can't be met any more, and where none is such, which candidate to try next. Both questions go through the
-//! clauses in one order, the scan's: parent by parent as the parents were first registered, and each parent's clauses
-//! in the order of their registration.
+//! A requires clause says: if its parent is true and its condition is met, one of its requirement's candidates, its
+//! rows, is true. Until a row is true the clause is open. An open clause with undecided rows is eligible, and the first
+//! of these is its frontier, the candidate to try; an open clause without any is falsified.
 //!
-//! A requirement's candidates are its rows: those of its first version set, then those of the next, and so on. A
-//! clause is open while its parent is true, its condition is met and no row is true. Where an open clause has undecided
-//! rows, it is eligible: the first of them is its frontier, the candidate to try. Where it has none, all its rows are
-//! false, and it is falsified.
-//!
-//! What the user asked for is decided before anything that follows from it: where clauses of the root are eligible, one
-//! of them is picked, and only where none is, one of another parent. Among those it is the first of the scan, unless a
-//! later one beats the best so far: one whose frontier's package has a higher score, and whose version set has fewer
-//! undecided candidates left.
-//!
-//! A search asks after every propagation, with many clauses registered and a handful of variables changed since. So the
-//! queue remembers which clauses may be eligible, and what the last walk of each requirement's rows told. A search
-//! tells it of each clause ([`DecideQueue::register_clause`]) and of each package that gets a score
-//! ([`DecideQueue::mark_name_hot`]), and brings it up to date with its trail ([`DecideQueue::sync`]) before it asks for
-//! a decision. A sync routes the variables of the decisions that are new, and of those that were taken back:
-//!
-//! ```text
-//!                 its parent's clauses                      queued, if their parent is true
-//!               /
-//!     variable -- clauses with it in their condition        queued, if their parent is true and it has a value
-//!               \
-//!                 requirements with it in a listed row      what was known of their rows is forgotten; if they were
-//!                                                           known to have no frontier, their clauses are queued
-//! ```
-//!
-//! By what is known a clause may be eligible if its parent is true, its condition is met, and its requirement isn't
-//! known to have no frontier. All of those are queued, by their position in the scan; some that can't be eligible any
-//! more may be queued too. A clause that comes isn't queued: a watermark tells how many are, and a question
-//! ([`DecideQueue::next_decision`]) first queues those above it whose parents are true. It takes the queued clauses of
-//! the root from the front, which lie side by side there; only where none of them is eligible, it takes all. It walks
-//! the rows of a requirement only if nothing is known of them, and after they were listed, so that a later sync finds
-//! them. What isn't eligible leaves the queue; so nothing is looked at twice. The first clause that is eligible is the
-//! best so far. Behind it only a clause with a higher score is better, so while scores are raised by the standard
-//! parameters only those are looked at that have a package that ever got one: the hot ones, which are queued a second
-//! time. A name finds its clauses when it gets its first score. Nothing is better than a frontier with one candidate,
-//! or with the largest score.
-//!
-//! So the walks of a requirement can be counted. It owes those that were done, and one more while nothing is known of
-//! its rows. It owes the first as its first clause comes; a sync makes it owe at most one more, and only if a variable
-//! of its rows was routed, or the last sync was refused; and a question walks it at most once, as it owes already.
-//!
-//! A sync that is refused is remembered: the next one forgets all that is known and queues all clauses whose parent is
-//! true, whatever was done before. A registration that is refused may leave a number in a list that belongs to no
-//! clause yet, which wakes one clause too many later, or makes it hot.
-ghost use Rattle.std.specs.Prelude.{◌≡◌, ◌⊎◌, ◌+◌, ◌-◌, ◌<◌, ◌≤◌, ◌^◌, ◌↔◌, ◌≢◌};
+//! Both questions go through the clauses in the order of the scan: parent by parent as the parents were first
+//! registered, and each parent's clauses in the order of their registration. The decision is that of the first eligible
+//! clause of the root, or if there is none, of all, unless a later one beats the best so far: with a higher score and
+//! fewer undecided candidates. `docs/QUEUE.md` tells how the answer is found by few clauses and few walks of rows.
+ghost use Rattle.std.specs.Prelude.{◌≡◌, ◌⊎◌, ◌+◌, ◌-◌, ◌≤◌, ◌<◌, ◌^◌, ◌↔◌, ◌≢◌};
 ghost use Rattle.std.specs.Prelude.{[], length, All, IsTrue, IsOk};
-ghost use Rattle.std.specs.Prelude.{IsSome, IfSome, None, true, false, option_map, OnOk, OnErr, IfOk, IfErr};
-ghost use Rattle.std.specs.Map.{lookup};
-ghost use Rattle.std.specs.Ordering.{nat_cmp};
-ghost use Rattle.typed_ids.specs.Refusals.{IsGrowthRefusal};
-ghost use Rattle.typed_ids.specs.TotalMaps.{IsLargest, IsUpdate, SameValues};
-ghost use Rattle.typed_ids.specs.declared.error.StoreError.TheVariants.{IdSpace, OutOfMemory, TooManyClauses};
-ghost use Rattle.providers.specs.Provider.{Universe};
-ghost use Rattle.providers.specs.Requirement.{same_requirement};
+ghost use Rattle.std.specs.Prelude.{IfSome, None, true, false, option_map, OnOk, OnErr, IfOk, IfErr};
+ghost use Rattle.resolvo_queue.specs.Types.{IdSpace, IsGrowthRefusal, IsLargest, IsUpdate, nat_cmp, OutOfMemory};
+ghost use Rattle.resolvo_queue.specs.Types.{SameValues, TooManyClauses, values_in};
 ghost use Rattle.providers.specs.declared.requirement.Requirement.{Requirement as ARequirement};
-ghost use Rattle.decisions.specs.Decisions.{values_in};
-ghost use Rattle.resolvo_queue.specs.Parts.Names.{ColdLack};
-ghost use Rattle.resolvo_queue.specs.Pick.{eligible, pick, decided, DecidesUnbeaten};
-ghost use Rattle.resolvo_queue.specs.Queue.{AgreesBelow, AreNamed, HasTrail, IsNew, IsRegistered, IsSynced};
-ghost use Rattle.resolvo_queue.specs.Queue.{IsUnchanged, OnlyHotScore, SameClauses, SameSync, StandsOn, values_of};
-ghost use Rattle.resolvo_queue.specs.References.{CanWalk, IsWalkable, Lists, References, literals_in, references};
-ghost use Rattle.resolvo_queue.specs.References.{rows_in, score_in};
-ghost use Rattle.resolvo_queue.specs.Scan.{first_falsified, is_eligible, scan};
-ghost use Rattle.resolvo_queue.specs.WalkCounts.{HasNoneOf, WalksOnce, changed_from, owed, walks};
+ghost use Rattle.resolvo_queue.specs.Parts.{ColdLack};
+ghost use Rattle.resolvo_queue.specs.Pick.{pick, decided, DecidesUnbeaten};
+ghost use Rattle.resolvo_queue.specs.Queue.{AgreesBelow, AreNamed, HasNoneEligible, HasTrail, IsNew, IsRegistered};
+ghost use Rattle.resolvo_queue.specs.Queue.{IsSynced, IsUnchanged, OnlyHotScore, SameClauses, SameSync, StandsOn};
+ghost use Rattle.resolvo_queue.specs.Queue.{StandsStill, StandsWithListed, falsified_in, offers_in, values_of};
+ghost use Rattle.resolvo_queue.specs.References.{CanWalk, References, references};
+ghost use Rattle.resolvo_queue.specs.WalkCounts.{OwesMoreAmong, WalksOnce, changed_from, owed, walks};
 
 mod reading;
 
@@ -111,7 +62,7 @@ pub struct DecideQueue<D: DependencyProvider> {
 
 impl<D: DependencyProvider> Model for DecideQueue<D> {
     ghost use Rattle.std.specs.Prelude.{map};
-    ghost use Rattle.resolvo_queue.specs.Parts.ByName.{AreEntered, numbers_under};
+    ghost use Rattle.resolvo_queue.specs.Parts.{AreEntered, numbers_under};
     ghost use Rattle.resolvo_queue.specs.Queue.{IsKept, Queue, queue_of};
 
     ghost Value = { Queue D.NameId D.NameId.Set };
@@ -169,8 +120,7 @@ impl<D: DependencyProvider> DecideQueue<D> {
         ensures unchanged { IsUnchanged self.old self.new D.NameId.Set.has }
         ensures walks { SameValues (walks self.old) (walks self.new) }
         ensures owed { SameValues (owed self.old) (owed self.new) }
-        ensures stands { (refs : References D.NameId D.SolvableId D.Alloc) → StandsOn refs self.old →
-            StandsOn refs self.new }
+        ensures stands { StandsStill D.SolvableId D.Alloc self.old self.new }
     {
         self.tracked.only_hot = standard;
     }
@@ -205,10 +155,7 @@ impl<D: DependencyProvider> DecideQueue<D> {
         ensures owes_one { OnOk result (1 ≤ owed self.new requirement) }
 
         // What the queue's clauses name is there as before, where the requirement has lists.
-        ensures stands { (universe : Universe D.NameId D.SolvableId) (lists : Lists D.Alloc) →
-            IsSome (lookup (same_requirement requirement) lists) →
-            StandsOn (references universe lists disjunctions.now) self.old →
-            StandsOn (references universe lists disjunctions.now) self.new }
+        ensures stands { StandsWithListed D.SolvableId requirement disjunctions.now self.old self.new }
     {
         let _ = parent_value;
         if self.is_full() {
@@ -240,8 +187,7 @@ impl<D: DependencyProvider> DecideQueue<D> {
         ensures too_large { IsTrue (D.NameId.Set.is_too_large name) → result ≡ Err IdSpace }
         ensures walks { SameValues (walks self.old) (walks self.new) }
         ensures owed { SameValues (owed self.old) (owed self.new) }
-        ensures stands { (refs : References D.NameId D.SolvableId D.Alloc) → StandsOn refs self.old →
-            StandsOn refs self.new }
+        ensures stands { StandsStill D.SolvableId D.Alloc self.old self.new }
     {
         self.heat(name)?;
         self.hot_names.insert(name)?;
@@ -259,8 +205,7 @@ impl<D: DependencyProvider> DecideQueue<D> {
         ensures records { self.new.inside.requirements ≡ self.old.inside.requirements }
         ensures memory { IfErr result (λ e. e ≡ OutOfMemory) }
         ensures fits { IsTrue (D.NameId.Set.is_too_large name) → IsOk result }
-        ensures stands { (refs : References D.NameId D.SolvableId D.Alloc) → StandsOn refs self.old →
-            StandsOn refs self.new }
+        ensures stands { StandsStill D.SolvableId D.Alloc self.old self.new }
     {
         if self.hot_names.contains(name) {
             return Ok(());
@@ -287,19 +232,15 @@ impl<D: DependencyProvider> DecideQueue<D> {
         ensures clauses { SameClauses self.old self.new }
         ensures hot { SameValues (D.NameId.Set.has self.old.hot) (D.NameId.Set.has self.new.hot) }
         ensures memory { IfErr result (λ e. e ≡ OutOfMemory) }
-        ensures stands { (refs : References D.NameId D.SolvableId D.Alloc) → StandsOn refs self.old →
-            StandsOn refs self.new }
+        ensures stands { StandsStill D.SolvableId D.Alloc self.old self.new }
 
         // Nothing is walked, whatever the result, and at most one walk more is owed of each requirement. Unless the
         // last sync was refused, none more is owed where no row has the variable of a decision from the floor on, in
         // either trail.
         ensures walks { SameValues (walks self.old) (walks self.new) }
         ensures owed { (r : ARequirement) → owed self.new r ≤ owed self.old r + 1 }
-        ensures owed_still { self.old.must_start_anew ≡ false → (refs : References D.NameId D.SolvableId D.Alloc) →
-            StandsOn refs self.old →
-            (r : ARequirement) → IsWalkable refs.universe refs.lists r →
-            HasNoneOf (changed_from floor trail.now self.old) (rows_in refs r) →
-            owed self.new r ≡ owed self.old r }
+        ensures owed_still { let changed = changed_from floor trail.now self.old in
+            self.old.must_start_anew ≡ false → OwesMoreAmong D.SolvableId D.Alloc changed self.old self.new }
     {
         let floor = floor.min(trail.len()).min(self.tracked.trail.len());
         self.tracked.sync(floor, trail, map)
@@ -329,18 +270,15 @@ impl<D: DependencyProvider> DecideQueue<D> {
         requires hot { OnlyHotScore D.NameId.Set.has (D.NameId.Scores.value_at scores.now) self.old }
         requires largest { IsLargest nat_cmp 0 (D.NameId.Scores.value_at scores.now) largest }
         requires none_falsified { let refs = references (D.universe provider.now) reader.old.lists disjunctions.now in
-            first_falsified (values_in map.now) (literals_in refs) (rows_in refs) self.old.clauses ≡ None }
+            falsified_in refs (values_in map.now) self.old ≡ None }
         ensures picked { let refs = references (D.universe provider.now) reader.old.lists disjunctions.now in
-            IfOk result (λ decision. decision ≡ option_map decided
-            (pick (eligible (values_in map.now) (literals_in refs) (rows_in refs)
-            (score_in refs (D.NameId.Scores.value_at scores.now)) self.old.clauses))) }
+            let offers = offers_in refs (values_in map.now) self.old (D.NameId.Scores.value_at scores.now) in
+            IfOk result (λ decision. decision ≡ option_map decided (pick offers)) }
         ensures none { let refs = references (D.universe provider.now) reader.old.lists disjunctions.now in
-            IfOk result (λ decision. (decision ≡ None)
-            ↔ All (λ c. is_eligible (values_in map.now) (literals_in refs) (rows_in refs) c ≡ false)
-            (scan self.old.clauses)) }
+            IfOk result (λ decision. (decision ≡ None) ↔ HasNoneEligible refs (values_in map.now) self.old) }
         ensures unbeaten { let refs = references (D.universe provider.now) reader.old.lists disjunctions.now in
-            IfOk result (DecidesUnbeaten (eligible (values_in map.now) (literals_in refs) (rows_in refs)
-            (score_in refs (D.NameId.Scores.value_at scores.now)) self.old.clauses)) }
+            let offers = offers_in refs (values_in map.now) self.old (D.NameId.Scores.value_at scores.now) in
+            IfOk result (DecidesUnbeaten offers) }
         ensures memory { IfErr result (λ e. e ≡ OutOfMemory) }
         ensures unchanged { IsUnchanged self.old self.new D.NameId.Set.has }
         ensures lists { reader.new.lists ≡ reader.old.lists }

@@ -11,9 +11,9 @@ ghost use Rattle.resolvo_queue.specs.Pick.Groups.{IsNextOf, has_of, is_in, offer
 ghost use Rattle.resolvo_queue.specs.Pick.Inspection.{offer_with};
 ghost use Rattle.resolvo_queue.specs.Pick.Questions.{AreUpTo};
 ghost use Rattle.resolvo_queue.specs.Pick.Ready.{IsDone, offered};
-ghost use Rattle.resolvo_queue.specs.Pick.Steps.{OnlyWalks};
+ghost use Rattle.resolvo_queue.specs.Pick.Grounds.{OnlyWalks};
 ghost use Rattle.resolvo_queue.specs.Scan.Positions.{has, is_after, IsBefore};
-ghost use Rattle.resolvo_queue.specs.Parts.Queued.{IsOfClause, set_of};
+ghost use Rattle.resolvo_queue.specs.Parts.{IsOfClause, set_of};
 ghost use Rattle.resolvo_queue.specs.declared.tracked_clause.Position.{Position as APosition};
 ghost use Rattle.resolvo_queue.specs.declared.tracked_clause.TrackedClause.{TrackedClause as ATrackedClause};
 

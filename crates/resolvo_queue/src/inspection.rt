@@ -1,8 +1,6 @@
 //! Looking at a clause: whether it is eligible, and where.
 ghost use Rattle.std.specs.Prelude.{◌≡◌, ◌<◌, Some, true, length, is_some, IsSome, IfSome, OnOk, IfOk, IfErr};
-ghost use Rattle.std.specs.Map.{lookup};
-ghost use Rattle.typed_ids.specs.declared.error.StoreError.TheVariants.{OutOfMemory};
-ghost use Rattle.providers.specs.Requirement.{same_requirement};
+ghost use Rattle.resolvo_queue.specs.Types.{lookup, OutOfMemory, same_requirement};
 ghost use Rattle.resolvo_queue.specs.Rows.{candidates};
 ghost use Rattle.resolvo_queue.specs.Pick.Grounds.{LearnsOn, RightOn, eligible_on, frontier_on, grounds};
 ghost use Rattle.resolvo_queue.specs.Pick.Questions.{clause_literals};
@@ -10,7 +8,7 @@ ghost use Rattle.resolvo_queue.specs.References.{IsWalkable};
 ghost use Rattle.resolvo_queue.specs.Pick.Inspection.{ListsOnly, may_be};
 ghost use Rattle.resolvo_queue.specs.Rows.Listing.{IsListedWell};
 ghost use Rattle.resolvo_queue.specs.Occurrences.{is_listed, GrowsWith};
-ghost use Rattle.resolvo_queue.specs.Parts.Records.{known_at, IsPlaceOf, OwesSame, SameFound};
+ghost use Rattle.resolvo_queue.specs.Parts.{known_at, IsPlaceOf, OwesSame, SameFound};
 ghost use Rattle.resolvo_queue.specs.WalkCounts.{WalksOnce};
 
 use crate::asked::Question;

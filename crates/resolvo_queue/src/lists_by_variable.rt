@@ -3,8 +3,7 @@
 //! Most variables are candidates of a requirement or two. A vector of so few items takes more memory for where they lie
 //! than for them, and an allocation beside: so a list holds its first items in itself.
 ghost use Rattle.std.specs.Prelude.{◌≡◌, ◌<◌, [], ◌∷◌, ◌++◌, length, OnOk, OnErr, IfErr};
-ghost use Rattle.typed_ids.specs.declared.error.StoreError.TheVariants.{OutOfMemory};
-ghost use Rattle.typed_ids.specs.TotalMaps.{IsUpdate, SameValues};
+ghost use Rattle.resolvo_queue.specs.Types.{IsUpdate, OutOfMemory, SameValues};
 ghost use Rattle.resolvo_queue.specs.Rows.ByVariable.{list_at};
 
 use smallvec::SmallVec;
@@ -43,7 +42,7 @@ impl<T, A: Allocator + Copy> Model for ListsByVariable<T, A> {
 
     ghost Value = { List (List T) };
 
-    ghost use Rattle.resolvo_queue.specs.Rows.ShortLists.{items_in};
+    ghost use Rattle.resolvo_queue.specs.Rows.ByVariable.{items_in};
 
     ghost view = { λ m. map items_in m.lists.items };
 }

@@ -20,7 +20,7 @@ pub(crate) struct QueuedClauses<A: Allocator + Copy> {
 }
 
 impl<A: Allocator + Copy> Model for QueuedClauses<A> {
-    ghost use Rattle.resolvo_queue.specs.Parts.Queued.{Queued};
+    ghost use Rattle.resolvo_queue.specs.Parts.{Queued};
 
     ghost Value = { Queued };
 
@@ -28,7 +28,7 @@ impl<A: Allocator + Copy> Model for QueuedClauses<A> {
 }
 
 impl<A: Allocator + Copy> QueuedClauses<A> {
-    ghost use Rattle.resolvo_queue.specs.Parts.Queued.{IsQueued, GrowsBy, LosesOnly, is_empty_queue, set_of, heated};
+    ghost use Rattle.resolvo_queue.specs.Parts.{IsQueued, GrowsBy, LosesOnly, is_empty_queue, set_of, heated};
     ghost use Rattle.resolvo_queue.specs.Pick.Groups.{IsNextOf, has_of, is_in};
     ghost use Rattle.resolvo_queue.specs.Scan.Positions.{has, is_after, same_position, IsBefore};
     ghost use Rattle.resolvo_queue.specs.declared.tracked_clause.Position.{Position};

@@ -3,8 +3,8 @@ ghost use Rattle.std.specs.Prelude.{◌≡◌, ◌<◌, ◌≤◌, ◌+◌, [], 
 ghost use Rattle.std.specs.Prelude.{IfOk, OnOk, OnErr, IfErr};
 ghost use Rattle.typed_ids.specs.declared.error.StoreError.TheVariants.{OutOfMemory};
 ghost use Rattle.providers.specs.declared.requirement.Requirement.{Requirement as ARequirement};
-ghost use Rattle.resolvo_queue.specs.Parts.RecordView.{record_seen};
-ghost use Rattle.resolvo_queue.specs.Parts.Records.{forgotten, fresh};
+ghost use Rattle.resolvo_queue.specs.Parts.{record_seen};
+ghost use Rattle.resolvo_queue.specs.Parts.{forgotten, fresh};
 
 use crate::offer::Frontier;
 use crate::walk_log::WalkLog;
@@ -41,11 +41,11 @@ pub(crate) struct Requirements<A: Allocator + Copy> {
 
 impl<A: Allocator + Copy> Model for Requirements<A> {
     ghost use Rattle.std.specs.Prelude.{List, map};
-    ghost use Rattle.resolvo_queue.specs.Parts.Records.{Record};
+    ghost use Rattle.resolvo_queue.specs.Parts.{Record};
 
     ghost Value = { List Record };
 
-    ghost use Rattle.resolvo_queue.specs.Parts.RecordView.{record_seen, ArePlaced};
+    ghost use Rattle.resolvo_queue.specs.Parts.{record_seen, ArePlaced};
 
     ghost view = { λ r. map record_seen r.records.items };
 
@@ -54,9 +54,9 @@ impl<A: Allocator + Copy> Model for Requirements<A> {
 
 impl<A: Allocator + Copy> Requirements<A> {
     ghost use Rattle.std.specs.Prelude.{ℕ};
-    ghost use Rattle.resolvo_queue.specs.Parts.Records.{known_at, updated_at, forgotten, fresh, walked, with_clause};
-    ghost use Rattle.resolvo_queue.specs.Parts.Records.{clauses_at, IsPlaceOf, HasNoPlace, GainsRecord};
-    ghost use Rattle.resolvo_queue.specs.Parts.RecordView.{known_of};
+    ghost use Rattle.resolvo_queue.specs.Parts.{known_at, updated_at, forgotten, fresh, walked, with_clause};
+    ghost use Rattle.resolvo_queue.specs.Parts.{clauses_at, IsPlaceOf, HasNoPlace, GainsRecord};
+    ghost use Rattle.resolvo_queue.specs.Parts.{known_of};
     ghost use Rattle.resolvo_queue.specs.Members.{Stands};
     ghost use Rattle.resolvo_queue.specs.Parts.Tracking.{GainsClauses};
     ghost use Rattle.resolvo_queue.specs.WalkCounts.{OwesFirst, owed_in};

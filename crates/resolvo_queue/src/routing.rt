@@ -1,10 +1,9 @@
 //! Routing variables whose values may have changed.
 ghost use Rattle.std.specs.Prelude.{◌≡◌, [], ◌∷◌, true, is_some, OnOk, IfErr};
-ghost use Rattle.typed_ids.specs.declared.error.StoreError.TheVariants.{OutOfMemory};
+ghost use Rattle.resolvo_queue.specs.Types.{OutOfMemory, values_in};
 ghost use Rattle.resolvo_queue.specs.Occurrences.{listing};
-ghost use Rattle.decisions.specs.Decisions.{values_in};
 ghost use Rattle.resolvo_queue.specs.Rows.ByVariable.{list_at};
-ghost use Rattle.resolvo_queue.specs.Parts.Queued.{AreWoken, GrowsBy, HaveNumbers, IsOfClause};
+ghost use Rattle.resolvo_queue.specs.Parts.{AreWoken, GrowsBy, HaveNumbers, IsOfClause};
 ghost use Rattle.resolvo_queue.specs.Routing.{AreUnknown, ForgetsAmong, OnlyForgets, Routes, Unrouted, WakesForgotten};
 ghost use Rattle.resolvo_queue.specs.Routing.{variables_of, ways};
 

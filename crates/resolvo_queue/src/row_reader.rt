@@ -5,11 +5,8 @@
 //! the second is made once for each.
 ghost use Rattle.std.specs.Prelude.{◌≡◌, ◌↔◌, ◌-◌, [], ◌∷◌, ◌++◌, true, if◌then◌else◌, flat_map, length};
 ghost use Rattle.std.specs.Prelude.{slice_get, Some, IsTrue, IsSome, IfSome, OnOk, OnErr, IfErr};
-ghost use Rattle.std.specs.Map.{lookup};
-ghost use Rattle.typed_ids.specs.declared.error.StoreError.TheVariants.{OutOfMemory};
-ghost use Rattle.providers.specs.Requirement.{same_requirement};
+ghost use Rattle.resolvo_queue.specs.Types.{lookup, OutOfMemory, same_requirement, values_in};
 ghost use Rattle.providers.specs.declared.requirement.Requirement.{Requirement as ARequirement};
-ghost use Rattle.decisions.specs.Decisions.{values_in};
 ghost use Rattle.resolvo_queue.specs.Occurrences.{GrowsWith, HasAll, is_listed, listing};
 ghost use Rattle.resolvo_queue.specs.References.{IsWalkable};
 ghost use Rattle.resolvo_queue.specs.Rows.{candidates, frontier, loaded_rows};

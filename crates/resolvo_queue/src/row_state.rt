@@ -2,8 +2,7 @@
 //!
 //! A row is a candidate of a requirement: a variable, in the list of one of the requirement's version sets.
 ghost use Rattle.std.specs.Prelude.{◌≡◌, ◌+◌, ◌<◌, ◌^◌, true, map, flat_map, length};
-ghost use Rattle.decisions.specs.Decisions.{values_in};
-ghost use Rattle.providers.specs.Provider.{knows_requirement};
+ghost use Rattle.resolvo_queue.specs.Types.{knows_requirement, values_in};
 ghost use Rattle.resolvo_queue.specs.Rows.{list_rows, rows, loaded_rows, all_false, candidates};
 ghost use Rattle.resolvo_queue.specs.Rows.States.{state_of, counted, with_row, with_rows};
 

@@ -1,10 +1,9 @@
 //! Bringing a queue up to date with a trail.
 ghost use Rattle.std.specs.Prelude.{◌≡◌, ℕ, List, ◌≤◌, ◌++◌, ◌↔◌, true, false, length, take, drop, map, IsTrue, OnOk};
 ghost use Rattle.std.specs.Prelude.{OnErr, IfErr};
-ghost use Rattle.typed_ids.specs.declared.error.StoreError.TheVariants.{OutOfMemory};
-ghost use Rattle.decisions.specs.Decisions.{values_in};
+ghost use Rattle.resolvo_queue.specs.Types.{OutOfMemory, values_in};
 ghost use Rattle.resolvo_queue.specs.Occurrences.{listing};
-ghost use Rattle.resolvo_queue.specs.Parts.Queued.{GrowsBy, HaveNumbers, IsOfClause};
+ghost use Rattle.resolvo_queue.specs.Parts.{GrowsBy, HaveNumbers, IsOfClause};
 ghost use Rattle.resolvo_queue.specs.Routing.{OnlyForgets, Unrouted, changed_between};
 ghost use Rattle.resolvo_queue.specs.Routing.Synced.{SyncsTracked};
 

@@ -1,6 +1,6 @@
 //! The registered clauses, and which of them may be eligible.
 ghost use Rattle.std.specs.Prelude.{[], ◌≡◌, false};
-ghost use Rattle.resolvo_queue.specs.Parts.Queued.{is_empty_queue};
+ghost use Rattle.resolvo_queue.specs.Parts.{is_empty_queue};
 
 use crate::clause_index::ClauseIndex;
 use crate::lists_by_variable::ListsByVariable;

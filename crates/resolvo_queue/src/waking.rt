@@ -1,10 +1,8 @@
 //! Queueing clauses again.
 ghost use Rattle.std.specs.Prelude.{◌≡◌, ◌≤◌, true, length, OnOk, IfErr};
-ghost use Rattle.typed_ids.specs.declared.error.StoreError.TheVariants.{OutOfMemory};
-ghost use Rattle.decisions.specs.Decisions.{values_in};
-ghost use Rattle.decisions.specs.Literals.{known_true};
+ghost use Rattle.resolvo_queue.specs.Types.{known_true, OutOfMemory, values_in};
 ghost use Rattle.resolvo_queue.specs.Scan.Positions.{same_position};
-ghost use Rattle.resolvo_queue.specs.Parts.Queued.{AreWoken, IsQueued, IsWoken, GrowsBy, HaveNumbers, IsOfClause};
+ghost use Rattle.resolvo_queue.specs.Parts.{AreWoken, IsQueued, IsWoken, GrowsBy, HaveNumbers, IsOfClause};
 ghost use Rattle.resolvo_queue.specs.Routing.Synced.{AllWokenFrom};
 
 use crate::clause_index::ClauseIndex;

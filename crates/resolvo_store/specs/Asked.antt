@@ -5,7 +5,7 @@ use Rattle.providers.specs.declared.requirement.Requirement.{Requirement}
 use Rattle.decisions.specs.Trail.{Trail}
 use Rattle.decisions.specs.declared.decision.Decision.{Decision}
 use Rattle.resolvo_queue.specs.Queue.{Queue}
-use Rattle.resolvo_queue.specs.Parts.Records.{Record}
+use Rattle.resolvo_queue.specs.Parts.{Record}
 use Rattle.resolvo_queue.specs.WalkCounts.{owed_in, walks_in}
 
 pub record Asked : Type 0 where

@@ -3,16 +3,11 @@ use Rattle.std.proofs.Common.{◌≡◌, ℕ, zero, suc, ◌+◌, ◌<◌, Bool,
 use Rattle.std.proofs.Common.{List, [], ◌∷◌, ◌++◌, map, take, length, length-append, get_or}
 use Rattle.std.proofs.Common.{set, Option, Some, None, IfSome, slice_get, sym, ap, refl, ◌∙◌, subst, arith}
 use Rattle.std.proofs.lemmas.List.{get_or-map, get_or_past, length-map, take_more}
-use Rattle.typed_ids.specs.TotalMaps.{IsUpdate}
-use Rattle.resolvo_queue.specs.Parts.ByName.{AreEntered, HaveLists, IsEntered, KeepsNumbers, list_in}
-use Rattle.resolvo_queue.specs.Rows.ByVariable.{list_at}
-use Rattle.resolvo_queue.specs.Parts.Names.{ColdLack, names_at}
-use Rattle.resolvo_queue.specs.Members.{Stands}
-use Rattle.resolvo_queue.specs.Parts.Numbers.{GainsNumber}
-use Rattle.resolvo_queue.specs.declared.tracked_clause.TrackedClause.{TrackedClause}
+use Rattle.resolvo_queue.proofs.Words.{AreEntered, ColdLack, GainsNumber, HaveLists, IsEntered, IsUpdate, KeepsNumbers}
+use Rattle.resolvo_queue.proofs.Words.{list_at, list_in, names_at, Stands, TrackedClause}
 use Rattle.resolvo_queue.proofs.Rows.ByVariable.{put_after, put_nothing, same_with_empty}
-use Rattle.resolvo_queue.proofs.Lists.{read_stands}
-use Rattle.resolvo_queue.proofs.Clauses.Numbers.{gains_each, stands_cases, stands_last, updated_each}
+use Rattle.resolvo_queue.proofs.Lists.{read_stands, stands_cases, stands_last}
+use Rattle.resolvo_queue.proofs.Clauses.Numbers.{gains_each, updated_each}
 
 -- ---- places
 
@@ -23,8 +18,7 @@ place_within places lists name p have is = subst (λ o. IfSome o (λ q. q < leng
 
 -- the list of a name's place
 pub list_read : {X : Type 0} (items : X → List ℕ) (lists : List X) (p : ℕ) (x : X) (o : Option ℕ) → p < length lists →
-    x ≡ get_or lists p x → o ≡ Some p →
-    items x ≡ list_in (map items lists) o
+    x ≡ get_or lists p x → o ≡ Some p → items x ≡ list_in (map items lists) o
 list_read items lists p x o inside read is =
     ap items read ∙ (sym (get_or-map items lists p x [] inside) ∙ ap (list_in (map items lists)) (sym is))
 
@@ -80,8 +74,7 @@ module _ {N : Type 0} (eq : N → N → Bool) (self : (a : N) → eq a a ≡ tru
 -- ---- a number comes to the list at a place
 
 module _ {N X : Type 0} (places : N → Option ℕ) (items : X → List ℕ) (lists : List X) (number place : ℕ)
-    (before after : X)
-    (inside : place < length lists) (read : before ≡ get_or lists place before) where
+    (before after : X) (inside : place < length lists) (read : before ≡ get_or lists place before) where
   abbrev was : N → List ℕ
   was name = list_in (map items lists) (places name)
 
@@ -107,8 +100,7 @@ module _ {N X : Type 0} (places : N → Option ℕ) (items : X → List ℕ) (li
 
   pub push_stands : items after ≡ items before ++ number ∷ [] → (name : N) → places name ≡ Some place →
       Stands number (is_now name)
-  push_stands e name is =
-      subst (λ o. Stands number (list_in (map items (set lists place after)) o)) (sym is)
+  push_stands e name is = subst (λ o. Stands number (list_in (map items (set lists place after)) o)) (sym is)
       (subst (Stands number) (sym (pushed e).0) (stands_last (list_at (map items lists) place) number))
 
   pub refused_keeps : items after ≡ items before → KeepsNumbers was is_now
@@ -145,8 +137,7 @@ entered_none is_too_large a [] e n name s = elim s [ ]
 entered_none is_too_large a (x ∷ xs) e n name s = cc
 
 pub entered_still : {N : Type 0} (is_too_large : N → Bool) (a b : N → List ℕ) (names now : List (List N)) →
-    now ≡ names → KeepsNumbers a b → AreEntered is_too_large a names →
-    AreEntered is_too_large b now
+    now ≡ names → KeepsNumbers a b → AreEntered is_too_large a names → AreEntered is_too_large b now
 entered_still is_too_large a b names now same keeps entered n name s =
     still_entered is_too_large a b keeps n name (entered n name (subst (λ l. Stands name (names_at l n)) same s))
 

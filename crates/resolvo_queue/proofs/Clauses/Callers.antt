@@ -3,27 +3,14 @@ use Rattle.std.proofs.Common.{◌≡◌, ℕ, zero, suc, ◌+◌, ◌<◌, ◌�
 use Rattle.std.proofs.Common.{◌∷◌, ◌++◌, length, map, flat_map, Option, Some, None, is_some, slice_get}
 use Rattle.std.proofs.Common.{sym, ap, ◌∙◌, subst, refl, arith, length-append, Vec, unwrap_or}
 use Rattle.std.specs.Prelude.{All, Contains, IfSome, IsSome}
-use Rattle.std.specs.Map.{lookup}
 use Rattle.std.proofs.lemmas.List.Elements.{All-weaker}
-use Rattle.providers.specs.Provider.{sets_of}
-use Rattle.providers.specs.Requirement.{same_requirement}
-use Rattle.providers.specs.RequirementMap.{with_entry}
-use Rattle.providers.specs.declared.requirement.Requirement.{Requirement}
-use Rattle.clauses.specs.Clauses.{condition_literals}
-use Rattle.clauses.specs.Stored.{kept_in}
-use Rattle.clauses.specs.declared.disjunction.Disjunction.{Disjunction}
-use Rattle.resolvo_queue.specs.Laws.{StandsWithDisjunction, StandsWithLists, ValuesOfEntries}
-use Rattle.resolvo_queue.specs.Rows.Listing.{IsListedWell}
-use Rattle.resolvo_queue.specs.Routing.Synced.{counts}
-use Rattle.resolvo_queue.specs.Occurrences.{HasAll, Listed}
-use Rattle.resolvo_queue.specs.Queue.{values_of}
-use Rattle.resolvo_queue.specs.Pick.Questions.{clause_literals}
-use Rattle.resolvo_queue.specs.References.{HasParts, references, rows_in}
-use Rattle.resolvo_queue.specs.Rows.{candidates, lists_or_none, loaded_rows, rows}
-use Rattle.resolvo_queue.specs.Parts.Records.{Record, known_at, owed_of, rows_at, walk_of}
-use Rattle.resolvo_queue.specs.Parts.Records.{rows_in as rows_of_record}
-use Rattle.resolvo_queue.specs.WalkCounts.{owed_in, record_of, walks_in, walks_of}
-use Rattle.resolvo_queue.specs.declared.tracked_clause.TrackedClause.{TrackedClause}
+use Rattle.resolvo_queue.proofs.Words.{candidates, clause_literals, condition_literals, counts, Disjunction, Entry}
+use Rattle.resolvo_queue.proofs.Words.{HasAll, HasParts, IsListedWell, kept_in, known_at, Listed, lists_or_none}
+use Rattle.resolvo_queue.proofs.Words.{loaded_rows, lookup, owed_in, owed_of, Queue, Record, record_of, References}
+use Rattle.resolvo_queue.proofs.Words.{references, Requirement, rows, rows_at, same_requirement, sets_of, StandsOn}
+use Rattle.resolvo_queue.proofs.Words.{TrackedClause, val, values_of, walk_of, walks_in, walks_of, with_entry}
+use Rattle.resolvo_queue.specs.References.{rows_in}
+use Rattle.resolvo_queue.specs.Parts.{rows_in as rows_of_record}
 use Rattle.resolvo_queue.proofs.Picks.Registered.{all_tracked}
 use Rattle.resolvo_queue.proofs.Clauses.Entries.{looked_up}
 use Rattle.resolvo_queue.proofs.Rows.Listing.{candidate_has_lists}
@@ -65,28 +52,26 @@ literals_still ds d None h = refl
 literals_still ds d (Some i) h = ap (λ o. unwrap_or o [])
     (got_still (λ disjunction. disjunction.literals.items) ds d i h)
 
-pub stands_with_disjunction : {N S A H : Type 0} → StandsWithDisjunction N S A H
+pub stands_with_disjunction : {N S A H : Type 0} (refs : References N S A) (q : Queue N H) (d : Disjunction A) →
+    StandsOn refs q → StandsOn (references refs.universe refs.lists (refs.disjunctions ++ d ∷ [])) q
 stands_with_disjunction refs q d stands =
     let more = references refs.universe refs.lists (refs.disjunctions ++ d ∷ []) in
     let same : (n : ℕ) (c : TrackedClause) → slice_get q.inside.clauses n ≡ Some c →
-    clause_literals more c ≡ clause_literals refs c =
-    λ n c e. literals_still refs.disjunctions d c.condition
+    clause_literals more c ≡ clause_literals refs c = λ n c e. literals_still refs.disjunctions d c.condition
     (all_tracked (HasParts refs) q.inside.clauses
     (subst (All (HasParts refs)) stands.clauses stands.parts) n c e).disjunction in
     record {
       clauses = stands.clauses;
-      parts = All-weaker (HasParts refs) (HasParts more)
-          (λ c has. record {
-            lists = has.lists;
-            disjunction = some_still c.condition (length refs.disjunctions) (length (refs.disjunctions ++ d ∷ []))
-                (length-append refs.disjunctions (d ∷ [])) has.disjunction;
-          }) q.clauses stands.parts;
+      parts = All-weaker (HasParts refs) (HasParts more) (λ c has. record {
+        lists = has.lists;
+        disjunction = some_still c.condition (length refs.disjunctions) (length (refs.disjunctions ++ d ∷ []))
+            (length-append refs.disjunctions (d ∷ [])) has.disjunction;
+      }) q.clauses stands.parts;
       conditions = finds_same q.inside.clauses (clause_literals refs)
           (clause_literals more) same q.inside.by_condition stands.conditions;
       listed = stands.listed;
       synced = λ accepted. synced_same q.inside.clauses (clause_literals refs) (clause_literals more) same
-          (rows_in refs) (rows_in more) (values_of q.trail)
-          (counts (values_of q.trail) q.woken)
+          (rows_in refs) (rows_in more) (values_of q.trail) (counts (values_of q.trail) q.woken)
           (counts (values_of q.trail) q.woken) q.inside.requirements q.inside.requirements
           (λ p. ⊥) q.inside.queued q.inside.queued (λ n c e. refl) (λ k. refl) (λ k h. refl)
           (grows_none (λ p. ⊥) q.inside.queued) (stands.synced accepted);
@@ -140,21 +125,21 @@ module _ {A : Type 0} (lists : List (Requirement × Vec (Vec ℕ A) A)) (r : Req
     known = w.known;
   }
 
-pub stands_with_lists : {N S A H : Type 0} → StandsWithLists N S A H
+pub stands_with_lists : {N S A H : Type 0} (refs : References N S A) (q : Queue N H) (r : Requirement)
+    (lists : Vec (Vec ℕ A) A) → lookup (same_requirement r) refs.lists ≡ None → StandsOn refs q →
+    StandsOn (references refs.universe (with_entry refs.lists r lists) refs.disjunctions) q
 stands_with_lists {N} {S} {A} refs q r lists none stands =
     let more = references refs.universe (with_entry refs.lists r lists) refs.disjunctions in
     record {
       clauses = stands.clauses;
-      parts = All-weaker (HasParts refs) (HasParts more)
-          (λ c has. record {
-            lists = some_found (same_requirement c.requirement) refs.lists r lists has.lists;
-            disjunction = has.disjunction;
-          }) q.clauses stands.parts;
+      parts = All-weaker (HasParts refs) (HasParts more) (λ c has. record {
+        lists = some_found (same_requirement c.requirement) refs.lists r lists has.lists;
+        disjunction = has.disjunction;
+      }) q.clauses stands.parts;
       conditions = stands.conditions;
       listed = listed_still refs.lists r lists none q.inside.occurrences q.inside.requirements stands.listed;
       synced = λ accepted. synced_same q.inside.clauses (clause_literals refs) (clause_literals more) (λ n c e. refl)
-          (rows_in refs) (rows_in more) (values_of q.trail)
-          (counts (values_of q.trail) q.woken)
+          (rows_in refs) (rows_in more) (values_of q.trail) (counts (values_of q.trail) q.woken)
           (counts (values_of q.trail) q.woken) q.inside.requirements q.inside.requirements
           (λ p. ⊥) q.inside.queued q.inside.queued (λ n c e. refl) (λ k. refl) rows_same
           (grows_none (λ p. ⊥) q.inside.queued) (stands.synced accepted);
@@ -169,15 +154,14 @@ stands_with_lists {N} {S} {A} refs q r lists none stands =
             rows_of_record (loaded_rows refs.universe (with_entry refs.lists r lists)) o ≡
             rows_of_record (loaded_rows refs.universe refs.lists) o
         go None e s = refl
-        go (Some t) e s =
-            ap (λ o. rows (sets_of refs.universe t.requirement) (lists_or_none o))
+        go (Some t) e s = ap (λ o. rows (sets_of refs.universe t.requirement) (lists_or_none o))
             (found_same refs.lists r lists none t.requirement
             (stands.listed.entries t.requirement (stands.listed.known k t e s)))
 
 -- ---- trails
 
 -- the values of a trail's entries are those of its decisions
-pub values_of_entries : ValuesOfEntries
+pub values_of_entries : (es : List Entry) (x : ℕ) → val es x ≡ values_of (map (λ e. e.decision) es) x
 values_of_entries [] x = refl
 values_of_entries (e ∷ es) x = ap (λ o. cond (eqb e.decision.variable x) (Some e.decision.value) o)
     (values_of_entries es x)

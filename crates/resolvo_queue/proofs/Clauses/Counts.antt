@@ -3,18 +3,11 @@ use Rattle.std.proofs.Common.{◌≡◌, ℕ, ◌<◌, ◌≤◌, Bool, true, fa
 use Rattle.std.proofs.Common.{refl, arith}
 use Rattle.std.proofs.lemmas.Bool.{le-ltb, lt-ltb, ltb-false}
 use Rattle.std.proofs.lemmas.Option.{slice_get_within}
-use Rattle.decisions.specs.Literals.{Lit, Values, known_true}
-use Rattle.providers.specs.declared.requirement.Requirement.{Requirement}
-use Rattle.resolvo_queue.specs.Parts.Queued.{GrowsBy, IsOfClause, Queued}
-use Rattle.resolvo_queue.specs.Parts.Records.{Record, known_at, rows_at}
-use Rattle.resolvo_queue.specs.Pick.Ready.{AreLocated}
-use Rattle.resolvo_queue.specs.Routing.Possible.{is_possible, may_have_frontier}
-use Rattle.resolvo_queue.specs.Routing.Synced.{AllWokenFrom, KeepsQueued, counts}
-use Rattle.resolvo_queue.specs.Rows.{Row}
-use Rattle.resolvo_queue.specs.Scan.{are_literals_false}
-use Rattle.resolvo_queue.specs.declared.tracked_clause.Position.{Position}
-use Rattle.resolvo_queue.specs.declared.tracked_clause.TrackedClause.{TrackedClause}
+use Rattle.resolvo_queue.proofs.Words.{AllWokenFrom, are_literals_false, AreLocated, counts, GrowsBy, is_possible}
+use Rattle.resolvo_queue.proofs.Words.{IsOfClause, IsQueued, KeepsQueued, known_at, known_true, Lit, may_have_frontier}
+use Rattle.resolvo_queue.proofs.Words.{Position, Queued, Record, Requirement, Row, TrackedClause, Values}
 use Rattle.resolvo_queue.proofs.Syncs.Law.{both_of}
+use Rattle.resolvo_queue.proofs.Syncs.Queued.{queued_stays}
 
 -- a clause's position has its number
 pub own_number : (cs : List TrackedClause) → AreLocated cs → (n : ℕ) (c : TrackedClause) → slice_get cs n ≡ Some c →
@@ -43,32 +36,17 @@ module _ (val : Values) where
       KeepsQueued cs literals rows_of val (counts val woken) ts q →
       KeepsQueued cs literals rows_of val (λ c. known_true (val c.parent)) ts q'
   woken_all cs located literals rows_of woken ts q q' grows came old = record {
-    all = λ c reg e. cases c reg.0 reg.1 (both_of (known_true (val c.parent)) _ e).0
-        (λ below. grows.all_kept c.position (old.all c reg (still c below e)))
-        (λ from t. (came reg.0 c reg.1 from t).all);
-    hot = λ c reg e. cases c reg.0.0 reg.0.1 (both_of (known_true (val c.parent)) _ e).0
-        (λ below. grows.hot_kept c.position (old.hot c reg (still c below e)))
-        (λ from t. (came reg.0.0 c reg.0.1 from t).hot reg.1);
+    queued = λ n c at e. go n c at e (ltb c.position.number woken) refl;
     right = old.right;
   }
     where
-      possible : (TrackedClause → Bool) → TrackedClause → Bool
-      possible counted = is_possible (λ (d : TrackedClause). d.parent) literals (λ d. d.record) (rows_at rows_of ts)
-          counted val (known_at ts)
-
-      still : (c : TrackedClause) → ltb c.position.number woken ≡ true →
-          possible (λ d. known_true (val d.parent)) c ≡ true → possible (counts val woken) c ≡ true
-      still c below e =
-          ap (λ b. (b && known_true (val c.parent)) &&
-          (are_literals_false val (literals c) && may_have_frontier (known_at ts c.record))) below ∙ e
-
-      cases : {P : Type 0} (c : TrackedClause) (n : ℕ) → slice_get cs n ≡ Some c → known_true (val c.parent) ≡ true →
-          (ltb c.position.number woken ≡ true → P) → (woken ≤ n → known_true (val c.parent) ≡ true → P) → P
-      cases {P} c n at t below from = go (ltb c.position.number woken) refl
-        where
-          go : (b : Bool) → ltb c.position.number woken ≡ b → P
-          go true h = below h
-          go false h =
-              let le = ltb-false c.position.number woken h in
-              let own = own_number cs located n c at in
-              from (omega (arith, le, own)) t
+      go : (n : ℕ) (c : TrackedClause) → slice_get cs n ≡ Some c →
+          is_possible literals (λ d. known_true (val d.parent)) val (known_at ts) c ≡ true → (b : Bool) →
+          ltb c.position.number woken ≡ b → IsQueued q' c
+      go n c at e true below = queued_stays (IsOfClause cs) q q' c grows (old.queued n c at
+          (ap (λ b. (b && known_true (val c.parent)) &&
+          (are_literals_false val (literals c) && may_have_frontier (known_at ts c.record))) below ∙ e))
+      go n c at e false h =
+          let le = ltb-false c.position.number woken h in
+          let own = own_number cs located n c at in
+          came n c at (omega (arith, le, own)) (both_of (known_true (val c.parent)) _ e).0

@@ -2,12 +2,8 @@
 use Rattle.std.proofs.Common.{◌≡◌, ℕ, zero, suc, Bool, true, false, cond, ◌⊎◌, inl, inr}
 use Rattle.std.proofs.Common.{List, [], ◌∷◌, ◌++◌, length, Option, Some, None, slice_get}
 use Rattle.std.proofs.Common.{sym, ap, refl, ◌∙◌, subst, Result, Ok, Err, OnOk, OnErr, IfOk}
-use Rattle.std.specs.Map.{lookup}
-use Rattle.providers.specs.Requirement.{same_requirement}
-use Rattle.providers.specs.RequirementMap.{with_entry}
-use Rattle.providers.specs.declared.requirement.Requirement.{Requirement}
-use Rattle.resolvo_queue.specs.Parts.RecordView.{ArePlaced, IsCounted}
-use Rattle.resolvo_queue.specs.Parts.Records.{Record, HasNoPlace, IsPlaceOf, fresh, known_at, updated_at}
+use Rattle.resolvo_queue.proofs.Words.{ArePlaced, fresh, HasNoPlace, IsCounted, IsPlaceOf, known_at, lookup, Record}
+use Rattle.resolvo_queue.proofs.Words.{Requirement, same_requirement, updated_at, with_entry}
 use Rattle.resolvo_queue.proofs.Rows.Occurrences.{same_is, same_self}
 use Rattle.resolvo_queue.proofs.Lists.{differ, same_some}
 
@@ -67,8 +63,7 @@ looked_up (e ∷ es) r v q = go (same_requirement r e.0) refl (same_requirement 
 
 -- a record for a requirement that had none
 pub placed_more : (ts : List Record) (places : List (Requirement × ℕ)) (r : Requirement) → ArePlaced ts places →
-    None ≡ lookup (same_requirement r) places →
-    ArePlaced (ts ++ fresh r ∷ []) (with_entry places r (length ts))
+    None ≡ lookup (same_requirement r) places → ArePlaced (ts ++ fresh r ∷ []) (with_entry places r (length ts))
 placed_more ts places r a none = record {
   at = λ k t e. at k t (earlier_or_last ts (fresh r) k t e);
   of = λ q k e. of q k (same_requirement q r) refl (sym (looked_up places r (length ts) q) ∙ e);
@@ -88,17 +83,14 @@ placed_more ts places r a none = record {
 
     at : (k : ℕ) (t : Record) → ((slice_get ts k ≡ Some t) ⊎ ((t ≡ fresh r) × (k ≡ length ts))) →
         lookup (same_requirement t.requirement) (with_entry places r (length ts)) ≡ Some k
-    at k t (inl e) =
-        looked_up places r (length ts) t.requirement
+    at k t (inl e) = looked_up places r (length ts) t.requirement
         ∙ (ap (λ b. cond b (Some (length ts)) (lookup (same_requirement t.requirement) places))
-        (other k t e (same_requirement t.requirement r) refl)
-        ∙ a.at k t e)
+        (other k t e (same_requirement t.requirement r) refl) ∙ a.at k t e)
     at k t (inr p) =
         let same : t.requirement ≡ r = ap (λ (x : Record). x.requirement) p.0 in
         looked_up places r (length ts) t.requirement
         ∙ (ap (λ b. cond b (Some (length ts)) (lookup (same_requirement t.requirement) places))
-        (ap (λ q. same_requirement q r) same ∙ same_self r)
-        ∙ ap Some (sym p.1))
+        (ap (λ q. same_requirement q r) same ∙ same_self r) ∙ ap Some (sym p.1))
 
     of : (q : Requirement) (k : ℕ) (b : Bool) → same_requirement q r ≡ b →
         cond (same_requirement q r) (Some (length ts)) (lookup (same_requirement q) places) ≡ Some k →
@@ -124,8 +116,7 @@ known_more (t ∷ ts) r (suc k) = known_more ts r k
 
 -- a requirement without a record has no entry
 pub no_entry : (ts : List Record) (places : List (Requirement × ℕ)) (r : Requirement) → ArePlaced ts places →
-    HasNoPlace ts r →
-    None ≡ lookup (same_requirement r) places
+    HasNoPlace ts r → None ≡ lookup (same_requirement r) places
 no_entry ts places r a none = go (lookup (same_requirement r) places) refl
   where
     go : (o : Option ℕ) → lookup (same_requirement r) places ≡ o → None ≡ o
@@ -136,8 +127,7 @@ no_entry ts places r a none = go (lookup (same_requirement r) places) refl
 
 -- the place of a record that came
 pub entered : {E : Type 0} (r : Requirement) (old now : List Record) (res : Result ℕ E) →
-    OnOk res (now ≡ old ++ fresh r ∷ []) →
-    IfOk res (λ k. k ≡ length old) → IfOk res (IsPlaceOf now r)
+    OnOk res (now ≡ old ++ fresh r ∷ []) → IfOk res (λ k. k ≡ length old) → IfOk res (IsPlaceOf now r)
 entered r old now (Ok k) more at =
     (fresh r, ap (slice_get now) at ∙ (ap (λ l. slice_get l (length old)) more ∙ last_is old (fresh r)), refl)
 entered r old now (Err e) more at = tt

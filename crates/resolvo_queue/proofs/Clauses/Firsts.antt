@@ -1,12 +1,8 @@
 -- The number of a parent's first clause, told from the clauses that contracts see.
 use Rattle.std.proofs.Common.{◌≡◌, ℕ, suc, ◌+◌, cond, eqb, List, [], ◌∷◌, length, map, Option, None, Some, MatchOption}
 use Rattle.std.proofs.Common.{ap, refl, ◌∙◌, arith}
-use Rattle.resolvo_queue.specs.Parts.Tracking.{HasNoClause, IsFirstOf}
-use Rattle.resolvo_queue.specs.Pick.Inspection.{clause_of}
-use Rattle.resolvo_queue.specs.Scan.First.{first_of}
-use Rattle.resolvo_queue.specs.Scan.Order.{first_from}
-use Rattle.resolvo_queue.specs.declared.requires_clause.RequiresClause.{RequiresClause}
-use Rattle.resolvo_queue.specs.declared.tracked_clause.TrackedClause.{TrackedClause}
+use Rattle.resolvo_queue.proofs.Words.{clause_of, first_from, first_of, HasNoClause, IsFirstOf, RequiresClause}
+use Rattle.resolvo_queue.proofs.Words.{TrackedClause}
 use Rattle.resolvo_queue.proofs.Syncs.NewClause.{parent_of}
 
 -- it is the same of the tracked clauses
@@ -18,8 +14,7 @@ first_mapped i (c ∷ cs) p = ap (λ n. cond (eqb c.parent p) i n) (first_mapped
 -- of a parent without clauses it is that of the next clause
 first_none : (i : ℕ) (cs : List TrackedClause) (p : ℕ) → HasNoClause cs p → first_from parent_of i cs p ≡ i + length cs
 first_none i [] p none = let h : i ≡ i + 0 = omega arith in h
-first_none i (x ∷ xs) p none =
-    ap (λ b. cond b i (first_from parent_of (suc i) xs p)) (none 0 x refl)
+first_none i (x ∷ xs) p none = ap (λ b. cond b i (first_from parent_of (suc i) xs p)) (none 0 x refl)
     ∙ (first_none (suc i) xs p (λ n c e. none (suc n) c e) ∙
     (let h : suc i + length xs ≡ i + suc (length xs) = omega arith in h))
 

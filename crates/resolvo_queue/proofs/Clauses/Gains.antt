@@ -1,14 +1,11 @@
 -- How records of requirements come, and the numbers of clauses to them: what is known of rows stays.
 use Rattle.std.proofs.Common.{◌≡◌, ℕ, zero, suc, true, ◌⊎◌, inl, inr, List, [], ◌∷◌}
 use Rattle.std.proofs.Common.{◌++◌, Some, is_some, slice_get, sym, ap, refl, ◌∙◌, subst}
-use Rattle.providers.specs.declared.requirement.Requirement.{Requirement}
-use Rattle.resolvo_queue.specs.Members.{Stands}
-use Rattle.resolvo_queue.specs.Parts.Records.{Record, IsPlaceOf, GainsRecord, clauses_at}
-use Rattle.resolvo_queue.specs.Parts.Records.{clauses_in, fresh, known_at, updated_at, with_clause}
-use Rattle.resolvo_queue.specs.Parts.Tracking.{GainsClauses}
+use Rattle.resolvo_queue.proofs.Words.{clauses_at, clauses_in, fresh, GainsClauses, GainsRecord, IsPlaceOf, known_at}
+use Rattle.resolvo_queue.proofs.Words.{Record, Requirement, Stands, updated_at, with_clause}
 use Rattle.resolvo_queue.proofs.Clauses.Entries.{earlier_or_last, known_more, stays_at}
 use Rattle.resolvo_queue.proofs.Clauses.Records.{is_at_place, was_at}
-use Rattle.resolvo_queue.proofs.Clauses.Numbers.{stands_left, stands_last}
+use Rattle.resolvo_queue.proofs.Lists.{append_left, stands_last}
 
 pub gains_nothing : (ts : List Record) → GainsClauses ts ts
 gains_nothing ts = record {
@@ -75,7 +72,7 @@ module _ (number : ℕ) where
   clauses_kept : (ts : List Record) (place k n : ℕ) → Stands n (clauses_at ts k) →
       Stands n (clauses_at (updated_at (with_clause number) ts place) k)
   clauses_kept [] place k n s = s
-  clauses_kept (t ∷ ts) zero zero n s = stands_left t.clauses (number ∷ []) n s
+  clauses_kept (t ∷ ts) zero zero n s = append_left t.clauses (number ∷ []) n s
   clauses_kept (t ∷ ts) zero (suc k) n s = s
   clauses_kept (t ∷ ts) (suc place) zero n s = s
   clauses_kept (t ∷ ts) (suc place) (suc k) n s = clauses_kept ts place k n s
@@ -118,8 +115,6 @@ module _ (number : ℕ) where
       ((gains_clause mid place).places r place p)
 
   pub entered_found : (r : Requirement) (place : ℕ) (mid now : List Record) →
-      now ≡ updated_at (with_clause number) mid place → IsPlaceOf mid r place →
-      Stands number (clauses_at now place)
-  entered_found r place mid now e p =
-      subst (Stands number) (sym (ap (λ ts. clauses_at ts place) e ∙
+      now ≡ updated_at (with_clause number) mid place → IsPlaceOf mid r place → Stands number (clauses_at now place)
+  entered_found r place mid now e p = subst (Stands number) (sym (ap (λ ts. clauses_at ts place) e ∙
       ap clauses_in (is_at_place (with_clause number) mid place p.0 p.1))) (stands_last p.0.clauses number)

@@ -3,22 +3,11 @@ use Rattle.std.proofs.Common.{◌≡◌, ℕ, ◌≤◌, Bool, true, false, List
 use Rattle.std.proofs.Common.{Result, Ok, Err, sym, ap, refl, ◌∙◌, subst}
 use Rattle.std.specs.Prelude.{All}
 use Rattle.std.proofs.lemmas.List.{length-map}
-use Rattle.typed_ids.specs.TotalMaps.{IsUpdate}
-use Rattle.typed_ids.specs.declared.error.StoreError.{StoreError}
-use Rattle.typed_ids.specs.declared.error.StoreError.TheVariants.{IdSpace}
-use Rattle.decisions.specs.Literals.{Values, variable_of}
-use Rattle.resolvo_queue.specs.Rows.ByVariable.{list_at}
-use Rattle.resolvo_queue.specs.Pick.Inspection.{clause_of}
-use Rattle.resolvo_queue.specs.Rows.Listing.{IsListedWell}
-use Rattle.resolvo_queue.specs.Parts.Names.{AreCold, ColdLack, names_at}
-use Rattle.resolvo_queue.specs.Members.{Stands}
-use Rattle.resolvo_queue.specs.Scan.Positions.{has}
-use Rattle.resolvo_queue.specs.Queue.{IsKept, Queue, StandsOn, values_of}
-use Rattle.resolvo_queue.specs.Pick.Questions.{clause_literals}
-use Rattle.resolvo_queue.specs.References.{HasParts, References, rows_in}
-use Rattle.resolvo_queue.specs.Routing.Synced.{KeepsQueued, counts}
-use Rattle.resolvo_queue.specs.Parts.Tracking.{Heats}
-use Rattle.resolvo_queue.specs.declared.tracked_clause.TrackedClause.{TrackedClause}
+use Rattle.resolvo_queue.proofs.Words.{AreCold, clause_literals, clause_of, ColdLack, counts, has, HasParts, Heats}
+use Rattle.resolvo_queue.proofs.Words.{IdSpace, IsKept, IsListedWell, IsUpdate, KeepsQueued, list_at, names_at, Queue}
+use Rattle.resolvo_queue.proofs.Words.{References, Stands, StandsOn, StoreError, TrackedClause, Values, values_of}
+use Rattle.resolvo_queue.proofs.Words.{variable_of}
+use Rattle.resolvo_queue.specs.References.{rows_in}
 
 module _ {N H : Type 0} (has : H → N → Bool) (q q' : Queue N H) (heats : Heats q.inside q'.inside)
     (woken : q'.woken ≡ q.woken) where
@@ -48,17 +37,14 @@ module _ {N H : Type 0} (has : H → N → Bool) (q q' : Queue N H) (heats : Hea
         (subst (IsListedWell refs.lists q.inside.occurrences) (sym heats.requirements) stands.listed);
     synced = λ accepted.
         subst (λ (x : Values × ℕ). KeepsQueued q'.inside.clauses (clause_literals refs) (rows_in refs) x.0
-        (counts x.0 x.1) q'.inside.requirements q'.inside.queued)
-        (λ i. (ap values_of (sym trail) i, sym woken i))
+        (counts x.0 x.1) q'.inside.requirements q'.inside.queued) (λ i. (ap values_of (sym trail) i, sym woken i))
         (heats.synced (clause_literals refs) (rows_in refs) (values_of q.trail)
-        (counts (values_of q.trail) q.woken) (λ d. refl) (λ d. refl)
-        (stands.synced (sym anew ∙ accepted)));
+        (counts (values_of q.trail) q.woken) (λ d. refl) (λ d. refl) (stands.synced (sym anew ∙ accepted)));
   }
 
 -- names of clauses that aren't hot stay cold where one more name is hot that they lack
 pub cold_still : {N : Type 0} (hot hot' : N → Bool) (name : N) (names : List (List N)) (cs : List TrackedClause) →
-    IsUpdate hot name true hot' → AreCold hot names cs →
-    ColdLack name names cs → AreCold hot' names cs
+    IsUpdate hot name true hot' → AreCold hot names cs → ColdLack name names cs → AreCold hot' names cs
 cold_still hot hot' name names cs update cold lacks n c e cool k d lt =
     update.1 (get_or (names_at names n) k d) (lacks n c e cool k d lt) ∙ cold n c e cool k d lt
 

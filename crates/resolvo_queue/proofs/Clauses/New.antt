@@ -2,19 +2,11 @@
 use Rattle.std.proofs.Common.{◌≡◌, ℕ, ◌<◌, ◌≤◌, ◌^◌, Bool, IfSome, true, false, List, [], map, length}
 use Rattle.std.proofs.Common.{Option, None, Some, MatchOption, slice_get, sym, ap, ◌∙◌, subst, arith}
 use Rattle.std.specs.Prelude.{All, Contains}
-use Rattle.std.specs.List.{list_any}
-use Rattle.providers.specs.Requirement.{same_requirement}
 use Rattle.std.proofs.lemmas.List.Elements.{All-nil}
-use Rattle.resolvo_queue.specs.Rows.ByVariable.{list_at}
-use Rattle.resolvo_queue.specs.Pick.Inspection.{clause_of}
-use Rattle.resolvo_queue.specs.Scan.Positions.{has}
-use Rattle.resolvo_queue.specs.Queue.{IsKept, Queue, StandsOn, values_of}
-use Rattle.resolvo_queue.specs.Parts.Queued.{is_empty_queue}
-use Rattle.resolvo_queue.specs.References.{HasParts, References, rows_in}
-use Rattle.resolvo_queue.specs.Rows.{frontier}
-use Rattle.resolvo_queue.specs.Parts.Records.{Record, known_at, rows_at}
-use Rattle.resolvo_queue.specs.Parts.Tracking.{HasNoClause, IsFirstOf, IsInOrder, Tracking}
-use Rattle.resolvo_queue.specs.declared.tracked_clause.TrackedClause.{TrackedClause}
+use Rattle.resolvo_queue.proofs.Words.{clause_of, frontier, has, HasNoClause, HasParts, is_empty_queue, IsFirstOf}
+use Rattle.resolvo_queue.proofs.Words.{IsInOrder, IsKept, known_at, list_any, list_at, Queue, Record, References}
+use Rattle.resolvo_queue.proofs.Words.{rows_at, same_requirement, StandsOn, TrackedClause, Tracking, values_of}
+use Rattle.resolvo_queue.specs.References.{rows_in}
 use Rattle.resolvo_queue.proofs.Lists.{stands_if_contains}
 
 -- no clause
@@ -29,8 +21,7 @@ order_new t none lists empty = record {
   few = subst (λ cs. length cs < 2 ^ 32) (sym none) (omega arith);
   located = λ n c e. no_clause t.clauses _ none n c e;
   first = λ parent. subst (λ l. MatchOption (slice_get (list_at l parent) 0) (HasNoClause t.clauses parent)
-      (IsFirstOf t.clauses parent)) (sym lists)
-      (λ n c e. no_clause t.clauses _ none n c e);
+      (IsFirstOf t.clauses parent)) (sym lists) (λ n c e. no_clause t.clauses _ none n c e);
   parents = λ n c e. no_clause t.clauses _ none n c e;
   requirements = λ n c e. no_clause t.clauses _ none n c e;
   placed = λ n c e. no_clause t.clauses _ none n c e;
@@ -39,8 +30,7 @@ order_new t none lists empty = record {
 }
 
 pub kept_new : {N H : Type 0} (has : H → N → Bool) (q : Queue N H) → q.inside.clauses ≡ [] → q.inside.by_parent ≡ [] →
-    is_empty_queue q.inside.queued → q.names ≡ [] → q.woken ≡ 0 →
-    IsKept has q
+    is_empty_queue q.inside.queued → q.names ≡ [] → q.woken ≡ 0 → IsKept has q
 kept_new has q none lists empty names woken = record {
   order = order_new q.inside none lists empty;
   names = ap length names ∙ ap length (sym none);
@@ -62,8 +52,7 @@ stands_new refs q whole none records listed lists = record {
     known = λ k t e h. no_record t k (ap (λ l. slice_get l k) (sym records) ∙ e);
   };
   synced = λ accepted. record {
-    all = λ c reg e. no_clause q.inside.clauses _ none reg.0 c reg.1;
-    hot = λ c reg e. no_clause q.inside.clauses _ none reg.0.0 c reg.0.1;
+    queued = λ n c at e. no_clause q.inside.clauses _ none n c at;
     right = λ k. subst (λ ts.
         IfSome (known_at ts k) (λ f. f ≡ frontier (values_of q.trail) (rows_at (rows_in refs) ts k))) (sym records) tt;
   };

@@ -2,30 +2,8 @@
 use Rattle.std.proofs.Common.{◌≡◌, ℕ, ◌+◌, ◌<◌, Bool, true, false, eqb, eq-eqb, eqb-true, ◌⊎◌, inl, inr, List, [], ◌∷◌}
 use Rattle.std.proofs.Common.{◌++◌, get_or, take, length, Result, Ok, Err, OnOk, OnErr, sym, refl, ap, ◌∙◌, subst}
 use Rattle.std.proofs.lemmas.List.{take_more}
-use Rattle.typed_ids.specs.TotalMaps.{IsUpdate, SameValues}
-use Rattle.decisions.specs.Literals.{Lit, variable_of}
-use Rattle.resolvo_queue.specs.Rows.ByVariable.{list_at}
-use Rattle.resolvo_queue.specs.Members.{Stands, here, there}
-use Rattle.resolvo_queue.specs.Parts.Numbers.{FoundByAll, GainsNumber}
-
--- ---- one item more
-
-pub stands_left : {X : Type 0} (xs ys : List X) (x : X) → Stands x xs → Stands x (xs ++ ys)
-stands_left [] ys x s = elim s [ ]
-stands_left (y ∷ ys) zs x here = here
-stands_left (y ∷ ys) zs x (there s) = there (stands_left ys zs x s)
-
-pub stands_last : {X : Type 0} (xs : List X) (x : X) → Stands x (xs ++ x ∷ [])
-stands_last [] x = here
-stands_last (y ∷ ys) x = there (stands_last ys x)
-
-pub stands_cases : {X : Type 0} (xs : List X) (y x : X) → Stands x (xs ++ y ∷ []) → Stands x xs ⊎ (x ≡ y)
-stands_cases [] y x here = inr refl
-stands_cases [] y x (there s) = elim s [ ]
-stands_cases (z ∷ zs) y x here = inl here
-stands_cases (z ∷ zs) y x (there s) = elim (stands_cases zs y x s) [ inl h ↦ inl (there h) | inr e ↦ inr e ]
-
--- ---- numbers in lists
+use Rattle.resolvo_queue.proofs.Words.{FoundByAll, GainsNumber, IsUpdate, list_at, Lit, SameValues, Stands, variable_of}
+use Rattle.resolvo_queue.proofs.Lists.{append_left, stands_cases, stands_last}
 
 module _ (number : ℕ) where
   pub gains_both : (a b c : List (List ℕ)) → GainsNumber number a b → GainsNumber number b c → GainsNumber number a c
@@ -38,7 +16,7 @@ module _ (number : ℕ) where
       ((x : ℕ) → (list_at b x ≡ list_at a x ++ number ∷ []) ⊎ (list_at b x ≡ list_at a x)) → GainsNumber number a b
   gains_each a b each = record {
     kept = λ x n s. elim (each x) [
-      | inl e ↦ subst (Stands n) (sym e) (stands_left (list_at a x) (number ∷ []) n s)
+      | inl e ↦ subst (Stands n) (sym e) (append_left (list_at a x) (number ∷ []) n s)
       | inr e ↦ subst (Stands n) (sym e) s
     ];
     added = λ x n s. elim (each x) [
@@ -67,8 +45,7 @@ module _ (number : ℕ) where
       l ≡ get_or literals i l → v ≡ variable_of l →
       IsUpdate (list_at a) v (list_at a v ++ number ∷ []) (list_at b) → FoundByAll number (take i literals) a →
       FoundByAll number (take (i + 1) literals) b
-  found_more literals i l v a b within read at u found k s =
-      elim (stands_cases (take i literals) l k
+  found_more literals i l v a b within read at u found k s = elim (stands_cases (take i literals) l k
       (subst (Stands k) (take_more literals i l within ∙ ap (λ y. take i literals ++ y ∷ []) (sym read)) s)) [
         | inl h ↦ (gains_each a b (updated_each v a b u)).kept (variable_of k) number (found k h)
         | inr e ↦ subst (λ x. Stands number (list_at b x)) (at ∙ ap variable_of (sym e))

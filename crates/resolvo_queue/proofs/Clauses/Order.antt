@@ -2,32 +2,22 @@
 use Rattle.std.proofs.Common.{◌≡◌, ◌≢◌, ℕ, ◌+◌, ◌<◌, ◌-◌, ◌^◌, Bool, true, false, eqb, eqb-true, eq-eqb}
 use Rattle.std.proofs.Common.{inl, inr, List, [], ◌∷◌, ◌++◌, length, Option, Some, None, MatchOption}
 use Rattle.std.proofs.Common.{slice_get, sym, ap, ap₂, refl, ◌∙◌, subst, arith, length-append}
-use Rattle.typed_ids.specs.TotalMaps.{IsUpdate}
-use Rattle.decisions.specs.Literals.{Lit}
-use Rattle.resolvo_queue.specs.Rows.ByVariable.{list_at}
-use Rattle.resolvo_queue.specs.Members.{Stands}
-use Rattle.resolvo_queue.specs.Scan.Positions.{has}
-use Rattle.resolvo_queue.specs.Parts.Queued.{IsOfClause, Queued}
-use Rattle.resolvo_queue.specs.Pick.Ready.{AreLocated, at_position}
-use Rattle.resolvo_queue.specs.Scan.Order.{first_from, position_in}
-use Rattle.resolvo_queue.specs.Parts.Numbers.{GainsNumber}
-use Rattle.resolvo_queue.specs.Parts.Records.{IsPlaceOf, clauses_at}
-use Rattle.resolvo_queue.specs.Parts.Tracking.{Tracking, BeginFirst, HasNoClause}
-use Rattle.resolvo_queue.specs.Parts.Tracking.{IsFirstOf, IsInOrder, IsAsBefore, Registers}
-use Rattle.resolvo_queue.specs.declared.tracked_clause.Position.{Position}
-use Rattle.resolvo_queue.specs.declared.requires_clause.RequiresClause.{RequiresClause}
-use Rattle.resolvo_queue.specs.declared.tracked_clause.TrackedClause.{TrackedClause}
+use Rattle.resolvo_queue.proofs.Words.{AreLocated, at_position, BeginFirst, clauses_at, first_from, GainsNumber, has}
+use Rattle.resolvo_queue.proofs.Words.{HasNoClause, IsAsBefore, IsFirstOf, IsInOrder, IsOfClause, IsPlaceOf, IsUpdate}
+use Rattle.resolvo_queue.proofs.Words.{list_at, Lit, Position, position_in, Queued, Registers, RequiresClause, Stands}
+use Rattle.resolvo_queue.proofs.Words.{TrackedClause, Tracking}
 use Rattle.resolvo_queue.proofs.Clauses.Entries.{earlier_or_last, last_is, stays_at}
-use Rattle.resolvo_queue.proofs.Syncs.NewClause.{first_stays, located_more, own_position, parent_of}
-use Rattle.resolvo_queue.proofs.Clauses.Numbers.{gains_each, stands_last, updated_each}
+use Rattle.resolvo_queue.proofs.Syncs.NewClause.{located_more, own_position, parent_of}
+use Rattle.resolvo_queue.proofs.Clauses.Numbers.{gains_each, updated_each}
+use Rattle.resolvo_queue.proofs.Lists.{stands_last}
+use Rattle.resolvo_queue.proofs.Picks.NumberedScan.{first_kept as first_from_kept}
 
 -- ---- a parent's first clause
 
 module _ (cs : List TrackedClause) (c : TrackedClause) where
   first_kept : (x f : ℕ) → IsFirstOf cs x f → first_from parent_of 0 (cs ++ c ∷ []) x ≡ first_from parent_of 0 cs x
-  first_kept x f is =
-      subst (λ y. first_from parent_of 0 (cs ++ c ∷ []) y ≡ first_from parent_of 0 cs y) is.own
-      (first_stays 0 cs c f is.clause is.at)
+  first_kept x f is = subst (λ y. first_from parent_of 0 (cs ++ c ∷ []) y ≡ first_from parent_of 0 cs y) is.own
+      (first_from_kept parent_of 0 cs c f is.clause is.at)
 
   stays_first : (x f : ℕ) → IsFirstOf cs x f → IsFirstOf (cs ++ c ∷ []) x f
   stays_first x f is = record {
@@ -76,8 +66,7 @@ module _ (cs : List TrackedClause) (c : TrackedClause) where
       other ne (Some f) is = stays_first x f is
 
       go : (b : Bool) → eqb c.parent x ≡ b → Begins x (list_at now x)
-      go true e =
-          subst (λ y. Begins y (list_at now y)) (eqb-true c.parent x e)
+      go true e = subst (λ y. Begins y (list_at now y)) (eqb-true c.parent x e)
           (subst (Begins c.parent) (sym update.0) (own (list_at old c.parent) (begin c.parent)))
       go false e =
           let elsewhere : x ≢ c.parent = λ s. (let bad : eqb c.parent x ≡ true = eq-eqb c.parent x (sym s) in cc) in
@@ -88,8 +77,7 @@ module _ (cs : List TrackedClause) (c : TrackedClause) where
 module _ (cs cs' : List TrackedClause) (new : TrackedClause) (more : cs' ≡ cs ++ new ∷ []) where
   -- what holds of each clause that was there, and of the new one
   each_more : (P : ℕ → TrackedClause → Type 0) → ((n : ℕ) (c : TrackedClause) → slice_get cs n ≡ Some c → P n c) →
-      P (length cs) new →
-      (n : ℕ) (c : TrackedClause) → slice_get cs' n ≡ Some c → P n c
+      P (length cs) new → (n : ℕ) (c : TrackedClause) → slice_get cs' n ≡ Some c → P n c
   each_more P each own n c e = elim (earlier_or_last cs new n c (ap (λ l. slice_get l n) (sym more) ∙ e)) [
     | inl h ↦ each n c h
     | inr p ↦ subst (λ m. P m c) (sym p.1) (subst (P (length cs)) (sym p.0) own)
@@ -107,8 +95,7 @@ registers_in_order clause is_hot literals old now room o r = record {
   first = subst (λ cs. BeginFirst cs now.by_parent) (sym r.clauses)
       (begin_more old.clauses r.new old.by_parent now.by_parent o.first update);
   parents = each_more old.clauses now.clauses r.new r.clauses (λ n c. Stands n (list_at now.by_parent c.parent))
-      (λ n c e. found.kept c.parent n (o.parents n c e))
-      (subst (Stands (length old.clauses)) (sym update.0)
+      (λ n c e. found.kept c.parent n (o.parents n c e)) (subst (Stands (length old.clauses)) (sym update.0)
       (stands_last (list_at old.by_parent r.new.parent) (length old.clauses)));
   requirements = each_more old.clauses now.clauses r.new r.clauses (λ n c.
       Stands n (clauses_at now.requirements c.record))
@@ -131,10 +118,8 @@ registers_in_order clause is_hot literals old now room o r = record {
 
     update : IsUpdate (list_at old.by_parent) r.new.parent
         (list_at old.by_parent r.new.parent ++ length old.clauses ∷ []) (list_at now.by_parent)
-    update =
-        subst (λ p. IsUpdate (list_at old.by_parent) p (list_at old.by_parent p ++ length old.clauses ∷ [])
-        (list_at now.by_parent))
-        (sym (ap (λ (c : RequiresClause). c.parent) r.is)) r.by_parent
+    update = subst (λ p. IsUpdate (list_at old.by_parent) p (list_at old.by_parent p ++ length old.clauses ∷ [])
+        (list_at now.by_parent)) (sym (ap (λ (c : RequiresClause). c.parent) r.is)) r.by_parent
 
     found : GainsNumber (length old.clauses) old.by_parent now.by_parent
     found = gains_each (length old.clauses) old.by_parent now.by_parent
@@ -147,8 +132,7 @@ refused_in_order old now o b = record {
   few = subst (λ cs. length cs < 2 ^ 32) (sym b.clauses) o.few;
   located = subst AreLocated (sym b.clauses) o.located;
   first = λ x. subst (λ cs. MatchOption (slice_get (list_at now.by_parent x) 0) (HasNoClause cs x) (IsFirstOf cs x))
-      (sym b.clauses)
-      (subst (λ l. MatchOption (slice_get l 0) (HasNoClause old.clauses x) (IsFirstOf old.clauses x))
+      (sym b.clauses) (subst (λ l. MatchOption (slice_get l 0) (HasNoClause old.clauses x) (IsFirstOf old.clauses x))
       (sym (b.by_parent x)) (o.first x));
   parents = λ n c e. subst (Stands n) (sym (b.by_parent c.parent)) (o.parents n c (was n c e));
   requirements = λ n c e. b.gains.records.clauses c.record n (o.requirements n c (was n c e));

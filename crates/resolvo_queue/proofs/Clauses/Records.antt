@@ -2,13 +2,9 @@
 use Rattle.std.proofs.Common.{◌≡◌, ◌≢◌, ℕ, zero, suc, ◌+◌, ◌<◌, ◌++◌, take, drop, drop-set-lt, Bool, true}
 use Rattle.std.proofs.Common.{false, eqb, ◌⊎◌, inl, inr, List, [], ◌∷◌, map, length, get_or, set, Option}
 use Rattle.std.proofs.Common.{Some, None, slice_get, sym, ap, refl, ◌∙◌, subst, arith, eqb-true, eq-eqb}
-use Rattle.std.specs.Map.{lookup}
 use Rattle.std.proofs.lemmas.List.{length-map, drop_more, take_more, take_more_set, map-append}
-use Rattle.providers.specs.Requirement.{same_requirement}
-use Rattle.providers.specs.declared.requirement.Requirement.{Requirement}
-use Rattle.resolvo_queue.specs.Parts.Records.{Record, IsPlaceOf, HasNoPlace, updated_at, forgotten}
-use Rattle.resolvo_queue.specs.Parts.RecordView.{record_seen, ArePlaced, IsCounted}
-use Rattle.resolvo_queue.specs.declared.requirements.RequirementRecord.{RequirementRecord}
+use Rattle.resolvo_queue.proofs.Words.{ArePlaced, forgotten, HasNoPlace, IsCounted, IsPlaceOf, lookup, Record}
+use Rattle.resolvo_queue.proofs.Words.{record_seen, Requirement, RequirementRecord, same_requirement, updated_at}
 use Rattle.resolvo_queue.proofs.Rows.Occurrences.{same_is}
 use Rattle.resolvo_queue.proofs.Lists.{same_some}
 
@@ -50,16 +46,13 @@ pub placed_updated : (f : Record → Record) → ((t : Record) → (f t).require
     (ts : List Record) (places : List (Requirement × ℕ)) (k : ℕ) →
     ((t : Record) → IsCounted t → IsCounted (f t)) → ArePlaced ts places → ArePlaced (updated_at f ts k) places
 placed_updated f keeps ts places k counts a = record {
-  at = λ j t e.
-      (let m = was_at f ts k j t e in
-      let same : t.requirement ≡ m.0.requirement =
-      elim m.2 [
+  at = λ j t e. (let m = was_at f ts k j t e in
+      let same : t.requirement ≡ m.0.requirement = elim m.2 [
         | inl s ↦ ap (λ (x : Record). x.requirement) s
         | inr p ↦ ap (λ (x : Record). x.requirement) p.0 ∙ keeps m.0
       ] in
       ap (λ r. lookup (same_requirement r) places) same ∙ a.at j m.0 m.1);
-  of = λ r j e.
-      (let m = a.of r j e in
+  of = λ r j e. (let m = a.of r j e in
       elim (same_place j) [
         | inl s ↦ (
           f m.0,
@@ -69,8 +62,7 @@ placed_updated f keeps ts places k counts a = record {
         )
         | inr ne ↦ (m.0, is_elsewhere f ts k j ne ∙ m.1, m.2)
       ]);
-  counted = λ j t e.
-      (let m = was_at f ts k j t e in
+  counted = λ j t e. (let m = was_at f ts k j t e in
       elim m.2 [
         | inl s ↦ subst IsCounted (sym s) (a.counted j m.0 m.1)
         | inr p ↦ subst IsCounted (sym p.0) (counts m.0 (a.counted j m.0 m.1))
@@ -108,8 +100,7 @@ tracked_set f (x ∷ xs) (suc k) r s h e p = ap (λ l. record_seen x ∷ l) (tra
 module _ {A : Type 0} (f : Record → Record) (keeps : (t : Record) → (f t).requirement ≡ t.requirement)
     (rs : List (RequirementRecord A)) (ts : List Record)
     (places : List (Requirement × ℕ)) (k : ℕ) (r s : RequirementRecord A) (view : map record_seen rs ≡ ts)
-    (within : k < length ts) (read : r ≡ get_or rs k r)
-    (is : record_seen s ≡ f (record_seen r)) where
+    (within : k < length ts) (read : r ≡ get_or rs k r) (is : record_seen s ≡ f (record_seen r)) where
   written : map record_seen (set rs k s) ≡ updated_at f (map record_seen rs) k
   written =
       let all : k < length (map record_seen rs) = subst (λ l. k < length l) (sym view) within in
@@ -124,15 +115,13 @@ module _ {A : Type 0} (f : Record → Record) (keeps : (t : Record) → (f t).re
   written_is = written ∙ ap (λ l. updated_at f l k) view
 
 pub placed_at : (ts : List Record) (places : List (Requirement × ℕ)) (r : Requirement) → ArePlaced ts places →
-    (place : ℕ) → IsPlaceOf ts r place →
-    lookup (same_requirement r) places ≡ Some place
+    (place : ℕ) → IsPlaceOf ts r place → lookup (same_requirement r) places ≡ Some place
 placed_at ts places r a place p = ap (λ q. lookup (same_requirement q) places) (sym p.2) ∙ a.at place p.0 p.1
 
 pub one_place : (ts : List Record) (places : List (Requirement × ℕ)) (r : Requirement) →
     ArePlaced ts places → (place : ℕ) →
     Some place ≡ lookup (same_requirement r) places → (k : ℕ) → IsPlaceOf ts r k → k ≡ place
-one_place ts places r a place e k p =
-    same_some k place (sym (placed_at ts places r a k p) ∙ sym e)
+one_place ts places r a place e k p = same_some k place (sym (placed_at ts places r a k p) ∙ sym e)
 
 -- ---- all records
 
@@ -161,11 +150,8 @@ module _ {X Y : Type 0} (f : X → Y) (g : Y → Y) (first now : List X) (i : �
       let head : get_or first i r ≡ r =
       sym (same_head (get_or now i r) (get_or first i r) (drop (i + 1) now) (drop (i + 1) first) both_rest) ∙
       sym read in
-      ap (map f) (take_more_set now i s within)
-      ∙ (map-append f (take i now) (s ∷ [])
-      ∙ (ap (λ l. l ++ f s ∷ []) e
-      ∙ (ap (λ y. map g (map f (take i first)) ++ y ∷ []) is
-      ∙ (sym (map-append g (map f (take i first)) (f r ∷ []))
+      ap (map f) (take_more_set now i s within) ∙ (map-append f (take i now) (s ∷ []) ∙ (ap (λ l. l ++ f s ∷ []) e
+      ∙ (ap (λ y. map g (map f (take i first)) ++ y ∷ []) is ∙ (sym (map-append g (map f (take i first)) (f r ∷ []))
       ∙ (ap (map g) (sym (map-append f (take i first) (r ∷ [])))
       ∙ ap (λ l. map g (map f l)) (sym (take_more first i r within_first ∙ ap (λ x. take i first ++ x ∷ []) head)))))))
 

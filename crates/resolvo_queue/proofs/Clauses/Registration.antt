@@ -4,32 +4,21 @@ use Rattle.std.proofs.Common.{◌||◌, ◌⊎◌, inl, inr, List, [], ◌∷◌
 use Rattle.std.proofs.Common.{slice_get, sym, ap, refl, ◌∙◌, subst, arith, length-append}
 use Rattle.std.specs.Prelude.{All, IsTrue, ◌↔◌, ◌≤◌}
 use Rattle.std.proofs.lemmas.Bool.{ltb-false, ltb-true}
-use Rattle.std.specs.List.{list_any}
 use Rattle.std.proofs.lemmas.List.{map-append}
 use Rattle.std.proofs.lemmas.List.Elements.{All-cons, All-nil, All-push, All-weaker}
 use Rattle.std.proofs.lemmas.Option.{slice_get_within}
-use Rattle.typed_ids.specs.TotalMaps.{SameValues}
-use Rattle.decisions.specs.Literals.{Lit, Values, variable_of}
-use Rattle.resolvo_queue.specs.Rows.ByVariable.{list_at}
-use Rattle.resolvo_queue.specs.Pick.Inspection.{clause_of}
-use Rattle.resolvo_queue.specs.Parts.Names.{AreCold, names_at}
-use Rattle.resolvo_queue.specs.Members.{Stands}
-use Rattle.resolvo_queue.specs.Queue.{IsKept, Queue, StandsOn, values_of}
-use Rattle.resolvo_queue.specs.Pick.Questions.{clause_literals}
-use Rattle.resolvo_queue.specs.References.{HasParts, References, literals_in, rows_in}
-use Rattle.resolvo_queue.specs.Parts.Queued.{Queued}
-use Rattle.resolvo_queue.specs.Routing.Synced.{KeepsQueued, counts}
-use Rattle.resolvo_queue.specs.Parts.Tracking.{IsAsBefore, Registers, Tracking}
-use Rattle.resolvo_queue.specs.declared.tracked_clause.Position.{Position}
-use Rattle.resolvo_queue.specs.declared.requires_clause.RequiresClause.{RequiresClause}
-use Rattle.resolvo_queue.specs.declared.tracked_clause.TrackedClause.{TrackedClause}
+use Rattle.resolvo_queue.proofs.Words.{AreCold, clause_literals, clause_of, counts, HasParts, IsAsBefore, IsKept}
+use Rattle.resolvo_queue.proofs.Words.{KeepsQueued, list_any, list_at, Lit, literals_in, names_at, Position, Queue}
+use Rattle.resolvo_queue.proofs.Words.{Queued, References, Registers, RequiresClause, SameValues, Stands, StandsOn}
+use Rattle.resolvo_queue.proofs.Words.{TrackedClause, Tracking, Values, values_of, variable_of}
+use Rattle.resolvo_queue.specs.References.{rows_in}
 use Rattle.resolvo_queue.proofs.Clauses.Counts.{counts_new}
 use Rattle.resolvo_queue.proofs.Clauses.Entries.{earlier_or_last}
 use Rattle.resolvo_queue.proofs.Clauses.Order.{refused_in_order, registers_in_order}
 use Rattle.resolvo_queue.proofs.Syncs.Queued.{grows_none}
 use Rattle.resolvo_queue.proofs.Syncs.NewClause.{registered_synced}
 use Rattle.resolvo_queue.proofs.Syncs.Same.{listed_gained, rows_stay, synced_same}
-use Rattle.resolvo_queue.proofs.Lists.{differ}
+use Rattle.resolvo_queue.proofs.Lists.{differ, le_or_lt}
 
 -- ---- names
 
@@ -60,20 +49,11 @@ not_full b n m e full same = elim (le_or_lt (2 ^ 32 - 1) m) [
   | inl le ↦ (let bad : b ≡ true = full.1 (subst (λ k. 2 ^ 32 - 1 ≤ k) (sym same) le) in absurd (differ (sym bad ∙ e)))
   | inr lt ↦ lt
 ]
-  where
-    le_or_lt : (a b : ℕ) → (a ≤ b) ⊎ (b < a)
-    le_or_lt a b = go (ltb b a) refl
-      where
-        go : (t : Bool) → ltb b a ≡ t → (a ≤ b) ⊎ (b < a)
-        go true e = inr (ltb-true b a e)
-        go false e = inl (ltb-false b a e)
 
 -- the clauses that contracts see
 pub registered_whole : (clause : RequiresClause) (is_hot : Bool) (literals : List Lit) (old now : Tracking) →
-    Registers clause is_hot literals old now →
-    map clause_of now.clauses ≡ map clause_of old.clauses ++ clause ∷ []
-registered_whole clause is_hot literals old now r =
-    ap (map clause_of) r.clauses ∙
+    Registers clause is_hot literals old now → map clause_of now.clauses ≡ map clause_of old.clauses ++ clause ∷ []
+registered_whole clause is_hot literals old now r = ap (map clause_of) r.clauses ∙
     (map-append clause_of old.clauses (r.new ∷ []) ∙ ap (λ c. map clause_of old.clauses ++ c ∷ []) r.is)
 
 module _ {N H : Type 0} (has : H → N → Bool) (q q' : Queue N H) (clause : RequiresClause) (is_hot : Bool)
@@ -87,8 +67,7 @@ module _ {N H : Type 0} (has : H → N → Bool) (q q' : Queue N H) (clause : Re
   new = registers.new
 
   pub kept_registered : length q.inside.clauses < 2 ^ 32 - 1 → q'.names ≡ q.names ++ its_names ∷ [] →
-      SameValues (has q.hot) (has q'.hot) → is_hot ≡ list_any (has q.hot) its_names →
-      IsKept has q'
+      SameValues (has q.hot) (has q'.hot) → is_hot ≡ list_any (has q.hot) its_names → IsKept has q'
   kept_registered few names hot is = record {
     order = registers_in_order clause is_hot literals q.inside q'.inside few kept.order registers;
     names = (
@@ -113,8 +92,7 @@ module _ {N H : Type 0} (has : H → N → Bool) (q q' : Queue N H) (clause : Re
           (sym (ap (λ l. names_at l n) names ∙ names_before q.names its_names n within))
           (same_hot (names_at q.names n) (kept.cold n c was cool))
       go n c cool (inr own) =
-          let at : names_at q'.names n ≡ its_names =
-          ap (λ l. names_at l n) names ∙
+          let at : names_at q'.names n ≡ its_names = ap (λ l. names_at l n) names ∙
           (ap (names_at (q.names ++ its_names ∷ [])) (own.1 ∙ sym kept.names) ∙ names_last q.names its_names) in
           let cold : list_any (has q.hot) its_names ≡ false =
           sym is ∙ (sym registers.hot ∙ (ap (λ (x : TrackedClause). x.is_hot) (sym own.0) ∙ cool)) in
@@ -140,8 +118,7 @@ module _ {N H : Type 0} (has : H → N → Bool) (q q' : Queue N H) (clause : Re
             Stands n (list_at q'.inside.by_condition (variable_of l))
         find n c l s (inl was) = registers.gains.conditions (variable_of l) n (stands.conditions n c was l s)
         find n c l s (inr own) =
-            let same : clause_literals refs c ≡ literals =
-            ap (clause_literals refs) own.0 ∙
+            let same : clause_literals refs c ≡ literals = ap (clause_literals refs) own.0 ∙
             (ap (λ (d : RequiresClause). literals_in refs d.condition) registers.is ∙ sym condition) in
             subst (λ k. Stands k (list_at q'.inside.by_condition (variable_of l))) (sym own.1)
             (registers.conditions l (subst (Stands l) same s))
@@ -158,12 +135,10 @@ module _ {N H : Type 0} (has : H → N → Bool) (q q' : Queue N H) (clause : Re
             (counts (values_of q'.trail) q'.woken) q'.inside.requirements q'.inside.queued
         again old =
             subst (λ (x : (Values × ℕ) × (List TrackedClause × Queued)). KeepsQueued x.1.0 (clause_literals refs)
-            (rows_in refs) x.0.0 (counts x.0.0 x.0.1) q'.inside.requirements x.1.1)
-            (λ i. (
+            (rows_in refs) x.0.0 (counts x.0.0 x.0.1) q'.inside.requirements x.1.1) (λ i. (
               (ap values_of (sym trail) i, sym woken i),
               (sym registers.clauses i, sym registers.gains.queued i),
-            ))
-            (registered_synced cs (clause_literals refs) (rows_in refs) val (counts val q.woken)
+            )) (registered_synced cs (clause_literals refs) (rows_in refs) val (counts val q.woken)
             q.inside.requirements q'.inside.requirements q.inside.queued new registers.gains.records.known
             (rows_stay (rows_in refs) q.inside.requirements q'.inside.requirements registers.gains.records)
             (counts_new val q.woken cs new own kept.woken) old)
@@ -201,14 +176,11 @@ module _ {N H : Type 0} (has : H → N → Bool) (q q' : Queue N H) (before : Is
           (counts val q.woken) q.inside.requirements q.inside.queued →
           KeepsQueued q'.inside.clauses (clause_literals refs) (rows_in refs) (values_of q'.trail)
           (counts (values_of q'.trail) q'.woken) q'.inside.requirements q'.inside.queued
-      again old =
-          subst (λ (x : (Values × ℕ) × (List TrackedClause × Queued)). KeepsQueued x.1.0 (clause_literals refs)
+      again old = subst (λ (x : (Values × ℕ) × (List TrackedClause × Queued)). KeepsQueued x.1.0 (clause_literals refs)
           (rows_in refs) x.0.0 (counts x.0.0 x.0.1) q'.inside.requirements x.1.1)
           (λ i. ((ap values_of (sym trail) i, sym woken i), (sym before.clauses i, sym before.gains.queued i)))
           (synced_same q.inside.clauses (clause_literals refs) (clause_literals refs) (λ n c e. refl) (rows_in refs)
-          (rows_in refs) val
-          (counts val q.woken) (counts val q.woken) q.inside.requirements
-          q'.inside.requirements (λ p. ⊥) q.inside.queued q.inside.queued
-          (λ n c e. refl) before.gains.records.known
+          (rows_in refs) val (counts val q.woken) (counts val q.woken) q.inside.requirements
+          q'.inside.requirements (λ p. ⊥) q.inside.queued q.inside.queued (λ n c e. refl) before.gains.records.known
           (rows_stay (rows_in refs) q.inside.requirements q'.inside.requirements before.gains.records)
           (grows_none (λ p. ⊥) q.inside.queued) old)

@@ -4,63 +4,30 @@ use Rattle.std.proofs.Common.{List, ◌++◌, map, take, drop, length, Option, N
 use Rattle.std.proofs.Common.{slice_get, option_map, sym, ap, refl, ◌∙◌, subst}
 use Rattle.std.specs.Prelude.{All, OnErr}
 use Rattle.std.proofs.lemmas.List.{take-take}
-use Rattle.typed_ids.specs.TotalMaps.{SameValues}
-use Rattle.decisions.specs.Literals.{Lit, Values, known_true, variable_of}
-use Rattle.decisions.specs.declared.decision.Decision.{Decision}
-use Rattle.providers.specs.declared.requirement.Requirement.{Requirement}
-use Rattle.resolvo_queue.specs.Rows.ByVariable.{list_at}
-use Rattle.resolvo_queue.specs.Pick.Inspection.{clause_of}
-use Rattle.resolvo_queue.specs.Rows.Listing.{IsListedWell}
-use Rattle.resolvo_queue.specs.Parts.Names.{AreCold}
-use Rattle.resolvo_queue.specs.Occurrences.{Listed, listing}
-use Rattle.resolvo_queue.specs.Members.{Stands}
-use Rattle.resolvo_queue.specs.Scan.Positions.{has}
-use Rattle.resolvo_queue.specs.Routing.Possible.{SameElsewhere}
-use Rattle.resolvo_queue.specs.Queue.{AgreesBelow, IsKept, Queue, StandsOn, values_of}
+use Rattle.resolvo_queue.proofs.Words.{AgreesBelow, AllWokenFrom, AreCold, clause_literals, clause_of, counts, Decision}
+use Rattle.resolvo_queue.proofs.Words.{FindsAll, GrowsBy, has, HasParts, is_among, IsInOrder, IsKept, IsListedWell}
+use Rattle.resolvo_queue.proofs.Words.{IsOfClause, IsPlaceOf, IsReady, KeepsQueued, known_true, list_at, Listed}
+use Rattle.resolvo_queue.proofs.Words.{listing, Lit, OnlyForgets, Position, Queue, Queued, Record, References}
+use Rattle.resolvo_queue.proofs.Words.{Requirement, Row, SameElsewhere, SameFound, SameValues, Stands, StandsOn}
+use Rattle.resolvo_queue.proofs.Words.{SyncsTo, TrackedClause, Tracking, Values, values_of, variable_of, variables_of}
 use Rattle.resolvo_queue.specs.Queue.{IsSynced as IsSyncedAt}
-use Rattle.resolvo_queue.specs.Parts.Queued.{GrowsBy, IsOfClause, Queued}
-use Rattle.resolvo_queue.specs.Pick.Questions.{clause_literals}
-use Rattle.resolvo_queue.specs.Pick.Ready.{IsReady}
-use Rattle.resolvo_queue.specs.References.{HasParts, References, rows_in}
-use Rattle.resolvo_queue.specs.Rows.{Row}
-use Rattle.resolvo_queue.specs.Routing.{OnlyForgets, variables_of}
-use Rattle.resolvo_queue.specs.Routing.Synced.{AllWokenFrom, FindsAll, KeepsQueued, SyncsTo, counts, is_among}
-use Rattle.resolvo_queue.specs.Parts.Records.{IsPlaceOf, SameFound, Record, clauses_in, forgotten}
-use Rattle.resolvo_queue.specs.Parts.Tracking.{IsInOrder, Tracking}
-use Rattle.resolvo_queue.specs.Routing.Trails.{decided_value}
-use Rattle.resolvo_queue.specs.declared.tracked_clause.Position.{Position}
-use Rattle.resolvo_queue.specs.declared.tracked_clause.TrackedClause.{TrackedClause}
+use Rattle.resolvo_queue.specs.References.{rows_in}
 use Rattle.resolvo_queue.proofs.Clauses.Counts.{counts_all, woken_all}
 use Rattle.resolvo_queue.proofs.Rows.Listing.{listed_after_sync, lists_known}
 use Rattle.resolvo_queue.proofs.Syncs.Queued.{grows_none}
 use Rattle.resolvo_queue.proofs.Syncs.Same.{synced_same}
-use Rattle.resolvo_queue.proofs.Syncs.Routes.{sync_values}
-use Rattle.resolvo_queue.proofs.Syncs.Trails.{decided_is}
+use Rattle.resolvo_queue.proofs.Syncs.Trails.{sync_values}
 use Rattle.resolvo_queue.proofs.Lists.{differ}
+use Rattle.resolvo_queue.proofs.Syncs.Forgetting.{clauses_stay, placed_after}
 
 -- ---- after a sync
-
-found_after : (a b : List Record) → OnlyForgets a b → SameFound a b
-found_after a b f k = go (slice_get a k) (slice_get b k) (f k)
-  where
-    go : (o n : Option Record) → ((n ≡ o) ⊎ (n ≡ option_map forgotten o)) → clauses_in n ≡ clauses_in o
-    go o n (inl e) = ap clauses_in e
-    go None n (inr e) = ap clauses_in e
-    go (Some t) n (inr e) = ap clauses_in e
-
-placed_after : (a b : List Record) → OnlyForgets a b → (r : Requirement) (k : ℕ) → IsPlaceOf a r k → IsPlaceOf b r k
-placed_after a b f r k m = elim (f k) [
-  | inl e ↦ (m.0, e ∙ m.1, m.2)
-  | inr e ↦ (forgotten m.0, e ∙ ap (option_map forgotten) m.1, m.2)
-]
 
 -- what always holds stays where the clauses stay, whatever is queued and known of them
 pub order_stays : (t u : Tracking) → u.clauses ≡ t.clauses → u.by_parent ≡ t.by_parent →
     SameFound t.requirements u.requirements →
-    ((r : Requirement) (k : ℕ) → IsPlaceOf t.requirements r k → IsPlaceOf u.requirements r k) →
+    ((n : ℕ) (c : TrackedClause) → slice_get t.clauses n ≡ Some c → IsPlaceOf u.requirements c.requirement c.record) →
     ((p : Position) → has u.queued.all p ≡ true → IsOfClause t.clauses p) →
-    ((p : Position) → has u.queued.hot p ≡ true → IsOfClause t.clauses p) →
-    IsInOrder t → IsInOrder u
+    ((p : Position) → has u.queued.hot p ≡ true → IsOfClause t.clauses p) → IsInOrder t → IsInOrder u
 order_stays t u clauses by_parent found placed all hot order =
     subst (λ (x : List TrackedClause × List (List ℕ)). IsInOrder (record {
       clauses = x.0;
@@ -75,7 +42,7 @@ order_stays t u clauses by_parent found placed all hot order =
       first = order.first;
       parents = order.parents;
       requirements = λ n c e. subst (Stands n) (sym (found c.record)) (order.requirements n c e);
-      placed = λ n c e. placed c.requirement c.record (order.placed n c e);
+      placed = placed;
       all_of = all;
       hot_of = hot;
     })
@@ -83,29 +50,21 @@ order_stays t u clauses by_parent found placed all hot order =
 -- where more are queued
 pub order_grown : {t : Tracking} {queued : Queued} → GrowsBy (IsOfClause t.clauses) t.queued queued → IsInOrder t →
     IsInOrder (record t { queued = queued })
-order_grown grows order = record {
-  few = order.few;
-  located = order.located;
-  first = order.first;
-  parents = order.parents;
-  requirements = order.requirements;
-  placed = order.placed;
-  all_of = λ p h. elim (grows.all_new p h) [ inl was ↦ order.all_of p was | inr new ↦ new ];
-  hot_of = λ p h. elim (grows.hot_new p h) [ inl was ↦ order.hot_of p was | inr new ↦ new ];
-}
+order_grown {t} {queued} grows order = order_stays t (record t { queued = queued }) refl refl (λ k. refl) order.placed
+    (λ p h. elim (grows.all_new p h) [ inl was ↦ order.all_of p was | inr new ↦ new ])
+    (λ p h. elim (grows.hot_new p h) [ inl was ↦ order.hot_of p was | inr new ↦ new ]) order
 
 pub order_after_sync : {t u : Tracking} → u.clauses ≡ t.clauses → u.by_parent ≡ t.by_parent →
     OnlyForgets t.requirements u.requirements →
     GrowsBy (IsOfClause t.clauses) t.queued u.queued → IsInOrder t → IsInOrder u
 order_after_sync {t} {u} clauses by_parent only grows order =
-    order_stays t u clauses by_parent (found_after t.requirements u.requirements only)
-    (placed_after t.requirements u.requirements only)
+    order_stays t u clauses by_parent (clauses_stay t.requirements u.requirements only)
+    (λ n c e. placed_after t.requirements u.requirements only c.requirement c.record (order.placed n c e))
     (λ p e. elim (grows.all_new p e) [ inl was ↦ order.all_of p was | inr new ↦ new ])
     (λ p e. elim (grows.hot_new p e) [ inl was ↦ order.hot_of p was | inr new ↦ new ]) order
 
 module _ {N S A H : Type 0} (has : H → N → Bool) (refs : References N S A) (q q' : Queue N H) (kept : IsKept has q)
-    (stands : StandsOn refs q)
-    (whole : q'.clauses ≡ q.clauses) (clauses : q'.inside.clauses ≡ q.inside.clauses)
+    (stands : StandsOn refs q) (whole : q'.clauses ≡ q.clauses) (clauses : q'.inside.clauses ≡ q.inside.clauses)
     (by_condition : q'.inside.by_condition ≡ q.inside.by_condition) where
   abbrev cs : List TrackedClause
   cs = q.inside.clauses
@@ -116,8 +75,7 @@ module _ {N S A H : Type 0} (has : H → N → Bool) (refs : References N S A) (
   -- what a call leaves that changes no clause
   still_stands : IsListedWell refs.lists q'.inside.occurrences q'.inside.requirements →
       (q'.must_start_anew ≡ false → KeepsQueued cs literals (rows_in refs) (values_of q'.trail)
-      (counts (values_of q'.trail) q'.woken) q'.inside.requirements q'.inside.queued) →
-      StandsOn refs q'
+      (counts (values_of q'.trail) q'.woken) q'.inside.requirements q'.inside.queued) → StandsOn refs q'
   still_stands listed synced = record {
     clauses = whole ∙ (stands.clauses ∙ ap (map clause_of) (sym clauses));
     parts = subst (All (HasParts refs)) (sym whole) stands.parts;
@@ -125,19 +83,16 @@ module _ {N S A H : Type 0} (has : H → N → Bool) (refs : References N S A) (
         (stands.conditions n c (subst (λ xs. slice_get xs n ≡ Some c) clauses e) l s);
     listed = listed;
     synced = λ accepted. subst (λ xs. KeepsQueued xs literals (rows_in refs) (values_of q'.trail)
-        (counts (values_of q'.trail) q'.woken) q'.inside.requirements q'.inside.queued) (sym clauses)
-        (synced accepted);
+        (counts (values_of q'.trail) q'.woken) q'.inside.requirements q'.inside.queued) (sym clauses) (synced accepted);
   }
 
   -- a sync that is refused
   stands_behind : q'.inside.occurrences ≡ q.inside.occurrences →
       OnlyForgets q.inside.requirements q'.inside.requirements → q'.must_start_anew ≡ true → StandsOn refs q'
-  stands_behind occurrences only anew =
-      still_stands
+  stands_behind occurrences only anew = still_stands
       (subst (λ o. IsListedWell refs.lists o q'.inside.requirements) (sym occurrences)
       (listed_after_sync refs.lists q.inside.occurrences q.inside.requirements q'.inside.requirements
-      only stands.listed))
-      (λ accepted. absurd (differ (sym anew ∙ accepted)))
+      only stands.listed)) (λ accepted. absurd (differ (sym anew ∙ accepted)))
 
   module _ (floor f : ℕ) (entries : List Decision) (now : Values) (less : f ≤ floor)
       (agrees : q.must_start_anew ≡ false → AgreesBelow floor entries q)
@@ -145,25 +100,22 @@ module _ {N S A H : Type 0} (has : H → N → Bool) (refs : References N S A) (
     abbrev routed : List ℕ
     routed = variables_of (drop f q.trail) ++ variables_of (drop f entries)
 
-    was_synced : q.must_start_anew ≡ false → SameElsewhere (is_among routed) (decided_value q.trail) now
-        × KeepsQueued cs literals (rows_in refs) (decided_value q.trail)
-        (counts (decided_value q.trail) q.woken) q.inside.requirements q.inside.queued
+    was_synced : q.must_start_anew ≡ false → SameElsewhere (is_among routed) (values_of q.trail) now
+        × KeepsQueued cs literals (rows_in refs) (values_of q.trail) (counts (values_of q.trail) q.woken)
+        q.inside.requirements q.inside.queued
     was_synced accepted = (
-      sync_values f q.trail entries now (λ x. values x ∙ sym (decided_is entries x))
+      sync_values f q.trail entries now values
           (sym (take-take f floor q.trail less) ∙ (ap (take f) (agrees accepted) ∙ take-take f floor entries less)),
-      subst (λ v. KeepsQueued cs literals (rows_in refs) v (counts v q.woken) q.inside.requirements q.inside.queued)
-          (λ i x. sym (decided_is q.trail x) i) (stands.synced accepted),
+      stands.synced accepted,
     )
 
     -- an accepted sync
     stands_synced : q'.inside.occurrences ≡ q.inside.occurrences →
         OnlyForgets q.inside.requirements q'.inside.requirements →
         SyncsTo cs q.inside.by_parent q.inside.by_condition (listing q.inside.occurrences) q.must_start_anew
-        (decided_value q.trail) now routed
-        q.inside.requirements q'.inside.requirements q.inside.queued q'.inside.queued →
+        (values_of q.trail) now routed q.inside.requirements q'.inside.requirements q.inside.queued q'.inside.queued →
         q'.trail ≡ entries → q'.woken ≡ q.woken → StandsOn refs q'
-    stands_synced occurrences only syncs trail woken =
-        still_stands
+    stands_synced occurrences only syncs trail woken = still_stands
         (subst (λ o. IsListedWell refs.lists o q'.inside.requirements) (sym occurrences)
         (listed_after_sync refs.lists q.inside.occurrences q.inside.requirements q'.inside.requirements
         only stands.listed))
@@ -179,8 +131,7 @@ module _ {N S A H : Type 0} (has : H → N → Bool) (refs : References N S A) (
 
         at_now : KeepsQueued cs literals (rows_in refs) now (counts now q.woken) q'.inside.requirements q'.inside.queued
         at_now = syncs literals (rows_in refs) q.woken finds
-            (lists_known refs.universe refs.lists cs literals q.inside.occurrences q.inside.requirements stands.listed)
-            was_synced
+            (lists_known refs.universe refs.lists q.inside.occurrences q.inside.requirements stands.listed) was_synced
 
         at_trail : now ≡ values_of q'.trail
         at_trail = λ i x. (values x ∙ ap (λ ds. values_of ds x) (sym trail)) i
@@ -189,12 +140,11 @@ module _ {N S A H : Type 0} (has : H → N → Bool) (refs : References N S A) (
     pub stands_after : {T E : Type 0} (result : Result T E) → q'.inside.occurrences ≡ q.inside.occurrences →
         OnlyForgets q.inside.requirements q'.inside.requirements →
         OnOk result (SyncsTo cs q.inside.by_parent q.inside.by_condition (listing q.inside.occurrences)
-        q.must_start_anew (decided_value q.trail) now routed
+        q.must_start_anew (values_of q.trail) now routed
         q.inside.requirements q'.inside.requirements q.inside.queued q'.inside.queued) →
         OnOk result (q'.trail ≡ entries) → OnErr result (q'.must_start_anew ≡ true) → q'.woken ≡ q.woken →
         StandsOn refs q'
-    stands_after (Ok x) occurrences only syncs trail refused woken =
-        stands_synced occurrences only syncs trail woken
+    stands_after (Ok x) occurrences only syncs trail refused woken = stands_synced occurrences only syncs trail woken
     stands_after (Err e) occurrences only syncs trail refused woken = stands_behind occurrences only refused
 
   -- ---- at a question
@@ -222,8 +172,7 @@ module _ {N S A H : Type 0} (has : H → N → Bool) (refs : References N S A) (
         IsReady cs literals (rows_in refs) val q'.inside.requirements q'.inside.queued → StandsOn refs q'
     stands_asked trail woken listed ready = still_stands listed
         (λ accepted. subst (λ (x : Values × ℕ). KeepsQueued cs literals (rows_in refs) x.0 (counts x.0 x.1)
-        q'.inside.requirements q'.inside.queued)
-        (λ i. ((sym same_values ∙ ap values_of (sym trail)) i, sym woken i))
+        q'.inside.requirements q'.inside.queued) (λ i. ((sym same_values ∙ ap values_of (sym trail)) i, sym woken i))
         (synced_same cs literals literals (λ n c e. refl) (rows_in refs) (rows_in refs)
         val (λ c. known_true (val c.parent)) (counts val (length cs)) q'.inside.requirements q'.inside.requirements
         (λ p. ⊥) q'.inside.queued q'.inside.queued
@@ -251,23 +200,7 @@ pub order_asked : {t u : Tracking} {literals : TrackedClause → List Lit} {rows
     SameFound t.requirements u.requirements → IsReady t.clauses literals rows_of values u.requirements u.queued →
     IsInOrder t → IsInOrder u
 order_asked {t} {u} clauses by_parent found ready order =
-    subst (λ (x : List TrackedClause × List (List ℕ)). IsInOrder (record {
-      clauses = x.0;
-      by_parent = x.1;
-      by_condition = u.by_condition;
-      requirements = u.requirements;
-      occurrences = u.occurrences;
-      queued = u.queued;
-    })) (λ i. (sym clauses i, sym by_parent i)) (record {
-      few = order.few;
-      located = order.located;
-      first = order.first;
-      parents = order.parents;
-      requirements = λ n c e. subst (Stands n) (sym (found c.record)) (order.requirements n c e);
-      placed = ready.placed;
-      all_of = ready.all_of;
-      hot_of = ready.hot_of;
-    })
+    order_stays t u clauses by_parent found ready.placed ready.all_of ready.hot_of order
 
 -- what always holds of a queue, where a sync or a question left its clauses
 pub kept_still : {N H : Type 0} {has : H → N → Bool} {q q' : Queue N H} → IsKept has q → IsInOrder q'.inside →

@@ -1,11 +1,8 @@
 -- Whether one clause is falsified, by its parent, its condition and its rows.
 use Rattle.std.proofs.Common.{◌≡◌, ℕ, Bool, true, false, not, ◌&&◌, List, Option, Some, sym, ap, refl, ◌∙◌}
 use Rattle.std.specs.Prelude.{is_none}
-use Rattle.decisions.specs.Literals.{Lit, Values, known_true}
-use Rattle.providers.specs.declared.requirement.Requirement.{Requirement}
-use Rattle.resolvo_queue.specs.Rows.{Row, has_true_row, all_false, frontier}
-use Rattle.resolvo_queue.specs.Scan.{are_literals_false, is_falsified}
-use Rattle.resolvo_queue.specs.declared.requires_clause.RequiresClause.{RequiresClause}
+use Rattle.resolvo_queue.proofs.Words.{all_false, are_literals_false, frontier, has_true_row, is_falsified, known_true}
+use Rattle.resolvo_queue.proofs.Words.{Lit, Requirement, RequiresClause, Row, Values}
 use Rattle.resolvo_queue.proofs.Rows.States.{falsified-rows}
 
 module _ (val : Values) (literals_of : Option ℕ → List Lit) (rows_of : Requirement → List Row)
@@ -15,8 +12,7 @@ module _ (val : Values) (literals_of : Option ℕ → List Lit) (rows_of : Requi
   and_assoc false b d = refl
 
   -- by the parent, the condition and the rows
-  pub falsified_by : is_falsified val literals_of rows_of c
-      ≡ (known_true (val c.parent) &&
+  pub falsified_by : is_falsified val literals_of rows_of c ≡ (known_true (val c.parent) &&
       (are_literals_false val (literals_of c.condition) && all_false val (rows_of c.requirement)))
   falsified_by =
       let p : Bool = known_true (val c.parent) in
@@ -36,5 +32,4 @@ module _ (val : Values) (literals_of : Option ℕ → List Lit) (rows_of : Requi
       let condition : are_literals_false val (literals_of c.condition) ≡ true = sym met_is ∙ true_met in
       rest_is ∙ sym (falsified_by
       ∙ (ap (λ p. p && (are_literals_false val (literals_of c.condition) && all_false val (rows_of c.requirement)))
-      parent
-      ∙ ap (λ l. l && all_false val (rows_of c.requirement)) condition))
+      parent ∙ ap (λ l. l && all_false val (rows_of c.requirement)) condition))

@@ -1,23 +1,14 @@
 -- Of the clauses that pass a test, the one with the least position is the first of the scan.
 use Rattle.std.proofs.Common.{◌≡◌, ℕ, zero, suc, Bool, true, false, cond, eqb, eq-eqb, List, [], ◌∷◌, ◌++◌, map}
 use Rattle.std.proofs.Common.{find, length, Some, None, option_map, slice_get, sym, ap, refl, ◌∙◌, is_gt}
-use Rattle.std.specs.List.{AllByRecursion}
 use Rattle.std.specs.List.Sorted.{IsStrictlySortedBy}
-use Rattle.std.specs.Ordering.{is_lt, ordering_reverse}
-use Rattle.std.specs.declared.cmp.Ordering.{Ordering}
-use Rattle.std.specs.declared.cmp.Ordering.TheVariants.{Less, Equal, Greater}
-use Rattle.resolvo_queue.specs.Laws.{FirstToPass, NextPosition, NoneToPass, PositionStays}
-use Rattle.resolvo_queue.specs.Members.{Stands, here, there}
-use Rattle.resolvo_queue.specs.Pick.Ready.{at_position}
-use Rattle.resolvo_queue.specs.Scan.{scan}
-use Rattle.resolvo_queue.specs.Scan.Order.{first_from, numbered_scan, position_in}
-use Rattle.resolvo_queue.specs.Scan.Positions.{position_cmp, is_after}
-use Rattle.resolvo_queue.specs.declared.tracked_clause.Position.{Position}
-use Rattle.resolvo_queue.specs.declared.requires_clause.RequiresClause.{RequiresClause}
+use Rattle.resolvo_queue.proofs.Words.{at_position, Equal, first_from, Greater, here, is_after, is_lt}
+use Rattle.resolvo_queue.proofs.Words.{Less, numbered_scan, Ordering, ordering_reverse, Position}
+use Rattle.resolvo_queue.proofs.Words.{position_at, position_cmp, position_in, RequiresClause, scan, Stands, there}
 use Rattle.resolvo_queue.proofs.Syncs.Queued.{position_order}
-use Rattle.resolvo_queue.proofs.Picks.NumberedScan.{scan_ascends, scan_is, scanned_at, at_scanned}
+use Rattle.resolvo_queue.proofs.Picks.NumberedScan.{at_scanned, first_kept, scan_ascends, scan_is, scanned_at}
 use Rattle.resolvo_queue.proofs.Lists.{no_or_yes, same_some}
-use Rattle.resolvo_queue.proofs.Picks.Behind.{Ascends}
+use Rattle.resolvo_queue.proofs.Picks.Behind.{Ascends, below_all}
 
 -- ---- positions
 
@@ -25,7 +16,7 @@ pub not_both : (b : Bool) → b ≡ true → b ≡ false → ⊥
 not_both true e f = cc
 not_both false e f = cc
 
-less_by_test : (o : Ordering) → is_lt o ≡ true → o ≡ Less
+pub less_by_test : (o : Ordering) → is_lt o ≡ true → o ≡ Less
 less_by_test Less e = refl
 less_by_test Equal e = cc
 less_by_test Greater e = cc
@@ -51,8 +42,7 @@ behind_is_after p q e = ap is_gt (position_order.antisymm p q ∙ ap ordering_re
 
 -- what stands before the least so far stands before all that it stands before
 pub before_all : (p q r : Position) → is_lt (position_cmp p q) ≡ true → is_after q r ≡ false → is_after p r ≡ false
-before_all p q r e f =
-    no_or_yes (is_after p r) (λ h. not_both (is_after q r)
+before_all p q r e f = no_or_yes (is_after p r) (λ h. not_both (is_after q r)
     (behind_is_after q r (position_order.trans r p q (after_is_behind p r h) (less_by_test (position_cmp p q) e))) f)
 
 pub not_before_is_after : (p q : Position) → is_lt (position_cmp p q) ≡ false → is_after q p ≡ false
@@ -72,12 +62,6 @@ find_mapped {X} {Y} f t (x ∷ xs) = go (t (f x)) (find_mapped f t xs)
     go false e = e
 
 module _ {X K : Type 0} (cmp : K → K → Ordering) (key : X → K) (t : X → Bool) where
-  below_all : (x : X) (xs : List X) → AllByRecursion (λ k. cmp (key x) k ≡ Less) (map key xs) → (y : X) → Stands y xs →
-      cmp (key x) (key y) ≡ Less
-  below_all x [] a z s = elim s [ ]
-  below_all x (y ∷ ys) a z here = a.0
-  below_all x (y ∷ ys) a z (there s) = below_all x ys a.1 z s
-
   -- none holds
   found_nowhere : (xs : List X) → ((y : X) → Stands y xs → t y ≡ false) → find t xs ≡ None
   found_nowhere [] h = refl
@@ -90,10 +74,21 @@ module _ {X K : Type 0} (cmp : K → K → Ordering) (key : X → K) (t : X → 
   found_first [] up z s e h = elim s [ ]
   found_first (x ∷ xs) up z here e h = ap (λ b. cond b (Some x) (find t xs)) e
   found_first (y ∷ ys) up z (there s) e h =
-      ap (λ b. cond b (Some y) (find t ys)) (h y here (below_all y ys up.0 z s)) ∙
+      ap (λ b. cond b (Some y) (find t ys)) (h y here (below_all cmp key y ys up.0 z s)) ∙
       found_first ys up.1 z s e (λ w r. h w (there r))
 
 -- ---- the scan of a list of clauses
+
+module _ (clauses : List RequiresClause) (passes : RequiresClause → Bool) where
+  abbrev pub NonePasses : Type 0
+  NonePasses = (n : ℕ) (c : RequiresClause) → slice_get clauses n ≡ Some c → passes c ≡ false
+
+  -- the clause with the number passes, and stands behind none that does
+  pub record IsFirstToPass (number : ℕ) (clause : RequiresClause) : Type 0 where
+    pub at : slice_get clauses number ≡ Some clause
+    pub passes_itself : passes clause ≡ true
+    pub least : (n : ℕ) (c : RequiresClause) → slice_get clauses n ≡ Some c → passes c ≡ true →
+        is_after (position_at clauses number clause) (position_at clauses n c) ≡ false
 
 abbrev parent_of : RequiresClause → ℕ
 parent_of c = c.parent
@@ -107,16 +102,18 @@ module _ (clauses : List RequiresClause) (passes : RequiresClause → Bool) wher
   along_numbers = ap (find passes) (sym (scan_is parent_of clauses)) ∙
       find_mapped (λ (x : ℕ × RequiresClause). x.1) passes (numbered_scan parent_of clauses)
 
-pub none_to_pass : NoneToPass
-none_to_pass clauses passes none =
-    along_numbers clauses passes
-    ∙ ap (option_map (λ (x : ℕ × RequiresClause). x.1))
+-- where none passes, none of the scan does
+pub none_to_pass : (clauses : List RequiresClause) (passes : RequiresClause → Bool) → NonePasses clauses passes →
+    find passes (scan clauses) ≡ None
+none_to_pass clauses passes none = along_numbers clauses passes ∙ ap (option_map (λ (x : ℕ × RequiresClause). x.1))
     (found_nowhere position_cmp (position_in parent_of at_position clauses) (numbered_passes clauses passes)
     (numbered_scan parent_of clauses) (λ x s. none x.0 x.1 (scanned_at parent_of clauses x s)))
 
-pub first_to_pass : FirstToPass
-first_to_pass clauses passes number clause first =
-    along_numbers clauses passes
+-- the clause that stands first of those that pass is the first of the scan that does
+pub first_to_pass : (clauses : List RequiresClause) (passes : RequiresClause → Bool) (number : ℕ)
+    (clause : RequiresClause) → IsFirstToPass clauses passes number clause →
+    find passes (scan clauses) ≡ Some clause
+first_to_pass clauses passes number clause first = along_numbers clauses passes
     ∙ ap (option_map (λ (x : ℕ × RequiresClause). x.1))
     (found_first position_cmp place (numbered_passes clauses passes) (numbered_scan parent_of clauses)
     (scan_ascends parent_of position_cmp at_position (λ a b c d. refl) clauses)
@@ -133,20 +130,10 @@ first_to_pass clauses passes number clause first =
 
 -- ---- one clause more
 
--- a parent that has a clause keeps its first number
-first_kept : (i : ℕ) (cs : List RequiresClause) (new : RequiresClause) (n : ℕ) (c : RequiresClause) →
-    slice_get cs n ≡ Some c →
-    first_from parent_of i (cs ++ new ∷ []) c.parent ≡ first_from parent_of i cs c.parent
-first_kept i [] new n c e = cc
-first_kept i (x ∷ xs) new zero c e =
-    let found : eqb x.parent c.parent ≡ true = eq-eqb x.parent c.parent (ap parent_of (same_some x c e)) in
-    ap (λ b. cond b i (first_from parent_of (suc i) (xs ++ new ∷ []) c.parent)) found ∙
-    sym (ap (λ b. cond b i (first_from parent_of (suc i) xs c.parent)) found)
-first_kept i (x ∷ xs) new (suc n) c e =
-    ap (λ m. cond (eqb x.parent c.parent) i m) (first_kept (suc i) xs new n c e)
-
-pub position_stays : PositionStays
-position_stays clauses new n c e = ap (λ m. at_position m n) (first_kept 0 clauses new n c e)
+-- one clause more: the others stand where they stood
+pub position_stays : (clauses : List RequiresClause) (new : RequiresClause) (n : ℕ) (c : RequiresClause) →
+    slice_get clauses n ≡ Some c → position_at (clauses ++ new ∷ []) n c ≡ position_at clauses n c
+position_stays clauses new n c e = ap (λ m. at_position m n) (first_kept parent_of 0 clauses new n c e)
 
 -- its parent's first clause is that of the others, or else itself
 own_first : (i : ℕ) (cs : List RequiresClause) (new : RequiresClause) →
@@ -154,5 +141,7 @@ own_first : (i : ℕ) (cs : List RequiresClause) (new : RequiresClause) →
 own_first i [] new = ap (λ b. cond b i (suc i)) (eq-eqb new.parent new.parent refl)
 own_first i (x ∷ xs) new = ap (λ m. cond (eqb x.parent new.parent) i m) (own_first (suc i) xs new)
 
-pub next_position : NextPosition
+-- and it stands where the next one was to stand
+pub next_position : (clauses : List RequiresClause) (new : RequiresClause) →
+    position_at (clauses ++ new ∷ []) (length clauses) new ≡ position_at clauses (length clauses) new
 next_position clauses new = ap (λ m. at_position m (length clauses)) (own_first 0 clauses new)

@@ -4,15 +4,8 @@ use Rattle.std.proofs.Common.{List, length, map, find, Option, Some, None, optio
 use Rattle.std.proofs.Common.{sym, ap, refl, ◌∙◌, subst, arith}
 use Rattle.std.proofs.lemmas.Bool.{ltb-false, ltb-true}
 use Rattle.std.proofs.lemmas.Option.{slice_get-map, slice_get_within}
-use Rattle.resolvo_queue.specs.Falsified.{Covers, FindsBelow, FindsFirst, comes_first}
-use Rattle.resolvo_queue.specs.Pick.Inspection.{clause_of}
-use Rattle.resolvo_queue.specs.Pick.Ready.{AreLocated, at_position}
-use Rattle.resolvo_queue.specs.Scan.{scan}
-use Rattle.resolvo_queue.specs.Scan.First.{position_at}
-use Rattle.resolvo_queue.specs.Scan.Positions.{is_after}
-use Rattle.resolvo_queue.specs.declared.tracked_clause.Position.{Position}
-use Rattle.resolvo_queue.specs.declared.requires_clause.RequiresClause.{RequiresClause}
-use Rattle.resolvo_queue.specs.declared.tracked_clause.TrackedClause.{TrackedClause}
+use Rattle.resolvo_queue.proofs.Words.{AreLocated, at_position, clause_of, comes_first, Covers, FindsBelow, FindsFirst}
+use Rattle.resolvo_queue.proofs.Words.{is_after, Position, position_at, RequiresClause, scan, TrackedClause}
 use Rattle.resolvo_queue.proofs.Clauses.Firsts.{first_mapped}
 use Rattle.resolvo_queue.proofs.Falsified.Least.{before_all, first_to_pass, none_to_pass, not_after_itself}
 use Rattle.resolvo_queue.proofs.Falsified.Least.{not_before_is_after, not_both}
@@ -47,13 +40,11 @@ module _ (clauses : List TrackedClause) (holds : TrackedClause → Bool) where
         let test = both_of (comes_first c first) (holds c) earlier in
         record {
           found = (i, at, test.1);
-          covers = both (Some c)
-              (λ d k. (
-                c,
-                refl,
-                before_all c.position k.0.position d.position (ap (comes_first c) (sym k.1) ∙ test.0) k.2,
-              ))
-              (λ held. (c, refl, not_after_itself c.position));
+          covers = both (Some c) (λ d k. (
+            c,
+            refl,
+            before_all c.position k.0.position d.position (ap (comes_first c) (sym k.1) ∙ test.0) k.2,
+          )) (λ held. (c, refl, not_after_itself c.position));
         }
 
     -- it doesn't hold, or stands behind
@@ -108,19 +99,16 @@ module _ (clauses : List TrackedClause) (located : AreLocated clauses) where
       where
         nothing : (c : TrackedClause) → Covers None c → ⊥
         nothing c k = let none = k.1 in cc
-    first_in_scan (Some c) finds =
-        first_to_pass whole passes finds.found.0 (clause_of c) (record {
-          at = slice_get-map clause_of clauses finds.found.0 ∙ ap (option_map clause_of) finds.found.1;
-          passes_itself = finds.found.2;
-          least = λ n r is held. (let at = tracked_at n r is in
-              subst (λ (x : Position × Position). is_after x.0 x.1 ≡ false)
-              (λ i. (
-                sym (stands_at finds.found.0 c finds.found.1) i,
-                (sym (stands_at n at.0 at.1) ∙ ap (position_at whole n) at.2) i,
-              ))
-              (earliest at.0 (finds.covers n at.0 at.1 (slice_get_within clauses n at.0 at.1)
-              (ap passes at.2 ∙ held))));
-        })
+    first_in_scan (Some c) finds = first_to_pass whole passes finds.found.0 (clause_of c) (record {
+      at = slice_get-map clause_of clauses finds.found.0 ∙ ap (option_map clause_of) finds.found.1;
+      passes_itself = finds.found.2;
+      least = λ n r is held. (let at = tracked_at n r is in
+          subst (λ (x : Position × Position). is_after x.0 x.1 ≡ false) (λ i. (
+            sym (stands_at finds.found.0 c finds.found.1) i,
+            (sym (stands_at n at.0 at.1) ∙ ap (position_at whole n) at.2) i,
+          )) (earliest at.0 (finds.covers n at.0 at.1 (slice_get_within clauses n at.0 at.1)
+          (ap passes at.2 ∙ held))));
+    })
       where
         earliest : (d : TrackedClause) → Covers (Some c) d → is_after c.position d.position ≡ false
         earliest d k = subst (λ (x : TrackedClause). is_after x.position d.position ≡ false)

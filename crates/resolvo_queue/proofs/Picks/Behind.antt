@@ -1,16 +1,11 @@
 -- The best needs no more than the first offer and, behind it, the items that can beat the best so far.
 use Rattle.std.proofs.Common.{◌≡◌, ℕ, ◌≤◌, Bool, false, not, ◌&&◌, ◌||◌, cond, ltb, List, [], ◌∷◌, filter_map}
 use Rattle.std.proofs.Common.{fold, map, Option, Some, None, IfSome, sym, ap, subst, refl, ◌∙◌, arith}
-use Rattle.std.specs.List.{cons_option, AllByRecursion}
-use Rattle.std.specs.List.Sorted.{IsStrictlySortedBy}
-use Rattle.std.specs.declared.cmp.Ordering.{Ordering}
-use Rattle.std.specs.Ordering.{is_lt, ordering_reverse}
-use Rattle.std.specs.declared.cmp.Ordering.TheVariants.{Less, Equal, Greater}
-use Rattle.std.specs.Cmp.{IsTotalOrder}
 use Rattle.std.proofs.lemmas.Bool.Decides.{nat_tests}
-use Rattle.resolvo_queue.specs.Pick.{Offer, beats, better, best_offer, is_of_root}
-use Rattle.resolvo_queue.specs.Members.{Stands, here, there}
-use Rattle.resolvo_queue.specs.Pick.Behind.{behind, picked_behind}
+use Rattle.std.specs.List.Sorted.{IsStrictlySortedBy}
+use Rattle.resolvo_queue.proofs.Words.{AllByRecursion, beats, behind, best_offer, better, cons_option, Equal, Greater}
+use Rattle.resolvo_queue.proofs.Words.{here, is_lt, is_of_root, IsTotalOrder, Less, Offer, Ordering}
+use Rattle.resolvo_queue.proofs.Words.{ordering_reverse, picked_behind, Stands, there}
 
 module _ {X K : Type 0} (cmp : K → K → Ordering) (key : X → K) (offer_of : X → Option Offer) where
   -- the item offers nothing that beats the best so far
@@ -52,13 +47,20 @@ cold_beats_nothing b e p = by_cold b.score e.score b.frontier.count e.frontier.c
 
 -- ---- the best along the order
 
-reversed_same : (o : Ordering) → o ≡ ordering_reverse o → is_lt o ≡ false
+pub reversed_same : (o : Ordering) → o ≡ ordering_reverse o → is_lt o ≡ false
 reversed_same Less e = cc
 reversed_same Equal e = refl
 reversed_same Greater e = refl
 
 reversed_less : (o p : Ordering) → o ≡ ordering_reverse p → p ≡ Less → is_lt o ≡ false
 reversed_less o p e h = ap is_lt (e ∙ ap ordering_reverse h)
+
+module _ {X K : Type 0} (cmp : K → K → Ordering) (key : X → K) where
+  pub below_all : (x : X) (xs : List X) → AllByRecursion (λ k. cmp (key x) k ≡ Less) (map key xs) → (y : X) → Stands y xs →
+      cmp (key x) (key y) ≡ Less
+  below_all x [] a z s = elim s [ ]
+  below_all x (y ∷ ys) a z here = a.0
+  below_all x (y ∷ ys) a z (there s) = below_all x ys a.1 z s
 
 module _ {X K : Type 0} (cmp : K → K → Ordering) (order : IsTotalOrder cmp) (key : X → K)
     (offer_of : X → Option Offer) where
@@ -74,12 +76,6 @@ module _ {X K : Type 0} (cmp : K → K → Ordering) (order : IsTotalOrder cmp) 
 
   not_behind_later : (x y : X) → cmp (key y) (key x) ≡ Less → is_lt (cmp (key x) (key y)) ≡ false
   not_behind_later x y h = reversed_less (cmp (key x) (key y)) (cmp (key y) (key x)) (order.antisymm (key x) (key y)) h
-
-  below_all : (x : X) (xs : List X) → AllByRecursion (λ k. cmp (key x) k ≡ Less) (map key xs) → (y : X) → Stands y xs →
-      cmp (key x) (key y) ≡ Less
-  below_all x [] a z s = elim s [ ]
-  below_all x (y ∷ ys) a z here = a.0
-  below_all x (y ∷ ys) a z (there s) = below_all x ys a.1 z s
 
   all_behind : (k : K) (xs : List X) → ((y : X) → Stands y xs → cmp k (key y) ≡ Less) →
       behind cmp key offer_of k xs ≡ xs
@@ -114,31 +110,26 @@ module _ {X K : Type 0} (cmp : K → K → Ordering) (order : IsTotalOrder cmp) 
 
   -- the next: nothing between the key and the item's is better
   pub next_better : (xs : List X) → Ascends cmp key xs → (b : Offer) (k : K) (x : X) → Stands x xs →
-      cmp k (key x) ≡ Less →
-      ((y : X) → Stands y xs → cmp k (key y) ≡ Less → cmp (key y) (key x) ≡ Less →
-      OffersNoBetter cmp key offer_of b y) →
-      picked_behind cmp key offer_of xs b k
+      cmp k (key x) ≡ Less → ((y : X) → Stands y xs → cmp k (key y) ≡ Less → cmp (key y) (key x) ≡ Less →
+      OffersNoBetter cmp key offer_of b y) → picked_behind cmp key offer_of xs b k
       ≡ fold better (Some b) (cons_option (offer_of x) (filter_map offer_of (behind cmp key offer_of (key x) xs)))
   unfolding IsStrictlySortedBy
   next_better [] up b k z s above h = elim s [ ]
   next_better (x ∷ xs) up b k z here above h =
-      let later : (y : X) → Stands y xs → cmp (key x) (key y) ≡ Less = below_all x xs up.0 in
+      let later : (y : X) → Stands y xs → cmp (key x) (key y) ≡ Less = below_all cmp key x xs up.0 in
       let far : (y : X) → Stands y xs → cmp k (key y) ≡ Less = λ y s. order.trans k (key x) (key y) above (later y s) in
       ap (λ o. fold better (Some b)
       (offers (cond (is_lt o) (x ∷ behind cmp key offer_of k xs) (behind cmp key offer_of k xs)))) above
-      ∙ (ap (λ l. continued b (offer_of x) l) (all_behind k xs far)
-      ∙ sym (ap (λ l. continued b (offer_of x) l)
+      ∙ (ap (λ l. continued b (offer_of x) l) (all_behind k xs far) ∙ sym (ap (λ l. continued b (offer_of x) l)
       (skipped (key x) x xs (not_behind_itself x) ∙ all_behind (key x) xs later)))
-  next_better (y ∷ ys) up b k z (there s) above h =
-      go (cmp k (key y)) refl
+  next_better (y ∷ ys) up b k z (there s) above h = go (cmp k (key y)) refl
       ∙ (next_better ys up.1 b k z s above (λ w t. h w (there t))
       ∙ sym (ap (λ l. continued b (offer_of z) l) (skipped (key z) y ys (not_behind_later z y below))))
     where
       below : cmp (key y) (key z) ≡ Less
-      below = below_all y ys up.0 z s
+      below = below_all cmp key y ys up.0 z s
 
-      go : (o : Ordering) → cmp k (key y) ≡ o →
-          fold better (Some b) (offers
+      go : (o : Ordering) → cmp k (key y) ≡ o → fold better (Some b) (offers
           (cond (is_lt o) (y ∷ behind cmp key offer_of k ys) (behind cmp key offer_of k ys)))
           ≡ picked_behind cmp key offer_of ys b k
       go Less e = no_better b (offer_of y) (offers (behind cmp key offer_of k ys)) (h y here e below)
@@ -151,12 +142,11 @@ module _ {X K : Type 0} (cmp : K → K → Ordering) (order : IsTotalOrder cmp) 
       best_offer (filter_map offer_of xs) ≡ picked_behind cmp key offer_of xs o (key x)
   unfolding IsStrictlySortedBy
   first_picked [] up z o s e h = elim s [ ]
-  first_picked (x ∷ xs) up z o here e h =
-      ap (λ p. best_offer (cons_option p (offers xs))) e
+  first_picked (x ∷ xs) up z o here e h = ap (λ p. best_offer (cons_option p (offers xs))) e
       ∙ sym (ap (λ l. fold better (Some o) (offers l))
-      (skipped (key x) x xs (not_behind_itself x) ∙ all_behind (key x) xs (below_all x xs up.0)))
+      (skipped (key x) x xs (not_behind_itself x) ∙ all_behind (key x) xs (below_all cmp key x xs up.0)))
   first_picked (y ∷ ys) up z o (there s) e h =
-      let below : cmp (key y) (key z) ≡ Less = below_all y ys up.0 z s in
+      let below : cmp (key y) (key z) ≡ Less = below_all cmp key y ys up.0 z s in
       ap (λ p. best_offer (cons_option p (offers ys))) (h y here below)
       ∙ (first_picked ys up.1 z o s e (λ w t. h w (there t))
       ∙ sym (ap (λ l. fold better (Some o) (offers l)) (skipped (key z) y ys (not_behind_later z y below))))

@@ -2,39 +2,24 @@
 use Rattle.std.proofs.Common.{◌≡◌, ℕ, ◌<◌, ◌≤◌, Bool, true, false, ◌&&◌, cond, inl, inr}
 use Rattle.std.proofs.Common.{List, [], ◌∷◌, filter, length, Option, Some, None, IfSome}
 use Rattle.std.proofs.Common.{option_map, slice_get, sym, ap, refl, ◌∙◌, subst, arith, is_lt}
-use Rattle.std.specs.Ordering.{ordering_reverse}
-use Rattle.std.specs.declared.cmp.Ordering.{Ordering}
-use Rattle.std.specs.declared.cmp.Ordering.TheVariants.{Less, Equal, Greater}
-use Rattle.typed_ids.specs.declared.version_set_id.VersionSetId.{VersionSetId}
-use Rattle.decisions.specs.Literals.{Lit, Values, known_true}
-use Rattle.providers.specs.declared.requirement.Requirement.{Requirement}
-use Rattle.resolvo_queue.specs.declared.offer.Candidate.{Candidate}
-use Rattle.resolvo_queue.specs.declared.offer.Frontier.{Frontier}
-use Rattle.resolvo_queue.specs.Pick.Groups.{Group, has_of, is_in, offers_of}
-use Rattle.resolvo_queue.specs.Pick.{Offer, beats, best_offer}
-use Rattle.resolvo_queue.specs.Rows.{Row, frontier}
-use Rattle.resolvo_queue.specs.Pick.Inspection.{eligible_frontier, offer_with, offer_of}
-use Rattle.resolvo_queue.specs.Members.{Stands, here, there}
-use Rattle.resolvo_queue.specs.Scan.Positions.{has, position_cmp, IsBefore, is_after}
-use Rattle.resolvo_queue.specs.Scan.{are_literals_false}
-use Rattle.resolvo_queue.specs.Parts.Queued.{Queued, IsOfClause, set_of}
-use Rattle.resolvo_queue.specs.Pick.Ready.{AreLocated, scanned, improved, IsReady, IsDone}
-use Rattle.resolvo_queue.specs.Pick.Ready.{ColdHasNoScore, offered, place_of, rest_picked}
-use Rattle.resolvo_queue.specs.Parts.Records.{Record}
-use Rattle.resolvo_queue.specs.declared.tracked_clause.Position.{Position}
-use Rattle.resolvo_queue.specs.declared.tracked_clause.TrackedClause.{TrackedClause}
+use Rattle.resolvo_queue.proofs.Words.{are_literals_false, AreLocated, beats, best_offer, Candidate, ColdHasNoScore}
+use Rattle.resolvo_queue.proofs.Words.{eligible_frontier, Frontier, frontier, Group, has, has_of, here, improved}
+use Rattle.resolvo_queue.proofs.Words.{is_after, is_in, IsBefore, IsDone, IsOfClause, IsReady, known_true, Lit, Offer}
+use Rattle.resolvo_queue.proofs.Words.{offer_of, offer_with, offered, offers_of, place_of, Position, position_cmp}
+use Rattle.resolvo_queue.proofs.Words.{Queued, Record, Requirement, rest_picked, Row, scanned, set_of, Stands, there}
+use Rattle.resolvo_queue.proofs.Words.{TrackedClause, Values, VersionSetId}
 use Rattle.resolvo_queue.proofs.Rows.Frontiers.{counts_one}
 use Rattle.resolvo_queue.proofs.Picks.Groups.{of_both, own_offer}
 use Rattle.resolvo_queue.proofs.Picks.Positions.{first_counts, last_counts, next_counts, none_counts, unbeatable_picked}
 use Rattle.resolvo_queue.proofs.Syncs.Queued.{position_order}
 use Rattle.resolvo_queue.proofs.Picks.Ready.{unqueued_offers_nothing, cold_offers_no_better}
 use Rattle.resolvo_queue.proofs.Picks.NumberedScan.{at_scanned}
-use Rattle.resolvo_queue.proofs.Picks.Behind.{one_unbeaten, largest_unbeaten}
+use Rattle.resolvo_queue.proofs.Picks.Behind.{largest_unbeaten, one_unbeaten, reversed_same}
+use Rattle.resolvo_queue.proofs.Falsified.Least.{less_by_test}
 
 -- how many clauses are behind a position
 abbrev pub clauses_behind : List TrackedClause → Position → ℕ
-clauses_behind clauses p =
-    length (filter (λ x. is_lt (position_cmp p (place_of clauses x))) (scanned clauses))
+clauses_behind clauses p = length (filter (λ x. is_lt (position_cmp p (place_of clauses x))) (scanned clauses))
 
 module _ (clauses : List TrackedClause) (literals : TrackedClause → List Lit) (rows_of : Requirement → List Row)
     (val : Values) (score : VersionSetId → ℕ)
@@ -64,8 +49,7 @@ module _ (clauses : List TrackedClause) (literals : TrackedClause → List Lit) 
   pub first_found : (p : Position) → has_of group q.all p ≡ true →
       ((r : Position) → has_of group q.all r ≡ true → is_after p r ≡ false) →
       (b : Candidate) → ((d : TrackedClause) → slice_get clauses p.number ≡ Some d → Some b.offer ≡ offers d) →
-      b.position ≡ p →
-      best_offer (offered clauses of_group) ≡ rest_picked clauses of_group b.offer b.position
+      b.position ≡ p → best_offer (offered clauses of_group) ≡ rest_picked clauses of_group b.offer b.position
   first_found p here_it_is least b offered place =
       let both = of_both group q.all p here_it_is in
       let of = ready.all_of p both.1 in
@@ -76,8 +60,7 @@ module _ (clauses : List TrackedClause) (literals : TrackedClause → List Lit) 
   -- ---- one rival more, and the end
 
   module _ (cold : ColdHasNoScore clauses literals rows_of val score) (largest : ℕ)
-      (up_to : (set : VersionSetId) → score set ≤ largest)
-      (only_hot : Bool) (b : Offer) where
+      (up_to : (set : VersionSetId) → score set ≤ largest) (only_hot : Bool) (b : Offer) where
     -- an offer that isn't better, and none of another group
     within : (c : TrackedClause) → IfSome (offers c) (λ e. beats e b ≡ false) →
         IfSome (of_group c) (λ e. beats e b ≡ false)
@@ -92,13 +75,11 @@ module _ (clauses : List TrackedClause) (literals : TrackedClause → List Lit) 
         has (set_of hot q) c.position ≡ false → IfSome (offers c) (λ e. beats e b ≡ false)
     unqueued true n c e out =
         cold_offers_no_better clauses literals rows_of val score ts q ready b n c e (cold n c e) out
-    unqueued false n c e out =
-        subst (λ o. IfSome o (λ x. beats x b ≡ false))
+    unqueued false n c e out = subst (λ o. IfSome o (λ x. beats x b ≡ false))
         (sym (unqueued_offers_nothing clauses literals rows_of val score ts q ready n c e out)) tt
 
     left_out : (n : ℕ) (c : TrackedClause) → slice_get clauses n ≡ Some c →
-        has_of group (set_of only_hot q) c.position ≡ false →
-        IfSome (of_group c) (λ e. beats e b ≡ false)
+        has_of group (set_of only_hot q) c.position ≡ false → IfSome (of_group c) (λ e. beats e b ≡ false)
     left_out n c e out = go (is_in group c.position) out
       where
         go : (t : Bool) → (t && has (set_of only_hot q) c.position) ≡ false →
@@ -118,8 +99,7 @@ module _ (clauses : List TrackedClause) (literals : TrackedClause → List Lit) 
         let both = of_both group (set_of only_hot q) p e in
         let of = of_set only_hot p both.1 in
         next_counts clauses located of_group (has_of group (set_of only_hot q)) b left_out cursor p of.0 of.1
-        of.2 before least
-        ∙ ap (λ x. rest_picked clauses of_group x p)
+        of.2 before least ∙ ap (λ x. rest_picked clauses of_group x p)
         (ap (improved b) (own_offer group offers of.0 p of.2 both.0) ∙ sym (is of.0 of.1))
 
     -- an offer against one that can't be beaten
@@ -142,11 +122,9 @@ module _ (clauses : List TrackedClause) (literals : TrackedClause → List Lit) 
     -- the best so far is the best
     pub done_picked : (cursor : Position) → IsDone b largest cursor (has_of group (set_of only_hot q)) →
         rest_picked clauses of_group b cursor ≡ Some b
-    done_picked cursor (inl one) =
-        unbeatable_picked clauses located of_group b cursor (λ n c e.
+    done_picked cursor (inl one) = unbeatable_picked clauses located of_group b cursor (λ n c e.
         within c (by_count one c (eligible_frontier val literals rows_of c) refl))
-    done_picked cursor (inr (inl top)) =
-        unbeatable_picked clauses located of_group b cursor (λ n c e.
+    done_picked cursor (inr (inl top)) = unbeatable_picked clauses located of_group b cursor (λ n c e.
         within c (by_score top c (eligible_frontier val literals rows_of c)))
     done_picked cursor (inr (inr none)) = last_counts clauses located of_group
         (has_of group (set_of only_hot q)) b left_out cursor none
@@ -166,8 +144,7 @@ filter_shorter t s h (x ∷ xs) = go (t x) (s x) refl refl (filter_shorter t s h
     go false false p q m = m
 
 filter_falls : {X : Type 0} (t s : X → Bool) → ((x : X) → t x ≡ true → s x ≡ true) → (xs : List X) (y : X) →
-    Stands y xs → t y ≡ false → s y ≡ true →
-    length (filter t xs) < length (filter s xs)
+    Stands y xs → t y ≡ false → s y ≡ true → length (filter t xs) < length (filter s xs)
 filter_falls t s h [] y m p q = elim m [ ]
 filter_falls t s h (x ∷ xs) z here p q =
     let less : length (filter t xs) ≤ length (filter s xs) = filter_shorter t s h xs in
@@ -185,27 +162,13 @@ filter_falls t s h (x ∷ xs) y (there m) p q = go (t x) (s x) refl refl (filter
     go false true u v w = omega arith
     go false false u v w = w
 
-is_less : (o : Ordering) → is_lt o ≡ true → o ≡ Less
-is_less Less e = refl
-is_less Equal e = cc
-is_less Greater e = cc
-
-not_itself : (p : Position) → is_lt (position_cmp p p) ≡ false
-not_itself p = go (position_cmp p p) (position_order.antisymm p p)
-  where
-    go : (o : Ordering) → o ≡ ordering_reverse o → is_lt o ≡ false
-    go Less e = cc
-    go Equal e = refl
-    go Greater e = refl
-
 pub behind_falls : (clauses : List TrackedClause) → AreLocated clauses → (cursor p : Position) → IsOfClause clauses p →
-    IsBefore cursor p →
-    clauses_behind clauses p < clauses_behind clauses cursor
+    IsBefore cursor p → clauses_behind clauses p < clauses_behind clauses cursor
 behind_falls clauses located cursor p of before =
     let place = place_of clauses in
     let here_it_is : place (p.number, of.0) ≡ p = sym (located p.number of.0 of.1) ∙ of.2 in
     filter_falls (λ x. is_lt (position_cmp p (place x))) (λ x. is_lt (position_cmp cursor (place x)))
-    (λ x h. ap is_lt (position_order.trans cursor p (place x) before (is_less (position_cmp p (place x)) h)))
+    (λ x h. ap is_lt (position_order.trans cursor p (place x) before (less_by_test (position_cmp p (place x)) h)))
     (scanned clauses) (p.number, of.0) (at_scanned (λ (d : TrackedClause). d.parent) clauses p.number of.0 of.1)
-    (ap (λ r. is_lt (position_cmp p r)) here_it_is ∙ not_itself p)
+    (ap (λ r. is_lt (position_cmp p r)) here_it_is ∙ reversed_same (position_cmp p p) (position_order.antisymm p p))
     (ap (λ r. is_lt (position_cmp cursor r)) here_it_is ∙ ap is_lt before)

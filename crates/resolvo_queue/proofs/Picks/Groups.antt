@@ -2,27 +2,13 @@
 use Rattle.std.proofs.Common.{◌≡◌, ℕ, ◌+◌, Bool, true, false, ◌&&◌, cond, eqb, eqb-true, eq-eqb, List, []}
 use Rattle.std.proofs.Common.{◌∷◌, filter, filter_map, Option, Some, None, IfOk, IfSome, MatchOption}
 use Rattle.std.proofs.Common.{Result, Ok, Err, option_map, slice_get, sym, ap, ap₂, refl, ◌∙◌, subst, arith}
-use Rattle.std.specs.List.{cons_option}
-use Rattle.decisions.specs.Literals.{Lit, Values}
-use Rattle.providers.specs.declared.requirement.Requirement.{Requirement}
-use Rattle.typed_ids.specs.declared.error.StoreError.{StoreError}
-use Rattle.typed_ids.specs.declared.version_set_id.VersionSetId.{VersionSetId}
-use Rattle.resolvo_queue.specs.Pick.Groups.{Group, IsNextOf, group_at, has_of, is_in, offers_of, only_in}
-use Rattle.resolvo_queue.specs.Rows.ByVariable.{list_at}
-use Rattle.resolvo_queue.specs.Pick.Inspection.{eligible_frontier, offer_of, offer_with}
-use Rattle.resolvo_queue.specs.Members.{Stands, here, there}
-use Rattle.resolvo_queue.specs.Pick.{Offer, best_offer, is_of_root, pick}
-use Rattle.resolvo_queue.specs.Scan.Positions.{IsNextBehind, has, is_after, position_cmp}
-use Rattle.resolvo_queue.specs.Pick.Ready.{AreLocated, offered, place_of, rest_picked, scanned}
-use Rattle.resolvo_queue.specs.Rows.{Row}
-use Rattle.resolvo_queue.specs.Scan.Order.{first_from}
-use Rattle.resolvo_queue.specs.Pick.Behind.{behind}
-use Rattle.resolvo_queue.specs.Parts.Tracking.{BeginFirst, HasNoClause, IsFirstOf}
-use Rattle.resolvo_queue.specs.declared.offer.Candidate.{Candidate}
-use Rattle.resolvo_queue.specs.declared.offer.Frontier.{Frontier}
-use Rattle.resolvo_queue.specs.declared.group.Group.TheVariants.{OfParent}
-use Rattle.resolvo_queue.specs.declared.tracked_clause.Position.{Position}
-use Rattle.resolvo_queue.specs.declared.tracked_clause.TrackedClause.{TrackedClause}
+use Rattle.resolvo_queue.proofs.Words.{AreLocated, BeginFirst, behind, best_offer, Candidate, cons_option}
+use Rattle.resolvo_queue.proofs.Words.{eligible_frontier, first_from, Frontier, Group, group_at, has, has_of}
+use Rattle.resolvo_queue.proofs.Words.{HasNoClause, here, is_after, is_in, is_of_root, IsFirstOf, IsNextBehind}
+use Rattle.resolvo_queue.proofs.Words.{IsNextOf, list_at, Lit, Offer, offer_of, offer_with, offered, offers_of}
+use Rattle.resolvo_queue.proofs.Words.{OfParent, only_in, pick, place_of, Position, position_cmp, Requirement}
+use Rattle.resolvo_queue.proofs.Words.{rest_picked, Row, scanned, Stands, StoreError, there, TrackedClause, Values}
+use Rattle.resolvo_queue.proofs.Words.{VersionSetId}
 use Rattle.resolvo_queue.proofs.Picks.Unbeaten.{picks_started}
 use Rattle.resolvo_queue.proofs.Picks.NumberedScan.{first_is_own, scanned_at}
 use Rattle.resolvo_queue.proofs.Lists.{same_some}
@@ -38,8 +24,7 @@ of_both group set p e = go (is_in group p) (has set p) e
 
 -- what a clause of the group offers is its offer
 pub own_offer : (group : Group) (offers : TrackedClause → Option Offer) (c : TrackedClause) (p : Position) →
-    c.position ≡ p → is_in group p ≡ true →
-    offers_of group offers c ≡ offers c
+    c.position ≡ p → is_in group p ≡ true → offers_of group offers c ≡ offers c
 own_offer group offers c p at of = ap (λ b. cond b (offers c) None) (ap (is_in group) at ∙ of)
 
 -- the first that counts, kept if it is of the group, is the first of the group that counts
@@ -89,8 +74,7 @@ only_next group set now same first second next kept kept_first kept_second =
 -- ---- the root's clauses
 
 module _ (clauses : List TrackedClause) (located : AreLocated clauses) (by_parent : List (List ℕ))
-    (begin : BeginFirst clauses by_parent)
-    (offers : TrackedClause → Option Offer) (owned : (c : TrackedClause) →
+    (begin : BeginFirst clauses by_parent) (offers : TrackedClause → Option Offer) (owned : (c : TrackedClause) →
     IfSome (offers c) (λ o. o.clause.parent ≡ c.parent)) where
   -- who begins as the root's first clause is one of the root's, and nobody else
   begins_alike : (first : ℕ) → IsFirstOf clauses 0 first → (n : ℕ) (c : TrackedClause) → slice_get clauses n ≡ Some c →
@@ -101,8 +85,7 @@ module _ (clauses : List TrackedClause) (located : AreLocated clauses) (by_paren
       begins = ap (λ (p : Position). p.first_of_parent) (located n c e)
 
       go : (b : Bool) → eqb c.parent 0 ≡ b → eqb c.position.first_of_parent first ≡ b
-      go true h =
-          eq-eqb c.position.first_of_parent first (begins
+      go true h = eq-eqb c.position.first_of_parent first (begins
           ∙ (ap (first_from (λ (d : TrackedClause). d.parent) 0 clauses) (eqb-true c.parent 0 h) ∙ sym is.first))
       go false h = no (eqb c.position.first_of_parent first) refl
         where
@@ -150,8 +133,7 @@ module _ (clauses : List TrackedClause) (located : AreLocated clauses) (by_paren
   of_root None group e is = cc
   of_root (Some first) group e is =
       subst (λ g. offered clauses (offers_of g offers) ≡ filter is_of_root (offered clauses offers))
-      (same_some (OfParent first) group is)
-      (kept_of (OfParent first) (scanned clauses)
+      (same_some (OfParent first) group is) (kept_of (OfParent first) (scanned clauses)
       (λ x s. begins_alike first (subst (λ o. MatchOption o (HasNoClause clauses 0) (IsFirstOf clauses 0)) e (begin 0))
       x.0 x.1 (item_at x s)))
 
@@ -159,8 +141,7 @@ module _ (clauses : List TrackedClause) (located : AreLocated clauses) (by_paren
   none_of_root : (xs : List (ℕ × TrackedClause)) → ((x : ℕ × TrackedClause) → Stands x xs → eqb x.1.parent 0 ≡ false) →
       filter is_of_root (filter_map (λ (x : ℕ × TrackedClause). offers x.1) xs) ≡ []
   none_of_root [] others = refl
-  none_of_root (x ∷ xs) others =
-      one (offers x.1) (filter_map (λ (y : ℕ × TrackedClause). offers y.1) xs) (owned x.1)
+  none_of_root (x ∷ xs) others = one (offers x.1) (filter_map (λ (y : ℕ × TrackedClause). offers y.1) xs) (owned x.1)
       (none_of_root xs (λ y s. others y (there s)))
     where
       one : (o : Option Offer) (es : List Offer) → IfSome o (λ f. f.clause.parent ≡ x.1.parent) →
@@ -195,8 +176,7 @@ module _ (clauses : List TrackedClause) (located : AreLocated clauses) (by_paren
       rest_picked clauses (offers_of (group_at b.position) offers) b.offer b.position))
   first_of_group of group first is (Err e) best own = tt
   first_of_group of group first is (Ok None) best own = sym (best_of_group of group first is) ∙ best
-  first_of_group of group first is (Ok (Some b)) best own =
-      sym (best_of_group of group first is) ∙ (best
+  first_of_group of group first is (Ok (Some b)) best own = sym (best_of_group of group first is) ∙ (best
       ∙ ap (λ at. rest_picked clauses (offers_of at offers) b.offer b.position)
       (own_group (slice_get (list_at by_parent 0) 0) (sym first ∙ is)))
     where
@@ -205,8 +185,7 @@ module _ (clauses : List TrackedClause) (located : AreLocated clauses) (by_paren
       own_group (Some n) e = at n (same_some (OfParent n) group e)
         where
           at : (n : ℕ) → OfParent n ≡ group → group ≡ group_at b.position
-          at n h =
-              sym h ∙ ap OfParent (sym
+          at n h = sym h ∙ ap OfParent (sym
               (eqb-true b.position.first_of_parent n (subst (λ x. is_in x b.position ≡ true) (sym h) own)))
 
   pub best_of_none : (of : Option Group) → of ≡ option_map OfParent (slice_get (list_at by_parent 0) 0) → of ≡ None →
@@ -232,6 +211,5 @@ offers_own val literals rows_of score c = go (eligible_frontier val literals row
 pub picks_rest : (clauses : List TrackedClause) (offers own : TrackedClause → Option Offer) (b : Offer) (p : Position) →
     best_offer (filter is_of_root (offered clauses offers)) ≡ rest_picked clauses own b p →
     pick (offered clauses offers) ≡ rest_picked clauses own b p
-picks_rest clauses offers own b p =
-    picks_started (offered clauses offers) b
+picks_rest clauses offers own b p = picks_started (offered clauses offers) b
     (filter_map (λ x. own x.1) (behind position_cmp (place_of clauses) (λ x. own x.1) p (scanned clauses)))

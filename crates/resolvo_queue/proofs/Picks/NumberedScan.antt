@@ -2,19 +2,16 @@
 use Rattle.std.proofs.Common.{◌≡◌, ℕ, zero, suc, ◌+◌, ◌<◌, ◌≤◌, Bool, true, false, not, ◌&&◌, ◌||◌, cond, eqb}
 use Rattle.std.proofs.Common.{List, [], ◌∷◌, ◌++◌, map, filter, flat_map, fold, Some, slice_get, ◌⊎◌, inl, inr}
 use Rattle.std.proofs.Common.{sym, ap, refl, ◌∙◌, arith, eqb-true, eq-eqb, subst, append_assoc, append-nil}
-use Rattle.std.specs.List.{list_any, AllByRecursion}
-use Rattle.std.specs.List.Sorted.{IsStrictlySortedBy}
-use Rattle.std.specs.Ordering.{nat_cmp, ordering_then}
-use Rattle.std.specs.declared.cmp.Ordering.{Ordering}
-use Rattle.std.specs.declared.cmp.Ordering.TheVariants.{Less}
 use Rattle.std.proofs.lemmas.Bool.Decides.{nat_tests}
 use Rattle.std.proofs.lemmas.List.Folds.{list_any-append}
 use Rattle.std.proofs.lemmas.List.{map-append}
-use Rattle.resolvo_queue.specs.Scan.{add_parent}
-use Rattle.resolvo_queue.specs.Members.{Stands, here, there}
-use Rattle.resolvo_queue.specs.Scan.Order.{numbered, first_from, numbered_of, parents_in, numbered_scan, position_in}
-use Rattle.resolvo_queue.proofs.Picks.Behind.{Ascends}
 use Rattle.std.specs.Prelude.{◌==◌}
+use Rattle.std.specs.List.Sorted.{IsStrictlySortedBy}
+use Rattle.resolvo_queue.proofs.Words.{add_parent, AllByRecursion, first_from, here, Less, list_any}
+use Rattle.resolvo_queue.proofs.Words.{nat_cmp, numbered, numbered_of, numbered_scan, Ordering, ordering_then}
+use Rattle.resolvo_queue.proofs.Words.{parents_in, position_in, Stands, there}
+use Rattle.resolvo_queue.proofs.Picks.Behind.{Ascends}
+use Rattle.resolvo_queue.proofs.Lists.{append_left, append_right, filter_stands, same_some, stands_append, stands_filter}
 
 module _ {C : Type 0} (parent : C → ℕ) where
   -- the scan of the clauses
@@ -23,52 +20,13 @@ module _ {C : Type 0} (parent : C → ℕ) where
 
 -- ---- members
 
-module _ {X : Type 0} where
-  at_front : (t : X → Bool) (ys zs : List X) (x y : X) → Stands x (y ∷ zs) → t y ≡ true →
-      (Stands x zs → Stands x ys × (t x ≡ true)) → Stands x (y ∷ ys) × (t x ≡ true)
-  at_front t ys zs y z here e more = (here, e)
-  at_front t ys zs x y (there r) e more = let m = more r in (there m.0, m.1)
-
-  stands_filter : (t : X → Bool) (xs : List X) (x : X) → Stands x (filter t xs) → Stands x xs × (t x ≡ true)
-  stands_filter t [] x s = elim s [ ]
-  stands_filter t (y ∷ ys) x s = go (t y) refl s (stands_filter t ys x)
-    where
-      go : (b : Bool) → t y ≡ b → Stands x (cond b (y ∷ filter t ys) (filter t ys)) →
-          (Stands x (filter t ys) → Stands x ys × (t x ≡ true)) → Stands x (y ∷ ys) × (t x ≡ true)
-      go true e r more = at_front t ys (filter t ys) x y r e more
-      go false e r more = let m = more r in (there m.0, m.1)
-
-  filter_stands : (t : X → Bool) (xs : List X) (x : X) → Stands x xs → t x ≡ true → Stands x (filter t xs)
-  filter_stands t [] x s e = elim s [ ]
-  filter_stands t (y ∷ ys) z here e = subst (λ b. Stands y (cond b (y ∷ filter t ys) (filter t ys))) (sym e) here
-  filter_stands t (y ∷ ys) x (there s) e = go (t y) (filter_stands t ys x s e)
-    where
-      go : (b : Bool) → Stands x (filter t ys) → Stands x (cond b (y ∷ filter t ys) (filter t ys))
-      go true r = there r
-      go false r = r
-
-  stands_append : (xs ys : List X) (x : X) → Stands x (xs ++ ys) → Stands x xs ⊎ Stands x ys
-  stands_append [] ys x s = inr s
-  stands_append (z ∷ zs) ys y here = inl here
-  stands_append (z ∷ zs) ys x (there s) = elim (stands_append zs ys x s) [ inl a ↦ inl (there a) | inr b ↦ inr b ]
-
-  append_left : (xs ys : List X) (x : X) → Stands x xs → Stands x (xs ++ ys)
-  append_left [] ys x s = elim s [ ]
-  append_left (z ∷ zs) ys y here = here
-  append_left (z ∷ zs) ys x (there s) = there (append_left zs ys x s)
-
-  pub append_right : (xs ys : List X) (x : X) → Stands x ys → Stands x (xs ++ ys)
-  append_right [] ys x s = s
-  append_right (z ∷ zs) ys x s = there (append_right zs ys x s)
-
 module _ {P X : Type 0} (g : P → List X) where
   stands_flat : (ps : List P) (x : X) → Stands x (flat_map g ps) → (p : P) × Stands p ps × Stands x (g p)
   stands_flat [] x s = elim s [ ]
-  stands_flat (p ∷ ps) x s =
-      elim (stands_append (g p) (flat_map g ps) x s) [
-        | inl a ↦ (p, here, a)
-        | inr b ↦ let m = stands_flat ps x b in (m.0, there m.1, m.2)
-      ]
+  stands_flat (p ∷ ps) x s = elim (stands_append (g p) (flat_map g ps) x s) [
+    | inl a ↦ (p, here, a)
+    | inr b ↦ let m = stands_flat ps x b in (m.0, there m.1, m.2)
+  ]
 
   flat_stands : (ps : List P) (p : P) (x : X) → Stands p ps → Stands x (g p) → Stands x (flat_map g ps)
   flat_stands [] p x s a = elim s [ ]
@@ -108,8 +66,7 @@ up_flat : {P X : Type 0} (R : P → P → Type 0) (S : X → X → Type 0) (g : 
     ((p q : P) → Stands p ps → Stands q ps → R p q → (x y : X) → Stands x (g p) → Stands y (g q) → S x y) →
     Up S (flat_map g ps)
 up_flat R S g [] u own between = tt
-up_flat R S g (p ∷ ps) u own between =
-    up_append S (g p) (flat_map g ps) (own p here)
+up_flat R S g (p ∷ ps) u own between = up_append S (g p) (flat_map g ps) (own p here)
     (up_flat R S g ps u.1 (λ q s. own q (there s)) (λ q r a b. between q r (there a) (there b)))
     (λ x y a b. let m = stands_flat g ps y b in between p m.0 here (there m.1) (u.0 m.0 m.1) x y a m.2)
 
@@ -186,14 +143,11 @@ module _ {C : Type 0} (parent : C → ℕ) where
           fold add_parent (cond b seen (seen ++ parent c ∷ [])) (map parent cs)
           ≡ seen ++ cond (not b) (parent c ∷ filter (λ q. not (is_seen seen q)) Rest)
           (filter (λ q. not (is_seen seen q)) Rest)
-      go true e old new =
-          old ∙ ap (λ l. seen ++ l)
+      go true e old new = old ∙ ap (λ l. seen ++ l)
           (sym (filter_twice (λ q. not (is_seen seen q)) (λ q. not (eqb (parent c) q)) (own_parents cs)
           ∙ filter_along _ (λ q. not (is_seen seen q)) (seen_anyway e) (own_parents cs)))
-      go false e old new =
-          new ∙ (append_assoc seen (parent c ∷ [])
-          (filter (λ q. not (is_seen (seen ++ parent c ∷ []) q)) (own_parents cs))
-          ∙ ap (λ l. seen ++ (parent c ∷ l))
+      go false e old new = new ∙ (append_assoc seen (parent c ∷ [])
+          (filter (λ q. not (is_seen (seen ++ parent c ∷ []) q)) (own_parents cs)) ∙ ap (λ l. seen ++ (parent c ∷ l))
           (filter_along _ (λ q. not (eqb (parent c) q) && not (is_seen seen q)) one_more (own_parents cs)
           ∙ sym (filter_twice (λ q. not (is_seen seen q)) (λ q. not (eqb (parent c) q)) (own_parents cs))))
 
@@ -221,6 +175,17 @@ module _ {C : Type 0} (parent : C → ℕ) where
   own_first : (i : ℕ) (c : C) (cs : List C) → first_from parent i (c ∷ cs) (parent c) ≡ i
   own_first i c cs = ap (λ b. cond b i (first_from parent (suc i) cs (parent c))) (eq-eqb (parent c) (parent c) refl)
 
+  -- a parent that has a clause keeps its first number
+  pub first_kept : (i : ℕ) (cs : List C) (new : C) (n : ℕ) (c : C) → slice_get cs n ≡ Some c →
+      first_from parent i (cs ++ new ∷ []) (parent c) ≡ first_from parent i cs (parent c)
+  first_kept i [] new n c e = cc
+  first_kept i (x ∷ xs) new zero c e =
+      let found : eqb (parent x) (parent c) ≡ true = eq-eqb (parent x) (parent c) (ap parent (same_some x c e)) in
+      ap (λ b. cond b i (first_from parent (suc i) (xs ++ new ∷ []) (parent c))) found ∙
+      sym (ap (λ b. cond b i (first_from parent (suc i) xs (parent c))) found)
+  first_kept i (x ∷ xs) new (suc n) c e =
+      ap (λ m. cond (eqb (parent x) (parent c)) i m) (first_kept (suc i) xs new n c e)
+
   -- the clause with the first number of a parent is one of its own
   pub first_is_own : (i : ℕ) (cs : List C) (n : ℕ) (c : C) → slice_get cs n ≡ Some c →
       (k : ℕ) (d : C) → i + k ≡ first_from parent i cs (parent c) → slice_get cs k ≡ Some d → parent d ≡ parent c
@@ -240,8 +205,7 @@ module _ {C : Type 0} (parent : C → ℕ) where
       own h (suc j) r z = absurd (omega (arith, z))
 
       other : Later → eqb (parent x) (parent c) ≡ false → (m j : ℕ) → slice_get (x ∷ xs) m ≡ Some c →
-          slice_get (x ∷ xs) j ≡ Some d →
-          i + j ≡ first_from parent (suc i) xs (parent c) → parent d ≡ parent c
+          slice_get (x ∷ xs) j ≡ Some d → i + j ≡ first_from parent (suc i) xs (parent c) → parent d ≡ parent c
       other later h zero j r t z = let bad : eqb (parent x) (parent c) ≡ true =
           eq-eqb (parent x) (parent c) (ap parent (same x c r)) in cc
         where
@@ -266,14 +230,12 @@ module _ {C : Type 0} (parent : C → ℕ) where
         omega arith),
     up_along (λ p q. first_from parent (suc i) cs p < first_from parent (suc i) cs q) (λ p q.
         first_from parent i (c ∷ cs) p < first_from parent i (c ∷ cs) q)
-        (filter (λ r. not (eqb (parent c) r)) (own_parents cs))
-        (λ p q a b h.
+        (filter (λ r. not (eqb (parent c) r)) (own_parents cs)) (λ p q a b h.
         let m = stands_filter (λ r. not (eqb (parent c) r)) (own_parents cs) p a in
         let n = stands_filter (λ r. not (eqb (parent c) r)) (own_parents cs) q b in
         let mine : first_from parent i (c ∷ cs) p ≡ first_from parent (suc i) cs p = other_first i c cs p m.1 in
         let other : first_from parent i (c ∷ cs) q ≡ first_from parent (suc i) cs q = other_first i c cs q n.1 in
-        omega arith)
-        (up_filter (λ p q. first_from parent (suc i) cs p < first_from parent (suc i) cs q) (λ r.
+        omega arith) (up_filter (λ p q. first_from parent (suc i) cs p < first_from parent (suc i) cs q) (λ r.
         not (eqb (parent c) r)) (own_parents cs) (firsts_up (suc i) cs)),
   )
 
@@ -306,8 +268,7 @@ module _ {C : Type 0} (parent : C → ℕ) where
   -- the numbered scan ascends by position
   pub scan_ascends : {K : Type 0} (cmp : K → K → Ordering) (make : ℕ → ℕ → K) → Orders cmp make → (cs : List C) →
       Ascends cmp (position_in parent make cs) (numbered_scan parent cs)
-  scan_ascends {K} cmp make order cs =
-      sorted_up cmp (position_in parent make cs) (numbered_scan parent cs)
+  scan_ascends {K} cmp make order cs = sorted_up cmp (position_in parent make cs) (numbered_scan parent cs)
       (subst (λ ps. Up Below (flat_map (numbered_of parent cs) ps)) (sym (parents_are cs))
       (up_flat (λ p q. first_from parent 0 cs p < first_from parent 0 cs q) Below (numbered_of parent cs)
       (own_parents cs) (firsts_up 0 cs) within between))
@@ -317,8 +278,7 @@ module _ {C : Type 0} (parent : C → ℕ) where
 
       owned : (p : ℕ) (x : ℕ × C) → Stands x (numbered_of parent cs p) →
           first_from parent 0 cs (parent x.1) ≡ first_from parent 0 cs p
-      owned p x s =
-          ap (first_from parent 0 cs) (eqb-true (parent x.1) p
+      owned p x s = ap (first_from parent 0 cs) (eqb-true (parent x.1) p
           (stands_filter (λ (y : ℕ × C). eqb (parent y.1) p) (numbered parent 0 cs) x s).1)
 
       at : (x y : ℕ × C) → ordering_then (nat_cmp (first_from parent 0 cs (parent x.1))
@@ -326,12 +286,9 @@ module _ {C : Type 0} (parent : C → ℕ) where
       at x y h = order _ _ _ _ ∙ h
 
       within : (p : ℕ) → Stands p (own_parents cs) → Up Below (numbered_of parent cs p)
-      within p s =
-          up_along (λ (x y : ℕ × C). x.0 < y.0) Below (numbered_of parent cs p)
-          (λ x y a b h. at x y
+      within p s = up_along (λ (x y : ℕ × C). x.0 < y.0) Below (numbered_of parent cs p) (λ x y a b h. at x y
           (ap (λ n. ordering_then (nat_cmp n (first_from parent 0 cs (parent y.1))) (nat_cmp x.0 y.0))
-          (owned p x a ∙ sym (owned p y b))
-          ∙ less_second (first_from parent 0 cs (parent y.1)) x.0 y.0 h))
+          (owned p x a ∙ sym (owned p y b)) ∙ less_second (first_from parent 0 cs (parent y.1)) x.0 y.0 h))
           (up_filter (λ (x y : ℕ × C). x.0 < y.0) (λ (x : ℕ × C). eqb (parent x.1) p) (numbered parent 0 cs)
           (numbers_up 0 cs))
 
@@ -362,8 +319,7 @@ module _ {C : Type 0} (parent : C → ℕ) where
   map_flat : (cs : List C) (ps : List ℕ) →
       map (λ x. x.1) (flat_map (numbered_of parent cs) ps) ≡ flat_map (λ p. filter (λ c. eqb (parent c) p) cs) ps
   map_flat cs [] = refl
-  map_flat cs (p ∷ ps) =
-      map-append (λ (x : ℕ × C). x.1) (numbered_of parent cs p) (flat_map (numbered_of parent cs) ps)
+  map_flat cs (p ∷ ps) = map-append (λ (x : ℕ × C). x.1) (numbered_of parent cs p) (flat_map (numbered_of parent cs) ps)
       ∙ (ap (λ l. l ++ map (λ x. x.1) (flat_map (numbered_of parent cs) ps)) (without_numbers p 0 cs)
       ∙ ap (λ l. filter (λ c. eqb (parent c) p) cs ++ l) (map_flat cs ps))
 
@@ -412,8 +368,7 @@ module _ {C : Type 0} (parent : C → ℕ) where
       ap (slice_get cs) f ∙ n.2
 
   pub at_scanned : (cs : List C) (k : ℕ) (c : C) → slice_get cs k ≡ Some c → Stands (k, c) (numbered_scan parent cs)
-  at_scanned cs k c e =
-      flat_stands (numbered_of parent cs) (parents_in parent cs) (parent c) (k, c)
+  at_scanned cs k c e = flat_stands (numbered_of parent cs) (parents_in parent cs) (parent c) (k, c)
       (subst (Stands (parent c)) (sym (parents_are cs)) (is_parent cs k c e))
       (filter_stands (λ (y : ℕ × C). eqb (parent y.1) (parent c)) (numbered parent 0 cs) (k, c)
       (let n : 0 + k ≡ k = omega arith in subst (λ m. Stands (m, c) (numbered parent 0 cs)) n (at_numbered 0 cs k c e))

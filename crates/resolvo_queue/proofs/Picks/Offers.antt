@@ -2,19 +2,11 @@
 use Rattle.std.proofs.Common.{◌≡◌, ℕ, Bool, true, false, not, ◌&&◌, cond, eqb, List, [], ◌∷◌}
 use Rattle.std.proofs.Common.{◌++◌, map, Option, None, option_map, sym, ap, ap₂, refl, ◌∙◌}
 use Rattle.std.specs.Prelude.{filter, filter_map, find, flat_map, fold}
-use Rattle.std.specs.List.{cons_option}
 use Rattle.std.proofs.lemmas.List.{map-append}
-use Rattle.typed_ids.specs.declared.version_set_id.VersionSetId.{VersionSetId}
-use Rattle.providers.specs.declared.requirement.Requirement.{Requirement}
-use Rattle.decisions.specs.Literals.{Lit, Values, known_true}
-use Rattle.resolvo_queue.specs.declared.offer.Frontier.{Frontier}
-use Rattle.resolvo_queue.specs.declared.requires_clause.RequiresClause.{RequiresClause}
-use Rattle.resolvo_queue.specs.declared.tracked_clause.TrackedClause.{TrackedClause}
-use Rattle.resolvo_queue.specs.Pick.Inspection.{clause_of, offer_of, offer_with}
-use Rattle.resolvo_queue.specs.Pick.{Offer, eligible, offer}
-use Rattle.resolvo_queue.specs.Pick.Ready.{offered, scanned}
-use Rattle.resolvo_queue.specs.Rows.{Row, frontier_at, has_true_row, is_undecided_row}
-use Rattle.resolvo_queue.specs.Scan.{add_parent, are_literals_false, clauses_of, scan}
+use Rattle.resolvo_queue.proofs.Words.{add_parent, are_literals_false, clause_of, clauses_of, cons_option, eligible}
+use Rattle.resolvo_queue.proofs.Words.{Frontier, frontier_at, has_true_row, is_undecided_row, known_true, Lit, Offer}
+use Rattle.resolvo_queue.proofs.Words.{offer, offer_of, offer_with, offered, Requirement, RequiresClause, Row, scan}
+use Rattle.resolvo_queue.proofs.Words.{scanned, TrackedClause, Values, VersionSetId}
 use Rattle.resolvo_queue.proofs.Picks.NumberedScan.{scan_is, scan_of}
 
 abbrev parent_of : TrackedClause → ℕ
@@ -43,14 +35,12 @@ filter_mapped (c ∷ cs) p = go (eqb c.parent p) (filter_mapped cs p)
 each_parent : (cs : List TrackedClause) (ps : List ℕ) →
     flat_map (clauses_of (map clause_of cs)) ps ≡ map clause_of (flat_map (λ p. filter (λ c. eqb c.parent p) cs) ps)
 each_parent cs [] = refl
-each_parent cs (p ∷ ps) =
-    ap₂ (λ a b. a ++ b) (filter_mapped cs p) (each_parent cs ps)
+each_parent cs (p ∷ ps) = ap₂ (λ a b. a ++ b) (filter_mapped cs p) (each_parent cs ps)
     ∙ sym (map-append clause_of (filter (λ c. eqb c.parent p) cs) (flat_map (λ q. filter (λ c. eqb c.parent q) cs) ps))
 
 -- the scan of the clauses is that of the tracked ones
 pub scan_tracked : (cs : List TrackedClause) → scan (map clause_of cs) ≡ map clause_of (scan_of parent_of cs)
-scan_tracked cs =
-    ap (λ ps. flat_map (clauses_of (map clause_of cs)) (fold add_parent [] ps)) (parents_same cs)
+scan_tracked cs = ap (λ ps. flat_map (clauses_of (map clause_of cs)) (fold add_parent [] ps)) (parents_same cs)
     ∙ each_parent cs (fold add_parent [] (map parent_of cs))
 
 -- ---- the offers
@@ -77,8 +67,7 @@ module _ (val : Values) (literals_of : Option ℕ → List Lit) (rows_of : Requi
       go true false t x = refl
       go false b t x = refl
 
-  offers_along : (xs : List (ℕ × TrackedClause)) →
-      filter_map registered_offer (map clause_of (map (λ x. x.1) xs)) ≡
+  offers_along : (xs : List (ℕ × TrackedClause)) → filter_map registered_offer (map clause_of (map (λ x. x.1) xs)) ≡
       filter_map (λ x. offer_of val literals rows_of score x.1) xs
   offers_along [] = refl
   offers_along (x ∷ xs) = ap₂ cons_option (offers_same x.1) (offers_along xs)

@@ -2,16 +2,9 @@
 -- nothing better.
 use Rattle.std.proofs.Common.{◌≡◌, ℕ, Bool, true, false, List, filter_map, fold, Option, Some}
 use Rattle.std.proofs.Common.{None, IfSome, slice_get, sym, ap, refl, ◌∙◌, subst, is_gt}
-use Rattle.std.specs.List.{cons_option}
-use Rattle.std.specs.Ordering.{ordering_reverse}
-use Rattle.std.specs.declared.cmp.Ordering.TheVariants.{Less, Greater}
-use Rattle.resolvo_queue.specs.Members.{Stands}
-use Rattle.resolvo_queue.specs.Pick.{Offer, beats, better, best_offer}
-use Rattle.resolvo_queue.specs.Scan.Positions.{position_cmp, IsBefore, is_after}
-use Rattle.resolvo_queue.specs.Pick.Ready.{at_position, AreLocated, scanned, improved, offered, place_of, rest_picked}
-use Rattle.resolvo_queue.specs.Pick.Behind.{behind}
-use Rattle.resolvo_queue.specs.declared.tracked_clause.Position.{Position}
-use Rattle.resolvo_queue.specs.declared.tracked_clause.TrackedClause.{TrackedClause}
+use Rattle.resolvo_queue.proofs.Words.{AreLocated, at_position, beats, behind, best_offer, better, cons_option, Greater}
+use Rattle.resolvo_queue.proofs.Words.{improved, is_after, IsBefore, Less, Offer, offered, ordering_reverse, place_of}
+use Rattle.resolvo_queue.proofs.Words.{Position, position_cmp, rest_picked, scanned, Stands, TrackedClause}
 use Rattle.resolvo_queue.proofs.Syncs.Queued.{position_order}
 use Rattle.resolvo_queue.proofs.Picks.NumberedScan.{scan_ascends, scanned_at, at_scanned}
 use Rattle.resolvo_queue.proofs.Picks.Behind.{first_picked, next_better, none_better, none_offered, Ascends}
@@ -49,8 +42,7 @@ module _ (clauses : List TrackedClause) (located : AreLocated clauses) (offers :
 
     -- the first that counts offers: it is the best so far
     pub first_counts : (p : Position) (c : TrackedClause) (o : Offer) → slice_get clauses p.number ≡ Some c →
-        c.position ≡ p → offers c ≡ Some o →
-        ((r : Position) → counts r ≡ true → is_after p r ≡ false) →
+        c.position ≡ p → offers c ≡ Some o → ((r : Position) → counts r ≡ true → is_after p r ≡ false) →
         best_offer (offered clauses offers) ≡ rest_picked clauses offers o p
     first_counts p c o is at offered least =
         let here_it_is : place (p.number, c) ≡ p = sym (located p.number c is) ∙ at in
@@ -67,8 +59,7 @@ module _ (clauses : List TrackedClause) (located : AreLocated clauses) (offers :
       (out : (n : ℕ) (c : TrackedClause) → slice_get clauses n ≡ Some c → counts c.position ≡ false →
       IfSome (offers c) (λ e. beats e b ≡ false)) where
     pub next_counts : (cursor p : Position) (c : TrackedClause) → slice_get clauses p.number ≡ Some c → c.position ≡ p →
-        IsBefore cursor p →
-        ((r : Position) → counts r ≡ true → IsBefore cursor r → is_after p r ≡ false) →
+        IsBefore cursor p → ((r : Position) → counts r ≡ true → IsBefore cursor r → is_after p r ≡ false) →
         rest_picked clauses offers b cursor ≡ rest_picked clauses offers (improved b (offers c)) p
     next_counts cursor p c is at before least =
         let here_it_is : place (p.number, c) ≡ p = sym (located p.number c is) ∙ at in
@@ -92,8 +83,7 @@ module _ (clauses : List TrackedClause) (located : AreLocated clauses) (offers :
     -- nothing behind counts: the best so far is the best
     pub last_counts : (cursor : Position) → ((r : Position) → IsBefore cursor r → counts r ≡ false) →
         rest_picked clauses offers b cursor ≡ Some b
-    last_counts cursor none =
-        none_better position_cmp position_order place item_offer (scanned clauses) b cursor
+    last_counts cursor none = none_better position_cmp position_order place item_offer (scanned clauses) b cursor
         (λ y s above. out y.0 y.1 (item_at y s)
         (none y.1.position (subst (λ r. position_cmp cursor r ≡ Less) (sym (own_place y s)) above)))
 
@@ -101,6 +91,5 @@ module _ (clauses : List TrackedClause) (located : AreLocated clauses) (offers :
   pub unbeatable_picked : (b : Offer) (cursor : Position) →
       ((n : ℕ) (c : TrackedClause) → slice_get clauses n ≡ Some c → IfSome (offers c) (λ e. beats e b ≡ false)) →
       rest_picked clauses offers b cursor ≡ Some b
-  unbeatable_picked b cursor out =
-      none_better position_cmp position_order place item_offer
+  unbeatable_picked b cursor out = none_better position_cmp position_order place item_offer
       (scanned clauses) b cursor (λ y s above. out y.0 y.1 (item_at y s))

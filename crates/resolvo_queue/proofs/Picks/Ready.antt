@@ -1,35 +1,19 @@
 -- What a question does to a queue that is ready, and what is queued tells of the offers.
-use Rattle.std.proofs.Common.{◌≡◌, ℕ, zero, suc, ◌<◌, Bool, true, false, ◌&&◌, cond, ◌⊎◌, inl, inr}
+use Rattle.std.proofs.Common.{◌≡◌, ◌≢◌, ℕ, zero, suc, ◌<◌, Bool, true, false, ◌&&◌, cond, ◌⊎◌, inl, inr}
 use Rattle.std.proofs.Common.{List, [], ◌∷◌, length, get_or, Option, Some, None, IfSome, MatchOption}
 use Rattle.std.proofs.Common.{is_some, option_map, slice_get, sym, ap, refl, ◌∙◌, subst, arith}
-use Rattle.typed_ids.specs.declared.version_set_id.VersionSetId.{VersionSetId}
-use Rattle.decisions.specs.Literals.{Lit, Values, known_true}
-use Rattle.providers.specs.declared.requirement.Requirement.{Requirement}
-use Rattle.resolvo_queue.specs.declared.offer.Frontier.{Frontier}
-use Rattle.resolvo_queue.specs.Pick.{Offer, beats}
-use Rattle.resolvo_queue.specs.Rows.{Row, frontier}
-use Rattle.resolvo_queue.specs.Pick.Inspection.{Learns, eligible_frontier, may_be, offer_with, offer_of}
-use Rattle.resolvo_queue.specs.Scan.Positions.{has, same_position}
-use Rattle.resolvo_queue.specs.Routing.Possible.{Known, may_have_frontier, HoldsPossible, KnowsRight, is_possible}
-use Rattle.resolvo_queue.specs.Scan.{are_literals_false}
-use Rattle.resolvo_queue.specs.Parts.Queued.{Queued, LosesOnly, IsOfClause}
-use Rattle.resolvo_queue.specs.Pick.Ready.{AreLocated, IsReady}
-use Rattle.resolvo_queue.specs.Routing.Synced.{IsOneOf, IsHot}
-use Rattle.resolvo_queue.specs.Parts.Records.{Record, walk_of, rows_in, known_at}
-use Rattle.resolvo_queue.specs.Parts.Records.{rows_at, updated_at, walked, IsPlaceOf}
-use Rattle.resolvo_queue.specs.declared.tracked_clause.Position.{Position}
-use Rattle.resolvo_queue.specs.declared.tracked_clause.TrackedClause.{TrackedClause}
+use Rattle.std.proofs.lemmas.Option.{slice_get_within}
+use Rattle.resolvo_queue.proofs.Words.{are_literals_false, AreLocated, beats, eligible_frontier, Frontier, frontier}
+use Rattle.resolvo_queue.proofs.Words.{has, IsOfClause, IsPlaceOf, IsReady, Known, known_at, known_true, Learns, Lit}
+use Rattle.resolvo_queue.proofs.Words.{LosesOnly, may_be, may_have_frontier, Offer, offer_of, offer_with, Position}
+use Rattle.resolvo_queue.proofs.Words.{Queued, Record, Requirement, Row, rows_at, same_position, TrackedClause}
+use Rattle.resolvo_queue.proofs.Words.{updated_at, Values, VersionSetId, walk_of, walked}
+use Rattle.resolvo_queue.specs.Parts.{rows_in}
 use Rattle.resolvo_queue.proofs.Syncs.Queued.{same_position_is, read_at}
 use Rattle.resolvo_queue.proofs.Clauses.Records.{is_at_place, is_elsewhere}
 use Rattle.resolvo_queue.proofs.Picks.Behind.{cold_beats_nothing}
-use Rattle.resolvo_queue.proofs.Syncs.Law.{walk_holds, walk_knows, removed_holds}
+use Rattle.resolvo_queue.proofs.Syncs.Law.{all_of, both_of, right_kept}
 use Rattle.resolvo_queue.proofs.Lists.{same_or_not, same_some}
-
-module _ {C R : Type 0} (parent : C → ℕ) (condition : C → List Lit) (requirement : C → R) (rows_of : R → List Row) where
-  -- the parent is true, and the clause may be eligible, as far as is known
-  abbrev pub may_be_eligible : Values → (R → Known) → C → Bool
-  may_be_eligible val known c =
-      is_possible parent condition requirement rows_of (λ d. known_true (val (parent d))) val known c
 
 module _ (clauses : List TrackedClause) (literals : TrackedClause → List Lit) (rows_of : Requirement → List Row)
     (val : Values) where
@@ -38,10 +22,6 @@ module _ (clauses : List TrackedClause) (literals : TrackedClause → List Lit) 
 
   abbrev Ready : List Record → Queued → Type 0
   Ready ts q = IsReady clauses literals rows_of val ts q
-
-  abbrev Holds : (TrackedClause → Type 0) → (ℕ → List Row) → (ℕ → Known) → (TrackedClause → Bool) → Type 0
-  Holds registered rows known queued = HoldsPossible (λ (c : TrackedClause). c.parent) literals (λ c. c.record) rows
-      registered now_true val known queued
 
   -- ---- a walk
 
@@ -52,41 +32,40 @@ module _ (clauses : List TrackedClause) (literals : TrackedClause → List Lit) 
 
     rows_kept : (k : ℕ) → rows_at rows_of after k ≡ rows_at rows_of ts k
     rows_kept k = elim (same_or_not k place) [
-      | inl e ↦ ap (rows_at rows_of after) e ∙
-          (ap (rows_in rows_of) (is_at_place (walked answer) ts place t is) ∙
+      | inl e ↦ ap (rows_at rows_of after) e ∙ (ap (rows_in rows_of) (is_at_place (walked answer) ts place t is) ∙
           (sym (ap (rows_in rows_of) is) ∙ sym (ap (rows_at rows_of ts) e)))
       | inr ne ↦ ap (rows_in rows_of) (is_elsewhere (walked answer) ts place k ne)
     ]
 
-    rows_same : rows_at rows_of after ≡ rows_at rows_of ts
-    rows_same = λ i k. rows_kept k i
+    elsewhere : (k : ℕ) → k ≢ place → known_at after k ≡ known_at ts k
+    elsewhere k ne = ap walk_of (is_elsewhere (walked answer) ts place k ne)
 
-    elsewhere : (k : ℕ) → (k ≡ place) ⊎ (known_at after k ≡ known_at ts k)
-    elsewhere k = elim (same_or_not k place)
-        [ inl e ↦ inl e | inr ne ↦ inr (ap walk_of (is_elsewhere (walked answer) ts place k ne)) ]
+    was_possible : known_at ts place ≡ None → (c : TrackedClause) → may_be val literals after c ≡ true →
+        may_be val literals ts c ≡ true
+    was_possible none c e = elim (same_or_not c.record place) [
+      | inl p ↦ (let t = both_of (now_true c) _ e in
+          all_of (now_true c) (are_literals_false val (literals c)) (may_have_frontier (known_at ts c.record)) t.0
+          (both_of (are_literals_false val (literals c)) _ t.1).0 (ap may_have_frontier (ap (known_at ts) p ∙ none)))
+      | inr ne ↦ ap (λ w. now_true c && (are_literals_false val (literals c) && may_have_frontier w))
+          (sym (elsewhere c.record ne)) ∙ e
+    ]
 
-    now_known : known_at after place ≡ Some (frontier val (rows_at rows_of ts place))
-    now_known =
-        ap walk_of (is_at_place (walked answer) ts place t is) ∙
-        (ap Some right ∙ ap (λ o. Some (frontier val (rows_in rows_of o))) (sym is))
-
-    holds_after : (registered : TrackedClause → Type 0) (queued : TrackedClause → Bool) → known_at ts place ≡ None →
-        Holds registered (rows_at rows_of ts) (known_at ts) queued →
-        Holds registered (rows_at rows_of after) (known_at after) queued
-    holds_after registered queued none old =
-        subst (λ r. Holds registered r (known_at after) queued) (sym rows_same)
-        (walk_holds (λ (c : TrackedClause). c.parent) literals (λ c. c.record)
-        (rows_at rows_of ts) registered now_true val (known_at ts) (known_at after) queued place none elsewhere old)
+    right_after : (k : ℕ) → IfSome (known_at ts k) (λ f. f ≡ frontier val (rows_at rows_of ts k)) →
+        IfSome (known_at after k) (λ f. f ≡ frontier val (rows_at rows_of after k))
+    right_after k old = elim (same_or_not k place) [
+      | inl e ↦ subst (λ w. IfSome w (λ f. f ≡ frontier val (rows_at rows_of after k)))
+          (sym (ap (known_at after) e ∙ ap walk_of (is_at_place (walked answer) ts place t is)))
+          (right ∙ ap (λ o. frontier val (rows_in rows_of o)) (sym (ap (slice_get ts) e ∙ is)) ∙
+          ap (frontier val) (sym (rows_kept k)))
+      | inr ne ↦ right_kept val (rows_at rows_of ts k) (rows_at rows_of after k) (known_at ts k) (known_at after k)
+          (elsewhere k ne) (λ known. rows_kept k) old
+    ]
 
     pub walk_ready : known_at ts place ≡ None → Ready ts q → Ready after q
     walk_ready none old = record {
       synced = record {
-        all = holds_after (IsOneOf clauses literals) (λ c. has q.all c.position) none old.synced.all;
-        hot = holds_after (IsHot clauses literals) (λ c. has q.hot c.position) none old.synced.hot;
-        right = subst (λ r. KnowsRight (λ (c : TrackedClause). c.parent) literals (λ c. c.record) r val
-            (known_at after)) (sym rows_same)
-            (walk_knows (λ (c : TrackedClause). c.parent) literals (λ c. c.record) (rows_at rows_of ts) val
-            (known_at ts) (known_at after) place now_known elsewhere old.synced.right);
+        queued = λ n c at e. old.synced.queued n c at (was_possible none c e);
+        right = λ k. right_after k (old.synced.right k);
       };
       placed = λ n c e. placed_after c.requirement c.record (old.placed n c e);
       all_of = old.all_of;
@@ -109,37 +88,31 @@ module _ (clauses : List TrackedClause) (literals : TrackedClause → List Lit) 
       IsPlaceOf ts r place → answer ≡ frontier val (rows_of r) → Learns r place answer ts ts' log log' →
       Ready ts q → Ready ts' q
   learns_ready ts ts' q r place answer log log' at right (inl same) old = subst (λ x. Ready x q) (sym same.0) old
-  learns_ready ts ts' q r place answer log log' at right (inr more) old =
-      subst (λ x. Ready x q) (sym more.1)
+  learns_ready ts ts' q r place answer log log' at right (inr more) old = subst (λ x. Ready x q) (sym more.1)
       (walk_ready ts q place at.0 at.1 answer (right ∙ ap (λ x. frontier val (rows_of x)) (sym at.2)) more.0 old)
 
   -- ---- a removal
 
   module _ (ts : List Record) (q q' : Queued) (p : Position) (n : ℕ) (c : TrackedClause)
-      (is : slice_get clauses n ≡ Some c) (at : c.position ≡ p)
-      (located : AreLocated clauses) (gone : LosesOnly p q q')
-      (not_possible : may_be_eligible (λ (d : TrackedClause). d.parent) literals (λ d. d.record)
-      (rows_at rows_of ts) val (known_at ts) c ≡ false) where
-    abbrev possible : TrackedClause → Bool
-    possible d = may_be_eligible (λ (e : TrackedClause). e.parent) literals (λ e. e.record)
-        (rows_at rows_of ts) val (known_at ts) d
-
+      (is : slice_get clauses n ≡ Some c) (at : c.position ≡ p) (located : AreLocated clauses) (gone : LosesOnly p q q')
+      (not_possible : may_be val literals ts c ≡ false) where
     -- another registered clause at this position is this one
-    the_same : (d : TrackedClause) → IsOneOf clauses literals d → same_position p d.position ≡ true → d ≡ c
-    the_same d reg s =
+    the_same : (m : ℕ) (d : TrackedClause) → slice_get clauses m ≡ Some d → same_position p d.position ≡ true → d ≡ c
+    the_same m d e s =
         let positions : d.position ≡ c.position = sym (same_position_is p d.position s) ∙ sym at in
-        let own : d.position.number ≡ reg.0 = ap (λ (x : Position). x.number) (located reg.0 d reg.1) in
+        let own : d.position.number ≡ m = ap (λ (x : Position). x.number) (located m d e) in
         let mine : c.position.number ≡ n = ap (λ (x : Position). x.number) (located n c is) in
-        let numbers : reg.0 ≡ n = sym own ∙ (ap (λ (x : Position). x.number) positions ∙ mine) in
-        same_some d c (sym reg.1 ∙ (ap (slice_get clauses) numbers ∙ is))
+        let numbers : m ≡ n = sym own ∙ (ap (λ (x : Position). x.number) positions ∙ mine) in
+        same_some d c (sym e ∙ (ap (slice_get clauses) numbers ∙ is))
 
     stays : (set set' : List Position) → ((x : Position) → has set' x ≡ cond (same_position p x) false (has set x)) →
-        (d : TrackedClause) → IsOneOf clauses literals d → has set d.position ≡ true → possible d ≡ true →
-        has set' d.position ≡ true
-    stays set set' loses d reg queued e = go (same_position p d.position) refl
+        (m : ℕ) (d : TrackedClause) → slice_get clauses m ≡ Some d → has set d.position ≡ true →
+        may_be val literals ts d ≡ true → has set' d.position ≡ true
+    stays set set' loses m d at queued e = go (same_position p d.position) refl
       where
         go : (b : Bool) → same_position p d.position ≡ b → has set' d.position ≡ true
-        go true s = let bad : possible d ≡ false = ap possible (the_same d reg s) ∙ not_possible in cc
+        go true s = let bad : may_be val literals ts d ≡ false =
+            ap (may_be val literals ts) (the_same m d at s) ∙ not_possible in cc
         go false s = loses d.position ∙ (ap (λ b. cond b false (has set d.position)) s ∙ queued)
 
     fewer : (set set' : List Position) → ((x : Position) → has set' x ≡ cond (same_position p x) false (has set x)) →
@@ -153,13 +126,10 @@ module _ (clauses : List TrackedClause) (literals : TrackedClause → List Lit) 
     pub removed_ready : Ready ts q → Ready ts q'
     removed_ready old = record {
       synced = record {
-        all = removed_holds (λ (d : TrackedClause). d.parent) literals (λ d. d.record) (rows_at rows_of ts)
-            (IsOneOf clauses literals) now_true val (known_at ts)
-            (λ d. has q.all d.position) (λ d. has q'.all d.position) (stays q.all q'.all gone.all) old.synced.all;
-        hot = removed_holds (λ (d : TrackedClause). d.parent) literals (λ d. d.record) (rows_at rows_of ts)
-            (IsHot clauses literals) now_true val (known_at ts)
-            (λ d. has q.hot d.position) (λ d. has q'.hot d.position) (λ d reg.
-            stays q.hot q'.hot gone.hot d reg.0) old.synced.hot;
+        queued = λ m d at e. (let was = old.synced.queued m d at e in record {
+          all = stays q.all q'.all gone.all m d at was.all e;
+          hot = λ h. stays q.hot q'.hot gone.hot m d at (was.hot h) e;
+        });
         right = old.synced.right;
       };
       placed = old.placed;
@@ -175,9 +145,7 @@ module _ (clauses : List TrackedClause) (literals : TrackedClause → List Lit) 
 
     -- an eligible clause is one that may be eligible, as far as is known
     eligible_possible : (n : ℕ) (c : TrackedClause) → slice_get clauses n ≡ Some c → (f : Frontier) →
-        eligible_frontier val literals rows_of c ≡ Some f →
-        may_be_eligible (λ (d : TrackedClause). d.parent) literals (λ d. d.record) (rows_at rows_of ts) val
-        (known_at ts) c ≡ true
+        eligible_frontier val literals rows_of c ≡ Some f → may_be val literals ts c ≡ true
     eligible_possible n c e f is = go (now_true c) (are_literals_false val (literals c)) is
       where
         place : IsPlaceOf ts c.requirement c.record
@@ -205,7 +173,7 @@ module _ (clauses : List TrackedClause) (literals : TrackedClause → List Lit) 
             option_map (offer_with score c) o ≡ None
         go None h = refl
         go (Some f) h = let queued : has q.all c.position ≡ true =
-            ready.synced.all c (n, e) (eligible_possible n c e f h) in cc
+            (ready.synced.queued n c e (eligible_possible n c e f h)).all in cc
 
     -- a clause that isn't among the hot ones offers nothing that is better, if what isn't hot has no score
     pub cold_offers_no_better : (b : Offer) (n : ℕ) (c : TrackedClause) → slice_get clauses n ≡ Some c →
@@ -216,7 +184,7 @@ module _ (clauses : List TrackedClause) (literals : TrackedClause → List Lit) 
         by_heat : (f : Frontier) → eligible_frontier val literals rows_of c ≡ Some f → (h : Bool) → c.is_hot ≡ h →
             beats (offer_with score c f) b ≡ false
         by_heat f g true h = let queued : has q.hot c.position ≡ true =
-            ready.synced.hot c ((n, e), h) (eligible_possible n c e f g) in cc
+            (ready.synced.queued n c e (eligible_possible n c e f g)).hot h in cc
         by_heat f g false h = cold_beats_nothing b (offer_with score c f) (cold h f g)
 
         go : (o : Option Frontier) → eligible_frontier val literals rows_of c ≡ o →
@@ -250,8 +218,7 @@ module _ (clauses : List TrackedClause) (literals : TrackedClause → List Lit)
         (frontier val (rows_of c.requirement)) log log' (ready.placed n c is) refl learns ready
 
     pub dropped_ready : AreLocated clauses → (q' : Queued) (p : Position) → IsOfClause clauses p → p.number ≡ n →
-        LosesOnly p q q' →
-        may_be val literals ts' c ≡ false → IsReady clauses literals rows_of val ts' q'
+        LosesOnly p q q' → may_be val literals ts' c ≡ false → IsReady clauses literals rows_of val ts' q'
     dropped_ready located q' p of number gone not_possible =
         let same : of.0 ≡ c = same_some of.0 c (sym of.1 ∙ (ap (slice_get clauses) number ∙ is)) in
         removed_ready clauses literals rows_of val ts' q q' p n c is
@@ -260,12 +227,7 @@ module _ (clauses : List TrackedClause) (literals : TrackedClause → List Lit)
 -- what was read at a clause's position is that clause
 pub read_here : (clauses : List TrackedClause) (p : Position) → IsOfClause clauses p → (c : TrackedClause) →
     c ≡ get_or clauses p.number c → slice_get clauses p.number ≡ Some c
-read_here clauses p of c e = read_at clauses p.number c (within clauses p.number of.0 of.1) e
-  where
-    within : (cs : List TrackedClause) (k : ℕ) (d : TrackedClause) → slice_get cs k ≡ Some d → k < length cs
-    within [] k d s = cc
-    within (x ∷ xs) zero d s = omega arith
-    within (x ∷ xs) (suc k) d s = let h : k < length xs = within xs k d s in omega arith
+read_here clauses p of c e = read_at clauses p.number c (slice_get_within clauses p.number of.0 of.1) e
 
 pub match_some : {T : Type 0} (o : Option T) (x : T) (P : Type 0) (Q : T → Type 0) → o ≡ Some x →
     MatchOption o P Q → Q x

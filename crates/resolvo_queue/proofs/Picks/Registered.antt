@@ -3,19 +3,10 @@ use Rattle.std.proofs.Common.{◌≡◌, ℕ, zero, suc, Bool, true, false, ◌&
 use Rattle.std.proofs.Common.{map, Option, None, Some, IfSome, slice_get, ap, ◌∙◌, subst, arith}
 use Rattle.std.specs.Prelude.{All}
 use Rattle.std.proofs.lemmas.List.Elements.{All-cons, All-head, All-nil, All-tail}
-use Rattle.providers.specs.Provider.{Universe, sets_of}
-use Rattle.decisions.specs.Literals.{Lit, Values, known_true}
-use Rattle.resolvo_queue.specs.declared.offer.Frontier.{Frontier}
-use Rattle.resolvo_queue.specs.declared.requires_clause.RequiresClause.{RequiresClause}
-use Rattle.resolvo_queue.specs.declared.tracked_clause.TrackedClause.{TrackedClause}
-use Rattle.resolvo_queue.specs.Pick.Inspection.{clause_of}
-use Rattle.resolvo_queue.specs.Parts.Names.{names_at}
-use Rattle.resolvo_queue.specs.Queue.{AreNamed, IsKept, Queue}
-use Rattle.resolvo_queue.specs.Pick.Questions.{AreAskable}
-use Rattle.resolvo_queue.specs.Pick.Ready.{ColdHasNoScore}
-use Rattle.resolvo_queue.specs.References.{CanWalk, HasParts, Lists, References}
-use Rattle.resolvo_queue.specs.Rows.{frontier, lists_loaded, loaded_rows}
-use Rattle.resolvo_queue.specs.Scan.{are_literals_false}
+use Rattle.resolvo_queue.proofs.Words.{are_literals_false, AreAskable, AreNamed, CanWalk, clause_of, ColdHasNoScore}
+use Rattle.resolvo_queue.proofs.Words.{Frontier, frontier, HasParts, IsKept, known_true, Lists, lists_loaded, Lit}
+use Rattle.resolvo_queue.proofs.Words.{loaded_rows, names_at, Queue, References, RequiresClause, sets_of, TrackedClause}
+use Rattle.resolvo_queue.proofs.Words.{Universe, Values}
 use Rattle.resolvo_queue.proofs.Rows.States.{frontier-known}
 use Rattle.resolvo_queue.proofs.Lists.{same_some}
 
@@ -28,8 +19,7 @@ all_tracked P (x ∷ xs) a zero c e = subst (λ (y : TrackedClause). P (clause_o
 all_tracked P (x ∷ xs) a (suc n) c e = all_tracked P xs (λ k d h. a (suc k) d (omega arith)) n c e
 
 pub askable_tracked : {N S A : Type 0} (refs : References N S A) (cs : List TrackedClause) →
-    All (HasParts refs) (map clause_of cs) → All (CanWalk refs) (map clause_of cs) →
-    AreAskable refs cs
+    All (HasParts refs) (map clause_of cs) → All (CanWalk refs) (map clause_of cs) → AreAskable refs cs
 askable_tracked refs cs parts walkable n c e = record {
   condition = (all_tracked (HasParts refs) cs parts n c e).disjunction;
   walkable = all_tracked (CanWalk refs) cs walkable n c e;
@@ -37,14 +27,12 @@ askable_tracked refs cs parts walkable n c e = record {
 
 -- a clause that isn't hot has no score, if none of its names is hot, and only hot names have scores
 pub cold_without_score : {N S A : Type 0} (universe : Universe N S) (lists : Lists A) (val : Values)
-    (literals : TrackedClause → List Lit) (hot : N → Bool) (scores : N → ℕ)
-    (cs : List TrackedClause) →
+    (literals : TrackedClause → List Lit) (hot : N → Bool) (scores : N → ℕ) (cs : List TrackedClause) →
     ((n : ℕ) (c : TrackedClause) → slice_get cs n ≡ Some c → c.is_hot ≡ false →
     All (λ v. hot (universe.set_name v) ≡ false) (sets_of universe c.requirement)) →
     ((name : N) → hot name ≡ false → scores name ≡ 0) →
     ColdHasNoScore cs literals (loaded_rows universe lists) val (λ v. scores (universe.set_name v))
-cold_without_score universe lists val literals hot scores cs cold only n c e is f found =
-    only (universe.set_name f.set)
+cold_without_score universe lists val literals hot scores cs cold only n c e is f found = only (universe.set_name f.set)
     (go (known_true (val c.parent) && are_literals_false val (literals c))
     (frontier val (loaded_rows universe lists c.requirement))
     (frontier-known (λ v. hot (universe.set_name v) ≡ false) val (sets_of universe c.requirement)

@@ -1,16 +1,10 @@
 -- A rival that is gone through after a look at the queue, whether at once or behind another one.
 use Rattle.std.proofs.Common.{◌≡◌, ℕ, true, false, Some, slice_get, ap, sym, ◌∙◌, subst}
-use Rattle.resolvo_queue.specs.Parts.Queued.{IsOfClause, set_of}
-use Rattle.resolvo_queue.specs.Pick.{Offer}
-use Rattle.resolvo_queue.specs.Pick.Grounds.{AskedOn, Grounds, ImprovedBy, offers_on}
-use Rattle.resolvo_queue.specs.Pick.Groups.{Group, has_of, offers_of}
-use Rattle.resolvo_queue.specs.Pick.Questions.{AreUpTo, clause_literals}
-use Rattle.resolvo_queue.specs.Pick.Ready.{AreLocated, ColdHasNoScore, improved, rest_picked}
-use Rattle.resolvo_queue.specs.References.{Lists, references, rows_in}
-use Rattle.resolvo_queue.specs.Scan.Positions.{IsBefore, is_after}
-use Rattle.resolvo_queue.specs.declared.clause_index.ClauseIndex.{ClauseIndex}
-use Rattle.resolvo_queue.specs.declared.tracked_clause.Position.{Position}
-use Rattle.resolvo_queue.specs.declared.tracked_clauses.TrackedClauses.{TrackedClauses}
+use Rattle.resolvo_queue.proofs.Words.{AreLocated, AreUpTo, AskedOn, clause_literals, ClauseIndex, ColdHasNoScore}
+use Rattle.resolvo_queue.proofs.Words.{Grounds, Group, has_of, improved, ImprovedBy, is_after, IsBefore, IsOfClause}
+use Rattle.resolvo_queue.proofs.Words.{Lists, Offer, offers_of, offers_on, Position, references, rest_picked, set_of}
+use Rattle.resolvo_queue.proofs.Words.{TrackedClauses}
+use Rattle.resolvo_queue.specs.References.{rows_in}
 use Rattle.resolvo_queue.proofs.Picks.Decisions.{rival_step}
 use Rattle.resolvo_queue.proofs.Picks.Groups.{of_both}
 use Rattle.resolvo_queue.proofs.Picks.Steps.{of_clause, ready_by}
@@ -28,8 +22,7 @@ module _ {N S A : Type 0} (on : Grounds N S A) {looked : TrackedClauses A} {inde
     (there : has_of group (set_of looked.only_hot looked.queued) p ≡ true) where
   -- it is a clause's, as long as the clauses are the same
   pub rival_of : IsOfClause index.clauses.items p
-  rival_of =
-      subst (λ ix. IsOfClause ix.clauses.items p) same
+  rival_of = subst (λ ix. IsOfClause ix.clauses.items p) same
       (of_clause asked looked.only_hot p (of_both group (set_of looked.only_hot looked.queued) p there).1)
 
   -- what is behind the cursor makes of the best what is behind the rival makes of the better one

@@ -1,18 +1,13 @@
 -- What the first two of an ordered set behind a position say of the second.
 use Rattle.std.proofs.Common.{◌≡◌, Bool, true, false, ◌||◌, List, ◌∷◌, filter, sym, ap, ◌∙◌, subst, is_eq, refl, arith}
-use Rattle.std.specs.BTreeMap.Range.{range_contains}
-use Rattle.std.specs.BTreeSet.{BTreeSet}
-use Rattle.std.specs.List.{All}
-use Rattle.std.specs.List.Sorted.{IsStrictlySortedBy}
-use Rattle.std.specs.Ordering.{ordering_reverse}
-use Rattle.std.specs.declared.ops.Bound.TheVariants.{Excluded, Unbounded}
 use Rattle.std.proofs.lemmas.List.Elements.{filter_passes}
 use Rattle.std.proofs.lemmas.List.Kept.{IsStrictlySortedBy-filter}
 use Rattle.std.proofs.lemmas.Map.Keys.{sorted_head, sorted_tail}
 use Rattle.std.proofs.lemmas.Map.Views.{All-set_contains, any-filter_same, btree_set_IsLowerBound-head}
 use Rattle.std.proofs.lemmas.Map.Views.{IsInRange-from_range_contains, range_contains-from_IsInRange}
-use Rattle.resolvo_queue.specs.Scan.Positions.{IsBefore, IsNextBehind, has, position_cmp, same_position}
-use Rattle.resolvo_queue.specs.declared.tracked_clause.Position.{Position}
+use Rattle.resolvo_queue.proofs.Words.{All, BTreeSet, Excluded, has, IsBefore, IsNextBehind, IsStrictlySortedBy}
+use Rattle.resolvo_queue.proofs.Words.{ordering_reverse, Position, position_cmp, range_contains, same_position}
+use Rattle.resolvo_queue.proofs.Words.{Unbounded}
 use Rattle.resolvo_queue.proofs.Syncs.Queued.{position_order, same_position_is}
 
 -- the test of those behind a position
@@ -21,8 +16,7 @@ is_behind position = range_contains position_cmp (Excluded position) Unbounded
 
 has_kept : (set : List Position) (position r : Position) → IsBefore position r →
     has (filter (is_behind position) set) r ≡ has set r
-has_kept set position r after =
-    any-filter_same (same_position r) (is_behind position) true
+has_kept set position r after = any-filter_same (same_position r) (is_behind position) true
     (λ k e. subst (λ q. is_behind position q ≡ true) (same_position_is r k e)
     (range_contains-from_IsInRange position_order (Excluded position) Unbounded r (after, tt))) set
 
@@ -37,8 +31,7 @@ others first r rest before h =
 -- the two first that a range of the set gives
 pub next_found : (set : List Position) (position first second : Position) (left rest found : List Position) →
     IsStrictlySortedBy position_cmp set → found ≡ filter (is_behind position) set → found ≡ first ∷ left →
-    left ≡ second ∷ rest →
-    IsNextBehind set first second
+    left ≡ second ∷ rest → IsNextBehind set first second
 next_found set position first second left rest found sorted range one two =
     let is : filter (is_behind position) set ≡ first ∷ second ∷ rest = sym range ∙ (one ∙ ap (λ ps. first ∷ ps) two) in
     let passes : All (λ r. is_behind position r ≡ true) (first ∷ second ∷ rest) =
@@ -46,8 +39,7 @@ next_found set position first second left rest found sorted range one two =
     let from : IsBefore position first =
     (IsInRange-from_range_contains position_order (Excluded position) Unbounded first
     (passes 0 first (omega arith))).0 in
-    let ordered : IsStrictlySortedBy position_cmp (first ∷ second ∷ rest) =
-    subst (IsStrictlySortedBy position_cmp) is
+    let ordered : IsStrictlySortedBy position_cmp (first ∷ second ∷ rest) = subst (IsStrictlySortedBy position_cmp) is
     (IsStrictlySortedBy-filter position_cmp (is_behind position) set sorted) in
     let before : IsBefore first second = (sorted_head position_cmp first (second ∷ rest) ordered).0 in
     let alike : (r : Position) → IsBefore first r → has (first ∷ second ∷ rest) r ≡ has set r =

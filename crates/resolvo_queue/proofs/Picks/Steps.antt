@@ -1,25 +1,11 @@
 -- What a question keeps, step by step.
 use Rattle.std.proofs.Common.{◌≡◌, Bool, true, false, List, get_or, Option, Some, slice_get, ap, refl, ◌∙◌, subst}
-use Rattle.clauses.specs.declared.disjunction.Disjunction.{Disjunction}
-use Rattle.decisions.specs.Literals.{Values}
-use Rattle.providers.specs.Provider.{Universe}
-use Rattle.providers.specs.declared.requirement.Requirement.{Requirement}
-use Rattle.resolvo_queue.specs.Pick.Steps.{CanBeAsked, OnlyWalks}
-use Rattle.resolvo_queue.specs.Pick.Inspection.{Learns, eligible_frontier, may_be}
-use Rattle.resolvo_queue.specs.Rows.Listing.{IsListedWell}
-use Rattle.resolvo_queue.specs.Occurrences.{Listed, Reading}
-use Rattle.resolvo_queue.specs.Scan.Positions.{has}
-use Rattle.resolvo_queue.specs.Pick.Questions.{IsAskable, clause_literals}
-use Rattle.resolvo_queue.specs.Parts.Queued.{IsOfClause, LosesOnly, Queued, set_of}
-use Rattle.resolvo_queue.specs.Pick.Ready.{IsReady}
-use Rattle.resolvo_queue.specs.References.{Lists, References, references, rows_in}
-use Rattle.resolvo_queue.specs.Rows.{frontier}
-use Rattle.resolvo_queue.specs.Parts.Records.{Record, known_at}
-use Rattle.resolvo_queue.specs.declared.clause_index.ClauseIndex.{ClauseIndex}
-use Rattle.resolvo_queue.specs.declared.offer.Frontier.{Frontier}
-use Rattle.resolvo_queue.specs.declared.tracked_clause.Position.{Position}
-use Rattle.resolvo_queue.specs.declared.tracked_clause.TrackedClause.{TrackedClause}
-use Rattle.resolvo_queue.specs.declared.tracked_clauses.TrackedClauses.{TrackedClauses}
+use Rattle.resolvo_queue.proofs.Words.{CanBeAsked, clause_literals, ClauseIndex, Disjunction, eligible_frontier}
+use Rattle.resolvo_queue.proofs.Words.{Frontier, frontier, has, IsAskable, IsListedWell, IsOfClause, IsReady, known_at}
+use Rattle.resolvo_queue.proofs.Words.{Learns, Listed, Lists, LosesOnly, may_be, OnlyWalks, Position, Queued, Reading}
+use Rattle.resolvo_queue.proofs.Words.{Record, References, references, Requirement, set_of, TrackedClause}
+use Rattle.resolvo_queue.proofs.Words.{TrackedClauses, Universe, Values}
+use Rattle.resolvo_queue.specs.References.{rows_in}
 use Rattle.resolvo_queue.proofs.Picks.Ready.{dropped_ready, frontier_read, known_is_right, looked_ready, read_here}
 use Rattle.resolvo_queue.proofs.Walks.Counts.{walks_along, walks_nothing}
 
@@ -61,8 +47,7 @@ along_walks f {old} {now} {before} {after} walks =
 
 -- the same by other lists, if they are equal
 pub asked_by : {N S A : Type 0} {universe : Universe N S} {lists lists' : Lists A} {disjunctions : List (Disjunction A)}
-    {val : Values} {t : TrackedClauses A} → lists ≡ lists' →
-    CanBeAsked (references universe lists disjunctions) val t →
+    {val : Values} {t : TrackedClauses A} → lists ≡ lists' → CanBeAsked (references universe lists disjunctions) val t →
     CanBeAsked (references universe lists' disjunctions) val t
 asked_by {universe = universe} {disjunctions = disjunctions} {val = val} {t = t} e asked =
     subst (λ ls. CanBeAsked (references universe ls disjunctions) val t) e asked
@@ -82,8 +67,7 @@ module _ {N S A : Type 0} {refs : References N S A} {val : Values} where
 
 -- a look at the clause that was read at a position
 module _ {N S A : Type 0} {refs : References N S A} {val : Values} {t : TrackedClauses A}
-    (asked : CanBeAsked refs val t)
-    (p : Position) (of : IsOfClause t.index.clauses.items p) (c : TrackedClause)
+    (asked : CanBeAsked refs val t) (p : Position) (of : IsOfClause t.index.clauses.items p) (c : TrackedClause)
     (read : c ≡ get_or t.index.clauses.items p.number c) where
   here : slice_get t.index.clauses.items p.number ≡ Some c
   here = read_here t.index.clauses.items p of c read

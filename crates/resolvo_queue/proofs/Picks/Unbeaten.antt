@@ -4,19 +4,13 @@ use Rattle.std.proofs.Common.{◌≡◌, ℕ, suc, Bool, true, false, not, ◌&&
 use Rattle.std.proofs.Common.{[], ◌∷◌, Option, Some, None, Result, Ok, Err, sym, ap, refl, subst, ◌∙◌, arith}
 use Rattle.std.specs.Prelude.{filter, filter_map, fold, All, Contains, IfSome, is_some, option_map, ◌↔◌}
 use Rattle.std.specs.Prelude.{IfOk, IfErr, MatchResult}
-use Rattle.std.specs.List.{AllByRecursion, best_of, cons_option, list_any}
 use Rattle.std.proofs.lemmas.Bool.Decides.{nat_tests}
 use Rattle.std.proofs.lemmas.List.Elements.{All-from_recursion, recursion_from_All}
-use Rattle.providers.specs.declared.requirement.Requirement.{Requirement}
-use Rattle.typed_ids.specs.declared.version_set_id.VersionSetId.{VersionSetId}
-use Rattle.decisions.specs.Literals.{Lit, Values}
-use Rattle.resolvo_queue.specs.declared.offer.Frontier.{Frontier}
-use Rattle.resolvo_queue.specs.declared.queue_decision.QueueDecision.{QueueDecision}
-use Rattle.resolvo_queue.specs.declared.requires_clause.RequiresClause.{RequiresClause}
-use Rattle.resolvo_queue.specs.Rows.{Row, frontier}
-use Rattle.resolvo_queue.specs.Scan.{scan, is_open, is_eligible}
-use Rattle.resolvo_queue.specs.Pick.{Offer, offer, eligible, is_of_root, beats, better}
-use Rattle.resolvo_queue.specs.Pick.{best_offer, pick, decided, IsUnbeaten, DecidesUnbeaten}
+use Rattle.resolvo_queue.proofs.Words.{AllByRecursion, beats, best_of, best_offer, better, cons_option, decided}
+use Rattle.resolvo_queue.proofs.Words.{DecidesUnbeaten, eligible, Frontier, frontier, here, is_eligible, is_of_root}
+use Rattle.resolvo_queue.proofs.Words.{is_open, IsUnbeaten, list_any, Lit, Offer, offer, pick, QueueDecision}
+use Rattle.resolvo_queue.proofs.Words.{Requirement, RequiresClause, Row, scan, Stands, there, Values, VersionSetId}
+use Rattle.resolvo_queue.proofs.Lists.{contains_if_stands, stands_filter}
 
 -- ---- `beats` is an order: one way, and in chains
 
@@ -32,8 +26,7 @@ beats-self : (e : Offer) → beats e e ≡ false
 beats-self e = one_way e.score e.frontier.count (is_of_root e)
 
 beats-chain : (e b a : Offer) → beats e b ≡ true → beats b a ≡ true → beats e a ≡ true
-beats-chain e b a p q =
-    chain e.score b.score a.score e.frontier.count b.frontier.count a.frontier.count
+beats-chain e b a p q = chain e.score b.score a.score e.frontier.count b.frontier.count a.frontier.count
     (is_of_root e) (is_of_root b) (is_of_root a) p q
 
 -- ---- the best so far
@@ -66,8 +59,7 @@ best_offer-cons b [] = refl
 best_offer-cons b (x ∷ xs) = best_offer-cons (cond (beats x b) x b) xs
 
 unbeaten_some : (b : Offer) (xs : List Offer) → IsUnbeaten (b ∷ xs) (best_of beats b xs)
-unbeaten_some b xs =
-    All-from_recursion (λ e. beats e (best_of beats b xs) ≡ false) (b ∷ xs)
+unbeaten_some b xs = All-from_recursion (λ e. beats e (best_of beats b xs) ≡ false) (b ∷ xs)
     (keeps b xs b (beats-self b), none_beats b xs)
 
 best_unbeaten : (offers : List Offer) → IfSome (best_offer offers) (IsUnbeaten offers)
@@ -77,36 +69,27 @@ best_unbeaten (b ∷ xs) = subst (λ o. IfSome o (IsUnbeaten (b ∷ xs))) (sym (
 best_none : (offers : List Offer) → (best_offer offers ≡ None) ↔ (offers ≡ [])
 best_none [] = (λ e. refl, λ e. refl)
 best_none (b ∷ xs) = (
-  λ e. let p : fold better (Some b) xs ≡
-      Some (best_of beats b xs) = best_offer-cons b xs in cc,
+  λ e. let p : fold better (Some b) xs ≡ Some (best_of beats b xs) = best_offer-cons b xs in cc,
   λ e. cc,
 )
 
 -- ---- it is one of them
 
-data Member {A : Type 0} : A → List A → Type 0 where
-  here : {x : A} {xs : List A} → Member x (x ∷ xs)
-  there : {x y : A} {xs : List A} → Member x xs → Member x (y ∷ xs)
-
-to_contains : {A : Type 0} {x : A} {xs : List A} → Member x xs → Contains xs x
-to_contains here = (0, omega arith, refl)
-to_contains (there m) = let c = to_contains m in (suc c.0, omega arith, c.2)
-
-best_moved : {r b x : Offer} {xs : List Offer} → Member r (b ∷ xs) → Member r (b ∷ x ∷ xs)
+best_moved : {r b x : Offer} {xs : List Offer} → Stands r (b ∷ xs) → Stands r (b ∷ x ∷ xs)
 best_moved here = here
 best_moved (there m) = there (there m)
 
-best_step : (t : Bool) (r b x : Offer) (xs : List Offer) → Member r (cond t x b ∷ xs) → Member r (b ∷ x ∷ xs)
+best_step : (t : Bool) (r b x : Offer) (xs : List Offer) → Stands r (cond t x b ∷ xs) → Stands r (b ∷ x ∷ xs)
 best_step true r b x xs m = there m
 best_step false r b x xs m = best_moved m
 
-best_is_member : (b : Offer) (xs : List Offer) → Member (best_of beats b xs) (b ∷ xs)
+best_is_member : (b : Offer) (xs : List Offer) → Stands (best_of beats b xs) (b ∷ xs)
 best_is_member b [] = here
 best_is_member b (x ∷ xs) = best_step (beats x b) _ b x xs (best_is_member (cond (beats x b) x b) xs)
 
-best_member : (offers : List Offer) → IfSome (best_offer offers) (λ b. Member b offers)
+best_member : (offers : List Offer) → IfSome (best_offer offers) (λ b. Stands b offers)
 best_member [] = tt
-best_member (b ∷ xs) = subst (λ o. IfSome o (λ x. Member x (b ∷ xs))) (sym (best_offer-cons b xs)) (best_is_member b xs)
+best_member (b ∷ xs) = subst (λ o. IfSome o (λ x. Stands x (b ∷ xs))) (sym (best_offer-cons b xs)) (best_is_member b xs)
 
 -- ---- the root's alone, or all
 
@@ -148,25 +131,9 @@ module _ {X : Type 0} (t : X → Bool) where
   of_all P (x ∷ xs) a h = go (t x) refl a (λ k. of_all P xs k h)
     where
       go : (b : Bool) → t x ≡ b → AllByRecursion P (cond b (x ∷ filter t xs) (filter t xs)) →
-          (AllByRecursion P (filter t xs) → AllByRecursion P xs) →
-          P x × AllByRecursion P xs
+          (AllByRecursion P (filter t xs) → AllByRecursion P xs) → P x × AllByRecursion P xs
       go true e k rest = (k.0, rest k.1)
       go false e k rest = (h x e, rest k)
-
-  kept_member : (y : X) (xs : List X) → Member y (filter t xs) → Member y xs × (t y ≡ true)
-  kept_member y [] m = elim m [ ]
-  kept_member y (x ∷ xs) m = go (t x) refl m (kept_member y xs)
-    where
-      first : (z w : X) (ys zs : List X) → t w ≡ true → Member z (w ∷ ys) → (Member z ys → Member z zs × (t z ≡ true)) →
-          Member z (w ∷ zs) × (t z ≡ true)
-      first z w ys zs e here rest = (here, e)
-      first z w ys zs e (there k) rest = let r = rest k in (there r.0, r.1)
-
-      go : (b : Bool) → t x ≡ b → Member y (cond b (x ∷ filter t xs) (filter t xs)) →
-          (Member y (filter t xs) → Member y xs × (t y ≡ true)) →
-          Member y (x ∷ xs) × (t y ≡ true)
-      go true e k rest = first y x (filter t xs) xs e k rest
-      go false e k rest = let r = rest k in (there r.0, r.1)
 
 -- the best of the root's, if there is one, is the pick; else it is the best of all
 picks_of_root : (offers : List Offer) (b : Offer) → best_offer (filter is_of_root offers) ≡ Some b →
@@ -181,8 +148,7 @@ picks_of_root offers b e = go (list_any is_of_root offers) refl
 
 -- what later offers make of the root's first is the pick, where it is the best of the root's
 pub picks_started : (offers : List Offer) (b : Offer) (more : List Offer) →
-    best_offer (filter is_of_root offers) ≡ fold better (Some b) more →
-    pick offers ≡ fold better (Some b) more
+    best_offer (filter is_of_root offers) ≡ fold better (Some b) more → pick offers ≡ fold better (Some b) more
 picks_started offers b more e = picks_of_root offers (best_of beats b more) (e ∙ best_offer-cons b more) ∙
     sym (best_offer-cons b more)
 
@@ -199,13 +165,12 @@ pick_unbeaten : (offers : List Offer) → IfSome (pick offers) (IsUnbeaten offer
 pick_unbeaten offers = go (list_any is_of_root offers)
   where
     of_root : (o : Option Offer) → IfSome o (IsUnbeaten (filter is_of_root offers)) →
-        IfSome o (λ b. Member b (filter is_of_root offers)) → IfSome o (IsUnbeaten offers)
+        IfSome o (λ b. Stands b (filter is_of_root offers)) → IfSome o (IsUnbeaten offers)
     of_root None u m = tt
-    of_root (Some b) u m =
-        All-from_recursion (λ e. beats e b ≡ false) offers
+    of_root (Some b) u m = All-from_recursion (λ e. beats e b ≡ false) offers
         (of_all is_of_root (λ e. beats e b ≡ false) offers
         (recursion_from_All (λ e. beats e b ≡ false) (filter is_of_root offers) u)
-        (λ e other. root_stays b e (kept_member is_of_root b offers m).1 other))
+        (λ e other. root_stays b e (stands_filter is_of_root offers b m).1 other))
 
     go : (t : Bool) → IfSome (cond t (best_offer (filter is_of_root offers)) (best_offer offers)) (IsUnbeaten offers)
     go true = of_root (best_offer (filter is_of_root offers)) (best_unbeaten (filter is_of_root offers))
@@ -226,13 +191,13 @@ pick_none offers = go (list_any is_of_root offers) refl
 pick_member : (offers : List Offer) → IfSome (pick offers) (Contains offers)
 pick_member offers = go (list_any is_of_root offers)
   where
-    of_root : (o : Option Offer) → IfSome o (λ b. Member b (filter is_of_root offers)) → IfSome o (Contains offers)
+    of_root : (o : Option Offer) → IfSome o (λ b. Stands b (filter is_of_root offers)) → IfSome o (Contains offers)
     of_root None m = tt
-    of_root (Some b) m = to_contains (kept_member is_of_root b offers m).0
+    of_root (Some b) m = contains_if_stands offers b (stands_filter is_of_root offers b m).0
 
-    of_any : (o : Option Offer) → IfSome o (λ b. Member b offers) → IfSome o (Contains offers)
+    of_any : (o : Option Offer) → IfSome o (λ b. Stands b offers) → IfSome o (Contains offers)
     of_any None m = tt
-    of_any (Some b) m = to_contains m
+    of_any (Some b) m = contains_if_stands offers b m
 
     go : (t : Bool) → IfSome (cond t (best_offer (filter is_of_root offers)) (best_offer offers)) (Contains offers)
     go true = of_root (best_offer (filter is_of_root offers)) (best_member (filter is_of_root offers))
@@ -240,8 +205,7 @@ pick_member offers = go (list_any is_of_root offers)
 
 pub decides_unbeaten : (offers : List Offer) (d : Option QueueDecision) →
     d ≡ option_map decided (pick offers) → DecidesUnbeaten offers d
-decides_unbeaten offers d e =
-    rw e (go (pick offers) (pick_none offers).0 (pick_member offers) (pick_unbeaten offers))
+decides_unbeaten offers d e = rw e (go (pick offers) (pick_none offers).0 (pick_member offers) (pick_unbeaten offers))
   where
     go : (o : Option Offer) → (o ≡ None → offers ≡ []) → IfSome o (Contains offers) → IfSome o (IsUnbeaten offers) →
         DecidesUnbeaten offers (option_map decided o)

@@ -2,8 +2,7 @@
 use Rattle.std.proofs.Common.{◌≡◌, ◌≢◌, ℕ, zero, suc, ◌<◌, Bool, true, false, eqb, List, [], ◌∷◌, ◌++◌, map, length}
 use Rattle.std.proofs.Common.{get_or, set, sym, ap, refl, ◌∙◌, eq-eqb, eqb-true, get_or-set_same, get_or-set_other}
 use Rattle.std.proofs.lemmas.List.{get_or-map, length-map, map-append, map-set}
-use Rattle.typed_ids.specs.TotalMaps.{IsUpdate, SameValues}
-use Rattle.resolvo_queue.specs.Rows.ByVariable.{list_at}
+use Rattle.resolvo_queue.proofs.Words.{IsUpdate, list_at, SameValues}
 
 past_empty : {X : Type 0} (lists : List (List X)) (k : ℕ) → get_or (lists ++ [] ∷ []) k [] ≡ get_or lists k []
 past_empty [] zero = refl
@@ -14,8 +13,7 @@ past_empty (l ∷ ls) (suc k) = past_empty ls k
 -- one more list that is empty shows nowhere
 pub same_with_empty : {V X : Type 0} (f : V → List X) (vs ws : List V) (v : V) →
     ws ≡ vs ++ v ∷ [] → f v ≡ [] → (k : ℕ) → get_or (map f ws) k [] ≡ get_or (map f vs) k []
-same_with_empty f vs ws v e h k =
-    rw (e, map-append f vs (v ∷ []), h) (past_empty (map f vs) k)
+same_with_empty f vs ws v e h k = rw (e, map-append f vs (v ∷ []), h) (past_empty (map f vs) k)
 
 module _ {V X : Type 0} (f : V → List X) (old : List (List X)) (vs : List V) (i parent : ℕ)
     (before after : V) (same : SameValues (list_at old) (list_at (map f vs))) (at : i ≡ parent) (within : i < length vs)

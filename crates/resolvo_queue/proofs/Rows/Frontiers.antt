@@ -1,13 +1,9 @@
 -- A frontier depends on the values of its rows' variables alone, and counts at least one row.
 use Rattle.std.proofs.Common.{◌≡◌, ℕ, ◌+◌, ◌≤◌, Bool, true, false, ◌&&◌, ◌||◌, cond, eqb, List, [], ◌∷◌}
 use Rattle.std.proofs.Common.{Option, Some, None, find, option_map, fold, ap, refl, ◌∙◌, arith, eq-eqb}
-use Rattle.typed_ids.specs.declared.version_set_id.VersionSetId.{VersionSetId}
-use Rattle.decisions.specs.Literals.{Values, known_true, undecided}
-use Rattle.resolvo_queue.specs.declared.offer.Frontier.{Frontier}
-use Rattle.resolvo_queue.specs.Rows.{Row, has_true_row, is_undecided_row, frontier_at, frontier}
-use Rattle.resolvo_queue.specs.Members.{Stands, here, there}
-use Rattle.resolvo_queue.specs.Routing.Possible.{SameElsewhere}
-use Rattle.std.specs.List.{list_any}
+use Rattle.resolvo_queue.proofs.Words.{Frontier, frontier, frontier_at, has_true_row, here, is_undecided_row}
+use Rattle.resolvo_queue.proofs.Words.{known_true, list_any, Row, SameElsewhere, Stands, there, undecided, Values}
+use Rattle.resolvo_queue.proofs.Words.{VersionSetId}
 
 -- a routed variable stands in the rows
 abbrev pub routes_rows : (ℕ → Bool) → List Row → Bool
@@ -28,14 +24,12 @@ module _ (v w : Values) where
 
   has_true_same : (rs : List Row) → SameRows rs → has_true_row v rs ≡ has_true_row w rs
   has_true_same [] h = refl
-  has_true_same (r ∷ rs) h =
-      ap (λ x. known_true x || has_true_row v rs) (h r here)
+  has_true_same (r ∷ rs) h = ap (λ x. known_true x || has_true_row v rs) (h r here)
       ∙ ap (λ b. known_true (w r.variable) || b) (has_true_same rs (λ q s. h q (there s)))
 
   find_same : (rs : List Row) → SameRows rs → find (is_undecided_row v) rs ≡ find (is_undecided_row w) rs
   find_same [] h = refl
-  find_same (r ∷ rs) h =
-      ap (λ x. cond (undecided x) (Some r) (find (is_undecided_row v) rs)) (h r here)
+  find_same (r ∷ rs) h = ap (λ x. cond (undecided x) (Some r) (find (is_undecided_row v) rs)) (h r here)
       ∙ ap (λ o. cond (undecided (w r.variable)) (Some r) o) (find_same rs (λ q s. h q (there s)))
 
   counted_same : (set : VersionSetId) (rs : List Row) (n : ℕ) → SameRows rs →
@@ -44,8 +38,7 @@ module _ (v w : Values) where
   counted_same set [] n h = refl
   counted_same set (r ∷ rs) n h =
       ap (λ x. fold (λ m (row : Row). m + cond (eqb row.set.0 set.0 && is_undecided_row v row) 1 0)
-      (n + cond (eqb r.set.0 set.0 && undecided x) 1 0) rs) (h r here)
-      ∙ counted_same set rs _ (λ q s. h q (there s))
+      (n + cond (eqb r.set.0 set.0 && undecided x) 1 0) rs) (h r here) ∙ counted_same set rs _ (λ q s. h q (there s))
 
   -- the frontier is the same where the row variables' values are
   pub frontier_same : (rs : List Row) → SameRows rs → frontier v rs ≡ frontier w rs
@@ -69,8 +62,7 @@ module _ (v w : Values) where
 
   -- so it is right as long as no row's variable is routed
   pub frontier_unrouted : (routed : ℕ → Bool) → SameElsewhere routed v w → (rs : List Row) →
-      routes_rows routed rs ≡ false →
-      frontier v rs ≡ frontier w rs
+      routes_rows routed rs ≡ false → frontier v rs ≡ frontier w rs
   frontier_unrouted routed same rs e = frontier_same rs (unrouted_same routed same rs e)
 
 -- ---- a frontier counts its own row

@@ -1,11 +1,7 @@
 -- The version set of a frontier is known.
 use Rattle.std.proofs.Common.{◌≡◌, true, Option, Result, Ok, Err, sym, subst, IfSome, IfOk}
-use Rattle.decisions.specs.Literals.{Values}
-use Rattle.providers.specs.Provider.{Universe, AreUnionSetsKnown, knows_requirement, sets_of}
-use Rattle.providers.specs.declared.requirement.Requirement.{Requirement}
-use Rattle.resolvo_queue.specs.declared.offer.Frontier.{Frontier}
-use Rattle.resolvo_queue.specs.References.{Lists}
-use Rattle.resolvo_queue.specs.Rows.{frontier, lists_loaded, loaded_rows}
+use Rattle.resolvo_queue.proofs.Words.{AreUnionSetsKnown, Frontier, frontier, knows_requirement, Lists, lists_loaded}
+use Rattle.resolvo_queue.proofs.Words.{loaded_rows, Requirement, sets_of, Universe, Values}
 use Rattle.resolvo_queue.proofs.Rows.States.{frontier-known, sets_known}
 
 pub frontier_set : {N S A E : Type 0} (universe : Universe N S) (lists : Lists A) (val : Values) (r : Requirement) →

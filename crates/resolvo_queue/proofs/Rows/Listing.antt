@@ -3,24 +3,12 @@ use Rattle.std.proofs.Common.{◌≡◌, ℕ, zero, suc, ◌+◌, option_map, tr
 use Rattle.std.proofs.Common.{◌⊎◌, inl, inr, List, [], ◌∷◌, ◌++◌, flat_map, Option, Some, None}
 use Rattle.std.proofs.Common.{is_some, slice_get, sym, ap, refl, ◌∙◌, subst, arith, Vec}
 use Rattle.std.specs.Prelude.{Contains, IsSome}
-use Rattle.std.specs.Map.{lookup}
-use Rattle.providers.specs.Requirement.{same_requirement}
-use Rattle.typed_ids.specs.declared.version_set_id.VersionSetId.{VersionSetId}
-use Rattle.providers.specs.Provider.{Universe, sets_of}
-use Rattle.providers.specs.declared.requirement.Requirement.{Requirement}
-use Rattle.resolvo_queue.specs.declared.offer.Frontier.{Frontier}
-use Rattle.resolvo_queue.specs.Rows.{Row, candidates, list_rows, lists_loaded, lists_or_none, loaded_rows, rows}
-use Rattle.resolvo_queue.specs.Pick.Inspection.{ListsOnly}
-use Rattle.resolvo_queue.specs.Rows.Listing.{IsListedWell}
-use Rattle.resolvo_queue.specs.Occurrences.{Listed, is_listed, listing, GrowsWith, HasAll}
-use Rattle.resolvo_queue.specs.Members.{Stands, here, there}
-use Rattle.resolvo_queue.specs.Routing.Synced.{ListsKnown}
-use Rattle.resolvo_queue.specs.Parts.Records.{Record, known_at, updated_at, walked}
-use Rattle.resolvo_queue.specs.Parts.Records.{OwesSame, SameFound, IsPlaceOf, forgotten}
-use Rattle.resolvo_queue.specs.Routing.{OnlyForgets}
-use Rattle.resolvo_queue.specs.declared.tracked_clause.TrackedClause.{TrackedClause}
-use Rattle.decisions.specs.Literals.{Lit}
-use Rattle.resolvo_queue.proofs.Lists.{contains_if_stands, stands_if_contains, differ, same_some}
+use Rattle.resolvo_queue.proofs.Words.{candidates, forgotten, Frontier, GrowsWith, HasAll, here, is_listed}
+use Rattle.resolvo_queue.proofs.Words.{IsListedWell, IsPlaceOf, known_at, list_rows, Listed, listing, lists_loaded}
+use Rattle.resolvo_queue.proofs.Words.{lists_or_none, ListsKnown, ListsOnly, loaded_rows, lookup, OnlyForgets, OwesSame}
+use Rattle.resolvo_queue.proofs.Words.{Record, Requirement, Row, rows, same_requirement, SameFound, sets_of, Stands}
+use Rattle.resolvo_queue.proofs.Words.{there, Universe, updated_at, VersionSetId, walked}
+use Rattle.resolvo_queue.proofs.Lists.{append_left, append_right, contains_if_stands, differ, same_some, stands_if_contains}
 use Rattle.resolvo_queue.proofs.Clauses.Records.{was_at}
 
 -- a requirement that has a candidate has lists
@@ -53,8 +41,7 @@ module _ {A : Type 0} (lists : List (Requirement × Vec (Vec ℕ A) A)) (r : Req
   }
 
   pub listed_walked : (o : Listed) (ts : List Record) (place : ℕ) (f : Option Frontier) → IsPlaceOf ts r place →
-      is_listed o r ≡ true →
-      IsListedWell lists o ts → IsListedWell lists o (updated_at (walked f) ts place)
+      is_listed o r ≡ true → IsListedWell lists o ts → IsListedWell lists o (updated_at (walked f) ts place)
   listed_walked o ts place f at listed w = record {
     entries = w.entries;
     all = w.all;
@@ -106,27 +93,16 @@ rows_candidates (v ∷ vs) (l ∷ ls) row s =
     own u (y ∷ ys) x here = here
     own u (y ∷ ys) x (there t) = there (own u ys x t)
 
-    left : (xs ys : List ℕ) (x : ℕ) → Stands x xs → Stands x (xs ++ ys)
-    left [] ys x t = elim t [ ]
-    left (z ∷ zs) ys x here = here
-    left (z ∷ zs) ys x (there t) = there (left zs ys x t)
-
-    right : (xs ys : List ℕ) (x : ℕ) → Stands x ys → Stands x (xs ++ ys)
-    right [] ys x t = t
-    right (z ∷ zs) ys x t = there (right zs ys x t)
-
     go : (as1 bs : List Row) (xs ys : List ℕ) (x : Row) → Stands x (as1 ++ bs) → (Stands x as1 → Stands x.variable xs) →
         (Stands x bs → Stands x.variable ys) → Stands x.variable (xs ++ ys)
-    go [] bs xs ys x t f g = right xs ys x.variable (g t)
-    go (a ∷ as1) bs xs ys x here f g = left xs ys x.variable (f here)
+    go [] bs xs ys x t f g = append_right xs ys x.variable (g t)
+    go (a ∷ as1) bs xs ys x here f g = append_left xs ys x.variable (f here)
     go (a ∷ as1) bs xs ys x (there t) f g = go as1 bs xs ys x t (λ u. f (there u)) g
 
 -- so what is known of has all its row variables listed, as a sync asks
 pub lists_known : {N S A : Type 0} (universe : Universe N S) (lists : List (Requirement × Vec (Vec ℕ A) A))
-    (clauses : List TrackedClause) (literals : TrackedClause → List Lit) (o : Listed) (ts : List Record) →
-    IsListedWell lists o ts → ListsKnown clauses literals (loaded_rows universe lists) (listing o) ts
-lists_known universe lists clauses literals o ts w k t e h row s =
-    stands_if_contains (listing o row.variable) t.requirement
+    (o : Listed) (ts : List Record) → IsListedWell lists o ts → ListsKnown (loaded_rows universe lists) (listing o) ts
+lists_known universe lists o ts w k t e h row s = stands_if_contains (listing o row.variable) t.requirement
     (w.all t.requirement (w.known k t e h) row.variable
     (contains_if_stands (candidates lists t.requirement) row.variable
     (rows_candidates (sets_of universe t.requirement) (lists_loaded lists t.requirement) row s)))

@@ -4,21 +4,13 @@ use Rattle.std.proofs.Common.{◌||◌, cond, eqb, List, [], ◌∷◌, ◌++◌
 use Rattle.std.proofs.Common.{Option, Some, None, is_some, sym, ap, refl, ◌∙◌, eq-eqb, eqb-true, Result}
 use Rattle.std.proofs.Common.{Ok, Err, OnOk, OnErr, append-nil, append_assoc, Vec, Bor, option_copied}
 use Rattle.std.specs.Prelude.{Contains}
-use Rattle.std.specs.List.{list_any}
-use Rattle.std.specs.Map.{keys_of, lookup}
 use Rattle.std.proofs.lemmas.List.{take_more}
 use Rattle.std.proofs.lemmas.List.Elements.{Contains-append_cases, Contains-append_left, Contains-append_right}
 use Rattle.std.proofs.lemmas.List.Elements.{Contains-get_or, Contains-push, Contains-push_cases}
 use Rattle.std.proofs.lemmas.List.Folds.{flat_map-map}
-use Rattle.typed_ids.specs.TotalMaps.{IsUpdate, SameValues}
-use Rattle.providers.specs.Requirement.{same_requirement}
-use Rattle.providers.specs.RequirementMap.{with_entry}
-use Rattle.providers.specs.declared.requirement.Requirement.{Requirement}
-use Rattle.providers.specs.declared.requirement.Requirement.TheVariants.{Single, Union}
-use Rattle.resolvo_queue.specs.Rows.ByVariable.{list_at}
-use Rattle.resolvo_queue.specs.Occurrences.{Listed, listing, GrowsWith, HasAll}
-use Rattle.resolvo_queue.specs.References.{Lists}
-use Rattle.resolvo_queue.specs.Rows.{candidates, lists_or_none}
+use Rattle.resolvo_queue.proofs.Words.{candidates, GrowsWith, HasAll, IsUpdate, keys_of, list_any, list_at, Listed}
+use Rattle.resolvo_queue.proofs.Words.{listing, Lists, lists_or_none, lookup, Requirement, same_requirement, SameValues}
+use Rattle.resolvo_queue.proofs.Words.{Single, Union, with_entry}
 
 -- ---- what is listed, by the entries of a map
 
@@ -115,8 +107,7 @@ module _ (r : Requirement) where
       kept : (w : ℕ) (q : Requirement) → Contains (listing a w) q → (t : Bool) → eqb w v ≡ t → Contains (listing b w) q
       kept w q s true h =
           let same : w ≡ v = eqb-true w v h in
-          subst (λ x. Contains (listing b x) q) (sym same)
-          (subst (λ l. Contains l q) (sym u.0)
+          subst (λ x. Contains (listing b x) q) (sym same) (subst (λ l. Contains l q) (sym u.0)
           (Contains-append_left (listing a v) (r ∷ []) q (subst (λ x. Contains (listing a x) q) same s)))
       kept w q s false h = subst (λ l. Contains l q) (sym (other w h)) s
 
@@ -161,8 +152,7 @@ module _ (r : Requirement) where
       where
         go : (o : Result T E) → OnOk o (IsUpdate (listing a) v (listing a v ++ r ∷ []) (listing b)) →
             OnOk o (HasAll r (v ∷ []) b)
-        go (Ok x) u =
-            λ w s. subst (λ y. Contains (listing b y) r) (only v w s)
+        go (Ok x) u = λ w s. subst (λ y. Contains (listing b y) r) (only v w s)
             (subst (λ l. Contains l r) (sym u.0) (Contains-push (listing a v) r))
         go (Err e) u = tt
 
@@ -175,26 +165,22 @@ module _ (r : Requirement) where
   }
 
   pub has_same : {T E : Type 0} (res : Result T E) (vs : List ℕ) (a b : Listed) →
-      b.by_variable ≡ a.by_variable → HasAll r vs a →
-      OnOk res (HasAll r vs b)
+      b.by_variable ≡ a.by_variable → HasAll r vs a → OnOk res (HasAll r vs b)
   has_same (Ok x) vs a b e h = λ v s. subst (λ l. Contains (list_at l v) r) (sym e) (h v s)
   has_same (Err x) vs a b e h = tt
 
   -- ---- a loop's step over items, each with variables of its own
 
   module _ {X : Type 0} (f : X → List ℕ) (xs : List X) (i : ℕ) (x : X) (within : i < length xs)
-      (read : x ≡ get_or xs i x)
-      (first before now : Listed) (so_far : GrowsWith r (flat_map f xs) first before)
+      (read : x ≡ get_or xs i x) (first before now : Listed) (so_far : GrowsWith r (flat_map f xs) first before)
       (more : GrowsWith r (f x) before now) where
     part : (ys : List X) → Contains ys x → (v : ℕ) → Contains (f x) v → Contains (flat_map f ys) v
     part ys h v s = go ys h.0 h.1 h.2
       where
         go : (ys : List X) (k : ℕ) → k < length ys → get_or ys k x ≡ x → Contains (flat_map f ys) v
         go [] k l e = absurd (omega (arith, l))
-        go (y ∷ ys) zero l e =
-            Contains-append_left (f y) (flat_map f ys) v (subst (λ z. Contains (f z) v) (sym e) s)
-        go (y ∷ ys) (suc k) l e =
-            Contains-append_right (f y) (flat_map f ys) v (go ys k (omega (arith, l)) e)
+        go (y ∷ ys) zero l e = Contains-append_left (f y) (flat_map f ys) v (subst (λ z. Contains (f z) v) (sym e) s)
+        go (y ∷ ys) (suc k) l e = Contains-append_right (f y) (flat_map f ys) v (go ys k (omega (arith, l)) e)
 
     whole_step : GrowsWith r (flat_map f xs) before now
     whole_step =
@@ -206,8 +192,7 @@ module _ (r : Requirement) where
 
     pub items_have : HasAll r (flat_map f (take i xs)) before → HasAll r (f x) now →
         HasAll r (flat_map f (take (i + 1) xs)) now
-    items_have h k =
-        subst (λ vs. HasAll r vs now)
+    items_have h k = subst (λ vs. HasAll r vs now)
         (sym (ap (flat_map f) (take_more xs i x within ∙ ap (λ y. take i xs ++ y ∷ []) (sym read))
         ∙ (flat_append (take i xs) (x ∷ []) ∙ ap (λ l. flat_map f (take i xs) ++ l) (append-nil (f x)))))
         (has_both (flat_map f (take i xs)) (f x) now
@@ -220,11 +205,9 @@ module _ (r : Requirement) where
 
 -- the candidates of a requirement with lists
 pub slice_candidates : {A : Type 0} (loaded inside : Lists A) (r : Requirement) (lists : Vec (Vec ℕ A) A)
-    (slice : List (Vec ℕ A)) →
-    inside ≡ loaded → lookup (same_requirement r) inside ≡ Some lists → slice ≡ lists.items →
+    (slice : List (Vec ℕ A)) → inside ≡ loaded → lookup (same_requirement r) inside ≡ Some lists → slice ≡ lists.items →
     flat_map (λ l. l.items) slice ≡ candidates loaded r
-slice_candidates loaded inside r lists slice e f h =
-    ap (flat_map (λ l. l.items)) h
+slice_candidates loaded inside r lists slice e f h = ap (flat_map (λ l. l.items)) h
     ∙ (sym (ap (λ o. flat_map (λ l. l) (lists_or_none o)) f ∙ flat_map-map (λ l. l) (λ l. l.items) lists.items)
     ∙ ap (λ l. candidates l r) e)
 

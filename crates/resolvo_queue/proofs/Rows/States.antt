@@ -3,25 +3,16 @@ use Rattle.std.proofs.Common.{◌≡◌, ℕ, ◌+◌, ◌<◌, ◌≤◌, Bool,
 use Rattle.std.proofs.Common.{List, [], ◌∷◌, ◌++◌, map, length, take, fold, Option, Some, None}
 use Rattle.std.proofs.Common.{sym, ap, refl, ◌∙◌, eq-eqb, add-zero, arith, length-append, subst}
 use Rattle.std.specs.Prelude.{All, IfSome, find, option_map, flat_map, is_none, ◌^◌}
-use Rattle.std.specs.List.{AllByRecursion, list_all}
-use Rattle.std.specs.Map.{lookup}
-use Rattle.std.specs.declared.vec.Vec.{Vec}
 use Rattle.std.proofs.lemmas.List.{length-map}
 use Rattle.std.proofs.lemmas.List.Elements.{All-from_recursion, recursion_from_All}
 use Rattle.std.proofs.lemmas.List.Folds.{flat_map-map, list_all-append, list_all-map}
 use Rattle.std.proofs.lemmas.List.Sums.{fold-append}
-use Rattle.typed_ids.specs.declared.version_set_id.VersionSetId.{VersionSetId}
-use Rattle.providers.specs.Provider.{AreUnionSetsKnown, Universe, knows_requirement, sets_of}
-use Rattle.providers.specs.Requirement.{same_requirement}
-use Rattle.providers.specs.declared.requirement.Requirement.{Requirement}
-use Rattle.providers.specs.declared.requirement.Requirement.TheVariants.{Single, Union}
-use Rattle.decisions.specs.Literals.{Values, known_true, known_false, undecided}
-use Rattle.resolvo_queue.specs.declared.offer.Frontier.{Frontier}
-use Rattle.resolvo_queue.specs.declared.row_state.RowState.{RowState}
-use Rattle.resolvo_queue.specs.declared.row_state.RowState.TheVariants.{Met, Undecided, AllFalse}
-use Rattle.resolvo_queue.specs.Rows.{Row, list_rows, rows, loaded_rows, lists_or_none, lists_loaded}
-use Rattle.resolvo_queue.specs.Rows.{has_true_row, all_false, is_undecided_row, frontier, frontier_at}
-use Rattle.resolvo_queue.specs.Rows.States.{state_of, unmet_state, counted, with_row, with_rows}
+use Rattle.resolvo_queue.proofs.Words.{all_false, AllByRecursion, AllFalse, AreUnionSetsKnown, counted, Frontier}
+use Rattle.resolvo_queue.proofs.Words.{frontier, frontier_at, has_true_row, is_undecided_row, known_false, known_true}
+use Rattle.resolvo_queue.proofs.Words.{knows_requirement, list_all, list_rows, lists_loaded, lists_or_none, loaded_rows}
+use Rattle.resolvo_queue.proofs.Words.{lookup, Met, Requirement, Row, rows, RowState, same_requirement, sets_of, Single}
+use Rattle.resolvo_queue.proofs.Words.{state_of, Undecided, undecided, Union, Universe, unmet_state, Values, Vec}
+use Rattle.resolvo_queue.proofs.Words.{VersionSetId, with_row, with_rows}
 
 -- without lists there are no rows
 no_rows : (sets : List VersionSetId) → rows sets [] ≡ []
@@ -64,17 +55,14 @@ module _ (val : Values) where
       Behind : ℕ → Type 0
       Behind m = with_rows val (at m) rs ≡ cond (has_true_row val rs) Met (at (count_from set m rs))
 
-      go : (w : Option Bool) → ((m : ℕ) → Behind m) →
-          with_rows val (with_row (at n) w r) rs
+      go : (w : Option Bool) → ((m : ℕ) → Behind m) → with_rows val (with_row (at n) w r) rs
           ≡ cond (known_true w || has_true_row val rs) Met
           (at (count_from set (n + cond (eqb r.set.0 set.0 && undecided w) 1 0) rs))
-      go None more =
-          more (n + cond (eqb r.set.0 set.0) 1 0)
+      go None more = more (n + cond (eqb r.set.0 set.0) 1 0)
           ∙ ap (λ b. cond (has_true_row val rs) Met (at (count_from set (n + cond b 1 0) rs)))
           (sym (and-true (eqb r.set.0 set.0)))
       go (Some true) more = met-rows rs
-      go (Some false) more =
-          more n
+      go (Some false) more = more n
           ∙ ap (λ m. cond (has_true_row val rs) Met (at (count_from set m rs))) (sym (add-zero n))
           ∙ ap (λ b. cond (has_true_row val rs) Met (at (count_from set (n + cond b 1 0) rs)))
           (sym (and-false (eqb r.set.0 set.0)))
@@ -86,15 +74,12 @@ module _ (val : Values) where
     where
       -- the state by the row's value
       by : Option Bool → RowState
-      by w =
-          cond (known_true w || has_true_row val rs) Met
-          (unmet_state (cond (known_true w || has_true_row val rs) None
-          (option_map (λ (row : Row). record {
+      by w = cond (known_true w || has_true_row val rs) Met
+          (unmet_state (cond (known_true w || has_true_row val rs) None (option_map (λ (row : Row). record {
             variable = row.variable;
             set = row.set;
             count = count_from row.set (0 + cond (eqb r.set.0 row.set.0 && undecided w) 1 0) rs;
-          })
-          (cond (undecided w) (Some r) (find (is_undecided_row val) rs)))))
+          }) (cond (undecided w) (Some r) (find (is_undecided_row val) rs)))))
 
       hidden : (b : Bool) (s : RowState) (f : Option Frontier) → (b ≡ false → s ≡ unmet_state f) →
           cond b Met s ≡ cond b Met (unmet_state (cond b None f))
@@ -105,8 +90,7 @@ module _ (val : Values) where
           count_from row.set (0 + cond (eqb r.set.0 row.set.0 && false) 1 0) rs
       same_count row = ap (λ b. count_from row.set (0 + cond b 1 0) rs) (sym (and-false (eqb r.set.0 row.set.0)))
 
-      other : (o : Option Row) →
-          unmet_state (option_map (frontier_at val rs) o)
+      other : (o : Option Row) → unmet_state (option_map (frontier_at val rs) o)
           ≡ unmet_state (option_map (λ (row : Row). record {
             variable = row.variable;
             set = row.set;
@@ -123,10 +107,7 @@ module _ (val : Values) where
 
       go : (w : Option Bool) → with_rows val AllFalse rs ≡ state_of val rs →
           with_rows val (with_row AllFalse w r) rs ≡ by w
-      go None e =
-          undecided-rows r.variable r.set 1 rs
-          ∙ hidden (has_true_row val rs) _ _
-          (λ h. ap (λ b. Undecided
+      go None e = undecided-rows r.variable r.set 1 rs ∙ hidden (has_true_row val rs) _ _ (λ h. ap (λ b. Undecided
           (record { variable = r.variable; set = r.set; count = count_from r.set (0 + cond (b && true) 1 0) rs }))
           (sym (eq-eqb r.set.0 r.set.0 refl)))
       go (Some true) e = met-rows rs
@@ -193,8 +174,7 @@ module _ (val : Values) where
 
   -- a requirement is falsified, no row true and none undecided, where all its rows are false
   pub falsified-rows : (rs : List Row) → (not (has_true_row val rs) && is_none (frontier val rs)) ≡ all_false val rs
-  falsified-rows rs =
-      hidden (has_true_row val rs) (find (is_undecided_row val) rs) ∙ each rs
+  falsified-rows rs = hidden (has_true_row val rs) (find (is_undecided_row val) rs) ∙ each rs
     where
       hidden : (b : Bool) (o : Option Row) →
           (not b && is_none (cond b None (option_map (frontier_at val rs) o))) ≡ (not b && is_none o)
@@ -208,8 +188,7 @@ module _ (val : Values) where
       each (r ∷ rs) = go (val r.variable) (each rs)
         where
           go : (w : Option Bool) → (not (has_true_row val rs) && is_none (find (is_undecided_row val) rs)) ≡
-              all_false val rs →
-              (not (known_true w || has_true_row val rs) &&
+              all_false val rs → (not (known_true w || has_true_row val rs) &&
               is_none (cond (undecided w) (Some r) (find (is_undecided_row val) rs)))
               ≡ (known_false w && all_false val rs)
           go None e = and-false (not (has_true_row val rs))
@@ -225,12 +204,11 @@ module _ (val : Values) where
       list_all (λ l. false_list (items l)) (take (length sets) lists) ≡ all_false val (rows sets (map items lists))
   false-rows items [] lists = refl
   false-rows items (s ∷ ss) [] = refl
-  false-rows items (s ∷ ss) (l ∷ ls) =
-      rw (
-        list_all-append (λ row. known_false (val row.variable)) (list_rows s (items l)) (rows ss (map items ls)),
-        list_all-map (λ (row : Row). known_false (val row.variable)) (λ x. record { set = s; variable = x }) (items l),
-        ← false-rows items ss ls,
-      ) refl
+  false-rows items (s ∷ ss) (l ∷ ls) = rw (
+    list_all-append (λ row. known_false (val row.variable)) (list_rows s (items l)) (rows ss (map items ls)),
+    list_all-map (λ (row : Row). known_false (val row.variable)) (λ x. record { set = s; variable = x }) (items l),
+    ← false-rows items ss ls,
+  ) refl
 
 -- what was looked up has few rows, as all that is loaded has
 pub few_kept : {A : Type 0} (lists : List (Vec ℕ A)) (found : Vec (Vec ℕ A) A)
@@ -306,8 +284,7 @@ sets_known universe unions (Union u) h = unions u h
 pub undecided-known : {N S A : Type 0} (universe : Universe N S) (val : Values)
     (loaded : List (Requirement × Vec (Vec ℕ A) A)) (r : Requirement) (f : Frontier) →
     AreUnionSetsKnown universe → knows_requirement universe r ≡ true →
-    state_of val (loaded_rows universe loaded r) ≡ Undecided f →
-    universe.knows_set f.set ≡ true
+    state_of val (loaded_rows universe loaded r) ≡ Undecided f → universe.knows_set f.set ≡ true
 undecided-known universe val loaded r f unions known e =
     let rs : List Row = loaded_rows universe loaded r in
     go (has_true_row val rs) (frontier val rs)
@@ -315,8 +292,7 @@ undecided-known universe val loaded r f unions known e =
     (sets_known universe unions r known)) e
   where
     go : (t : Bool) (o : Option Frontier) → IfSome o (λ g. universe.knows_set g.set ≡ true) →
-        cond t Met (unmet_state o) ≡ Undecided f →
-        universe.knows_set f.set ≡ true
+        cond t Met (unmet_state o) ≡ Undecided f → universe.knows_set f.set ≡ true
     go true o h e = let bad : Met ≡ Undecided f = e in cc
     go false None h e = let bad : AllFalse ≡ Undecided f = e in cc
     go false (Some g) h e = let same : Undecided g ≡ Undecided f = e in let eq : g ≡ f = cc in

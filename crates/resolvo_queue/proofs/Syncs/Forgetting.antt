@@ -5,20 +5,13 @@ use Rattle.std.proofs.Common.{List, [], ◌∷◌, ◌++◌, take, length, get_o
 use Rattle.std.proofs.Common.{slice_get, Result, Ok, Err, OnOk, sym, ap, refl, ◌∙◌, subst, arith}
 use Rattle.std.proofs.Math.Seq.{drop-length}
 use Rattle.std.proofs.lemmas.List.{take_more, map-append}
-use Rattle.decisions.specs.declared.decision.Decision.{Decision}
-use Rattle.providers.specs.Requirement.{same_requirement}
-use Rattle.providers.specs.declared.requirement.Requirement.{Requirement}
-use Rattle.resolvo_queue.specs.declared.offer.Frontier.{Frontier}
-use Rattle.resolvo_queue.specs.Rows.ByVariable.{list_at}
-use Rattle.resolvo_queue.specs.Members.{Stands, here, there}
-use Rattle.resolvo_queue.specs.Routing.Possible.{Known}
-use Rattle.resolvo_queue.specs.Parts.Queued.{Queued, GrowsBy, IsOfClause, AreWoken}
-use Rattle.resolvo_queue.specs.Parts.Records.{Record, walk_of, clauses_in, known_at, clauses_at}
-use Rattle.resolvo_queue.specs.Parts.Records.{IsPlaceOf, HasNoPlace, updated_at, forgotten}
-use Rattle.resolvo_queue.specs.Routing.{OnlyForgets, ForgetsAmong, Unrouted, AreUnknown}
-use Rattle.resolvo_queue.specs.Routing.{WakesForgotten, Routes, Ways, variables_of}
+use Rattle.std.proofs.lemmas.Option.{slice_get_within}
+use Rattle.resolvo_queue.proofs.Words.{AreUnknown, AreWoken, clauses_at, clauses_in, Decision, ForgetsAmong, forgotten}
+use Rattle.resolvo_queue.proofs.Words.{Frontier, GrowsBy, HasNoPlace, here, IsOfClause, IsPlaceOf, Known, known_at}
+use Rattle.resolvo_queue.proofs.Words.{list_at, OnlyForgets, Queued, Record, Requirement, Routes, same_requirement}
+use Rattle.resolvo_queue.proofs.Words.{Stands, there, Unrouted, updated_at, variables_of, WakesForgotten, walk_of, Ways}
 use Rattle.resolvo_queue.proofs.Rows.Occurrences.{same_self}
-use Rattle.resolvo_queue.proofs.Lists.{read_stands, same_or_not, same_some}
+use Rattle.resolvo_queue.proofs.Lists.{append_left, append_right, read_stands, same_or_not, same_some, stands_append, stands_cases}
 use Rattle.resolvo_queue.proofs.Syncs.Queued.{woken_stays, grows_none, grows_both}
 use Rattle.resolvo_queue.proofs.Clauses.Records.{was_at, is_at_place, is_elsewhere}
 
@@ -28,13 +21,8 @@ only_one P r q (there s) p = elim s [ ]
 
 -- ---- one requirement
 
-pub within_records : (ts : List Record) (k : ℕ) (t : Record) → slice_get ts k ≡ Some t → k < length ts
-within_records [] k t e = cc
-within_records (x ∷ xs) zero t e = omega arith
-within_records (x ∷ xs) (suc k) t e = let h : k < length xs = within_records xs k t e in omega arith
-
 pub place_within : (ts : List Record) (r : Requirement) (k : ℕ) → IsPlaceOf ts r k → k < length ts
-place_within ts r k p = within_records ts k p.0 p.1
+place_within ts r k p = slice_get_within ts k p.0 p.1
 
 pub forgets_only : (ts : List Record) (p : ℕ) → OnlyForgets ts (updated_at forgotten ts p)
 forgets_only [] p k = inl refl
@@ -55,8 +43,7 @@ module _ (ts : List Record) (r : Requirement) (p : ℕ) (at : IsPlaceOf ts r p)
       unknown : IsPlaceOf (updated_at forgotten ts p) r k → known_at (updated_at forgotten ts p) k ≡ None
       unknown n =
           let m = was_at forgotten ts p k n.0 n.1 in
-          let same : n.0.requirement ≡ m.0.requirement =
-          elim m.2 [
+          let same : n.0.requirement ≡ m.0.requirement = elim m.2 [
             | inl e ↦ ap (λ (x : Record). x.requirement) e
             | inr e ↦ ap (λ (x : Record). x.requirement) e.0
           ] in
@@ -104,23 +91,32 @@ module _ (w : Ways) (ts : List Record) (p : ℕ) (q : Queued) where
 
 -- ---- one after another
 
+-- what a record and the one that is forgotten have in common stays
+pub unforgotten : {P : Type 0} (f : Option Record → P) → ((t : Record) → f (Some (forgotten t)) ≡ f (Some t)) →
+    (o n : Option Record) → ((n ≡ o) ⊎ (n ≡ option_map forgotten o)) → f n ≡ f o
+unforgotten f same o n (inl e) = ap f e
+unforgotten f same None n (inr e) = ap f e
+unforgotten f same (Some t) n (inr e) = ap f e ∙ same t
+
 known_after : (o n : Option Record) → ((n ≡ o) ⊎ (n ≡ option_map forgotten o)) →
     (walk_of n ≡ walk_of o) ⊎ (walk_of n ≡ None)
 known_after o n (inl e) = inl (ap walk_of e)
 known_after None n (inr e) = inl (ap walk_of e)
 known_after (Some t) n (inr e) = inr (ap walk_of e)
 
-clauses_after : (o n : Option Record) → ((n ≡ o) ⊎ (n ≡ option_map forgotten o)) → clauses_in n ≡ clauses_in o
-clauses_after o n (inl e) = ap clauses_in e
-clauses_after None n (inr e) = ap clauses_in e
-clauses_after (Some t) n (inr e) = ap clauses_in e
-
 pub known_only_forgotten : (a b : List Record) → OnlyForgets a b → (k : ℕ) →
     (known_at b k ≡ known_at a k) ⊎ (known_at b k ≡ None)
 known_only_forgotten a b f k = known_after (slice_get a k) (slice_get b k) (f k)
 
 pub clauses_stay : (a b : List Record) → OnlyForgets a b → (k : ℕ) → clauses_at b k ≡ clauses_at a k
-clauses_stay a b f k = clauses_after (slice_get a k) (slice_get b k) (f k)
+clauses_stay a b f k = unforgotten clauses_in (λ t. refl) (slice_get a k) (slice_get b k) (f k)
+
+-- a record stays that of its requirement
+pub placed_after : (a b : List Record) → OnlyForgets a b → (r : Requirement) (k : ℕ) → IsPlaceOf a r k → IsPlaceOf b r k
+placed_after a b f r k m = elim (f k) [
+  | inl e ↦ (m.0, e ∙ m.1, m.2)
+  | inr e ↦ (forgotten m.0, e ∙ ap (option_map forgotten) m.1, m.2)
+]
 
 twice_forgotten : (o : Option Record) → option_map forgotten (option_map forgotten o) ≡ option_map forgotten o
 twice_forgotten None = refl
@@ -130,14 +126,13 @@ pub forgets_none : (a : List Record) → OnlyForgets a a
 forgets_none a k = inl refl
 
 pub forgets_both : (a b c : List Record) → OnlyForgets a b → OnlyForgets b c → OnlyForgets a c
-forgets_both a b c f g k =
-    elim (g k) [
-      | inl e ↦ elim (f k) [ inl d ↦ inl (e ∙ d) | inr d ↦ inr (e ∙ d) ]
-      | inr e ↦ elim (f k) [
-        | inl d ↦ inr (e ∙ ap (option_map forgotten) d)
-        | inr d ↦ inr (e ∙ (ap (option_map forgotten) d ∙ twice_forgotten (slice_get a k)))
-      ]
-    ]
+forgets_both a b c f g k = elim (g k) [
+  | inl e ↦ elim (f k) [ inl d ↦ inl (e ∙ d) | inr d ↦ inr (e ∙ d) ]
+  | inr e ↦ elim (f k) [
+    | inl d ↦ inr (e ∙ ap (option_map forgotten) d)
+    | inr d ↦ inr (e ∙ (ap (option_map forgotten) d ∙ twice_forgotten (slice_get a k)))
+  ]
+]
 
 was_place : (a b : List Record) → OnlyForgets a b → (r : Requirement) (k : ℕ) → IsPlaceOf b r k → IsPlaceOf a r k
 was_place a b f r k p = go (slice_get a k) refl (f k)
@@ -162,19 +157,10 @@ unknown_stays rs a b f u r s k place =
 
 pub unknown_more : (rs : List Requirement) (q : Requirement) (a : List Record) → AreUnknown rs a →
     AreUnknown (q ∷ []) a → AreUnknown (rs ++ q ∷ []) a
-unknown_more rs q a u w r s k place =
-    by rs s (λ t. u r t k place) (λ e. w r (subst (λ x. Stands x (q ∷ [])) (sym e) here) k place)
-  where
-    by : (xs : List Requirement) → Stands r (xs ++ q ∷ []) → (Stands r xs → known_at a k ≡ None) →
-        (r ≡ q → known_at a k ≡ None) → known_at a k ≡ None
-    by xs t f g = split xs r q t f g
-      where
-        split : (ys : List Requirement) (x y : Requirement) → Stands x (ys ++ y ∷ []) →
-            (Stands x ys → known_at a k ≡ None) → (x ≡ y → known_at a k ≡ None) → known_at a k ≡ None
-        split [] x y here f g = g refl
-        split [] x y (there t) f g = elim t [ ]
-        split (z ∷ zs) x y here f g = f here
-        split (z ∷ zs) x y (there t) f g = split zs x y t (λ m. f (there m)) g
+unknown_more rs q a u w r s k place = elim (stands_cases rs q r s) [
+  | inl t ↦ u r t k place
+  | inr e ↦ w r (subst (λ x. Stands x (q ∷ [])) (sym e) here) k place
+]
 
 module _ (w : Ways) where
   pub wakes_none : (a : List Record) (q : Queued) → WakesForgotten w a a q
@@ -185,30 +171,19 @@ module _ (w : Ways) where
 
   pub wakes_both : (a b c : List Record) (q p : Queued) → OnlyForgets a b → GrowsBy (IsOfClause w.clauses) q p →
       WakesForgotten w a b q → WakesForgotten w b c p → WakesForgotten w a c p
-  wakes_both a b c q p f g first second k was is =
-      elim (known_only_forgotten a b f k) [
-        | inl e ↦ subst (λ ns. AreWoken w.clauses w.val ns p) (clauses_stay a b f k) (second k (e ∙ was) is)
-        | inr e ↦ woken_stays w.clauses (IsOfClause w.clauses) w.val (clauses_at a k) q p g (first k was e)
-      ]
+  wakes_both a b c q p f g first second k was is = elim (known_only_forgotten a b f k) [
+    | inl e ↦ subst (λ ns. AreWoken w.clauses w.val ns p) (clauses_stay a b f k) (second k (e ∙ was) is)
+    | inr e ↦ woken_stays w.clauses (IsOfClause w.clauses) w.val (clauses_at a k) q p g (first k was e)
+  ]
 
 -- a loop's step
 pub step_unknown : (listed : List Requirement) (i : ℕ) (d : Requirement) → i < length listed →
     (before now : List Record) → OnlyForgets before now →
     AreUnknown (take i listed) before → AreUnknown (get_or listed i d ∷ []) now → AreUnknown (take (i + 1) listed) now
-step_unknown listed i d within before now more u w =
-    subst (λ rs. AreUnknown rs now) (sym (take_more listed i d within))
+step_unknown listed i d within before now more u w = subst (λ rs. AreUnknown rs now) (sym (take_more listed i d within))
     (unknown_more (take i listed) (get_or listed i d) now (unknown_stays (take i listed) before now more u) w)
 
 -- ---- routing variables
-
-pub in_first : (vs ws : List ℕ) (v : ℕ) → Stands v vs → Stands v (vs ++ ws)
-in_first [] ws v s = elim s [ ]
-in_first (x ∷ xs) ws v here = here
-in_first (x ∷ xs) ws v (there s) = there (in_first xs ws v s)
-
-pub in_second : (vs ws : List ℕ) (v : ℕ) → Stands v ws → Stands v (vs ++ ws)
-in_second [] ws v s = s
-in_second (x ∷ xs) ws v s = there (in_second xs ws v s)
 
 module _ (w : Ways) where
   pub routes_none : (ts : List Record) (q : Queued) → Routes w [] ts ts q q
@@ -227,28 +202,23 @@ module _ (w : Ways) where
   routes_both vs us a b c q p r f g = record {
     grows = grows_both (IsOfClause w.clauses) q p r f.grows g.grows;
     only = forgets_both a b c f.only g.only;
-    parents = λ v s. elim (which vs v s) [
+    parents = λ v s. elim (stands_append vs us v s) [
       | inl x ↦ woken_stays w.clauses (IsOfClause w.clauses) w.val (list_at w.by_parent v) p r g.grows (f.parents v x)
       | inr y ↦ g.parents v y
     ];
-    conditions = λ v s. elim (which vs v s) [
+    conditions = λ v s. elim (stands_append vs us v s) [
       | inl x ↦ (λ e. woken_stays w.clauses (IsOfClause w.clauses) w.val (list_at w.by_condition v) p r g.grows
           (f.conditions v x e))
       | inr y ↦ g.conditions v y
     ];
-    unknown = λ v s. elim (which vs v s) [
+    unknown = λ v s. elim (stands_append vs us v s) [
       | inl x ↦ unknown_stays (w.requirements v) b c g.only (f.unknown v x)
       | inr y ↦ g.unknown v y
     ];
     woken = wakes_both w a b c p r f.only g.grows f.woken g.woken;
-    others = λ k t e h. g.others k t (f.others k t e (λ v s. h v (in_first vs us v s))) (λ v s.
-        h v (in_second vs us v s));
+    others = λ k t e h. g.others k t (f.others k t e (λ v s. h v (append_left vs us v s))) (λ v s.
+        h v (append_right vs us v s));
   }
-    where
-      which : (xs : List ℕ) (v : ℕ) → Stands v (xs ++ us) → Stands v xs ⊎ Stands v us
-      which [] v s = inr s
-      which (x ∷ xs) v here = inl here
-      which (x ∷ xs) v (there s) = elim (which xs v s) [ inl t ↦ inl (there t) | inr t ↦ inr t ]
 
   -- one variable
   pub routes_one : {T E : Type 0} (result : Result T E) (v : ℕ) (ts ts' : List Record) (q0 q1 q2 q3 : Queued) →
@@ -266,8 +236,7 @@ module _ (w : Ways) where
         (woken_stays w.clauses (IsOfClause w.clauses) w.val (list_at w.by_parent v) q1 q3
         (grows_both (IsOfClause w.clauses) q1 q2 q3 g h) by_p);
     conditions = λ a s. just (λ b. is_some (w.val b) ≡ true → AreWoken w.clauses w.val (list_at w.by_condition b) q3)
-        v a s
-        (λ e. woken_stays w.clauses (IsOfClause w.clauses) w.val (list_at w.by_condition v) q2 q3 h (by_c e));
+        v a s (λ e. woken_stays w.clauses (IsOfClause w.clauses) w.val (list_at w.by_condition v) q2 q3 h (by_c e));
     unknown = λ a s. just (λ b. AreUnknown (w.requirements b) ts') v a s u;
     woken = y;
     others = λ k t e n. m k t e (n v here);
@@ -282,8 +251,7 @@ module _ (w : Ways) where
       (a b c : List Record) (q p r : Queued) →
       Routes w (variables_of (take i ds)) a b q p → Routes w (d.variable ∷ []) b c p r →
       Routes w (variables_of (take (i + 1) ds)) a c q r
-  step_routes ds i d within read a b c q p r f g =
-      subst (λ vs. Routes w vs a c q r)
+  step_routes ds i d within read a b c q p r f g = subst (λ vs. Routes w vs a c q r)
       (sym (ap variables_of (take_more ds i d within ∙ ap (λ x. take i ds ++ x ∷ []) (sym read)) ∙
       map-append (λ (x : Decision). x.variable) (take i ds) (d ∷ [])))
       (routes_both (variables_of (take i ds)) (d.variable ∷ []) a b c q p r f g)
@@ -335,8 +303,7 @@ pub unrouted_one : (listing : ℕ → List Requirement) (v : ℕ) (a b : List Re
 unrouted_one listing v a b f k t e h = f k t e (h v here)
 
 pub unrouted_more : (listing : ℕ → List Requirement) (vs ws : List ℕ) → ((v : ℕ) → Stands v ws → Stands v vs) →
-    (a b c : List Record) →
-    Unrouted listing vs a b → Unrouted listing ws b c → Unrouted listing vs a c
+    (a b c : List Record) → Unrouted listing vs a b → Unrouted listing ws b c → Unrouted listing vs a c
 unrouted_more listing vs ws within a b c f g k t e h = g k t (f k t e h) (λ v s. h v (within v s))
 
 pub unrouted_along : (listing : ℕ → List Requirement) (vs ws : List ℕ) → ((v : ℕ) → Stands v vs → Stands v ws) →
@@ -360,7 +327,6 @@ variable_read ds i d less read v s = just d.variable v s
 
 pub variables_taken : (ds : List Decision) (i : ℕ) (v : ℕ) → Stands v (variables_of (take i ds)) →
     Stands v (variables_of ds)
-variables_taken ds i v s =
-    subst (λ xs. Stands v (variables_of xs)) (take-append-drop i ds)
+variables_taken ds i v s = subst (λ xs. Stands v (variables_of xs)) (take-append-drop i ds)
     (subst (Stands v) (sym (map-append (λ (x : Decision). x.variable) (take i ds) (drop i ds)))
-    (in_first (variables_of (take i ds)) (variables_of (drop i ds)) v s))
+    (append_left (variables_of (take i ds)) (variables_of (drop i ds)) v s))

@@ -4,21 +4,13 @@ use Rattle.std.proofs.Common.{List, [], ◌∷◌, length, map, set, get_or, tak
 use Rattle.std.proofs.Common.{Result, Ok, Err, OnOk, OnErr, slice_get, sym, ap, refl, ◌∙◌, subst, arith}
 use Rattle.std.proofs.lemmas.List.{take_more}
 use Rattle.std.proofs.lemmas.Option.{slice_get_within}
-use Rattle.resolvo_queue.specs.Rows.ByVariable.{list_at}
-use Rattle.resolvo_queue.specs.Pick.Inspection.{clause_of}
-use Rattle.resolvo_queue.specs.Members.{Stands}
-use Rattle.resolvo_queue.specs.Scan.Positions.{has, same_position}
-use Rattle.resolvo_queue.specs.Parts.Queued.{Queued, GrowsBy, IsOfClause, HaveNumbers, heated}
-use Rattle.resolvo_queue.specs.Pick.Ready.{AreLocated, at_position}
-use Rattle.resolvo_queue.specs.Scan.Order.{first_from}
-use Rattle.resolvo_queue.specs.Parts.Records.{IsPlaceOf, clauses_at}
-use Rattle.resolvo_queue.specs.Parts.Tracking.{Tracking, HasNoClause, IsFirstOf, IsInOrder, Heats}
-use Rattle.resolvo_queue.specs.declared.tracked_clause.Position.{Position}
-use Rattle.resolvo_queue.specs.declared.tracked_clause.TrackedClause.{TrackedClause}
+use Rattle.resolvo_queue.proofs.Words.{AreLocated, at_position, clause_of, clauses_at, first_from, GrowsBy, has}
+use Rattle.resolvo_queue.proofs.Words.{HasNoClause, heated, Heats, IsFirstOf, IsInOrder, IsOfClause, IsPlaceOf, list_at}
+use Rattle.resolvo_queue.proofs.Words.{Position, Queued, same_position, Stands, TrackedClause, Tracking}
 use Rattle.resolvo_queue.proofs.Syncs.HotClause.{heated_synced, set_or_elsewhere}
-use Rattle.resolvo_queue.proofs.Syncs.Queued.{added_grows, read_at}
-use Rattle.resolvo_queue.proofs.Clauses.Numbers.{stands_cases}
-use Rattle.resolvo_queue.proofs.Lists.{same_some}
+use Rattle.resolvo_queue.proofs.Syncs.Queued.{added_grows, queued_stays, read_at}
+use Rattle.resolvo_queue.proofs.Lists.{same_some, stands_cases}
+use Rattle.resolvo_queue.proofs.Clauses.Counts.{own_number}
 
 -- ---- clauses that are the same but for their heat
 
@@ -79,9 +71,7 @@ module _ (old now : Tracking) (same : SameButHeat now.clauses old.clauses) (same
   still_located located n c is =
       let d = origin n c is in
       let parents : c.parent ≡ d.0.parent = ap (λ (x : TrackedClause). x.parent) d.2 in
-      ap (λ (x : TrackedClause). x.position) d.2
-      ∙ (located n d.0 d.1
-      ∙ ap (λ m. at_position m n)
+      ap (λ (x : TrackedClause). x.position) d.2 ∙ (located n d.0 d.1 ∙ ap (λ m. at_position m n)
       (sym (same_first now.clauses old.clauses same c.parent ∙
       ap (first_from (λ (x : TrackedClause). x.parent) 0 old.clauses) parents)))
 
@@ -158,9 +148,6 @@ heats_both a b c f g = record {
 
 -- ---- one clause
 
-numbered : (cs : List TrackedClause) → AreLocated cs → HaveNumbers cs
-numbered cs located n c is = ap (λ (p : Position). p.number) (located n c is)
-
 set_itself : (cs : List TrackedClause) (n : ℕ) (c : TrackedClause) → slice_get cs n ≡ Some c → set cs n c ≡ cs
 set_itself [] n c is = refl
 set_itself (x ∷ xs) zero c is = ap (λ y. y ∷ xs) (sym (same_some x c is))
@@ -175,7 +162,7 @@ set_heated (x ∷ xs) (suc n) c is = ap (λ ys. heated x ∷ ys) (set_heated xs 
 module _ (t : Tracking) (n : ℕ) (c : TrackedClause) (is : slice_get t.clauses n ≡ Some c) (q : Queued)
     (grows : GrowsBy (λ p. same_position c.position p ≡ true) t.queued q) where
   of_clauses : IsInOrder t → GrowsBy (IsOfClause t.clauses) t.queued q
-  of_clauses order = added_grows t.clauses (numbered t.clauses order.located) n c is t.queued q grows
+  of_clauses order = added_grows t.clauses (own_number t.clauses order.located) n c is t.queued q grows
 
   -- the clause stays as it was
   heats_left : Heats t (record t { queued = q })
@@ -189,8 +176,7 @@ module _ (t : Tracking) (n : ℕ) (c : TrackedClause) (is : slice_get t.clauses 
     occurrences = refl;
     finds = λ literals same m d at. (d, at, refl);
     synced = λ literals rows_of val counted same_literals same_counted s. record {
-      all = λ d reg e. grows.all_kept d.position (s.all d reg e);
-      hot = λ d reg e. grows.hot_kept d.position (s.hot d reg e);
+      queued = λ m d at e. queued_stays (λ p. same_position c.position p ≡ true) t.queued q d grows (s.queued m d at e);
       right = s.right;
     };
   }
@@ -233,14 +219,12 @@ module _ (t : Tracking) (n : ℕ) (c c' : TrackedClause) (within : n < length t.
     (read : c ≡ get_or t.clauses n c) (q : Queued)
     (grows : GrowsBy (λ p. same_position c.position p ≡ true) t.queued q) {T E : Type 0} where
   pub heats_read : (res : Result T E) → OnOk res (has t.queued.all c.position ≡ true → has q.hot c.position ≡ true) →
-      OnOk res (c' ≡ heated c) → OnErr res (c' ≡ c) →
-      Heats t (record t { clauses = set t.clauses n c'; queued = q })
+      OnOk res (c' ≡ heated c) → OnErr res (c' ≡ c) → Heats t (record t { clauses = set t.clauses n c'; queued = q })
   heats_read (Ok x) into hot same = heats_one t n c (read_at t.clauses n c within read) q grows c' (inr (hot, into))
   heats_read (Err x) into hot same = heats_one t n c (read_at t.clauses n c within read) q grows c' (inl same)
 
 pub hot_read : {T E : Type 0} (cs : List TrackedClause) (n : ℕ) (c c' : TrackedClause) (res : Result T E) →
-    OnOk res (c' ≡ heated c) →
-    OnOk res ((d : TrackedClause) → slice_get (set cs n c') n ≡ Some d → d.is_hot ≡ true)
+    OnOk res (c' ≡ heated c) → OnOk res ((d : TrackedClause) → slice_get (set cs n c') n ≡ Some d → d.is_hot ≡ true)
 hot_read cs n c c' (Ok x) hot = λ d is. elim (set_or_elsewhere cs n c' n d is) [
   | inl new ↦ ap (λ (y : TrackedClause). y.is_hot) (sym new.0 ∙ hot)
   | inr was ↦ absurd (was.1 refl)

@@ -2,18 +2,13 @@
 use Rattle.std.proofs.Common.{◌≡◌, ℕ, zero, suc, ◌+◌, ◌<◌, Bool, true, false, ◌⊎◌, inl, inr, List, [], ◌∷◌}
 use Rattle.std.proofs.Common.{◌++◌, drop, take, length, get_or, None, Some, Result, Ok, Err, OnOk, slice_get, sym}
 use Rattle.std.proofs.Common.{ap, ap₂, refl, ◌∙◌, subst, arith, nat_cmp, is_eq, ltb, ltb-true, ltb-false, ◌≤◌}
-use Rattle.std.specs.Cmp.{IsTotalOrder, nat_cmp_total}
-use Rattle.std.specs.Ordering.{ordering_then}
 use Rattle.std.proofs.lemmas.Bool.Decides.{nat_tests}
 use Rattle.std.proofs.lemmas.Cmp.{on_total, then_total}
 use Rattle.std.proofs.lemmas.List.{take_more}
-use Rattle.decisions.specs.Literals.{Values, known_true}
-use Rattle.resolvo_queue.specs.Members.{Stands, here, there}
-use Rattle.resolvo_queue.specs.Scan.Positions.{position_cmp, same_position}
-use Rattle.resolvo_queue.specs.Parts.Queued.{Queued, IsQueued, GrowsBy, IsOfClause, AreWoken, HaveNumbers, IsWoken}
-use Rattle.resolvo_queue.specs.declared.tracked_clause.Position.{Position}
-use Rattle.resolvo_queue.specs.declared.tracked_clause.TrackedClause.{TrackedClause}
-use Rattle.resolvo_queue.proofs.Lists.{same_some}
+use Rattle.resolvo_queue.proofs.Words.{AreWoken, GrowsBy, HaveNumbers, IsOfClause, IsQueued, IsTotalOrder, IsWoken}
+use Rattle.resolvo_queue.proofs.Words.{known_true, nat_cmp_total, ordering_then, Position, position_cmp, Queued}
+use Rattle.resolvo_queue.proofs.Words.{same_position, there, TrackedClause, Values}
+use Rattle.resolvo_queue.proofs.Lists.{same_some, stands_cases}
 
 -- ---- positions
 
@@ -84,13 +79,7 @@ module _ (clauses : List TrackedClause) where
       ((c : TrackedClause) → slice_get clauses m ≡ Some c → known_true (val c.parent) ≡ true → IsQueued q c) →
       AreWoken clauses val (ns ++ m ∷ []) q
   woken_more val ns m q w here_too n c s e t =
-      elim (last_or_before ns n m s) [ inl b ↦ w n c b e t | inr i ↦ here_too c (ap (slice_get clauses) (sym i) ∙ e) t ]
-    where
-      last_or_before : (xs : List ℕ) (x y : ℕ) → Stands x (xs ++ y ∷ []) → Stands x xs ⊎ (x ≡ y)
-      last_or_before [] x y here = inr refl
-      last_or_before [] x y (there s) = elim s [ ]
-      last_or_before (z ∷ zs) x y here = inl here
-      last_or_before (z ∷ zs) x y (there s) = elim (last_or_before zs x y s) [ inl b ↦ inl (there b) | inr e ↦ inr e ]
+      elim (stands_cases ns m n s) [ inl b ↦ w n c b e t | inr i ↦ here_too c (ap (slice_get clauses) (sym i) ∙ e) t ]
 
 -- what was read at a place within the list is there
 pub read_at : {X : Type 0} (xs : List X) (n : ℕ) (x : X) → n < length xs → x ≡ get_or xs n x → slice_get xs n ≡ Some x
@@ -124,8 +113,7 @@ module _ (clauses : List TrackedClause) (numbered : HaveNumbers clauses) (val : 
   all_grow = grows_both (IsOfClause clauses) begin before now so_far this_grows
 
   pub all_woken : (first : ℕ) → ((n : ℕ) (d : TrackedClause) → first ≤ n → n < i → slice_get clauses n ≡ Some d →
-      known_true (val d.parent) ≡ true → IsQueued before d) →
-      (known_true (val c.parent) ≡ true → IsQueued now c) →
+      known_true (val d.parent) ≡ true → IsQueued before d) → (known_true (val c.parent) ≡ true → IsQueued now c) →
       (n : ℕ) (d : TrackedClause) → first ≤ n → n < i + 1 → slice_get clauses n ≡ Some d →
       known_true (val d.parent) ≡ true → IsQueued now d
   all_woken first w own n d from less e t = go (ltb n i) refl
@@ -142,15 +130,13 @@ module _ (clauses : List TrackedClause) (numbered : HaveNumbers clauses) (val : 
 pub number_grows : (clauses : List TrackedClause) → HaveNumbers clauses → (n : ℕ) (c : TrackedClause) →
     Some c ≡ slice_get clauses n → (a b : Queued) →
     GrowsBy (λ p. same_position c.position p ≡ true) a b → GrowsBy (IsOfClause clauses) a b
-number_grows clauses numbered n c e a b g =
-    grows_along (λ p. same_position c.position p ≡ true)
+number_grows clauses numbered n c e a b g = grows_along (λ p. same_position c.position p ≡ true)
     (IsOfClause clauses) (λ p s. of_clause clauses numbered n c (sym e) p s) a b g
 
 pub number_woken : {T E : Type 0} (clauses : List TrackedClause) (val : Values) (n : ℕ) (c : TrackedClause) (q : Queued)
     (res : Result T E) → Some c ≡ slice_get clauses n →
     OnOk res (known_true (val c.parent) ≡ true → IsQueued q c) → OnOk res (IsWoken clauses val n q)
-number_woken clauses val n c q (Ok x) e w = λ d s t.
-    (let same : c ≡ d = same_some c d (e ∙ s) in
+number_woken clauses val n c q (Ok x) e w = λ d s t. (let same : c ≡ d = same_some c d (e ∙ s) in
     subst (IsQueued q) same (w (ap (λ (y : TrackedClause). known_true (val y.parent)) same ∙ t)))
 number_woken clauses val n c q (Err x) e w = tt
 

@@ -3,12 +3,9 @@ use Rattle.std.proofs.Common.{◌≡◌, ℕ, zero, suc, ◌+◌, ◌≤◌, Boo
 use Rattle.std.proofs.Common.{inr, List, [], ◌∷◌, ◌++◌, Option, Some, None, is_some}
 use Rattle.std.proofs.Common.{slice_get, sym, ap, ap₂, refl, ◌∙◌, subst, arith, append_assoc}
 use Rattle.std.proofs.lemmas.List.Sums.{sum_by-append}
-use Rattle.providers.specs.Requirement.{same_requirement}
-use Rattle.providers.specs.declared.requirement.Requirement.{Requirement}
-use Rattle.resolvo_queue.specs.Occurrences.{times}
-use Rattle.resolvo_queue.specs.Parts.Records.{Record, IsPlaceOf, known_at, owed_of, updated_at, walk_of, walked}
-use Rattle.resolvo_queue.specs.WalkCounts.{WalksOnce, is_known, owed_in, record_of, walks_in, walks_of}
-use Rattle.resolvo_queue.specs.declared.offer.Frontier.{Frontier}
+use Rattle.resolvo_queue.proofs.Words.{Frontier, is_known, IsPlaceOf, known_at, owed_in, owed_of, Record, record_of}
+use Rattle.resolvo_queue.proofs.Words.{Requirement, same_requirement, times, updated_at, walk_of, walked, walks_in}
+use Rattle.resolvo_queue.proofs.Words.{walks_of, WalksOnce}
 use Rattle.resolvo_queue.proofs.Rows.Occurrences.{same_is, same_self}
 use Rattle.resolvo_queue.proofs.Lists.{same_some, differ}
 
@@ -102,8 +99,7 @@ module _ (f : Record → Record) (keeps : (t : Record) → (f t).requirement ≡
         ap (λ b. cond b (Some (f x)) (record_of xs r)) (ap (same_requirement r) (keeps x) ∙ own),
         refl,
       )
-  record_here (x ∷ xs) (suc place) r at only =
-      go (same_requirement r x.requirement) refl
+  record_here (x ∷ xs) (suc place) r at only = go (same_requirement r x.requirement) refl
       (record_here xs place r at (λ k p. (let later : suc k ≡ suc place = only (suc k) p in omega (arith, later))))
     where
       go : (b : Bool) → same_requirement r x.requirement ≡ b →
@@ -122,8 +118,7 @@ module _ (f : Record → Record) (keeps : (t : Record) → (f t).requirement ≡
 
   -- all others stay
   record_elsewhere : (ts : List Record) (place : ℕ) (r q : Requirement) → IsPlaceOf ts r place →
-      same_requirement q r ≡ false →
-      record_of (updated_at f ts place) q ≡ record_of ts q
+      same_requirement q r ≡ false → record_of (updated_at f ts place) q ≡ record_of ts q
   record_elsewhere [] place r q at other = refl
   record_elsewhere (x ∷ xs) zero r q at other =
       let is : x ≡ at.0 = same_some x at.0 at.1 in
@@ -163,8 +158,7 @@ module _ (r : Requirement) (place : ℕ) (answer : Option Frontier) (ts : List R
         omega (arith, none, same)));
     owed = own_or_other r (λ q. owed_in now q ≡ owed_in ts q)
         (ap owed_of here.2 ∙ (owes here.0 (ap (λ o. is_some (walk_of o)) (sym here.1) ∙ nothing) ∙
-        sym (ap owed_of here.1)))
-        (λ q e. ap owed_of (record_elsewhere (walked answer) (λ t. refl) ts place r q at e));
+        sym (ap owed_of here.1))) (λ q e. ap owed_of (record_elsewhere (walked answer) (λ t. refl) ts place r q at e));
     unknown = own_or_other r (λ q. 1 ≤ times (r ∷ []) q → is_known ts q ≡ false) (λ h. nothing)
         (λ q e h. absurd (let none = alone r q false e in omega (arith, none, h)));
     known = own_or_other r (λ q. 1 ≤ times (r ∷ []) q →

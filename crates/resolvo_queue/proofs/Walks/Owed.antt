@@ -2,25 +2,17 @@
 use Rattle.std.proofs.Common.{◌≡◌, ℕ, zero, suc, ◌+◌, ◌≤◌, ◌<◌, min, Bool, true, false, cond, ltb, ◌⊎◌, inl, inr}
 use Rattle.std.proofs.Common.{List, [], ◌∷◌, ◌++◌, flat_map, drop, length, take, Option, Some, None, option_map}
 use Rattle.std.proofs.Common.{is_some, slice_get, sym, ap, ap₂, refl, ◌∙◌, subst, arith, length-take}
-use Rattle.std.proofs.lemmas.Bool.{ltb-false, ltb-true}
 use Rattle.std.proofs.lemmas.List.{drop_all}
-use Rattle.typed_ids.specs.declared.version_set_id.VersionSetId.{VersionSetId}
-use Rattle.decisions.specs.declared.decision.Decision.{Decision}
-use Rattle.providers.specs.Provider.{sets_of}
-use Rattle.providers.specs.Requirement.{same_requirement}
-use Rattle.providers.specs.declared.requirement.Requirement.{Requirement}
-use Rattle.resolvo_queue.specs.Occurrences.{listing}
-use Rattle.resolvo_queue.specs.Members.{Stands, here, there}
-use Rattle.resolvo_queue.specs.Queue.{AgreesBelow, Queue, StandsOn}
-use Rattle.resolvo_queue.specs.Parts.RecordView.{IsCounted}
-use Rattle.resolvo_queue.specs.References.{IsWalkable, References, rows_in}
-use Rattle.resolvo_queue.specs.Routing.{OnlyForgets, Unrouted, variables_of}
-use Rattle.resolvo_queue.specs.Rows.{Row, candidates, list_rows, lists_loaded, rows}
-use Rattle.resolvo_queue.specs.Parts.Records.{GainsRecord, IsPlaceOf, Record, forgotten}
-use Rattle.resolvo_queue.specs.Parts.Records.{fresh, owed_of, updated_at, with_clause}
-use Rattle.resolvo_queue.specs.WalkCounts.{HasNoneOf, OwesFirst, changed_from, owed_in, record_of, walks_in, walks_of}
-use Rattle.resolvo_queue.proofs.Lists.{contains_if_stands, stands_if_contains, same_some}
+use Rattle.resolvo_queue.proofs.Words.{AgreesBelow, candidates, changed_from, Decision, forgotten, fresh, GainsRecord}
+use Rattle.resolvo_queue.proofs.Words.{HasNoneOf, here, IsCounted, IsPlaceOf, IsWalkable, list_rows, listing}
+use Rattle.resolvo_queue.proofs.Words.{lists_loaded, OnlyForgets, owed_in, owed_of, OwesFirst, Queue, Record, record_of}
+use Rattle.resolvo_queue.proofs.Words.{References, Requirement, Row, rows, same_requirement, sets_of, Stands, StandsOn}
+use Rattle.resolvo_queue.proofs.Words.{there, Unrouted, updated_at, variables_of, VersionSetId, walks_in, walks_of}
+use Rattle.resolvo_queue.proofs.Words.{with_clause}
+use Rattle.resolvo_queue.specs.References.{rows_in}
+use Rattle.resolvo_queue.proofs.Lists.{contains_if_stands, le_or_lt, same_some, stands_if_contains}
 use Rattle.resolvo_queue.proofs.Rows.Occurrences.{same_is, same_self}
+use Rattle.resolvo_queue.proofs.Syncs.Forgetting.{unforgotten}
 
 -- the walks stay, and at most one more is owed of each requirement
 pub record OwesOneMore (old now : List Record) : Type 0 where
@@ -39,64 +31,38 @@ record_last : (ts : List Record) (own : Requirement) (r : Requirement) →
     ((r ≡ own) × (record_of ts r ≡ None) × (record_of (ts ++ fresh own ∷ []) r ≡ Some (fresh own)))
 record_last [] own r = go (same_requirement r own) refl
   where
-    go : (b : Bool) → same_requirement r own ≡ b →
-        (record_of (fresh own ∷ []) r ≡ None) ⊎
-        ((r ≡ own) × (◌≡◌ {A = Option Record} None None) × (record_of (fresh own ∷ []) r ≡ Some (fresh own)))
-    go true e = inr (same_is r own e, refl, found_first (fresh own) [] r true e)
-    go false e = inl (found_first (fresh own) [] r false e)
-record_last (t ∷ ts) own r = go (same_requirement r t.requirement) refl (record_last ts own r)
+    go : (b : Bool) → same_requirement r own ≡ b → (cond b (Some (fresh own)) None ≡ None) ⊎
+        ((r ≡ own) × (◌≡◌ {A = Option Record} None None) × (cond b (Some (fresh own)) None ≡ Some (fresh own)))
+    go true e = inr (same_is r own e, refl, refl)
+    go false e = inl refl
+record_last (t ∷ ts) own r = go (same_requirement r t.requirement) (record_last ts own r)
   where
-    go : (b : Bool) → same_requirement r t.requirement ≡ b →
-        ((record_of (ts ++ fresh own ∷ []) r ≡ record_of ts r) ⊎
+    go : (b : Bool) → ((record_of (ts ++ fresh own ∷ []) r ≡ record_of ts r) ⊎
         ((r ≡ own) × (record_of ts r ≡ None) × (record_of (ts ++ fresh own ∷ []) r ≡ Some (fresh own)))) →
-        (record_of (t ∷ (ts ++ fresh own ∷ [])) r ≡ record_of (t ∷ ts) r)
-        ⊎ ((r ≡ own) × (record_of (t ∷ ts) r ≡ None) × (record_of (t ∷ (ts ++ fresh own ∷ [])) r ≡ Some (fresh own)))
-    go true e m = inl (found_first t (ts ++ fresh own ∷ []) r true e ∙ sym (found_first t ts r true e))
-    go false e (inl m) = inl (found_first t (ts ++ fresh own ∷ []) r false e ∙ (m ∙ sym (found_first t ts r false e)))
-    go false e (inr m) = inr (
-      m.0,
-      found_first t ts r false e ∙ m.1,
-      found_first t (ts ++ fresh own ∷ []) r false e ∙ m.2,
-    )
+        (cond b (Some t) (record_of (ts ++ fresh own ∷ []) r) ≡ cond b (Some t) (record_of ts r)) ⊎
+        ((r ≡ own) × (cond b (Some t) (record_of ts r) ≡ None) ×
+        (cond b (Some t) (record_of (ts ++ fresh own ∷ []) r) ≡ Some (fresh own)))
+    go true m = inl refl
+    go false m = m
 
--- the records are the same but for the numbers of clauses
-clause_entered : (number : ℕ) (ts : List Record) (place : ℕ) (r : Requirement) →
-    (walks_in (updated_at (with_clause number) ts place) r ≡ walks_in ts r) ×
-    (owed_in (updated_at (with_clause number) ts place) r ≡ owed_in ts r)
-clause_entered number [] place r = (refl, refl)
-clause_entered number (t ∷ ts) zero r = go (same_requirement r t.requirement) refl
+-- what is told of a record but by the numbers of clauses stays where one comes
+clause_entered : (number : ℕ) (f : Option Record → ℕ) →
+    ((t : Record) → f (Some (with_clause number t)) ≡ f (Some t)) → (ts : List Record) (place : ℕ) (r : Requirement) →
+    f (record_of (updated_at (with_clause number) ts place) r) ≡ f (record_of ts r)
+clause_entered number f same [] place r = refl
+clause_entered number f same (t ∷ ts) zero r = go (same_requirement r t.requirement)
   where
-    go : (b : Bool) → same_requirement r t.requirement ≡ b →
-        (walks_in (with_clause number t ∷ ts) r ≡ walks_in (t ∷ ts) r) ×
-        (owed_in (with_clause number t ∷ ts) r ≡ owed_in (t ∷ ts) r)
-    go true e = (
-      ap walks_of (found_first (with_clause number t) ts r true e) ∙ sym (ap walks_of (found_first t ts r true e)),
-      ap owed_of (found_first (with_clause number t) ts r true e) ∙ sym (ap owed_of (found_first t ts r true e)),
-    )
-    go false e = (
-      ap walks_of (found_first (with_clause number t) ts r false e) ∙ sym (ap walks_of (found_first t ts r false e)),
-      ap owed_of (found_first (with_clause number t) ts r false e) ∙ sym (ap owed_of (found_first t ts r false e)),
-    )
-clause_entered number (t ∷ ts) (suc place) r =
-    go (same_requirement r t.requirement) refl (clause_entered number ts place r)
+    go : (b : Bool) → f (cond b (Some (with_clause number t)) (record_of ts r)) ≡ f (cond b (Some t) (record_of ts r))
+    go true = same t
+    go false = refl
+clause_entered number f same (t ∷ ts) (suc place) r =
+    go (same_requirement r t.requirement) (clause_entered number f same ts place r)
   where
-    go : (b : Bool) → same_requirement r t.requirement ≡ b →
-        (walks_in (updated_at (with_clause number) ts place) r ≡ walks_in ts r) ×
-        (owed_in (updated_at (with_clause number) ts place) r ≡ owed_in ts r) →
-        (walks_in (t ∷ updated_at (with_clause number) ts place) r ≡ walks_in (t ∷ ts) r) ×
-        (owed_in (t ∷ updated_at (with_clause number) ts place) r ≡ owed_in (t ∷ ts) r)
-    go true e m = (
-      ap walks_of (found_first t (updated_at (with_clause number) ts place) r true e) ∙
-          sym (ap walks_of (found_first t ts r true e)),
-      ap owed_of (found_first t (updated_at (with_clause number) ts place) r true e) ∙
-          sym (ap owed_of (found_first t ts r true e)),
-    )
-    go false e m = (
-      ap walks_of (found_first t (updated_at (with_clause number) ts place) r false e) ∙
-          (m.0 ∙ sym (ap walks_of (found_first t ts r false e))),
-      ap owed_of (found_first t (updated_at (with_clause number) ts place) r false e) ∙
-          (m.1 ∙ sym (ap owed_of (found_first t ts r false e))),
-    )
+    go : (b : Bool) → f (record_of (updated_at (with_clause number) ts place) r) ≡ f (record_of ts r) →
+        f (cond b (Some t) (record_of (updated_at (with_clause number) ts place) r)) ≡
+        f (cond b (Some t) (record_of ts r))
+    go true h = refl
+    go false h = h
 
 -- a requirement with a record owes a walk at least, or was walked
 pub owes_placed : (ts : List Record) (r : Requirement) (k : ℕ) → IsPlaceOf ts r k →
@@ -121,8 +87,7 @@ owes_placed (x ∷ xs) r k p counted =
 
     later : (j : ℕ) → IsPlaceOf (x ∷ xs) r j → same_requirement r x.requirement ≡ false →
         ((i : ℕ) → IsPlaceOf xs r i → 1 ≤ owed_in xs r) → 1 ≤ owed_in xs r
-    later zero q e rest =
-        absurd (differ (sym e ∙ (ap (same_requirement r)
+    later zero q e rest = absurd (differ (sym e ∙ (ap (same_requirement r)
         (ap (λ (t : Record). t.requirement) (same_some x q.0 q.1) ∙ q.2) ∙ same_self r)))
     later (suc j) q e rest = rest j q
 
@@ -149,13 +114,12 @@ owes_record own old now (inr e) = subst (OwesFirst own old) (sym e) (record {
 
 -- a requirement's record may come, and then a number to it
 pub owes_entered : (number : ℕ) (own : Requirement) (place : ℕ) (old mid now : List Record) → GainsRecord own old mid →
-    now ≡ updated_at (with_clause number) mid place →
-    OwesFirst own old now
+    now ≡ updated_at (with_clause number) mid place → OwesFirst own old now
 owes_entered number own place old mid now gains e = subst (OwesFirst own old) (sym e) (record {
-  walks = λ r. (clause_entered number mid place r).0 ∙ first.walks r;
+  walks = λ r. clause_entered number walks_of (λ t. refl) mid place r ∙ first.walks r;
   owed = λ r. elim (first.owed r) [
-    | inl same ↦ inl ((clause_entered number mid place r).1 ∙ same)
-    | inr new ↦ inr (new.0, new.1, (clause_entered number mid place r).1 ∙ new.2)
+    | inl same ↦ inl (clause_entered number owed_of (λ t. refl) mid place r ∙ same)
+    | inr new ↦ inr (new.0, new.1, clause_entered number owed_of (λ t. refl) mid place r ∙ new.2)
   ];
 })
   where
@@ -168,50 +132,41 @@ same_part : (x y : Record) → ((Some y ≡ Some x) ⊎ (Some y ≡ Some (forgot
 same_part x y (inl e) = ap (λ (t : Record). t.requirement) (same_some y x e)
 same_part x y (inr e) = ap (λ (t : Record). t.requirement) (same_some y (forgotten x) e)
 
+-- two lists of records of which one only forgets are equally long
+not_gone : {P : Type 0} (y : Record) → ((Some y ≡ None) ⊎ (Some y ≡ None)) → P
+not_gone y (inl e) = cc
+not_gone y (inr e) = cc
+
+not_come : {P : Type 0} (x y : Record) → ((None ≡ Some x) ⊎ (None ≡ Some y)) → P
+not_come x y (inl e) = cc
+not_come x y (inr e) = cc
+
 record_after : (a b : List Record) → OnlyForgets a b → (r : Requirement) →
     (record_of b r ≡ record_of a r) ⊎ (record_of b r ≡ option_map forgotten (record_of a r))
 record_after [] [] f r = inl refl
-record_after [] (y ∷ ys) f r = absurd (none (f 0))
+record_after [] (y ∷ ys) f r = not_gone y (f 0)
+record_after (x ∷ xs) [] f r = not_come x (forgotten x) (f 0)
+record_after (x ∷ xs) (y ∷ ys) f r =
+    elim (go (same_requirement r x.requirement) (f 0) (record_after xs ys (λ k. f (suc k)) r))
+    [ inl e ↦ inl (own ∙ e) | inr e ↦ inr (own ∙ e) ]
   where
-    none : ((Some y ≡ None) ⊎ (Some y ≡ None)) → ⊥
-    none (inl e) = cc
-    none (inr e) = cc
-record_after (x ∷ xs) [] f r = absurd (none (f 0))
-  where
-    none : ((None ≡ Some x) ⊎ (None ≡ Some (forgotten x))) → ⊥
-    none (inl e) = cc
-    none (inr e) = cc
-record_after (x ∷ xs) (y ∷ ys) f r = go (same_requirement r x.requirement) refl (f 0)
-    (record_after xs ys (λ k. f (suc k)) r)
-  where
-    go : (b : Bool) → same_requirement r x.requirement ≡ b → ((Some y ≡ Some x) ⊎ (Some y ≡ Some (forgotten x))) →
+    own : record_of (y ∷ ys) r ≡ cond (same_requirement r x.requirement) (Some y) (record_of ys r)
+    own = ap (λ q. cond (same_requirement r q) (Some y) (record_of ys r)) (same_part x y (f 0))
+
+    go : (b : Bool) → ((Some y ≡ Some x) ⊎ (Some y ≡ Some (forgotten x))) →
         ((record_of ys r ≡ record_of xs r) ⊎ (record_of ys r ≡ option_map forgotten (record_of xs r))) →
-        (record_of (y ∷ ys) r ≡ record_of (x ∷ xs) r) ⊎
-        (record_of (y ∷ ys) r ≡ option_map forgotten (record_of (x ∷ xs) r))
-    go true e (inl s) m =
-        inl (found_first y ys r true (ap (same_requirement r) (same_part x y (inl s)) ∙ e) ∙
-        (s ∙ sym (found_first x xs r true e)))
-    go true e (inr s) m =
-        inr (found_first y ys r true (ap (same_requirement r) (same_part x y (inr s)) ∙ e) ∙
-        (s ∙ sym (ap (option_map forgotten) (found_first x xs r true e))))
-    go false e s (inl m) =
-        inl (found_first y ys r false (ap (same_requirement r) (same_part x y s) ∙ e) ∙
-        (m ∙ sym (found_first x xs r false e)))
-    go false e s (inr m) =
-        inr (found_first y ys r false (ap (same_requirement r) (same_part x y s) ∙ e) ∙
-        (m ∙ sym (ap (option_map forgotten) (found_first x xs r false e))))
+        (cond b (Some y) (record_of ys r) ≡ cond b (Some x) (record_of xs r)) ⊎
+        (cond b (Some y) (record_of ys r) ≡ option_map forgotten (cond b (Some x) (record_of xs r)))
+    go true (inl s) m = inl s
+    go true (inr s) m = inr s
+    go false s m = m
 
 pub owes_one_more : (a b : List Record) → OnlyForgets a b → OwesOneMore a b
 owes_one_more a b f = record {
-  walks = λ r. same_walks (record_of a r) (record_of b r) (record_after a b f r);
+  walks = λ r. unforgotten walks_of (λ t. refl) (record_of a r) (record_of b r) (record_after a b f r);
   owed = λ r. one_more (record_of a r) (record_of b r) (record_after a b f r);
 }
   where
-    same_walks : (o n : Option Record) → ((n ≡ o) ⊎ (n ≡ option_map forgotten o)) → walks_of n ≡ walks_of o
-    same_walks o n (inl e) = ap walks_of e
-    same_walks None n (inr e) = ap walks_of e
-    same_walks (Some t) n (inr e) = ap walks_of e
-
     forgetting : (t : Record) → owed_of (Some (forgotten t)) ≤ owed_of (Some t) + 1
     forgetting t = by (is_some t.walk)
       where
@@ -229,35 +184,21 @@ record_stays : (listing : ℕ → List Requirement) (variables : List ℕ) (a b 
     Unrouted listing variables a b → (r : Requirement) →
     ((v : ℕ) → Stands v variables → Stands r (listing v) → ⊥) → record_of b r ≡ record_of a r
 record_stays listing variables [] [] f u r free = refl
-record_stays listing variables [] (y ∷ ys) f u r free = absurd (none (f 0))
-  where
-    none : ((Some y ≡ None) ⊎ (Some y ≡ None)) → ⊥
-    none (inl e) = cc
-    none (inr e) = cc
-record_stays listing variables (x ∷ xs) [] f u r free = absurd (none (f 0))
-  where
-    none : ((None ≡ Some x) ⊎ (None ≡ Some (forgotten x))) → ⊥
-    none (inl e) = cc
-    none (inr e) = cc
+record_stays listing variables [] (y ∷ ys) f u r free = not_gone y (f 0)
+record_stays listing variables (x ∷ xs) [] f u r free = not_come x (forgotten x) (f 0)
 record_stays listing variables (x ∷ xs) (y ∷ ys) f u r free =
-    go (same_requirement r x.requirement) refl (f 0)
+    ap (λ q. cond (same_requirement r q) (Some y) (record_of ys r)) (same_part x y (f 0)) ∙
+    go (same_requirement r x.requirement) refl
     (record_stays listing variables xs ys (λ k. f (suc k)) (λ k t e h. u (suc k) t e h) r free)
   where
-    go : (b : Bool) → same_requirement r x.requirement ≡ b → ((Some y ≡ Some x) ⊎ (Some y ≡ Some (forgotten x))) →
-        record_of ys r ≡ record_of xs r →
-        record_of (y ∷ ys) r ≡ record_of (x ∷ xs) r
-    go true e s m =
-        let own : r ≡ x.requirement = same_is r x.requirement e in
-        let stays : Some y ≡ Some x = u 0 x refl (λ v t l. free v t (subst (λ q. Stands q (listing v)) (sym own) l)) in
-        found_first y ys r true (ap (same_requirement r) (same_part x y s) ∙ e) ∙
-        (stays ∙ sym (found_first x xs r true e))
-    go false e s m = found_first y ys r false (ap (same_requirement r) (same_part x y s) ∙ e) ∙
-        (m ∙ sym (found_first x xs r false e))
+    go : (b : Bool) → same_requirement r x.requirement ≡ b → record_of ys r ≡ record_of xs r →
+        cond b (Some y) (record_of ys r) ≡ cond b (Some x) (record_of xs r)
+    go true e m = u 0 x refl (λ v t l. free v t (subst (λ q. Stands q (listing v)) (sym (same_is r x.requirement e)) l))
+    go false e m = m
 
 -- a candidate stands in a row, where there is a list for each version set
 row_of : (sets : List VersionSetId) (ls : List (List ℕ)) → length ls ≡ length sets → (v : ℕ) →
-    Stands v (flat_map (λ l. l) ls) →
-    (row : Row) × Stands row (rows sets ls) × (row.variable ≡ v)
+    Stands v (flat_map (λ l. l) ls) → (row : Row) × Stands row (rows sets ls) × (row.variable ≡ v)
 row_of sets [] e v s = elim s [ ]
 row_of [] (l ∷ ls) e v s = let bad : suc (length ls) ≡ 0 = e in absurd (omega (arith, bad))
 row_of (u ∷ us) (l ∷ ls) e v s = go v l (flat_map (λ x. x) ls) (rows us ls) s
@@ -272,19 +213,11 @@ row_of (u ∷ us) (l ∷ ls) e v s = go v l (flat_map (λ x. x) ls) (rows us ls)
 
 -- where two trails agree below a floor, nothing lies between their ends and the floor
 nothing_between : (floor f : ℕ) (a b : List Decision) → f ≡ min (min floor (length b)) (length a) →
-    take floor a ≡ take floor b →
-    (drop f a ≡ drop floor a) × (drop f b ≡ drop floor b)
+    take floor a ≡ take floor b → (drop f a ≡ drop floor a) × (drop f b ≡ drop floor b)
 nothing_between floor f a b is same = go (le_or_lt floor (length a))
   where
     lengths : min floor (length a) ≡ min floor (length b)
     lengths = sym (length-take floor a) ∙ (ap length same ∙ length-take floor b)
-
-    le_or_lt : (n m : ℕ) → (n ≤ m) ⊎ (m < n)
-    le_or_lt n m = by (ltb m n) refl
-      where
-        by : (t : Bool) → ltb m n ≡ t → (n ≤ m) ⊎ (m < n)
-        by true e = inr (ltb-true m n e)
-        by false e = inl (ltb-false m n e)
 
     go : ((floor ≤ length a) ⊎ (length a < floor)) → (drop f a ≡ drop floor a) × (drop f b ≡ drop floor b)
     go (inl le) =
@@ -305,10 +238,8 @@ pub owed_kept : {N S A H : Type 0} (refs : References N S A) (q : Queue N H) (no
     f ≡ min (min floor (length entries)) (length q.trail) → AgreesBelow floor entries q → StandsOn refs q →
     OnlyForgets q.inside.requirements now →
     Unrouted (listing q.inside.occurrences) (variables_of (drop f q.trail) ++ variables_of (drop f entries))
-    q.inside.requirements now →
-    (r : Requirement) → IsWalkable refs.universe refs.lists r →
-    HasNoneOf (changed_from floor entries q) (rows_in refs r) →
-    owed_in now r ≡ owed_in q.inside.requirements r
+    q.inside.requirements now → (r : Requirement) → IsWalkable refs.universe refs.lists r →
+    HasNoneOf (changed_from floor entries q) (rows_in refs r) → owed_in now r ≡ owed_in q.inside.requirements r
 owed_kept refs q now floor f entries is agrees stands only others r walkable none =
     ap owed_of (record_stays (listing q.inside.occurrences)
     (variables_of (drop f q.trail) ++ variables_of (drop f entries)) q.inside.requirements now only others r free)
@@ -322,8 +253,7 @@ owed_kept refs q now floor f entries is agrees stands only others r walkable non
     free : (v : ℕ) → Stands v (variables_of (drop f q.trail) ++ variables_of (drop f entries)) →
         Stands r (listing q.inside.occurrences v) → ⊥
     free v s l =
-        let candidate : Stands v (candidates refs.lists r) =
-        stands_if_contains (candidates refs.lists r) v
+        let candidate : Stands v (candidates refs.lists r) = stands_if_contains (candidates refs.lists r) v
         (stands.listed.none_else r v (contains_if_stands (listing q.inside.occurrences v) r l)) in
         let row = row_of (sets_of refs.universe r) (lists_loaded refs.lists r) walkable.one_a_set v candidate in
         none row.0 row.1 (subst (λ w. Stands w (changed_from floor entries q)) (sym row.2) (subst (Stands v) same s))

@@ -1,24 +1,20 @@
 -- What a queue keeps beside what contracts see, and how a clause comes to it.
 use Rattle.std.specs.Prelude.{◌≡◌, ◌==◌, ◌<◌, ◌^◌, ℕ, Bool, true, false, List, [], ◌∷◌}
 use Rattle.std.specs.Prelude.{◌++◌, map, length, Some, is_some, slice_get, MatchOption}
-use Rattle.typed_ids.specs.TotalMaps.{IsUpdate, SameValues}
-use Rattle.decisions.specs.Literals.{Lit, Values}
-use Rattle.providers.specs.declared.requirement.Requirement.{Requirement}
+use Rattle.resolvo_queue.specs.Types.{IsUpdate, Lit, Position, Requirement, RequiresClause, SameValues, TrackedClause}
+use Rattle.resolvo_queue.specs.Types.{Values}
 use Rattle.resolvo_queue.specs.Rows.ByVariable.{list_at}
 use Rattle.resolvo_queue.specs.Pick.Inspection.{clause_of}
 use Rattle.resolvo_queue.specs.Occurrences.{Listed}
 use Rattle.resolvo_queue.specs.Members.{Stands}
 use Rattle.resolvo_queue.specs.Scan.Positions.{has}
-use Rattle.resolvo_queue.specs.Parts.Queued.{Queued, IsOfClause, heated}
+use Rattle.resolvo_queue.specs.Parts.{Queued, IsOfClause, heated}
 use Rattle.resolvo_queue.specs.Pick.Ready.{AreLocated, at_position}
-use Rattle.resolvo_queue.specs.Parts.Numbers.{FoundByAll}
+use Rattle.resolvo_queue.specs.Parts.{FoundByAll}
 use Rattle.resolvo_queue.specs.Rows.{Row}
-use Rattle.resolvo_queue.specs.Scan.Order.{first_from, position_in}
+use Rattle.resolvo_queue.specs.Scan.First.{first_from, position_in}
 use Rattle.resolvo_queue.specs.Routing.Synced.{KeepsQueued}
-use Rattle.resolvo_queue.specs.Parts.Records.{Record, IsPlaceOf, clauses_at, known_at}
-use Rattle.resolvo_queue.specs.declared.tracked_clause.Position.{Position}
-use Rattle.resolvo_queue.specs.declared.requires_clause.RequiresClause.{RequiresClause}
-use Rattle.resolvo_queue.specs.declared.tracked_clause.TrackedClause.{TrackedClause}
+use Rattle.resolvo_queue.specs.Parts.{Record, IsPlaceOf, clauses_at, known_at}
 use Rattle.resolvo_queue.specs.declared.tracked_clauses.TrackedClauses.{TrackedClauses}
 
 -- the clauses, who finds them, what is known of their requirements, and which of them may be eligible
@@ -99,8 +95,7 @@ pub record IsAsBefore (old now : Tracking) : Type 0 where
   pub by_parent : SameValues (list_at old.by_parent) (list_at now.by_parent)
 
 -- one clause more, found by all that have to find it
-pub record Registers (clause : RequiresClause) (is_hot : Bool) (literals : List Lit)
-    (old now : Tracking) : Type 0 where
+pub record Registers (clause : RequiresClause) (is_hot : Bool) (literals : List Lit) (old now : Tracking) : Type 0 where
   pub gains : Gains old now
   pub new : TrackedClause
   pub is : clause_of new ≡ clause
@@ -130,8 +125,7 @@ pub record Heats (old now : Tracking) : Type 0 where
       (n : ℕ) (c : TrackedClause) → slice_get now.clauses n ≡ Some c →
       (d : TrackedClause) × (slice_get old.clauses n ≡ Some d) × (literals c ≡ literals d)
   pub synced : (literals : TrackedClause → List Lit) (rows_of : Requirement → List Row) (val : Values)
-      (counted : TrackedClause → Bool) →
-      ((d : TrackedClause) → literals (heated d) ≡ literals d) →
+      (counted : TrackedClause → Bool) → ((d : TrackedClause) → literals (heated d) ≡ literals d) →
       ((d : TrackedClause) → counted (heated d) ≡ counted d) →
       KeepsQueued old.clauses literals rows_of val counted old.requirements old.queued →
       KeepsQueued now.clauses literals rows_of val counted now.requirements now.queued

@@ -1,26 +1,43 @@
--- What a question and a reader give, in the words of contracts.
+-- What a question asks of the tracked clauses, what it keeps of them, and what it and a reader give.
 use Rattle.std.specs.Prelude.{◌≡◌, ℕ, List, Option, None, Some, MatchOption, filter, slice_get}
-use Rattle.typed_ids.specs.declared.version_set_id.VersionSetId.{VersionSetId}
-use Rattle.providers.specs.Provider.{Universe}
-use Rattle.providers.specs.declared.requirement.Requirement.{Requirement}
-use Rattle.decisions.specs.Decisions.{values_in}
-use Rattle.decisions.specs.Literals.{Values}
+use Rattle.resolvo_queue.specs.Types.{Frontier, Position, Requirement, TrackedClause, Universe, Values, values_in}
+use Rattle.resolvo_queue.specs.Types.{VersionSetId}
+use Rattle.resolvo_queue.specs.Rows.Listing.{IsListedWell}
 use Rattle.resolvo_queue.specs.Occurrences.{Reading}
-use Rattle.resolvo_queue.specs.Parts.Records.{Record, known_at}
+use Rattle.resolvo_queue.specs.Pick.Questions.{AreAskable, clause_literals}
+use Rattle.resolvo_queue.specs.Pick.Ready.{AreLocated, IsReady, ColdHasNoScore, improved, offered, rest_picked}
+use Rattle.resolvo_queue.specs.References.{References, rows_in, references}
+use Rattle.resolvo_queue.specs.Parts.{OwesSame, SameFound, Record, known_at}
+use Rattle.resolvo_queue.specs.Parts.Tracking.{BeginFirst}
+use Rattle.resolvo_queue.specs.WalkCounts.{WalksOnce}
+use Rattle.resolvo_queue.specs.declared.tracked_clauses.TrackedClauses.{TrackedClauses}
 use Rattle.resolvo_queue.specs.Pick.{Offer, best_offer, is_of_root}
 use Rattle.resolvo_queue.specs.Pick.Groups.{group_at, offers_of}
 use Rattle.resolvo_queue.specs.Pick.Inspection.{Learns, eligible_frontier, offer_of}
-use Rattle.resolvo_queue.specs.Pick.Questions.{clause_literals}
-use Rattle.resolvo_queue.specs.Pick.Ready.{ColdHasNoScore, improved, offered, rest_picked}
-use Rattle.resolvo_queue.specs.Pick.Steps.{CanBeAsked}
-use Rattle.resolvo_queue.specs.References.{References, references, rows_in}
 use Rattle.resolvo_queue.specs.Rows.{frontier}
 use Rattle.resolvo_queue.specs.declared.asked.Question.{Question}
 use Rattle.resolvo_queue.specs.declared.offer.Candidate.{Candidate}
-use Rattle.resolvo_queue.specs.declared.offer.Frontier.{Frontier}
-use Rattle.resolvo_queue.specs.declared.tracked_clause.Position.{Position}
-use Rattle.resolvo_queue.specs.declared.tracked_clause.TrackedClause.{TrackedClause}
-use Rattle.resolvo_queue.specs.declared.tracked_clauses.TrackedClauses.{TrackedClauses}
+
+-- all clauses can be looked at, and who may be eligible is queued
+pub record CanBeAsked {N S A : Type 0} (refs : References N S A) (val : Values)
+    (tracked : TrackedClauses A) : Type 0 where
+  pub located : AreLocated tracked.index.clauses.items
+  pub first : BeginFirst tracked.index.clauses.items tracked.index.by_parent
+  pub askable : AreAskable refs tracked.index.clauses.items
+  pub listed : IsListedWell refs.lists tracked.occurrences tracked.requirements
+  pub ready : IsReady tracked.index.clauses.items (clause_literals refs)
+      (rows_in refs) val tracked.requirements tracked.queued
+
+-- requirements were walked, each once and after it was listed; but for that, and for what is queued, all is as it was
+pub record OnlyWalks {A : Type 0} (old now : TrackedClauses A) (before after : Reading A) : Type 0 where
+  pub once : WalksOnce old.requirements now.requirements before.walked after.walked
+  pub owes : OwesSame old.requirements now.requirements
+  pub found : SameFound old.requirements now.requirements
+  pub index : now.index ≡ old.index
+  pub only_hot : now.only_hot ≡ old.only_hot
+  pub trail : now.trail ≡ old.trail
+  pub anew : now.must_start_anew ≡ old.must_start_anew
+  pub lists : after.lists ≡ before.lists
 
 -- what clauses name, the values of variables, and the scores of version sets
 pub record Grounds (N S A : Type 0) : Type 0 where

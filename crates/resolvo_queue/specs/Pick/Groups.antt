@@ -3,9 +3,8 @@ use Rattle.std.specs.Prelude.{◌≡◌, Bool, true, false, ◌==◌, ◌&&◌, 
 use Rattle.resolvo_queue.specs.Pick.{Offer}
 use Rattle.resolvo_queue.specs.Scan.Positions.{IsBefore, has, is_after}
 pub use Rattle.resolvo_queue.specs.declared.group.Group.{Group}
+use Rattle.resolvo_queue.specs.Types.{Position, TrackedClause}
 use Rattle.resolvo_queue.specs.declared.group.Group.TheVariants.{OfParent, OfAllParents}
-use Rattle.resolvo_queue.specs.declared.tracked_clause.Position.{Position}
-use Rattle.resolvo_queue.specs.declared.tracked_clause.TrackedClause.{TrackedClause}
 
 -- a clause at the position is one of the group
 abbrev pub is_in : Group → Position → Bool

@@ -1,24 +1,19 @@
 -- What looking at a clause answers, and what it leaves.
 use Rattle.std.specs.Prelude.{◌≡◌, ℕ, Bool, true, ◌&&◌, if◌then◌else◌, ◌⊎◌}
 use Rattle.std.specs.Prelude.{List, [], ◌∷◌, ◌++◌, Option, None, option_map}
-use Rattle.typed_ids.specs.declared.version_set_id.VersionSetId.{VersionSetId}
-use Rattle.decisions.specs.Literals.{Lit, Values, known_true}
-use Rattle.providers.specs.declared.requirement.Requirement.{Requirement}
-use Rattle.resolvo_queue.specs.declared.offer.Frontier.{Frontier}
+use Rattle.resolvo_queue.specs.Types.{Frontier, known_true, Lit, Requirement, RequiresClause, TrackedClause, Values}
+use Rattle.resolvo_queue.specs.Types.{VersionSetId}
 use Rattle.resolvo_queue.specs.Pick.{Offer}
 use Rattle.resolvo_queue.specs.Rows.{Row, frontier}
 use Rattle.resolvo_queue.specs.Occurrences.{Listed, is_listed, HasAll}
 use Rattle.resolvo_queue.specs.Routing.Possible.{may_have_frontier}
 use Rattle.resolvo_queue.specs.Scan.{are_literals_false}
-use Rattle.resolvo_queue.specs.Parts.Records.{Record, known_at, updated_at, walked}
-use Rattle.resolvo_queue.specs.declared.requires_clause.RequiresClause.{RequiresClause}
-use Rattle.resolvo_queue.specs.declared.tracked_clause.TrackedClause.{TrackedClause}
+use Rattle.resolvo_queue.specs.Parts.{Record, known_at, updated_at, walked}
 
 -- nothing changed, or a requirement of which nothing was known was walked once
 abbrev pub Learns : Requirement → ℕ → Option Frontier → List Record → List Record → List Requirement →
     List Requirement → Type 0
-Learns r place answer old now log log' =
-    ((now ≡ old) × (log' ≡ log)) ⊎
+Learns r place answer old now log log' = ((now ≡ old) × (log' ≡ log)) ⊎
     ((known_at old place ≡ None) × (now ≡ updated_at (walked answer) old place) × (log' ≡ log ++ r ∷ []))
 
 -- only this requirement came to the listed ones, and then all its candidates are listed
@@ -29,8 +24,7 @@ pub record ListsOnly (r : Requirement) (variables : List ℕ) (old now : Listed)
 module _ (val : Values) (literals : TrackedClause → List Lit) (rows_of : Requirement → List Row) where
   -- the frontier of an eligible clause
   abbrev pub eligible_frontier : TrackedClause → Option Frontier
-  eligible_frontier c =
-      if known_true (val c.parent) && are_literals_false val (literals c)
+  eligible_frontier c = if known_true (val c.parent) && are_literals_false val (literals c)
       then frontier val (rows_of c.requirement) else None
 
 -- the clause may be eligible, as far as is known

@@ -1,9 +1,7 @@
 -- What a question asks of the clauses, and of the scores.
 use Rattle.std.specs.Prelude.{◌≡◌, ℕ, ◌<◌, ◌≤◌, List, slice_get, length, Some, IfSome}
-use Rattle.typed_ids.specs.declared.version_set_id.VersionSetId.{VersionSetId}
-use Rattle.decisions.specs.Literals.{Lit}
+use Rattle.resolvo_queue.specs.Types.{Lit, TrackedClause, VersionSetId}
 use Rattle.resolvo_queue.specs.References.{References, IsWalkable, literals_in}
-use Rattle.resolvo_queue.specs.declared.tracked_clause.TrackedClause.{TrackedClause}
 
 -- no score is above this
 abbrev pub AreUpTo : ℕ → (VersionSetId → ℕ) → Type 0

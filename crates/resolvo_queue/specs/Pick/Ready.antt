@@ -1,29 +1,31 @@
--- A queue that is ready for a question: synced at the values, and in order.
-use Rattle.std.specs.Prelude.{◌≡◌, ℕ, Bool, true, false, if◌then◌else◌, List}
-use Rattle.std.specs.Prelude.{Option, Some, None, slice_get, filter_map, ◌⊎◌}
-use Rattle.typed_ids.specs.declared.version_set_id.VersionSetId.{VersionSetId}
-use Rattle.decisions.specs.Literals.{Lit, Values, known_true}
-use Rattle.providers.specs.declared.requirement.Requirement.{Requirement}
-use Rattle.resolvo_queue.specs.declared.offer.Frontier.{Frontier}
-use Rattle.resolvo_queue.specs.Pick.{Offer, beats}
+-- A queue that is ready for a question: synced at the values, and in order; and the pick along an order.
+use Rattle.std.specs.Prelude.{List, filter, filter_map, fold, Option, Some, ◌≡◌, ℕ, Bool, true, false, if◌then◌else◌}
+use Rattle.std.specs.Prelude.{None, slice_get, ◌⊎◌}
+use Rattle.resolvo_queue.specs.Types.{Frontier, is_lt, known_true, Lit, Ordering, Position, Requirement, TrackedClause}
+use Rattle.resolvo_queue.specs.Types.{Values, VersionSetId}
+use Rattle.resolvo_queue.specs.Pick.{Offer, better, beats}
 use Rattle.resolvo_queue.specs.Rows.{Row}
 use Rattle.resolvo_queue.specs.Pick.Inspection.{eligible_frontier}
 use Rattle.resolvo_queue.specs.Scan.Positions.{has, position_cmp, IsBefore}
-use Rattle.resolvo_queue.specs.Parts.Queued.{Queued, IsOfClause}
-use Rattle.resolvo_queue.specs.Scan.Order.{numbered_scan, position_in}
-use Rattle.resolvo_queue.specs.Pick.Behind.{picked_behind}
+use Rattle.resolvo_queue.specs.Parts.{Queued, IsOfClause, Record, IsPlaceOf}
+use Rattle.resolvo_queue.specs.Scan.First.{numbered_scan, position_in}
 use Rattle.resolvo_queue.specs.Routing.Synced.{KeepsQueued}
-use Rattle.resolvo_queue.specs.Parts.Records.{Record, IsPlaceOf}
-use Rattle.resolvo_queue.specs.declared.tracked_clause.Position.{Position}
-use Rattle.resolvo_queue.specs.declared.tracked_clause.TrackedClause.{TrackedClause}
+
+module _ {X K : Type 0} (cmp : K → K → Ordering) (key : X → K) (offer_of : X → Option Offer) where
+  -- the items whose keys are above a key
+  abbrev pub behind : K → List X → List X
+  behind k xs = filter (λ x. is_lt (cmp k (key x))) xs
+
+  -- what the items behind a key make of the best so far
+  abbrev pub picked_behind : List X → Offer → K → Option Offer
+  picked_behind xs best k = fold better (Some best) (filter_map offer_of (behind k xs))
 
 abbrev pub at_position : ℕ → ℕ → Position
 at_position first number = record { first_of_parent = first; number = number }
 
 -- each clause keeps its position in the scan
 abbrev pub AreLocated : List TrackedClause → Type 0
-AreLocated clauses =
-    (n : ℕ) (c : TrackedClause) → slice_get clauses n ≡ Some c →
+AreLocated clauses = (n : ℕ) (c : TrackedClause) → slice_get clauses n ≡ Some c →
     c.position ≡ position_in (λ (d : TrackedClause). d.parent) at_position clauses (n, c)
 
 -- the clauses in the order of the scan, with their numbers
@@ -62,8 +64,7 @@ module _ (clauses : List TrackedClause) (literals : TrackedClause → List Lit) 
     (val : Values) (score : VersionSetId → ℕ) where
   -- what isn't hot has no score
   abbrev pub ColdHasNoScore : Type 0
-  ColdHasNoScore =
-      (n : ℕ) (c : TrackedClause) → slice_get clauses n ≡ Some c → c.is_hot ≡ false →
+  ColdHasNoScore = (n : ℕ) (c : TrackedClause) → slice_get clauses n ≡ Some c → c.is_hot ≡ false →
       (f : Frontier) → eligible_frontier val literals rows_of c ≡ Some f → score f.set ≡ 0
 
 -- no clause of the group behind the position can be better: the best has one candidate or the largest score, or none is

@@ -1,8 +1,6 @@
--- What an incremental queue keeps true, over any clauses C with a parent, a condition and a requirement.
-use Rattle.std.specs.Prelude.{◌≡◌, ℕ, Bool, true, false, ◌&&◌, List, Option, Some, None, is_some, IfSome}
-use Rattle.decisions.specs.Literals.{Lit, Values}
-use Rattle.resolvo_queue.specs.declared.offer.Frontier.{Frontier}
-use Rattle.resolvo_queue.specs.Rows.{Row, frontier}
+-- What an incremental queue keeps true of one clause, as far as is known.
+use Rattle.std.specs.Prelude.{◌≡◌, ℕ, Bool, true, false, ◌&&◌, List, Option, Some, None, is_some}
+use Rattle.resolvo_queue.specs.Types.{Frontier, Lit, TrackedClause, Values}
 use Rattle.resolvo_queue.specs.Scan.{are_literals_false}
 
 -- two values of each variable, the same but at the routed ones
@@ -18,17 +16,7 @@ abbrev pub may_have_frontier : Known → Bool
 may_have_frontier None = true
 may_have_frontier (Some f) = is_some f
 
-module _ {C R : Type 0} (parent : C → ℕ) (condition : C → List Lit) (requirement : C → R) (rows_of : R → List Row) where
-  -- the clause may be eligible, as far as is known; `counted` says whose parents count as true
-  abbrev pub is_possible : (C → Bool) → Values → (R → Known) → C → Bool
-  is_possible counted val known c =
-      counted c && (are_literals_false val (condition c) && may_have_frontier (known (requirement c)))
-
-  -- each registered clause that may be eligible is queued
-  abbrev pub HoldsPossible : (C → Type 0) → (C → Bool) → Values → (R → Known) → (C → Bool) → Type 0
-  HoldsPossible registered counted val known queued =
-      (c : C) → registered c → is_possible counted val known c ≡ true → queued c ≡ true
-
-  -- what is known is right
-  abbrev pub KnowsRight : Values → (R → Known) → Type 0
-  KnowsRight val known = (r : R) → IfSome (known r) (λ f. f ≡ frontier val (rows_of r))
+-- the clause may be eligible, as far as is known of each record's requirement; `counted` says whose parents count as true
+abbrev pub is_possible : (TrackedClause → List Lit) → (TrackedClause → Bool) → Values → (ℕ → Known) → TrackedClause → Bool
+is_possible literals counted val known c =
+    counted c && (are_literals_false val (literals c) && may_have_frontier (known c.record))

@@ -1,12 +1,10 @@
 -- What occurrences and records have to do with each other.
 use Rattle.std.specs.Prelude.{◌≡◌, ℕ, true, Some, IsSome, is_some, slice_get, List, Contains}
-use Rattle.std.specs.Map.{lookup}
-use Rattle.providers.specs.Requirement.{same_requirement}
-use Rattle.providers.specs.declared.requirement.Requirement.{Requirement}
+use Rattle.resolvo_queue.specs.Types.{lookup, Requirement, same_requirement}
 use Rattle.resolvo_queue.specs.Occurrences.{Listed, is_listed, listing, HasAll}
 use Rattle.resolvo_queue.specs.References.{Lists}
 use Rattle.resolvo_queue.specs.Rows.{candidates}
-use Rattle.resolvo_queue.specs.Parts.Records.{Record}
+use Rattle.resolvo_queue.specs.Parts.{Record}
 
 -- what is listed has lists, and all its candidates listed, what stands in a list has the variable among its candidates,
 -- and what is known of was listed

@@ -1,7 +1,6 @@
 -- What the rows of a requirement come to.
 use Rattle.std.specs.Prelude.{ℕ, ◌+◌, Bool, true, false, ◌==◌, if◌then◌else◌, List, fold, Option, None, Some}
-use Rattle.decisions.specs.Literals.{Values}
-use Rattle.resolvo_queue.specs.declared.offer.Frontier.{Frontier}
+use Rattle.resolvo_queue.specs.Types.{Frontier, Values}
 use Rattle.resolvo_queue.specs.declared.row_state.RowState.{RowState}
 use Rattle.resolvo_queue.specs.declared.row_state.RowState.TheVariants.{Met, Undecided, AllFalse}
 use Rattle.resolvo_queue.specs.Rows.{Row, has_true_row, frontier}

@@ -1,10 +1,6 @@
 -- Positions, in the order of the scan.
 use Rattle.std.specs.Prelude.{◌≡◌, Bool, true, false, List}
-use Rattle.std.specs.List.{list_any}
-use Rattle.std.specs.Ordering.{nat_cmp, is_eq, is_gt, on, then_cmp}
-use Rattle.std.specs.declared.cmp.Ordering.{Ordering}
-use Rattle.std.specs.declared.cmp.Ordering.TheVariants.{Less}
-use Rattle.resolvo_queue.specs.declared.tracked_clause.Position.{Position}
+use Rattle.resolvo_queue.specs.Types.{is_eq, is_gt, Less, list_any, nat_cmp, on, Ordering, Position, then_cmp}
 
 -- by the parents' first numbers, then by the clauses' own
 abbrev pub position_cmp : Position → Position → Ordering

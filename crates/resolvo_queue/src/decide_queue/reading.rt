@@ -1,9 +1,8 @@
 //! Reading the registered clauses: the first falsified one, each by its number, and the first one of a parent.
 ghost use Rattle.std.specs.Prelude.{◌≡◌, All, option_map, slice_get};
 ghost use Rattle.decisions.specs.Decisions.{values_in};
-ghost use Rattle.resolvo_queue.specs.Queue.{StandsOn};
-ghost use Rattle.resolvo_queue.specs.References.{CanWalk, literals_in, references, rows_in};
-ghost use Rattle.resolvo_queue.specs.Scan.{first_falsified};
+ghost use Rattle.resolvo_queue.specs.Queue.{StandsOn, falsified_in};
+ghost use Rattle.resolvo_queue.specs.References.{CanWalk, references};
 ghost use Rattle.resolvo_queue.specs.Scan.First.{first_of};
 
 use crate::asked::Asked;
@@ -30,8 +29,7 @@ impl<D: DependencyProvider> DecideQueue<D> {
         requires walkable { All (CanWalk (references (D.universe provider.now) lists.now disjunctions.now))
             self.now.clauses }
         ensures { let refs = references (D.universe provider.now) lists.now disjunctions.now in
-            result ≡ option_map (λ c. c.clause_id)
-            (first_falsified (values_in map.now) (literals_in refs) (rows_in refs) self.now.clauses) }
+            result ≡ option_map (λ c. c.clause_id) (falsified_in refs (values_in map.now) self.now) }
     {
         let asked = Asked {
             map,

@@ -1,5 +1,5 @@
 use Rattle.std.proofs.Common.{take}
-use Rattle.resolvo_queue.specs.Parts.Numbers.{FoundByAll, GainsNumber}
+use Rattle.resolvo_queue.specs.Parts.{FoundByAll, GainsNumber}
 use Rattle.resolvo_queue.proofs.clause_index.add_to_conditions.Given as goal
 
 abbrev pub invariant-loop-literal : goal.invariant-loop-literal

@@ -1,8 +1,5 @@
 use Rattle.std.proofs.Common.{◌<◌, refl, subst, sym, ◌∙◌, lt_trans, IfSome}
-use Rattle.resolvo_queue.specs.Parts.Queued.{set_of}
-use Rattle.resolvo_queue.specs.Pick.Grounds.{grounds}
-use Rattle.resolvo_queue.specs.Pick.Groups.{IsNextOf}
-use Rattle.resolvo_queue.specs.Pick.Questions.{clause_literals}
+use Rattle.resolvo_queue.proofs.Words.{clause_literals, grounds, IsNextOf, set_of}
 use Rattle.resolvo_queue.specs.References.{rows_in}
 use Rattle.resolvo_queue.proofs.Picks.Steps.{asked_by, only_walks_along, only_walks_none, ready_by}
 use Rattle.resolvo_queue.proofs.Picks.Decisions.{behind_falls, clauses_behind, done_picked}
@@ -12,13 +9,12 @@ use Rattle.resolvo_queue.proofs.Picks.Rivals.{rival_of, rival_passed}
 use Rattle.resolvo_queue.proofs.deciding.best_from.Goals as goal
 
 pub loop-first-init : goal.loop-first-init
-loop-first-init g c =
-    record {
-      picked = refl;
-      of = c.requires.of;
-      asked = c.requires.asked;
-      walks = only_walks_none;
-    }
+loop-first-init g c = record {
+  picked = refl;
+  of = c.requires.of;
+  asked = c.requires.asked;
+  walks = only_walks_none;
+}
 
 -- ---- the first of the two
 
@@ -28,8 +24,7 @@ improve-requires-clause-of g c =
     rival_of on c.loop-first.invariant.asked refl c.args.group c.in-Some.first c.in-Some.ensures.none
 
 pub improve-requires-clause-asked : goal.improve-requires-clause-asked
-improve-requires-clause-asked g c =
-    asked_by (sym c.loop-first.invariant.walks.lists) c.loop-first.invariant.asked
+improve-requires-clause-asked g c = asked_by (sym c.loop-first.invariant.walks.lists) c.loop-first.invariant.asked
 
 pub returns-in_err-improve-clause-asked : goal.returns-in_err-improve-clause-asked
 returns-in_err-improve-clause-asked g c = asked_by c.loop-first.invariant.walks.lists c.improve.ensures.asked
@@ -42,8 +37,7 @@ loop-first-smaller g c =
     let on = grounds g.I.Interner.universe g.I.NameId.Scores.IdMap.value_at c.args.question.now c.args.reader.now in
     behind_falls c.args.tracked.now.index.clauses.items c.requires.asked.located c.loop-first.cursor c.in-Some.first
     (rival_of on c.loop-first.invariant.asked c.loop-first.invariant.walks.index c.args.group c.in-Some.first
-    c.in-Some.ensures.none)
-    c.in-Some.ensures.behind
+    c.in-Some.ensures.none) c.in-Some.ensures.behind
 
 pub loop-first-preserved : goal.loop-first-preserved
 loop-first-preserved g c =
@@ -137,8 +131,7 @@ pub returns-clause-best : goal.returns-clause-best
 returns-clause-best g c =
     let on = grounds g.I.Interner.universe g.I.NameId.Scores.IdMap.value_at c.args.question.now c.args.reader.now in
     let tracked = c.loop-first.tracked in
-    sym (c.loop-first.invariant.picked
-    ∙ done_picked c.args.tracked.now.index.clauses.items (clause_literals on.refs)
+    sym (c.loop-first.invariant.picked ∙ done_picked c.args.tracked.now.index.clauses.items (clause_literals on.refs)
     (rows_in on.refs) on.val on.score c.requires.asked.located c.args.group tracked.requirements tracked.queued
     (ready_by c.loop-first.invariant.walks.index c.loop-first.invariant.asked)
     c.requires.cold c.args.question.now.largest c.requires.largest tracked.only_hot c.loop-first.best.offer

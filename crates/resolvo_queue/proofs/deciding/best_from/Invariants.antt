@@ -1,8 +1,5 @@
 use Rattle.std.proofs.Common.{◌≡◌, true}
-use Rattle.resolvo_queue.specs.Pick.Grounds.{AskedOn, grounds, offers_on}
-use Rattle.resolvo_queue.specs.Pick.Steps.{OnlyWalks}
-use Rattle.resolvo_queue.specs.Pick.Groups.{is_in, offers_of}
-use Rattle.resolvo_queue.specs.Pick.Ready.{rest_picked}
+use Rattle.resolvo_queue.proofs.Words.{AskedOn, grounds, is_in, offers_of, offers_on, OnlyWalks, rest_picked}
 use Rattle.resolvo_queue.proofs.Picks.Decisions.{clauses_behind}
 use Rattle.resolvo_queue.proofs.deciding.best_from.Given as goal
 

@@ -1,16 +1,11 @@
 use Rattle.std.proofs.Common.{◌≡◌, [], IfOk, subst, sym, ◌∙◌}
-use Rattle.resolvo_queue.specs.Pick.Grounds.{grounds, offers_on}
-use Rattle.resolvo_queue.specs.Pick.Groups.{offers_of}
-use Rattle.resolvo_queue.specs.Pick.Ready.{rest_picked}
-use Rattle.resolvo_queue.specs.References.{Lists}
-use Rattle.resolvo_queue.specs.declared.group.Group.TheVariants.{OfAllParents}
+use Rattle.resolvo_queue.proofs.Words.{grounds, Lists, OfAllParents, offers_of, offers_on, rest_picked}
 use Rattle.resolvo_queue.proofs.Picks.Steps.{along_walks, asked_by, only_walks_along}
 use Rattle.resolvo_queue.proofs.Picks.Ready.{match_some}
 use Rattle.resolvo_queue.proofs.deciding.best_of_all.Goals as goal
 
 pub best_from-requires-clause-asked : goal.best_from-requires-clause-asked
-best_from-requires-clause-asked g c =
-    asked_by (sym c.first_eligible.ensures.walks.lists) c.first_eligible.ensures.asked
+best_from-requires-clause-asked g c = asked_by (sym c.first_eligible.ensures.walks.lists) c.first_eligible.ensures.asked
 
 pub returns-in-Some-clause-best : goal.returns-in-Some-clause-best
 returns-in-Some-clause-best g c =

@@ -1,6 +1,5 @@
 use Rattle.std.proofs.Common.{ap, sym, ◌∙◌}
-use Rattle.resolvo_queue.specs.Pick.Grounds.{score_by}
-use Rattle.resolvo_queue.specs.Pick.Inspection.{offer_with}
+use Rattle.resolvo_queue.proofs.Words.{offer_with, score_by}
 use Rattle.resolvo_queue.proofs.Picks.Ready.{read_here}
 use Rattle.resolvo_queue.proofs.Lists.{same_some}
 use Rattle.resolvo_queue.proofs.deciding.candidate_at.Goals as goal

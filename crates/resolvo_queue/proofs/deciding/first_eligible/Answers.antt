@@ -1,11 +1,6 @@
 use Rattle.std.proofs.Common.{◌≡◌, Some, slice_get, subst, sym, ap, ◌∙◌}
-use Rattle.resolvo_queue.specs.Rows.{loaded_rows}
-use Rattle.resolvo_queue.specs.Pick.Inspection.{eligible_frontier}
-use Rattle.resolvo_queue.specs.Pick.Questions.{clause_literals}
-use Rattle.resolvo_queue.specs.Pick.Groups.{is_in}
-use Rattle.resolvo_queue.specs.Parts.Queued.{IsOfClause}
+use Rattle.resolvo_queue.proofs.Words.{clause_literals, eligible_frontier, grounds, is_in, IsOfClause, loaded_rows}
 use Rattle.resolvo_queue.specs.References.{rows_in}
-use Rattle.resolvo_queue.specs.Pick.Grounds.{grounds}
 use Rattle.resolvo_queue.proofs.Picks.Steps.{asked_by, only_walks_along, only_walks_none, ready_by}
 use Rattle.resolvo_queue.proofs.Picks.Decisions.{first_found, none_found}
 use Rattle.resolvo_queue.proofs.Picks.Groups.{of_both}
@@ -13,8 +8,7 @@ use Rattle.resolvo_queue.proofs.Picks.Ready.{match_none, offer_found}
 use Rattle.resolvo_queue.proofs.deciding.first_eligible.Goals as goal
 
 pub inspect_at-requires-clause-of : goal.inspect_at-requires-clause-of
-inspect_at-requires-clause-of g c =
-    c.loop-position.invariant.asked.ready.all_of c.in-Some.position
+inspect_at-requires-clause-of g c = c.loop-position.invariant.asked.ready.all_of c.in-Some.position
     (of_both c.args.group c.loop-position.tracked.queued.all c.in-Some.position c.in-Some.ensures.none).1
 
 pub inspect_at-requires-clause-asked : goal.inspect_at-requires-clause-asked
@@ -46,8 +40,7 @@ candidate_at-requires-clause-of g c =
     (of_both c.args.group c.loop-position.tracked.queued.all c.in-Some.position c.in-Some.ensures.none).1)
 
 pub returns-in-Some-2-clause-of : goal.returns-in-Some-2-clause-of
-returns-in-Some-2-clause-of g c =
-    ap (is_in c.args.group) c.candidate_at.ensures.at ∙
+returns-in-Some-2-clause-of g c = ap (is_in c.args.group) c.candidate_at.ensures.at ∙
     (of_both c.args.group c.loop-position.tracked.queued.all c.in-Some.position c.in-Some.ensures.none).0
 
 pub returns-clause-picked : goal.returns-clause-picked
@@ -59,28 +52,22 @@ returns-clause-picked g c =
     (match_none c.first_of.result _ _ c.in_default.is c.first_of.ensures.none)
 
 pub loop-position-preserved : goal.loop-position-preserved
-loop-position-preserved g c =
-    record {
-      asked = asked_by c.loop-position.invariant.walks.lists c.inspect_at.ensures.asked;
-      walks = only_walks_along c.loop-position.invariant.walks c.inspect_at.ensures.walks;
-    }
+loop-position-preserved g c = record {
+  asked = asked_by c.loop-position.invariant.walks.lists c.inspect_at.ensures.asked;
+  walks = only_walks_along c.loop-position.invariant.walks c.inspect_at.ensures.walks;
+}
 
 pub loop-position-init : goal.loop-position-init
-loop-position-init g c =
-    record { asked = c.requires.asked; walks = only_walks_none }
+loop-position-init g c = record { asked = c.requires.asked; walks = only_walks_none }
 
 pub returns-in-Some-2-clause-asked : goal.returns-in-Some-2-clause-asked
-returns-in-Some-2-clause-asked g c =
-    asked_by c.loop-position.invariant.walks.lists c.inspect_at.ensures.asked
+returns-in-Some-2-clause-asked g c = asked_by c.loop-position.invariant.walks.lists c.inspect_at.ensures.asked
 
 pub returns-in-Some-2-clause-walks : goal.returns-in-Some-2-clause-walks
-returns-in-Some-2-clause-walks g c =
-    only_walks_along c.loop-position.invariant.walks c.inspect_at.ensures.walks
+returns-in-Some-2-clause-walks g c = only_walks_along c.loop-position.invariant.walks c.inspect_at.ensures.walks
 
 pub returns-in_err-frontier-clause-asked : goal.returns-in_err-frontier-clause-asked
-returns-in_err-frontier-clause-asked g c =
-    asked_by c.loop-position.invariant.walks.lists c.inspect_at.ensures.asked
+returns-in_err-frontier-clause-asked g c = asked_by c.loop-position.invariant.walks.lists c.inspect_at.ensures.asked
 
 pub returns-in_err-frontier-clause-walks : goal.returns-in_err-frontier-clause-walks
-returns-in_err-frontier-clause-walks g c =
-    only_walks_along c.loop-position.invariant.walks c.inspect_at.ensures.walks
+returns-in_err-frontier-clause-walks g c = only_walks_along c.loop-position.invariant.walks c.inspect_at.ensures.walks

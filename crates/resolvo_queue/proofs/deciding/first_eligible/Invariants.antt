@@ -1,6 +1,5 @@
 use Rattle.std.proofs.Common.{length}
-use Rattle.resolvo_queue.specs.Pick.Grounds.{AskedOn, grounds}
-use Rattle.resolvo_queue.specs.Pick.Steps.{OnlyWalks}
+use Rattle.resolvo_queue.proofs.Words.{AskedOn, grounds, OnlyWalks}
 use Rattle.resolvo_queue.proofs.deciding.first_eligible.Given as goal
 
 abbrev pub invariant-loop-position : goal.invariant-loop-position

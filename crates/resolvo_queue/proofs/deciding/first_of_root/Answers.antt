@@ -1,9 +1,6 @@
 use Rattle.std.proofs.Common.{◌≡◌, option_map, slice_get, subst}
-use Rattle.resolvo_queue.specs.Rows.ByVariable.{list_at}
-use Rattle.resolvo_queue.specs.Pick.Grounds.{grounds, offers_on}
-use Rattle.resolvo_queue.specs.Pick.Questions.{clause_literals}
+use Rattle.resolvo_queue.proofs.Words.{clause_literals, grounds, list_at, offers_on, OfParent}
 use Rattle.resolvo_queue.specs.References.{rows_in}
-use Rattle.resolvo_queue.specs.declared.group.Group.TheVariants.{OfParent}
 use Rattle.resolvo_queue.proofs.Picks.Steps.{only_walks_none}
 use Rattle.resolvo_queue.proofs.Picks.Groups.{best_of_none, first_of_group, offers_own}
 use Rattle.resolvo_queue.proofs.deciding.first_of_root.Goals as goal

@@ -1,9 +1,5 @@
 use Rattle.std.proofs.Common.{◌≡◌, [], IfOk, ap, subst, sym, ◌∙◌}
-use Rattle.resolvo_queue.specs.Pick.{best_offer}
-use Rattle.resolvo_queue.specs.Pick.Grounds.{grounds, offers_on}
-use Rattle.resolvo_queue.specs.Pick.Groups.{group_at, offers_of}
-use Rattle.resolvo_queue.specs.Pick.Ready.{offered, rest_picked}
-use Rattle.resolvo_queue.specs.References.{Lists}
+use Rattle.resolvo_queue.proofs.Words.{best_offer, grounds, group_at, Lists, offered, offers_of, offers_on, rest_picked}
 use Rattle.resolvo_queue.proofs.Picks.Steps.{along_walks, asked_by, only_walks_along}
 use Rattle.resolvo_queue.proofs.Picks.Groups.{picks_rest}
 use Rattle.resolvo_queue.proofs.Picks.Unbeaten.{picks_of_all}
@@ -11,12 +7,10 @@ use Rattle.resolvo_queue.proofs.Picks.Ready.{match_none, match_some}
 use Rattle.resolvo_queue.proofs.deciding.next_offer.Goals as goal
 
 pub best_from-requires-clause-asked : goal.best_from-requires-clause-asked
-best_from-requires-clause-asked g c =
-    asked_by (sym c.first_of_root.ensures.walks.lists) c.first_of_root.ensures.asked
+best_from-requires-clause-asked g c = asked_by (sym c.first_of_root.ensures.walks.lists) c.first_of_root.ensures.asked
 
 pub best_of_all-requires-clause-asked : goal.best_of_all-requires-clause-asked
-best_of_all-requires-clause-asked g c =
-    asked_by (sym c.first_of_root.ensures.walks.lists) c.first_of_root.ensures.asked
+best_of_all-requires-clause-asked g c = asked_by (sym c.first_of_root.ensures.walks.lists) c.first_of_root.ensures.asked
 
 pub returns-in-Some-clause-picked : goal.returns-in-Some-clause-picked
 returns-in-Some-clause-picked g c =

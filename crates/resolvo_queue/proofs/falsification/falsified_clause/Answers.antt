@@ -1,20 +1,17 @@
 use Rattle.std.proofs.Common.{◌+◌, subst, sym, ◌∙◌}
-use Rattle.decisions.specs.Decisions.{values_in}
-use Rattle.resolvo_queue.specs.Falsified.{FindsBelow, is_falsified_in, refs_of}
+use Rattle.resolvo_queue.proofs.Words.{FindsBelow, is_falsified_in, refs_of, values_in}
 use Rattle.resolvo_queue.proofs.Falsified.Scanned.{finds_all, finds_none, finds_still, finds_this}
 use Rattle.resolvo_queue.proofs.Syncs.Queued.{read_at}
 use Rattle.resolvo_queue.proofs.falsification.falsified_clause.Goals as goal
 use Rattle.resolvo_queue.proofs.falsification.falsified_clause.Goals.{then-is_earlier, else-is_earlier}
 
 pub is_earlier-requires-clause-condition : goal.is_earlier-requires-clause-condition
-is_earlier-requires-clause-condition g c =
-    (c.requires.askable c.loop-clause.clause-index c.clause-item.result
+is_earlier-requires-clause-condition g c = (c.requires.askable c.loop-clause.clause-index c.clause-item.result
     (read_at c.args.clauses.now c.loop-clause.clause-index c.clause-item.result c.loop-clause-test.true
     c.clause-item.is)).condition
 
 pub is_earlier-requires-clause-walkable : goal.is_earlier-requires-clause-walkable
-is_earlier-requires-clause-walkable g c =
-    (c.requires.askable c.loop-clause.clause-index c.clause-item.result
+is_earlier-requires-clause-walkable g c = (c.requires.askable c.loop-clause.clause-index c.clause-item.result
     (read_at c.args.clauses.now c.loop-clause.clause-index c.clause-item.result c.loop-clause-test.true
     c.clause-item.is)).walkable
 
@@ -40,7 +37,6 @@ loop-clause-preserved g c =
     ]
 
 pub returns : goal.returns
-returns g c =
-    finds_all c.args.clauses.now
+returns g c = finds_all c.args.clauses.now
     (is_falsified_in (refs_of g.I.Interner.universe c.args.asked.now) (values_in c.args.asked.now.map.now))
     c.loop-clause.clause-index c.loop-clause.first c.loop-clause-test.false c.loop-clause.invariant

@@ -1,5 +1,4 @@
-use Rattle.decisions.specs.Decisions.{values_in}
-use Rattle.resolvo_queue.specs.Falsified.{FindsBelow, is_falsified_in, refs_of}
+use Rattle.resolvo_queue.proofs.Words.{FindsBelow, is_falsified_in, refs_of, values_in}
 use Rattle.resolvo_queue.proofs.falsification.falsified_clause.Given as goal
 
 abbrev pub invariant-loop-clause : goal.invariant-loop-clause

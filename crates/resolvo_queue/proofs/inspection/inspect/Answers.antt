@@ -10,8 +10,7 @@ pub returns-then-not-is_met-clause-once : goal.returns-then-not-is_met-clause-on
 returns-then-not-is_met-clause-once g c = walks_nothing c.args.requirements.now c.args.reader.now.walked
 
 pub returns-clause-set : goal.returns-clause-set
-returns-clause-set g c =
-    frontier_set (g.I.Interner.universe c.args.question.now.interner.now) c.args.reader.now.lists
+returns-clause-set g c = frontier_set (g.I.Interner.universe c.args.question.now.interner.now) c.args.reader.now.lists
     (values_in c.args.question.now.map.now) c.args.clause.now.requirement
     (g.met.I.Interner.union_sets_known c.args.question.now.interner.now) c.requires.walkable.known
     c.requirement_frontier.result c.requirement_frontier.ensures.frontier

@@ -1,7 +1,5 @@
 use Rattle.std.proofs.Common.{ap, sym, subst, ◌∙◌}
-use Rattle.resolvo_queue.specs.Rows.Listing.{IsListedWell}
-use Rattle.resolvo_queue.specs.Parts.Records.{walk_of, known_at, walked, OwesSame, SameFound}
-use Rattle.resolvo_queue.specs.WalkCounts.{WalksOnce}
+use Rattle.resolvo_queue.proofs.Words.{IsListedWell, known_at, OwesSame, SameFound, walk_of, walked, WalksOnce}
 use Rattle.resolvo_queue.proofs.Rows.Listing.{found_walked, listed_more, listed_walked, owes_walked}
 use Rattle.resolvo_queue.proofs.Clauses.Records.{is_at_place}
 use Rattle.resolvo_queue.proofs.Syncs.Forgetting.{place_within}

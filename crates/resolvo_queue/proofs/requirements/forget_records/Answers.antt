@@ -1,6 +1,5 @@
 use Rattle.std.proofs.Common.{get_or, refl, ap}
-use Rattle.resolvo_queue.specs.Parts.RecordView.{record_seen}
-use Rattle.resolvo_queue.specs.Parts.Records.{forgotten}
+use Rattle.resolvo_queue.proofs.Words.{forgotten, record_seen}
 use Rattle.resolvo_queue.proofs.Clauses.Records.{all_done, all_left}
 use Rattle.resolvo_queue.proofs.requirements.forget_records.Goals as goal
 

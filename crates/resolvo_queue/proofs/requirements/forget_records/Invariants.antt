@@ -1,6 +1,5 @@
 use Rattle.std.proofs.Common.{◌≡◌, take, drop, map}
-use Rattle.resolvo_queue.specs.Parts.RecordView.{record_seen}
-use Rattle.resolvo_queue.specs.Parts.Records.{forgotten}
+use Rattle.resolvo_queue.proofs.Words.{forgotten, record_seen}
 use Rattle.resolvo_queue.proofs.requirements.forget_records.Given as goal
 
 abbrev pub invariant-loop-record : goal.invariant-loop-record

@@ -1,7 +1,5 @@
 use Rattle.std.proofs.Common.{Some, sym, ap, ◌∙◌, subst}
-use Rattle.decisions.specs.Decisions.{values_in}
-use Rattle.resolvo_queue.specs.Parts.Queued.{AreWoken}
-use Rattle.resolvo_queue.specs.Routing.{ways}
+use Rattle.resolvo_queue.proofs.Words.{AreWoken, values_in, ways}
 use Rattle.resolvo_queue.proofs.Syncs.Forgetting.{place_within, forgets_only, forgotten_unknown}
 use Rattle.resolvo_queue.proofs.Syncs.Forgetting.{still_unknown, not_there, had_frontier, had_none, among_one}
 use Rattle.resolvo_queue.proofs.routing.forget.Goals as goal
@@ -38,8 +36,7 @@ returns-in-Known-Some-clause-unknown g c =
 pub returns-in-Known-Some-clause-woken : goal.returns-in-Known-Some-clause-woken
 returns-in-Known-Some-clause-woken g c =
     rw c.forget.ensures (had_frontier (ways c.args.routing.now) c.args.requirements.now c.in-Some.place
-    c.args.queued.now c.in-Known-Some.field-0-0
-    (sym c.in-Known-Some.ensures ∙ ap Some c.in-Known-Some.field-0-is))
+    c.args.queued.now c.in-Known-Some.field-0-0 (sym c.in-Known-Some.ensures ∙ ap Some c.in-Known-Some.field-0-is))
 
 pub returns-in_ok-wake_clauses-in-Known-None-clause-only : goal.returns-in_ok-wake_clauses-in-Known-None-clause-only
 returns-in_ok-wake_clauses-in-Known-None-clause-only g c =
@@ -47,14 +44,12 @@ returns-in_ok-wake_clauses-in-Known-None-clause-only g c =
 
 pub returns-in_ok-wake_clauses-in-Known-None-clause-unknown :
     goal.returns-in_ok-wake_clauses-in-Known-None-clause-unknown
-returns-in_ok-wake_clauses-in-Known-None-clause-unknown g c =
-    rw c.forget-in-Known-None.ensures
+returns-in_ok-wake_clauses-in-Known-None-clause-unknown g c = rw c.forget-in-Known-None.ensures
     (forgotten_unknown c.args.requirements.now c.args.requirement c.in-Some.place c.in-Some.ensures.place
     c.in-Some.ensures.only)
 
 pub returns-in_ok-wake_clauses-in-Known-None-clause-woken : goal.returns-in_ok-wake_clauses-in-Known-None-clause-woken
-returns-in_ok-wake_clauses-in-Known-None-clause-woken g c =
-    rw c.forget-in-Known-None.ensures
+returns-in_ok-wake_clauses-in-Known-None-clause-woken g c = rw c.forget-in-Known-None.ensures
     (had_none (ways c.args.routing.now) c.args.requirements.now c.in-Some.place c.wake_clauses.new.queued
     (subst (λ ns. AreWoken c.args.routing.now.index.now.clauses.items
     (values_in c.args.routing.now.map.now) ns c.wake_clauses.new.queued) c.clauses.ensures
@@ -65,6 +60,5 @@ returns-in-Known-Some-clause-others g c =
     rw c.forget.ensures (among_one c.args.requirements.now c.args.requirement c.in-Some.place c.in-Some.ensures.place)
 
 pub returns-in_ok-wake_clauses-in-Known-None-clause-others : goal.returns-in_ok-wake_clauses-in-Known-None-clause-others
-returns-in_ok-wake_clauses-in-Known-None-clause-others g c =
-    rw c.forget-in-Known-None.ensures
+returns-in_ok-wake_clauses-in-Known-None-clause-others g c = rw c.forget-in-Known-None.ensures
     (among_one c.args.requirements.now c.args.requirement c.in-Some.place c.in-Some.ensures.place)

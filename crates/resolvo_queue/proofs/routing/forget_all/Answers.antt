@@ -1,7 +1,5 @@
 use Rattle.std.proofs.Common.{[], ◌∷◌, get_or, subst, take_all}
-use Rattle.providers.specs.declared.requirement.Requirement.TheVariants.{Single}
-use Rattle.resolvo_queue.specs.Parts.Queued.{IsOfClause}
-use Rattle.resolvo_queue.specs.Routing.{AreUnknown, ways}
+use Rattle.resolvo_queue.proofs.Words.{AreUnknown, IsOfClause, Single, ways}
 use Rattle.resolvo_queue.proofs.Syncs.Queued.{grows_both}
 use Rattle.resolvo_queue.proofs.Syncs.Forgetting.{forgets_both, step_unknown, wakes_both, among_both, among_read}
 use Rattle.resolvo_queue.proofs.routing.forget_all.Goals as goal
@@ -29,14 +27,12 @@ loop-requirement-preserved g c = record {
 }
 
 pub returns-clause-unknown : goal.returns-clause-unknown
-returns-clause-unknown g c =
-    subst (λ rs. AreUnknown rs c.loop-requirement.requirements)
+returns-clause-unknown g c = subst (λ rs. AreUnknown rs c.loop-requirement.requirements)
     (take_all c.loop-requirement.requirement-index c.args.listed.now c.loop-requirement-test.false)
     c.loop-requirement.invariant.unknown
 
 pub returns-in_err-forget-clause-others : goal.returns-in_err-forget-clause-others
-returns-in_err-forget-clause-others g c =
-    among_both c.args.listed.now
+returns-in_err-forget-clause-others g c = among_both c.args.listed.now
     (get_or c.args.listed.now c.loop-requirement.requirement-index (Single (record { 0 = 0 })) ∷ [])
     (among_read c.args.listed.now c.loop-requirement.requirement-index
     (Single (record { 0 = 0 })) c.loop-requirement-test.true)

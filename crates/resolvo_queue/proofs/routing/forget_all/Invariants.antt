@@ -1,6 +1,5 @@
 use Rattle.std.proofs.Common.{take}
-use Rattle.resolvo_queue.specs.Parts.Queued.{GrowsBy, IsOfClause}
-use Rattle.resolvo_queue.specs.Routing.{OnlyForgets, ForgetsAmong, AreUnknown, WakesForgotten, ways}
+use Rattle.resolvo_queue.proofs.Words.{AreUnknown, ForgetsAmong, GrowsBy, IsOfClause, OnlyForgets, WakesForgotten, ways}
 use Rattle.resolvo_queue.proofs.routing.forget_all.Given as goal
 
 abbrev pub invariant-loop-requirement : goal.invariant-loop-requirement

@@ -1,7 +1,6 @@
 use Rattle.std.proofs.Common.{subst}
 use Rattle.std.proofs.lemmas.Result.{on_ok_weaker}
-use Rattle.decisions.specs.Decisions.{values_in}
-use Rattle.resolvo_queue.specs.Parts.Queued.{AreWoken}
+use Rattle.resolvo_queue.proofs.Words.{AreWoken, values_in}
 use Rattle.resolvo_queue.proofs.routing.wake_by_condition.Goals as goal
 
 pub returns-clause-woken : goal.returns-clause-woken

@@ -31,12 +31,9 @@ loop-variable-preserved g c = record {
 pub returns-clause-grows : goal.returns-clause-grows
 returns-clause-grows g c =
     subst (λ vs. GrowsWith c.args.requirement vs c.args.occurrences.now c.loop-variable.occurrences)
-    (each_itself c.args.list.now)
-    c.loop-variable.invariant.grows
+    (each_itself c.args.list.now) c.loop-variable.invariant.grows
 
 pub returns-clause-all : goal.returns-clause-all
-returns-clause-all g c =
-    subst (λ vs. HasAll c.args.requirement vs c.loop-variable.occurrences)
+returns-clause-all g c = subst (λ vs. HasAll c.args.requirement vs c.loop-variable.occurrences)
     (ap (flat_map (λ v. v ∷ [])) (take_all c.loop-variable.variable-index c.args.list.now c.loop-variable-test.false)
-    ∙ each_itself c.args.list.now)
-    c.loop-variable.invariant.all
+    ∙ each_itself c.args.list.now) c.loop-variable.invariant.all

@@ -1,5 +1,4 @@
-use Rattle.providers.specs.Provider.{sets_of}
-use Rattle.decisions.specs.Decisions.{values_in}
+use Rattle.resolvo_queue.proofs.Words.{sets_of, values_in}
 use Rattle.resolvo_queue.proofs.Rows.States.{none_false}
 use Rattle.resolvo_queue.proofs.row_state.are_all_false.Goals as goal
 

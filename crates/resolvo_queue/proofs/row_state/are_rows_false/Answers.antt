@@ -10,5 +10,4 @@ returns g c =
     let val = values_in c.args.decisions.now in
     all_from_yields_List (λ l. false_list val l.items) _ _ c.all.result c.all.ensures.ran
     (YieldsList-from_take (length c.args.sets.now) (YieldsList-from_slice c.args.lists.now (cc)) (cc))
-    (λ x b q k. search (rules, tests))
-    ∙ false-rows val (λ l. l.items) c.args.sets.now c.args.lists.now
+    (λ x b q k. search (rules, tests)) ∙ false-rows val (λ l. l.items) c.args.sets.now c.args.lists.now

@@ -1,9 +1,7 @@
 use Rattle.std.proofs.Common.{◌≡◌, ◌∷◌, ◌+◌, sym, ap, ◌∙◌, drop, map}
 use Rattle.std.specs.Prelude.{flat_map}
 use Rattle.std.proofs.lemmas.List.{drop_more, drop_all}
-use Rattle.decisions.specs.Decisions.{values_in}
-use Rattle.resolvo_queue.specs.Rows.{rows, list_rows}
-use Rattle.resolvo_queue.specs.Rows.States.{with_rows}
+use Rattle.resolvo_queue.proofs.Words.{list_rows, rows, values_in, with_rows}
 use Rattle.resolvo_queue.proofs.Rows.States.{state-rows, next-list, few-left, no_set, no_list, met-whole}
 use Rattle.resolvo_queue.proofs.row_state.rows_state.Goals as goal
 
@@ -29,8 +27,7 @@ returns-in-Met g c =
     (map (λ l. l.items) (drop i lists)) (map (λ l. l.items) rest) list.items
     c.in-Some.ensures.cases.0 (ap (map (λ l. l.items)) behind)
     (c.walk-state.ensures ∙ ap (λ l. with_rows val c.loop-list.state (list_rows c.in-Some.set.now l))
-    c.deref.ensures.value)
-    c.loop-list.invariant.left)
+    c.deref.ensures.value) c.loop-list.invariant.left)
     ∙ state-rows val (rows c.args.sets.now (map (λ l. l.items) lists))
 
 pub loop-list-preserved : goal.loop-list-preserved
@@ -47,8 +44,7 @@ loop-list-preserved g c =
     c.deref.ensures.value in
     record {
       left = next-list val _ c.loop-list.state c.walk-state.result c.loop-list.left.now c.in-Some.others.now
-          c.in-Some.set.now
-          (map (λ l. l.items) (drop i lists)) (map (λ l. l.items) rest) list.items
+          c.in-Some.set.now (map (λ l. l.items) (drop i lists)) (map (λ l. l.items) rest) list.items
           c.in-Some.ensures.cases.0 (ap (map (λ l. l.items)) behind) walked c.loop-list.invariant.left;
       few = few-left val c.loop-list.state c.walk-state.result c.in-Some.set.now list.items
           (flat_map (λ l. l.items) rest) (flat_map (λ l. l.items) (drop i lists)) walked

@@ -1,9 +1,6 @@
 use Rattle.std.proofs.Common.{◌≡◌, ◌+◌, ◌<◌, ◌^◌, drop, length, map}
 use Rattle.std.specs.Prelude.{flat_map}
-use Rattle.decisions.specs.Decisions.{values_in}
-use Rattle.resolvo_queue.specs.declared.row_state.RowState.TheVariants.{AllFalse}
-use Rattle.resolvo_queue.specs.Rows.{rows}
-use Rattle.resolvo_queue.specs.Rows.States.{counted, with_rows}
+use Rattle.resolvo_queue.proofs.Words.{AllFalse, counted, rows, values_in, with_rows}
 use Rattle.resolvo_queue.proofs.row_state.rows_state.Given as goal
 
 -- the rows that are left lead to what all rows lead to

@@ -1,8 +1,6 @@
 use Rattle.std.proofs.Common.{◌≡◌, ◌∷◌, ◌+◌, sym, ap, ◌∙◌, drop}
 use Rattle.std.proofs.lemmas.List.{drop_more}
-use Rattle.decisions.specs.Decisions.{values_in}
-use Rattle.resolvo_queue.specs.Rows.{list_rows}
-use Rattle.resolvo_queue.specs.Rows.States.{with_row, with_rows}
+use Rattle.resolvo_queue.proofs.Words.{list_rows, values_in, with_row, with_rows}
 use Rattle.resolvo_queue.proofs.Rows.States.{met-whole}
 use Rattle.resolvo_queue.proofs.row_state.walk.Goals as goal
 
@@ -19,7 +17,5 @@ returns-in-Met g c =
     let next : c.with_row-state.result ≡ with_row state (val x) (record { set = c.args.set; variable = x }) =
     c.with_row-state.ensures ∙ ap (λ v. with_row state v (record { set = c.args.set; variable = x })) c.value.ensures in
     met-whole val (with_rows val c.args.state (list_rows c.args.set list)) c.with_row-state.result
-    (list_rows c.args.set rest)
-    c.in-Met.is
-    (ap (λ s. with_rows val s (list_rows c.args.set rest)) next
+    (list_rows c.args.set rest) c.in-Met.is (ap (λ s. with_rows val s (list_rows c.args.set rest)) next
     ∙ (sym (ap (λ l. with_rows val state (list_rows c.args.set l)) behind) ∙ c.loop-variable.invariant.left))

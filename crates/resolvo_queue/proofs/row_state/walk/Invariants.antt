@@ -1,7 +1,5 @@
 use Rattle.std.proofs.Common.{◌≡◌, ◌+◌, ◌≤◌, drop, length}
-use Rattle.decisions.specs.Decisions.{values_in}
-use Rattle.resolvo_queue.specs.Rows.{list_rows}
-use Rattle.resolvo_queue.specs.Rows.States.{counted, with_rows}
+use Rattle.resolvo_queue.proofs.Words.{counted, list_rows, values_in, with_rows}
 use Rattle.resolvo_queue.proofs.row_state.walk.Given as goal
 
 -- the rows that are left lead to what all rows lead to

@@ -1,6 +1,5 @@
 use Rattle.std.proofs.Common.{subst, take_all}
-use Rattle.decisions.specs.Decisions.{values_in}
-use Rattle.resolvo_queue.specs.Parts.Queued.{AreWoken, IsOfClause}
+use Rattle.resolvo_queue.proofs.Words.{AreWoken, IsOfClause, values_in}
 use Rattle.resolvo_queue.proofs.Syncs.Queued.{grows_both, next_woken}
 use Rattle.resolvo_queue.proofs.waking.wake_clauses.Goals as goal
 

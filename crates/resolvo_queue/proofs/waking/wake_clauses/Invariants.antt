@@ -1,6 +1,5 @@
 use Rattle.std.proofs.Common.{take}
-use Rattle.decisions.specs.Decisions.{values_in}
-use Rattle.resolvo_queue.specs.Parts.Queued.{AreWoken, GrowsBy, IsOfClause}
+use Rattle.resolvo_queue.proofs.Words.{AreWoken, GrowsBy, IsOfClause, values_in}
 use Rattle.resolvo_queue.proofs.waking.wake_clauses.Given as goal
 
 abbrev pub invariant-loop-number : goal.invariant-loop-number

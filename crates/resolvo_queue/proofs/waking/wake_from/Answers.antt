@@ -11,8 +11,7 @@ loop-clause-preserved g c =
     let clauses = c.args.clauses.now in
     let index = c.loop-clause.clause-index in
     let item = c.clause-item.result in
-    let it_is : slice_get clauses (c.args.first + index) ≡ Some item =
-    from_rest clauses c.args.first index item
+    let it_is : slice_get clauses (c.args.first + index) ≡ Some item = from_rest clauses c.args.first index item
     (subst (λ xs. slice_get xs index ≡ Some item) (take_rest c.args.first clauses)
     (read_at _ index item c.loop-clause-test.true c.clause-item.is)) in
     record {
@@ -38,8 +37,7 @@ returns-in_err-wake-clause-grows g c =
 pub returns-clause-woken : goal.returns-clause-woken
 returns-clause-woken g c =
     let clauses = c.args.clauses.now in
-    let rest : length (drop c.args.first clauses) ≡ length clauses - c.args.first =
-    length-drop c.args.first clauses in
+    let rest : length (drop c.args.first clauses) ≡ length clauses - c.args.first = length-drop c.args.first clauses in
     let all = ap length (take_rest c.args.first clauses) in
     let past = c.loop-clause-test.false in
     λ n d e from t. c.loop-clause.invariant.woken n d from

@@ -1,8 +1,5 @@
 use Rattle.std.proofs.Common.{◌≡◌, ℕ, ◌+◌, ◌<◌, ◌≤◌, true, Some, slice_get}
-use Rattle.decisions.specs.Decisions.{values_in}
-use Rattle.decisions.specs.Literals.{known_true}
-use Rattle.resolvo_queue.specs.Parts.Queued.{IsQueued, GrowsBy, IsOfClause}
-use Rattle.resolvo_queue.specs.declared.tracked_clause.TrackedClause.{TrackedClause}
+use Rattle.resolvo_queue.proofs.Words.{GrowsBy, IsOfClause, IsQueued, known_true, TrackedClause, values_in}
 use Rattle.resolvo_queue.proofs.waking.wake_from.Given as goal
 
 abbrev pub invariant-loop-clause : goal.invariant-loop-clause

@@ -1,6 +1,5 @@
 use Rattle.std.proofs.Common.{◌∙◌, ap, slice_get, sym}
-use Rattle.decisions.specs.Decisions.{values_in}
-use Rattle.resolvo_queue.specs.Parts.Queued.{IsOfClause}
+use Rattle.resolvo_queue.proofs.Words.{IsOfClause, values_in}
 use Rattle.resolvo_queue.proofs.Syncs.Queued.{grows_none, none_past, none_woken, number_grows, number_woken, read_in}
 use Rattle.resolvo_queue.proofs.waking.wake_number.Goals as goal
 
@@ -9,16 +8,14 @@ returns-in-Some-clause-grows g c =
     let clauses = c.args.index.now.clauses.items in
     number_grows clauses c.requires c.args.number c.in-Some.clause.now
     (sym (read_in clauses c.as_slice.result.now c.as_slice.ensures.value c.args.number c.in-Some.clause.now
-    c.in-Some.ensures.lookup.0 c.in-Some.ensures.lookup.1))
-    c.args.queued.now c.wake.new.queued c.wake.ensures.grows
+    c.in-Some.ensures.lookup.0 c.in-Some.ensures.lookup.1)) c.args.queued.now c.wake.new.queued c.wake.ensures.grows
 
 pub returns-in-Some-clause-woken : goal.returns-in-Some-clause-woken
 returns-in-Some-clause-woken g c =
     let clauses = c.args.index.now.clauses.items in
     number_woken clauses (values_in c.args.map.now) c.args.number c.in-Some.clause.now c.wake.new.queued c.wake.result
     (sym (read_in clauses c.as_slice.result.now c.as_slice.ensures.value c.args.number c.in-Some.clause.now
-    c.in-Some.ensures.lookup.0 c.in-Some.ensures.lookup.1))
-    c.wake.ensures.woken
+    c.in-Some.ensures.lookup.0 c.in-Some.ensures.lookup.1)) c.wake.ensures.woken
 
 pub returns-in-None-clause-grows : goal.returns-in-None-clause-grows
 returns-in-None-clause-grows g c = grows_none (IsOfClause c.args.index.now.clauses.items) c.args.queued.now

@@ -1,7 +1,5 @@
-use Rattle.decisions.specs.Decisions.{values_in}
-use Rattle.resolvo_queue.specs.Falsified.{refs_of}
-use Rattle.resolvo_queue.specs.Pick.Inspection.{clause_of}
-use Rattle.resolvo_queue.specs.References.{literals_in, rows_in}
+use Rattle.resolvo_queue.proofs.Words.{clause_of, literals_in, refs_of, values_in}
+use Rattle.resolvo_queue.specs.References.{rows_in}
 use Rattle.resolvo_queue.proofs.Falsified.First.{falsified_met}
 use Rattle.resolvo_queue.proofs.asked.Asked.is_falsified.Goals as goal
 

@@ -1,6 +1,6 @@
 use Rattle.std.proofs.lemmas.Grind.{common_steps}
 use Rattle.std.proofs.Common.{◌≡◌, ◌∷◌, ◌++◌, [], None, ap, ◌∙◌, arith}
-use Rattle.resolvo_queue.specs.Parts.ByName.{numbers_under}
+use Rattle.resolvo_queue.specs.Parts.{numbers_under}
 use Rattle.resolvo_queue.proofs.Clauses.ByName.{have_more, same_more}
 use Rattle.resolvo_queue.proofs.clauses_by_name.ClausesByName.add.Goals as goal
 
@@ -26,8 +26,7 @@ returns-clause-same g c =
     (c.in-Ok.ensures.ok.0 ∙ c.new.ensures, c.in-Ok.ensures.ok.1) inside.lists.items
     c.push_reserved.new.self.items c.new-2.result
     (c.push_reserved.ensures.items ∙ ap (λ l. l ++ c.new-2.result ∷ []) c.reserve.ensures.items)
-    (c.len-place.ensures ∙ inside.lists.ok.0)
-    (λ list. list.items) c.new-2.ensures.items none name
+    (c.len-place.ensures ∙ inside.lists.ok.0) (λ list. list.items) c.new-2.ensures.items none name
     ∙ ap (λ b. numbers_under value_at b name) c.self.view_is
 
 pub returns-clause-place : goal.returns-clause-place

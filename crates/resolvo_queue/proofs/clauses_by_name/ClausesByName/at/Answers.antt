@@ -1,5 +1,5 @@
 use Rattle.std.proofs.Common.{◌≡◌, Some, sym, ap, ◌∙◌}
-use Rattle.resolvo_queue.specs.Parts.ByName.{list_in, numbers_under}
+use Rattle.resolvo_queue.specs.Parts.{list_in, numbers_under}
 use Rattle.resolvo_queue.proofs.Clauses.ByName.{list_read, place_within}
 use Rattle.resolvo_queue.proofs.clauses_by_name.ClausesByName.at.Goals as goal
 
@@ -14,6 +14,5 @@ returns-in-Some-clause-numbers g c =
     ∙ ap (λ b. numbers_under g.N.Slots.IdMap.value_at b c.args.name) c.self.view_is)
 
 pub returns-in-None-clause-numbers : goal.returns-in-None-clause-numbers
-returns-in-None-clause-numbers g c =
-    sym (ap (list_in _) (sym c.get.ensures ∙ (sym c.number.ensures ∙ c.in-None.is))) ∙
+returns-in-None-clause-numbers g c = sym (ap (list_in _) (sym c.get.ensures ∙ (sym c.number.ensures ∙ c.in-None.is))) ∙
     ap (λ b. numbers_under g.N.Slots.IdMap.value_at b c.args.name) c.self.view_is

@@ -1,6 +1,5 @@
 use Rattle.std.proofs.Common.{subst, take_all}
-use Rattle.resolvo_queue.specs.Parts.ByName.{IsEntered, numbers_under}
-use Rattle.resolvo_queue.specs.Members.{Stands}
+use Rattle.resolvo_queue.proofs.Words.{IsEntered, numbers_under, Stands}
 use Rattle.resolvo_queue.proofs.Clauses.ByName.{entered_more, keeps_both}
 use Rattle.resolvo_queue.proofs.clauses_by_name.ClausesByName.enter.Goals as goal
 
@@ -32,8 +31,6 @@ pub returns-clause-kept : goal.returns-clause-kept
 returns-clause-kept g c = c.loop-name.invariant.kept
 
 pub returns-clause-entered : goal.returns-clause-entered
-returns-clause-entered g c =
-    subst (λ names. (name : _) → Stands name names →
-    IsEntered g.N.Slots.IdMap.is_too_large (numbers_under g.N.Slots.IdMap.value_at c.loop-name.self)
-    c.args.number name)
+returns-clause-entered g c = subst (λ names. (name : _) → Stands name names →
+    IsEntered g.N.Slots.IdMap.is_too_large (numbers_under g.N.Slots.IdMap.value_at c.loop-name.self) c.args.number name)
     (take_all c.loop-name.name-index c.args.names.now c.loop-name-test.false) c.loop-name.invariant.entered

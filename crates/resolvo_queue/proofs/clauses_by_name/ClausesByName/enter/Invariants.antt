@@ -1,6 +1,5 @@
 use Rattle.std.proofs.Common.{take}
-use Rattle.resolvo_queue.specs.Parts.ByName.{IsEntered, KeepsNumbers, numbers_under}
-use Rattle.resolvo_queue.specs.Members.{Stands}
+use Rattle.resolvo_queue.proofs.Words.{IsEntered, KeepsNumbers, numbers_under, Stands}
 use Rattle.resolvo_queue.proofs.clauses_by_name.ClausesByName.enter.Given as goal
 
 abbrev pub invariant-loop-name : goal.invariant-loop-name

@@ -1,5 +1,5 @@
 use Rattle.std.proofs.Common.{ℕ, IfSome, ◌<◌, length, map, ap, sym, subst}
-use Rattle.resolvo_queue.specs.Parts.ByName.{list_in}
+use Rattle.resolvo_queue.specs.Parts.{list_in}
 use Rattle.resolvo_queue.proofs.clauses_by_name.ClausesByName.new.Goals as goal
 
 pub invariant_of-result : goal.invariant_of-result

@@ -1,7 +1,6 @@
 use Rattle.std.proofs.lemmas.Grind.{common_steps}
 use Rattle.std.proofs.Common.{◌≡◌, ◌-◌, Some, length, inr, subst, sym, ap, ◌∙◌, arith}
-use Rattle.resolvo_queue.specs.Parts.ByName.{numbers_under}
-use Rattle.resolvo_queue.specs.Members.{Stands}
+use Rattle.resolvo_queue.proofs.Words.{numbers_under, Stands}
 use Rattle.resolvo_queue.proofs.Clauses.ByName.{list_read, place_within, push_keeps, push_stands, refused_keeps}
 use Rattle.resolvo_queue.proofs.Lists.{stands_at}
 use Rattle.resolvo_queue.proofs.clauses_by_name.ClausesByName.put.Goals as goal
@@ -17,8 +16,7 @@ returns-then-is_last-clause-entered g c =
     c.self.invariant is in
     let last = stands_at c.as_slice.result.now (length c.as_slice.result.now - 1) c.args.number
     (c.is_last.ensures.0 c.if-is_last.true) in
-    inr (subst (Stands c.args.number)
-    (c.as_slice.ensures.value
+    inr (subst (Stands c.args.number) (c.as_slice.ensures.value
     ∙ (list_read (λ list. list.items) inside.lists.items c.in-Some.place c.index.result.now
     (value_at inside.places c.args.name) within c.index.ensures is
     ∙ ap (λ b. numbers_under value_at b c.args.name) c.self.view_is)) last)
@@ -58,8 +56,7 @@ returns-clause-entered g c =
     let within = place_within (value_at inside.places) inside.lists.items c.args.name c.in-Some.place
     c.self.invariant is in
     inr (push_stands (value_at inside.places) (λ list. list.items) inside.lists.items c.args.number c.in-Some.place
-    c.index_mut.result.now c.push.new.self within c.index_mut.ensures.value
-    c.in_ok-push.ensures.items c.args.name is)
+    c.index_mut.result.now c.push.new.self within c.index_mut.ensures.value c.in_ok-push.ensures.items c.args.name is)
 
 pub invariant_of-self : goal.invariant_of-self
 invariant_of-self g c = grind (arith, common_steps)

@@ -1,10 +1,8 @@
 use Rattle.std.proofs.Common.{◌≡◌, ◌∙◌, ap, option_map, Some, slice_get, sym, subst}
 use Rattle.std.specs.Prelude.{All}
-use Rattle.decisions.specs.Decisions.{values_in}
-use Rattle.resolvo_queue.specs.Falsified.{FindsFirst, is_falsified_in}
-use Rattle.resolvo_queue.specs.Queue.{Queue, StandsOn, queue_of}
-use Rattle.resolvo_queue.specs.References.{CanWalk, literals_in, references, rows_in}
-use Rattle.resolvo_queue.specs.Scan.{first_falsified, is_falsified}
+use Rattle.resolvo_queue.proofs.Words.{CanWalk, FindsFirst, first_falsified, is_falsified, is_falsified_in, literals_in}
+use Rattle.resolvo_queue.proofs.Words.{Queue, queue_of, references, StandsOn, values_in}
+use Rattle.resolvo_queue.specs.References.{rows_in}
 use Rattle.resolvo_queue.proofs.Picks.Registered.{askable_tracked}
 use Rattle.resolvo_queue.proofs.Falsified.Scanned.{first_id}
 use Rattle.resolvo_queue.proofs.decide_queue.DecideQueue.falsified.Goals as goal
@@ -31,6 +29,5 @@ returns g c =
     c.id_of.ensures ∙ first_id inside.tracked.index.clauses.items c.self.invariant.0.order.located
     (is_falsified val (literals_in refs) (rows_in refs)) c.falsified_clause.result
     (subst (λ cs. FindsFirst cs (is_falsified_in refs val) c.falsified_clause.result) c.as_slice.ensures.value
-    c.falsified_clause.ensures)
-    ∙ ap (λ (q : Queue g.row.D-NameId.Denot g.row.D-NameId-Set.Denot).
+    c.falsified_clause.ensures) ∙ ap (λ (q : Queue g.row.D-NameId.Denot g.row.D-NameId-Set.Denot).
     option_map (λ d. d.clause_id) (first_falsified val (literals_in refs) (rows_in refs) q.clauses)) c.self.view_is

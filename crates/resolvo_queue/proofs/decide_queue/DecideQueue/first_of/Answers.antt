@@ -1,7 +1,5 @@
 use Rattle.std.proofs.Common.{ap, ◌∙◌, slice_get}
-use Rattle.resolvo_queue.specs.Queue.{Queue}
-use Rattle.resolvo_queue.specs.Rows.ByVariable.{list_at}
-use Rattle.resolvo_queue.specs.Scan.First.{first_of}
+use Rattle.resolvo_queue.proofs.Words.{first_of, list_at, Queue}
 use Rattle.resolvo_queue.proofs.Clauses.Firsts.{next_first}
 use Rattle.resolvo_queue.proofs.decide_queue.DecideQueue.first_of.Goals as goal
 

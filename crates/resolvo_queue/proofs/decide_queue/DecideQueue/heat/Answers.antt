@@ -1,8 +1,6 @@
 use Rattle.std.proofs.Common.{sym, ap, refl, subst, ◌∙◌}
 use Rattle.std.proofs.lemmas.Result.{on_ok_weaker}
-use Rattle.resolvo_queue.specs.Parts.ByName.{numbers_under}
-use Rattle.resolvo_queue.specs.Members.{Stands}
-use Rattle.resolvo_queue.specs.Queue.{Queue, StandsOn, queue_of}
+use Rattle.resolvo_queue.proofs.Words.{numbers_under, Queue, queue_of, Stands, StandsOn}
 use Rattle.resolvo_queue.proofs.Clauses.Heated.{kept_heated, stands_heated}
 use Rattle.resolvo_queue.proofs.Clauses.ByName.{entered_lacks}
 use Rattle.resolvo_queue.proofs.decide_queue.DecideQueue.heat.Goals as goal
@@ -27,8 +25,7 @@ returns-clause-stands g c =
     queue_of c.heat_clauses.new.self inside.names.items inside.hot_names inside.woken in
     λ refs s. stands_heated g.D.NameId.Set.IdSet.has before after c.heat_clauses.ensures.heats refl refs
     (subst (StandsOn refs) (sym c.self.view_is) s)
-    c.heat_clauses.ensures.heats.clauses (ap (λ t. t.items) c.heat_clauses.ensures.same.1)
-    c.heat_clauses.ensures.same.2
+    c.heat_clauses.ensures.heats.clauses (ap (λ t. t.items) c.heat_clauses.ensures.same.1) c.heat_clauses.ensures.same.2
 
 -- the clauses that have the name are found by it
 pub returns-clause-lacks : goal.returns-clause-lacks
@@ -36,12 +33,10 @@ returns-clause-lacks g c =
     let inside = c.self.inside in
     let after : Queue g.row.D-NameId.Denot g.row.D-NameId-Set.Denot =
     queue_of c.heat_clauses.new.self inside.names.items inside.hot_names inside.woken in
-    on_ok_weaker c.heat_clauses.result
-    (λ hot fits. entered_lacks g.D.NameId.Slots.IdMap.is_too_large
+    on_ok_weaker c.heat_clauses.result (λ hot fits. entered_lacks g.D.NameId.Slots.IdMap.is_too_large
     (numbers_under g.D.NameId.Slots.IdMap.value_at inside.by_name) after.names after.inside.clauses c.args.name
     c.self.invariant.1 (sym (g.met.D.NameId.SolverId.hold_alike c.args.name).1 ∙ fits) (λ n d s is.
-    hot n d (subst (Stands n) (sym c.at.ensures.numbers) s) is))
-    c.heat_clauses.ensures.hot
+    hot n d (subst (Stands n) (sym c.at.ensures.numbers) s) is)) c.heat_clauses.ensures.hot
 
 pub returns-clause-fits : goal.returns-clause-fits
 returns-clause-fits g c = λ large. c.heat_clauses.ensures.none

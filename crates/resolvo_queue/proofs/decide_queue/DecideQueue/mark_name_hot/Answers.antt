@@ -1,7 +1,6 @@
 use Rattle.std.proofs.lemmas.Grind.{common_steps}
 use Rattle.std.proofs.Common.{sym, subst, arith}
-use Rattle.resolvo_queue.specs.Parts.Names.{ColdLack}
-use Rattle.resolvo_queue.specs.Queue.{Queue, StandsOn, queue_of}
+use Rattle.resolvo_queue.proofs.Words.{ColdLack, Queue, queue_of, StandsOn}
 use Rattle.resolvo_queue.proofs.Clauses.Heated.{cold_still, fits_if_ok, kept_hot, stands_hot}
 use Rattle.resolvo_queue.proofs.decide_queue.DecideQueue.mark_name_hot.Goals as goal
 
@@ -23,8 +22,7 @@ invariant_of-self-2 g c =
           (cold_still (has inside.hot_names) (has c.insert.new.self) c.args.name before.names before.inside.clauses
           c.in_ok-insert.ensures.ok c.self.invariant.0.cold
           (subst (λ (q : Queue g.row.D-NameId.Denot g.row.D-NameId-Set.Denot).
-          ColdLack c.args.name q.names q.inside.clauses) (sym c.self.view_is)
-          (c.in_ok-heat.ensures.lacks
+          ColdLack c.args.name q.names q.inside.clauses) (sym c.self.view_is) (c.in_ok-heat.ensures.lacks
           (fits_if_ok (g.D.NameId.Set.IdSet.is_too_large c.args.name) c.insert.result _ c.in_ok-insert.was
           c.insert.ensures.too_large)))),
       c.self.invariant.1,

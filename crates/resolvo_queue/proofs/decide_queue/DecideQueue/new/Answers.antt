@@ -1,7 +1,5 @@
 use Rattle.std.proofs.Common.{ap, map, refl}
-use Rattle.resolvo_queue.specs.Parts.ByName.{numbers_under}
-use Rattle.resolvo_queue.specs.Pick.Inspection.{clause_of}
-use Rattle.resolvo_queue.specs.Queue.{Queue, queue_of}
+use Rattle.resolvo_queue.proofs.Words.{clause_of, numbers_under, Queue, queue_of}
 use Rattle.resolvo_queue.proofs.Clauses.ByName.{entered_none}
 use Rattle.resolvo_queue.proofs.Clauses.New.{kept_new, stands_new}
 use Rattle.resolvo_queue.proofs.decide_queue.DecideQueue.new.Goals as goal

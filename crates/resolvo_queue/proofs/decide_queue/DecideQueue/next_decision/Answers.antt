@@ -2,19 +2,14 @@ use Rattle.std.proofs.lemmas.Grind.{common_steps}
 use Rattle.std.proofs.Common.{◌≡◌, ◌≤◌, length, map, slice_get, sym, ap, refl, subst, ◌∙◌, arith}
 use Rattle.std.specs.Prelude.{All}
 use Rattle.std.proofs.lemmas.Result.{IfOk-weaker}
-use Rattle.decisions.specs.Decisions.{values_in}
-use Rattle.resolvo_queue.specs.Pick.Inspection.{clause_of}
-use Rattle.resolvo_queue.specs.Pick.{eligible, pick}
-use Rattle.resolvo_queue.specs.Queue.{AreNamed, IsSynced, OnlyHotScore, Queue, StandsOn, queue_of}
-use Rattle.resolvo_queue.specs.Pick.Questions.{clause_literals}
-use Rattle.resolvo_queue.specs.References.{CanWalk, literals_in, references, rows_in, score_in}
-use Rattle.resolvo_queue.specs.WalkCounts.{WalksOnce, owed}
+use Rattle.resolvo_queue.proofs.Words.{AllWokenFrom, AreNamed, CanWalk, clause_literals, clause_of, eligible, GrowsBy}
+use Rattle.resolvo_queue.proofs.Words.{IsOfClause, IsSynced, literals_in, OnlyHotScore, owed, pick, Queue, queue_of}
+use Rattle.resolvo_queue.proofs.Words.{references, score_in, StandsOn, values_in, WalksOnce}
+use Rattle.resolvo_queue.specs.References.{rows_in}
 use Rattle.resolvo_queue.proofs.Clauses.Synced.{kept_still, order_asked, order_grown}
 use Rattle.resolvo_queue.proofs.Clauses.Synced.{ready_asked, stands_asked, stands_partly}
 use Rattle.resolvo_queue.proofs.Clauses.Counts.{own_number}
 use Rattle.resolvo_queue.proofs.Walks.Counts.{walks_nothing}
-use Rattle.resolvo_queue.specs.Parts.Queued.{GrowsBy, IsOfClause}
-use Rattle.resolvo_queue.specs.Routing.Synced.{AllWokenFrom}
 use Rattle.resolvo_queue.proofs.Picks.Registered.{askable_tracked, cold_sets, cold_without_score}
 use Rattle.resolvo_queue.proofs.Picks.Steps.{ready_by}
 use Rattle.resolvo_queue.proofs.Picks.Unbeaten.{decides_unbeaten, none_decided, picked_decided, refused_decided}
@@ -48,19 +43,16 @@ returns-in_err-wake_from-clause-stands g c =
     let after : Queue g.row.D-NameId.Denot g.row.D-NameId-Set.Denot =
     queue_of (record inside.tracked { queued = c.wake_from.new.queued }) inside.names.items inside.hot_names
     inside.woken in
-    let refs = references (g.D.Interner.universe c.args.provider.now) c.args.reader.now.lists
-    c.args.disjunctions.now in
+    let refs = references (g.D.Interner.universe c.args.provider.now) c.args.reader.now.lists c.args.disjunctions.now in
     stands_partly g.D.NameId.Set.IdSet.has refs before after c.self.invariant.0
     (subst (StandsOn refs) (sym c.self.view_is) c.requires.stands) refl refl refl refl refl refl refl refl
     (subst (λ cs. GrowsBy (IsOfClause cs) inside.tracked.queued c.wake_from.new.queued)
     c.as_slice.ensures.value c.wake_from.ensures.grows)
 
 pub returns-in_err-wake_from-clause-walks : goal.returns-in_err-wake_from-clause-walks
-returns-in_err-wake_from-clause-walks g c =
-    subst (λ (q : Queue g.row.D-NameId.Denot g.row.D-NameId-Set.Denot).
+returns-in_err-wake_from-clause-walks g c = subst (λ (q : Queue g.row.D-NameId.Denot g.row.D-NameId-Set.Denot).
     WalksOnce q.inside.requirements c.self.inside.tracked.requirements c.args.reader.now.walked
-    c.args.reader.now.walked) c.self.view_is
-    (walks_nothing c.self.inside.tracked.requirements c.args.reader.now.walked)
+    c.args.reader.now.walked) c.self.view_is (walks_nothing c.self.inside.tracked.requirements c.args.reader.now.walked)
 
 pub returns-in_err-wake_from-clause-owed : goal.returns-in_err-wake_from-clause-owed
 returns-in_err-wake_from-clause-owed g c =
@@ -71,8 +63,7 @@ next_offer-requires-clause-asked g c =
     let inside = c.self.inside in
     let before : Queue g.row.D-NameId.Denot g.row.D-NameId-Set.Denot =
     queue_of inside.tracked inside.names.items inside.hot_names inside.woken in
-    let refs = references (g.D.Interner.universe c.args.provider.now) c.args.reader.now.lists
-    c.args.disjunctions.now in
+    let refs = references (g.D.Interner.universe c.args.provider.now) c.args.reader.now.lists c.args.disjunctions.now in
     let stands : StandsOn refs before = subst (StandsOn refs) (sym c.self.view_is) c.requires.stands in
     record {
       located = c.self.invariant.0.order.located;
@@ -83,8 +74,7 @@ next_offer-requires-clause-asked g c =
       listed = stands.listed;
       ready = ready_asked g.D.NameId.Set.IdSet.has refs before before c.self.invariant.0 stands refl refl refl
           (values_in c.args.map.now)
-          (subst (IsSynced (values_in c.args.map.now)) (sym c.self.view_is) c.requires.synced)
-          c.wake_from.new.queued
+          (subst (IsSynced (values_in c.args.map.now)) (sym c.self.view_is) c.requires.synced) c.wake_from.new.queued
           (subst (λ cs. GrowsBy (IsOfClause cs) inside.tracked.queued c.wake_from.new.queued)
           c.as_slice.ensures.value c.wake_from.ensures.grows)
           (subst (λ cs. AllWokenFrom inside.woken cs (values_in c.args.map.now) c.wake_from.new.queued)
@@ -128,55 +118,47 @@ returns-clause-stands g c =
     queue_of c.next_offer.new.tracked inside.names.items inside.hot_names c.len-self-inside.result in
     let len : c.len-self-inside.result ≡ length inside.tracked.index.clauses.items =
     c.len-self-inside.ensures ∙ inside.tracked.index.clauses.ok.0 in
-    let refs = references (g.D.Interner.universe c.args.provider.now) c.args.reader.now.lists
-    c.args.disjunctions.now in
+    let refs = references (g.D.Interner.universe c.args.provider.now) c.args.reader.now.lists c.args.disjunctions.now in
     let index = c.next_offer.ensures.walks.index in
     let stands : StandsOn refs before = subst (StandsOn refs) (sym c.self.view_is) c.requires.stands in
     stands_asked g.D.NameId.Set.IdSet.has refs before after c.self.invariant.0 stands
     (ap (λ ix. map clause_of ix.clauses.items) index) (ap (λ ix. ix.clauses.items) index)
-    (ap (λ ix. ix.by_condition) index)
-    (values_in c.args.map.now)
+    (ap (λ ix. ix.by_condition) index) (values_in c.args.map.now)
     (subst (IsSynced (values_in c.args.map.now)) (sym c.self.view_is) c.requires.synced)
     (ap (λ t. t.items) c.next_offer.ensures.walks.trail) len c.next_offer.ensures.asked.listed
     (ready_by c.next_offer.ensures.walks.index c.next_offer.ensures.asked)
 
 pub returns-clause-picked : goal.returns-clause-picked
 returns-clause-picked g c =
-    let refs = references (g.D.Interner.universe c.args.provider.now) c.args.reader.now.lists
-    c.args.disjunctions.now in
+    let refs = references (g.D.Interner.universe c.args.provider.now) c.args.reader.now.lists c.args.disjunctions.now in
     let val = values_in c.args.map.now in
     let score = score_in refs (g.D.NameId.Scores.IdMap.value_at c.args.scores.now) in
     picked_decided c.next_offer.result c.decision_of.result _ _ c.decision_of.ensures c.next_offer.ensures.picked
-    (ap pick (offered_registered val (literals_in refs) (rows_in refs) score
-    c.self.inside.tracked.index.clauses.items)
+    (ap pick (offered_registered val (literals_in refs) (rows_in refs) score c.self.inside.tracked.index.clauses.items)
     ∙ ap (λ (q : Queue g.row.D-NameId.Denot g.row.D-NameId-Set.Denot).
     pick (eligible val (literals_in refs) (rows_in refs) score q.clauses)) c.self.view_is)
 
 pub returns-clause-none : goal.returns-clause-none
 returns-clause-none g c =
-    let refs = references (g.D.Interner.universe c.args.provider.now) c.args.reader.now.lists
-    c.args.disjunctions.now in
+    let refs = references (g.D.Interner.universe c.args.provider.now) c.args.reader.now.lists c.args.disjunctions.now in
     let val = values_in c.args.map.now in
     let score = score_in refs (g.D.NameId.Scores.IdMap.value_at c.args.scores.now) in
     IfOk-weaker c.decision_of.result _ _
     (none_decided val (literals_in refs) (rows_in refs) score c.args.self.now.clauses)
     (picked_decided c.next_offer.result c.decision_of.result _ _ c.decision_of.ensures c.next_offer.ensures.picked
-    (ap pick (offered_registered val (literals_in refs) (rows_in refs) score
-    c.self.inside.tracked.index.clauses.items)
+    (ap pick (offered_registered val (literals_in refs) (rows_in refs) score c.self.inside.tracked.index.clauses.items)
     ∙ ap (λ (q : Queue g.row.D-NameId.Denot g.row.D-NameId-Set.Denot).
     pick (eligible val (literals_in refs) (rows_in refs) score q.clauses)) c.self.view_is))
 
 pub returns-clause-unbeaten : goal.returns-clause-unbeaten
 returns-clause-unbeaten g c =
-    let refs = references (g.D.Interner.universe c.args.provider.now) c.args.reader.now.lists
-    c.args.disjunctions.now in
+    let refs = references (g.D.Interner.universe c.args.provider.now) c.args.reader.now.lists c.args.disjunctions.now in
     let val = values_in c.args.map.now in
     let score = score_in refs (g.D.NameId.Scores.IdMap.value_at c.args.scores.now) in
     IfOk-weaker c.decision_of.result _ _
     (decides_unbeaten (eligible val (literals_in refs) (rows_in refs) score c.args.self.now.clauses))
     (picked_decided c.next_offer.result c.decision_of.result _ _ c.decision_of.ensures c.next_offer.ensures.picked
-    (ap pick (offered_registered val (literals_in refs) (rows_in refs) score
-    c.self.inside.tracked.index.clauses.items)
+    (ap pick (offered_registered val (literals_in refs) (rows_in refs) score c.self.inside.tracked.index.clauses.items)
     ∙ ap (λ (q : Queue g.row.D-NameId.Denot g.row.D-NameId-Set.Denot).
     pick (eligible val (literals_in refs) (rows_in refs) score q.clauses)) c.self.view_is))
 
@@ -185,11 +167,9 @@ returns-clause-memory g c = refused_decided c.next_offer.result c.decision_of.re
     c.next_offer.ensures.memory
 
 pub returns-clause-walks : goal.returns-clause-walks
-returns-clause-walks g c =
-    subst (λ (q : Queue g.row.D-NameId.Denot g.row.D-NameId-Set.Denot).
+returns-clause-walks g c = subst (λ (q : Queue g.row.D-NameId.Denot g.row.D-NameId-Set.Denot).
     WalksOnce q.inside.requirements c.next_offer.new.tracked.requirements c.args.reader.now.walked
-    c.next_offer.new.reader.walked)
-    c.self.view_is c.next_offer.ensures.walks.once
+    c.next_offer.new.reader.walked) c.self.view_is c.next_offer.ensures.walks.once
 
 pub returns-clause-owed : goal.returns-clause-owed
 returns-clause-owed g c = λ r. c.next_offer.ensures.walks.once.owed r ∙

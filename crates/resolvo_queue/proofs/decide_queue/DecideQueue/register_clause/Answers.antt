@@ -2,12 +2,8 @@ use Rattle.std.proofs.lemmas.Grind.{common_steps}
 use Rattle.std.proofs.Common.{◌≡◌, ◌⊎◌, arith, ◌<◌, ◌^◌, ◌-◌, [], ◌∷◌, ◌++◌}
 use Rattle.std.proofs.Common.{map, length, sym, ap, refl, subst, ◌∙◌}
 use Rattle.std.proofs.lemmas.List.{length-map}
-use Rattle.resolvo_queue.specs.Parts.ByName.{IsEntered, numbers_under}
-use Rattle.resolvo_queue.specs.Pick.Inspection.{clause_of}
-use Rattle.resolvo_queue.specs.Queue.{IsRegistered, Queue, StandsOn, queue_of}
-use Rattle.resolvo_queue.specs.References.{references}
-use Rattle.resolvo_queue.specs.declared.requires_clause.RequiresClause.{RequiresClause}
-use Rattle.resolvo_queue.specs.WalkCounts.{owed, owed_in, walks}
+use Rattle.resolvo_queue.proofs.Words.{clause_of, IsEntered, IsRegistered, numbers_under, owed, owed_in, Queue}
+use Rattle.resolvo_queue.proofs.Words.{queue_of, references, RequiresClause, StandsOn, walks}
 use Rattle.resolvo_queue.proofs.Clauses.ByName.{entered_last, entered_still}
 use Rattle.resolvo_queue.proofs.Clauses.Registration.{kept_refused, kept_registered, not_full}
 use Rattle.resolvo_queue.proofs.Clauses.Registration.{registered_whole, stands_refused, stands_registered}
@@ -77,15 +73,11 @@ invariant_of-self-2 g c =
     let number : c.len-number.result ≡ length before.names =
     c.len-number.ensures ∙ (inside.tracked.index.clauses.ok.0 ∙ sym c.self.invariant.0.names) in (
       kept_registered g.D.NameId.Set.IdSet.has before after _ c.has_hot_name-is_hot.result
-          c.condition_of-literals.result.now c.args.names.now c.self.invariant.0
-          c.in_ok-register.ensures.ok refl few
-          names
-          (λ n. refl)
-          c.has_hot_name-is_hot.ensures,
+          c.condition_of-literals.result.now c.args.names.now c.self.invariant.0 c.in_ok-register.ensures.ok refl few
+          names (λ n. refl) c.has_hot_name-is_hot.ensures,
       entered_last is_too_large (under inside.by_name)
           (under c.enter.new.self) before.names after.names c.args.names.now names c.enter.ensures.kept
-          c.self.invariant.1
-          (λ name s. subst (λ k. IsEntered is_too_large (under c.enter.new.self) k name) number
+          c.self.invariant.1 (λ name s. subst (λ k. IsEntered is_too_large (under c.enter.new.self) k name) number
           (c.in_ok-enter.ensures.entered name s)),
     )
 
@@ -102,8 +94,7 @@ returns-clause-ok g c =
       condition = c.args.condition;
       clause_id = c.args.clause_id;
     } in
-    subst (λ q. IsRegistered g.D.NameId.Set.IdSet.has clause c.args.names.now q after)
-    c.self.view_is (record {
+    subst (λ q. IsRegistered g.D.NameId.Set.IdSet.has clause c.args.names.now q after) c.self.view_is (record {
       clauses = registered_whole clause c.has_hot_name-is_hot.result c.condition_of-literals.result.now
           before.inside after.inside c.in_ok-register.ensures.ok;
       names = c.and-self-inside.ensures;
@@ -139,8 +130,7 @@ returns-in_err-register-clause-walks g c = λ r. c.register.ensures.owes.walks r
     ap (λ (q : Queue g.row.D-NameId.Denot g.row.D-NameId-Set.Denot). walks q r) c.self.view_is
 
 pub returns-in_err-register-clause-owed : goal.returns-in_err-register-clause-owed
-returns-in_err-register-clause-owed g c = λ r.
-    subst (λ (q : Queue g.row.D-NameId.Denot g.row.D-NameId-Set.Denot).
+returns-in_err-register-clause-owed g c = λ r. subst (λ (q : Queue g.row.D-NameId.Denot g.row.D-NameId-Set.Denot).
     (owed_in c.register.new.self.requirements r ≡ owed q r) ⊎
     ((r ≡ c.args.requirement) × (owed q r ≡ 0) × (owed_in c.register.new.self.requirements r ≡ 1)))
     c.self.view_is (c.register.ensures.owes.owed r)
@@ -150,8 +140,7 @@ returns-clause-walks g c = λ r. c.register.ensures.owes.walks r ∙
     ap (λ (q : Queue g.row.D-NameId.Denot g.row.D-NameId-Set.Denot). walks q r) c.self.view_is
 
 pub returns-clause-owed : goal.returns-clause-owed
-returns-clause-owed g c = λ r.
-    subst (λ (q : Queue g.row.D-NameId.Denot g.row.D-NameId-Set.Denot).
+returns-clause-owed g c = λ r. subst (λ (q : Queue g.row.D-NameId.Denot g.row.D-NameId-Set.Denot).
     (owed_in c.register.new.self.requirements r ≡ owed q r) ⊎
     ((r ≡ c.args.requirement) × (owed q r ≡ 0) × (owed_in c.register.new.self.requirements r ≡ 1)))
     c.self.view_is (c.register.ensures.owes.owed r)

@@ -1,10 +1,9 @@
 use Rattle.std.proofs.Common.{◌≡◌, ◌+◌, ◌≤◌, min, length, false, map}
 use Rattle.std.proofs.Common.{take, sym, ap, refl, subst, arith, ◌∙◌}
 use Rattle.std.proofs.lemmas.List.{take-take}
-use Rattle.resolvo_queue.specs.Pick.Inspection.{clause_of}
-use Rattle.resolvo_queue.specs.Queue.{AgreesBelow, Queue, StandsOn, queue_of}
+use Rattle.resolvo_queue.proofs.Words.{AgreesBelow, changed_from, clause_of, HasNoneOf, owed, owed_in, Queue, queue_of}
+use Rattle.resolvo_queue.proofs.Words.{StandsOn, walks}
 use Rattle.resolvo_queue.specs.References.{rows_in}
-use Rattle.resolvo_queue.specs.WalkCounts.{HasNoneOf, changed_from, owed, owed_in, walks}
 use Rattle.resolvo_queue.proofs.Clauses.Synced.{kept_still, order_after_sync, stands_after}
 use Rattle.resolvo_queue.proofs.Clauses.Counts.{own_number}
 use Rattle.resolvo_queue.proofs.Walks.Owed.{owed_kept, owes_one_more}
@@ -16,10 +15,8 @@ sync-requires-clause-numbers g c = λ n d e.
 
 pub invariant_of-self : goal.invariant_of-self
 invariant_of-self g c = (
-  kept_still c.self.invariant.0
-      (order_after_sync (ap (λ ix. ix.clauses.items) c.sync.ensures.same.0)
-      (ap (λ ix. ix.by_parent) c.sync.ensures.same.0)
-      c.sync.ensures.only c.sync.ensures.grows c.self.invariant.0.order)
+  kept_still c.self.invariant.0 (order_after_sync (ap (λ ix. ix.clauses.items) c.sync.ensures.same.0)
+      (ap (λ ix. ix.by_parent) c.sync.ensures.same.0) c.sync.ensures.only c.sync.ensures.grows c.self.invariant.0.order)
       (ap (λ ix. ix.clauses.items) c.sync.ensures.same.0) refl refl c.self.invariant.0.woken,
   c.self.invariant.1,
 )
@@ -45,8 +42,7 @@ returns-clause-stands g c =
     queue_of c.sync.new.self inside.names.items inside.hot_names inside.woken in
     let less : c.min-floor.result ≤ c.args.floor = grind (arith, c.min.ensures, c.min-floor.ensures) in
     λ refs s. stands_after g.D.NameId.Set.IdSet.has refs before after c.self.invariant.0
-    (subst (StandsOn refs) (sym c.self.view_is) s)
-    (ap (λ ix. map clause_of ix.clauses.items) c.sync.ensures.same.0)
+    (subst (StandsOn refs) (sym c.self.view_is) s) (ap (λ ix. map clause_of ix.clauses.items) c.sync.ensures.same.0)
     (ap (λ ix. ix.clauses.items) c.sync.ensures.same.0) (ap (λ ix. ix.by_condition) c.sync.ensures.same.0)
     c.args.floor c.min-floor.result c.args.trail.now _ less
     (subst (λ (q : Queue g.row.D-NameId.Denot g.row.D-NameId-Set.Denot). q.must_start_anew ≡ false →

@@ -1,7 +1,5 @@
 use Rattle.std.proofs.Common.{◌+◌, ◌-◌, map, vec_len}
-use Rattle.typed_ids.specs.TotalMaps.{SameValues}
-use Rattle.resolvo_queue.specs.Rows.ByVariable.{list_at}
-use Rattle.resolvo_queue.specs.Rows.ShortLists.{items_in}
+use Rattle.resolvo_queue.proofs.Words.{items_in, list_at, SameValues}
 use Rattle.resolvo_queue.proofs.lists_by_variable.ListsByVariable.reach.Given as goal
 
 abbrev pub invariant-loop-alloc : goal.invariant-loop-alloc

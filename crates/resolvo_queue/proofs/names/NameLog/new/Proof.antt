@@ -17,11 +17,9 @@ new_spec 𝓤 𝓛 𝓜 𝓡 wired N laws =
     (λ κs. tt) (λ κs. tt) (λ κs qs bounds a _ are.
     let y : W.Ghost = ((κs, qs, bounds, a, tt), tt) in
     qed 𝓛 (((‵ (flft κs.0 qs.0) ⊛ ‵ ftrue) ⊛ ‵ ftrue) ∷ raw ((c κs a).requires tt) ∷ []) ∵ split ! $ keep ! (0 ∷ []) $
-    enter ! _ _ _ _ _ $ alloc_all ! (λ l. pass_all ! refl tt $
-    sets ! (agg ! (no_more !)) refl (tt, tt) $
+    enter ! _ _ _ _ _ $ alloc_all ! (λ l. pass_all ! refl tt $ sets ! (agg ! (no_more !)) refl (tt, tt) $
     sets ! (agg ! (and_then ! (get ! refl) (no_more !))) refl (tt, (tt, tt)) $
     returns ! (look_at ! 0 refl) $ free_all ! refl $
     suffices ! _ (ends_at 𝓛 ended tt c y marked (record { of = record {}; items = [] }) tt tt) $ says ! refl $
     nothing ! $ owned ! (Struct log) _ (Struct-Makes 𝓛 log ((λ x vs vss. (tt, tt)), tt)) (record {}, tt) _
-    ((mark ∷ [], tt), (refl, ((tt, (refl, tt)), tt))) $ fjoin ! $
-    nothing ! $ move ! (2 ∷ []) $ done !))
+    ((mark ∷ [], tt), (refl, ((tt, (refl, tt)), tt))) $ fjoin ! $ nothing ! $ move ! (2 ∷ []) $ done !))

@@ -1,8 +1,6 @@
 use Rattle.std.proofs.Common.{◌≡◌, [], ◌∷◌, ◌++◌, map, length, sym, subst, ap, ◌∙◌, arith}
 use Rattle.std.proofs.lemmas.List.{length-map, map-append}
-use Rattle.providers.specs.RequirementMap.{with_entry}
-use Rattle.resolvo_queue.specs.Parts.RecordView.{record_seen, ArePlaced}
-use Rattle.resolvo_queue.specs.Parts.Records.{HasNoPlace, fresh}
+use Rattle.resolvo_queue.proofs.Words.{ArePlaced, fresh, HasNoPlace, record_seen, with_entry}
 use Rattle.resolvo_queue.proofs.Clauses.Entries.{no_entry, placed_more}
 use Rattle.resolvo_queue.proofs.requirements.Requirements.add.Goals as goal
 
@@ -20,6 +18,5 @@ invariant_of-self-2 g c =
     ap (λ t. ts ++ t ∷ []) c.new_record-record.ensures) in
     subst (λ l. ArePlaced l c.insert.new.self) (sym whole)
     (subst (ArePlaced (ts ++ fresh r ∷ [])) (sym (c.in-Ok.ensures.ok ∙ ap (with_entry c.self.inside.places r) here))
-    (placed_more ts c.self.inside.places r c.self.invariant
-    (no_entry ts c.self.inside.places r c.self.invariant
+    (placed_more ts c.self.inside.places r c.self.invariant (no_entry ts c.self.inside.places r c.self.invariant
     (subst (λ l. HasNoPlace l r) (sym c.self.view_is) c.requires))))

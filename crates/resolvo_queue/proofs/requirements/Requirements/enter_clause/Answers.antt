@@ -7,8 +7,7 @@ use Rattle.resolvo_queue.proofs.requirements.Requirements.enter_clause.Goals as 
 pub returns-clause-gains : goal.returns-clause-gains
 returns-clause-gains g c =
     enters_gain c.args.number c.args.requirement c.in_ok-place.place c.args.self.now c.enter.new.self
-    c.add_clause.new.self
-    c.in_ok-place.ensures.more c.in_ok-add_clause.ensures.ok
+    c.add_clause.new.self c.in_ok-place.ensures.more c.in_ok-add_clause.ensures.ok
 
 pub returns-clause-placed : goal.returns-clause-placed
 returns-clause-placed g c =
@@ -23,8 +22,7 @@ returns-clause-found g c =
 pub returns-clause-owes : goal.returns-clause-owes
 returns-clause-owes g c =
     owes_entered c.args.number c.args.requirement c.in_ok-place.place c.args.self.now c.enter.new.self
-    c.add_clause.new.self
-    c.in_ok-place.ensures.more c.in_ok-add_clause.ensures.ok
+    c.add_clause.new.self c.in_ok-place.ensures.more c.in_ok-add_clause.ensures.ok
 
 pub returns-in_err-add_clause-clause-owes : goal.returns-in_err-add_clause-clause-owes
 returns-in_err-add_clause-clause-owes g c =
@@ -32,7 +30,6 @@ returns-in_err-add_clause-clause-owes g c =
     (owes_record c.args.requirement c.args.self.now c.enter.new.self c.in_ok-place.ensures.more)
 
 pub returns-clause-owes_one : goal.returns-clause-owes_one
-returns-clause-owes_one g c =
-    c.in_ok-add_clause.ensures.owes c.args.requirement
+returns-clause-owes_one g c = c.in_ok-add_clause.ensures.owes c.args.requirement
     (entered_place c.args.number c.args.requirement c.in_ok-place.place c.enter.new.self c.add_clause.new.self
     c.in_ok-add_clause.ensures.ok c.in_ok-place.ensures.place)

@@ -1,5 +1,5 @@
 use Rattle.std.proofs.Common.{map}
-use Rattle.resolvo_queue.specs.Parts.RecordView.{record_seen}
+use Rattle.resolvo_queue.specs.Parts.{record_seen}
 use Rattle.resolvo_queue.proofs.Clauses.Records.{no_place, one_place}
 use Rattle.resolvo_queue.proofs.requirements.Requirements.place.Goals as goal
 

@@ -6,10 +6,8 @@ use Rattle.resolvo_queue.proofs.row_reader.RowReader.walk.Goals.{in-Undecided, i
 
 pub returns-clause-set : goal.returns-clause-set
 returns-clause-set g c = elim c.match-requirement_state.branch [
-  | in-Undecided w ↦
-      rw w.result-is (undecided-known (g.I.Interner.universe c.args.interner.now)
-      (values_in c.args.map.now) c.self.inside.lists.now
-      c.args.requirement w.in-Undecided.frontier
+  | in-Undecided w ↦ rw w.result-is (undecided-known (g.I.Interner.universe c.args.interner.now)
+      (values_in c.args.map.now) c.self.inside.lists.now c.args.requirement w.in-Undecided.frontier
       (g.met.I.Interner.union_sets_known c.args.interner.now) c.requires.known
       (sym c.requirement_state.ensures ∙ w.in-Undecided.is))
   | in-Met w ↦ rw w.result-is tt

@@ -1,7 +1,5 @@
 use Rattle.std.proofs.Common.{◌≡◌, ◌∙◌, ℕ, List, true, Some, refl, slice_get, subst, take_all}
-use Rattle.resolvo_queue.specs.Members.{Stands}
-use Rattle.resolvo_queue.specs.Parts.Tracking.{tracking_of}
-use Rattle.resolvo_queue.specs.declared.tracked_clause.TrackedClause.{TrackedClause}
+use Rattle.resolvo_queue.proofs.Words.{Stands, TrackedClause, tracking_of}
 use Rattle.resolvo_queue.proofs.Syncs.HotNames.{heats_both, heats_none, hot_more, none_within}
 use Rattle.resolvo_queue.proofs.tracked_clauses.TrackedClauses.heat_clauses.Goals as goal
 
@@ -15,8 +13,7 @@ loop-number-init g c = record {
 }
 
 pub returns-in_err-heat_number-clause-heats : goal.returns-in_err-heat_number-clause-heats
-returns-in_err-heat_number-clause-heats g c =
-    heats_both (tracking_of c.args.self.now) (tracking_of c.loop-number.self)
+returns-in_err-heat_number-clause-heats g c = heats_both (tracking_of c.args.self.now) (tracking_of c.loop-number.self)
     (tracking_of c.heat_number.new.self) c.loop-number.invariant.heats c.heat_number.ensures.heats
 
 pub returns-in_err-heat_number-clause-none : goal.returns-in_err-heat_number-clause-none
@@ -46,8 +43,7 @@ pub returns-clause-heats : goal.returns-clause-heats
 returns-clause-heats g c = c.loop-number.invariant.heats
 
 pub returns-clause-hot : goal.returns-clause-hot
-returns-clause-hot g c =
-    subst (λ (ns : List ℕ). (n : ℕ) (d : TrackedClause) → Stands n ns →
+returns-clause-hot g c = subst (λ (ns : List ℕ). (n : ℕ) (d : TrackedClause) → Stands n ns →
     slice_get c.loop-number.self.index.clauses.items n ≡ Some d → d.is_hot ≡ true)
     (take_all c.loop-number.number-index c.args.numbers.now c.loop-number-test.false) c.loop-number.invariant.hot
 

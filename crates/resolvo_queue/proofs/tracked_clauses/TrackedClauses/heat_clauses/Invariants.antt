@@ -1,7 +1,5 @@
 use Rattle.std.proofs.Common.{◌≡◌, ℕ, true, Some, slice_get, take}
-use Rattle.resolvo_queue.specs.Members.{Stands}
-use Rattle.resolvo_queue.specs.Parts.Tracking.{Heats, tracking_of}
-use Rattle.resolvo_queue.specs.declared.tracked_clause.TrackedClause.{TrackedClause}
+use Rattle.resolvo_queue.proofs.Words.{Heats, Stands, TrackedClause, tracking_of}
 use Rattle.resolvo_queue.proofs.tracked_clauses.TrackedClauses.heat_clauses.Given as goal
 
 abbrev pub invariant-loop-number : goal.invariant-loop-number

@@ -1,12 +1,6 @@
 use Rattle.std.proofs.Common.{◌≡◌, [], ◌∷◌, ◌++◌, length, MatchOption, slice_get, sym, ap, refl, ◌∙◌, subst, arith}
-use Rattle.typed_ids.specs.TotalMaps.{IsUpdate}
-use Rattle.resolvo_queue.specs.Rows.ByVariable.{list_at}
-use Rattle.resolvo_queue.specs.Members.{Stands}
-use Rattle.resolvo_queue.specs.Pick.Ready.{at_position}
-use Rattle.resolvo_queue.specs.Parts.Numbers.{FoundByAll}
-use Rattle.resolvo_queue.specs.Scan.Order.{position_in}
-use Rattle.resolvo_queue.specs.Parts.Records.{clauses_at}
-use Rattle.resolvo_queue.specs.declared.tracked_clause.TrackedClause.{TrackedClause}
+use Rattle.resolvo_queue.proofs.Words.{at_position, clauses_at, FoundByAll, IsUpdate, list_at, position_in, Stands}
+use Rattle.resolvo_queue.proofs.Words.{TrackedClause}
 use Rattle.resolvo_queue.proofs.Clauses.Order.{next_is}
 use Rattle.resolvo_queue.proofs.Syncs.NewClause.{parent_of}
 use Rattle.resolvo_queue.proofs.tracked_clauses.TrackedClauses.register.Goals as goal
@@ -50,8 +44,7 @@ returns-clause-ok g c =
           (c.next_position.result.first_of_parent ≡ length l) (λ f. c.next_position.result.first_of_parent ≡ f))
           c.reserve.ensures.items c.next_position.ensures.first));
       by_parent = subst (λ n. IsUpdate (list_at by_parent) clause.parent (list_at by_parent clause.parent ++ n ∷ [])
-          (list_at c.push.new.self)) number
-          c.in_ok-push.ensures.ok;
+          (list_at c.push.new.self)) number c.in_ok-push.ensures.ok;
       conditions = subst (λ n. FoundByAll n c.args.literals.now c.add_to_conditions.new.by_condition) number
           c.in_ok-add_to_conditions.ensures.all;
       requirements = subst (λ n. Stands n (clauses_at c.enter_clause.new.self c.in_ok-place.place)) number

@@ -1,13 +1,10 @@
 use Rattle.std.proofs.Common.{◌≡◌, ℕ, List, [], drop, ◌++◌, false, ap, sym, subst, ◌∙◌}
-use Rattle.decisions.specs.Decisions.{values_in}
-use Rattle.resolvo_queue.specs.Occurrences.{listing}
-use Rattle.resolvo_queue.specs.Routing.{Routes, Unrouted, variables_of, ways_of}
-use Rattle.resolvo_queue.specs.Routing.Synced.{SyncsTo}
-use Rattle.resolvo_queue.specs.Routing.Trails.{decided_value}
+use Rattle.resolvo_queue.proofs.Words.{listing, Routes, SyncsTo, Unrouted, values_in, values_of, variables_of, ways_of}
 use Rattle.resolvo_queue.proofs.Syncs.Forgetting.{always_ok, none_from, routes_both, routes_none, take_rest}
-use Rattle.resolvo_queue.proofs.Syncs.Forgetting.{whole_at, unrouted_along, unrouted_more, in_first, in_second}
+use Rattle.resolvo_queue.proofs.Syncs.Forgetting.{whole_at, unrouted_along, unrouted_more}
 use Rattle.resolvo_queue.proofs.Syncs.Routes.{changes_sync}
 use Rattle.resolvo_queue.proofs.tracked_clauses.TrackedClauses.route_changes.Goals as goal
+use Rattle.resolvo_queue.proofs.Lists.{append_left, append_right}
 
 pub returns-then-is_whole_at-clause-synced : goal.returns-then-is_whole_at-clause-synced
 returns-then-is_whole_at-clause-synced g c =
@@ -17,13 +14,11 @@ returns-then-is_whole_at-clause-synced g c =
     let none : ◌≡◌ {A = List ℕ} []
     (variables_of (drop c.args.floor before) ++ variables_of (drop c.args.floor c.args.trail.now)) =
     sym (ap (λ ds. variables_of ds ++ variables_of (drop c.args.floor c.args.trail.now))
-    (none_from c.args.floor before ends.0)
-    ∙ ap variables_of (none_from c.args.floor c.args.trail.now ends.1)) in
-    subst (λ vs. SyncsTo w.clauses w.by_parent w.by_condition w.requirements false (decided_value before) w.val vs
+    (none_from c.args.floor before ends.0) ∙ ap variables_of (none_from c.args.floor c.args.trail.now ends.1)) in
+    subst (λ vs. SyncsTo w.clauses w.by_parent w.by_condition w.requirements false (values_of before) w.val vs
     c.args.self.now.requirements c.args.self.now.requirements c.args.self.now.queued c.args.self.now.queued) none
-    (changes_sync w (decided_value before) [] c.args.self.now.requirements c.args.self.now.requirements
-    c.args.self.now.queued c.args.self.now.queued
-    (routes_none w c.args.self.now.requirements c.args.self.now.queued))
+    (changes_sync w (values_of before) [] c.args.self.now.requirements c.args.self.now.requirements
+    c.args.self.now.queued c.args.self.now.queued (routes_none w c.args.self.now.requirements c.args.self.now.queued))
 
 pub returns-then-is_whole_at-clause-trail : goal.returns-then-is_whole_at-clause-trail
 returns-then-is_whole_at-clause-trail g c =
@@ -47,11 +42,10 @@ returns-clause-synced g c =
     c.route_all.new.queued c.route_all-2.new.queued)
     (take_rest c.args.floor c.args.trail.now) c.in_ok-route_all-2.ensures.ok in
     always_ok _ c.copy_behind.result
-    (changes_sync w (decided_value c.args.self.now.trail.items) (variables_of before ++ variables_of new)
+    (changes_sync w (values_of c.args.self.now.trail.items) (variables_of before ++ variables_of new)
     c.args.self.now.requirements c.route_all-2.new.requirements c.args.self.now.queued c.route_all-2.new.queued
     (routes_both w (variables_of before) (variables_of new) c.args.self.now.requirements c.route_all.new.requirements
-    c.route_all-2.new.requirements
-    c.args.self.now.queued c.route_all.new.queued c.route_all-2.new.queued first second))
+    c.route_all-2.new.requirements c.args.self.now.queued c.route_all.new.queued c.route_all-2.new.queued first second))
 
 pub returns-in_err-route_all-clause-others : goal.returns-in_err-route_all-clause-others
 returns-in_err-route_all-clause-others g c =
@@ -59,7 +53,7 @@ returns-in_err-route_all-clause-others g c =
     let before = variables_of (drop c.args.floor c.args.self.now.trail.items) in
     let new = variables_of (drop c.args.floor c.args.trail.now) in
     unrouted_along lists before (before ++ new)
-    (in_first before new) c.args.self.now.requirements c.route_all.new.requirements
+    (append_left before new) c.args.self.now.requirements c.route_all.new.requirements
     (subst (λ ds. Unrouted lists (variables_of ds) c.args.self.now.requirements c.route_all.new.requirements)
     (take_rest c.args.floor c.deref.result.now ∙ ap (drop c.args.floor) c.deref.ensures.value)
     c.route_all.ensures.others)
@@ -69,10 +63,9 @@ returns-in_err-route_all-2-clause-others g c =
     let lists = listing c.args.self.now.occurrences in
     let before = variables_of (drop c.args.floor c.args.self.now.trail.items) in
     let new = variables_of (drop c.args.floor c.args.trail.now) in
-    unrouted_more lists (before ++ new) new (in_second before new) c.args.self.now.requirements
-    c.route_all.new.requirements c.route_all-2.new.requirements
-    (unrouted_along lists before (before ++ new)
-    (in_first before new) c.args.self.now.requirements c.route_all.new.requirements
+    unrouted_more lists (before ++ new) new (append_right before new) c.args.self.now.requirements
+    c.route_all.new.requirements c.route_all-2.new.requirements (unrouted_along lists before (before ++ new)
+    (append_left before new) c.args.self.now.requirements c.route_all.new.requirements
     (subst (λ ds. Unrouted lists (variables_of ds) c.args.self.now.requirements c.route_all.new.requirements)
     (take_rest c.args.floor c.deref.result.now ∙ ap (drop c.args.floor) c.deref.ensures.value)
     c.route_all.ensures.others))
@@ -84,10 +77,9 @@ returns-clause-others g c =
     let lists = listing c.args.self.now.occurrences in
     let before = variables_of (drop c.args.floor c.args.self.now.trail.items) in
     let new = variables_of (drop c.args.floor c.args.trail.now) in
-    unrouted_more lists (before ++ new) new (in_second before new) c.args.self.now.requirements
-    c.route_all.new.requirements c.route_all-2.new.requirements
-    (unrouted_along lists before (before ++ new)
-    (in_first before new) c.args.self.now.requirements c.route_all.new.requirements
+    unrouted_more lists (before ++ new) new (append_right before new) c.args.self.now.requirements
+    c.route_all.new.requirements c.route_all-2.new.requirements (unrouted_along lists before (before ++ new)
+    (append_left before new) c.args.self.now.requirements c.route_all.new.requirements
     (subst (λ ds. Unrouted lists (variables_of ds) c.args.self.now.requirements c.route_all.new.requirements)
     (take_rest c.args.floor c.deref.result.now ∙ ap (drop c.args.floor) c.deref.ensures.value)
     c.route_all.ensures.others))

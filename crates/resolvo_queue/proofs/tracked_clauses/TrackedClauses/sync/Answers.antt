@@ -1,9 +1,5 @@
 use Rattle.std.proofs.Common.{ℕ, List, drop, ◌++◌, true}
-use Rattle.decisions.specs.Decisions.{values_in}
-use Rattle.resolvo_queue.specs.Occurrences.{listing}
-use Rattle.resolvo_queue.specs.Routing.{variables_of}
-use Rattle.resolvo_queue.specs.Routing.Synced.{SyncsTo}
-use Rattle.resolvo_queue.specs.Routing.Trails.{decided_value}
+use Rattle.resolvo_queue.proofs.Words.{listing, SyncsTo, values_in, values_of, variables_of}
 use Rattle.resolvo_queue.proofs.Syncs.Forgetting.{on_ok_at}
 use Rattle.resolvo_queue.proofs.tracked_clauses.TrackedClauses.sync.Goals as goal
 use Rattle.resolvo_queue.proofs.tracked_clauses.TrackedClauses.sync.Goals.{then-self, else-self}
@@ -15,7 +11,7 @@ returns-clause-synced g c = elim c.if-self.branch [
       rw (w.self-is, w.synced-is, w.if-self.true)
       (on_ok_at (λ (routed : List ℕ). SyncsTo ix.clauses.items ix.by_parent ix.by_condition
       (listing c.args.self.now.occurrences) true
-      (decided_value c.args.self.now.trail.items) (values_in c.args.map.now) routed c.args.self.now.requirements
+      (values_of c.args.self.now.trail.items) (values_in c.args.map.now) routed c.args.self.now.requirements
       w.start_anew-synced.new.self.requirements c.args.self.now.queued w.start_anew-synced.new.self.queued)
       w.start_anew-synced.result (variables_of (drop c.args.floor c.args.self.now.trail.items) ++
       variables_of (drop c.args.floor c.args.trail.now)) w.start_anew-synced.ensures.synced)

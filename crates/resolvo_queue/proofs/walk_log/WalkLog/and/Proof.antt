@@ -18,22 +18,16 @@ and_spec 𝓤 𝓛 𝓜 𝓡 wired =
     proved 𝓛 f.ended stayed c 𝓜 𝓡 (
       Goes-dropped 𝓛 2 (RefOf (0 ∷ []) tt (plain (λ _. LogRow)) (λ κs. tt)) yes (λ κs x w. refl),
       (Goes-dropped 𝓛 2 (RefOf (1 ∷ []) tt (plain (λ _. RequirementRow)) (λ κs. tt)) yes (λ κs x w. refl), tt),
-    )
-    f.Key.name code.function (code.unfolded 𝓤 𝓛.H 𝓜 𝓡 wired)
-    (λ κs. (shr_vals, (shr_vals, tt)))
+    ) f.Key.name code.function (code.unfolded 𝓤 𝓛.H 𝓜 𝓡 wired) (λ κs. (shr_vals, (shr_vals, tt)))
     (λ κs. (shr_Tells (named 0) κs.0 LogRow, (shr_Tells (named 1) κs.1.0 RequirementRow, tt))) (λ κs qs bounds a _ are.
     let log = a.0 in let requirement = a.1.0 in
     let y : W.Ghost = ((κs, qs, bounds, a, (shr_vals log, (shr_vals requirement, tt))), tt) in
     qed 𝓛 (((‵ (flft κs.0 qs.0) ⊛ ‵ (flft κs.1.0 qs.1.0) ⊛ ‵ ftrue) ⊛ ‵
     ((ShrRef (named 0) κs.0 LogRow).own_val log (shr_vals log))
     ⊛ ‵ ((ShrRef (named 1) κs.1.0 RequirementRow).own_val requirement (shr_vals requirement)) ⊛ ‵ ftrue) ∷ ‵ ftrue ∷ [])
-    ∵
-    split ! $ keep ! (0 ∷ []) $
-    enter ! _ _ _ _ _ $ alloc_all ! (λ l. pass_all ! refl ((tt, tt), ((tt, tt), tt)) $
-    sets ! (agg ! (no_more !)) refl (tt, tt) $
-    returns ! (look_at ! 0 refl) $ free_all ! refl $
+    ∵ split ! $ keep ! (0 ∷ []) $ enter ! _ _ _ _ _ $ alloc_all ! (λ l. pass_all ! refl ((tt, tt), ((tt, tt), tt)) $
+    sets ! (agg ! (no_more !)) refl (tt, tt) $ returns ! (look_at ! 0 refl) $ free_all ! refl $
     suffices ! _ (ends_at 𝓛 f.ended stayed c y (vstruct vnil)
-    (record { walked = log.now.walked ++ requirement.now ∷ [] }) (tt, (tt, tt)) (tt, (tt, tt))) $
-    says ! refl $
+    (record { walked = log.now.walked ++ requirement.now ∷ [] }) (tt, (tt, tt)) (tt, (tt, tt))) $ says ! refl $
     nothing ! $ owned ! (Struct (shape Log)) _ (Struct-Makes 𝓛 (shape Log) tt) tt _ (tt, (refl, tt)) $ fjoin ! $
     nothing ! $ nothing ! $ join ! $ nothing ! $ join ! $ move ! (2 ∷ []) $ done !))
