@@ -436,7 +436,7 @@ module _ {D N S A H Q C : Type 0} (provided : D → Provider N S) (scored : C �
   with_all = store_with provided scored kept
 
   module _ (is : IsConsistent has_name (with_all old.provider origins loaded) loaded disjunctions old queue trail) (lawful : IsLawful (provided old.provider)) where
-    -- after solvables got variables, or the first so many of them did
+    -- after solvables got variables, or a beginning of them did
     pub after_variables : (ss : List S) (os : List (VariableOrigin N S)) → All (IsKnownSolvable (provided old.provider).universe) ss
         → os ≡ with_variables same_solvable origins ss → IsConsistent has_name (with_all new.provider os loaded) loaded disjunctions new queue trail
     after_variables ss os known got = subst (λ q. IsConsistent has_name (with_all q os loaded) loaded disjunctions new queue trail) (sym later.provider) (record {

@@ -185,7 +185,7 @@ IsOnce-kept_until l (e ∷ es) once =
       | false ↦ (val-kept_until l es e.decision.variable once.0, IsOnce-kept_until l es once.1)
     ]
 
--- the same of the first so many entries
+-- the same of the entries before a place
 val-take : (n : ℕ) (es : List Entry) (x : ℕ) → val es x ≡ None → val (take n es) x ≡ None
 val-take zero es x none = refl
 val-take (suc n) [] x none = refl

@@ -38,7 +38,7 @@ module _ {N S : Type 0} where
   names_clause (AnyOf selected other) = true
   names_clause _ = false
 
-  -- whether all is known that it names, where there are so many variables
+  -- whether all is known that it names: variables are below the number
   abbrev pub names_known : Universe N S → ℕ → Clause N → Bool
   names_known universe variables Kind.InstallRoot = true
   names_known universe variables (Kind.Constrains a b v) =

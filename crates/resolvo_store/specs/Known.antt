@@ -16,7 +16,7 @@ use Rattle.watch_map.specs.Watching.{is_literal_in}
 use Rattle.resolvo_store.specs.Tracking.{is_helper_among}
 
 module _ {N S : Type 0} where
-  -- the variables of the literals are among the first so many, and the provider knows the condition
+  -- the variables of the literals are below the number, and the provider knows the condition
   abbrev pub knows_parts : Universe N S → ℕ → List Lit → ℕ → Bool
   knows_parts universe variables ls condition =
       list_all (λ l. nat_lt (variable_of l) variables) ls && universe.knows_condition condition

@@ -34,7 +34,7 @@ module _ {N S : Type 0} (p : Provider N S) (r : Requirement) where
   abbrev pub HaveVariables : List (VariableOrigin N S) → List (VariableOrigin N S) → Type 0
   HaveVariables old new = new ≡ with_variables p.same_solvable old (sorted_of p r)
 
-  -- the first so many of them have
+  -- a beginning of them have
   abbrev pub SomeHaveVariables : List (VariableOrigin N S) → List (VariableOrigin N S) → Type 0
   SomeHaveVariables old new = IsPartlyInterned p.same_solvable old (sorted_of p r) new
 

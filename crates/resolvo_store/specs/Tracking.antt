@@ -39,7 +39,7 @@ abbrev pub origins_with : {N S : Type 0} → List (VariableOrigin N S) → N →
 origins_with os name None = os
 origins_with os name (Some h) = os ++ ForbidMultiple name ∷ []
 
--- no id is left for the helper, or for so many clauses more
+-- no id is left for the helper, or for this number of clauses more
 abbrev pub lacks_more : {N S : Type 0} → List (VariableOrigin N S) → Option ℕ → ℕ → ℕ → Bool
 lacks_more os h clauses more = (is_some h && are_variables_out (length os)) || nat_lt (2 ^ 32 - 1) (clauses + more)
 

@@ -17,8 +17,8 @@ use typed_ids::{DENSE_LIMIT, StoreError};
 use variables::{VariableLists, VariableMap, intern_list};
 
 /// The variables of a requirement's candidates, best first, one list a version set; each candidate gets one if it has
-/// none. What the provider hands over when it asks to stop is dropped. A refusal leaves variables to the first so many
-/// candidates. Those that were there stay in front.
+/// none. What the provider hands over when it asks to stop is dropped. After a refusal some of the candidates have
+/// variables, the first ones. Those that were there stay in front.
 pub(crate) fn load_lists<D: DependencyProvider + Drop>(
     cache: &mut SolverCache<D>,
     variables: &mut VariableMap<D::NameId, D::SolvableId, D::Alloc>,

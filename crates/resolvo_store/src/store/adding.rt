@@ -194,7 +194,7 @@ fn clause_named<N: Copy, S, A: Allocator>(command: &Command<N, S, A>) -> Option<
     }
 }
 
-/// Whether all is known that the clause names, where there are so many variables.
+/// Whether all is known that the clause names. Variables are known below this number.
 fn knows_named<D: DependencyProvider>(
     variables: usize,
     provider: &D,

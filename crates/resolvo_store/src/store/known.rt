@@ -22,14 +22,14 @@ pub(super) fn knows_variable<N: Copy, S: SolverId<A>, A: Allocator + Copy>(
     variable.to_index() < variables.count()
 }
 
-/// Whether both are among the first so many variables.
+/// Whether both variables are below this number.
 pub(super) fn are_below(first: VariableId, second: VariableId, variables: usize) -> bool
     ensures { result ≡ (nat_lt first variables && nat_lt second variables) }
 {
     first.to_index() < variables && second.to_index() < variables
 }
 
-/// Whether the variables of all these literals are among the first so many.
+/// Whether the variables of all these literals are below this number.
 pub(super) fn knows_literals(literals: &[Literal], variables: usize) -> bool
     ensures { result ≡ list_all (λ l. nat_lt (variable_of l) variables) literals.now }
 {
@@ -38,7 +38,7 @@ pub(super) fn knows_literals(literals: &[Literal], variables: usize) -> bool
         .all(|literal| literal.variable().to_index() < variables)
 }
 
-/// Whether the variables of the literals are among the first so many, and the provider knows the condition.
+/// Whether the variables of the literals are below this number, and the provider knows the condition.
 pub(super) fn knows_parts<D: DependencyProvider>(
     provider: &D,
     variables: usize,

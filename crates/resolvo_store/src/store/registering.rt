@@ -40,6 +40,7 @@ use resolvo_queue::DecideQueue;
 use std::alloc::Allocator;
 use typed_ids::{
     ClauseId, ConditionId, DenseIndex, DisjunctionId, StoreError, VariableId, VersionSetId,
+    fits_in_memory,
 };
 use variables::{VariableLists, VariableMap};
 use watch_map::{ClauseList, WatchedLiterals};
@@ -134,7 +135,7 @@ fn knows_required<D: DependencyProvider>(
             && knows_disjunction(disjunctions.len(), demand.condition))
 }
 
-/// Whether the disjunction, if there is one, is among the first so many.
+/// Whether the disjunction, if there is one, is below this number.
 fn knows_disjunction(disjunctions: usize, disjunction: Option<DisjunctionId>) -> bool
     ensures { result ≡ option_map_or (λ d. nat_lt d disjunctions) disjunction true }
 {
@@ -259,16 +260,8 @@ fn register<D: DependencyProvider + Drop>(
     ensures ids_out { IsTrue (is_full (contents clauses.old)) → result ≡ Err IdSpace }
 {
     clauses.make_room(&required.watches)?;
-    let names = package_names(context.alloc, context.provider, required.requirement)?;
-    queue.register_clause(
-        required.parent,
-        required.requirement,
-        required.condition,
-        ClauseId::from_index(clauses.len()),
-        names.as_slice(),
-        context.disjunctions,
-        context.trail.assigned_value(required.parent),
-    )?;
+    let id = ClauseId::from_index(clauses.len());
+    queue_clause(queue, context, &required, id)?;
     let clause = clauses.push_reserved(required.clause, required.watches);
     Ok(Added {
         clause,
@@ -276,20 +269,69 @@ fn register<D: DependencyProvider + Drop>(
     })
 }
 
-/// The packages of a requirement's version sets, in order.
-fn package_names<D: DependencyProvider>(
-    alloc: D::Alloc,
-    provider: &D,
-    requirement: Requirement,
-) -> Result<Vec<D::NameId, D::Alloc>, StoreError>
-    requires { knows_requirement (D.universe provider.now) requirement ≡ true }
-    ensures ok { IfOk result (λ names. names.items ≡ packages_of (D.universe provider.now) requirement) }
+/// Registers the clause under the id. The packages of its requirement's version sets go with it: that of the one set, or
+/// a vector of those of a union.
+fn queue_clause<D: DependencyProvider + Drop>(
+    queue: &mut DecideQueue<D>,
+    context: &Context<'_, D>,
+    required: &Required<D::NameId>,
+    clause_id: ClauseId,
+) -> Result<(), StoreError>
+    requires known { knows_requirement (D.universe context.now.provider.now) required.now.requirement ≡ true }
+    requires loaded { IsSome (lookup (same_requirement required.now.requirement) context.now.loaded.now) }
+    requires kept { IfSome required.now.condition (λ d. d < length context.now.disjunctions.now) }
+    requires few { nat_le (2 ^ 32 - 1) (length queue.old.clauses) ≡ false }
+    ensures registered { OnOk result (HasRequired (D.universe context.now.provider.now) D.NameId.Set.has
+        required.now clause_id queue.old queue.new) }
+    ensures unregistered { OnErr result (IsUnchanged queue.old queue.new D.NameId.Set.has) }
+    ensures walks { SameValues (walks queue.old) (walks queue.new) }
+    ensures owed { MayOweFirst required.now.requirement (owed queue.old) (owed queue.new) }
+    ensures stands { StillStandsOn (D.universe context.now.provider.now)
+        context.now.loaded.now context.now.disjunctions.now queue.old queue.new }
     ensures memory { IfErr result (λ e. e ≡ OutOfMemory) }
 {
-    names_of_sets(
-        alloc,
-        provider,
-        requirement.version_sets(provider).as_slice(),
+    match required.requirement {
+        Requirement::Single(set) if fits_in_memory::<D::NameId>() => {
+            let name = context.provider.version_set_name(set);
+            queue_named(queue, context, required, clause_id, &[name])
+        }
+        _ => {
+            let sets = required.requirement.version_sets(context.provider);
+            let names = names_of_sets(context.alloc, context.provider, sets.as_slice())?;
+            queue_named(queue, context, required, clause_id, names.as_slice())
+        }
+    }
+}
+
+/// Registers the clause under the id, with these packages.
+fn queue_named<D: DependencyProvider + Drop>(
+    queue: &mut DecideQueue<D>,
+    context: &Context<'_, D>,
+    required: &Required<D::NameId>,
+    clause_id: ClauseId,
+    names: &[D::NameId],
+) -> Result<(), StoreError>
+    requires named { names.now ≡ packages_of (D.universe context.now.provider.now) required.now.requirement }
+    requires loaded { IsSome (lookup (same_requirement required.now.requirement) context.now.loaded.now) }
+    requires kept { IfSome required.now.condition (λ d. d < length context.now.disjunctions.now) }
+    requires few { nat_le (2 ^ 32 - 1) (length queue.old.clauses) ≡ false }
+    ensures registered { OnOk result (HasRequired (D.universe context.now.provider.now) D.NameId.Set.has
+        required.now clause_id queue.old queue.new) }
+    ensures unregistered { OnErr result (IsUnchanged queue.old queue.new D.NameId.Set.has) }
+    ensures walks { SameValues (walks queue.old) (walks queue.new) }
+    ensures owed { MayOweFirst required.now.requirement (owed queue.old) (owed queue.new) }
+    ensures stands { StillStandsOn (D.universe context.now.provider.now)
+        context.now.loaded.now context.now.disjunctions.now queue.old queue.new }
+    ensures memory { IfErr result (λ e. e ≡ OutOfMemory) }
+{
+    queue.register_clause(
+        required.parent,
+        required.requirement,
+        required.condition,
+        clause_id,
+        names,
+        context.disjunctions,
+        context.trail.assigned_value(required.parent),
     )
 }
 

@@ -49,7 +49,7 @@ store g = store_of (given g) g.D.NameId.Scores.IdMap.value_at
 candidates_known : (g : Over) (p : g.row.D.Denot) (r : Requirement) → All (IsKnownSolvable (g.D.Interner.universe p)) (sorted_of (given g p) r)
 candidates_known g p r = all_known (given g p) (lawful g p) (sets_of (g.D.Interner.universe p) r)
 
--- the first so many candidates have variables
+-- a beginning of the candidates have variables
 pub invariant_of-self : goal.invariant_of-self
 invariant_of-self g c =
     let inside = c.self.inside in
