@@ -45,6 +45,11 @@ pub answered : {T E : Type 0} {P Q : T → Type 0} (r : Result T E) → ((x : T)
 answered (Ok x) follows holds = follows x holds
 answered (Err e) follows holds = holds
 
+-- where there is an answer, what follows from it and from what is done
+pub answered_where : {T E : Type 0} {P Q : T → Type 0} {D : Type 0} (r : Result T E) → ((x : T) → D → P x → Q x) → OnOk r D → IfOk r P → IfOk r Q
+answered_where (Ok x) follows holds answer = follows x holds answer
+answered_where (Err e) follows holds answer = answer
+
 -- where something is done, what follows from it
 pub done : {T E : Type 0} {P Q : Type 0} (r : Result T E) → (P → Q) → OnOk r P → OnOk r Q
 done (Ok x) follows holds = follows holds

@@ -9,7 +9,7 @@ use Rattle.serving.proofs.DecisionLemmas.{some_passes}
 use Rattle.std.proofs.lemmas.List.Elements.{All-nil, All-cons, All-append, All-head, All-tail, All-get_or}
 use Rattle.resolvo_ids.specs.Types.VersionSetId.{VersionSetId}
 use Rattle.resolvo_pool.specs.Functions.{Provider}
-use Rattle.serving.specs.Clauses.{AreMet, has_true, is_true}
+use Rattle.serving.specs.Clauses.{AreMet, IsStated, has_true, is_true}
 use Rattle.resolvo_pool.specs.Dependencies.{Needs, Known}
 use Rattle.resolvo_pool.specs.Provider.{knows_requirement, matching, non_matching, sets_of}
 use Rattle.resolvo_pool.specs.Types.ConditionalRequirement.{ConditionalRequirement}
@@ -102,6 +102,11 @@ module _ {N S A : Type 0} (p : Provider N S) where
   still_one IsSo one two clause is has = λ picked so met.
       let P = λ (c : Vec (Literal N S) A). has_true (truth p picked) c.items ≡ true in
       subst (AreMet (truth p picked)) (sym is) (All-append P one (clause ∷ []) met (All-cons P clause [] (has picked so) (All-nil P)))
+
+  pub still_stated : (IsSo : List S → Type 0) (one two : List (Vec (Literal N S) A)) (literals : List (Literal N S)) → IsStated one literals two
+      → ((picked : List S) → IsSo picked → has_true (truth p picked) literals ≡ true) → AreMetStill p IsSo one two
+  still_stated IsSo one two literals stated has =
+      still_one IsSo one two stated.clause stated.added (λ picked so. ap (has_true (truth p picked)) stated.is ∙ has picked so)
 
 module _ {N S : Type 0} (p : Provider N S) where
   pub or_none : (is_so : List S → Bool) (literals : List (Literal N S)) → ((picked : List S) → is_so picked ≡ false)

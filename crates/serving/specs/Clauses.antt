@@ -1,6 +1,6 @@
 -- Clauses about facts, and what follows from them. N are the names, S the solvables, A the allocators. An assignment
 -- says of each fact whether it is so.
-use Rattle.std.specs.Prelude.{◌≡◌, Bool, true, not, All, List, ◌++◌, if◌then◌else◌, ⊤}
+use Rattle.std.specs.Prelude.{◌≡◌, Bool, true, not, All, List, [], ◌∷◌, ◌++◌, if◌then◌else◌, ⊤}
 use Rattle.std.specs.List.{list_any}
 use Rattle.std.specs.declared.vec.Vec.{Vec}
 use Rattle.serving.specs.declared.literal.Fact.{Fact}
@@ -44,6 +44,13 @@ IsRest {N} {S} known clause Refuted =
 IsRest {N} {S} known clause (Unit l) =
     (holds : Fact N S → Bool) → AreTrue holds known → has_true holds clause ≡ true → is_true holds l ≡ true
 IsRest known clause Open = ⊤
+
+-- a clause of these literals was added
+pub record IsStated {N S A : Type 0} (clauses : List (Vec (Literal N S) A)) (literals : List (Literal N S))
+    (clauses_now : List (Vec (Literal N S) A)) : Type 0 where
+  pub clause : Vec (Literal N S) A
+  pub is : clause.items ≡ literals
+  pub added : clauses_now ≡ clauses ++ clause ∷ []
 
 -- clauses and literals, after a replay: where an assignment meets the old clauses and makes the old literals true, it
 -- does so with the new ones. If yes, there is no such assignment

@@ -11,6 +11,7 @@ use resolvo_pool::{
     ConditionalRequirement, DependencyProvider, Interner, ProviderFunctions, Requirement,
     convert_conditions_to_dnf,
 };
+use std::alloc::Allocator;
 
 /// Some of a provider's solvables: those that are picked.
 #[derive(Drop)]
@@ -141,7 +142,7 @@ impl<'p, D: DependencyProvider> Choice<'p, D> {
             return Ok(false);
         }
         let candidates = candidates(self.alloc, self.provider, set, false)?;
-        Ok(self.picks_one(&candidates))
+        Ok(picks_one::<D::SolvableId, D::Alloc>(&self.picked, &candidates))
     }
 
     /// Whether no candidate is picked that the version set doesn't hold.
@@ -155,15 +156,13 @@ impl<'p, D: DependencyProvider> Choice<'p, D> {
             return Ok(false);
         }
         let others = candidates(self.alloc, self.provider, set, true)?;
-        Ok(!self.picks_one(&others))
+        Ok(!picks_one::<D::SolvableId, D::Alloc>(&self.picked, &others))
     }
+}
 
-    /// Whether one of the solvables is picked.
-    fn picks_one(&self, solvables: &[D::SolvableId]) -> bool
-        ensures { result ≡ list_any (D.SolvableId.Set.has self.now.picked) solvables.now }
-    {
-        solvables
-            .iter()
-            .any(|solvable| self.picked.contains(*solvable))
-    }
+/// Whether one of the solvables is picked.
+fn picks_one<S: SolverId<A>, A: Allocator + Copy>(picked: &S::Set, solvables: &[S]) -> bool
+    ensures { result ≡ list_any (S.Set.has picked.now) solvables.now }
+{
+    solvables.iter().any(|solvable| picked.contains(*solvable))
 }

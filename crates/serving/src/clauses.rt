@@ -1,6 +1,6 @@
 //! Clauses, and what follows from them.
 ghost use Rattle.std.specs.Prelude.{◌≡◌, Bool, true, not, All, [], ◌∷◌, ◌++◌, IfOk, OnOk};
-ghost use Rattle.serving.specs.Clauses.{AreMet, AreTrue, Follows, IsOneAName, is_true};
+ghost use Rattle.serving.specs.Clauses.{AreMet, AreTrue, Follows, IsOneAName, IsStated, is_true};
 ghost use Rattle.serving.specs.declared.literal.Fact.{Fact};
 ghost use Rattle.serving.specs.declared.literal.Fact.TheVariants.{Picked};
 
@@ -34,6 +34,30 @@ impl<N: SolverId<A>, S: SolverId<A>, A: Allocator + Copy> Theory<N, S, A> {
     {
         self.clauses.push(clause)?;
         Ok(())
+    }
+
+    /// Says that a literal is true.
+    pub(crate) fn state(&mut self, alloc: A, literal: Literal<N, S>) -> Result<(), StoreError>
+        ensures { OnOk result (IsStated self.old.clauses.items (literal ∷ []) self.new.clauses.items) }
+    {
+        let mut clause = Vec::new(alloc);
+        clause.push(literal)?;
+        self.add(clause)
+    }
+
+    /// Says that one of two literals is true.
+    pub(crate) fn state_either(
+        &mut self,
+        alloc: A,
+        one: Literal<N, S>,
+        other: Literal<N, S>,
+    ) -> Result<(), StoreError>
+        ensures { OnOk result (IsStated self.old.clauses.items (one ∷ other ∷ []) self.new.clauses.items) }
+    {
+        let mut clause = Vec::new(alloc);
+        clause.push(one)?;
+        clause.push(other)?;
+        self.add(clause)
     }
 
     /// What literals follow by.
@@ -150,9 +174,10 @@ impl<'t, N: SameId, S: SameId, A: Allocator + Copy> Rules<'t, N, S, A> {
             known.old.literals.items known.new.literals.items) }
     {
         for place in from..usize::MAX {
-            let Some(literal) = known.literals.get(place).copied() else {
+            let Some(found) = known.literals.get(place) else {
                 return Ok(false);
             };
+            let literal = *found;
             if self.follow(known, literal)? {
                 return Ok(true);
             }

@@ -92,7 +92,7 @@ impl<'p, D: DependencyProvider> Encoder<'p, D> {
             Dependencies::Known(needs) => {
                 self.encode_needs(theory, unless, &needs.requirements, &needs.constrains)
             }
-            Dependencies::Unknown(_) => self.state(theory, unless),
+            Dependencies::Unknown(_) => theory.state(self.alloc, unless),
         }
     }
 
@@ -113,40 +113,6 @@ impl<'p, D: DependencyProvider> Encoder<'p, D> {
         literals.push(unless)?;
         self.require_all(theory, &literals, requirements)?;
         self.constrain_all(theory, unless, constrains)
-    }
-
-    /// Says that a literal is true.
-    fn state(
-        &self,
-        theory: &mut Theory<D::NameId, D::SolvableId, D::Alloc>,
-        literal: Literal<D::NameId, D::SolvableId>,
-    ) -> Result<(), StoreError>
-        ensures { OnOk result (AreMetStill (⟦<D as ProviderFunctions>⟧.functions self.now.provider.now)
-            (λ picked. has_true (truth (⟦<D as ProviderFunctions>⟧.functions self.now.provider.now) picked)
-            (literal ∷ []) ≡ true)
-            theory.old.clauses.items theory.new.clauses.items) }
-    {
-        let mut clause = Vec::new(self.alloc);
-        clause.push(literal)?;
-        theory.add(clause)
-    }
-
-    /// Says that one of two literals is true.
-    fn state_either(
-        &self,
-        theory: &mut Theory<D::NameId, D::SolvableId, D::Alloc>,
-        one: Literal<D::NameId, D::SolvableId>,
-        other: Literal<D::NameId, D::SolvableId>,
-    ) -> Result<(), StoreError>
-        ensures { OnOk result (AreMetStill (⟦<D as ProviderFunctions>⟧.functions self.now.provider.now)
-            (λ picked. has_true (truth (⟦<D as ProviderFunctions>⟧.functions self.now.provider.now) picked)
-            (one ∷ other ∷ []) ≡ true)
-            theory.old.clauses.items theory.new.clauses.items) }
-    {
-        let mut clause = Vec::new(self.alloc);
-        clause.push(one)?;
-        clause.push(other)?;
-        theory.add(clause)
     }
 
     /// That a solvable is picked.
@@ -369,8 +335,7 @@ impl<'p, D: DependencyProvider> Encoder<'p, D> {
             return Ok(atom);
         }
         let atom = theory.atoms.held(set)?;
-        let held = self.candidates(set, false)?;
-        self.leave_out_unless(theory, Literal::new(atom, true), &held)?;
+        self.leave_out(theory, Literal::new(atom, true), set, false)?;
         Ok(atom)
     }
 
@@ -388,9 +353,29 @@ impl<'p, D: DependencyProvider> Encoder<'p, D> {
     {
         for solvable in solvables {
             let atom = self.picked(&mut theory.atoms, *solvable)?;
-            self.state_either(theory, unless, Literal::new(atom, false))?;
+            theory.state_either(self.alloc, unless, Literal::new(atom, false))?;
         }
         Ok(())
+    }
+
+    /// Says that, unless the literal is true, none is picked of a version set's candidates, or, if `inverse`, of those
+    /// that it doesn't hold.
+    fn leave_out(
+        &self,
+        theory: &mut Theory<D::NameId, D::SolvableId, D::Alloc>,
+        unless: Literal<D::NameId, D::SolvableId>,
+        set: VersionSetId,
+        inverse: bool,
+    ) -> Result<(), StoreError>
+        ensures known { OnOk result ((D.universe self.now.provider.now).knows_set set ≡ true) }
+        ensures theory { OnOk result (AreMetStill (⟦<D as ProviderFunctions>⟧.functions self.now.provider.now)
+            (λ picked. AreLeftOutUnless (⟦<D as ProviderFunctions>⟧.functions self.now.provider.now)
+            (unless ∷ []) picked (filtered ((D.answers self.now.provider.now).matches set) inverse
+            ((D.answers self.now.provider.now).candidates ((D.universe self.now.provider.now).set_name set))))
+            theory.old.clauses.items theory.new.clauses.items) }
+    {
+        let found = self.candidates(set, inverse)?;
+        self.leave_out_unless(theory, unless, &found)
     }
 
     /// Says that, unless the literal is true, each of the version sets is kept.
@@ -406,8 +391,7 @@ impl<'p, D: DependencyProvider> Encoder<'p, D> {
             theory.old.clauses.items theory.new.clauses.items) }
     {
         for set in sets {
-            let others = self.candidates(*set, true)?;
-            self.leave_out_unless(theory, unless, &others)?;
+            self.leave_out(theory, unless, *set, true)?;
         }
         Ok(())
     }

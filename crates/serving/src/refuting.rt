@@ -1,5 +1,5 @@
 //! Whether nothing serves.
-ghost use Rattle.std.specs.Prelude.{◌≡◌, Bool, true, false, not, IfOk, OnOk, map};
+ghost use Rattle.std.specs.Prelude.{◌≡◌, Bool, true, false, not, [], IfOk, OnOk, map};
 ghost use Rattle.serving.specs.Clauses.{AreMet, AreTrue, IsOneAName, Replayed};
 ghost use Rattle.serving.specs.Serves.{IsUnsolvable};
 ghost use Rattle.serving.specs.declared.literal.Fact.{Fact};
@@ -35,12 +35,7 @@ pub fn refutes<D: DependencyProvider>(
         IsUnsolvable (⟦<D as ProviderFunctions>⟧.functions provider.now) wanted.now) }
 {
     let theory = encoded(alloc, provider, wanted, solvables)?;
-    let known = Known::new(alloc, theory.atoms.len())?;
-    let mut replay = Replay {
-        alloc,
-        theory,
-        known,
-    };
+    let mut replay = Replay::new(alloc, theory)?;
     replay.all(provider, learnt)
 }
 
@@ -53,6 +48,19 @@ struct Replay<N: SolverId<A>, S: SolverId<A>, A: Allocator + Copy> {
 }
 
 impl<N: SolverId<A>, S: SolverId<A>, A: Allocator + Copy> Replay<N, S, A> {
+    /// Nothing was shown so far.
+    fn new(alloc: A, theory: Theory<N, S, A>) -> Result<Self, StoreError>
+        ensures theory { IfOk result (λ replay. replay.theory ≡ theory) }
+        ensures known { IfOk result (λ replay. replay.known.literals.items ≡ []) }
+    {
+        let known = Known::new(alloc, theory.atoms.len())?;
+        Ok(Replay {
+            alloc,
+            theory,
+            known,
+        })
+    }
+
     /// Replays learnt clauses. Answers whether they contradict what is known.
     fn all<D: DependencyProvider>(
         &mut self,
@@ -80,10 +88,30 @@ impl<N: SolverId<A>, S: SolverId<A>, A: Allocator + Copy> Replay<N, S, A> {
             self.new.theory.clauses.items self.new.known.literals.items) }
     {
         let against = self.against(claims)?;
-        if !self.theory.rules().refute(&mut self.known, &against)? {
+        self.exclude(&against)
+    }
+
+    /// Where it follows that not all of the literals are true, adds that, and what follows. Answers whether that
+    /// contradicts what is known.
+    fn exclude(&mut self, literals: &[Literal<N, S>]) -> Result<bool, StoreError>
+        ensures { IfOk result (Replayed self.old.theory.clauses.items self.old.known.literals.items
+            self.new.theory.clauses.items self.new.known.literals.items) }
+    {
+        if !self.are_refuted(literals)? {
             return Ok(false);
         }
-        self.learn(&against)
+        self.learn(literals)
+    }
+
+    /// Whether it follows that not all of the literals are true.
+    fn are_refuted(&mut self, literals: &[Literal<N, S>]) -> Result<bool, StoreError>
+        ensures refuted { IfOk result (λ yes. yes ≡ true → (holds : Fact N S → Bool) → IsOneAName holds →
+            AreMet holds self.new.theory.clauses.items → AreTrue holds self.new.known.literals.items →
+            AreTrue holds literals.now → ⊥) }
+        ensures replayed { OnOk result (Replayed self.old.theory.clauses.items self.old.known.literals.items
+            self.new.theory.clauses.items self.new.known.literals.items false) }
+    {
+        self.theory.rules().refute(&mut self.known, literals)
     }
 
     /// That none of the claims is so; of those about facts that were met.

@@ -1,4 +1,4 @@
-use Rattle.std.proofs.Common.{subst}
+use Rattle.std.proofs.Common.{[], ap, subst}
 use Rattle.resolvo_pool.specs.Functions.{Provider, gathered}
 use Rattle.serving.specs.Clauses.{Replayed}
 use Rattle.serving.proofs.DecisionLemmas.{answered}
@@ -20,5 +20,6 @@ returns g c =
     answered c.all.result
     (λ answer replayed. refuted_choices p g.met.D.NameId.Eq.laws.refl g.met.D.NameId.SameValue.same g.met.D.SolvableId.SameValue.same
     c.args.wanted.now clauses now known answer c.in_ok-theory.ensures
-    (subst (λ first. Replayed clauses first now known answer) c.in_ok-known.ensures replayed))
+    (subst (λ first. Replayed first [] now known answer) (ap (λ theory. theory.clauses.items) c.in_ok-replay.ensures.theory)
+    (subst (λ first. Replayed c.in_ok-replay.replay.theory.clauses.items first now known answer) c.in_ok-replay.ensures.known replayed)))
     c.all.ensures

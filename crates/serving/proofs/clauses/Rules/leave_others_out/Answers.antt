@@ -1,7 +1,11 @@
 use Rattle.std.proofs.Common.{◌≡◌, true, false, rules}
 use Rattle.serving.specs.Clauses.{IsOneAName}
-use Rattle.serving.proofs.FollowsLemmas.{follows_none, follows_step}
+use Rattle.serving.proofs.FollowsLemmas.{follows_before, follows_none, follows_step}
 use Rattle.serving.proofs.clauses.Rules.leave_others_out.Goals as goal
+
+pub leave_out-requires : goal.leave_out-requires
+leave_out-requires g c = λ holds true_ones. c.requires holds
+    (follows_before IsOneAName c.args.known.now.literals.items c.loop-other.known.literals.items false c.loop-other.invariant holds true_ones)
 
 pub loop-other-init : goal.loop-other-init
 loop-other-init g c = follows_none (IsOneAName) c.args.known.now.literals.items

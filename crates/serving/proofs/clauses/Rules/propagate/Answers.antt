@@ -1,7 +1,13 @@
-use Rattle.std.proofs.Common.{◌≡◌, true, false, rules}
-use Rattle.serving.specs.Clauses.{AreMet, IsOneAName}
-use Rattle.serving.proofs.FollowsLemmas.{follows_none, follows_step}
+use Rattle.std.proofs.Common.{◌≡◌, true, false, length, ltb-true, sym, subst, rules}
+use Rattle.serving.specs.Clauses.{AreMet, AreTrue, IsOneAName}
+use Rattle.serving.proofs.FollowsLemmas.{follows_none, follows_step, true_at}
 use Rattle.serving.proofs.clauses.Rules.propagate.Goals as goal
+
+pub follow-requires : goal.follow-requires
+follow-requires g c = λ holds true_ones.
+    true_at holds c.deref.result.now c.loop-place.place c.in-Some.found.now
+    (ltb-true c.loop-place.place (length c.deref.result.now) (sym c.in-Some.ensures.lookup.0)) c.in-Some.ensures.lookup.1
+    (subst (AreTrue holds) (sym c.deref.ensures.value) true_ones)
 
 pub loop-place-init : goal.loop-place-init
 loop-place-init g c = follows_none (λ holds. IsOneAName holds × AreMet holds c.args.self.now.clauses.now) c.args.known.now.literals.items

@@ -1,5 +1,6 @@
-use Rattle.std.proofs.Common.{◌∙◌, get_or, ◌∷◌, [], List}
+use Rattle.std.proofs.Common.{get_or, ◌∷◌, [], List, refl}
 use Rattle.resolvo_pool.specs.Functions.{Provider, gathered}
+use Rattle.resolvo_pool.specs.Provider.{non_matching}
 use Rattle.serving.specs.Truth.{AreKeptUnless, AreLeftOutUnless}
 use Rattle.serving.proofs.EncodingLemmas as L
 use Rattle.serving.proofs.encoding.Encoder.constrain_all.Given.{Over}
@@ -21,10 +22,11 @@ loop-set-preserved g c =
     let sets = c.args.sets.now in
     let set = get_or c.args.sets.now c.loop-set.set-index (record { 0 = 0 }) in
     let IsSo = λ (picked : List g.row.D-SolvableId.Denot). AreKeptUnless p (c.args.unless ∷ []) picked sets in
-    L.still_then p IsSo c.args.theory.now.clauses.items c.loop-set.theory.clauses.items c.leave_out_unless.new.theory.clauses.items
+    let others = non_matching p.universe p.answers set in
+    L.still_then p IsSo c.args.theory.now.clauses.items c.loop-set.theory.clauses.items c.leave_out.new.theory.clauses.items
     c.loop-set.invariant
-    (L.still_where p (λ picked. AreLeftOutUnless p (c.args.unless ∷ []) picked c.deref.result.now) IsSo c.loop-set.theory.clauses.items
-    c.leave_out_unless.new.theory.clauses.items
-    (λ picked kept no. L.none_where_kept p sets c.loop-set.set-index set c.deref.result.now picked c.loop-set-test.true (L.own_default c.args.sets.now c.loop-set.set-index (record { 0 = 0 }) c.loop-set-test.true)
-    (c.deref.ensures.value ∙ c.in_ok-others.ensures.found) (kept no))
-    c.in_ok-leave_out_unless.ensures)
+    (L.still_where p (λ picked. AreLeftOutUnless p (c.args.unless ∷ []) picked others) IsSo c.loop-set.theory.clauses.items
+    c.leave_out.new.theory.clauses.items
+    (λ picked kept no. L.none_where_kept p sets c.loop-set.set-index set others picked c.loop-set-test.true (L.own_default c.args.sets.now c.loop-set.set-index (record { 0 = 0 }) c.loop-set-test.true)
+    refl (kept no))
+    c.in_ok-leave_out.ensures.theory)

@@ -1,4 +1,4 @@
-use Rattle.std.proofs.Common.{◌≡◌, ◌∙◌, ◌∷◌, [], true, ap, sym, subst}
+use Rattle.std.proofs.Common.{◌≡◌, ◌∙◌, ◌∷◌, [], ap, sym, subst}
 use Rattle.resolvo_pool.specs.Functions.{Provider, gathered}
 use Rattle.serving.specs.Clauses.{has_true}
 use Rattle.serving.specs.Serves.{IsContent, is_among}
@@ -36,7 +36,7 @@ returns-in-Unknown g c =
     let fact = ap (λ l. l.fact) c.new-unless.ensures ∙ c.in_ok-atom.ensures.fact in
     let value = ap (λ l. l.value) c.new-unless.ensures in
     done c.state.result
-    (L.still_where p (λ picked. has_true (truth p picked) (unless ∷ []) ≡ true) (AreContent p) c.args.theory.now.clauses.items c.state.new.theory.clauses.items
+    (λ stated. L.still_stated p (AreContent p) c.args.theory.now.clauses.items c.state.new.self.clauses.items (unless ∷ []) stated
     (λ picked content. L.true_or (has_true (truth p picked) (unless ∷ []))
     (λ none. subst (IsContent p (is_among p picked)) (sym c.in_ok-needs.ensures.ok ∙ ap needs_of c.in-Unknown.is)
     (L.content_where p g.met.D.NameId.Eq.laws.refl g.met.D.SolvableId.SameValue.same unless c.args.solvable fact value picked content none))))

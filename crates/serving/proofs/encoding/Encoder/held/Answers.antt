@@ -1,6 +1,7 @@
-use Rattle.std.proofs.Common.{◌∙◌, ◌∷◌, [], ap}
+use Rattle.std.proofs.Common.{◌∙◌, ◌∷◌, [], ap, refl}
 use Rattle.std.specs.Prelude.{⊤}
 use Rattle.resolvo_pool.specs.Functions.{Provider, gathered}
+use Rattle.resolvo_pool.specs.Provider.{matching}
 use Rattle.serving.specs.Truth.{AreLeftOutUnless}
 use Rattle.serving.proofs.EncodingLemmas as L
 use Rattle.serving.proofs.encoding.Encoder.held.Given.{Over}
@@ -14,12 +15,12 @@ provided g = gathered g.D.NameId.PartialEq.eq g.D.SolvableId.PartialEq.eq g.D.Na
 pub returns : goal.returns
 returns g c =
     let p = provided g c.args.self.now.provider.now in
+    let found = matching p.universe p.answers c.args.set in
     record {
       fact = c.in_ok-atom.ensures;
-      theory = L.still_where p (λ picked. AreLeftOutUnless p (c.new.result ∷ []) picked c.deref.result.now) (λ picked. ⊤) c.args.theory.now.clauses.items
-          c.leave_out_unless.new.theory.clauses.items
-          (λ picked so. L.left_out_unless_held p c.new.result c.args.set c.deref.result.now picked
-          (ap (λ k. k.fact) c.new.ensures ∙ c.in_ok-atom.ensures) (ap (λ k. k.value) c.new.ensures)
-          c.in_ok-held.ensures.known (c.deref.ensures.value ∙ c.in_ok-held.ensures.found))
-          c.in_ok-leave_out_unless.ensures;
+      theory = L.still_where p (λ picked. AreLeftOutUnless p (c.new.result ∷ []) picked found) (λ picked. ⊤) c.args.theory.now.clauses.items
+          c.leave_out.new.theory.clauses.items
+          (λ picked so. L.left_out_unless_held p c.new.result c.args.set found picked
+          (ap (λ k. k.fact) c.new.ensures ∙ c.in_ok-atom.ensures) (ap (λ k. k.value) c.new.ensures) c.in_ok-leave_out.ensures.known refl)
+          c.in_ok-leave_out.ensures.theory;
     }

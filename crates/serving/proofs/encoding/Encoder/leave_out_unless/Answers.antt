@@ -1,7 +1,6 @@
-use Rattle.std.proofs.Common.{◌≡◌, ◌∙◌, ◌∷◌, [], true, List, ap}
+use Rattle.std.proofs.Common.{◌∙◌, ◌∷◌, [], List, ap}
 use Rattle.resolvo_pool.specs.Functions.{Provider, gathered}
-use Rattle.serving.specs.Clauses.{has_true}
-use Rattle.serving.specs.Truth.{AreLeftOutUnless, truth}
+use Rattle.serving.specs.Truth.{AreLeftOutUnless}
 use Rattle.serving.proofs.EncodingLemmas as L
 use Rattle.serving.proofs.encoding.Encoder.leave_out_unless.Given.{Over}
 use Rattle.serving.proofs.encoding.Encoder.leave_out_unless.Goals as goal
@@ -25,9 +24,8 @@ loop-solvable-preserved g c =
     let fact = ap (λ k. k.fact) c.new.ensures ∙ c.in_ok-atom.ensures.fact in
     let value = ap (λ k. k.value) c.new.ensures in
     let IsSo = λ (picked : List g.row.D-SolvableId.Denot). AreLeftOutUnless p (c.args.unless ∷ []) picked xs in
-    L.still_then p IsSo c.args.theory.now.clauses.items c.loop-solvable.theory.clauses.items c.state_either.new.theory.clauses.items
+    L.still_then p IsSo c.args.theory.now.clauses.items c.loop-solvable.theory.clauses.items c.state_either.new.self.clauses.items
     c.loop-solvable.invariant
-    (L.still_where p (λ picked. has_true (truth p picked) (c.args.unless ∷ l ∷ []) ≡ true) IsSo c.loop-solvable.theory.clauses.items c.state_either.new.theory.clauses.items
+    (L.still_stated p IsSo c.loop-solvable.theory.clauses.items c.state_either.new.self.clauses.items (c.args.unless ∷ l ∷ []) c.in_ok-state_either.ensures
     (λ picked left_out. L.left_out_met p c.args.unless l xs c.loop-solvable.solvable-index x picked c.loop-solvable-test.true c.solvable-item.is
-    (L.unpicked_literal p g.met.D.NameId.Eq.laws.refl l x fact value picked) left_out)
-    c.in_ok-state_either.ensures)
+    (L.unpicked_literal p g.met.D.NameId.Eq.laws.refl l x fact value picked) left_out))
