@@ -1,7 +1,7 @@
 //! How a search decides by scores of packages, once it had many conflicts.
 use crate::search::{Result, Search};
 use resolvo_clauses::VariableOrigin;
-use resolvo_ids::{ClauseId, VariableId};
+use resolvo_ids::{ClauseId, Mapping, VariableId};
 use resolvo_pool::{DependencyProvider, Interner, Requirement};
 use std::alloc::Allocator;
 
@@ -25,27 +25,46 @@ pub(crate) struct Offer {
     score: u64,
 }
 
-impl<D: DependencyProvider + Copy> Search<D> {
-    /// Keeps what a variable requires.
-    pub(crate) fn add_required(
-        &mut self,
-        parent: VariableId,
-        required: Required<D::Alloc>,
-    ) -> Result<()> {
-        if let Some(requirements) = self.requirements.get_mut(parent) {
-            requirements.push(required)?;
+/// What each variable requires.
+#[derive(Drop)]
+pub(crate) struct Requirements<A: Allocator> {
+    lists: Mapping<VariableId, Vec<Required<A>, A>, A>,
+    alloc: A,
+}
+
+impl<A: Allocator + Copy> Requirements<A> {
+    /// Of no variable.
+    pub(crate) fn new(alloc: A) -> Result<Self> {
+        let lists = Mapping::new(alloc)?;
+        Ok(Requirements { lists, alloc })
+    }
+
+    /// Adds what a variable requires.
+    pub(crate) fn add(&mut self, parent: VariableId, required: Required<A>) -> Result<()> {
+        if let Some(list) = self.lists.get_mut(parent) {
+            list.push(required)?;
             return Ok(());
         }
-        let mut requirements = Vec::new(self.alloc);
-        requirements.push(required)?;
-        self.requirements.insert(parent, requirements)?;
+        let mut list = Vec::new(self.alloc);
+        list.push(required)?;
+        self.lists.insert(parent, list)?;
         Ok(())
     }
 
+    /// What a variable requires.
+    fn of(&self, parent: VariableId) -> &[Required<A>] {
+        match self.lists.get(parent) {
+            Some(list) => list.as_slice(),
+            None => &[],
+        }
+    }
+}
+
+impl<D: DependencyProvider + Copy> Search<D> {
     /// Of the open requirements' best candidates the one whose package has the highest score; the first one of a tie.
     pub(crate) fn best_offer(&self) -> Option<Offer> {
         let mut best = None;
-        for assigned in &self.trail {
+        for assigned in &self.trail.assignments {
             if assigned.decision.value {
                 best = self.better_of(best, assigned.decision.variable);
             }
@@ -56,10 +75,8 @@ impl<D: DependencyProvider + Copy> Search<D> {
     /// The better of an offer and those for the requirements of a variable.
     fn better_of(&self, offer: Option<Offer>, parent: VariableId) -> Option<Offer> {
         let mut best = offer;
-        if let Some(requirements) = self.requirements.get(parent) {
-            for required in requirements {
-                best = better(best, self.offer(required));
-            }
+        for required in self.requirements.of(parent) {
+            best = better(best, self.offer(required));
         }
         best
     }
@@ -123,15 +140,10 @@ impl<D: DependencyProvider + Copy> Search<D> {
 
     /// The package of a candidate.
     fn package_of_variable(&self, candidate: VariableId) -> Option<D::NameId> {
-        let origin = self.store.origin(candidate);
-        let Some(VariableOrigin::Solvable(solvable)) = origin else {
-            return None;
-        };
-        let provider = self.store.provider();
-        if !provider.knows_solvable(solvable) {
-            return None;
+        match self.store.origin(candidate) {
+            Some(VariableOrigin::Solvable(solvable)) => name_of(self.store.provider(), solvable),
+            _ => None,
         }
-        Some(provider.solvable_name(solvable))
     }
 
     /// Raises the scores of the packages of these variables, so that what is often in conflict is decided early.
@@ -149,6 +161,14 @@ impl<D: DependencyProvider + Copy> Search<D> {
         }
         Ok(())
     }
+}
+
+/// The package of a solvable; none of an unknown one.
+fn name_of<D: DependencyProvider>(provider: &D, solvable: D::SolvableId) -> Option<D::NameId> {
+    if !provider.knows_solvable(solvable) {
+        return None;
+    }
+    Some(provider.solvable_name(solvable))
 }
 
 /// The better of two offers, the first one of a tie.

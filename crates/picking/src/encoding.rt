@@ -1,17 +1,15 @@
 //! How a search encodes: clauses of what is required come first, and those of a candidate once it is true.
-use crate::deciding::Required;
+use crate::adding::Need;
 use crate::reason::Reason;
 use crate::search::{Result, Search};
-use resolvo_clauses::{Literal, VariableOrigin};
+use resolvo_clauses::VariableOrigin;
 use resolvo_ids::{
-    ClauseId, ConditionId, DenseIndex, DisjunctionId, IndexedSet, Mapping, StoreError, StringId,
-    VariableId, VersionSetId,
+    ConditionId, DenseIndex, IndexedSet, Mapping, StoreError, VariableId, VersionSetId,
 };
 use resolvo_pool::{
     CacheError, ConditionalRequirement, Dependencies, DependencyProvider, Interner, Requirement,
     SolverCache, convert_conditions_to_dnf,
 };
-use resolvo_store::HelperOrigin;
 
 /// A store has fewer variables than this.
 const MOST_VARIABLES: usize = (1 << 31) - 1;
@@ -27,7 +25,8 @@ struct Parent<S> {
 /// requirement names it, and for a solvable's dependencies when it first is true.
 #[derive(Drop)]
 pub(crate) struct Encoder<D: DependencyProvider> {
-    /// What the provider answered for packages: each is asked for once.
+    provider: D,
+    /// What it answered for packages: each is asked for once.
     cache: SolverCache<D>,
     /// For each version set of a condition the variable that is true if one of its candidates is.
     gates: Mapping<VersionSetId, VariableId, D::Alloc>,
@@ -41,8 +40,10 @@ impl<D: DependencyProvider + Copy> Encoder<D> {
     /// An encoder that has encoded nothing yet.
     pub(crate) fn new(search: &Search<D>) -> Result<Self> {
         let gates = Mapping::new(search.alloc)?;
+        let provider = *search.store.provider();
         Ok(Encoder {
-            cache: SolverCache::new(search.alloc, *search.store.provider()),
+            provider,
+            cache: SolverCache::new(search.alloc, provider),
             gates,
             introduced: 0,
             encoded: IndexedSet::new(search.alloc),
@@ -59,22 +60,22 @@ impl<D: DependencyProvider + Copy> Encoder<D> {
             variable: VariableId::root(),
             solvable: None,
         };
-        self.require_all(search, root, wanted)?;
+        self.require_all(search, &root, wanted)?;
         self.introduce_all(search)
     }
 
     /// Encodes the dependencies of the candidates that are newly true. Answers whether there are any.
     pub(crate) fn encode_new(&mut self, search: &mut Search<D>) -> Result<bool> {
         let mut some = false;
-        for index in search.encoded_below..search.trail.len() {
-            let Some(assigned) = search.trail.get(index).copied() else {
+        for index in search.trail.encoded_below..search.trail.assignments.len() {
+            let Some(assigned) = search.trail.assignments.get(index).copied() else {
                 break;
             };
             if assigned.decision.value && self.encode(search, assigned.decision.variable)? {
                 some = true;
             }
         }
-        search.encoded_below = search.trail.len();
+        search.trail.encoded_below = search.trail.assignments.len();
         self.introduce_all(search)?;
         Ok(some)
     }
@@ -111,11 +112,10 @@ impl<D: DependencyProvider + Copy> Encoder<D> {
     }
 
     fn package_of(&self, solvable: D::SolvableId) -> Result<D::NameId> {
-        let provider = self.cache.provider();
-        if !provider.knows_solvable(solvable) {
+        if !self.provider.knows_solvable(solvable) {
             return Err(StoreError::UnknownId);
         }
-        Ok(provider.solvable_name(solvable))
+        Ok(self.provider.solvable_name(solvable))
     }
 
     /// Encodes the dependencies of a variable's solvable, unless they are encoded. Answers whether it did.
@@ -126,20 +126,31 @@ impl<D: DependencyProvider + Copy> Encoder<D> {
         if !self.encoded.insert(variable)? {
             return Ok(false);
         }
-        let parent = Parent {
-            variable,
-            solvable: Some(solvable),
-        };
-        match self.needs_of(search, solvable)? {
+        let dependencies = self.needs_of(search, solvable)?;
+        self.encode_dependencies(search, variable, solvable, &dependencies)?;
+        Ok(true)
+    }
+
+    fn encode_dependencies(
+        &mut self,
+        search: &mut Search<D>,
+        variable: VariableId,
+        solvable: D::SolvableId,
+        dependencies: &Dependencies<D::Alloc>,
+    ) -> Result<()> {
+        match dependencies {
             Dependencies::Known(needs) => {
-                self.require_all(search, parent, &needs.requirements)?;
-                self.constrain_all(search, variable, solvable, &needs.constrains)?;
+                let parent = Parent {
+                    variable,
+                    solvable: Some(solvable),
+                };
+                self.require_all(search, &parent, &needs.requirements)?;
+                self.constrain_all(search, variable, solvable, &needs.constrains)
             }
             Dependencies::Unknown(reason) => {
-                search.exclude(variable, reason, Reason::Unknown(solvable, reason))?;
+                search.exclude(variable, *reason, Reason::Unknown(solvable, *reason))
             }
         }
-        Ok(true)
     }
 
     /// The dependencies of a solvable.
@@ -148,12 +159,10 @@ impl<D: DependencyProvider + Copy> Encoder<D> {
         search: &Search<D>,
         solvable: D::SolvableId,
     ) -> Result<Dependencies<D::Alloc>> {
-        let provider = self.cache.provider();
-        if provider.knows_solvable(solvable) {
-            provider.get_dependencies(search.alloc, solvable)
-        } else {
-            Err(StoreError::UnknownId)
+        if self.provider.knows_solvable(solvable) {
+            return self.provider.get_dependencies(search.alloc, solvable);
         }
+        Err(StoreError::UnknownId)
     }
 
     /// Makes a solvable false if its package excludes it, or is locked to another one.
@@ -164,25 +173,16 @@ impl<D: DependencyProvider + Copy> Encoder<D> {
         solvable: D::SolvableId,
         name: D::NameId,
     ) -> Result<()> {
-        let package = self
-            .cache
-            .get_or_cache_candidates(name)
-            .map_err(refusal_of)?;
-        for (excluded, reason) in &package.excluded {
-            if *excluded == solvable {
-                search.exclude(variable, *reason, Reason::Excluded(solvable, *reason))?;
-            }
-        }
-        match package.locked {
-            Some(locked) if locked != solvable => search.lock(locked, variable),
-            _ => Ok(()),
+        match self.cache.get_or_cache_candidates(name) {
+            Ok(package) => search.leave_out(variable, solvable, package),
+            Err(unanswered) => Err(refusal_of(unanswered)),
         }
     }
 
     fn require_all(
         &mut self,
         search: &mut Search<D>,
-        parent: Parent<D::SolvableId>,
+        parent: &Parent<D::SolvableId>,
         wanted: &[ConditionalRequirement],
     ) -> Result<()> {
         for wanted in wanted {
@@ -191,28 +191,47 @@ impl<D: DependencyProvider + Copy> Encoder<D> {
         Ok(())
     }
 
-    /// Says that the parent, if true, requires a candidate; under a condition once for each list of its normal form.
+    /// Says that the parent, if true, requires a candidate.
     fn require(
         &mut self,
         search: &mut Search<D>,
-        parent: Parent<D::SolvableId>,
+        parent: &Parent<D::SolvableId>,
         wanted: ConditionalRequirement,
     ) -> Result<()> {
         search.store.load(wanted.requirement)?;
-        let reason = if search.has_candidate(wanted.requirement) {
-            Reason::Needs(parent.solvable, wanted)
-        } else {
-            Reason::Lacks(parent.solvable, wanted)
+        let condition = wanted.condition;
+        let need = Need {
+            parent: parent.variable,
+            requirement: wanted.requirement,
+            reason: search.reason_for(parent.solvable, wanted),
         };
-        let (variable, requirement) = (parent.variable, wanted.requirement);
-        let Some(condition) = wanted.condition else {
-            let gates = Vec::new(search.alloc);
-            return search.require(variable, requirement, None, gates, reason);
-        };
-        for list in &self.lists_of(search, condition)? {
+        match condition {
+            Some(condition) => self.require_under(search, &need, condition),
+            None => search.require(&need, None, Vec::new(search.alloc)),
+        }
+    }
+
+    /// Says it under a condition: once for each list of its normal form.
+    fn require_under(
+        &mut self,
+        search: &mut Search<D>,
+        need: &Need<D::NameId, D::SolvableId>,
+        condition: ConditionId,
+    ) -> Result<()> {
+        let lists = self.lists_of(search, condition)?;
+        self.require_under_lists(search, need, condition, &lists)
+    }
+
+    fn require_under_lists(
+        &mut self,
+        search: &mut Search<D>,
+        need: &Need<D::NameId, D::SolvableId>,
+        condition: ConditionId,
+        lists: &[Vec<VersionSetId, D::Alloc>],
+    ) -> Result<()> {
+        for list in lists {
             let gates = self.gates_of(search, list)?;
-            let unless = search.unless(&gates, condition)?;
-            search.require(variable, requirement, Some(unless), gates, reason)?;
+            search.require_unless(need, condition, gates)?;
         }
         Ok(())
     }
@@ -223,11 +242,10 @@ impl<D: DependencyProvider + Copy> Encoder<D> {
         search: &Search<D>,
         condition: ConditionId,
     ) -> Result<Vec<Vec<VersionSetId, D::Alloc>, D::Alloc>> {
-        let provider = self.cache.provider();
-        if !provider.knows_condition(condition) {
+        if !self.provider.knows_condition(condition) {
             return Err(StoreError::UnknownId);
         }
-        convert_conditions_to_dnf(search.alloc, condition, provider)
+        convert_conditions_to_dnf(search.alloc, condition, &self.provider)
     }
 
     /// The variables that are all true where each of the version sets has a candidate that is true.
@@ -251,13 +269,7 @@ impl<D: DependencyProvider + Copy> Encoder<D> {
         if let Some(gate) = self.gates.get(set) {
             return Ok(*gate);
         }
-        let requirement = Requirement::Single(set);
-        search.store.load(requirement)?;
-        let origin = HelperOrigin::RequiresGate(requirement);
-        let gate = search.store.helper(origin)?;
-        for candidate in &search.variables_of(requirement)? {
-            search.store.any_of(gate, *candidate)?;
-        }
+        let gate = search.add_gate(Requirement::Single(set))?;
         self.gates.insert(set, gate)?;
         Ok(gate)
     }
@@ -286,98 +298,10 @@ impl<D: DependencyProvider + Copy> Encoder<D> {
         if !self.cache.provider().knows_version_set(set) {
             return Err(StoreError::UnknownId);
         }
-        let outside = self
-            .cache
-            .get_or_cache_non_matching_candidates(set)
-            .map_err(refusal_of)?;
-        for solvable in outside {
-            search.forbid(parent, *solvable, set, reason)?;
+        match self.cache.get_or_cache_non_matching_candidates(set) {
+            Ok(outside) => search.forbid_all(parent, outside, set, reason),
+            Err(unanswered) => Err(refusal_of(unanswered)),
         }
-        Ok(())
-    }
-}
-
-impl<D: DependencyProvider + Copy> Search<D> {
-    /// Whether a requirement that is loaded has a candidate.
-    fn has_candidate(&self, requirement: Requirement) -> bool {
-        match self.store.lists(requirement) {
-            Some(lists) => lists.iter().any(|list| !list.is_empty()),
-            None => false,
-        }
-    }
-
-    /// The variables of a loaded requirement's candidates.
-    fn variables_of(&self, requirement: Requirement) -> Result<Vec<VariableId, D::Alloc>> {
-        let mut variables = Vec::new(self.alloc);
-        if let Some(lists) = self.store.lists(requirement) {
-            for list in lists {
-                variables.extend_from_slice(list)?;
-            }
-        }
-        Ok(variables)
-    }
-
-    /// Says that the parent, if true, requires a candidate where the disjunction's literals, if there is one, are all
-    /// false.
-    fn require(
-        &mut self,
-        parent: VariableId,
-        requirement: Requirement,
-        unless: Option<DisjunctionId>,
-        gates: Vec<VariableId, D::Alloc>,
-        reason: Reason<D::NameId, D::SolvableId>,
-    ) -> Result<()> {
-        let clause = self
-            .store
-            .requires_clause(parent, requirement, unless)?
-            .clause;
-        self.note(clause, reason)?;
-        let required = Required {
-            requirement,
-            gates,
-            clause,
-        };
-        self.add_required(parent, required)
-    }
-
-    /// That one of the gates isn't true.
-    fn unless(&mut self, gates: &[VariableId], condition: ConditionId) -> Result<DisjunctionId> {
-        let mut unless = Vec::new(self.alloc);
-        for gate in gates {
-            unless.push(Literal::new(*gate, true))?;
-        }
-        self.store.disjunction(&unless, condition)
-    }
-
-    /// Says that the parent, if true, forbids a solvable that the version set doesn't hold.
-    fn forbid(
-        &mut self,
-        parent: VariableId,
-        outside: D::SolvableId,
-        set: VersionSetId,
-        reason: Reason<D::NameId, D::SolvableId>,
-    ) -> Result<()> {
-        let outside = self.store.variable(outside)?;
-        let clause = self.store.constrains(parent, outside, set)?.clause;
-        self.note(clause, reason)
-    }
-
-    /// Makes a variable false, for the reason that the string says.
-    fn exclude(
-        &mut self,
-        variable: VariableId,
-        string: StringId,
-        reason: Reason<D::NameId, D::SolvableId>,
-    ) -> Result<()> {
-        let clause = self.store.exclude(variable, string)?.clause;
-        self.note(clause, reason)
-    }
-
-    /// Makes a variable false, since its package is locked to another solvable.
-    fn lock(&mut self, locked: D::SolvableId, variable: VariableId) -> Result<()> {
-        let first = self.store.variable(locked)?;
-        let clause = self.store.lock(first, variable)?.clause;
-        self.note(clause, Reason::Locked(locked))
     }
 }
 

@@ -1,11 +1,10 @@
 //! Why nothing serves: the encoded clauses from which the last conflict follows.
-use crate::learning::Antecedent;
+use crate::notes::Antecedent;
 use crate::reason::Reason;
 use crate::search::{Refutation, Result, Search};
-use resolvo_clauses::VariableOrigin;
-use resolvo_ids::{ClauseId, IdSet, IndexedSet, Mapping, SolverId, VariableId};
+use resolvo_clauses::{Literal, VariableOrigin};
+use resolvo_ids::{ClauseId, IdSet, IndexedSet, SolverId, VariableId};
 use resolvo_pool::DependencyProvider;
-use serving::Claim;
 use std::alloc::Allocator;
 
 /// A trace from the last conflict back to encoded clauses.
@@ -34,6 +33,14 @@ impl<A: Allocator + Copy> Trace<A> {
             Antecedent::Fact(variable) => self.variables.insert(*variable),
         }
     }
+
+    /// Adds the variables of a clause that gave a value at level 1.
+    fn add_facts(&mut self, literals: &[Literal]) -> Result<()> {
+        for literal in literals {
+            self.pending.push(Antecedent::Fact(literal.variable()))?;
+        }
+        Ok(())
+    }
 }
 
 impl<D: DependencyProvider + Copy> Search<D> {
@@ -44,8 +51,8 @@ impl<D: DependencyProvider + Copy> Search<D> {
     ) -> Result<Refutation<D::NameId, D::SolvableId, D::Alloc>> {
         let trace = self.trace()?;
         let reasons = self.reasons(&trace)?;
-        let learnt = self.learnt(&trace)?;
-        let solvables = self.solvables(&reasons)?;
+        let solvables = dependents(self.alloc, &reasons)?;
+        let learnt = self.notes.claims(&trace.clauses)?;
         Ok(Refutation {
             learnt,
             solvables,
@@ -54,50 +61,13 @@ impl<D: DependencyProvider + Copy> Search<D> {
         })
     }
 
-    /// The learnt clauses that were seen.
-    fn learnt(
-        &self,
-        trace: &Trace<D::Alloc>,
-    ) -> Result<Vec<Vec<Claim<D::SolvableId>, D::Alloc>, D::Alloc>> {
-        let mut learnt = Vec::new(self.alloc);
-        for own in &self.learnt_clauses {
-            if trace.clauses.contains(own.clause) {
-                let mut claims = Vec::new(self.alloc);
-                claims.extend_from_slice(&own.claims)?;
-                learnt.push(claims)?;
-            }
-        }
-        Ok(learnt)
-    }
-
-    /// The solvables of which the reasons tell dependencies. Reasons of one solvable come in turn.
-    fn solvables(
-        &self,
-        reasons: &[Reason<D::NameId, D::SolvableId>],
-    ) -> Result<Vec<D::SolvableId, D::Alloc>> {
-        let mut solvables = Vec::new(self.alloc);
-        for reason in reasons {
-            if let Some(solvable) = reason.dependent() {
-                if !is_last(&solvables, solvable) {
-                    solvables.push(solvable)?;
-                }
-            }
-        }
-        Ok(solvables)
-    }
-
     /// What the clauses that were seen say, each reason once, in the order in which they were encoded; then the
     /// packages of which at most one version may be picked.
     fn reasons(
         &self,
         trace: &Trace<D::Alloc>,
     ) -> Result<Vec<Reason<D::NameId, D::SolvableId>, D::Alloc>> {
-        let mut reasons = Vec::new(self.alloc);
-        for (clause, reason) in self.encoded.iter() {
-            if trace.clauses.contains(clause) && !reasons.contains(reason) {
-                reasons.push(*reason)?;
-            }
-        }
+        let mut reasons = self.notes.reasons(&trace.clauses)?;
         self.add_packages(&trace.seen, &mut reasons)?;
         Ok(reasons)
     }
@@ -123,75 +93,60 @@ impl<D: DependencyProvider + Copy> Search<D> {
 
     /// The package of which a clause says that at most one version is picked. Such clauses alone have helpers for it.
     fn package_of(&self, clause: ClauseId) -> Result<Option<D::NameId>> {
-        for literal in self.store.literals(clause)?.iter().flatten() {
+        let literals = self.literals(clause)?;
+        Ok(self.package_in(&literals))
+    }
+
+    /// The package of the first helper among these literals.
+    fn package_in(&self, literals: &[Literal]) -> Option<D::NameId> {
+        for literal in literals {
             let origin = self.store.origin(literal.variable());
             if let Some(VariableOrigin::ForbidMultiple(name)) = origin {
-                return Ok(Some(name));
+                return Some(name);
             }
         }
-        Ok(None)
+        None
     }
 
     /// The whole trace from the last conflict.
     fn trace(&self) -> Result<Trace<D::Alloc>> {
-        let facts = self.facts()?;
         let mut trace = Trace {
             pending: Vec::new(self.alloc),
             clauses: IndexedSet::new(self.alloc),
             seen: Vec::new(self.alloc),
             variables: IndexedSet::new(self.alloc),
         };
-        trace.pending.extend_from_slice(&self.root_cause)?;
-        self.follow_all(&facts, &mut trace)?;
+        trace.pending.extend_from_slice(&self.notes.root_cause)?;
+        self.follow_all(&mut trace)?;
         Ok(trace)
     }
 
     /// Follows what is pending until nothing is.
-    fn follow_all(
-        &self,
-        facts: &Mapping<VariableId, ClauseId, D::Alloc>,
-        trace: &mut Trace<D::Alloc>,
-    ) -> Result<()> {
+    fn follow_all(&self, trace: &mut Trace<D::Alloc>) -> Result<()> {
         for _ in 0..u64::MAX {
             let Some(antecedent) = trace.pending.pop() else {
                 break;
             };
             if trace.is_new(&antecedent)? {
-                self.add_antecedents(&antecedent, facts, trace)?;
+                self.add_antecedents(&antecedent, trace)?;
             }
         }
         Ok(())
     }
 
-    /// The antecedents of the values at level 1.
-    fn facts(&self) -> Result<Mapping<VariableId, ClauseId, D::Alloc>> {
-        let mut facts = Mapping::new(self.alloc)?;
-        for assigned in &self.trail {
-            if assigned.level < 2 {
-                facts.insert(assigned.decision.variable, assigned.decision.derived_from)?;
-            }
-        }
-        Ok(facts)
-    }
-
     /// Adds what an antecedent follows from: a learnt clause from its own antecedents, and a value at level 1 from its
     /// clause and the other values in it.
-    fn add_antecedents(
-        &self,
-        antecedent: &Antecedent,
-        facts: &Mapping<VariableId, ClauseId, D::Alloc>,
-        trace: &mut Trace<D::Alloc>,
-    ) -> Result<()> {
+    fn add_antecedents(&self, antecedent: &Antecedent, trace: &mut Trace<D::Alloc>) -> Result<()> {
         match antecedent {
             Antecedent::Clause(clause) => {
-                if let Some(antecedents) = self.derived.get(*clause) {
-                    trace.pending.extend_from_slice(antecedents)?;
-                }
+                trace
+                    .pending
+                    .extend_from_slice(self.notes.antecedents(*clause))?;
             }
             Antecedent::Fact(variable) => {
-                if let Some(clause) = facts.get(*variable) {
-                    trace.pending.push(Antecedent::Clause(*clause))?;
-                    self.add_facts(*clause, trace)?;
+                if let Some(clause) = self.trail.clause_of_fact(*variable) {
+                    trace.pending.push(Antecedent::Clause(clause))?;
+                    self.add_facts(clause, trace)?;
                 }
             }
         }
@@ -200,11 +155,25 @@ impl<D: DependencyProvider + Copy> Search<D> {
 
     /// Adds the variables of a clause that gave a value at level 1.
     fn add_facts(&self, clause: ClauseId, trace: &mut Trace<D::Alloc>) -> Result<()> {
-        for literal in self.store.literals(clause)?.iter().flatten() {
-            trace.pending.push(Antecedent::Fact(literal.variable()))?;
-        }
-        Ok(())
+        let literals = self.literals(clause)?;
+        trace.add_facts(&literals)
     }
+}
+
+/// The solvables of which the reasons tell dependencies. Reasons of one solvable come in turn.
+fn dependents<N: Copy, S: Copy + PartialEq, A: Allocator + Copy>(
+    alloc: A,
+    reasons: &[Reason<N, S>],
+) -> Result<Vec<S, A>> {
+    let mut solvables = Vec::new(alloc);
+    for reason in reasons {
+        if let Some(solvable) = reason.dependent() {
+            if !is_last(&solvables, solvable) {
+                solvables.push(solvable)?;
+            }
+        }
+    }
+    Ok(solvables)
 }
 
 /// Whether the last one of a list is this.

@@ -1,28 +1,13 @@
 //! Conflict analysis: what a search learns from a false clause.
-use crate::search::{Assigned, Result, Search};
+use crate::notes::Antecedent;
+use crate::search::{Result, Search};
+use crate::trail::{Assigned, Trail};
 use resolvo_clauses::{Decision, Literal, VariableOrigin};
 use resolvo_ids::{ClauseId, IndexedSet, VariableId};
 use resolvo_pool::{DependencyProvider, Requirement};
 use serving::Claim;
 use std::alloc::Allocator;
 use std::mem;
-
-/// What a learnt clause, or a value at level 1, follows from.
-#[derive(Clone, Copy)]
-pub(crate) enum Antecedent {
-    /// A clause.
-    Clause(ClauseId),
-    /// The value of a variable at level 1.
-    Fact(VariableId),
-}
-
-/// A clause that was learnt, in the provider's ids.
-#[derive(Drop)]
-pub(crate) struct LearntClause<S, A: Allocator> {
-    pub(crate) clause: ClauseId,
-    /// One of these holds.
-    pub(crate) claims: Vec<Claim<S>, A>,
-}
 
 /// The analysis of a conflict: which assignments can't stand together.
 #[derive(Drop)]
@@ -54,8 +39,8 @@ impl<D: DependencyProvider + Copy> Search<D> {
         let lower = self.minimized(&analysis.lower, &analysis.seen, &mut analysis.antecedents)?;
         let antecedents = mem::replace(&mut analysis.antecedents, Vec::new(self.alloc));
         let Some(last) = last else {
-            self.levels.clear();
-            self.root_cause = antecedents;
+            self.trail.clear_levels();
+            self.notes.root_cause = antecedents;
             return Ok(());
         };
         self.learn_clause(last, &lower, antecedents)
@@ -78,13 +63,8 @@ impl<D: DependencyProvider + Copy> Search<D> {
 
     /// The highest level in a clause.
     fn highest_level(&self, clause: ClauseId) -> Result<usize> {
-        let mut highest_level = 0;
-        for literal in self.store.literals(clause)?.iter().flatten() {
-            if let Some(assigned) = self.assigned(literal.variable()) {
-                highest_level = highest_level.max(assigned.level);
-            }
-        }
-        Ok(highest_level)
+        let literals = self.literals(clause)?;
+        Ok(self.trail.highest_level(&literals))
     }
 
     /// The first unique implication point: the last assignment of the conflict's level from which, with lower levels,
@@ -94,7 +74,7 @@ impl<D: DependencyProvider + Copy> Search<D> {
         if analysis.level < 2 {
             return Ok(None);
         }
-        for assigned in self.trail.iter().rev() {
+        for assigned in self.trail.assignments.iter().rev() {
             if assigned.level == analysis.level
                 && analysis.seen.contains(assigned.decision.variable)
             {
@@ -121,15 +101,21 @@ impl<D: DependencyProvider + Copy> Search<D> {
                 break;
             };
             analysis.antecedents.push(Antecedent::Clause(clause))?;
-            for literal in self.store.literals(clause)?.iter().flatten() {
-                self.see_variable(literal.variable(), analysis)?;
-            }
+            let literals = self.literals(clause)?;
+            self.see_literals(&literals, analysis)?;
+        }
+        Ok(())
+    }
+
+    fn see_literals(&self, literals: &[Literal], analysis: &mut Analysis<D::Alloc>) -> Result<()> {
+        for literal in literals {
+            self.see_variable(literal.variable(), analysis)?;
         }
         Ok(())
     }
 
     fn see_variable(&self, variable: VariableId, analysis: &mut Analysis<D::Alloc>) -> Result<()> {
-        let Some(assigned) = self.assigned(variable) else {
+        let Some(assigned) = self.trail.assigned(variable) else {
             return Ok(());
         };
         if !analysis.seen.insert(variable)? {
@@ -185,18 +171,8 @@ impl<D: DependencyProvider + Copy> Search<D> {
         if assigned.is_decision {
             return Ok(false);
         }
-        for literal in self
-            .store
-            .literals(assigned.decision.derived_from)?
-            .iter()
-            .flatten()
-        {
-            let variable = literal.variable();
-            if !seen.contains(variable) && !self.is_fact(variable) {
-                return Ok(false);
-            }
-        }
-        Ok(true)
+        let literals = self.literals(assigned.decision.derived_from)?;
+        Ok(self.trail.are_known(&literals, seen))
     }
 
     /// Adds a clause, and the variables in it that have their values at level 1, to the antecedents.
@@ -206,20 +182,8 @@ impl<D: DependencyProvider + Copy> Search<D> {
         antecedents: &mut Vec<Antecedent, D::Alloc>,
     ) -> Result<()> {
         antecedents.push(Antecedent::Clause(clause))?;
-        for literal in self.store.literals(clause)?.iter().flatten() {
-            if self.is_fact(literal.variable()) {
-                antecedents.push(Antecedent::Fact(literal.variable()))?;
-            }
-        }
-        Ok(())
-    }
-
-    /// Whether a variable has its value at level 1.
-    fn is_fact(&self, variable: VariableId) -> bool {
-        match self.assigned(variable) {
-            Some(assigned) => assigned.level < 2,
-            None => false,
-        }
+        let literals = self.literals(clause)?;
+        self.trail.add_facts(&literals, antecedents)
     }
 
     /// Learns that not all of these assignments stand: backjumps to the highest level of the lower ones, and propagates
@@ -234,9 +198,8 @@ impl<D: DependencyProvider + Copy> Search<D> {
         self.backjump(level);
         let literals = self.literals_against(last, lower, level)?;
         let clause = self.store.learnt(&literals)?.clause;
-        self.derived.insert(clause, antecedents)?;
         let claims = self.claims(&literals)?;
-        self.learnt_clauses.push(LearntClause { clause, claims })?;
+        self.notes.add_learnt(clause, claims, antecedents)?;
         let Decision {
             variable,
             value,
@@ -285,6 +248,29 @@ impl<D: DependencyProvider + Copy> Search<D> {
             }
         }
         Ok(claims)
+    }
+}
+
+impl<A: Allocator + Copy> Trail<A> {
+    /// Whether all these literals' variables were seen, or have their values at level 1.
+    fn are_known(&self, literals: &[Literal], seen: &IndexedSet<VariableId, A>) -> bool {
+        for literal in literals {
+            let variable = literal.variable();
+            if !seen.contains(variable) && !self.is_fact(variable) {
+                return false;
+            }
+        }
+        true
+    }
+
+    /// Adds the variables of these literals that have their values at level 1 to the antecedents.
+    fn add_facts(&self, literals: &[Literal], antecedents: &mut Vec<Antecedent, A>) -> Result<()> {
+        for literal in literals {
+            if self.is_fact(literal.variable()) {
+                antecedents.push(Antecedent::Fact(literal.variable()))?;
+            }
+        }
+        Ok(())
     }
 }
 

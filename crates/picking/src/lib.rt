@@ -4,22 +4,26 @@
 //! candidate, each picked version's needs are given, nothing is picked that another one's constraints rule out, and at
 //! most one version of a package is picked. `serving`'s `specs/Serves` says so in the words of the provider alone.
 //!
-//! Nothing is promised of the search itself (`search`; `encoding` for the clauses, `learning` for conflicts, `deciding`
-//! and `pace` for decisions after many of them, `explaining` for why nothing serves, a list of [`Reason`]s). What it
-//! answers is checked at the end by the crate `serving`, which reads the provider and no store. Its `serves` checks
-//! what is picked. Its `refutes` checks that nothing serves, by a replay of the learnt clauses. `borrowed` makes a
-//! provider that a store can own of one that is borrowed.
+//! Nothing is promised of the search itself (`search`; `encoding` and `adding` for the clauses, `learning` for
+//! conflicts, `deciding` and `pace` for decisions after many of them, `explaining` for why nothing serves, a list of
+//! [`Reason`]s; `trail` has what is assigned, and `notes` what is known of clauses). What it answers is checked at the
+//! end by the crate `serving`, which reads the provider and no store. Its `serves` checks what is picked. Its `refutes`
+//! checks that nothing serves, by a replay of the learnt clauses. `borrowed` makes a provider that a store can own of
+//! one that is borrowed.
 #![tactic(auto)]
 
+mod adding;
 mod borrowed;
 mod deciding;
 mod encoding;
 mod explaining;
 mod finding;
 mod learning;
+mod notes;
 mod pace;
 mod reason;
 mod search;
+mod trail;
 
 pub use finding::{Answer, pick};
 pub use reason::Reason;

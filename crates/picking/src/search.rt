@@ -3,13 +3,14 @@
 //! It encodes all that may be picked (`encoding`); then it propagates and decides in turn. From a conflict it learns a
 //! clause, and backjumps (`learning`). After many conflicts it decides by scores (`deciding`), and restarts now and
 //! then (`pace`). If nothing serves, it explains why (`explaining`).
-use crate::deciding::Required;
+use crate::deciding::Requirements;
 use crate::encoding::Encoder;
-use crate::learning::{Antecedent, LearntClause};
+use crate::notes::Notes;
 use crate::pace::{Pace, Scores};
 use crate::reason::Reason;
+use crate::trail::Trail;
 use resolvo_clauses::{Decision, Literal};
-use resolvo_ids::{ClauseId, Mapping, StoreError, VariableId};
+use resolvo_ids::{ClauseId, StoreError, VariableId};
 use resolvo_pool::{ConditionalRequirement, DependencyProvider};
 use resolvo_store::ClauseStore;
 use serving::Claim;
@@ -42,55 +43,18 @@ pub(crate) struct Refutation<N, S, A: Allocator> {
     pub(crate) steps: u64,
 }
 
-/// A level begins with a decision: the root's at level 1, and then that a candidate is true.
-#[derive(Clone, Copy)]
-pub(crate) struct DecisionLevel {
-    variable: VariableId,
-    /// How many assignments are below the level.
-    below: usize,
-}
-
-/// An assignment, with its level.
-#[derive(Clone, Copy)]
-pub(crate) struct Assigned {
-    pub(crate) decision: Decision,
-    pub(crate) level: usize,
-    pub(crate) is_decision: bool,
-}
-
-impl Assigned {
-    /// That it doesn't stand.
-    pub(crate) fn opposite(&self) -> Literal {
-        Literal::new(self.decision.variable, self.decision.value)
-    }
-}
-
 /// A search, which owns its store.
 #[derive(Drop)]
 pub(crate) struct Search<D: DependencyProvider> {
     pub(crate) store: ClauseStore<D>,
     /// What may be picked.
     pub(crate) candidates: Vec<(VariableId, D::SolvableId), D::Alloc>,
-    /// The levels, lowest first.
-    pub(crate) levels: Vec<DecisionLevel, D::Alloc>,
-    /// The trail as it was read last, oldest first.
-    pub(crate) trail: Vec<Assigned, D::Alloc>,
-    /// The dependencies of what is true in the trail below this are encoded.
-    pub(crate) encoded_below: usize,
-    /// The place of a variable there, if it is there.
-    places: Mapping<VariableId, usize, D::Alloc>,
-    /// What each variable requires.
-    pub(crate) requirements: Mapping<VariableId, Vec<Required<D::Alloc>, D::Alloc>, D::Alloc>,
+    /// The trail as it was read last.
+    pub(crate) trail: Trail<D::Alloc>,
+    pub(crate) requirements: Requirements<D::Alloc>,
     pub(crate) scores: Scores<D::NameId, D::Alloc>,
     pub(crate) pace: Pace,
-    /// What the encoded clauses say.
-    pub(crate) encoded: Mapping<ClauseId, Reason<D::NameId, D::SolvableId>, D::Alloc>,
-    /// The learnt clauses, in order.
-    pub(crate) learnt_clauses: Vec<LearntClause<D::SolvableId, D::Alloc>, D::Alloc>,
-    /// The antecedents of each learnt clause.
-    pub(crate) derived: Mapping<ClauseId, Vec<Antecedent, D::Alloc>, D::Alloc>,
-    /// The antecedents of the last conflict, which follows from the root alone.
-    pub(crate) root_cause: Vec<Antecedent, D::Alloc>,
+    pub(crate) notes: Notes<D::NameId, D::SolvableId, D::Alloc>,
     pub(crate) alloc: D::Alloc,
 }
 
@@ -110,25 +74,18 @@ pub(crate) fn search_for<D: DependencyProvider + Copy>(
 impl<D: DependencyProvider + Copy> Search<D> {
     /// A search with nothing encoded. The store is made last, so that no refusal has to free one.
     fn new(alloc: D::Alloc, provider: D) -> Result<Self> {
-        let encoded = Mapping::new(alloc)?;
-        let derived = Mapping::new(alloc)?;
-        let places = Mapping::new(alloc)?;
-        let requirements = Mapping::new(alloc)?;
+        let notes = Notes::new(alloc)?;
+        let trail = Trail::new(alloc)?;
+        let requirements = Requirements::new(alloc)?;
         let store = ClauseStore::new(alloc, provider)?;
         Ok(Search {
             store,
             candidates: Vec::new(alloc),
-            levels: Vec::new(alloc),
-            trail: Vec::new(alloc),
-            encoded_below: 0,
-            places,
+            trail,
             requirements,
             scores: Scores::new(alloc),
             pace: Pace::new(),
-            encoded,
-            learnt_clauses: Vec::new(alloc),
-            derived,
-            root_cause: Vec::new(alloc),
+            notes,
             alloc,
         })
     }
@@ -154,7 +111,7 @@ impl<D: DependencyProvider + Copy> Search<D> {
         steps: u64,
     ) -> Result<SearchEnd<D::NameId, D::SolvableId, D::Alloc>> {
         for step in 0..steps {
-            if self.levels.is_empty() {
+            if self.trail.level() == 0 {
                 return Ok(SearchEnd::Unsolvable(self.refutation(steps - step)?));
             }
             if !self.step(encoder)? {
@@ -189,16 +146,21 @@ impl<D: DependencyProvider + Copy> Search<D> {
     /// Propagates, and encodes what is newly true, until nothing is, or a clause is false.
     fn encode_true(&mut self, encoder: &mut Encoder<D>) -> Result<()> {
         for _ in 0..u64::MAX {
-            let level = self.level();
-            if self.store.saturate(level)?.is_some() {
-                break;
-            }
-            self.read_trail()?;
-            if !encoder.encode_new(self)? {
+            if !self.encode_propagated(encoder)? {
                 break;
             }
         }
         Ok(())
+    }
+
+    /// Propagates, and encodes what is newly true, unless a clause is false. Answers whether it encoded something.
+    fn encode_propagated(&mut self, encoder: &mut Encoder<D>) -> Result<bool> {
+        let level = self.level();
+        if let Some(_) = self.store.saturate(level)? {
+            return Ok(false);
+        }
+        self.read_trail()?;
+        encoder.encode_new(self)
     }
 
     /// Refuses to go on if the provider says so.
@@ -221,14 +183,13 @@ impl<D: DependencyProvider + Copy> Search<D> {
     /// Decides that a variable is true, at a new level.
     fn decide(&mut self, variable: VariableId, clause: ClauseId) -> Result<()> {
         self.read_trail()?;
-        let below = self.trail.len();
-        self.levels.push(DecisionLevel { variable, below })?;
+        self.trail.begin_level(variable)?;
         self.assign(Decision::new(variable, true, clause))
     }
 
     /// The current level. The store refuses one that is too high.
     fn level(&self) -> u32 {
-        u32::try_from(self.levels.len()).unwrap_or(u32::MAX)
+        u32::try_from(self.trail.level()).unwrap_or(u32::MAX)
     }
 
     /// Assigns at the current level. What is above is undone.
@@ -245,38 +206,14 @@ impl<D: DependencyProvider + Copy> Search<D> {
             let Some(decision) = self.store.next_unpropagated() else {
                 break;
             };
-            let is_decision = match self.levels.last() {
-                Some(level) => level.variable == decision.variable,
-                None => false,
-            };
-            self.places.insert(decision.variable, self.trail.len())?;
-            self.trail.push(Assigned {
-                decision,
-                level: self.levels.len(),
-                is_decision,
-            })?;
+            self.trail.push(decision)?;
         }
         Ok(())
     }
 
-    /// The assignment of a variable, as it was read last.
-    pub(crate) fn assigned(&self, variable: VariableId) -> Option<Assigned> {
-        let Some(place) = self.places.get(variable) else {
-            return None;
-        };
-        match self.trail.get(*place) {
-            Some(assigned) if assigned.decision.variable == variable => Some(*assigned),
-            _ => None,
-        }
-    }
-
     /// Undoes what is above a level.
     pub(crate) fn backjump(&mut self, level: usize) {
-        if let Some(above) = self.levels.get(level) {
-            self.trail.truncate(above.below);
-            self.encoded_below = self.encoded_below.min(above.below);
-        }
-        self.levels.truncate(level);
+        self.trail.backjump(level);
         let level = self.level();
         self.store.undo_until(level);
     }
@@ -292,13 +229,11 @@ impl<D: DependencyProvider + Copy> Search<D> {
         Ok(picked)
     }
 
-    /// Keeps what a clause says.
-    pub(crate) fn note(
-        &mut self,
-        clause: ClauseId,
-        reason: Reason<D::NameId, D::SolvableId>,
-    ) -> Result<()> {
-        self.encoded.insert(clause, reason)?;
-        Ok(())
+    /// The literals of a clause.
+    pub(crate) fn literals(&self, clause: ClauseId) -> Result<Vec<Literal, D::Alloc>> {
+        match self.store.literals(clause)? {
+            Some(literals) => Ok(literals),
+            None => Ok(Vec::new(self.alloc)),
+        }
     }
 }
