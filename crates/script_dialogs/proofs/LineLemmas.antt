@@ -11,11 +11,10 @@ use Rattle.script_packages.specs.CatalogueLines.{catalogue_line_of}
 use Rattle.script_packages.specs.Listing.{Listing, listing_of, nothing_listed}
 use Rattle.scripts.specs.Commands.{Ids, command_line_of}
 use Rattle.scripts.specs.Replies.{reply_text}
-use Rattle.scripts.specs.ScriptStore.{numbers, provider_of}
-use Rattle.scripts.specs.Scripts.{ScriptAnswered}
+use Rattle.scripts.specs.Scripts.{CommandsFrom, LinesFrom, ScriptLinesAnswered}
 use Rattle.scripts.specs.Transcript.{ObeysLine, LineAnswered, Answered}
 use Rattle.dialogs.specs.Answering.{AreAnswered}
-use Rattle.script_dialogs.specs.ScriptLines.{IsAtStart, IsUnreadable, IsAnswered, CommandsFrom, LinesFrom, ScriptLinesAnswered}
+use Rattle.script_dialogs.specs.ScriptLines.{IsAtStart, IsUnreadable, IsAnswered}
 use Rattle.script_dialogs.specs.declared.stage.Stage.{Stage}
 use Rattle.script_dialogs.specs.declared.stage.Stage.TheVariants.{Catalogue, Commands}
 
@@ -120,8 +119,3 @@ module _ {N S : Type 0} (ids : Ids N S) (provided : Packages → Provider N S) w
         by (Catalogue packages) is none =
             subst (λ l. LinesFrom ids provided l 0 lines text faulty) none (catalogue packages a 0 lines text faulty is h)
         by (Commands kept) is never = absurd never
-
--- over a script's packages
-pub as_script : (lines : List (List ℕ)) (text : List ℕ) (faulty : Option ℕ) → ScriptLinesAnswered numbers provider_of lines text faulty → ScriptAnswered lines text faulty
-as_script lines text None h = h
-as_script lines text (Some number) h = h

@@ -1,16 +1,14 @@
 -- What a line of a script is answered, by how far the script has come.
-use Rattle.std.specs.Prelude.{◌≡◌, ℕ, ◌+◌, List, [], ◌⊎◌, Option, None, Some, Result, Ok}
+use Rattle.std.specs.Prelude.{◌≡◌, ℕ, List, [], Result, Ok}
 use Rattle.resolvo_store.specs.Store.{Store, Provider, new_store}
-use Rattle.script_text.specs.declared.fault.LineFault.{LineFault}
 use Rattle.script_text.specs.declared.statement.Line.TheVariants.{Unreadable}
 use Rattle.script_packages.specs.declared.packages.Packages.{Packages}
 use Rattle.script_packages.specs.Catalogues.{AreListed}
 use Rattle.script_packages.specs.CatalogueEnds.{GoesOn, Ends, Faulty, effect_of}
-use Rattle.script_packages.specs.CatalogueEnds.{NeverBegins, CommandsBegin, FaultyAt}
 use Rattle.script_packages.specs.CatalogueLines.{catalogue_line_of}
-use Rattle.script_packages.specs.Listing.{Listing, listing_of, nothing_listed}
+use Rattle.script_packages.specs.Listing.{listing_of, nothing_listed}
 use Rattle.scripts.specs.Commands.{Ids, command_line_of}
-use Rattle.scripts.specs.Transcript.{ObeysLine, Answered}
+use Rattle.scripts.specs.Transcript.{ObeysLine}
 use Rattle.script_dialogs.specs.declared.stage.Stage.{Stage}
 use Rattle.script_dialogs.specs.declared.stage.Stage.TheVariants.{Catalogue, Commands}
 
@@ -42,19 +40,3 @@ module _ {N S : Type 0} (ids : Ids N S) where
       IsAnswered (Commands kept) line text (Commands next) =
           ObeysLine {T = ℕ} (store kept) (command_line_of ids line) [] (Ok 0) text (store next)
       IsAnswered (Commands kept) line text (Catalogue more) = ⊥
-
-    -- after this listing the commands begin in these lines, with so many before them, and are answered by this text
-    abbrev pub CommandsFrom : Listing → ℕ → List (List ℕ) → List ℕ → Option ℕ → Type 0
-    CommandsFrom l n lines text faulty =
-        (packages : Packages) × (before : ℕ) × (left : List (List ℕ)) × CommandsBegin l n lines before left packages
-        × Answered ids (new_store (provided packages)) before left text faulty
-
-    -- after this listing the lines, with so many before them, are answered by this text, as those of a script are
-    abbrev pub LinesFrom : Listing → ℕ → List (List ℕ) → List ℕ → Option ℕ → Type 0
-    LinesFrom l n lines text None = (NeverBegins l lines × (text ≡ [])) ⊎ CommandsFrom l n lines text None
-    LinesFrom l n lines text (Some number) =
-        (FaultyAt l n lines number × (text ≡ [])) ⊎ CommandsFrom l n lines text (Some number)
-
-    -- the lines of a script are answered by this text
-    abbrev pub ScriptLinesAnswered : List (List ℕ) → List ℕ → Option ℕ → Type 0
-    ScriptLinesAnswered lines text faulty = LinesFrom nothing_listed 0 lines text faulty

@@ -6,15 +6,14 @@ ghost use Rattle.dialogs.specs.Answering.{AreAnswered};
 ghost use Rattle.dialogs.specs.Talks.{TalkEnds};
 ghost use Rattle.scripts.specs.Commands.{ids_at};
 ghost use Rattle.script_dialogs.specs.DialogEnds.{AnswersNamed, WereAnswered, DialogAnswers, IsScriptAnswered};
-ghost use Rattle.script_dialogs.specs.ScriptLines.{ScriptLinesAnswered};
+ghost use Rattle.scripts.specs.Scripts.{ScriptLinesAnswered};
 
 use crate::script_lines::ScriptLines;
-use crate::stage::OverPackages;
 use dialogs::{Answerer, Peer, talk};
 use providers::DependencyProvider;
 use script_packages::Packages;
 use script_text::{ScriptFault, write_rest};
-use scripts::push_unreadable;
+use scripts::{OverPackages, push_unreadable};
 use solver_cache::ProviderFunctions;
 use std::alloc::Global;
 use typed_ids::DenseIndex;

@@ -1,17 +1,14 @@
 //! A script whose lines come one by one.
-ghost use Rattle.std.specs.Prelude.{◌≡◌, IfOk, IfErr};
-ghost use Rattle.resolvo_store.specs.Store.{new_store};
-ghost use Rattle.script_text.specs.declared.fault.LineFault.TheVariants.{Memory};
 ghost use Rattle.scripts.specs.Commands.{ids_at};
 ghost use Rattle.script_dialogs.specs.ScriptLines.{IsAnswered, IsUnreadable};
 
-use crate::stage::{OverPackages, Stage};
+use crate::stage::Stage;
 use dialogs::Answerer;
 use providers::DependencyProvider;
 use resolvo_store::{Abstract, ClauseStore};
 use script_packages::{Packages, list_line};
 use script_text::{Line, LineFault, Statement};
-use scripts::obey_line;
+use scripts::{OverPackages, obey_line};
 use solver_cache::ProviderFunctions;
 use std::alloc::Global;
 use std::mem;
@@ -58,7 +55,9 @@ impl<
                 let begins = list_line(packages, said)?;
                 if begins {
                     let listed = mem::replace(packages, Packages::new(self.alloc));
-                    let store = store_over(self.store_alloc, D::over(listed))?;
+                    let Ok(store) = ClauseStore::new(self.store_alloc, D::over(listed)) else {
+                        return Err(LineFault::Memory);
+                    };
                     let before = mem::replace(&mut self.stage, Stage::Commands(store));
                     drop(before);
                     return Ok(());
@@ -67,16 +66,4 @@ impl<
             }
         }
     }
-}
-
-/// A new store over the packages of the provider.
-fn store_over<D: DependencyProvider + Drop>(
-    alloc: D::Alloc,
-    provider: D,
-) -> Result<ClauseStore<D>, LineFault>
-    ensures ok { IfOk result (λ store. ⟦<D as Abstract>⟧.store store ≡ new_store
-        (⟦<D as ProviderFunctions>⟧.functions provider)) }
-    ensures err { IfErr result (λ e. e ≡ Memory) }
-{
-    ClauseStore::new(alloc, provider).map_err(|_| LineFault::Memory)
 }

@@ -1,6 +1,4 @@
 //! How far a script has come.
-ghost use Rattle.std.specs.Prelude.{◌≡◌};
-
 use script_packages::Packages;
 
 /// How far a script has come whose commands are given to such a store.
@@ -10,23 +8,4 @@ pub(crate) enum Stage<C> {
     Catalogue(Packages),
     /// Among its commands.
     Commands(C),
-}
-
-/// What a store can be had over: a script's packages, or what is made of them.
-pub(crate) trait OverPackages {
-    ghost use Rattle.script_packages.specs.declared.packages.Packages.{Packages};
-
-    /// What is made of the packages.
-    ghost made_of: { Packages → Self };
-
-    fn over(packages: Packages) -> Self
-        ensures { result ≡ made_of packages };
-}
-
-impl OverPackages for Packages {
-    ghost made_of = { λ p. p };
-
-    fn over(packages: Packages) -> Packages {
-        packages
-    }
 }

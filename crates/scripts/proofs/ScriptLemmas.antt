@@ -3,7 +3,7 @@ use Rattle.std.proofs.Common.{◌≡◌, ℕ, ◌+◌, List, [], ◌∷◌, ◌+
 use Rattle.std.proofs.Common.{length, drop, refl, sym, ap, subst, inl, inr, ◌∙◌, append_assoc, append-nil}
 use Rattle.std.specs.Io.{StartsWith}
 use Rattle.std.proofs.KnownBytes.{Appends-nil, starts_with_rest}
-use Rattle.resolvo_store.specs.Store.{new_store}
+use Rattle.resolvo_store.specs.Store.{Provider, new_store}
 use Rattle.script_text.specs.declared.fault.ScriptFault.{ScriptFault}
 use Rattle.script_text.specs.declared.fault.ScriptFault.TheVariants.{Unreadable, Device, Memory}
 use Rattle.script_packages.specs.declared.packages.Packages.{Packages}
@@ -16,7 +16,8 @@ use Rattle.script_text.specs.Output.{HandsOn, TakesSome, Writes}
 use Rattle.script_text.proofs.Handing.{HandsOn-trans, HandsOn-wait, HandsOn-on, TakesSome-after, Writes-handed}
 use Rattle.scripts.specs.Ends.{FirstAnswered, HandsAnswer, TakesBeginning, named_text}
 use Rattle.scripts.specs.ScriptStore.{numbers, provider_of}
-use Rattle.scripts.specs.Scripts.{CommandsAnswered, ScriptAnswered, faulty_text}
+use Rattle.scripts.specs.Commands.{Ids}
+use Rattle.scripts.specs.Scripts.{CommandsFrom, ScriptLinesAnswered, ScriptAnswered, faulty_text}
 use Rattle.scripts.specs.Transcript.{Answered, IfRead}
 
 -- where the commands begin, there they begin if the script ends among them
@@ -48,45 +49,54 @@ module _ (before : ℕ) (left first rest : List (List ℕ)) (packages : Packages
   begin_before l n (line ∷ lines) h =
       begin_after l n line lines (effect_of l (catalogue_line_of line)) refl (λ more later. begin_before more (n + 1) lines later) h
 
-commands_of : (lines : List (List ℕ)) (text : List ℕ) (faulty : Option ℕ) → CommandsAnswered lines text faulty → ScriptAnswered lines text faulty
-commands_of lines text None h = inr h
-commands_of lines text (Some number) h = inr h
+-- over what is known of the packages
+module _ {N S : Type 0} (ids : Ids N S) (provided : Packages → Provider N S) where
+  commands_of : (lines : List (List ℕ)) (text : List ℕ) (faulty : Option ℕ) → CommandsFrom ids provided nothing_listed 0 lines text faulty
+      → ScriptLinesAnswered ids provided lines text faulty
+  commands_of lines text None h = inr h
+  commands_of lines text (Some number) h = inr h
 
-module _ (lines : List (List ℕ)) (packages : Packages) (before : ℕ) (left : List (List ℕ))
-    (begun : CommandsBegin nothing_listed 0 lines before left packages) where
-  first_commands : (text : List ℕ) → FirstAnswered
-      (Answered numbers (new_store (provider_of packages)) before) left text → FirstAnswered ScriptAnswered lines text
-  first_commands text (first, rest, answer, faulty, is, answered, whole) =
-      let front = begin_before before left first rest packages is nothing_listed 0 lines begun in
-      (front.0, rest, answer, faulty, front.1, commands_of front.0 answer faulty (packages, before, first, front.2, answered), whole)
+  module _ (lines : List (List ℕ)) (packages : Packages) (before : ℕ) (left : List (List ℕ))
+      (begun : CommandsBegin nothing_listed 0 lines before left packages) where
+    first_commands : (text : List ℕ) → FirstAnswered (Answered ids (new_store (provided packages)) before) left text
+        → FirstAnswered (ScriptLinesAnswered ids provided) lines text
+    first_commands text (first, rest, answer, faulty, is, answered, whole) =
+        let front = begin_before before left first rest packages is nothing_listed 0 lines begun in
+        (front.0, rest, answer, faulty, front.1, commands_of front.0 answer faulty (packages, before, first, front.2, answered), whole)
 
-  -- the commands are answered, and so the script is
-  pub commands_answered : {T : Type 0} (r : Result T ScriptFault) (held held' : Option (List ℕ)) (w w' : List ℕ)
-      → HandsAnswer (Answered numbers (new_store (provider_of packages)) before) left held w r held' w' → HandsAnswer ScriptAnswered lines held w r held' w'
-  commands_answered (Ok t) held held' w w' h = (h.0, inr (packages, before, left, begun, h.1), h.2)
-  commands_answered (Err (Unreadable number)) held held' w w' h = (h.0, inr (packages, before, left, begun, h.1), h.2)
-  commands_answered (Err Memory) held held' w w' h = (h.0, h.1, first_commands h.0 h.2, h.3)
-  commands_answered (Err Device) held held' w w' h = (h.0, first_commands h.0 h.1, h.2)
+    -- the commands are answered, and so the script is
+    pub commands_answered : {T : Type 0} (r : Result T ScriptFault) (held held' : Option (List ℕ)) (w w' : List ℕ)
+        → HandsAnswer (Answered ids (new_store (provided packages)) before) left held w r held' w'
+        → HandsAnswer (ScriptLinesAnswered ids provided) lines held w r held' w'
+    commands_answered (Ok t) held held' w w' h = (h.0, inr (packages, before, left, begun, h.1), h.2)
+    commands_answered (Err (Unreadable number)) held held' w w' h = (h.0, inr (packages, before, left, begun, h.1), h.2)
+    commands_answered (Err Memory) held held' w w' h = (h.0, h.1, first_commands h.0 h.2, h.3)
+    commands_answered (Err Device) held held' w w' h = (h.0, first_commands h.0 h.1, h.2)
 
--- to no line there is no answer
-nothing_first : (lines : List (List ℕ)) → FirstAnswered ScriptAnswered lines []
-nothing_first lines = ([], lines, [], None, refl, inl (tt, refl), refl)
+  -- to no line there is no answer
+  pub nothing_first : (lines : List (List ℕ)) → FirstAnswered (ScriptLinesAnswered ids provided) lines []
+  nothing_first lines = ([], lines, [], None, refl, inl (tt, refl), refl)
 
--- a fault of the catalogue
-pub catalogue_faulty : (T : Type 0) (e : ScriptFault) (lines : List (List ℕ)) (held : Option (List ℕ)) (w : List ℕ) → CatalogueFault lines e
-    → HandsAnswer ScriptAnswered {T = T} lines held w (Err e) held w
-catalogue_faulty T (Unreadable number) lines held w h = ([], inl (h, refl), HandsOn-wait held w w [] (sym (append-nil w)))
-catalogue_faulty T Device lines held w h = absurd h
-catalogue_faulty T Memory lines held w h = ([], [], nothing_first lines, HandsOn-wait held w (w ++ []) [] refl)
+  -- memory was refused before any command
+  pub nothing_answered : (T : Type 0) (lines : List (List ℕ)) (held : Option (List ℕ)) (w : List ℕ)
+      → HandsAnswer (ScriptLinesAnswered ids provided) {T = T} lines held w (Err Memory) held w
+  nothing_answered T lines held w = ([], [], nothing_first lines, HandsOn-wait held w (w ++ []) [] refl)
 
--- no line begins the commands
-pub never_begun : (T : Type 0) (t : T) (lines : List (List ℕ)) (held : Option (List ℕ)) (w : List ℕ) → NeverBegins nothing_listed lines
-    → HandsAnswer ScriptAnswered {T = T} lines held w (Ok t) held w
-never_begun T t lines held w h = ([], inl (h, refl), HandsOn-wait held w w [] (sym (append-nil w)))
+  -- a fault of the catalogue
+  pub catalogue_faulty : (T : Type 0) (e : ScriptFault) (lines : List (List ℕ)) (held : Option (List ℕ)) (w : List ℕ) → CatalogueFault lines e
+      → HandsAnswer (ScriptLinesAnswered ids provided) {T = T} lines held w (Err e) held w
+  catalogue_faulty T (Unreadable number) lines held w h = ([], inl (h, refl), HandsOn-wait held w w [] (sym (append-nil w)))
+  catalogue_faulty T Device lines held w h = absurd h
+  catalogue_faulty T Memory lines held w h = nothing_answered T lines held w
+
+  -- no line begins the commands
+  pub never_begun : (T : Type 0) (t : T) (lines : List (List ℕ)) (held : Option (List ℕ)) (w : List ℕ) → NeverBegins nothing_listed lines
+      → HandsAnswer (ScriptLinesAnswered ids provided) {T = T} lines held w (Ok t) held w
+  never_begun T t lines held w h = ([], inl (h, refl), HandsOn-wait held w w [] (sym (append-nil w)))
 
 -- nothing was written
 pub nothing_taken : (lines : List (List ℕ)) (held : Option (List ℕ)) → TakesBeginning lines held held
-nothing_taken lines held = ([], nothing_first lines, ([], [], Appends-nil held, refl))
+nothing_taken lines held = ([], nothing_first numbers provider_of lines, ([], [], Appends-nil held, refl))
 
 -- the writer failed
 pub failed_taken : {T : Type 0} (lines : List (List ℕ)) (held held' : Option (List ℕ)) (first w : List ℕ)

@@ -13,7 +13,7 @@ use Rattle.script_text.specs.declared.statement.Statement.{Statement}
 use Rattle.script_text.specs.declared.statement.Line.TheVariants.{Skipped, Unreadable, Says}
 use Rattle.script_text.specs.Output.{HandsOn, TakesSome}
 use Rattle.script_text.specs.Status.{fault_at}
-use Rattle.script_text.specs.Statements.{MeansWords, says, statement_says}
+use Rattle.script_text.specs.Statements.{MeansWords, says}
 use Rattle.script_text.specs.Words.{words}
 use Rattle.script_text.proofs.Handing.{HandsOn-trans, HandsOn-wait, HandsOn-on, TakesSome-after}
 use Rattle.script_text.proofs.Statements.{meant_by}
@@ -38,11 +38,6 @@ module _ {N S : Type 0} (A T : Type 0) (read : List ℕ → List (List ℕ) → 
   unread OfLine.Unreadable (Some c) h = cc
   unread OfLine.Memory None h = let no : false ≡ true = h in cc
   unread OfLine.Memory (Some c) h = inl refl
-
-  -- a line is obeyed as the words that it says
-  pub obeys_said : (r : Result T LineFault) (text' : List ℕ) (new : Store N S) (said : Line Statement) (s : Statement) → said ≡ Says s
-      → ObeysLine st (says read (read s.keyword.now (words s.rest.now))) text r text' new → ObeysLine st (statement_says read said) text r text' new
-  obeys_said r text' new said s is h = subst (λ l. ObeysLine st (statement_says read l) text r text' new) (sym is) h
 
 module _ {N S : Type 0} (ids : Ids N S) where
   -- lines were obeyed so far, with this text: however some lines go on from the store of now, so they do after those
@@ -110,12 +105,6 @@ module _ {N S : Type 0} (ids : Ids N S) where
           goes_on [] [] None (refl, refl),
           sym (append-nil own) ∙ sym (append-nil (own ++ [])),
         )
-
-    -- memory was refused before any line
-    pub ended_before : (T : Type 0) (r : Result T ScriptFault) → r ≡ Err OfScript.Memory → HandsAnswer (Answered ids first before) all held w r held w
-    ended_before T r is =
-        subst (λ e. HandsAnswer (Answered ids first before) all held w e held w) (sym is)
-        ([], [], ([], all, [], None, refl, (refl, refl), refl), HandsOn-wait held w (w ++ []) [] refl)
 
     -- the end of the lines
     pub ended_well : (T : Type 0) (now : Store N S) (number : ℕ) (left : List (List ℕ)) (held' : Option (List ℕ)) (w' : List ℕ) (t : T)

@@ -1,9 +1,10 @@
 -- What a whole script is answered.
 use Rattle.std.specs.Prelude.{◌≡◌, ℕ, List, [], ◌⊎◌, Option, None, Some}
-use Rattle.resolvo_store.specs.Store.{new_store}
+use Rattle.resolvo_store.specs.Store.{Provider, new_store}
 use Rattle.script_packages.specs.declared.packages.Packages.{Packages}
-use Rattle.script_packages.specs.Listing.{nothing_listed}
+use Rattle.script_packages.specs.Listing.{Listing, nothing_listed}
 use Rattle.script_packages.specs.CatalogueEnds.{NeverBegins, CommandsBegin, FaultyAt}
+use Rattle.scripts.specs.Commands.{Ids}
 use Rattle.scripts.specs.Replies.{unreadable_text}
 use Rattle.scripts.specs.ScriptStore.{numbers, provider_of}
 use Rattle.scripts.specs.Transcript.{Answered}
@@ -13,16 +14,26 @@ abbrev pub faulty_text : Option ℕ → List ℕ
 faulty_text None = []
 faulty_text (Some number) = unreadable_text number
 
--- the commands of a script are answered by this text, over the packages of its catalogue
-abbrev pub CommandsAnswered : List (List ℕ) → List ℕ → Option ℕ → Type 0
-CommandsAnswered lines text faulty =
-    (packages : Packages) × (before : ℕ) × (left : List (List ℕ)) ×
-    CommandsBegin nothing_listed 0 lines before left packages
-    × Answered numbers (new_store (provider_of packages)) before left text faulty
+-- lines in which numbers stand for these names and solvables, with what a store knows of the packages that it is over
+module _ {N S : Type 0} (ids : Ids N S) (provided : Packages → Provider N S) where
+  -- after this listing the commands begin in these lines, with so many before them, and are answered by this text, over
+  -- the packages that are listed by then
+  abbrev pub CommandsFrom : Listing → ℕ → List (List ℕ) → List ℕ → Option ℕ → Type 0
+  CommandsFrom l n lines text faulty =
+      (packages : Packages) × (before : ℕ) × (left : List (List ℕ)) × CommandsBegin l n lines before left packages
+      × Answered ids (new_store (provided packages)) before left text faulty
 
--- the lines of a script are answered by this text, up to the first unreadable one: it has no commands, or its catalogue
--- has an unreadable line, or its commands are answered
+  -- after this listing the lines, with so many before them, are answered by this text, up to the first unreadable one:
+  -- there are no commands, or the catalogue has an unreadable line, or the commands are answered
+  abbrev pub LinesFrom : Listing → ℕ → List (List ℕ) → List ℕ → Option ℕ → Type 0
+  LinesFrom l n lines text None = (NeverBegins l lines × (text ≡ [])) ⊎ CommandsFrom l n lines text None
+  LinesFrom l n lines text (Some number) =
+      (FaultyAt l n lines number × (text ≡ [])) ⊎ CommandsFrom l n lines text (Some number)
+
+  -- the lines of a script are answered by this text
+  abbrev pub ScriptLinesAnswered : List (List ℕ) → List ℕ → Option ℕ → Type 0
+  ScriptLinesAnswered lines text faulty = LinesFrom nothing_listed 0 lines text faulty
+
+-- the lines of a script are answered by this text, over the packages of its catalogue
 abbrev pub ScriptAnswered : List (List ℕ) → List ℕ → Option ℕ → Type 0
-ScriptAnswered lines text None = (NeverBegins nothing_listed lines × (text ≡ [])) ⊎ CommandsAnswered lines text None
-ScriptAnswered lines text (Some number) =
-    (FaultyAt nothing_listed 0 lines number × (text ≡ [])) ⊎ CommandsAnswered lines text (Some number)
+ScriptAnswered lines text faulty = ScriptLinesAnswered numbers provider_of lines text faulty

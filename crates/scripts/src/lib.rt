@@ -8,10 +8,12 @@
 
 mod command_line;
 mod literal_words;
+mod over_packages;
 mod reply_line;
 mod transcript;
 
 pub use command_line::command;
+pub use over_packages::OverPackages;
 pub use reply_line::push_unreadable;
 pub use script_text::{ScriptFault, status};
 pub use transcript::{obey_line, script};

@@ -1,6 +1,5 @@
 //! Scripts: a catalogue, and then commands, each of which is answered by a line.
-ghost use Rattle.std.specs.Prelude.{◌≡◌, ℕ, true, List, [], ◌++◌, ◌+◌, ◌^◌, ◌<◌, ◌⊎◌, length, IfSome, IfOk};
-ghost use Rattle.std.specs.Prelude.{IfErr};
+ghost use Rattle.std.specs.Prelude.{◌≡◌, ℕ, true, List, [], ◌++◌, ◌+◌, ◌^◌, ◌<◌, ◌⊎◌, length, IfSome};
 ghost use Rattle.script_text.specs.declared.fault.ScriptFault.TheVariants.{Device, Memory};
 ghost use Rattle.script_text.specs.Lines.{lines as lines_of};
 ghost use Rattle.std.specs.Io.{StartsWith};
@@ -9,17 +8,17 @@ ghost use Rattle.script_text.specs.Statements.{says};
 ghost use Rattle.script_text.specs.Words.{words};
 ghost use Rattle.scripts.specs.Commands.{ids_at, command_meant, command_said};
 ghost use Rattle.resolvo_store.specs.Command.{Load, command_of};
-ghost use Rattle.resolvo_store.specs.Store.{new_store};
 ghost use Rattle.script_text.specs.declared.statement.Line.TheVariants.{Says};
 ghost use Rattle.scripts.specs.Ends.{HandsAnswer, named_text, TakesBeginning, WriterEnds, DevicesEnd};
-ghost use Rattle.scripts.specs.Scripts.{ScriptAnswered, faulty_text};
+ghost use Rattle.scripts.specs.Scripts.{ScriptAnswered, ScriptLinesAnswered, faulty_text};
 ghost use Rattle.scripts.specs.Transcript.{ObeysLine, Answered, HasCommand, IfRead};
 
 use crate::command_line::command;
+use crate::over_packages::OverPackages;
 use crate::reply_line::{push_loaded, push_refused, push_reply, push_unreadable};
 use providers::{DependencyProvider, Requirement};
 use resolvo_store::{Abstract, ClauseStore, Command};
-use script_packages::read_catalogue;
+use script_packages::{Packages, read_catalogue};
 use script_text::{
     Line, LineFault, ScriptFault, Sink, Source, Statement, next_statement, read_whole, write_much,
     write_rest,
@@ -50,7 +49,7 @@ pub fn script<R: Source, W: Sink>(
 {
     let input = read_whole(alloc, reader)?;
     let mut waiting = Vec::new(alloc);
-    let ended = obey_text(alloc, &input, &mut waiting, writer);
+    let ended = obey_text::<Packages, W>(alloc, alloc, &input, &mut waiting, writer);
     if has_failed(&ended) {
         return Err(ScriptFault::Device);
     }
@@ -82,75 +81,40 @@ fn name_unreadable(waiting: &mut Vec<u8>, ended: Result<(), ScriptFault>) -> Res
     ended
 }
 
-/// Obeys a script's text.
-fn obey_text<W: Sink>(
+/// Obeys a script's text, over what is made of the packages that it lists. The store isn't dropped: see [`script`].
+fn obey_text<
+    D: DependencyProvider<NameId: DenseIndex, SolvableId: DenseIndex> + OverPackages + Drop,
+    W: Sink,
+>(
     alloc: Global,
+    store_alloc: D::Alloc,
     text: &[u8],
     waiting: &mut Vec<u8>,
     writer: &mut W,
 ) -> Result<(), ScriptFault>
-    ensures answer { HandsAnswer ScriptAnswered (lines_of text.now) (W.contents writer.old) waiting.old.items result
-        (W.contents writer.new) waiting.new.items }
+    ensures answer { HandsAnswer (ScriptLinesAnswered
+        (ids_at D.NameId.limit D.NameId.id_at D.SolvableId.limit D.SolvableId.id_at)
+        (λ p. ⟦<D as ProviderFunctions>⟧.functions (D.made_of p)))
+        (lines_of text.now) (W.contents writer.old) waiting.old.items result (W.contents writer.new)
+        waiting.new.items }
     ensures ends { WriterEnds W.writes W.fails writer.old result writer.new }
 {
     match read_catalogue(alloc, text) {
         Ok(None) => Ok(()),
-        Ok(Some(catalogue)) => obey_commands(
-            alloc,
-            catalogue.packages,
-            Commands {
-                lines: catalogue.commands,
-                before: catalogue.line_count,
-            },
-            waiting,
-            writer,
-        ),
+        Ok(Some(catalogue)) => {
+            let Ok(mut store) = ClauseStore::new(store_alloc, D::over(catalogue.packages)) else {
+                return Err(ScriptFault::Memory);
+            };
+            let (lines, before) = (catalogue.commands, catalogue.line_count);
+            let ended = obey_lines(store_alloc, &mut store, lines, before, waiting, writer);
+            mem::forget(store);
+            ended
+        }
         Err(fault) => Err(fault),
     }
 }
 
-/// The lines that have a script's commands, and how many are before them.
-#[derive(Clone, Copy)]
-struct Commands<'a> {
-    lines: &'a [u8],
-    before: u64,
-}
-
-/// Obeys the commands in turn, over the packages of the provider. The store isn't dropped: see [`script`].
-fn obey_commands<D: DependencyProvider<NameId: DenseIndex, SolvableId: DenseIndex> + Drop, W: Sink>(
-    alloc: D::Alloc,
-    provider: D,
-    commands: Commands<'_>,
-    waiting: &mut Vec<u8>,
-    writer: &mut W,
-) -> Result<(), ScriptFault>
-    requires { commands.before + length commands.lines.now < 2 ^ 64 }
-    ensures answer { HandsAnswer (Answered (ids_at D.NameId.limit D.NameId.id_at D.SolvableId.limit D.SolvableId.id_at)
-        (new_store (⟦<D as ProviderFunctions>⟧.functions provider)) commands.entry.before)
-        (lines_of commands.entry.lines.now) (W.contents writer.old) waiting.old.items result (W.contents writer.new)
-        waiting.new.items }
-    ensures ends { WriterEnds W.writes W.fails writer.old result writer.new }
-{
-    let mut store = store_over(alloc, provider)?;
-    let Commands { lines, before } = commands;
-    let ended = obey_lines(alloc, &mut store, lines, before, waiting, writer);
-    mem::forget(store);
-    ended
-}
-
-/// A new store over the packages of the provider.
-fn store_over<D: DependencyProvider + Drop>(
-    alloc: D::Alloc,
-    provider: D,
-) -> Result<ClauseStore<D>, ScriptFault>
-    ensures ok { IfOk result (λ store. ⟦<D as Abstract>⟧.store store ≡ new_store
-        (⟦<D as ProviderFunctions>⟧.functions provider)) }
-    ensures err { IfErr result (λ e. e ≡ Memory) }
-{
-    ClauseStore::new(alloc, provider).map_err(|_| ScriptFault::Memory)
-}
-
-/// Obeys the lines in turn, with so many before them.
+/// Obeys the lines in turn. The number of lines before them is given.
 fn obey_lines<D: DependencyProvider<NameId: DenseIndex, SolvableId: DenseIndex> + Drop, W: Sink>(
     alloc: D::Alloc,
     store: &mut ClauseStore<D>,

@@ -1,7 +1,7 @@
 use Rattle.resolvo_store.specs.Store.{store_of, gathered}
 use Rattle.script_packages.specs.declared.packages.Packages.{Packages}
 use Rattle.scripts.specs.Commands.{ids_at}
-use Rattle.script_dialogs.specs.ScriptLines.{ScriptLinesAnswered}
+use Rattle.scripts.specs.Scripts.{ScriptLinesAnswered}
 use Rattle.script_dialogs.proofs.DialogCalls.{ends_also}
 use Rattle.script_dialogs.proofs.DialogLemmas.{answers_as, ready_as}
 use Rattle.script_dialogs.proofs.LineLemmas.{OneByOne, lines_answered}

@@ -36,6 +36,6 @@ returns-then-begins-clause-answered g c =
     g.D.SolvableId.Set.IdSet.is_too_large g.D.NameId.SolverId.are_many g.D.Interner.universe g.D.DependencyProvider.answers in
     let store = store_of functions g.D.NameId.Scores.IdMap.value_at in
     begin_answered ids (λ (p : Packages). functions (g.D.OverPackages.made_of p)) store c.args.said c.args.text.now.items c.args.self.now.stage
-    c.in-Catalogue.packages c.list_line.new.packages c.replace-listed.result c.in_ok-begins-in-Catalogue.begins c.in_ok-store-in-Catalogue.store c.replace-before.new.dest c.in-Catalogue.is
+    c.in-Catalogue.packages c.list_line.new.packages c.replace-listed.result c.in_ok-begins-in-Catalogue.begins c.in-Ok.store c.replace-before.new.dest c.in-Catalogue.is
     c.in_ok-begins-in-Catalogue.ensures c.if-begins.true c.replace-listed.ensures.value
-    (c.in_ok-store-in-Catalogue.ensures.ok ∙ ap (λ p. new_store (functions p)) c.over.ensures) c.replace-before.ensures.after
+    (c.in-Ok.ensures.ok ∙ ap (λ p. new_store (functions p)) (c.in-Ok.ensures.provider ∙ c.over.ensures)) c.replace-before.ensures.after
