@@ -1,8 +1,8 @@
-//! Callers that know nothing but contracts, and are proved from these alone.
+//! Callers that know nothing but contracts, and are proved from these alone. None is run.
 //!
 //! Of the storage of ids (`any_set`, `arena_callers`, `few_names`, `mapping_callers`), generic in the ids; of a pool
 //! (`interning`, generic in what it keeps: `kinds`, `each_kind`), of maps by requirements (`map_callers`) and of
-//! conditions (`met`). `room_tests` runs those, and makes the pool's calls itself.
+//! conditions (`met`).
 //!
 //! Others conclude laws: of the trail's floor, from the definitions of its calls, which are the contracts of
 //! `DecisionTracker` (`trail_laws`); of what a clause that requires says, from the contract of `Clause::literals`, and

@@ -1,23 +1,9 @@
-//! Texts of refusals and of faults.
-use crate::debug_texts::shows;
-use decisions::AddFault;
-use script_text::{LineFault, ScriptFault};
-use solver_cache::CacheError;
+//! What errors tell.
+use script_text::ScriptFault;
 use std::fmt::Display;
 use std::test::Fail;
 use test_support::is_same;
 use typed_ids::{InsertError, StoreError};
-
-/// Each error is told by the text beside it.
-fn each_tells<E: Display>(rt: &impl AllocGlobal, rows: &[(E, &str)]) -> Result<(), Fail> {
-    for (error, text) in rows {
-        let told = format!(in rt.alloc(); "{error}")?;
-        let is_told = is_same(told.as_str(), *text);
-        drop(told);
-        is_told?;
-    }
-    Ok(())
-}
 
 /// Each refusal, and what it is told by.
 const REFUSALS: [(StoreError, &str); 12] = [
@@ -39,47 +25,28 @@ const REFUSALS: [(StoreError, &str); 12] = [
 ];
 
 #[test]
-fn refusals_tell_why(rt: HostRuntime) -> Result<(), Fail> {
+fn errors_tell_what_is_wrong(rt: HostRuntime) -> Result<(), Fail> {
     each_tells(&rt, &REFUSALS)?;
-    shows(
-        &rt,
-        &REFUSALS.map(|(refusal, _)| refusal),
-        "[OutOfMemory, IdSpace, UnknownId, LevelOutOfRange, NotLoaded, NegatesParent, BadWatch, BadLearnt, \
-         EmptyTrail, BadFraction, TooManyClauses, Cancelled]",
-    )?;
     let refused = InsertError {
         error: StoreError::IdSpace,
         value: 7u32,
     };
     each_tells(&rt, &[(refused, "no id is left")])?;
-    shows(&rt, &refused, "InsertError { error: IdSpace, value: 7 }")
-}
-
-#[test]
-fn faults_tell_what_is_wrong(rt: HostRuntime) -> Result<(), Fail> {
     let faults = [
         (ScriptFault::Unreadable(3), "line 3 is unreadable"),
         (ScriptFault::Device, "a read or a write failed"),
         (ScriptFault::Memory, "out of memory"),
     ];
-    each_tells(&rt, &faults)?;
-    let shown = [
-        ScriptFault::Unreadable(3),
-        ScriptFault::Device,
-        ScriptFault::Memory,
-    ];
-    shows(&rt, &shown, "[Unreadable(3), Device, Memory]")?;
-    shows(
-        &rt,
-        &[LineFault::Unreadable, LineFault::Memory],
-        "[Unreadable, Memory]",
-    )?;
-    let refused = StoreError::IdSpace;
-    shows(
-        &rt,
-        &[AddFault::Clash, AddFault::Store(refused)],
-        "[Clash, Store(IdSpace)]",
-    )?;
-    let unanswered = [CacheError::Cancelled(7u32), CacheError::Store(refused)];
-    shows(&rt, &unanswered, "[Cancelled(7), Store(IdSpace)]")
+    each_tells(&rt, &faults)
+}
+
+/// Each error is told by the text beside it.
+fn each_tells<E: Display>(rt: &impl AllocGlobal, rows: &[(E, &str)]) -> Result<(), Fail> {
+    for (error, text) in rows {
+        let told = format!(in rt.alloc(); "{error}")?;
+        let is_told = is_same(told.as_str(), *text);
+        drop(told);
+        is_told?;
+    }
+    Ok(())
 }
