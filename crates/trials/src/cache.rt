@@ -13,9 +13,9 @@
 //!
 //! A question about what isn't there is answered `unknown`, one that is refused `refused 1`, and one that is stopped
 //! `cancelled 7`.
-use crate::answers::{Heap, push_unlike};
+use crate::answers::push_unlike;
 use crate::listed::number_of;
-use crate::played::provider_of;
+use crate::played::{Heap, provider_of};
 use crate::trial::Trial;
 use providers::{Candidates, Dependencies, DependencyProvider, Interner, Requirement};
 use script_packages::requirement;
@@ -47,7 +47,7 @@ enum Part {
 }
 
 /// An answer, copied out. What asks a cache does no more, since a proof over the cache's own type is long.
-#[derive(Clone, Copy, PartialEq, Eq)]
+#[derive(Clone, Copy)]
 enum Seen {
     /// So many solvables, and the first four of them.
     Solvables(usize, [u32; 4]),
@@ -252,7 +252,8 @@ type Told = (String, bool, Counts);
 fn at_hand<T: Asks>(cache: &mut T) -> u32 {
     let mut are_at_hand: u32 = 0;
     for solvable in 0..8 {
-        if cache.ask(Question::IsAvailable(solvable)) == Seen::IsAvailable(true) {
+        let seen = cache.ask(Question::IsAvailable(solvable));
+        if matches!(seen, Seen::IsAvailable(true)) {
             are_at_hand |= 1 << solvable;
         }
     }
@@ -279,91 +280,57 @@ fn asked_again<T: Asks>(
 
 /// The answers to all questions in turn, of which the request of this number is refused. A refused question is asked
 /// again, and its second answer stands.
-fn answers_of<T: Asks>(
-    alloc: Global,
-    cache: &mut T,
-    (heap, number): (Heap<'_>, u64),
-    questions: &[Statement<'_>],
-) -> Result<Told, AllocError> {
-    let mut told = String::new(alloc);
+fn answers_of<T: Asks>(cache: &mut T, trial: &Trial<'_>, number: u64) -> Result<Told, AllocError> {
+    let mut told = String::new(trial.alloc);
     let mut is_met = false;
-    heap.arm(number);
-    for said in questions {
+    trial.heap.arm(number);
+    for said in trial.commands {
         let question = question_of(*said);
         let before = at_hand(cache);
         let mut seen = cache.ask(question);
-        if seen == Seen::Refused(StoreError::OutOfMemory) {
+        if matches!(seen, Seen::Refused(StoreError::OutOfMemory)) {
             is_met = true;
-            seen = asked_again(alloc, cache, question, before, &mut told)?;
+            seen = asked_again(trial.alloc, cache, question, before, &mut told)?;
         }
-        push_seen(alloc, seen, &mut told)?;
+        push_seen(trial.alloc, seen, &mut told)?;
     }
-    heap.arm(0);
+    trial.heap.arm(0);
     Ok((told, is_met, cache.counts()))
 }
 
 /// What a new cache tells over a provider.
 fn told_over<
     D: DependencyProvider<Cancel = u32, NameId: Numbered, SolvableId: Numbered> + Counting + Drop,
->(
-    alloc: Global,
-    counted: D::Alloc,
-    refused: (Heap<'_>, u64),
-    provider: D,
-    trial: &Trial<'_>,
-) -> Result<Told, StoreError> {
+>(counted: D::Alloc, provider: D, trial: &Trial<'_>, number: u64) -> Result<Told, AllocError> {
     let mut cache = SolverCache::new(counted, provider);
-    let told = answers_of(alloc, &mut cache, refused, &trial.commands);
+    let told = answers_of(&mut cache, trial, number);
     drop(cache);
-    Ok(told?)
+    told
 }
 
 /// What a new cache tells over the trial's packages, where the request of this number is refused.
-fn told<'h>(
-    alloc: Global,
-    heap: Heap<'h>,
-    trial: &Trial<'_>,
-    number: u64,
-) -> Result<Told, StoreError> {
-    let provider: Lists<NameId, SolvableId, Heap<'h>> = provider_of(heap, trial)?;
-    told_over(alloc, heap, (heap, number), provider, trial)
+fn told(trial: &Trial<'_>, number: u64) -> Result<Told, StoreError> {
+    let provider: Lists<NameId, SolvableId, Heap<'_>> = provider_of(trial.heap, trial)?;
+    Ok(told_over(trial.heap, provider, trial, number)?)
 }
 
-/// Puts what a cache tells of a trial after what waits; and where each request is refused in turn, what is answered
-/// otherwise then.
-pub(crate) fn push_asked(
-    alloc: Global,
-    heap: Heap<'_>,
-    trial: &Trial<'_>,
-    waiting: &mut Vec<u8>,
-) -> Result<(), StoreError> {
-    let (answers, _, counts) = told(alloc, heap, trial, 0)?;
+/// Puts what a cache tells of a trial, and how often the provider was asked, after what waits; and where each request
+/// is refused in turn, what is answered otherwise then.
+pub(crate) fn push_asked(trial: &Trial<'_>, waiting: &mut Vec<u8>) -> Result<(), StoreError> {
+    let (answers, _, counts) = told(trial, 0)?;
     waiting.extend_from_slice(answers.as_bytes())?;
-    let ended = push_counts(alloc, counts, waiting);
-    let refused = push_refused(alloc, heap, trial, answers.as_str(), waiting);
-    drop(answers);
-    ended?;
-    refused
-}
-
-fn push_counts(alloc: Global, counts: Counts, waiting: &mut Vec<u8>) -> Result<(), AllocError> {
-    let asked = (counts.candidates, counts.dependencies, counts.cancels);
-    let line = format!(in alloc; "asked {} {} {}\n", asked.0, asked.1, asked.2)?;
-    waiting.extend_from_slice(line.as_bytes())
-}
-
-fn push_refused(
-    alloc: Global,
-    heap: Heap<'_>,
-    trial: &Trial<'_>,
-    answers: &str,
-    waiting: &mut Vec<u8>,
-) -> Result<(), StoreError> {
-    if !trial.is(b"each") {
-        return Ok(());
+    let (candidates, dependencies) = (counts.candidates, counts.dependencies);
+    let line = format!(in trial.alloc; "asked {candidates} {dependencies} {}\n", counts.cancels)?;
+    waiting.extend_from_slice(line.as_bytes())?;
+    if trial.is(b"each") {
+        push_refused(trial, answers.as_str(), waiting)?;
     }
+    Ok(())
+}
+
+fn push_refused(trial: &Trial<'_>, answers: &str, waiting: &mut Vec<u8>) -> Result<(), StoreError> {
     for number in 1..1000 {
-        let (seen, is_met, _) = told(alloc, heap, trial, number)?;
+        let (seen, is_met, _) = told(trial, number)?;
         if !is_met {
             let line = if number > 4 {
                 "each request was refused\n"

@@ -1,16 +1,15 @@
 //! Trials in memory that refuses a request at every few commands, so that a `decide` is refused while its queue is
 //! brought up to date. Other commands come before the next one then, undos among them.
-use crate::answers::{Heap, push_unlike};
+use crate::answers::push_unlike;
 use crate::free::takes_no_memory;
-use crate::given::commands_of;
 use crate::obeys::Obeys;
-use crate::played::{IdKind, Play};
+use crate::played::{Heap, Ids, tell};
+use crate::task::Task;
 use crate::trial::Trial;
 use resolvo_store::{Command, Reply};
 use script_text::{Statement, is_word};
-use std::alloc::{AllocError, Allocator, Global};
-use test_support::Refusing;
-use typed_ids::StoreError;
+use std::alloc::{AllocError, Allocator};
+use typed_ids::{DenseIndex, StoreError, VariableId};
 
 /// The commands to which a request is to be refused somewhere: that to others comes too seldom.
 const NAMES: [&str; 10] = [
@@ -26,34 +25,27 @@ const NAMES: [&str; 10] = [
     "decide",
 ];
 
-/// Which of `NAMES` were refused for want of memory, over all trials.
+/// Which of `NAMES` were refused for want of memory: a bit each.
 #[derive(Clone, Copy)]
 pub(crate) struct Counts {
-    are_refused: [bool; 10],
+    are_refused: u32,
 }
 
 impl Counts {
     pub(crate) fn none() -> Counts {
-        Counts {
-            are_refused: [false; 10],
-        }
+        Counts { are_refused: 0 }
     }
 
     /// What was refused here or there.
     pub(crate) fn join(&mut self, other: Counts) {
-        for (is_refused, is_other) in self.are_refused.iter_mut().zip(&other.are_refused) {
-            *is_refused = *is_refused || *is_other;
-        }
+        self.are_refused |= other.are_refused;
     }
 
     /// A command that says this was refused.
-    pub(crate) fn note(&mut self, said: Option<&Statement<'_>>) {
-        let Some(said) = said else {
-            return;
-        };
-        for (is_refused, name) in self.are_refused.iter_mut().zip(&NAMES) {
-            if is_word(said.keyword, name.as_bytes()) {
-                *is_refused = true;
+    pub(crate) fn note(&mut self, said: Statement<'_>) {
+        for place in 0..10 {
+            if is_word(said.keyword, NAMES[place].as_bytes()) {
+                self.are_refused |= 1 << place;
             }
         }
     }
@@ -61,10 +53,10 @@ impl Counts {
     /// Puts the names of those that were refused after what waits.
     pub(crate) fn push(self, waiting: &mut Vec<u8>) -> Result<(), AllocError> {
         waiting.extend_from_slice(b"refused somewhere:")?;
-        for (is_refused, name) in self.are_refused.iter().zip(&NAMES) {
-            if *is_refused {
+        for place in 0..10 {
+            if self.are_refused & 1 << place > 0 {
                 waiting.push(b' ')?;
-                waiting.extend_from_slice(name.as_bytes())?;
+                waiting.extend_from_slice(NAMES[place].as_bytes())?;
             }
         }
         waiting.push(b'\n')?;
@@ -87,7 +79,7 @@ pub(crate) fn may_do_without<N, S, A: Allocator>(command: &Command<N, S, A>) -> 
 pub(crate) fn refused_reply<N, S, A: Allocator, T: Obeys<N, S, A>>(
     store: &mut T,
     command: &Command<N, S, A>,
-    heap: &Refusing<Global>,
+    heap: Heap<'_>,
     number: u64,
 ) -> (Reply<A>, bool) {
     heap.arm(number);
@@ -97,50 +89,42 @@ pub(crate) fn refused_reply<N, S, A: Allocator, T: Obeys<N, S, A>>(
     (reply, is_met)
 }
 
-/// The commands of a trial, with what they say and the lines that are wanted of them.
-#[derive(Drop)]
-struct Few<'f, N, S, A: Allocator> {
-    alloc: A,
-    heap: &'f Refusing<Global>,
-    commands: &'f [Command<N, S, A>],
-    said: &'f [Statement<'f>],
-    wanted: &'f str,
+/// Whether a request comes where it is read which clause is falsified, and which values the first variables have.
+fn is_asked_where_read<N, S, A: Allocator, T: Obeys<N, S, A>>(store: &T, heap: Heap<'_>) -> bool {
+    heap.arm(1);
+    let _falsified = store.falsified();
+    for index in 0..16 {
+        let _value = store.value(VariableId::from_index(index));
+    }
+    let is_asked = !heap.is_armed();
+    heap.arm(0);
+    is_asked
 }
 
-impl<N, S, A: Allocator + Copy> Play<N, S, A> for Few<'_, N, S, A> {
-    /// The lines that aren't wanted, and which commands were refused.
-    type Told = Result<(String<A>, Counts), StoreError>;
-
-    fn play<T: Obeys<N, S, A>>(&self, store: &mut T) -> Result<(String<A>, Counts), StoreError> {
-        let mut unlike = String::new(self.alloc);
-        let mut counts = Counts::none();
-        for ((place, command), wanted) in self
-            .commands
-            .iter()
-            .enumerate()
-            .zip(self.wanted.lines())
-        {
-            let said = self.said.get(place);
-            let is_free = said.is_some_and(|said| takes_no_memory(said, wanted));
-            let number = if is_free {
-                1
-            } else {
-                (self.wanted.len().wrapping_add(place) as u64).wrapping_mul(3) % 8
-            };
-            let expected = Expected {
-                line: wanted,
-                number,
-                is_free,
-            };
-            if push_step(store, self.heap, command, expected, &mut unlike)? {
-                counts.note(said);
-            }
-            if store.is_asked_where_read(self.heap) {
-                unlike.push_str("a reading asked for memory\n")?;
-            }
+/// Gives a store the commands of a trial, and appends what isn't one of the lines that are wanted of them. Answers
+/// which commands were refused.
+pub(crate) fn push_few<N, S, A: Allocator, T: Obeys<N, S, A>>(
+    store: &mut T,
+    trial: &Trial<'_>,
+    commands: &[Command<N, S, A>],
+    wanted: &str,
+    unlike: &mut String,
+) -> Result<Counts, AllocError> {
+    let mut counts = Counts::none();
+    let mut lines = wanted.lines();
+    for (place, command) in commands.iter().enumerate() {
+        let (Some(said), Some(line)) = (trial.commands.get(place), lines.next()) else {
+            break;
+        };
+        let expected = Expected::of(said, line, wanted.len().wrapping_add(place));
+        if push_step(store, trial.heap, command, expected, unlike)? {
+            counts.note(*said);
         }
-        Ok((unlike, counts))
+        if is_asked_where_read(store, trial.heap) {
+            unlike.push_str("a reading asked for memory\n")?;
+        }
     }
+    Ok(counts)
 }
 
 /// What is known of a command before it is given.
@@ -154,16 +138,33 @@ struct Expected<'e> {
     is_free: bool,
 }
 
+impl Expected<'_> {
+    /// What is known of the command that says this. Which request is refused to it follows from the seed.
+    fn of<'e>(said: &Statement<'_>, line: &'e str, seed: usize) -> Expected<'e> {
+        let is_free = takes_no_memory(said, line);
+        let number = if is_free {
+            1
+        } else {
+            (seed as u64).wrapping_mul(3) % 8
+        };
+        Expected {
+            line,
+            number,
+            is_free,
+        }
+    }
+}
+
 /// Gives a store a command of which a request is refused, and answers whether the command was. A `decide` that is
 /// refused is left so; each other command is given once more then, since those behind it count on it. Appends what
 /// isn't wanted.
-fn push_step<N, S, A: Allocator + Copy, T: Obeys<N, S, A>>(
+fn push_step<N, S, A: Allocator, T: Obeys<N, S, A>>(
     store: &mut T,
-    heap: &Refusing<Global>,
+    heap: Heap<'_>,
     command: &Command<N, S, A>,
     expected: Expected<'_>,
-    unlike: &mut String<A>,
-) -> Result<bool, StoreError> {
+    unlike: &mut String,
+) -> Result<bool, AllocError> {
     let (first, is_met) = refused_reply(store, command, heap, expected.number);
     let is_refused = is_refused(&first);
     let is_left = is_refused && matches!(command, Command::Decide);
@@ -187,28 +188,15 @@ fn push_step<N, S, A: Allocator + Copy, T: Obeys<N, S, A>>(
 }
 
 /// Puts what isn't wanted of a trial in such memory after what waits.
-pub(crate) fn tell_few<'h, K: IdKind>(
-    heap: Heap<'h>,
+pub(crate) fn tell_few(
     trial: &Trial<'_>,
     answers: &str,
     waiting: &mut Vec<u8>,
     counts: &mut Counts,
 ) -> Result<(), StoreError> {
-    let commands = commands_of(heap, &trial.commands)?;
-    let few = Few {
-        alloc: heap,
-        heap,
-        commands: &commands,
-        said: &trial.commands,
-        wanted: answers,
-    };
-    let (unlike, refused) = K::played(heap, trial, &few)??;
-    counts.join(refused);
-    push_unlike(
-        "where requests are refused:\n",
-        unlike.as_str(),
-        "",
-        waiting,
-    )?;
+    let told = tell(trial, Ids::Dense, Task::Few(answers))?;
+    counts.join(told.refused);
+    let unlike = told.text.as_str();
+    push_unlike("where requests are refused:\n", unlike, "", waiting)?;
     Ok(())
 }

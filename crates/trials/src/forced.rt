@@ -4,81 +4,95 @@
 //! Exact are lists in which each clause has its literal, and comes once; and each clause stands in two lists or in
 //! none, as before. The new entries are taken back one by one, so that each is seen over those before it. Then the
 //! command is given again, and must be answered as where nothing is refused.
-use crate::answers::{Heap, push_unlike};
+use crate::answers::push_unlike;
 use crate::few::refused_reply;
-use crate::given::commands_of;
 use crate::obeys::Obeys;
-use crate::played::{IdKind, Play};
+use crate::played::{Ids, tell};
+use crate::task::Task;
 use crate::trial::Trial;
 use decisions::{Decision, Literal};
 use resolvo_store::{Command, Reply};
 use std::alloc::{AllocError, Allocator, Global};
-use test_support::Refusing;
 use typed_ids::{ClauseId, DenseIndex, StoreError, VariableId};
 
 /// So many variables are looked at; a trial has fewer.
 const VARIABLES: usize = 64;
 
 /// A saturation, of which a request is refused, behind the commands before it.
-#[derive(Drop)]
-struct Forced<'f, N, S, A: Allocator> {
-    alloc: A,
-    heap: &'f Refusing<Global>,
-    before: &'f [Command<N, S, A>],
-    saturation: &'f Command<N, S, A>,
+#[derive(Clone, Copy)]
+pub(crate) struct Saturation<'s> {
+    /// Its place among the commands.
+    place: usize,
     /// The number of the request.
     number: u64,
-    /// What the saturation is answered where none is refused.
-    wanted: &'f str,
+    /// What it is answered where none is refused.
+    wanted: &'s str,
 }
 
-impl<N, S, A: Allocator + Copy> Play<N, S, A> for Forced<'_, N, S, A> {
-    /// What isn't as it should be, a line each, and whether the request came.
-    type Told = Result<(String<A>, bool), StoreError>;
-
-    fn play<T: Obeys<N, S, A>>(&self, store: &mut T) -> Result<(String<A>, bool), StoreError> {
-        let mut unlike = String::new(self.alloc);
-        for command in self.before {
-            drop(store.obey(command));
-        }
-        let before = look_at(store, self.alloc)?;
-        let (reply, is_met) = refused_reply(store, self.saturation, self.heap, self.number);
-        drop(reply);
-        let after = look_at(store, self.alloc)?;
-        if !after.are_exact || after.places != before.places {
-            unlike.push_str("the lists aren't exact\n")?;
-        }
-        let added = count_added(&before.values, &after.values);
-        if !are_forced(store, level_of(self.saturation), added)? {
-            unlike.push_str("an entry isn't forced\n")?;
-        }
-        if look_at(store, self.alloc)?.values != before.values {
-            unlike.push_str("an entry from before is another\n")?;
-        }
-        self.push_again(store, &mut unlike)?;
-        Ok((unlike, is_met))
+/// Appends what a refused saturation doesn't leave as it should be, a line each. Answers whether the request came.
+pub(crate) fn push_forced<N: Drop, S: Drop, A: Allocator, T: Obeys<N, S, A>>(
+    store: &mut T,
+    trial: &Trial<'_>,
+    commands: &[Command<N, S, A>],
+    wanted: Saturation<'_>,
+    unlike: &mut String,
+) -> Result<bool, StoreError> {
+    let (before, rest) = commands.split_at(wanted.place.min(commands.len()));
+    let Some(saturation) = rest.first() else {
+        return Ok(false);
+    };
+    for command in before {
+        drop(store.obey(command));
     }
+    let before = look_at(store, trial.alloc)?;
+    let (reply, is_met) = refused_reply(store, saturation, trial.heap, wanted.number);
+    drop(reply);
+    push_left(store, trial.alloc, level_of(saturation), &before, unlike)?;
+    push_again(store, saturation, wanted.wanted, unlike)?;
+    Ok(is_met)
 }
 
-impl<N, S, A: Allocator + Copy> Forced<'_, N, S, A> {
-    /// Gives the saturation once more, and appends the answer where it isn't the wanted one. Which clause is false may
-    /// differ, since watches moved.
-    fn push_again<T: Obeys<N, S, A>>(
-        &self,
-        store: &mut T,
-        unlike: &mut String<A>,
-    ) -> Result<(), AllocError> {
-        let reply = store.obey(self.saturation);
-        let line = format!(in self.alloc; "{reply}\n")?;
-        let is_wanted = match reply {
-            Reply::Conflict(_) => self.wanted.starts_with("conflict"),
-            _ => line.as_str().trim_end() == self.wanted,
-        };
-        if !is_wanted {
-            unlike.push_str(line.as_str())?;
-        }
-        Ok(())
+/// Appends what isn't as it should be behind a saturation at a level; and takes its entries back.
+fn push_left<N: Drop, S: Drop, A: Allocator, T: Obeys<N, S, A>>(
+    store: &mut T,
+    alloc: Global,
+    level: u32,
+    before: &Seen,
+    unlike: &mut String,
+) -> Result<(), StoreError> {
+    let after = look_at(store, alloc)?;
+    if !after.are_exact || after.places != before.places {
+        unlike.push_str("the lists aren't exact\n")?;
     }
+    let added = count_added(&before.values, &after.values);
+    if !are_forced(store, level, added)? {
+        unlike.push_str("an entry isn't forced\n")?;
+    }
+    if look_at(store, alloc)?.values != before.values {
+        unlike.push_str("an entry from before is another\n")?;
+    }
+    Ok(())
+}
+
+/// Gives the saturation once more, and appends the answer where it isn't the wanted one. Which clause is false may
+/// differ, since watches moved.
+fn push_again<N, S, A: Allocator, T: Obeys<N, S, A>>(
+    store: &mut T,
+    saturation: &Command<N, S, A>,
+    wanted: &str,
+    unlike: &mut String,
+) -> Result<(), AllocError> {
+    let reply = store.obey(saturation);
+    let line = format!(in *unlike.allocator(); "{reply}\n")?;
+    let is_wanted = if matches!(reply, Reply::Conflict(_)) {
+        wanted.starts_with("conflict")
+    } else {
+        line.as_str().trim_end() == wanted
+    };
+    if !is_wanted {
+        unlike.push_str(line.as_str())?;
+    }
+    Ok(())
 }
 
 /// The level at which a saturation puts its entries.
@@ -89,26 +103,39 @@ fn level_of<N, S, A: Allocator>(command: &Command<N, S, A>) -> u32 {
     }
 }
 
-/// What is seen of a store without changing it.
+/// What is seen of a store.
 #[derive(Drop)]
-struct Seen<A: Allocator> {
+struct Seen {
     /// The values of the first variables.
-    values: Vec<Option<bool>, A>,
+    values: Vec<Option<bool>>,
     /// In how many lists each clause stands.
-    places: Vec<usize, A>,
+    places: Vec<usize>,
     /// Whether each list has clauses alone that have its literal, each once, and each clause stands in two or in none.
     are_exact: bool,
 }
 
-fn look_at<N, S, A: Allocator + Copy, T: Obeys<N, S, A>>(
-    store: &T,
-    alloc: A,
-) -> Result<Seen<A>, StoreError> {
+fn look_at<N: Drop, S: Drop, A: Allocator, T: Obeys<N, S, A>>(
+    store: &mut T,
+    alloc: Global,
+) -> Result<Seen, StoreError> {
     let mut seen = Seen {
         values: Vec::new(alloc),
         places: Vec::new(alloc),
         are_exact: true,
     };
+    let looked = look(store, &mut seen);
+    for places in &seen.places {
+        seen.are_exact = seen.are_exact && (*places == 0 || *places == 2);
+    }
+    looked?;
+    Ok(seen)
+}
+
+/// Looks at each clause, and at the first variables.
+fn look<N: Drop, S: Drop, A: Allocator, T: Obeys<N, S, A>>(
+    store: &mut T,
+    seen: &mut Seen,
+) -> Result<(), StoreError> {
     for place in 0..1000 {
         if store.literals(ClauseId::from_index(place))?.is_none() {
             break;
@@ -117,26 +144,25 @@ fn look_at<N, S, A: Allocator + Copy, T: Obeys<N, S, A>>(
     }
     for index in 0..VARIABLES {
         let variable = VariableId::from_index(index);
-        if !store.knows(variable) {
+        if !look_at_list(store, Literal::new(variable, false), seen)? {
             break;
         }
+        look_at_list(store, Literal::new(variable, true), seen)?;
         seen.values.push(store.value(variable))?;
-        look_at_list(store, Literal::new(variable, false), &mut seen)?;
-        look_at_list(store, Literal::new(variable, true), &mut seen)?;
     }
-    for places in &seen.places {
-        seen.are_exact = seen.are_exact && (*places == 0 || *places == 2);
-    }
-    Ok(seen)
+    Ok(())
 }
 
-/// Counts the clauses of a literal's list.
-fn look_at_list<N, S, A: Allocator + Copy, T: Obeys<N, S, A>>(
-    store: &T,
+/// Counts the clauses of a literal's list; answers whether there is the variable.
+fn look_at_list<N: Drop, S: Drop, A: Allocator, T: Obeys<N, S, A>>(
+    store: &mut T,
     literal: Literal,
-    seen: &mut Seen<A>,
-) -> Result<(), StoreError> {
-    let list = store.watchers(literal)?;
+    seen: &mut Seen,
+) -> Result<bool, StoreError> {
+    let reply = store.obey(&Command::Watchers(literal));
+    let Reply::Watchers(list) = &reply else {
+        return Ok(false);
+    };
     for (place, clause) in list.iter().enumerate() {
         let is_repeated = list.get(..place).unwrap_or(&[]).contains(clause);
         let is_own = match store.literals(*clause)? {
@@ -148,7 +174,7 @@ fn look_at_list<N, S, A: Allocator + Copy, T: Obeys<N, S, A>>(
             *places = places.saturating_add(1);
         }
     }
-    Ok(())
+    Ok(true)
 }
 
 /// How many variables have a value that had none before.
@@ -164,18 +190,19 @@ fn count_added(before: &[Option<bool>], after: &[Option<bool>]) -> usize {
 
 /// Takes back so many entries, the newest first; whether each was forced, and all are of this level. The answer tells
 /// the level of the entry before, so that of the newest is left out.
-fn are_forced<N, S, A: Allocator + Copy, T: Obeys<N, S, A>>(
+fn are_forced<N: Drop, S: Drop, A: Allocator, T: Obeys<N, S, A>>(
     store: &mut T,
     level: u32,
     added: usize,
 ) -> Result<bool, StoreError> {
     let mut are_forced = true;
     for left in (0..added).rev() {
-        are_forced = match store.take_back() {
-            Some((entry, level_before)) => {
-                are_forced && is_forced(store, entry)? && (left == 0 || level_before == level)
+        let reply = store.obey(&Command::UndoLast);
+        are_forced = match &reply {
+            Reply::Undone(Some((entry, level_before))) => {
+                are_forced && is_forced(store, *entry)? && (left == 0 || *level_before == level)
             }
-            None => false,
+            _ => false,
         };
     }
     Ok(are_forced)
@@ -183,7 +210,7 @@ fn are_forced<N, S, A: Allocator + Copy, T: Obeys<N, S, A>>(
 
 /// Whether an entry is forced by its clause, where it is taken back: its literal is one of the clause's, and undecided,
 /// and all others are false.
-fn is_forced<N, S, A: Allocator + Copy, T: Obeys<N, S, A>>(
+fn is_forced<N, S, A: Allocator, T: Obeys<N, S, A>>(
     store: &T,
     entry: Decision,
 ) -> Result<bool, StoreError> {
@@ -201,49 +228,25 @@ fn is_forced<N, S, A: Allocator + Copy, T: Obeys<N, S, A>>(
 
 /// Refuses each request of the saturation of a place in turn, by steps, and puts what isn't left as it should be after
 /// what waits. `answers` is what the trial is answered where none is refused.
-pub(crate) fn tell_forced<'h, K: IdKind>(
-    heap: Heap<'h>,
+pub(crate) fn tell_forced(
     trial: &Trial<'_>,
-    place: usize,
-    answers: &str,
+    ids: Ids,
+    (place, answers): (usize, &str),
     waiting: &mut Vec<u8>,
 ) -> Result<(), StoreError> {
+    let wanted = answers.lines().nth(place).unwrap_or("");
     for number in 1..1000 {
-        let (unlike, is_met) = left_by::<K>(heap, trial, place, number, answers)?;
-        push_unlike(
-            "left by a refused saturation:\n",
-            unlike.as_str(),
-            "",
-            waiting,
-        )?;
-        if !is_met {
+        let saturation = Saturation {
+            place,
+            number,
+            wanted,
+        };
+        let told = tell(trial, ids, Task::Forced(saturation))?;
+        let unlike = told.text.as_str();
+        push_unlike("left by a refused saturation:\n", unlike, "", waiting)?;
+        if !told.is_met {
             return Ok(());
         }
     }
     Ok(waiting.extend_from_slice(b"too many requests of a saturation\n")?)
-}
-
-/// What the saturation of a place doesn't leave as it should where the request of a number is refused, and whether that
-/// came.
-fn left_by<'h, K: IdKind>(
-    heap: Heap<'h>,
-    trial: &Trial<'_>,
-    place: usize,
-    number: u64,
-    answers: &str,
-) -> Result<(String<Heap<'h>>, bool), StoreError> {
-    let commands = commands_of(heap, &trial.commands)?;
-    let (before, rest) = commands.split_at(place.min(commands.len()));
-    let (Some(saturation), Some(wanted)) = (rest.first(), answers.lines().nth(place)) else {
-        return Ok((String::new(heap), false));
-    };
-    let forced = Forced {
-        alloc: heap,
-        heap,
-        before,
-        saturation,
-        number,
-        wanted,
-    };
-    K::played(heap, trial, &forced)?
 }

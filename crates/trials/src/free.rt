@@ -2,30 +2,37 @@
 use crate::trial::Trial;
 use script_text::{Statement, is_word};
 
-/// Whether the command takes no memory where this line is wanted of it: it takes something back, hands an assignment
-/// out, or changes what is there already; or it finds a value that is there, or a tracked variable; or it is refused by
-/// what it names.
+/// Commands that take something back, hand an assignment out, or change what is there already.
+const COMMANDS: [&str; 5] = [
+    "undo-last",
+    "undo-until",
+    "unpropagated",
+    "decay",
+    "standard",
+];
+
+/// The lines of commands that find a value that is there, or a tracked variable.
+const LINES: [&str; 3] = ["already", "clash", "tracked no 0"];
+
+/// The lines of refusals that don't follow from the command and the store alone: those for want of memory or ids, and
+/// where the provider stops.
+const UNFORESEEN: [&str; 3] = ["refused 1", "refused 2", "refused 12"];
+
+/// Whether the command takes no memory where this line is wanted of it: by what it is, or by what it finds; or it is
+/// refused by what it names.
 pub(crate) fn takes_no_memory(said: &Statement<'_>, wanted: &str) -> bool {
-    const COMMANDS: [&str; 5] = [
-        "undo-last",
-        "undo-until",
-        "unpropagated",
-        "decay",
-        "standard",
-    ];
-    const LINES: [&str; 3] = ["already", "clash", "tracked no 0"];
-    COMMANDS
-        .iter()
-        .any(|name| is_word(said.keyword, name.as_bytes()))
-        || LINES.contains(&wanted)
-        || is_foreseen(wanted)
+    is_one_of(said.keyword, &COMMANDS)
+        || is_one_of(wanted.as_bytes(), &LINES)
+        || wanted.starts_with("refused") && !is_one_of(wanted.as_bytes(), &UNFORESEEN)
 }
 
-/// Whether the line is a refusal that follows from the command and the store alone: another one than for want of memory
-/// or ids, or where the provider stops.
-fn is_foreseen(wanted: &str) -> bool {
-    const OTHERS: [&str; 3] = ["refused 1", "refused 2", "refused 12"];
-    wanted.starts_with("refused") && !OTHERS.contains(&wanted)
+fn is_one_of(word: &[u8], words: &[&str]) -> bool {
+    for one in words {
+        if is_word(word, one.as_bytes()) {
+            return true;
+        }
+    }
+    false
 }
 
 /// Whether the command of a place takes no memory where the trial is answered so.

@@ -13,46 +13,55 @@ pub(crate) fn commands_of<N: Numbered, S: Numbered, A: Allocator + Copy>(
 ) -> Result<Vec<Command<N, S, A>, A>, StoreError> {
     let mut commands = Vec::new(alloc);
     for said in lines {
-        match command::<NameId, SolvableId, A>(alloc, *said) {
-            Ok(command) => commands.push(by_number(alloc, &command)?)?,
-            Err(LineFault::Memory) => return Err(StoreError::OutOfMemory),
-            Err(LineFault::Unreadable) => return Err(StoreError::UnknownId),
-        }
+        commands.push(command_of(alloc, *said)?)?;
     }
     Ok(commands)
 }
 
-/// The same command, with names and solvables of the same numbers.
-fn by_number<N: Numbered, S: Numbered, A: Allocator + Copy>(
+/// The command that a statement gives. This function alone names the dense ids by which it is read.
+fn command_of<N: Numbered, S: Numbered, A: Allocator + Copy>(
     alloc: A,
-    command: &Command<NameId, SolvableId, A>,
+    said: Statement<'_>,
+) -> Result<Command<N, S, A>, StoreError> {
+    let read = command::<NameId, SolvableId, A>(alloc, said);
+    match &read {
+        Ok(command) => by_number(alloc, command),
+        Err(LineFault::Memory) => Err(StoreError::OutOfMemory),
+        Err(LineFault::Unreadable) => Err(StoreError::UnknownId),
+    }
+}
+
+/// The same command, with names and solvables of the same numbers.
+fn by_number<P: Numbered, Q: Numbered, N: Numbered, S: Numbered, A: Allocator + Copy>(
+    alloc: A,
+    command: &Command<P, Q, A>,
 ) -> Result<Command<N, S, A>, StoreError> {
     let command = match command {
-        Command::Variable(solvable) => Command::Variable(S::numbered(solvable.into_raw())),
+        Command::Variable(solvable) => Command::Variable(S::numbered(solvable.number())),
         Command::Helper(origin) => Command::Helper(origin_of(*origin)),
         Command::Disjunction(literals, condition) => {
             Command::Disjunction(Vec::from_slice(alloc, literals)?, *condition)
         }
         Command::Learnt(literals) => Command::Learnt(Vec::from_slice(alloc, literals)?),
         Command::AtMostOnce(name, variable) => {
-            Command::AtMostOnce(N::numbered(name.into_raw()), *variable)
+            Command::AtMostOnce(N::numbered(name.number()), *variable)
         }
-        Command::Bump(name, amount) => Command::Bump(N::numbered(name.into_raw()), *amount),
+        Command::Bump(name, amount) => Command::Bump(N::numbered(name.number()), *amount),
         other => without_names(other),
     };
     Ok(command)
 }
 
-fn origin_of<N: Numbered>(origin: HelperOrigin<NameId>) -> HelperOrigin<N> {
+fn origin_of<P: Numbered, N: Numbered>(origin: HelperOrigin<P>) -> HelperOrigin<N> {
     match origin {
-        HelperOrigin::AtLeastOne(name) => HelperOrigin::AtLeastOne(N::numbered(name.into_raw())),
+        HelperOrigin::AtLeastOne(name) => HelperOrigin::AtLeastOne(N::numbered(name.number())),
         HelperOrigin::ConstrainsViolation(set) => HelperOrigin::ConstrainsViolation(set),
         HelperOrigin::RequiresGate(requirement) => HelperOrigin::RequiresGate(requirement),
     }
 }
 
 /// The same command, of those that have neither names nor solvables, nor a list.
-fn without_names<N, S, A: Allocator>(command: &Command<NameId, SolvableId, A>) -> Command<N, S, A> {
+fn without_names<P, Q, N, S, A: Allocator>(command: &Command<P, Q, A>) -> Command<N, S, A> {
     match command {
         Command::Load(requirement) => Command::Load(*requirement),
         Command::Requires(parent, requirement, disjunction) => {

@@ -6,8 +6,6 @@
 //! | `hint all`, `hint S ..` | the dependencies of all candidates, or of these solvables, are said to be at hand |
 //! | `locked S` | this solvable is locked, and excluded too |
 //! | `twice` | each candidate is listed twice |
-ghost use Rattle.std.specs.Prelude.{◌≤◌, ◌^◌, length, IfOk};
-
 use crate::trial::Trial;
 use script_text::{Statement, is_word, next_word, number};
 use std::alloc::Allocator;
@@ -19,15 +17,36 @@ pub(crate) fn listed<A: Allocator + Copy>(
     alloc: A,
     catalogue: &[Statement<'_>],
 ) -> Result<Listed<A>, StoreError> {
-    let (packages, favored) = packages_of(alloc, catalogue)?;
-    let ranges = ranges_of(alloc, catalogue)?;
-    let unions = unions_of(alloc, catalogue)?;
-    Ok(Listed {
-        packages,
-        ranges,
-        unions,
-        favored,
-    })
+    let mut listed = Listed {
+        packages: Vec::new(alloc),
+        ranges: Vec::new(alloc),
+        unions: Vec::new(alloc),
+        favored: None,
+    };
+    for said in catalogue {
+        add(alloc, &mut listed, *said)?;
+    }
+    Ok(listed)
+}
+
+/// Adds what a line lists.
+fn add<A: Allocator + Copy>(
+    alloc: A,
+    listed: &mut Listed<A>,
+    said: Statement<'_>,
+) -> Result<(), StoreError> {
+    if is_word(said.keyword, b"package") {
+        let favored = add_package(&mut listed.packages, said.rest);
+        listed.packages.truncate(4294967296);
+        if let Some(favored) = favored? {
+            listed.favored = Some(favored);
+        }
+    } else if is_word(said.keyword, b"set") {
+        listed.ranges.push(range_of(said.rest)?)?;
+    } else if is_word(said.keyword, b"union") {
+        listed.unions.push(sets_of(alloc, said.rest)?)?;
+    }
+    Ok(())
 }
 
 /// How the provider of a trial answers.
@@ -37,7 +56,7 @@ pub(crate) fn manner<A: Allocator + Copy>(
 ) -> Result<Manner<A>, StoreError> {
     let mut manner = Manner::plain();
     manner.stops = trial.stops();
-    for said in &trial.catalogue {
+    for said in trial.catalogue {
         if is_word(said.keyword, b"twice") {
             manner.listing = Listing::Twice;
         } else if is_word(said.keyword, b"locked") {
@@ -71,24 +90,6 @@ pub(crate) fn number_of(line: &[u8]) -> u32 {
         Some((word, _)) => version_of(word).unwrap_or(0),
         None => 0,
     }
-}
-
-/// The solvables, and the favored one.
-fn packages_of<A: Allocator + Copy>(
-    alloc: A,
-    catalogue: &[Statement<'_>],
-) -> Result<(Vec<Package, A>, Option<u32>), StoreError>
-    ensures few { IfOk result (λ r. length r.0.items ≤ 2 ^ 32) }
-{
-    let mut packages = Vec::new(alloc);
-    let mut favored = None;
-    for said in catalogue {
-        if is_word(said.keyword, b"package") {
-            favored = add_package(&mut packages, said.rest)?.or(favored);
-        }
-    }
-    packages.truncate(4294967296);
-    Ok((packages, favored))
 }
 
 /// Adds the versions of a package's line, and answers which of them is the favored one.
@@ -127,19 +128,6 @@ fn version_of(word: &[u8]) -> Result<u32, StoreError> {
     }
 }
 
-fn ranges_of<A: Allocator + Copy>(
-    alloc: A,
-    catalogue: &[Statement<'_>],
-) -> Result<Vec<VersionRange, A>, StoreError> {
-    let mut ranges = Vec::new(alloc);
-    for said in catalogue {
-        if is_word(said.keyword, b"set") {
-            ranges.push(range_of(said.rest)?)?;
-        }
-    }
-    Ok(ranges)
-}
-
 fn range_of(line: &[u8]) -> Result<VersionRange, StoreError> {
     let Some((name, rest)) = next_word(line) else {
         return Err(StoreError::UnknownId);
@@ -155,19 +143,6 @@ fn range_of(line: &[u8]) -> Result<VersionRange, StoreError> {
         low: version_of(low)?,
         high: version_of(high)?,
     })
-}
-
-fn unions_of<A: Allocator + Copy>(
-    alloc: A,
-    catalogue: &[Statement<'_>],
-) -> Result<Vec<Vec<VersionSetId, A>, A>, StoreError> {
-    let mut unions = Vec::new(alloc);
-    for said in catalogue {
-        if is_word(said.keyword, b"union") {
-            unions.push(sets_of(alloc, said.rest)?)?;
-        }
-    }
-    Ok(unions)
 }
 
 fn sets_of<A: Allocator>(alloc: A, line: &[u8]) -> Result<Vec<VersionSetId, A>, StoreError> {

@@ -3,7 +3,8 @@
 //! printed is, under the same line, what a store answered; and where a way of playing it told something else, that too.
 //!
 //! A store counts what its provider is asked, and its provider may stop it (`test_support`). Each trial is played by
-//! steps and in one run, by dense ids and by sparse ones. The ways, and what is done besides, are
+//! steps and in one run, by dense ids and by sparse ones; and by steps under each setting of `Standard`, and both by
+//! turns. The ways, and what is done besides, are
 //!
 //! - `first`, `second`, `after`, `other`, `always`: the provider stops, at its first question alone, at its second, at
 //!   each but the first, at every other one, at each;
@@ -14,8 +15,8 @@
 //! - `over`: where `each` stands too, a command that was refused by steps isn't given again but passed over, once more
 //!   for each request.
 //!
-//! A trial with the word `texts` prints the texts of its commands, of their replies and of its clauses; one with the
-//! word `cache` has questions to a cache in place of commands (`cache`).
+//! A trial with the word `texts` prints the texts of its clauses; one with the word `cache` has questions to a cache in
+//! place of commands (`cache`).
 #![tactic(auto)]
 
 mod answers;
@@ -28,6 +29,7 @@ mod given;
 mod listed;
 mod obeys;
 mod played;
+mod task;
 mod trial;
 
 use crate::trial::push_answers;

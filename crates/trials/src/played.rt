@@ -1,21 +1,35 @@
-//! New stores, and what is done with them. One function owns these stores, for ids of any kind: the proofs of such
-//! functions are long, and what is generic in a kind of ids asks no more of it than a number and a text.
+//! New stores, and what they tell. One function names the kinds of ids, and one owns a store: the proofs of such
+//! functions are long.
+use crate::few::Counts;
 use crate::listed::{listed, manner};
-use crate::obeys::Obeys;
+use crate::task::{Task, push_told};
 use crate::trial::Trial;
 use id_maps::SolverId;
+use providers::{DependencyProvider, Interner};
 use resolvo_store::ClauseStore;
-use std::alloc::Allocator;
-use std::fmt::Debug;
-use test_support::{Distinct, Lists, Numbered};
+use std::alloc::{Allocator, Global};
+use test_support::{Counting, Distinct, Lists, Numbered, Refusing};
 use typed_ids::{NameId, NameTag, SolvableId, SolvableTag, SparseId, StoreError};
 
-/// What is done with a new store.
-pub(crate) trait Play<N, S, A: Allocator> {
-    /// What the store tells.
-    type Told;
+/// The memory of stores: it refuses no request, unless it is armed.
+pub(crate) type Heap<'h> = &'h Refusing<Global>;
 
-    fn play<T: Obeys<N, S, A>>(&self, store: &mut T) -> Self::Told;
+/// Which ids a store has.
+#[derive(Clone, Copy)]
+pub(crate) enum Ids {
+    Dense,
+    /// Sparse ids far apart: of 16 bits for names, and of 64 bits for solvables.
+    Sparse,
+}
+
+/// What a store tells.
+#[derive(Drop)]
+pub(crate) struct Told {
+    pub(crate) text: String,
+    /// Whether the request came that was to be refused.
+    pub(crate) is_met: bool,
+    /// Which commands were refused.
+    pub(crate) refused: Counts,
 }
 
 /// The provider of a trial.
@@ -23,67 +37,48 @@ pub(crate) fn provider_of<N, S, A: Allocator + Copy>(
     alloc: A,
     trial: &Trial<'_>,
 ) -> Result<Lists<N, S, A>, StoreError> {
-    let listed = listed(alloc, &trial.catalogue)?;
+    let listed = listed(alloc, trial.catalogue)?;
     Ok(Lists::new(listed, manner(alloc, trial)?))
 }
 
-/// What a new store tells over the trial's packages.
-fn played<
-    N: SolverId<A> + Numbered,
-    S: SolverId<A> + Distinct,
-    A: Allocator + Copy,
-    P: Play<N, S, A>,
->(alloc: A, trial: &Trial<'_>, play: &P) -> Result<P::Told, StoreError> {
-    let provider: Lists<N, S, A> = provider_of(alloc, trial)?;
-    let mut store = ClauseStore::new(alloc, provider)?;
-    let told = play.play(&mut store);
-    drop(store);
+/// What a new store with such ids tells over the trial's packages.
+pub(crate) fn tell(trial: &Trial<'_>, ids: Ids, task: Task<'_>) -> Result<Told, StoreError> {
+    let mut told = Told {
+        text: String::new(trial.alloc),
+        is_met: false,
+        refused: Counts::none(),
+    };
+    let ended = match ids {
+        Ids::Dense => push_by::<NameId, SolvableId, Heap<'_>>(trial.heap, trial, task, &mut told),
+        Ids::Sparse => {
+            push_by::<SparseId<NameTag, u16>, SparseId<SolvableTag, u64>, Heap<'_>>(
+                trial.heap, trial, task, &mut told,
+            )
+        }
+    };
+    ended?;
     Ok(told)
 }
 
-/// A kind of ids that stores may have.
-pub(crate) trait IdKind {
-    type Name: Numbered + Debug;
-
-    type Solvable: Numbered + Debug;
-
-    /// What a new store tells over the trial's packages.
-    fn played<A: Allocator + Copy, P: Play<Self::Name, Self::Solvable, A>>(
-        alloc: A,
-        trial: &Trial<'_>,
-        play: &P,
-    ) -> Result<P::Told, StoreError>;
+fn push_by<N: SolverId<A> + Numbered, S: SolverId<A> + Distinct, A: Allocator + Copy>(
+    alloc: A,
+    trial: &Trial<'_>,
+    task: Task<'_>,
+    told: &mut Told,
+) -> Result<(), StoreError> {
+    let provider: Lists<N, S, A> = provider_of(alloc, trial)?;
+    push_over(alloc, provider, trial, task, told)
 }
 
-pub(crate) struct DenseIds;
-
-/// Sparse ids far apart: of 16 bits for names, and of 64 bits for solvables.
-pub(crate) struct SparseIds;
-
-impl IdKind for DenseIds {
-    type Name = NameId;
-
-    type Solvable = SolvableId;
-
-    fn played<A: Allocator + Copy, P: Play<NameId, SolvableId, A>>(
-        alloc: A,
-        trial: &Trial<'_>,
-        play: &P,
-    ) -> Result<P::Told, StoreError> {
-        played(alloc, trial, play)
-    }
-}
-
-impl IdKind for SparseIds {
-    type Name = SparseId<NameTag, u16>;
-
-    type Solvable = SparseId<SolvableTag, u64>;
-
-    fn played<A: Allocator + Copy, P: Play<SparseId<NameTag, u16>, SparseId<SolvableTag, u64>, A>>(
-        alloc: A,
-        trial: &Trial<'_>,
-        play: &P,
-    ) -> Result<P::Told, StoreError> {
-        played(alloc, trial, play)
-    }
+fn push_over<D: DependencyProvider<NameId: Numbered, SolvableId: Numbered> + Counting + Drop>(
+    alloc: D::Alloc,
+    provider: D,
+    trial: &Trial<'_>,
+    task: Task<'_>,
+    told: &mut Told,
+) -> Result<(), StoreError> {
+    let mut store = ClauseStore::new(alloc, provider)?;
+    let ended = push_told(&mut store, alloc, trial, task, told);
+    drop(store);
+    ended
 }

@@ -1,22 +1,27 @@
 //! Trials, cut out of a text, and how each is played.
-use crate::answers::{Heap, Way, answers_of, push_unlike_answers, texts_of};
+use crate::answers::push_unlike;
 use crate::cache::push_asked;
 use crate::each::tell_each;
 use crate::few::{Counts, tell_few};
-use crate::played::{DenseIds, IdKind, SparseIds};
+use crate::played::{Heap, Ids, tell};
+use crate::task::Task;
 use script_text::{Line, Statement, is_word, next_statement, next_word};
-use std::alloc::Global;
+use std::alloc::{AllocError, Global};
 use test_support::{Refusing, Stops};
 use typed_ids::StoreError;
 
 /// A trial: what stands behind the first word of its first line, what its catalogue lists, and its commands.
-#[derive(Drop)]
+#[derive(Clone, Copy)]
 pub(crate) struct Trial<'t> {
+    /// The memory of what is told.
+    pub(crate) alloc: Global,
+    /// The memory of stores and caches.
+    pub(crate) heap: Heap<'t>,
     pub(crate) words: &'t [u8],
-    pub(crate) catalogue: Vec<Statement<'t>>,
-    pub(crate) commands: Vec<Statement<'t>>,
+    pub(crate) catalogue: &'t [Statement<'t>],
+    pub(crate) commands: &'t [Statement<'t>],
     /// Commands that tell what a store is like, of a trial whose requests are each refused.
-    pub(crate) probes: Vec<Statement<'t>>,
+    pub(crate) probes: &'t [Statement<'t>],
 }
 
 impl Trial<'_> {
@@ -53,34 +58,25 @@ impl Trial<'_> {
     }
 }
 
-/// What a line of a trial is one of.
+/// The places of the commands and of the probes among a trial's lines.
 #[derive(Clone, Copy)]
-enum Part {
-    Catalogue,
-    Commands,
-    Probes,
+struct Places {
+    commands: usize,
+    probes: usize,
 }
 
-/// The first trial of a text, and what comes behind it.
-fn next_trial(alloc: Global, text: &[u8]) -> Result<Option<(Trial<'_>, &[u8])>, StoreError> {
-    let Some((Line::Says(first), below)) = next_statement(text) else {
-        return Ok(None);
+/// Appends the lines up to the next trial, but for those that part them. Answers where the parts begin, and what comes
+/// from the next trial on.
+fn push_lines<'t>(
+    lines: &mut Vec<Statement<'t>>,
+    text: &'t [u8],
+) -> Result<(Places, &'t [u8]), AllocError> {
+    let mut places = Places {
+        commands: 0,
+        probes: usize::MAX,
     };
-    let mut trial = Trial {
-        words: first.rest,
-        catalogue: Vec::new(alloc),
-        commands: Vec::new(alloc),
-        probes: Vec::new(alloc),
-    };
-    let rest = fill(&mut trial, below)?;
-    Ok(Some((trial, rest)))
-}
-
-/// Adds the lines up to the next trial, and answers what comes from there on.
-fn fill<'t>(trial: &mut Trial<'t>, lines: &'t [u8]) -> Result<&'t [u8], StoreError> {
-    let mut part = Part::Catalogue;
-    let mut rest = lines;
-    for _ in 0..lines.len() {
+    let mut rest = text;
+    for _ in 0..text.len() {
         let Some((Line::Says(said), others)) = next_statement(rest) else {
             break;
         };
@@ -89,18 +85,34 @@ fn fill<'t>(trial: &mut Trial<'t>, lines: &'t [u8]) -> Result<&'t [u8], StoreErr
         }
         rest = others;
         if is_word(said.keyword, b"begin") {
-            part = Part::Commands;
+            places.commands = lines.len();
         } else if is_word(said.keyword, b"probes") {
-            part = Part::Probes;
+            places.probes = lines.len();
         } else {
-            match part {
-                Part::Catalogue => trial.catalogue.push(said)?,
-                Part::Commands => trial.commands.push(said)?,
-                Part::Probes => trial.probes.push(said)?,
-            }
+            lines.push(said)?;
         }
     }
-    Ok(rest)
+    Ok((places, rest))
+}
+
+/// The trial of these lines.
+fn trial_of<'t>(
+    alloc: Global,
+    heap: Heap<'t>,
+    words: &'t [u8],
+    lines: &'t [Statement<'t>],
+    places: Places,
+) -> Trial<'t> {
+    let (above, probes) = lines.split_at(places.probes.min(lines.len()));
+    let (catalogue, commands) = above.split_at(places.commands.min(above.len()));
+    Trial {
+        alloc,
+        heap,
+        words,
+        catalogue,
+        commands,
+        probes,
+    }
 }
 
 /// Puts the answers of all trials of a text after what waits, and what came of the refusals.
@@ -109,23 +121,24 @@ pub(crate) fn push_answers(
     text: &[u8],
     waiting: &mut Vec<u8>,
 ) -> Result<(), StoreError> {
+    let heap = Refusing::new(alloc);
     let mut counts = Counts::none();
     let mut rest = text;
     for _ in 0..text.len() {
-        let Some((trial, others)) = next_trial(alloc, rest)? else {
+        let Some((Line::Says(first), below)) = next_statement(rest) else {
             break;
         };
+        let mut lines = Vec::new(alloc);
+        let (places, others) = push_lines(&mut lines, below)?;
         rest = others;
-        let ended = push_answer(alloc, &trial, waiting, &mut counts);
-        drop(trial);
-        ended?;
+        let trial = trial_of(alloc, &heap, first.rest, &lines, places);
+        push_answer(&trial, waiting, &mut counts)?;
     }
     Ok(counts.push(waiting)?)
 }
 
-/// Puts a trial's answers after what waits. Sparse ids are to tell what dense ones tell.
+/// Puts a trial's answers after what waits.
 fn push_answer(
-    alloc: Global,
     trial: &Trial<'_>,
     waiting: &mut Vec<u8>,
     counts: &mut Counts,
@@ -133,73 +146,61 @@ fn push_answer(
     waiting.extend_from_slice(b"trial")?;
     waiting.extend_from_slice(trial.words)?;
     waiting.push(b'\n')?;
-    let heap = Refusing::new(alloc);
-    let ended = if trial.is(b"cache") {
-        push_asked(alloc, &heap, trial, waiting)
+    if trial.is(b"cache") {
+        push_asked(trial, waiting)
     } else if trial.is(b"texts") {
-        push_texts::<DenseIds>(&heap, trial, waiting)
+        let texts = tell(trial, Ids::Dense, Task::Texts)?;
+        Ok(waiting.extend_from_slice(texts.text.as_bytes())?)
     } else {
-        push_told::<DenseIds, SparseIds>(&heap, trial, waiting, counts)
-    };
-    drop(heap);
-    ended
+        let answers = tell(trial, Ids::Dense, Task::Steps)?;
+        waiting.extend_from_slice(answers.text.as_bytes())?;
+        push_others(trial, answers.text.as_str(), waiting, counts)
+    }
 }
 
-fn push_texts<'h, K: IdKind>(
-    heap: Heap<'h>,
-    trial: &Trial<'_>,
-    waiting: &mut Vec<u8>,
-) -> Result<(), StoreError> {
-    let texts = texts_of::<K>(heap, trial)?;
-    waiting.extend_from_slice(texts.as_bytes())?;
-    Ok(())
-}
-
-/// Plays the trial in all its ways, and puts what they tell after what waits: of the others what the first one didn't
-/// tell.
-fn push_told<'h, K: IdKind, L: IdKind>(
-    heap: Heap<'h>,
-    trial: &Trial<'_>,
-    waiting: &mut Vec<u8>,
-    counts: &mut Counts,
-) -> Result<(), StoreError> {
-    let answers = answers_of::<K>(heap, trial, Way::Steps)?;
-    waiting.extend_from_slice(answers.as_bytes())?;
-    let ended = push_others::<K, L>(heap, trial, answers.as_str(), waiting, counts);
-    drop(answers);
-    ended
-}
-
-fn push_others<'h, K: IdKind, L: IdKind>(
-    heap: Heap<'h>,
+/// Plays the trial in all other ways, and puts what they tell after what waits where it isn't what the first one told.
+fn push_others(
     trial: &Trial<'_>,
     answers: &str,
     waiting: &mut Vec<u8>,
     counts: &mut Counts,
 ) -> Result<(), StoreError> {
-    push_unlike_answers::<K>("in one run:\n", heap, trial, Way::Run, answers, waiting)?;
-    push_unlike_answers::<L>(
-        "by sparse ids:\n",
-        heap,
-        trial,
-        Way::Steps,
-        answers,
-        waiting,
-    )?;
-    push_unlike_answers::<L>(
-        "by sparse ids in one run:\n",
-        heap,
-        trial,
-        Way::Run,
-        answers,
-        waiting,
-    )?;
+    push_ways(trial, answers, waiting)?;
     if trial.is(b"few") {
-        tell_few::<K>(heap, trial, answers, waiting, counts)?;
+        tell_few(trial, answers, waiting, counts)?;
     }
     if trial.is(b"each") {
-        tell_each::<K>(heap, trial, answers, waiting, counts)?;
-        tell_each::<L>(heap, trial, answers, waiting, counts)?;
+        tell_each(trial, Ids::Dense, answers, waiting, counts)?;
+        tell_each(trial, Ids::Sparse, answers, waiting, counts)?;
     }
     Ok(())
+}
+
+/// In one run, by sparse ids, and under each setting of `Standard` and both by turns.
+fn push_ways(trial: &Trial<'_>, answers: &str, waiting: &mut Vec<u8>) -> Result<(), StoreError> {
+    let (dense, sparse) = (Ids::Dense, Ids::Sparse);
+    let run = ("in one run:\n", Task::Run);
+    let steps = ("by sparse ids:\n", Task::Steps);
+    let sparse_run = ("by sparse ids in one run:\n", Task::Run);
+    let standard = ("by the standard setting:\n", Task::Set(true, true));
+    let other = ("by the other setting:\n", Task::Set(false, false));
+    let in_turn = ("by the settings in turn:\n", Task::Set(false, true));
+    push_other(trial, dense, run, answers, waiting)?;
+    push_other(trial, sparse, steps, answers, waiting)?;
+    push_other(trial, sparse, sparse_run, answers, waiting)?;
+    push_other(trial, dense, standard, answers, waiting)?;
+    push_other(trial, dense, other, answers, waiting)?;
+    push_other(trial, dense, in_turn, answers, waiting)
+}
+
+/// Puts what a store tells of a task under a heading after what waits, where it isn't this.
+fn push_other(
+    trial: &Trial<'_>,
+    ids: Ids,
+    (heading, task): (&str, Task<'_>),
+    answers: &str,
+    waiting: &mut Vec<u8>,
+) -> Result<(), StoreError> {
+    let seen = tell(trial, ids, task)?;
+    Ok(push_unlike(heading, seen.text.as_str(), answers, waiting)?)
 }
