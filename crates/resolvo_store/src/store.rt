@@ -66,7 +66,6 @@ use watch_map::{ClauseList, Marks};
 ///
 /// A contract speaks of the abstract store, `⟦<D as Abstract>⟧.store self.now`. Whatever a command is refused for,
 /// the store is as it was; a `Saturate` alone keeps what it forced before memory was refused.
-#[derive(Drop)]
 pub struct ClauseStore<D: DependencyProvider> {
     /// The provider, and what it was asked and answered.
     cache: SolverCache<D>,
@@ -88,6 +87,27 @@ pub struct ClauseStore<D: DependencyProvider> {
     /// How active each package was. The queue knows each name with a score as hot.
     scores: Scores<D::NameId, D::Alloc>,
     alloc: D::Alloc,
+}
+
+/// Lets go of all parts. It is written out, and not derived, so that a crate which lets go of a store proves one call,
+/// and not those of all parts and of their parts.
+impl<D: DependencyProvider + Drop> Drop for ClauseStore<D> {
+    fn drop(self) {
+        let ClauseStore {
+            cache: _cache,
+            variables: _variables,
+            loaded: _loaded,
+            disjunctions: _disjunctions,
+            clauses: _clauses,
+            queue: _queue,
+            falsified: _falsified,
+            trail: _trail,
+            marks: _marks,
+            trackers: _trackers,
+            scores: _scores,
+            alloc: _,
+        } = self;
+    }
 }
 
 impl<D: DependencyProvider> Model for ClauseStore<D> {
