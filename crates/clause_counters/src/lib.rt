@@ -50,8 +50,6 @@ mod groups;
 mod links;
 mod position;
 mod rows;
-#[cfg(test)]
-mod tests;
 mod walks;
 
 pub use counters::ClauseCounters;

@@ -33,8 +33,6 @@ mod group_index;
 mod group_key;
 mod key_group;
 mod key_log;
-#[cfg(test)]
-mod tests;
 
 pub use clause_groups::ClauseGroups;
 pub use demand::Demand;

@@ -1,5 +1,5 @@
 use Rattle.falsified_clauses.specs.Clauses.{counted_under}
-use Rattle.falsified_clauses.proofs.tests.add.Goals as goal
+use Rattle.room_tests.proofs.falsified.add.Goals as goal
 
 pub add-requires : goal.add-requires
 add-requires c = (c.in_ok-groups.ensures.ready c.requires.counted.0 c.requires.counted.1).can_add

@@ -1,8 +1,8 @@
-//! What is first as literals become false and undecided, by examples.
+//! What clause counters tell first as literals become false and undecided, by examples.
 //!
 //! What takes memory is tried again after a refusal, which must have left all as it was: so the tests pass too if any
 //! one allocation fails (`rt try --test --fail-alloc N`).
-use crate::counters::ClauseCounters;
+use clause_counters::ClauseCounters;
 use decisions::{DecisionMap, Literal};
 use std::alloc::Global;
 use std::test::Fail;

@@ -3,10 +3,9 @@ ghost use Rattle.std.specs.Prelude.{◌<◌, length, List, IfSome};
 ghost use Rattle.falsified_clauses.specs.Clauses.{PlacedDemand, counted_under};
 ghost use Rattle.falsified_clauses.specs.Counts.{Counts};
 
-use crate::demand::Demand;
-use crate::falsified_clauses::FalsifiedClauses;
 use clauses::Disjunction;
 use decisions::{DecisionMap, Literal};
+use falsified_clauses::{Demand, FalsifiedClauses};
 use id_storage::Arena;
 use providers::{Requirement, RequirementMap};
 use std::alloc::Global;

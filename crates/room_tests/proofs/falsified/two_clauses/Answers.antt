@@ -1,7 +1,7 @@
 use Rattle.std.proofs.Common.{[]}
 use Rattle.decisions.specs.Decisions.{values_in}
 use Rattle.decisions.specs.Literals.{is_false_literal}
-use Rattle.falsified_clauses.proofs.tests.two_clauses.Goals as goal
+use Rattle.room_tests.proofs.falsified.two_clauses.Goals as goal
 
 pub add-requires-clause-counted : goal.add-requires-clause-counted
 add-requires-clause-counted c =
