@@ -6,7 +6,7 @@ and conditions are mostly met. No command is one that a store refuses. A list fo
 import collections
 
 from drawn import List, Recurrence, written
-from store import MOST, Packages, Store
+from store import MOST, Packages
 
 DRAWS = 80
 # How many packages have versions (one more name has none), and how many version sets and unions there are.
@@ -44,13 +44,8 @@ class Decisions(List):
     """A list with many decisions, and what they show of the rule."""
 
     def __init__(self, number):
-        self.number, self.draw = f"of decisions {number}", Recurrence(number)
-        self.catalogue = list(catalogue(self.draw))
-        self.packages = Packages()
-        for line in self.catalogue:
-            kind, *words = line.split()
-            self.packages.add(kind, words)
-        self.store = Store(self.packages)
+        draw = Recurrence(number)
+        self.set_out(f"of decisions {number}", draw, catalogue(draw))
         self.commands, self.answers, self.shown = [], [], collections.Counter()
         # how often in a hundred times a clause is the root's; in some lists none is meant to be
         self.of_root = self.draw.one_of([0, 20, 50])

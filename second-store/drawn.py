@@ -62,14 +62,18 @@ def catalogue(recurrence):
 class List:
     """A drawn list: the lines of its catalogue, its commands, and what the second store answers."""
 
-    def __init__(self, number):
-        self.number, self.draw = number, Recurrence(number)
-        self.catalogue = list(catalogue(self.draw))
+    def set_out(self, name, draw, catalogue):
+        """Keeps the catalogue that is drawn, and makes the second store over it."""
+        self.number, self.draw, self.catalogue = name, draw, list(catalogue)
         self.packages = Packages()
         for line in self.catalogue:
             kind, *words = line.split()
             self.packages.add(kind, words)
         self.store = Store(self.packages)
+
+    def __init__(self, number):
+        draw = Recurrence(number)
+        self.set_out(number, draw, catalogue(draw))
         self.commands, self.answers, self.picks = [], [], []
         # how often in a hundred times a requires clause is the root's; in some lists none is meant to be
         self.of_root = self.draw.one_of([0, 30, 60])
