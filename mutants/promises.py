@@ -1,0 +1,18 @@
+"""The promises, as docs/PROMISES.md and docs/PROMISES-OF-PARTS.md have them."""
+import re
+
+import mutants
+
+PAGES = [mutants.HERE.parent / "docs" / name for name in ("PROMISES.md", "PROMISES-OF-PARTS.md")]
+
+
+def chapters():
+    """The pages' headings, each with the titles of the promises under it."""
+    for page in PAGES:
+        for chapter in re.split(r"^## ", page.read_text(), flags=re.M)[1:]:
+            heading = chapter.partition("\n")[0]
+            yield heading, re.findall(r"^- \*\*(.*?)\*\*", chapter, re.M)
+
+
+def titles():
+    return [title for _, its in chapters() for title in its]
