@@ -1,20 +1,22 @@
 -- What a tracker's fields show after a decision is added or taken back.
-use Rattle.std.specs.Prelude.{◌≡◌, ◌≢◌, ℕ, ◌-◌, ◌≤◌, ◌==◌, if◌then◌else◌, Bool, true, false, refl}
+use Rattle.std.specs.Prelude.{◌≡◌, ◌≢◌, ℕ, ◌+◌, ◌-◌, ◌≤◌, ◌==◌, if◌then◌else◌, Bool, true, false, refl}
 use Rattle.std.specs.Prelude.{List, [], ◌∷◌, ◌++◌, map, length, take, Option, Some, None, option_map}
 use Rattle.std.specs.Prelude.{◌<◌, slice_get, slice_index_or}
 use Rattle.std.specs.List.{find}
 use Rattle.std.specs.Option.{option_map_or, option_to_list}
-use Rattle.std.proofs.Common.{ap, ◌∙◌, sym, arith}
+use Rattle.std.proofs.Common.{ap, subst, ◌∙◌, sym, arith}
 use Rattle.std.proofs.lemmas.Bool.{eqb-true, eqb-false}
-use Rattle.std.proofs.lemmas.List.{map-append, length-map}
+use Rattle.std.proofs.lemmas.List.{map-append, length-map, take_more}
 use Rattle.std.proofs.lemmas.Option.{slice_get_within, get_or_from_slice_get}
 use Rattle.typed_ids.specs.TotalMaps.{IsUpdate}
 use Rattle.decisions.specs.Decisions.{decision_in, values_in, level_in}
 use Rattle.decisions.specs.Tracker.{entries_of, IsTracked}
-use Rattle.decisions.specs.Trail.{Entry, Trail, val, level_of, clause_of, HasLevel, IsTrail, IsWithin}
+use Rattle.decisions.specs.Trail.{Entry, Trail, val, level_of, clause_of, top_level, kept_until}
+use Rattle.decisions.specs.Trail.{HasLevel, IsTrail, IsWithin}
 use Rattle.decisions.specs.declared.decision.Decision.{Decision}
 use Rattle.decisions.proofs.TrailLemmas.{none_by_variable, val-push, take-push}
 use Rattle.decisions.proofs.TrailLemmas.{IsOnce-pop, IsTrail-push, IsTrail-pop}
+use Rattle.decisions.proofs.TrailLemmas.{kept_until-above, kept_until-within, top_level-push}
 
 -- what a decision map holds
 abbrev MapItems : Type 0
@@ -144,6 +146,11 @@ module _ (old new : MapItems) (ds : List Decision) (d : Decision)
   pub entries_of-pop : entries_of new ds ≡ take (length (entries_of old (ds ++ d ∷ [])) - 1) (entries_of old (ds ++ d ∷ []))
   entries_of-pop = rw (split, take-push (entries_of old ds) (entry old d)) unchanged
 
+  -- of entries that stay where they aren't above a level, that one doesn't where it is
+  pub kept_until-pop : (l : ℕ) → l < level_in old d.variable
+      → kept_until l (entries_of new ds) ≡ kept_until l (entries_of old (ds ++ d ∷ []))
+  kept_until-pop l above = rw (split, unchanged) (sym (kept_until-above l (entries_of old ds) (entry old d) above))
+
   -- the values without it
   values-pop : (x : ℕ) (b : Bool) → (d.variable == x) ≡ b → values_in new x ≡ val (entries_of old ds) x
   values-pop x true e = rw (sym (eqb-true _ _ e), reset.0) (sym undecided)
@@ -157,6 +164,27 @@ module _ (old new : MapItems) (ds : List Decision) (d : Decision)
     values = λ x. values-pop x (d.variable == x) refl ∙ ap (λ es. val es x) (sym unchanged);
     trail = rw unchanged (IsTrail-pop (entries_of old ds) (entry old d) was_trail);
   }
+
+-- ---- the newest decision stays
+
+-- all decisions do where the newest isn't above the level, which is that of the trail
+pub kept_until-entries_of : (decisions : MapItems) (ds : List Decision) (d : Decision) (l : ℕ)
+    → level_in decisions d.variable ≤ l
+    → (entries_of decisions (ds ++ d ∷ []) ≡ kept_until l (entries_of decisions (ds ++ d ∷ [])))
+    × (top_level (entries_of decisions (ds ++ d ∷ [])) ≤ l)
+kept_until-entries_of decisions ds d l within =
+    let front = entries_of decisions ds in
+    let top = top_level-push front (entry decisions d) in
+    rw (map-append (entry decisions) ds (d ∷ []))
+    (sym (kept_until-within l front (entry decisions d) within), omega (arith, top, within))
+
+-- the first decisions are those before the last of them, and that one
+pub take-last : (ds : List Decision) (count : ℕ) (d : Decision) → 0 < count → count ≤ length ds
+    → take count ds ≡ take (count - 1) ds ++ slice_index_or ds (count - 1) d ∷ []
+take-last ds count d some within =
+    let one_more : count - 1 + 1 ≡ count = omega arith in
+    subst (λ n. take n ds ≡ take (count - 1) ds ++ slice_index_or ds (count - 1) d ∷ []) one_more
+    (take_more ds (count - 1) d (omega arith))
 
 -- what is popped off a list is its last item
 pub popped_is_last : {X : Type 0} (xs rest : List X) (len : ℕ) (popped : Option X) (x : X) → len ≡ length xs

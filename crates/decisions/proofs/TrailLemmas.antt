@@ -1,7 +1,7 @@
 -- What a trail is with an entry added or taken back.
 use Rattle.std.specs.Prelude.{◌≡◌, ◌≢◌, ℕ, ◌<◌, ◌≤◌, ◌-◌, ◌==◌, nat_lt, if◌then◌else◌}
 use Rattle.std.specs.Prelude.{Bool, true, false, refl, List, [], ◌∷◌, ◌++◌, length, take, slice_get, All, Option, Some, None}
-use Rattle.std.proofs.Common.{arith, ap, sym, length-append, get_or, ◌⊎◌, inl, inr}
+use Rattle.std.proofs.Common.{arith, ap, length-append, get_or, ◌⊎◌, inl, inr}
 use Rattle.std.proofs.Math.Bool.{and-true, and-false}
 use Rattle.std.proofs.Math.Seq.{take-append_seam, get_or-append_seam}
 use Rattle.std.proofs.lemmas.List.Elements.{All-push, All-take}
@@ -86,14 +86,14 @@ IsTrail-pop es e trail = record {
 }
 
 -- an entry above the level isn't kept
-kept_until-above : (l : ℕ) (es : List Entry) (e : Entry) → l < e.level → kept_until l (es ++ e ∷ []) ≡ kept_until l es
+pub kept_until-above : (l : ℕ) (es : List Entry) (e : Entry) → l < e.level → kept_until l (es ++ e ∷ []) ≡ kept_until l es
 kept_until-above l [] e above = rw (lt-ltb _ _ above) refl
 kept_until-above l (f ∷ es) e above =
     let all = list_all-append (λ x. nat_lt l x.level) es (e ∷ []) in
     rw (all, lt-ltb _ _ above, and-true, kept_until-above l es e above) refl
 
 -- below an entry that isn't above the level each is kept
-kept_until-within : (l : ℕ) (es : List Entry) (e : Entry) → e.level ≤ l → kept_until l (es ++ e ∷ []) ≡ es ++ e ∷ []
+pub kept_until-within : (l : ℕ) (es : List Entry) (e : Entry) → e.level ≤ l → kept_until l (es ++ e ∷ []) ≡ es ++ e ∷ []
 kept_until-within l [] e within = rw (le-ltb _ _ within) refl
 kept_until-within l (f ∷ es) e within =
     let all = list_all-append (λ x. nat_lt l x.level) es (e ∷ []) in
@@ -105,31 +105,6 @@ newest_or_none [] = inl refl
 newest_or_none (f ∷ es) = elim (newest_or_none es) [
   | inl none ↦ inr ([], f, ap (λ (xs : List Entry). f ∷ xs) none)
   | inr some ↦ inr (f ∷ some.0, some.1, ap (λ (xs : List Entry). f ∷ xs) some.2)
-]
-
--- a trail whose top is above the level keeps what it keeps without the newest entry
-pub undo_step : (l : ℕ) (es : List Entry) → l < top_level es
-    → (kept_until l (take (length es - 1) es) ≡ kept_until l es) × (length (take (length es - 1) es) < length es)
-undo_step l es above = elim (newest_or_none es) [
-  | inl none ↦ absurd (omega (arith, ap top_level none))
-  | inr some ↦
-      let front = some.0 in
-      let e = some.1 in
-      let is : es ≡ front ++ e ∷ [] = some.2 in
-      let top : l < e.level = omega (arith, ap top_level is, top_level-push front e) in
-      rw is (rw (take-push front e) (sym (kept_until-above l front e top), omega (arith, length-append front (e ∷ []))))
-]
-
--- a trail whose top isn't above the level is kept
-pub undo_done : (l : ℕ) (es : List Entry) → top_level es ≤ l → kept_until l es ≡ es
-undo_done l es within = elim (newest_or_none es) [
-  | inl none ↦ rw none refl
-  | inr some ↦
-      let front = some.0 in
-      let e = some.1 in
-      let is : es ≡ front ++ e ∷ [] = some.2 in
-      let top : e.level ≤ l = omega (arith, ap top_level is, top_level-push front e) in
-      rw is (kept_until-within l front e top)
 ]
 
 -- the top of a trail that isn't empty is at least 1

@@ -1,5 +1,6 @@
 //! The values of variables, and the levels at which they got them.
-ghost use Rattle.std.specs.Prelude.{◌≡◌, [], true, false, Some, None, option_map, OnOk, OnErr, IfErr, refl};
+ghost use Rattle.std.specs.Prelude.{◌≡◌, ◌<◌, ◌≤◌, ◌↔◌, [], true, false, Some, None, option_map, IsTrue};
+ghost use Rattle.std.specs.Prelude.{OnOk, OnErr, IfErr, refl};
 ghost use Rattle.std.specs.Option.{option_map_or};
 ghost use Rattle.std.specs.List.{list_all};
 ghost use Rattle.typed_ids.specs.declared.error.StoreError.TheVariants.{OutOfMemory};
@@ -67,6 +68,13 @@ impl DecisionAndLevel {
         }
         (self.0 / 2 - 1) as u32
     }
+
+    /// Whether there is a level, and it is above this one.
+    fn is_above(self, level: u32) -> bool
+        ensures { IsTrue result ↔ (level < option_map_or (λ d. d.1) self 0) }
+    {
+        self.0 >= 2 * (u64::from(level) + 2)
+    }
 }
 
 impl Default for DecisionAndLevel {
@@ -119,6 +127,20 @@ impl<A: Allocator + Copy> DecisionMap<A> {
             let undecided = DecisionAndLevel::undecided();
             IdMap::<VariableId, DecisionAndLevel, A>::put(&mut self.map, variable, undecided);
         }
+    }
+
+    /// Forgets what was decided of the variable at a level above this one. Answers whether something was.
+    pub(crate) fn reset_above(&mut self, variable: VariableId, level: u32) -> bool
+        ensures reset { result ≡ true → (level < level_in self.old variable)
+            × IsUpdate (decision_in self.old) variable None (decision_in self.new) }
+        ensures left { result ≡ false → (level_in self.old variable ≤ level) × (self.new ≡ self.old) }
+    {
+        if !self.decision(variable).is_above(level) {
+            return false;
+        }
+        let undecided = DecisionAndLevel::undecided();
+        IdMap::<VariableId, DecisionAndLevel, A>::put(&mut self.map, variable, undecided);
+        true
     }
 
     /// Gives the variable a value, at a level.

@@ -267,9 +267,29 @@ fn drop_above<A: Allocator + Copy>(
     ensures kept { entries_of map.new stack.new.items ≡ kept_until level (entries_of map.old stack.old.items) }
     ensures within { top_level (entries_of map.new stack.new.items) ≤ level }
 {
-    while top_level(map, stack) > level {
-        drop_newest(map, stack);
+    let kept = reset_above(map, stack, level);
+    stack.truncate(kept);
+}
+
+/// Resets the variables of the newest decisions while these are above this level. Answers how many decisions are left.
+fn reset_above<A: Allocator + Copy>(
+    map: &mut DecisionMap<A>,
+    stack: &[Decision],
+    level: u32,
+) -> usize
+    requires tracked { IsTracked map.old stack.now }
+    ensures tracked { IsTracked map.new (take result stack.now) }
+    ensures kept { entries_of map.new (take result stack.now) ≡ kept_until level (entries_of map.old stack.now) }
+    ensures within { top_level (entries_of map.new (take result stack.now)) ≤ level }
+{
+    let mut left = stack.len();
+    while left > 0 {
+        if !map.reset_above(stack[left - 1].variable, level) {
+            return left;
+        }
+        left -= 1;
     }
+    0
 }
 
 /// Takes the memory that one decision more needs.
