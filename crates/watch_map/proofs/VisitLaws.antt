@@ -1,19 +1,15 @@
 -- What a look at one clause tells.
-use Rattle.std.proofs.Common.{◌≡◌, ℕ, zero, suc, ◌<◌, ◌-◌, Bool, true, false, not, ◌&&◌, ◌||◌, cond, inl, inr, List, []}
-use Rattle.std.proofs.Common.{◌∷◌, length, slice_index_or, get_or, Option, Some, None, refl, sym, ap, subst, ◌∙◌, arith}
+use Rattle.std.proofs.Common.{◌≡◌, ℕ, zero, suc, ◌<◌, ◌-◌, Bool, true, false, not, ◌&&◌, ◌||◌, inl, inr, List, []}
+use Rattle.std.proofs.Common.{◌∷◌, length, slice_index_or, get_or, Some, None, refl, sym, subst, ◌∙◌, arith}
 use Rattle.std.specs.Prelude.{find, slice_get}
 use Rattle.std.proofs.lemmas.Bool.{true≢false, and_parts, or_left, or_right, not-true, not-false, false_from_ne_true}
 use Rattle.std.proofs.lemmas.Option.{slice_get_read}
-use Rattle.decisions.specs.Literals.{Lit, Pos, Neg, Values, truth, is_false_literal}
-use Rattle.clauses.specs.declared.clause.Clause.{Clause}
-use Rattle.clauses.specs.declared.clause.Clause.TheVariants.{InstallRoot, Requires, ForbidMultipleInstances}
-use Rattle.clauses.specs.declared.clause.Clause.TheVariants.{Constrains, ConstrainsExcluded}
-use Rattle.clauses.specs.declared.clause.Clause.TheVariants.{ConstrainsParent, Lock, Learnt, Excluded, AnyOf}
-use Rattle.clauses.specs.Clauses.{Kept, literals_of, is_binary, same_literal, is_other_watch, next_unwatched}
+use Rattle.decisions.specs.Literals.{Lit, Values, truth, is_false_literal}
+use Rattle.clauses.specs.Clauses.{same_literal}
 use Rattle.watch_map.specs.Watching.{is_literal_in, AreTwoOrNone}
 use Rattle.watch_map.specs.Forcing.{is_false, forces, IsSettled}
 use Rattle.watch_map.specs.WatchInvariant.{is_true_literal, has_true_beside}
-use Rattle.watch_map.specs.Visits.{IsWatching, MayWatch, ForcesOther}
+use Rattle.watch_map.specs.Visits.{is_left, IsWatching, MayWatch, ForcesOther}
 use Rattle.watch_map.proofs.WatchingLaws.{same_is, same_self, same_swap}
 use Rattle.watch_map.proofs.LiteralLists.{by_test, all_at, all_from, found_is, none_found, in_two, apart}
 use Rattle.watch_map.proofs.ValueLaws.{open_if, true_is_decided}
@@ -27,35 +23,32 @@ not_and false b h n = not-false b h
 
 -- ---- the two watches of a clause
 
--- the watch beside the one at an index
-pub record Pair (ws : List Lit) (index : ℕ) (l other : Lit) : Type 0 where
+-- two different watches, and no more
+pub record Pair (ws : List Lit) (l other : Lit) : Type 0 where
   pub here : is_literal_in l ws ≡ true
   pub there : is_literal_in other ws ≡ true
   pub differs : same_literal other l ≡ false
-  pub tells : (m : Lit) → is_other_watch ws index m ≡ same_literal m other
   pub absent : (m : Lit) → same_literal m l ≡ false → same_literal m other ≡ false → is_literal_in m ws ≡ false
 
 pub pair_at : (ws : List Lit) (index : ℕ) (l other : Lit) → AreTwoOrNone ws → index < length ws
-    → slice_index_or ws index l ≡ l → slice_get ws (1 - index) ≡ Some other → Pair ws index l other
+    → slice_index_or ws index l ≡ l → slice_get ws (1 - index) ≡ Some other → Pair ws l other
 pair_at [] index l other two within read at = absurd (omega (arith, within))
 pair_at (a ∷ []) index l other two within read at = absurd two
 pair_at (a ∷ b ∷ c ∷ ws) index l other two within read at = absurd two
 pair_at (a ∷ b ∷ []) zero l other two within read at =
     let o : b ≡ other = cc in
-    subst (λ y. Pair (a ∷ b ∷ []) 0 l y) o (subst (λ x. Pair (a ∷ b ∷ []) 0 x b) read (record {
+    subst (λ y. Pair (a ∷ b ∷ []) l y) o (subst (λ x. Pair (a ∷ b ∷ []) x b) read (record {
       here = or_left (same_literal a a) (same_literal a b || false) (same_self a);
       there = or_right (same_literal b a) (same_literal b b || false) (or_left (same_literal b b) false (same_self b));
       differs = same_swap b a ∙ two;
-      tells = λ m. refl;
       absent = λ m na nb. rw (na, nb) refl;
     }))
 pair_at (a ∷ b ∷ []) (suc zero) l other two within read at =
     let o : a ≡ other = cc in
-    subst (λ y. Pair (a ∷ b ∷ []) 1 l y) o (subst (λ x. Pair (a ∷ b ∷ []) 1 x a) read (record {
+    subst (λ y. Pair (a ∷ b ∷ []) l y) o (subst (λ x. Pair (a ∷ b ∷ []) x a) read (record {
       here = or_right (same_literal b a) (same_literal b b || false) (or_left (same_literal b b) false (same_self b));
       there = or_left (same_literal a a) (same_literal a b || false) (same_self a);
       differs = two;
-      tells = λ m. refl;
       absent = λ m nb na. rw (na, nb) refl;
     }))
 pair_at (a ∷ b ∷ []) (suc (suc index)) l other two within read at = absurd (omega (arith, within))
@@ -63,38 +56,14 @@ pair_at (a ∷ b ∷ []) (suc (suc index)) l other two within read at = absurd (
 -- the same by what was read of a record: its watches `ws`, and the other of them
 pub pair_read : (literals watched ws : List Lit) (index i : ℕ) (l other : Lit) → watched ≡ ws → i ≡ index
     → IsWatching literals watched → index < length watched → slice_index_or watched index l ≡ l
-    → 2 ≡ length ws → other ≡ get_or ws (1 - i) other → Pair watched index l other
+    → 2 ≡ length ws → other ≡ get_or ws (1 - i) other → Pair watched l other
 pair_read literals watched ws index i l other e_ws e_i watching within read two is =
     let at : slice_get ws (1 - i) ≡ Some other = slice_get_read ws 2 (1 - i) other two (omega arith) is in
     pair_at watched index l other watching.two within read
     (subst (λ j. slice_get watched (1 - j) ≡ Some other) e_i
     (subst (λ xs. slice_get xs (1 - i) ≡ Some other) (sym e_ws) at))
 
--- what was answered of a record's watches, of those that the clause watches
-pub next_read : {N : Type 0} (k : Kept) (now : Values) (c : Clause N) (watched ws : List Lit)
-    (index i : ℕ) (o : Option Lit)
-    → watched ≡ ws → i ≡ index → o ≡ next_unwatched k now c ws i → next_unwatched k now c watched index ≡ o
-next_read k now c watched ws index i o e_ws e_i is =
-    sym (is ∙ ap (λ xs. next_unwatched k now c xs i) (sym e_ws) ∙ ap (next_unwatched k now c watched) e_i)
-
--- ---- the literals of a binary clause
-
-pub record AreBinary (ls : List Lit) : Type 0 where
-  pub first : Lit
-  pub second : Lit
-  pub both : ls ≡ first ∷ second ∷ []
-
-pub binary_two : {N : Type 0} (k : Kept) (c : Clause N) → is_binary c ≡ true → AreBinary (literals_of k c)
-binary_two k InstallRoot h = absurd (let z : false ≡ true = h in cc)
-binary_two k (Requires parent d r) h = absurd (let z : false ≡ true = h in cc)
-binary_two k (ForbidMultipleInstances a l n) h = record { first = Neg a; second = l; both = refl }
-binary_two k (Constrains a b v) h = record { first = Neg a; second = Neg b; both = refl }
-binary_two k (ConstrainsExcluded a aux v) h = record { first = Neg a; second = Pos aux; both = refl }
-binary_two k (ConstrainsParent a aux v) h = record { first = Neg a; second = Neg aux; both = refl }
-binary_two k (Lock locked other) h = record { first = Neg other; second = Neg 0; both = refl }
-binary_two k (Learnt id) h = absurd (let z : false ≡ true = h in cc)
-binary_two k (Excluded a reason) h = absurd (let z : false ≡ true = h in cc)
-binary_two k (AnyOf selected other) h = record { first = Pos selected; second = Neg other; both = refl }
+-- ---- a clause of two literals
 
 -- one of two that isn't the other is the one
 of_two : (x y l other m : Lit) → is_literal_in l (x ∷ y ∷ []) ≡ true → is_literal_in other (x ∷ y ∷ []) ≡ true
@@ -111,52 +80,64 @@ of_two x y l other m hl ho hm ne mo =
       ]
     ]
 
+-- where a clause of two literals watches these, none is left
+pub none_left : (now : Values) (ls : List Lit) (l other : Lit) → length ls ≡ 2 → IsWatching ls (l ∷ other ∷ [])
+    → find (is_left now l other) ls ≡ None
+none_left now [] l other two watching = absurd (omega (arith, two))
+none_left now (x ∷ []) l other two watching = absurd (omega (arith, two))
+none_left now (x ∷ y ∷ z ∷ ls) l other two watching = absurd (omega (arith, two))
+none_left now (x ∷ y ∷ []) l other two watching =
+    let hl = watching.own l (or_left (same_literal l l) (same_literal l other || false) (same_self l)) in
+    let ho = watching.own other
+    (or_right (same_literal other l) (same_literal other other || false)
+    (or_left (same_literal other other) false (same_self other))) in
+    let differs : same_literal other l ≡ false = same_swap other l ∙ watching.two in
+    let fails : (m : Lit) → is_literal_in m (x ∷ y ∷ []) ≡ true → is_left now l other m ≡ false =
+    λ m there. by_test (is_left now l other m ≡ false) (same_literal m other)
+    (λ s. rw s refl)
+    (λ s. rw (s, subst (λ a. same_literal a l ≡ true) (sym (of_two x y l other m hl ho there differs s)) (same_self l)) refl) in
+    let first = fails x (or_left (same_literal x x) (same_literal x y || false) (same_self x)) in
+    let second = fails y
+    (or_right (same_literal y x) (same_literal y y || false) (or_left (same_literal y y) false (same_self y))) in
+    rw (first, second) refl
+
 -- ---- a look at a clause of which the watch `l` is false
 
-module _ {N : Type 0} (k : Kept) (now : Values) (c : Clause N) (ws : List Lit) (index : ℕ) (l other : Lit)
-    (pair : Pair ws index l other) (watching : IsWatching (literals_of k c) ws)
-    (l_false : is_false_literal now l ≡ true) where
-  -- what may be watched: neither the other watch nor false
-  test : Lit → Bool
-  test m = not (is_other_watch ws index m) && not (is_false_literal now m)
+module _ (now : Values) (ls ws : List Lit) (l other : Lit) (pair : Pair ws l other)
+    (watching : IsWatching ls ws) (l_false : is_false_literal now l ≡ true) where
+  -- the two are watched
+  pub look_watching : IsWatching ls (l ∷ other ∷ [])
+  look_watching = record {
+    two = same_swap l other ∙ pair.differs;
+    own = λ m there. elim (in_two l other m there) [
+      | inl e ↦ subst (λ x. is_literal_in x ls ≡ true) (sym e) (watching.own l pair.here)
+      | inr e ↦ subst (λ x. is_literal_in x ls ≡ true) (sym e) (watching.own other pair.there)
+    ];
+  }
 
-  pub look_moves : (m : Lit) → next_unwatched k now c ws index ≡ Some m → MayWatch now (literals_of k c) ws m
-  unfolding test
-  look_moves m h = by_test (MayWatch now (literals_of k c) ws m) (is_binary c)
-      (λ b. absurd (let z : None ≡ Some m = subst (λ t. cond t None (find test (literals_of k c)) ≡ Some m) b h in cc))
-      (λ b.
-      let found = found_is test (literals_of k c) m (subst
-      (λ t. cond t None (find test (literals_of k c)) ≡ Some m) b h) in
-      let both = and_parts (not (is_other_watch ws index m)) (not (is_false_literal now m)) found.1 in
-      let isnt_other : same_literal m other ≡ false = sym (pair.tells m)
-      ∙ not-true (is_other_watch ws index m) both.0 in
-      let isnt_false : is_false_literal now m ≡ false = not-true (is_false_literal now m) both.1 in
-      let isnt_l : same_literal m l ≡ false = false_from_ne_true (same_literal m l)
-      (λ s. true≢false
-      (sym (subst (λ x. is_false_literal now x ≡ true) (sym (same_is m l s)) l_false) ∙ isnt_false)) in
-      record { own = found.0; unwatched = pair.absent m isnt_l isnt_other; not_false = isnt_false })
+  pub look_moves : (m : Lit) → find (is_left now l other) ls ≡ Some m → MayWatch now ls ws m
+  look_moves m h =
+      let found = found_is (is_left now l other) ls m h in
+      let both = and_parts (not (same_literal m other) && not (same_literal m l)) (not (is_false_literal now m)) found.1 in
+      let unlike = and_parts (not (same_literal m other)) (not (same_literal m l)) both.0 in
+      record {
+        own = found.0;
+        unwatched = pair.absent m (not-true (same_literal m l) unlike.1) (not-true (same_literal m other) unlike.0);
+        not_false = not-true (is_false_literal now m) both.1;
+      }
 
-  -- where nothing may be watched, all but the other watch is false: of two literals there is only `l`
-  look_others : next_unwatched k now c ws index ≡ None → (m : Lit) → is_literal_in m (literals_of k c) ≡ true
+  -- where none is left, all but the other watch is false
+  look_others : find (is_left now l other) ls ≡ None → (m : Lit) → is_literal_in m ls ≡ true
       → same_literal m other ≡ false → is_false_literal now m ≡ true
-  unfolding test
-  look_others h m there s = by_test (is_false_literal now m ≡ true) (is_binary c)
-      (λ b.
-      let two = binary_two k c b in
-      let among : (x : Lit) → is_literal_in x (literals_of k c) ≡ true
-      → is_literal_in x (two.first ∷ two.second ∷ []) ≡ true =
-      λ x q. subst (λ ls. is_literal_in x ls ≡ true) two.both q in
-      let it : m ≡ l = of_two two.first two.second l other m (among l (watching.own l pair.here))
-      (among other (watching.own other pair.there)) (among m there) pair.differs s in
-      subst (λ x. is_false_literal now x ≡ true) (sym it) l_false)
-      (λ b. not_and (is_other_watch ws index m) (is_false_literal now m)
-      (none_found test (literals_of k c) (subst (λ t. cond t None (find test (literals_of k c)) ≡ None) b h) m there)
-      (pair.tells m ∙ s))
+  look_others h m there s = by_test (is_false_literal now m ≡ true) (same_literal m l)
+      (λ e. subst (λ x. is_false_literal now x ≡ true) (sym (same_is m l e)) l_false)
+      (λ e. not_and (same_literal m l) (is_false_literal now m)
+      (rw s at (none_found (is_left now l other) ls h m there)) e)
 
-  pub look_forces : next_unwatched k now c ws index ≡ None → is_true_literal now other ≡ false
-      → is_false_literal now other ≡ false → ForcesOther now (literals_of k c) ws l other
+  pub look_forces : find (is_left now l other) ls ≡ None → is_true_literal now other ≡ false
+      → is_false_literal now other ≡ false → ForcesOther now ls ws l other
   look_forces h t f = record {
-    forced = forces_from now (literals_of k c) other (record {
+    forced = forces_from now ls other (record {
       own = watching.own other pair.there;
       is_open = open_if (truth now other) t f;
       others = look_others h;
@@ -165,15 +146,15 @@ module _ {N : Type 0} (k : Kept) (now : Values) (c : Clause N) (ws : List Lit) (
     other = pair.differs;
   }
 
-  pub look_conflicts : next_unwatched k now c ws index ≡ None → is_false_literal now other ≡ true
-      → is_false now (literals_of k c) ≡ true
-  look_conflicts h f = all_from (is_false_literal now) (literals_of k c)
+  pub look_conflicts : find (is_left now l other) ls ≡ None → is_false_literal now other ≡ true
+      → is_false now ls ≡ true
+  look_conflicts h f = all_from (is_false_literal now) ls
       (λ m there. by_test (is_false_literal now m ≡ true) (same_literal m other)
       (λ s. subst (λ x. is_false_literal now x ≡ true) (sym (same_is m other s)) f) (look_others h m there))
 
-pub look_met : (now : Values) (ws : List Lit) (index : ℕ) (l other : Lit) → Pair ws index l other
+pub look_met : (now : Values) (ws : List Lit) (l other : Lit) → Pair ws l other
     → is_true_literal now other ≡ true → has_true_beside now ws l ≡ true
-look_met now ws index l other pair t =
+look_met now ws l other pair t =
     beside_from now ws l (record { literal = other; within = pair.there; differs = pair.differs; is_true = t })
 
 -- ---- a look at all literals

@@ -1,5 +1,5 @@
 -- What a look at a clause tells, and what a visit leaves.
-use Rattle.std.specs.Prelude.{◌≡◌, ℕ, ◌<◌, true, false, List, [], All}
+use Rattle.std.specs.Prelude.{◌≡◌, ℕ, ◌<◌, Bool, true, false, not, ◌&&◌, List, [], All}
 use Rattle.decisions.specs.Literals.{Lit, Values, is_false_literal}
 use Rattle.clauses.specs.Clauses.{same_literal}
 use Rattle.clauses.specs.Stored.{kept_in}
@@ -25,6 +25,10 @@ literals_at g = literals_from (kept_in g.learnt.now g.lists.now g.disjunctions.n
 pub record IsWatching (literals watched : List Lit) : Type 0 where
   pub two : AreTwoOrNone watched
   pub own : AreOwn literals watched
+
+-- whether a clause that watches two literals may watch this one too: it is neither of them, and not false
+abbrev pub is_left : Values → Lit → Lit → Lit → Bool
+is_left now a b l = not (same_literal l b) && not (same_literal l a) && not (is_false_literal now l)
 
 -- the clause may watch this literal: it is one of its own, unwatched, and not false
 pub record MayWatch (now : Values) (literals watched : List Lit) (l : Lit) : Type 0 where

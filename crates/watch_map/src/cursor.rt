@@ -183,9 +183,29 @@ fn move_clause<A: Allocator + Copy>(
 
 /// The same for a walk that is at this place, and goes on by itself. Takes memory where the other literal's list has no
 /// room.
+// The copy is made here: as a variable of the walk it would be cleared for each literal that is walked.
+pub(crate) fn move_watch<A: Allocator + Copy>(
+    map: &mut WatchMap<A>,
+    watches: &mut [Option<WatchedLiterals>],
+    place: &Place,
+    new_watch: Literal,
+) -> Result<(), StoreError>
+    requires stands { StandsIn place.now map.old watches.old }
+    requires other { is_literal_in new_watch (watched_by watches.old (clause_of place.now)) ≡ false }
+    ensures lists { OnOk result (Moves place.now new_watch map.old watches.old map.new watches.new) }
+    ensures reached { OnOk result (IsReached (literal_of place.now) place.now.previous
+        (next_at (record_of watches.old (clause_of place.now)) (index_of place.now)) map.new watches.new
+        (passed place.now map.old watches.old) (rest place.now map.old watches.old)) }
+    ensures err_lists { OnErr result (SameLists map.old map.new × (watches.new ≡ watches.old)) }
+    ensures memory { IfErr result (λ e. e ≡ OutOfMemory) }
+{
+    move_from(map, watches, *place, new_watch)
+}
+
+/// What [`move_watch`] does.
 // Most clauses that a walk visits stay. Out of line, a move takes no registers from what is done with those.
 #[inline(never)]
-pub(crate) fn move_watch<A: Allocator + Copy>(
+fn move_from<A: Allocator + Copy>(
     map: &mut WatchMap<A>,
     watches: &mut [Option<WatchedLiterals>],
     place: Place,

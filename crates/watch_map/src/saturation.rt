@@ -49,11 +49,12 @@
 //!
 //! # Time and memory
 //!
-//! The list of each entry behind the mark is walked once. A visit is constant time where the other watch is true, else
-//! it reads the clause's literals up to one that may be watched. A round passes once over the clauses behind the mark's
-//! bound that watch nothing, which are given as a list. Memory is taken for an entry, for the list of a literal that
-//! nothing ever watched, and for a mark. The mark is left out where that is refused. Where one of the others is, what
-//! was forced so far stays, and the lists are exact: asked again it goes on from the same mark.
+//! The list of each entry behind the mark is walked once. A visit is constant time where the other watch is true, and
+//! of a binary or learnt clause of two literals; else it reads the clause's literals up to one that may be watched. A
+//! round passes once over the clauses behind the mark's bound that watch nothing, which are given as a list. Memory is
+//! taken for an entry, for the list of a literal that nothing ever watched, and for a mark. The mark is left out where
+//! that is refused. Where one of the others is, what was forced so far stays, and the lists are exact: asked again it
+//! goes on from the same mark.
 ghost use Rattle.std.specs.Prelude.{◌≡◌, length, MatchOption, IfOk, IfErr};
 ghost use Rattle.typed_ids.specs.declared.error.StoreError.TheVariants.{OutOfMemory};
 ghost use Rattle.decisions.specs.Trail.{val};

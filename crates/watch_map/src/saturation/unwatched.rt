@@ -45,8 +45,8 @@ pub(crate) fn count_before<N: Copy, A: Allocator + Copy>(given: &Given<N, A>, bo
     0
 }
 
-/// Visits each clause that watches nothing, from a place in their list on: those before it are true. Answers one that is
-/// false, if it meets one; else all are settled where no entry was added.
+/// Visits each clause that watches nothing, from a place in their list on: those before it are true. Answers one that
+/// is false, if it meets one; else all are settled where no entry was added.
 pub(crate) fn visit_all_unwatched<N: Copy, A: Allocator + Copy>(
     given: &Given<N, A>,
     trail: &mut DecisionTracker<A>,

@@ -1,21 +1,24 @@
 //! One clause of which a watch is false.
-ghost use Rattle.std.specs.Prelude.{◌≡◌, ◌<◌, ◌≤◌, ◌^◌, true, length, OnOk, OnErr, IfOk, IfErr};
+ghost use Rattle.std.specs.Prelude.{◌≡◌, ◌<◌, ◌≤◌, ◌^◌, true, [], ◌∷◌, length, find, OnOk, OnErr, IfOk, IfErr};
 ghost use Rattle.typed_ids.specs.declared.error.StoreError.TheVariants.{OutOfMemory};
 ghost use Rattle.decisions.specs.Decisions.{values_in};
 ghost use Rattle.decisions.specs.Literals.{is_false_literal};
 ghost use Rattle.decisions.specs.Trail.{val};
+ghost use Rattle.clauses.specs.Clauses.{literals_of};
+ghost use Rattle.clauses.specs.Stored.{kept_in};
 ghost use Rattle.watch_map.specs.WatchLists.{watched_by, clause_of, literal_of, IsNode};
 ghost use Rattle.watch_map.specs.Forcing.{forces};
 ghost use Rattle.watch_map.specs.Saturation.{HasForced};
 ghost use Rattle.watch_map.specs.WatchInvariant.{is_true_literal};
-ghost use Rattle.watch_map.specs.Visits.{literals_at, IsWatching, IsLook, IsVisit};
+ghost use Rattle.watch_map.specs.Visits.{literals_at, is_left, IsWatching, IsLook, IsVisit};
 
 use crate::nodes::{Place, record_at};
 use crate::saturation::given::{Given, clause_at};
 use crate::watched_literals::WatchedLiterals;
+use clauses::Clause;
 use decisions::{Decision, DecisionMap, DecisionTracker, Literal};
 use std::alloc::Allocator;
-use typed_ids::{ClauseId, StoreError};
+use typed_ids::{ClauseId, DenseIndex, StoreError};
 
 /// What a look at a clause of which a watch is false tells.
 pub(crate) enum Sight {
@@ -88,18 +91,47 @@ fn look<N: Copy, A: Allocator + Copy>(
     let Some(clause) = clause_at(given, at.current.clause_id) else {
         unreachable!();
     };
-    let next = watched.next_unwatched_literal(
-        &clause,
-        given.learnt,
-        given.lists,
-        given.disjunctions,
-        map,
-        index,
-    );
+    let next = find_beside(given, &clause, map, at.literal, other);
     match next {
         Some(next) => Sight::Moves(next),
         None if value.is_some() => Sight::Conflict,
         None => Sight::Forces(other),
+    }
+}
+
+/// The first of the clause's literals that is neither of its two watches and isn't false. One of two literals has none.
+fn find_beside<N: Copy, A: Allocator + Copy>(
+    given: &Given<N, A>,
+    clause: &Clause<N>,
+    map: &DecisionMap<A>,
+    falsified: Literal,
+    other: Literal,
+) -> Option<Literal>
+    requires { IsWatching
+        (literals_of (kept_in given.now.learnt.now given.now.lists.now given.now.disjunctions.now) clause.now)
+        (falsified ∷ other ∷ []) }
+    ensures { result ≡ find (is_left (values_in map.now) falsified other)
+        (literals_of (kept_in given.now.learnt.now given.now.lists.now given.now.disjunctions.now) clause.now) }
+{
+    if has_two_literals(given, clause) {
+        return None;
+    }
+    clause.find_literal(
+        given.learnt,
+        given.lists,
+        given.disjunctions,
+        |literal| literal != other && literal != falsified && !is_false(map, literal),
+    )
+}
+
+/// Whether the clause is of a kind that has two literals, or a learnt one that has.
+fn has_two_literals<N: Copy, A: Allocator + Copy>(given: &Given<N, A>, clause: &Clause<N>) -> bool
+    ensures { result ≡ true → length (literals_of
+        (kept_in given.now.learnt.now given.now.lists.now given.now.disjunctions.now) clause.now) ≡ 2 }
+{
+    match clause {
+        Clause::Learnt(id) => id.to_index() < given.learnt.len() && given.learnt[*id].len() == 2,
+        _ => clause.is_binary(),
     }
 }
 

@@ -55,7 +55,7 @@ pub(crate) fn walk<N: Copy, A: Allocator + Copy>(
                 previous = Some(place.current);
             }
             Upshot::Moves(other) => {
-                move_watch(map, watches, place, other)?;
+                move_watch(map, watches, &place, other)?;
                 previous = place.previous;
             }
             Upshot::Conflict => return Ok(Some(clause_id)),
