@@ -28,7 +28,7 @@ pub use Rattle.resolvo_queue.specs.Pick.{beats, best_offer, better, decided, Dec
 pub use Rattle.resolvo_queue.specs.Pick.{IsUnbeaten, Offer, offer, pick}
 pub use Rattle.resolvo_queue.specs.Pick.Grounds.{AskedOn, CanBeAsked, Grounds, grounds, ImprovedBy, offers_on}
 pub use Rattle.resolvo_queue.specs.Pick.Grounds.{OnlyWalks, score_by}
-pub use Rattle.resolvo_queue.specs.Pick.Groups.{Group, group_at, has_of, is_in, IsNextOf, offers_of, only_in}
+pub use Rattle.resolvo_queue.specs.Pick.Groups.{Group, has_of, is_in, IsNextOf, offers_of, only_in}
 pub use Rattle.resolvo_queue.specs.Pick.Inspection.{clause_of, eligible_frontier, Learns, ListsOnly, may_be, offer_of}
 pub use Rattle.resolvo_queue.specs.Pick.Inspection.{offer_with}
 pub use Rattle.resolvo_queue.specs.Pick.Questions.{AreAskable, AreUpTo, clause_literals, IsAskable}

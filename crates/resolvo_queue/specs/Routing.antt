@@ -30,7 +30,8 @@ abbrev pub Unrouted : (ℕ → List Requirement) → List ℕ → List Record �
 Unrouted listing variables old now = (k : ℕ) (t : Record) → slice_get old k ≡ Some t →
     ((v : ℕ) → Stands v variables → Stands t.requirement (listing v) → ⊥) → slice_get now k ≡ Some t
 
--- what variables are routed by: the clauses and who finds them, the requirements with a variable in a row, and values
+-- what variables are routed by: the clauses that may be woken, who finds clauses, the requirements with a variable in a
+-- row, and values
 pub record Ways : Type 0 where
   pub clauses : List TrackedClause
   pub by_parent : List (List ℕ)
@@ -38,9 +39,9 @@ pub record Ways : Type 0 where
   pub requirements : ℕ → List Requirement
   pub val : Values
 
-abbrev pub ways_of : {A : Type 0} → ClauseIndex A → Listed → Values → Ways
-ways_of index occurrences val = record {
-  clauses = index.clauses.items;
+abbrev pub ways_of : {A : Type 0} → List TrackedClause → ClauseIndex A → Listed → Values → Ways
+ways_of clauses index occurrences val = record {
+  clauses = clauses;
   by_parent = index.by_parent;
   by_condition = index.by_condition;
   requirements = listing occurrences;
@@ -48,7 +49,7 @@ ways_of index occurrences val = record {
 }
 
 abbrev pub ways : {A : Type 0} → Routing A → Ways
-ways r = ways_of r.index.now r.occurrences.now (values_in r.map.now)
+ways r = ways_of r.clauses.now r.index.now r.occurrences.now (values_in r.map.now)
 
 module _ (w : Ways) where
   -- the clauses of a requirement that was known to have no frontier, and isn't any more, are queued

@@ -243,7 +243,7 @@ impl<D: DependencyProvider> DecideQueue<D> {
             self.old.must_start_anew ≡ false → OwesMoreAmong D.SolvableId D.Alloc changed self.old self.new }
     {
         let floor = floor.min(trail.len()).min(self.tracked.trail.len());
-        self.tracked.sync(floor, trail, map)
+        self.tracked.sync(self.woken, floor, trail, map)
     }
 
     /// The decision to take where no clause is falsified, which [`DecideQueue::falsified`] tells: that of an eligible

@@ -1,11 +1,11 @@
 //! The decision along what is queued. First the root's clauses are gone through, which are decided before anything that
 //! follows from them; only where none of them is eligible, all that is queued, which the root's have left by then. Each
 //! time the first eligible clause is the best at first, and behind it what may be better is looked at.
-ghost use Rattle.std.specs.Prelude.{◌≡◌, ◌<◌, Some, None, true, false, length, slice_get};
+ghost use Rattle.std.specs.Prelude.{◌≡◌, ◌<◌, Some, None, true, false, filter, length, slice_get};
 ghost use Rattle.std.specs.Prelude.{IfSome, MatchOption, OnOk, IfOk, IfErr};
 ghost use Rattle.typed_ids.specs.declared.error.StoreError.TheVariants.{OutOfMemory};
-ghost use Rattle.resolvo_queue.specs.Pick.{best_offer, pick};
-ghost use Rattle.resolvo_queue.specs.Pick.Grounds.{AskedOn, BeginsPick, BeginsRoots, BestFrom, ColdOn, EligibleAt};
+ghost use Rattle.resolvo_queue.specs.Pick.{best_offer, is_of_root, pick};
+ghost use Rattle.resolvo_queue.specs.Pick.Grounds.{AskedOn, BeginsPick, BestFrom, ColdOn, EligibleAt};
 ghost use Rattle.resolvo_queue.specs.Pick.Grounds.{ImprovedBy, grounds, offers_on, score_by};
 ghost use Rattle.resolvo_queue.specs.Pick.Groups.{IsNextOf, has_of, is_in, offers_of};
 ghost use Rattle.resolvo_queue.specs.Pick.Inspection.{offer_with};
@@ -30,6 +30,7 @@ use std::alloc::Allocator;
 use typed_ids::{StoreError, VariableId, VersionSetId};
 
 /// Where the clause at a position is eligible. One that isn't leaves the queue.
+#[inline(always)]
 fn inspect_at<I: Interner>(
     tracked: &mut TrackedClauses<I::Alloc>,
     position: Position,
@@ -219,27 +220,30 @@ fn best_from<I: Interner>(
     Ok(Some(best.offer))
 }
 
-/// The first eligible clause of the root, wherever among the parents the root was registered.
-fn first_of_root<I: Interner>(
+/// The best offer of a group's eligible clauses.
+fn best_of<I: Interner>(
     tracked: &mut TrackedClauses<I::Alloc>,
+    group: Group,
     reader: &mut RowReader<'_, I::Alloc>,
     question: &Question<'_, I>,
-) -> Result<Option<Candidate>, StoreError>
+) -> Result<Option<Offer>, StoreError>
     requires asked { AskedOn (grounds I.universe I.NameId.Scores.value_at question.now reader.old) tracked.old }
-    ensures picked { let on = grounds I.universe I.NameId.Scores.value_at question.now reader.old in
-        IfOk result (BeginsRoots tracked.old.index.clauses.items (offers_on on)) }
+    requires cold { ColdOn (grounds I.universe I.NameId.Scores.value_at question.now reader.old) tracked.old }
+    requires largest { AreUpTo question.now.largest (score_by I.universe I.NameId.Scores.value_at question.now) }
+    ensures best { let on = grounds I.universe I.NameId.Scores.value_at question.now reader.old in
+        IfOk result (λ o. o ≡ best_offer (offered tracked.old.index.clauses.items (offers_of group (offers_on on)))) }
     ensures asked { AskedOn (grounds I.universe I.NameId.Scores.value_at question.now reader.old) tracked.new }
     ensures walks { OnlyWalks tracked.old tracked.new reader.old reader.new }
     ensures memory { IfErr result (λ e. e ≡ OutOfMemory) }
 {
-    match tracked.index.group_of(VariableId::root()) {
-        Some(of_root) => first_eligible(tracked, of_root, reader, question),
+    match first_eligible(tracked, group, reader, question)? {
+        Some(first) => best_from(tracked, group, first, reader, question),
         None => Ok(None),
     }
 }
 
-/// The best offer of all eligible clauses.
-fn best_of_all<I: Interner>(
+/// The best offer of the root's eligible clauses, wherever among the parents the root was registered.
+fn best_of_root<I: Interner>(
     tracked: &mut TrackedClauses<I::Alloc>,
     reader: &mut RowReader<'_, I::Alloc>,
     question: &Question<'_, I>,
@@ -248,13 +252,13 @@ fn best_of_all<I: Interner>(
     requires cold { ColdOn (grounds I.universe I.NameId.Scores.value_at question.now reader.old) tracked.old }
     requires largest { AreUpTo question.now.largest (score_by I.universe I.NameId.Scores.value_at question.now) }
     ensures best { let on = grounds I.universe I.NameId.Scores.value_at question.now reader.old in
-        IfOk result (λ o. o ≡ best_offer (offered tracked.old.index.clauses.items (offers_on on))) }
+        IfOk result (λ o. o ≡ best_offer (filter is_of_root (offered tracked.old.index.clauses.items (offers_on on)))) }
     ensures asked { AskedOn (grounds I.universe I.NameId.Scores.value_at question.now reader.old) tracked.new }
     ensures walks { OnlyWalks tracked.old tracked.new reader.old reader.new }
     ensures memory { IfErr result (λ e. e ≡ OutOfMemory) }
 {
-    match first_eligible(tracked, Group::OfAllParents, reader, question)? {
-        Some(first) => best_from(tracked, Group::OfAllParents, first, reader, question),
+    match tracked.index.group_of(VariableId::root()) {
+        Some(of_root) => best_of(tracked, of_root, reader, question),
         None => Ok(None),
     }
 }
@@ -274,9 +278,9 @@ pub(crate) fn next_offer<I: Interner>(
     ensures walks { OnlyWalks tracked.old tracked.new reader.old reader.new }
     ensures memory { IfErr result (λ e. e ≡ OutOfMemory) }
 {
-    match first_of_root(tracked, reader, question)? {
-        Some(first) => best_from(tracked, Group::at(first.position), first, reader, question),
-        None => best_of_all(tracked, reader, question),
+    match best_of_root(tracked, reader, question)? {
+        Some(offer) => Ok(Some(offer)),
+        None => best_of(tracked, Group::OfAllParents, reader, question),
     }
 }
 

@@ -12,14 +12,7 @@ pub(crate) enum Group {
 }
 
 impl Group {
-    ghost use Rattle.resolvo_queue.specs.Pick.Groups.{group_at, is_in, only_in, start_of};
-
-    /// The clauses of the parent whose clause is at the position.
-    pub(crate) fn at(position: Position) -> Self
-        ensures { result ≡ group_at position }
-    {
-        Group::OfParent(position.first_of_parent)
-    }
+    ghost use Rattle.resolvo_queue.specs.Pick.Groups.{is_in, only_in, start_of};
 
     /// None of its positions is before this one.
     pub(crate) fn start(self) -> Position

@@ -1,4 +1,5 @@
-//! Looking at a clause: whether it is eligible, and where.
+//! Looking at a clause: whether it is eligible, and where. What looks is inlined where a clause is gone through; what
+//! reads rows isn't, since of most clauses a walk is known.
 ghost use Rattle.std.specs.Prelude.{◌≡◌, ◌<◌, Some, true, length, is_some, IsSome, IfSome, OnOk, IfOk, IfErr};
 ghost use Rattle.resolvo_queue.specs.Types.{lookup, OutOfMemory, same_requirement};
 ghost use Rattle.resolvo_queue.specs.Rows.{candidates};
@@ -22,6 +23,7 @@ use std::alloc::Allocator;
 use typed_ids::StoreError;
 
 /// Lists a requirement, unless it is listed. This is the one place where rows are read for that.
+#[inline(never)]
 pub(crate) fn list_once<A: Allocator + Copy>(
     occurrences: &mut Occurrences<A>,
     reader: &RowReader<'_, A>,
@@ -43,6 +45,7 @@ pub(crate) fn list_once<A: Allocator + Copy>(
 
 /// The frontier of a clause's requirement, which is walked only if nothing is known of its rows. This is the one place
 /// where rows are walked.
+#[inline(always)]
 fn requirement_frontier<I: Interner>(
     requirements: &mut Requirements<I::Alloc>,
     occurrences: &mut Occurrences<I::Alloc>,
@@ -79,6 +82,7 @@ fn requirement_frontier<I: Interner>(
 }
 
 /// Where a clause is eligible; nothing if it isn't, and then what is known afterwards says so.
+#[inline(always)]
 pub(crate) fn inspect<I: Interner>(
     requirements: &mut Requirements<I::Alloc>,
     occurrences: &mut Occurrences<I::Alloc>,

@@ -11,16 +11,18 @@ use crate::clause_index::ClauseIndex;
 use crate::queued_clauses::QueuedClauses;
 use crate::requirements::{Requirements, Walk};
 use crate::row_reader::Occurrences;
+use crate::tracked_clause::TrackedClause;
 use crate::waking::wake_clauses;
 use decisions::{Decision, DecisionMap};
 use providers::Requirement;
 use std::alloc::Allocator;
 use typed_ids::{StoreError, VariableId};
 
-/// What variables are routed by: the clauses and who finds them, the requirements with a variable in a row, and the
-/// values of variables.
+/// What variables are routed by: the woken clauses, who finds clauses, the requirements with a variable in a row, and
+/// the values of variables.
 #[derive(Drop)]
 pub(crate) struct Routing<'r, A: Allocator + Copy> {
+    pub(crate) clauses: &'r [TrackedClause],
     pub(crate) index: &'r ClauseIndex<A>,
     pub(crate) occurrences: &'r Occurrences<A>,
     pub(crate) map: &'r DecisionMap<A>,
@@ -34,8 +36,8 @@ fn forget<A: Allocator + Copy>(
     requirement: Requirement,
     routing: &Routing<'_, A>,
 ) -> Result<(), StoreError>
-    requires { HaveNumbers routing.now.index.now.clauses.items }
-    ensures grows { GrowsBy (IsOfClause routing.now.index.now.clauses.items) queued.old queued.new }
+    requires { HaveNumbers routing.now.clauses.now }
+    ensures grows { GrowsBy (IsOfClause routing.now.clauses.now) queued.old queued.new }
     ensures only { OnlyForgets requirements.old requirements.new }
     ensures others { ForgetsAmong (requirement ∷ []) requirements.old requirements.new }
     ensures unknown { OnOk result (AreUnknown (requirement ∷ []) requirements.new) }
@@ -55,7 +57,7 @@ fn forget<A: Allocator + Copy>(
         Walk::Known(None) => {
             wake_clauses(
                 queued,
-                routing.index,
+                routing.clauses,
                 requirements.clauses(place),
                 routing.map,
             )?;
@@ -72,8 +74,8 @@ fn forget_all<A: Allocator + Copy>(
     listed: &[Requirement],
     routing: &Routing<'_, A>,
 ) -> Result<(), StoreError>
-    requires { HaveNumbers routing.now.index.now.clauses.items }
-    ensures grows { GrowsBy (IsOfClause routing.now.index.now.clauses.items) queued.old queued.new }
+    requires { HaveNumbers routing.now.clauses.now }
+    ensures grows { GrowsBy (IsOfClause routing.now.clauses.now) queued.old queued.new }
     ensures only { OnlyForgets requirements.old requirements.new }
     ensures others { ForgetsAmong listed.now requirements.old requirements.new }
     ensures unknown { OnOk result (AreUnknown listed.now requirements.new) }
@@ -93,10 +95,10 @@ fn wake_by_condition<A: Allocator + Copy>(
     variable: VariableId,
     routing: &Routing<'_, A>,
 ) -> Result<(), StoreError>
-    requires { HaveNumbers routing.now.index.now.clauses.items }
-    ensures grows { GrowsBy (IsOfClause routing.now.index.now.clauses.items) queued.old queued.new }
+    requires { HaveNumbers routing.now.clauses.now }
+    ensures grows { GrowsBy (IsOfClause routing.now.clauses.now) queued.old queued.new }
     ensures woken { OnOk result (is_some (values_in routing.now.map.now variable) ≡ true →
-        AreWoken routing.now.index.now.clauses.items (values_in routing.now.map.now)
+        AreWoken routing.now.clauses.now (values_in routing.now.map.now)
         (list_at routing.now.index.now.by_condition variable) queued.new) }
     ensures memory { IfErr result (λ e. e ≡ OutOfMemory) }
 {
@@ -104,7 +106,7 @@ fn wake_by_condition<A: Allocator + Copy>(
         return Ok(());
     }
     let numbers = routing.index.by_condition.at(variable);
-    wake_clauses(queued, routing.index, numbers, routing.map)
+    wake_clauses(queued, routing.clauses, numbers, routing.map)
 }
 
 /// Routes one variable: wakes the clauses of which it is the parent or a variable of the condition, and forgets what is
@@ -115,16 +117,16 @@ fn route<A: Allocator + Copy>(
     variable: VariableId,
     routing: &Routing<'_, A>,
 ) -> Result<(), StoreError>
-    requires { HaveNumbers routing.now.index.now.clauses.items }
-    ensures grows { GrowsBy (IsOfClause routing.now.index.now.clauses.items) queued.old queued.new }
+    requires { HaveNumbers routing.now.clauses.now }
+    ensures grows { GrowsBy (IsOfClause routing.now.clauses.now) queued.old queued.new }
     ensures only { OnlyForgets requirements.old requirements.new }
     ensures others { Unrouted (listing routing.now.occurrences.now) (variable ∷ []) requirements.old requirements.new }
     ensures ok { let variables = variable ∷ [] in
         OnOk result (Routes (ways routing.now) variables requirements.old requirements.new queued.old queued.new) }
     ensures memory { IfErr result (λ e. e ≡ OutOfMemory) }
 {
-    let index = routing.index;
-    wake_clauses(queued, index, index.by_parent.at(variable), routing.map)?;
+    let numbers = routing.index.by_parent.at(variable);
+    wake_clauses(queued, routing.clauses, numbers, routing.map)?;
     wake_by_condition(queued, variable, routing)?;
     let listed = routing.occurrences.listing(variable);
     forget_all(queued, requirements, listed, routing)
@@ -137,8 +139,8 @@ pub(crate) fn route_all<A: Allocator + Copy>(
     decisions: &[Decision],
     routing: &Routing<'_, A>,
 ) -> Result<(), StoreError>
-    requires { HaveNumbers routing.now.index.now.clauses.items }
-    ensures grows { GrowsBy (IsOfClause routing.now.index.now.clauses.items) queued.old queued.new }
+    requires { HaveNumbers routing.now.clauses.now }
+    ensures grows { GrowsBy (IsOfClause routing.now.clauses.now) queued.old queued.new }
     ensures only { OnlyForgets requirements.old requirements.new }
     ensures others { let variables = variables_of decisions.now in
         Unrouted (listing routing.now.occurrences.now) variables requirements.old requirements.new }

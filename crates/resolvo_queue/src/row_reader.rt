@@ -50,6 +50,7 @@ impl<'l, A: Allocator + Copy> RowReader<'l, A> {
     }
 
     /// The frontier of a requirement's rows: reads them up to the first that is true, else all. Takes no memory.
+    #[inline(never)]
     pub fn walk<I: Interner>(
         &mut self,
         requirement: Requirement,

@@ -44,11 +44,13 @@ impl<A: Allocator + Copy> TrackedClauses<A> {
     /// nothing is done.
     fn route_changes(
         &mut self,
+        woken: usize,
         floor: usize,
         trail: &[Decision],
         map: &DecisionMap<A>,
     ) -> Result<(), StoreError>
         requires numbers { HaveNumbers self.old.index.clauses.items }
+        requires woken { woken ≤ length self.old.index.clauses.items }
         requires floor { floor ≤ length trail.now }
         requires old_floor { floor ≤ length self.old.trail.items }
         ensures same { (self.new.index ≡ self.old.index) × (self.new.occurrences ≡ self.old.occurrences)
@@ -57,7 +59,7 @@ impl<A: Allocator + Copy> TrackedClauses<A> {
         ensures others { Unrouted (listing self.old.occurrences)
             (changed_between floor self.old.trail.items trail.now) self.old.requirements self.new.requirements }
         ensures grows { GrowsBy (IsOfClause self.old.index.clauses.items) self.old.queued self.new.queued }
-        ensures synced { OnOk result (SyncsTracked false (values_in map.now)
+        ensures synced { OnOk result (SyncsTracked woken false (values_in map.now)
             (changed_between floor self.old.trail.items trail.now) self.old self.new) }
         ensures trail { OnOk result (self.new.trail.items ≡ take floor self.old.trail.items ++ drop floor trail.now) }
         ensures memory { IfErr result (λ e. e ≡ OutOfMemory) }
@@ -65,8 +67,10 @@ impl<A: Allocator + Copy> TrackedClauses<A> {
         if self.is_whole_at(floor, trail) {
             return Ok(());
         }
+        let index = &self.index;
         let routing = Routing {
-            index: &self.index,
+            clauses: &index.clauses[..woken],
+            index,
             occurrences: &self.occurrences,
             map,
         };
@@ -84,8 +88,8 @@ impl<A: Allocator + Copy> TrackedClauses<A> {
             × (self.new.only_hot ≡ self.old.only_hot) × (self.new.must_start_anew ≡ self.old.must_start_anew) }
         ensures only { OnlyForgets self.old.requirements self.new.requirements }
         ensures grows { GrowsBy (IsOfClause self.old.index.clauses.items) self.old.queued self.new.queued }
-        ensures synced { OnOk result ((routed : List ℕ) →
-            SyncsTracked true (values_in map.now) routed self.old self.new) }
+        ensures synced { OnOk result ((woken : ℕ) (routed : List ℕ) →
+            SyncsTracked woken true (values_in map.now) routed self.old self.new) }
         ensures trail { OnOk result (self.new.trail.items ≡ trail.now) }
         ensures memory { IfErr result (λ e. e ≡ OutOfMemory) }
     {
@@ -98,11 +102,13 @@ impl<A: Allocator + Copy> TrackedClauses<A> {
     /// looks at everything.
     pub(crate) fn sync(
         &mut self,
+        woken: usize,
         floor: usize,
         trail: &[Decision],
         map: &DecisionMap<A>,
     ) -> Result<(), StoreError>
         requires numbers { HaveNumbers self.old.index.clauses.items }
+        requires woken { woken ≤ length self.old.index.clauses.items }
         requires floor { floor ≤ length trail.now }
         requires old_floor { floor ≤ length self.old.trail.items }
         requires agrees { self.old.must_start_anew ≡ false → take floor self.old.trail.items ≡ take floor trail.now }
@@ -112,7 +118,7 @@ impl<A: Allocator + Copy> TrackedClauses<A> {
         ensures others { self.old.must_start_anew ≡ false → Unrouted (listing self.old.occurrences)
             (changed_between floor self.old.trail.items trail.now) self.old.requirements self.new.requirements }
         ensures grows { GrowsBy (IsOfClause self.old.index.clauses.items) self.old.queued self.new.queued }
-        ensures synced { OnOk result (SyncsTracked self.old.must_start_anew (values_in map.now)
+        ensures synced { OnOk result (SyncsTracked woken self.old.must_start_anew (values_in map.now)
             (changed_between floor self.old.trail.items trail.now) self.old self.new) }
         ensures trail { OnOk result (self.new.trail.items ≡ trail.now) }
         ensures debt { OnOk result (self.new.must_start_anew ≡ false) }
@@ -122,7 +128,7 @@ impl<A: Allocator + Copy> TrackedClauses<A> {
         let synced = if self.must_start_anew {
             self.start_anew(trail, map)
         } else {
-            self.route_changes(floor, trail, map)
+            self.route_changes(woken, floor, trail, map)
         };
         self.must_start_anew = synced.is_err();
         synced

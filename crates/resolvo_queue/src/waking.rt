@@ -5,7 +5,6 @@ ghost use Rattle.resolvo_queue.specs.Scan.Positions.{same_position};
 ghost use Rattle.resolvo_queue.specs.Parts.{AreWoken, IsQueued, IsWoken, GrowsBy, HaveNumbers, IsOfClause};
 ghost use Rattle.resolvo_queue.specs.Routing.Synced.{AllWokenFrom};
 
-use crate::clause_index::ClauseIndex;
 use crate::queued_clauses::QueuedClauses;
 use crate::tracked_clause::TrackedClause;
 use decisions::DecisionMap;
@@ -32,16 +31,16 @@ fn wake<A: Allocator + Copy>(
 /// Queues the clause with a number if its parent is true. A number past the end stands for no clause.
 fn wake_number<A: Allocator + Copy>(
     queued: &mut QueuedClauses<A>,
-    index: &ClauseIndex<A>,
+    clauses: &[TrackedClause],
     number: u32,
     map: &DecisionMap<A>,
 ) -> Result<(), StoreError>
-    requires { HaveNumbers index.now.clauses.items }
-    ensures grows { GrowsBy (IsOfClause index.now.clauses.items) queued.old queued.new }
-    ensures woken { OnOk result (IsWoken index.now.clauses.items (values_in map.now) number queued.new) }
+    requires { HaveNumbers clauses.now }
+    ensures grows { GrowsBy (IsOfClause clauses.now) queued.old queued.new }
+    ensures woken { OnOk result (IsWoken clauses.now (values_in map.now) number queued.new) }
     ensures memory { IfErr result (λ e. e ≡ OutOfMemory) }
 {
-    match index.clauses.as_slice().get(number as usize) {
+    match clauses.get(number as usize) {
         Some(clause) => wake(queued, clause, map),
         None => Ok(()),
     }
@@ -50,22 +49,22 @@ fn wake_number<A: Allocator + Copy>(
 /// Queues those of the numbered clauses whose parent is true.
 pub(crate) fn wake_clauses<A: Allocator + Copy>(
     queued: &mut QueuedClauses<A>,
-    index: &ClauseIndex<A>,
+    clauses: &[TrackedClause],
     numbers: &[u32],
     map: &DecisionMap<A>,
 ) -> Result<(), StoreError>
-    requires { HaveNumbers index.now.clauses.items }
-    ensures grows { GrowsBy (IsOfClause index.now.clauses.items) queued.old queued.new }
-    ensures woken { OnOk result (AreWoken index.now.clauses.items (values_in map.now) numbers.now queued.new) }
+    requires { HaveNumbers clauses.now }
+    ensures grows { GrowsBy (IsOfClause clauses.now) queued.old queued.new }
+    ensures woken { OnOk result (AreWoken clauses.now (values_in map.now) numbers.now queued.new) }
     ensures memory { IfErr result (λ e. e ≡ OutOfMemory) }
 {
     for number in numbers {
-        wake_number(queued, index, *number, map)?;
+        wake_number(queued, clauses, *number, map)?;
     }
     Ok(())
 }
 
-/// Queues all clauses from a number on whose parent is true.
+/// Queues all clauses from a number on whose parent is true. The last comes first: so a place is found at the front.
 pub(crate) fn wake_from<A: Allocator + Copy>(
     queued: &mut QueuedClauses<A>,
     clauses: &[TrackedClause],
@@ -78,9 +77,8 @@ pub(crate) fn wake_from<A: Allocator + Copy>(
     ensures woken { OnOk result (AllWokenFrom first clauses.now (values_in map.now) queued.new) }
     ensures memory { IfErr result (λ e. e ≡ OutOfMemory) }
 {
-    let rest = &clauses[first..];
-    for clause in rest {
-        wake(queued, clause, map)?;
+    for number in (first..clauses.len()).rev() {
+        wake(queued, &clauses[number], map)?;
     }
     Ok(())
 }

@@ -112,7 +112,7 @@ module _ {N S A H : Type 0} (has : H → N → Bool) (refs : References N S A) (
     -- an accepted sync
     stands_synced : q'.inside.occurrences ≡ q.inside.occurrences →
         OnlyForgets q.inside.requirements q'.inside.requirements →
-        SyncsTo cs q.inside.by_parent q.inside.by_condition (listing q.inside.occurrences) q.must_start_anew
+        SyncsTo cs q.inside.by_parent q.inside.by_condition (listing q.inside.occurrences) q.woken q.must_start_anew
         (values_of q.trail) now routed q.inside.requirements q'.inside.requirements q.inside.queued q'.inside.queued →
         q'.trail ≡ entries → q'.woken ≡ q.woken → StandsOn refs q'
     stands_synced occurrences only syncs trail woken = still_stands
@@ -130,7 +130,7 @@ module _ {N S A H : Type 0} (has : H → N → Bool) (refs : References N S A) (
         }
 
         at_now : KeepsQueued cs literals (rows_in refs) now (counts now q.woken) q'.inside.requirements q'.inside.queued
-        at_now = syncs literals (rows_in refs) q.woken finds
+        at_now = syncs literals (rows_in refs) finds
             (lists_known refs.universe refs.lists q.inside.occurrences q.inside.requirements stands.listed) was_synced
 
         at_trail : now ≡ values_of q'.trail
@@ -140,7 +140,7 @@ module _ {N S A H : Type 0} (has : H → N → Bool) (refs : References N S A) (
     pub stands_after : {T E : Type 0} (result : Result T E) → q'.inside.occurrences ≡ q.inside.occurrences →
         OnlyForgets q.inside.requirements q'.inside.requirements →
         OnOk result (SyncsTo cs q.inside.by_parent q.inside.by_condition (listing q.inside.occurrences)
-        q.must_start_anew (values_of q.trail) now routed
+        q.woken q.must_start_anew (values_of q.trail) now routed
         q.inside.requirements q'.inside.requirements q.inside.queued q'.inside.queued) →
         OnOk result (q'.trail ≡ entries) → OnErr result (q'.must_start_anew ≡ true) → q'.woken ≡ q.woken →
         StandsOn refs q'

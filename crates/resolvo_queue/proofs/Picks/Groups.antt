@@ -1,15 +1,14 @@
 -- Groups of clauses, and the root's clauses as one.
 use Rattle.std.proofs.Common.{◌≡◌, ℕ, ◌+◌, Bool, true, false, ◌&&◌, cond, eqb, eqb-true, eq-eqb, List, []}
-use Rattle.std.proofs.Common.{◌∷◌, filter, filter_map, Option, Some, None, IfOk, IfSome, MatchOption}
-use Rattle.std.proofs.Common.{Result, Ok, Err, option_map, slice_get, sym, ap, ap₂, refl, ◌∙◌, subst, arith}
-use Rattle.resolvo_queue.proofs.Words.{AreLocated, BeginFirst, behind, best_offer, Candidate, cons_option}
-use Rattle.resolvo_queue.proofs.Words.{eligible_frontier, first_from, Frontier, Group, group_at, has, has_of}
+use Rattle.std.proofs.Common.{◌∷◌, filter, filter_map, Option, Some, None, IfSome, MatchOption}
+use Rattle.std.proofs.Common.{option_map, slice_get, sym, ap, ap₂, refl, ◌∙◌, subst, arith}
+use Rattle.resolvo_queue.proofs.Words.{AreLocated, BeginFirst, best_offer, cons_option}
+use Rattle.resolvo_queue.proofs.Words.{eligible_frontier, first_from, Frontier, Group, has, has_of}
 use Rattle.resolvo_queue.proofs.Words.{HasNoClause, here, is_after, is_in, is_of_root, IsFirstOf, IsNextBehind}
 use Rattle.resolvo_queue.proofs.Words.{IsNextOf, list_at, Lit, Offer, offer_of, offer_with, offered, offers_of}
-use Rattle.resolvo_queue.proofs.Words.{OfParent, only_in, pick, place_of, Position, position_cmp, Requirement}
-use Rattle.resolvo_queue.proofs.Words.{rest_picked, Row, scanned, Stands, StoreError, there, TrackedClause, Values}
+use Rattle.resolvo_queue.proofs.Words.{OfParent, only_in, Position, Requirement}
+use Rattle.resolvo_queue.proofs.Words.{Row, scanned, Stands, there, TrackedClause, Values}
 use Rattle.resolvo_queue.proofs.Words.{VersionSetId}
-use Rattle.resolvo_queue.proofs.Picks.Unbeaten.{picks_started}
 use Rattle.resolvo_queue.proofs.Picks.NumberedScan.{first_is_own, scanned_at}
 use Rattle.resolvo_queue.proofs.Lists.{same_some}
 
@@ -163,31 +162,6 @@ module _ (clauses : List TrackedClause) (located : AreLocated clauses) (by_paren
   best_of_group of group first is = ap best_offer
       (of_root (slice_get (list_at by_parent 0) 0) group refl (sym first ∙ is))
 
-  -- the first of them as a candidate, of whose own group it is the first
-  pub first_of_group : (of : Option Group) (group : Group) →
-      of ≡ option_map OfParent (slice_get (list_at by_parent 0) 0) → of ≡ Some group →
-      (found : Result (Option Candidate) StoreError) →
-      IfOk found (λ o. MatchOption o (best_offer (offered clauses (offers_of group offers)) ≡ None)
-      (λ b. best_offer (offered clauses (offers_of group offers)) ≡
-      rest_picked clauses (offers_of group offers) b.offer b.position)) →
-      IfOk found (λ o. IfSome o (λ b. is_in group b.position ≡ true)) →
-      IfOk found (λ o. MatchOption o (best_offer (filter is_of_root (offered clauses offers)) ≡ None)
-      (λ b. best_offer (filter is_of_root (offered clauses offers)) ≡
-      rest_picked clauses (offers_of (group_at b.position) offers) b.offer b.position))
-  first_of_group of group first is (Err e) best own = tt
-  first_of_group of group first is (Ok None) best own = sym (best_of_group of group first is) ∙ best
-  first_of_group of group first is (Ok (Some b)) best own = sym (best_of_group of group first is) ∙ (best
-      ∙ ap (λ at. rest_picked clauses (offers_of at offers) b.offer b.position)
-      (own_group (slice_get (list_at by_parent 0) 0) (sym first ∙ is)))
-    where
-      own_group : (o : Option ℕ) → option_map OfParent o ≡ Some group → group ≡ group_at b.position
-      own_group None e = cc
-      own_group (Some n) e = at n (same_some (OfParent n) group e)
-        where
-          at : (n : ℕ) → OfParent n ≡ group → group ≡ group_at b.position
-          at n h = sym h ∙ ap OfParent (sym
-              (eqb-true b.position.first_of_parent n (subst (λ x. is_in x b.position ≡ true) (sym h) own)))
-
   pub best_of_none : (of : Option Group) → of ≡ option_map OfParent (slice_get (list_at by_parent 0) 0) → of ≡ None →
       best_offer (filter is_of_root (offered clauses offers)) ≡ None
   best_of_none of first none = ap best_offer
@@ -206,10 +180,3 @@ offers_own val literals rows_of score c = go (eligible_frontier val literals row
     go : (o : Option Frontier) → IfSome (option_map (offer_with score c) o) (λ f. f.clause.parent ≡ c.parent)
     go None = tt
     go (Some f) = refl
-
--- what the clauses behind the root's first make of it is the pick, where it is the best of the root's
-pub picks_rest : (clauses : List TrackedClause) (offers own : TrackedClause → Option Offer) (b : Offer) (p : Position) →
-    best_offer (filter is_of_root (offered clauses offers)) ≡ rest_picked clauses own b p →
-    pick (offered clauses offers) ≡ rest_picked clauses own b p
-picks_rest clauses offers own b p = picks_started (offered clauses offers) b
-    (filter_map (λ x. own x.1) (behind position_cmp (place_of clauses) (λ x. own x.1) p (scanned clauses)))

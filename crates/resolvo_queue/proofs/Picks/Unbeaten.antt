@@ -136,7 +136,7 @@ module _ {X : Type 0} (t : X → Bool) where
       go false e k rest = (h x e, rest k)
 
 -- the best of the root's, if there is one, is the pick; else it is the best of all
-picks_of_root : (offers : List Offer) (b : Offer) → best_offer (filter is_of_root offers) ≡ Some b →
+pub picks_of_root : (offers : List Offer) (b : Offer) → best_offer (filter is_of_root offers) ≡ Some b →
     pick offers ≡ Some b
 picks_of_root offers b e = go (list_any is_of_root offers) refl
   where
@@ -145,12 +145,6 @@ picks_of_root offers b e = go (list_any is_of_root offers) refl
     go true a = e
     go false a = let bad : best_offer (filter is_of_root offers) ≡ None =
         ap best_offer (none_kept is_of_root offers a) in cc
-
--- what later offers make of the root's first is the pick, where it is the best of the root's
-pub picks_started : (offers : List Offer) (b : Offer) (more : List Offer) →
-    best_offer (filter is_of_root offers) ≡ fold better (Some b) more → pick offers ≡ fold better (Some b) more
-picks_started offers b more e = picks_of_root offers (best_of beats b more) (e ∙ best_offer-cons b more) ∙
-    sym (best_offer-cons b more)
 
 pub picks_of_all : (offers : List Offer) → best_offer (filter is_of_root offers) ≡ None →
     pick offers ≡ best_offer offers

@@ -272,10 +272,6 @@ pub whole_at : {X : Type 0} (n : ℕ) (xs ys : List X) → n ≡ length xs → n
 whole_at n xs ys e f =
     sym (ap (λ zs. take n xs ++ zs) (none_from n ys f ∙ sym (none_from n xs e)) ∙ take-append-drop n xs)
 
-pub on_ok_at : {T E V : Type 0} (P : V → Type 0) (res : Result T E) (v : V) → OnOk res ((x : V) → P x) → OnOk res (P v)
-on_ok_at P (Ok x) v h = h v
-on_ok_at P (Err e) v h = tt
-
 -- ---- who stays
 
 -- the record at the place is that of the requirement

@@ -1,11 +1,11 @@
 -- What is queued only grows while clauses are woken, and stays a set of clauses' positions.
 use Rattle.std.proofs.Common.{◌≡◌, ℕ, zero, suc, ◌+◌, ◌<◌, Bool, true, false, ◌⊎◌, inl, inr, List, [], ◌∷◌}
-use Rattle.std.proofs.Common.{◌++◌, drop, take, length, get_or, None, Some, Result, Ok, Err, OnOk, slice_get, sym}
+use Rattle.std.proofs.Common.{◌++◌, take, length, get_or, None, Some, Result, Ok, Err, OnOk, slice_get, sym}
 use Rattle.std.proofs.Common.{ap, ap₂, refl, ◌∙◌, subst, arith, nat_cmp, is_eq, ltb, ltb-true, ltb-false, ◌≤◌}
 use Rattle.std.proofs.lemmas.Bool.Decides.{nat_tests}
 use Rattle.std.proofs.lemmas.Cmp.{on_total, then_total}
 use Rattle.std.proofs.lemmas.List.{take_more}
-use Rattle.resolvo_queue.proofs.Words.{AreWoken, GrowsBy, HaveNumbers, IsOfClause, IsQueued, IsTotalOrder, IsWoken}
+use Rattle.resolvo_queue.proofs.Words.{AllWokenFrom, AreWoken, GrowsBy, HaveNumbers, IsOfClause, IsQueued, IsTotalOrder, IsWoken}
 use Rattle.resolvo_queue.proofs.Words.{known_true, nat_cmp_total, ordering_then, Position, position_cmp, Queued}
 use Rattle.resolvo_queue.proofs.Words.{same_position, there, TrackedClause, Values}
 use Rattle.resolvo_queue.proofs.Lists.{same_some, stands_cases}
@@ -87,21 +87,39 @@ read_at [] n x h e = absurd (omega arith)
 read_at (y ∷ ys) zero x h e = ap Some (sym e)
 read_at (y ∷ ys) (suc n) x h e = read_at ys n x (omega arith) e
 
--- what was read in the list's slice
-pub read_in : (items slice : List TrackedClause) → slice ≡ items → (n : ℕ) (c : TrackedClause) →
-    true ≡ ltb n (length slice) → c ≡ get_or slice n c → slice_get items n ≡ Some c
-read_in items slice e n c within read = ap (λ cs. slice_get cs n) (sym e) ∙
-    read_at slice n c (ltb-true n (length slice) (sym within)) read
+-- what was found at a number
+pub read_in : (clauses : List TrackedClause) (n : ℕ) (c : TrackedClause) → true ≡ ltb n (length clauses) →
+    c ≡ get_or clauses n c → Some c ≡ slice_get clauses n
+read_in clauses n c within read = sym (read_at clauses n c (ltb-true n (length clauses) (sym within)) read)
 
--- what stands behind a number stands in the whole list
-pub from_rest : {X : Type 0} (xs : List X) (first k : ℕ) (x : X) → slice_get (drop first xs) k ≡ Some x →
-    slice_get xs (first + k) ≡ Some x
-from_rest xs zero k x e = subst (λ n. slice_get xs n ≡ Some x) (let h : k ≡ 0 + k = omega arith in h) e
-from_rest [] (suc first) k x e = cc
-from_rest (y ∷ ys) (suc first) k x e = subst (λ n. slice_get (y ∷ ys) n ≡ Some x)
-    (let h : suc (first + k) ≡ suc first + k = omega arith in h) (from_rest ys first k x e)
+-- what stands below a number stands in the whole list, and the other way round
+from_below : {X : Type 0} (xs : List X) (n k : ℕ) (x : X) → slice_get (take n xs) k ≡ Some x →
+    slice_get xs k ≡ Some x
+from_below xs zero k x e = cc
+from_below [] (suc n) k x e = cc
+from_below (y ∷ ys) (suc n) zero x e = e
+from_below (y ∷ ys) (suc n) (suc k) x e = from_below ys n k x e
 
--- a loop's step over the clauses from a number on
+pub stays_below : {X : Type 0} (xs : List X) (n k : ℕ) (x : X) → k < n → slice_get xs k ≡ Some x →
+    slice_get (take n xs) k ≡ Some x
+stays_below xs zero k x h e = absurd (omega arith)
+stays_below [] (suc n) k x h e = cc
+stays_below (y ∷ ys) (suc n) zero x h e = e
+stays_below (y ∷ ys) (suc n) (suc k) x h e = stays_below ys n k x (omega arith) e
+
+-- of the clauses below a number
+module _ (clauses part : List TrackedClause) (n : ℕ) (is : part ≡ take n clauses) where
+  within_all : (k : ℕ) (c : TrackedClause) → slice_get part k ≡ Some c → slice_get clauses k ≡ Some c
+  within_all k c e = from_below clauses n k c (ap (λ cs. slice_get cs k) (sym is) ∙ e)
+
+  pub numbers_below : HaveNumbers clauses → HaveNumbers part
+  numbers_below numbers k c e = numbers k c (within_all k c e)
+
+  pub grows_below : (a b : Queued) → GrowsBy (IsOfClause part) a b → GrowsBy (IsOfClause clauses) a b
+  grows_below a b = grows_along (IsOfClause part) (IsOfClause clauses)
+      (λ p of. (of.0, within_all p.number of.0 of.1, of.2)) a b
+
+-- a loop's step down the clauses
 module _ (clauses : List TrackedClause) (numbered : HaveNumbers clauses) (val : Values) (i : ℕ) (c : TrackedClause)
     (it_is : slice_get clauses i ≡ Some c)
     (begin before now : Queued) (so_far : GrowsBy (IsOfClause clauses) begin before)
@@ -112,17 +130,16 @@ module _ (clauses : List TrackedClause) (numbered : HaveNumbers clauses) (val : 
   pub all_grow : GrowsBy (IsOfClause clauses) begin now
   all_grow = grows_both (IsOfClause clauses) begin before now so_far this_grows
 
-  pub all_woken : (first : ℕ) → ((n : ℕ) (d : TrackedClause) → first ≤ n → n < i → slice_get clauses n ≡ Some d →
-      known_true (val d.parent) ≡ true → IsQueued before d) → (known_true (val c.parent) ≡ true → IsQueued now c) →
-      (n : ℕ) (d : TrackedClause) → first ≤ n → n < i + 1 → slice_get clauses n ≡ Some d →
-      known_true (val d.parent) ≡ true → IsQueued now d
-  all_woken first w own n d from less e t = go (ltb n i) refl
+  pub all_woken : AllWokenFrom (i + 1) clauses val before → (known_true (val c.parent) ≡ true → IsQueued now c) →
+      AllWokenFrom i clauses val now
+  all_woken w own n d e from t = go (ltb i n) refl
     where
-      go : (b : Bool) → ltb n i ≡ b → IsQueued now d
-      go true h = queued_stays (IsOfClause clauses) before now d this_grows (w n d from (ltb-true n i h) e t)
+      go : (b : Bool) → ltb i n ≡ b → IsQueued now d
+      go true h = queued_stays (IsOfClause clauses) before now d this_grows
+          (w n d e (let f = ltb-true i n h in omega (arith, f)) t)
       go false h =
-          let last : n ≡ i = (let f = ltb-false n i h in omega (arith, f, less)) in
-          let same : c ≡ d = same_some c d (sym it_is ∙ (ap (slice_get clauses) (sym last) ∙ e)) in
+          let this : n ≡ i = (let f = ltb-false i n h in omega (arith, f, from)) in
+          let same : c ≡ d = same_some c d (sym it_is ∙ (ap (slice_get clauses) (sym this) ∙ e)) in
           subst (IsQueued now) same (own (ap (λ (x : TrackedClause). known_true (val x.parent)) same ∙ t))
 
 -- ---- one number

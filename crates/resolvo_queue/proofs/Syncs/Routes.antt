@@ -1,9 +1,9 @@
 -- Routing the changed variables keeps a queue synced: the code's routing meets the law of a sync.
-use Rattle.std.proofs.Common.{◌≡◌, ℕ, zero, suc, map, Bool, true, false, arith, ◌&&◌, ◌||◌, eqb, eqb-true}
+use Rattle.std.proofs.Common.{◌≡◌, ℕ, zero, suc, map, take, ◌<◌, Bool, true, false, arith, ◌&&◌, ◌||◌, eqb, eqb-true, ltb-true}
 use Rattle.std.proofs.Common.{◌⊎◌, inl, inr, List, [], ◌∷◌, Option, Some, None, IfSome, is_some, option_map, slice_get}
 use Rattle.std.proofs.Common.{sym, ap, refl, ◌∙◌, subst}
 use Rattle.std.specs.Prelude.{nat_lt}
-use Rattle.resolvo_queue.proofs.Words.{AllWokenFrom, are_literals_false, counts, FindsAll, forgotten, frontier, here}
+use Rattle.resolvo_queue.proofs.Words.{AllWokenFrom, are_literals_false, counts, FindsAll, forgotten, frontier, HaveNumbers, here}
 use Rattle.resolvo_queue.proofs.Words.{is_among, is_false_literal, IsOfClause, KeepsQueued, Known, known_at}
 use Rattle.resolvo_queue.proofs.Words.{known_false, known_true, ListsKnown, Lit, may_have_frontier, Neg, Pos, Queued}
 use Rattle.resolvo_queue.proofs.Words.{Record, Requirement, Routes, Row, rows_at, SameElsewhere, Stands, SyncsTo, there}
@@ -11,7 +11,7 @@ use Rattle.resolvo_queue.proofs.Words.{TrackedClause, truth, Values, variable_of
 use Rattle.resolvo_queue.specs.Parts.{rows_in}
 use Rattle.resolvo_queue.proofs.Syncs.Forgetting.{known_only_forgotten, placed_after, unforgotten}
 use Rattle.resolvo_queue.proofs.Syncs.Law.{both_of, routes_condition, sync_holds, sync_knows}
-use Rattle.resolvo_queue.proofs.Syncs.Queued.{queued_stays}
+use Rattle.resolvo_queue.proofs.Syncs.Queued.{queued_stays, stays_below}
 use Rattle.resolvo_queue.proofs.Rows.Frontiers.{routes_rows}
 
 pub among_stands : (vs : List ℕ) (x : ℕ) → is_among vs x ≡ true → Stands x vs
@@ -76,8 +76,11 @@ sync_parents routed before now same x was is = go (is_among routed x) refl
     go true e = refl
     go false e = let still : known_true (before x) ≡ true = ap known_true (same x e) ∙ is in cc
 
-module _ (w : Ways) (literals : TrackedClause → List Lit) (rows_of : Requirement → List Row) (vs : List ℕ)
-    (ts ts' : List Record) (q q' : Queued) (finds : FindsAll w.clauses literals w.by_parent w.by_condition ts)
+-- the woken clauses are routed
+module _ (w : Ways) (clauses : List TrackedClause) (numbers : HaveNumbers clauses) (woken : ℕ)
+    (routed : w.clauses ≡ take woken clauses)
+    (literals : TrackedClause → List Lit) (rows_of : Requirement → List Row) (vs : List ℕ)
+    (ts ts' : List Record) (q q' : Queued) (finds : FindsAll clauses literals w.by_parent w.by_condition ts)
     (lists : ListsKnown rows_of w.requirements ts) (routes : Routes w vs ts ts' q q') where
   -- nothing is known of a requirement with a routed row
   forgets : (k : ℕ) → routes_rows (is_among vs) (rows_at rows_of ts k) ≡ true → known_at ts' k ≡ None
@@ -101,24 +104,30 @@ module _ (w : Ways) (literals : TrackedClause → List Lit) (rows_of : Requireme
           by_walk false h (inl s) = s ∙ (ap walk_of p ∙ unknown t.walk h)
           by_walk false h (inr s) = s
 
+  is_routed : (n : ℕ) (c : TrackedClause) → slice_get clauses n ≡ Some c → nat_lt c.position.number woken ≡ true →
+      slice_get w.clauses n ≡ Some c
+  is_routed n c at below = ap (λ cs. slice_get cs n) routed ∙ stays_below clauses woken n c
+      (subst (λ k. k < woken) (numbers n c at) (ltb-true c.position.number woken below)) at
+
   -- a queue that was synced at the values of before is synced at those of now
-  pub routes_sync : (before : Values) (woken : ℕ) → SameElsewhere (is_among vs) before w.val →
-      KeepsQueued w.clauses literals rows_of before (counts before woken) ts q →
-      KeepsQueued w.clauses literals rows_of w.val (counts w.val woken) ts' q'
-  routes_sync before woken same old = record {
+  pub routes_sync : (before : Values) → SameElsewhere (is_among vs) before w.val →
+      KeepsQueued clauses literals rows_of before (counts before woken) ts q →
+      KeepsQueued clauses literals rows_of w.val (counts w.val woken) ts' q'
+  routes_sync before same old = record {
     queued = λ n c at e. (let p = both_of (counts w.val woken c)
         (are_literals_false w.val (literals c) && may_have_frontier (known_at ts' c.record)) e in
         let t = both_of (nat_lt c.position.number woken) (known_true (w.val c.parent)) p.0 in
         let m = both_of (are_literals_false w.val (literals c)) (may_have_frontier (known_at ts' c.record)) p.1 in
+        let r = is_routed n c at t.0 in
         sync_holds before w.val (is_among vs) same (known_at ts c.record) (known_at ts' c.record)
         (known_only_forgotten ts ts' routes.only c.record) (counts before woken c) (literals c)
         (queued_stays (IsOfClause w.clauses) q q' c routes.grows)
         (λ out. routes.parents c.parent (among_stands vs c.parent (sync_parents vs before w.val same c.parent
-        (sym (ap (λ b. b && known_true (before c.parent)) t.0) ∙ out) t.1)) n c (finds.parents n c at) at t.1)
+        (sym (ap (λ b. b && known_true (before c.parent)) t.0) ∙ out) t.1)) n c (finds.parents n c at) r t.1)
         (λ routed. (let l = literal_among (is_among vs) (literals c) routed in
         routes.conditions (variable_of l.0) (among_stands vs (variable_of l.0) l.2)
-        (met_decided w.val (literals c) m.0 l.0 l.1) n c (finds.conditions n c at l.0 l.1) at t.1))
-        (λ was is. routes.woken c.record was is n c (finds.requirements n c at) at t.1) (old.queued n c at) m.0 m.1);
+        (met_decided w.val (literals c) m.0 l.0 l.1) n c (finds.conditions n c at l.0 l.1) r t.1))
+        (λ was is. routes.woken c.record was is n c (finds.requirements n c at) r t.1) (old.queued n c at) m.0 m.1);
     right = λ k. subst (λ rs. IfSome (known_at ts' k) (λ f. f ≡ frontier w.val rs))
         (sym (unforgotten (rows_in rows_of) (λ t. refl) (slice_get ts k) (slice_get ts' k) (routes.only k)))
         (sync_knows before w.val (is_among vs) same (known_at ts k) (known_at ts' k)
@@ -127,17 +136,20 @@ module _ (w : Ways) (literals : TrackedClause → List Lit) (rows_of : Requireme
 
 -- ---- a whole sync
 
-pub changes_sync : (w : Ways) (before : Values) (vs : List ℕ) (ts ts' : List Record) (q q' : Queued) →
+pub changes_sync : (w : Ways) (clauses : List TrackedClause) → HaveNumbers clauses → (woken : ℕ) →
+    w.clauses ≡ take woken clauses → (before : Values) (vs : List ℕ) (ts ts' : List Record) (q q' : Queued) →
     Routes w vs ts ts' q q' →
-    SyncsTo w.clauses w.by_parent w.by_condition w.requirements false before w.val vs ts ts' q q'
-changes_sync w before vs ts ts' q q' routes literals rows_of woken finds lists old =
-    let o = old refl in routes_sync w literals rows_of vs ts ts' q q' finds lists routes before woken o.0 o.1
+    SyncsTo clauses w.by_parent w.by_condition w.requirements woken false before w.val vs ts ts' q q'
+changes_sync w clauses numbers woken routed before vs ts ts' q q' routes literals rows_of finds lists old =
+    let o = old refl in
+    routes_sync w clauses numbers woken routed literals rows_of vs ts ts' q q' finds lists routes before o.0 o.1
 
 -- nothing is known and whatever has a true parent is queued: then all is right, whatever was before
 pub anew_sync : (clauses : List TrackedClause) (by_parent by_condition : List (List ℕ)) (listing : ℕ → List Requirement)
-    (before now : Values) (vs : List ℕ) (ts : List Record) (q q' : Queued) → AllWokenFrom 0 clauses now q' →
-    SyncsTo clauses by_parent by_condition listing true before now vs ts (map forgotten ts) q q'
-anew_sync clauses by_parent by_condition listing before now vs ts q q' all literals rows_of woken finds lists old =
+    (woken : ℕ) (before now : Values) (vs : List ℕ) (ts : List Record) (q q' : Queued) →
+    AllWokenFrom 0 clauses now q' →
+    SyncsTo clauses by_parent by_condition listing woken true before now vs ts (map forgotten ts) q q'
+anew_sync clauses by_parent by_condition listing woken before now vs ts q q' all literals rows_of finds lists old =
     record {
       queued = λ n c at e. all n c at (omega arith)
           (both_of (nat_lt c.position.number woken) _ (both_of (counts now woken c) _ e).0).1;

@@ -1,5 +1,5 @@
 -- What a question asks of the tracked clauses, what it keeps of them, and what it and a reader give.
-use Rattle.std.specs.Prelude.{◌≡◌, ℕ, List, Option, None, Some, MatchOption, filter, slice_get}
+use Rattle.std.specs.Prelude.{◌≡◌, ℕ, List, Option, None, Some, MatchOption, slice_get}
 use Rattle.resolvo_queue.specs.Types.{Frontier, Position, Requirement, TrackedClause, Universe, Values, values_in}
 use Rattle.resolvo_queue.specs.Types.{VersionSetId}
 use Rattle.resolvo_queue.specs.Rows.Listing.{IsListedWell}
@@ -11,8 +11,7 @@ use Rattle.resolvo_queue.specs.Parts.{OwesSame, SameFound, Record, known_at}
 use Rattle.resolvo_queue.specs.Parts.Tracking.{BeginFirst}
 use Rattle.resolvo_queue.specs.WalkCounts.{WalksOnce}
 use Rattle.resolvo_queue.specs.declared.tracked_clauses.TrackedClauses.{TrackedClauses}
-use Rattle.resolvo_queue.specs.Pick.{Offer, best_offer, is_of_root}
-use Rattle.resolvo_queue.specs.Pick.Groups.{group_at, offers_of}
+use Rattle.resolvo_queue.specs.Pick.{Offer, best_offer}
 use Rattle.resolvo_queue.specs.Pick.Inspection.{Learns, eligible_frontier, offer_of}
 use Rattle.resolvo_queue.specs.Rows.{frontier}
 use Rattle.resolvo_queue.specs.declared.asked.Question.{Question}
@@ -108,12 +107,6 @@ module _ (clauses : List TrackedClause) (offers : TrackedClause → Option Offer
   abbrev pub BeginsPick : Option Candidate → Type 0
   BeginsPick first = MatchOption first (best_offer (offered clauses offers) ≡ None)
       (λ b. best_offer (offered clauses offers) ≡ rest_picked clauses offers b.offer b.position)
-
-  -- the same of the root's clauses, where the pick goes on among those of the first's parent
-  abbrev pub BeginsRoots : Option Candidate → Type 0
-  BeginsRoots first = let best = best_offer (filter is_of_root (offered clauses offers)) in
-      MatchOption first (best ≡ None)
-      (λ b. best ≡ rest_picked clauses (offers_of (group_at b.position) offers) b.offer b.position)
 
   -- what those behind a first one make of its offer
   abbrev pub BestFrom : Candidate → Option Offer → Type 0

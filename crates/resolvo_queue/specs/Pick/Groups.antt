@@ -11,10 +11,6 @@ abbrev pub is_in : Group → Position → Bool
 is_in (OfParent first) p = p.first_of_parent == first
 is_in OfAllParents p = true
 
--- the clauses of the parent whose clause is at the position
-abbrev pub group_at : Position → Group
-group_at p = OfParent p.first_of_parent
-
 -- no position of the group is before this one
 abbrev pub start_of : Group → Position
 start_of (OfParent first) = record { first_of_parent = first; number = 0 }

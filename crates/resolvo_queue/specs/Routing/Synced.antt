@@ -50,23 +50,23 @@ module _ (clauses : List TrackedClause) (literals : TrackedClause → List Lit) 
 abbrev pub counts : Values → (woken : ℕ) → TrackedClause → Bool
 counts val woken c = nat_lt c.position.number woken && known_true (val c.parent)
 
--- a queue that was synced at the values of before is synced at those of now, whatever the literals and the rows are and
--- however many clauses were woken, if the values differ at routed variables alone; anew, it is synced whatever it was
+-- a queue whose clauses below a number are woken, and that was synced at the values of before, is synced at those of now,
+-- whatever the literals and the rows are, if the values differ at routed variables alone; anew, it is whatever it was
 abbrev pub SyncsTo : (clauses : List TrackedClause) (by_parent by_condition : List (List ℕ))
-    (listing : ℕ → List Requirement) (anew : Bool) (before now : Values) (routed : List ℕ)
+    (listing : ℕ → List Requirement) (woken : ℕ) (anew : Bool) (before now : Values) (routed : List ℕ)
     (ts ts' : List Record) (q q' : Queued) → Type 0
-SyncsTo clauses by_parent by_condition listing anew before now routed ts ts' q q' =
-    (literals : TrackedClause → List Lit) (rows_of : Requirement → List Row) (woken : ℕ) →
+SyncsTo clauses by_parent by_condition listing woken anew before now routed ts ts' q q' =
+    (literals : TrackedClause → List Lit) (rows_of : Requirement → List Row) →
     FindsAll clauses literals by_parent by_condition ts → ListsKnown rows_of listing ts →
     (anew ≡ false → SameElsewhere (is_among routed) before now
     × KeepsQueued clauses literals rows_of before (counts before woken) ts q) →
     KeepsQueued clauses literals rows_of now (counts now woken) ts' q'
 
 -- so is what a queue keeps, from the trail of its last sync on
-abbrev pub SyncsTracked : {A : Type 0} (anew : Bool) (now : Values) (routed : List ℕ)
+abbrev pub SyncsTracked : {A : Type 0} (woken : ℕ) (anew : Bool) (now : Values) (routed : List ℕ)
     (old new : TrackedClauses A) → Type 0
-SyncsTracked anew now routed old new =
-    SyncsTo old.index.clauses.items old.index.by_parent old.index.by_condition (listing old.occurrences) anew
+SyncsTracked woken anew now routed old new =
+    SyncsTo old.index.clauses.items old.index.by_parent old.index.by_condition (listing old.occurrences) woken anew
     (values_of old.trail.items) now routed old.requirements new.requirements old.queued new.queued
 
 -- every clause from a number on with a true parent is queued

@@ -51,7 +51,7 @@ returns-in_ok-wake_clauses-in-Known-None-clause-unknown g c = rw c.forget-in-Kno
 pub returns-in_ok-wake_clauses-in-Known-None-clause-woken : goal.returns-in_ok-wake_clauses-in-Known-None-clause-woken
 returns-in_ok-wake_clauses-in-Known-None-clause-woken g c = rw c.forget-in-Known-None.ensures
     (had_none (ways c.args.routing.now) c.args.requirements.now c.in-Some.place c.wake_clauses.new.queued
-    (subst (λ ns. AreWoken c.args.routing.now.index.now.clauses.items
+    (subst (λ ns. AreWoken c.args.routing.now.clauses.now
     (values_in c.args.routing.now.map.now) ns c.wake_clauses.new.queued) c.clauses.ensures
     c.in_ok-wake_clauses-in-Known-None.ensures.woken))
 

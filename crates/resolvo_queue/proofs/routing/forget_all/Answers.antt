@@ -6,7 +6,7 @@ use Rattle.resolvo_queue.proofs.routing.forget_all.Goals as goal
 
 pub loop-requirement-preserved : goal.loop-requirement-preserved
 loop-requirement-preserved g c = record {
-  grows = grows_both (IsOfClause c.args.routing.now.index.now.clauses.items) c.args.queued.now c.loop-requirement.queued
+  grows = grows_both (IsOfClause c.args.routing.now.clauses.now) c.args.queued.now c.loop-requirement.queued
       c.forget.new.queued c.loop-requirement.invariant.grows c.forget.ensures.grows;
   only = forgets_both c.args.requirements.now c.loop-requirement.requirements c.forget.new.requirements
       c.loop-requirement.invariant.only c.forget.ensures.only;

@@ -4,7 +4,7 @@ use Rattle.resolvo_queue.proofs.routing.forget_all.Given as goal
 
 abbrev pub invariant-loop-requirement : goal.invariant-loop-requirement
 invariant-loop-requirement g l = record {
-  grows : GrowsBy (IsOfClause l.routing.index.now.clauses.items) l.initial.queued l.queued;
+  grows : GrowsBy (IsOfClause l.routing.clauses.now) l.initial.queued l.queued;
   only : OnlyForgets l.initial.requirements l.requirements;
   others : ForgetsAmong l.listed l.initial.requirements l.requirements;
   unknown : AreUnknown (take l.requirement-index l.listed) l.requirements;

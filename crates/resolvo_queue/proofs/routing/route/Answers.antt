@@ -8,7 +8,8 @@ returns-clause-ok g c =
     let w = ways c.args.routing.now in
     routes_one w c.forget_all.result c.args.variable c.args.requirements.now c.forget_all.new.requirements
     c.args.queued.now c.wake_clauses.new.queued c.wake_by_condition.new.queued c.forget_all.new.queued
-    c.wake_clauses.ensures.grows (subst (λ ns. AreWoken w.clauses w.val ns c.wake_clauses.new.queued) c.at.ensures
+    c.wake_clauses.ensures.grows
+    (subst (λ ns. AreWoken w.clauses w.val ns c.wake_clauses.new.queued) c.at-numbers.ensures
     c.in_ok-wake_clauses.ensures.woken) c.wake_by_condition.ensures.grows c.in_ok-wake_by_condition.ensures.woken
     c.forget_all.ensures.grows c.forget_all.ensures.only
     (subst (λ rs. ForgetsAmong rs c.args.requirements.now c.forget_all.new.requirements) c.listing-listed.ensures

@@ -7,5 +7,5 @@ pub returns-clause-woken : goal.returns-clause-woken
 returns-clause-woken g c =
     let routing = c.args.routing.now in
     on_ok_weaker c.wake_clauses.result (λ woken decided.
-    subst (λ ns. AreWoken routing.index.now.clauses.items (values_in routing.map.now) ns c.wake_clauses.new.queued)
+    subst (λ ns. AreWoken routing.clauses.now (values_in routing.map.now) ns c.wake_clauses.new.queued)
     c.at-numbers.ensures woken) c.wake_clauses.ensures.woken
