@@ -1,6 +1,5 @@
 -- What refused questions about version sets in turn leave.
 use Rattle.std.proofs.Common.{◌≡◌, ℕ, ◌<◌, ◌+◌, Bool, List, [], ◌∷◌, ◌++◌, length, take, drop, get_or, ◌∙◌, ap, refl, sym, subst, inl, inr}
-use Rattle.std.specs.Prelude.{◌⊎◌}
 use Rattle.std.proofs.lemmas.List.{append-nil, append_assoc, take_more, take-append-drop}
 use Rattle.typed_ids.specs.declared.version_set_id.VersionSetId.{VersionSetId}
 use Rattle.solver_cache.specs.Cache.{Cache, is_set_asked}
@@ -48,14 +47,10 @@ module _ {D N S A H : Type 0} (p : Provider N S) (may : MayAnswer N S A) (has : 
     whole : take i vs ++ v ∷ behind ≡ vs
     whole = sym (append_assoc (take i vs) (v ∷ []) behind) ∙ ap (λ l. l ++ behind) (sym (take_more vs i d lt)) ∙ take-append-drop (i + 1) vs
 
-    unsorted_next : IsUnsorted p may has mid v new ⊎ IsSorted p may has mid v new → AreUnsorted p may has mid (v ∷ behind) new
-    unsorted_next (inl left) = inl left
-    unsorted_next (inr next) = inr (new, next, none_sorted behind new)
-
     -- one of several was refused
     pub left_in_turn : {C : Type 0} (lacks : Bool) (e : CacheError C) → IsRefusedOf (is_set_asked p mid (get_or vs i d)) lacks mid e new
-        → IsUnsorted p may has mid (get_or vs i d) new ⊎ IsSorted p may has mid (get_or vs i d) new → AreLeft p may has vs old e new
+        → IsUnsorted p may has mid (get_or vs i d) new → AreLeft p may has vs old e new
     left_in_turn lacks (Cancelled reason) refused left =
         subst (λ l. AreStopped p may has old l new) whole (stopped_after (take i vs) (v ∷ behind) old mid new sorted (inl refused))
     left_in_turn lacks (Store e) refused left =
-        subst (λ l. AreUnsorted p may has old l new) whole (unsorted_after (take i vs) (v ∷ behind) old mid new sorted (unsorted_next left))
+        subst (λ l. AreUnsorted p may has old l new) whole (unsorted_after (take i vs) (v ∷ behind) old mid new sorted (inl left))

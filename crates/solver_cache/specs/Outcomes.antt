@@ -1,7 +1,7 @@
 -- The outcomes of each question to a cache: a word for where it is answered, and one for where it is refused. Of an
 -- answer it says where the cache keeps it, and of both what is left. D are the providers, N the names, S the solvables,
 -- A the allocators, H the sets of solvables.
-use Rattle.std.specs.Prelude.{◌≡◌, ◌⊎◌, ℕ, Bool, true, false, List, map, slice_get, Some, All}
+use Rattle.std.specs.Prelude.{◌≡◌, ℕ, Bool, true, false, List, map, slice_get, Some, All}
 use Rattle.std.specs.List.{list_any}
 use Rattle.std.specs.Map.{lookup}
 use Rattle.typed_ids.specs.declared.version_set_id.VersionSetId.{VersionSetId}
@@ -105,11 +105,13 @@ module _ {D N S A H : Type 0} (p : Provider N S) (may : MayAnswer N S A) (has : 
     pub later : IsLater has old new
     pub asked : All (λ v. is_set_asked p new v ≡ true) vs
 
-  -- the place of a version set's list isn't noted, whether the list is kept or not
-  pub record RefusesNext {C : Type 0} (v : VersionSetId) (e : CacheError C) (new : Cache D N S A H) : Type 0 where
-    pub reason : IsRefusedOf (is_set_asked p old v) (lacks_candidates p old (p.universe.set_name v)) old e new
-    pub left : IsUnsorted p may has old v new ⊎ IsSorted p may has old v new
+  -- those that version sets hold are answered, by the places of their lists
+  pub record AnswersSets (vs : List VersionSetId) (ids : List (ListKind × ℕ)) (new : Cache D N S A H) : Type 0 where
+    pub sorted : AreSorted p may has old vs new
+    pub lists : AreListed p new ids vs
     pub later : IsLater has old new
+    pub asked : All (λ v. is_set_asked p new v ≡ true) vs
+    pub fit : list_any (λ v. p.is_large_name (p.universe.set_name v)) vs ≡ false
 
 module _ {D N S A H : Type 0} (p : Provider N S) (old : Cache D N S A H) where
   -- what a solvable needs is answered, by the place of the provider's answer

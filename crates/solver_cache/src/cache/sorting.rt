@@ -1,6 +1,5 @@
 //! The questions about requirements: their candidates, best first.
-ghost use Rattle.std.specs.Prelude.{◌≡◌, ℕ, [], ◌∷◌, ◌++◌, true, All, flat_map};
-ghost use Rattle.std.specs.Prelude.{Some, IsOk, IfOk, OnOk, IfErr};
+ghost use Rattle.std.specs.Prelude.{◌≡◌, true, All, flat_map, Some, IsOk, IfOk, OnOk, IfErr};
 ghost use Rattle.typed_ids.specs.declared.error.StoreError.TheVariants.{OutOfMemory};
 ghost use Rattle.providers.specs.Provider.{favored_first};
 
@@ -17,10 +16,9 @@ impl<D: DependencyProvider + Drop> SolverCache<D> {
     ghost use Rattle.providers.specs.Provider.{matching, sets_of, knows_requirement};
     ghost use Rattle.providers.specs.Requirement.{same_requirement};
     ghost use Rattle.providers.specs.declared.requirement.Requirement.TheVariants.{Single, Union};
-    ghost use Rattle.solver_cache.specs.Cache.{is_set_asked, is_kept, list_at, listed, sorted_of, AreListed};
-    ghost use Rattle.solver_cache.specs.declared.list_id.ListKind.{ListKind};
-    ghost use Rattle.solver_cache.specs.Outcomes.{AnswersSorted, AnswersRequirement, AnswersLists, SortsSets};
-    ghost use Rattle.solver_cache.specs.Outcomes.{RefusesSorted, RefusesSets, RefusesNext};
+    ghost use Rattle.solver_cache.specs.Cache.{is_set_asked, is_kept, list_at, listed, sorted_of};
+    ghost use Rattle.solver_cache.specs.Outcomes.{AnswersSorted, AnswersRequirement, AnswersLists, AnswersSets};
+    ghost use Rattle.solver_cache.specs.Outcomes.{SortsSets, RefusesSorted, RefusesSets};
 
     /// The candidates of a requirement: of each of its version sets, one after the other, those that it holds, best
     /// first. The first refusal ends the call.
@@ -146,83 +144,37 @@ impl<D: DependencyProvider + Drop> SolverCache<D> {
             D.SolvableId.Set.has self.old
             (sets_of (D.universe self.old.provider) requirement) e self.new) }
     {
-        let mut ids = Vec::new(self.alloc);
-        self.sort_each(requirement, &mut ids)?;
-        // What is true of each cache is true of this one: a look at a field tells it.
-        let _provider = &self.provider;
-        Ok(ids)
-    }
-
-    /// Sorts the candidates of a requirement's version sets, and notes where each list is kept. Of one version set it
-    /// takes no memory for the list of sets.
-    fn sort_each(
-        &mut self,
-        requirement: Requirement,
-        ids: &mut Vec<ListId, D::Alloc>,
-    ) -> Result<(), CacheError<D::Cancel>>
-        requires known { knows_requirement (D.universe self.old.provider) requirement ≡ true }
-        requires empty { ids.old.items ≡ [] }
-        ensures sorted { OnOk result (SortsSets
-            (⟦<D as ProviderFunctions>⟧.functions self.old.provider) (D.may_answer self.old.provider)
-            D.SolvableId.Set.has self.old
-            (sets_of (D.universe self.old.provider) requirement) self.new) }
-        ensures lists { OnOk result
-            (AreListed (⟦<D as ProviderFunctions>⟧.functions self.old.provider) self.new ids.new.items
-            (sets_of (D.universe self.old.provider) requirement)) }
-        ensures refused { IfErr result (λ e. RefusesSets
-            (⟦<D as ProviderFunctions>⟧.functions self.old.provider) (D.may_answer self.old.provider)
-            D.SolvableId.Set.has self.old
-            (sets_of (D.universe self.old.provider) requirement) e self.new) }
-    {
         match requirement {
-            Requirement::Single(set) => self.sort_all(&[set], ids),
+            Requirement::Single(set) => self.sort_all(&[set]),
             Requirement::Union(_) => {
                 let sets = requirement.version_sets(&self.provider);
                 let sets = Vec::from_slice(self.alloc, sets.as_slice())?;
-                self.sort_all(&sets, ids)
+                self.sort_all(&sets)
             }
         }
     }
 
-    /// Sorts the candidates of version sets in turn, and notes where each list is kept.
+    /// The same of version sets.
     fn sort_all(
         &mut self,
         sets: &[VersionSetId],
-        ids: &mut Vec<ListId, D::Alloc>,
-    ) -> Result<(), CacheError<D::Cancel>>
-        requires known { All (λ v. (D.universe self.old.provider).knows_set v ≡ true) sets.now }
-        requires empty { ids.old.items ≡ [] }
-        ensures sorted { OnOk result (SortsSets
+    ) -> Result<Vec<ListId, D::Alloc>, CacheError<D::Cancel>>
+        requires { All (λ v. (D.universe self.old.provider).knows_set v ≡ true) sets.now }
+        ensures answered { IfOk result (λ ids. AnswersSets
             (⟦<D as ProviderFunctions>⟧.functions self.old.provider) (D.may_answer self.old.provider)
-            D.SolvableId.Set.has self.old sets.now self.new) }
-        ensures lists { OnOk result
-            (AreListed (⟦<D as ProviderFunctions>⟧.functions self.old.provider) self.new ids.new.items sets.now) }
+            D.SolvableId.Set.has self.old sets.now ids.items self.new) }
         ensures refused { IfErr result (λ e. RefusesSets
             (⟦<D as ProviderFunctions>⟧.functions self.old.provider) (D.may_answer self.old.provider)
             D.SolvableId.Set.has self.old sets.now e self.new) }
     {
+        let mut ids = Vec::with_capacity(self.alloc, sets.len())?;
         for set in sets {
-            self.sort_next(*set, ids)?;
+            let id = self.cache_sorted_candidates_for_version_set(*set)?;
+            ids.push_reserved(id);
         }
-        Ok(())
-    }
-
-    /// Sorts the candidates of a version set, and notes where they are kept.
-    fn sort_next(
-        &mut self,
-        set: VersionSetId,
-        ids: &mut Vec<ListId, D::Alloc>,
-    ) -> Result<(), CacheError<D::Cancel>>
-        requires { (D.universe self.old.provider).knows_set set ≡ true }
-        ensures noted { OnOk result ((id : ListKind × ℕ) × (ids.new.items ≡ ids.old.items ++ id ∷ []) ×
-            AnswersSorted (⟦<D as ProviderFunctions>⟧.functions self.old.provider) (D.may_answer self.old.provider)
-            D.SolvableId.Set.has self.old set id self.new) }
-        ensures refused { IfErr result (λ e. RefusesNext
-            (⟦<D as ProviderFunctions>⟧.functions self.old.provider) (D.may_answer self.old.provider)
-            D.SolvableId.Set.has self.old set e self.new) }
-    {
-        let id = self.cache_sorted_candidates_for_version_set(set)?;
-        Ok(ids.push(id)?)
+        // What is true of each cache is true of this one: a look at a field tells it.
+        let _provider = &self.provider;
+        Ok(ids)
     }
 
     /// The lists that are kept here, one after the other.

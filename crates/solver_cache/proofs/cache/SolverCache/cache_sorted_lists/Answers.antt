@@ -1,32 +1,21 @@
-use Rattle.std.proofs.lemmas.Grind.{common_steps}
-use Rattle.std.proofs.Common.{rules, ◌≡◌, ◌∙◌, true, false, sym, ap, subst, arith}
-use Rattle.std.specs.List.{list_any}
-use Rattle.std.specs.Prelude.{All}
-use Rattle.providers.specs.Provider.{sets_of}
-use Rattle.solver_cache.specs.Cache.{is_set_asked}
-use Rattle.solver_cache.specs.Functions.{gathered}
-use Rattle.solver_cache.proofs.IdLemmas.{all_asked_fit}
+use Rattle.std.proofs.Common.{sym}
+use Rattle.std.proofs.lemmas.Result.{IfOk-weaker}
+use Rattle.typed_ids.specs.declared.error.StoreError.TheVariants.{OutOfMemory}
+use Rattle.solver_cache.specs.declared.error.CacheError.TheVariants.{Store}
+use Rattle.solver_cache.proofs.CacheLemmas.{handed_on, later_same}
+use Rattle.solver_cache.proofs.UnansweredLemmas.{none_sorted}
 use Rattle.solver_cache.proofs.cache.SolverCache.cache_sorted_lists.Goals as goal
 
-pub returns-clause-answered : goal.returns-clause-answered
-returns-clause-answered g c =
-    let D = g.D in
-    let provided = gathered D.NameId.PartialEq.eq D.SolvableId.PartialEq.eq D.NameId.Slots.IdMap.is_too_large D.SolvableId.Slots.IdMap.is_too_large
-    D.SolvableId.Set.IdSet.is_too_large D.NameId.SolverId.are_many D.Interner.universe D.DependencyProvider.answers in
-    let r = c.args.requirement in
-    let old = c.args.self.now in
-    let new = c.sort_each.new.self in
-    let done = c.in_ok-sort_each.ensures.sorted in
-    let inside = c.self-2.inside.provider in
-    let same : inside ≡ old.provider = ap (λ v. v.provider) c.self-2.view_is ∙ done.later.provider in
-    let asked : All (λ v. is_set_asked (provided old.provider) new v ≡ true) (sets_of (D.Interner.universe old.provider) r) = search rules in
-    record {
-      sorted = grind (arith, common_steps);
-      lists = grind (arith, common_steps);
-      later = grind (arith, common_steps);
-      asked = grind (arith, common_steps);
-      fit = subst (λ q. list_any (λ v. (provided q).is_large_name ((provided q).universe.set_name v)) (sets_of (provided q).universe r) ≡ false) same
-          (all_asked_fit _ _ c.self-2.invariant g.met.D.NameId.SameValue.same (sets_of (D.Interner.universe inside) r)
-          (subst (λ st. All (λ v. is_set_asked (provided inside) st v ≡ true) (sets_of (D.Interner.universe inside) r)) (sym c.self-2.view_is)
-          (subst (λ q. All (λ v. is_set_asked (provided q) new v ≡ true) (sets_of (D.Interner.universe q) r)) (sym same) asked)));
-    }
+pub returns-in-Single-clause-answered : goal.returns-in-Single-clause-answered
+returns-in-Single-clause-answered g c =
+    rw c.in-Single.is (IfOk-weaker c.sort_all.result _ _
+    (λ ids done. record { sorted = done.sorted; lists = done.lists; later = done.later; asked = done.asked; fit = done.fit })
+    c.sort_all.ensures.answered)
+
+pub returns-in_err-sets-in-Union-clause-refused : goal.returns-in_err-sets-in-Union-clause-refused
+returns-in_err-sets-in-Union-clause-refused g c =
+    handed_on _ c.from_residual.result (Store OutOfMemory) c.from_residual.ensures.1 (rw (sym c.self.view_is) (record {
+      reason = tt;
+      left = none_sorted _ _ _ _ _;
+      later = later_same _ _;
+    }))

@@ -1,78 +1,113 @@
 use Rattle.std.proofs.lemmas.Grind.{common_steps}
-use Rattle.std.proofs.Common.{◌≡◌, ◌++◌, ◌∷◌, [], ◌+◌, true, get_or, subst, take, arith}
-use Rattle.std.proofs.lemmas.List.{take_more}
+use Rattle.std.proofs.Common.{◌≡◌, ◌++◌, ◌∷◌, [], ◌+◌, ◌∙◌, true, false, get_or, subst, sym, ap, take, arith}
+use Rattle.std.specs.List.{list_any}
+use Rattle.std.specs.Prelude.{All}
+use Rattle.std.proofs.lemmas.List.{take_more, take_all}
+use Rattle.typed_ids.specs.declared.error.StoreError.TheVariants.{OutOfMemory}
 use Rattle.typed_ids.specs.declared.version_set_id.VersionSetId.{VersionSetId}
 use Rattle.std.proofs.lemmas.List.Elements.{All-push}
 use Rattle.solver_cache.specs.Cache.{is_set_asked}
-use Rattle.solver_cache.specs.Functions.{gathered}
-use Rattle.solver_cache.specs.Outcomes.{AnswersSorted, RefusesNext}
-use Rattle.solver_cache.proofs.CacheLemmas.{handed_on, later_trans, asked_later, sorted_push, refused_in_turn}
+use Rattle.solver_cache.specs.Functions.{Provider, gathered}
+use Rattle.solver_cache.specs.Outcomes.{AnswersSorted, RefusesSorted}
+use Rattle.solver_cache.specs.declared.error.CacheError.TheVariants.{Store}
+use Rattle.solver_cache.proofs.CacheLemmas.{handed_on, later_same, later_trans, asked_later, sorted_push, refused_in_turn}
+use Rattle.solver_cache.proofs.IdLemmas.{all_asked_fit}
 use Rattle.solver_cache.proofs.ListedLemmas.{listed_push}
-use Rattle.solver_cache.proofs.UnansweredLemmas.{left_in_turn}
+use Rattle.solver_cache.proofs.UnansweredLemmas.{left_in_turn, none_sorted}
+use Rattle.solver_cache.proofs.cache.SolverCache.sort_all.Given.{Over}
 use Rattle.solver_cache.proofs.cache.SolverCache.sort_all.Goals as goal
 
-pub returns-in_err-sort_next-clause-refused : goal.returns-in_err-sort_next-clause-refused
-returns-in_err-sort_next-clause-refused g c =
-    let D = g.D in
-    let has = D.SolvableId.Set.IdSet.has in
+-- the provider's functions
+abbrev provided : (g : Over) → g.row.D.Denot → Provider g.row.D-NameId.Denot g.row.D-SolvableId.Denot
+provided g = gathered g.D.NameId.PartialEq.eq g.D.SolvableId.PartialEq.eq g.D.NameId.Slots.IdMap.is_too_large g.D.SolvableId.Slots.IdMap.is_too_large
+    g.D.SolvableId.Set.IdSet.is_too_large g.D.NameId.SolverId.are_many g.D.Interner.universe g.D.DependencyProvider.answers
+
+abbrev none : VersionSetId
+none = record { 0 = 0 }
+
+pub returns-in_err-ids-clause-refused : goal.returns-in_err-ids-clause-refused
+returns-in_err-ids-clause-refused g c =
+    handed_on _ c.from_residual.result (Store OutOfMemory) c.from_residual.ensures.1 (rw (sym c.self.view_is) (record {
+      reason = tt;
+      left = none_sorted _ _ _ _ _;
+      later = later_same _ _;
+    }))
+
+pub returns-in_err-id-clause-refused : goal.returns-in_err-id-clause-refused
+returns-in_err-id-clause-refused g c =
+    let has = g.D.SolvableId.Set.IdSet.has in
     let sets = c.args.sets.now in
     let i = c.loop-set.set-index in
-    let none : VersionSetId = record { 0 = 0 } in
-    let v = get_or sets i none in
     let old = c.args.self.now in
     let mid = c.loop-set.self in
-    let provided = gathered D.NameId.PartialEq.eq D.SolvableId.PartialEq.eq D.NameId.Slots.IdMap.is_too_large D.SolvableId.Slots.IdMap.is_too_large
-    D.SolvableId.Set.IdSet.is_too_large D.NameId.SolverId.are_many D.Interner.universe D.DependencyProvider.answers in
-    let may = D.DependencyProvider.may_answer in
-    let p = provided old.provider in
-    let same = c.loop-set.invariant.later.provider in
-    let new = c.sort_next.new.self in
-    let e = c.in_err-sort_next.field-0.0 in
-    let refused : RefusesNext p (may old.provider) has mid v e new =
-    subst (λ q. RefusesNext (provided q) (may q) has mid v e new) same c.in_err-sort_next.ensures.refused in
-    handed_on _ c.from_residual.result e c.from_residual.ensures.1 (record {
-      reason = refused_in_turn has p old mid new c.loop-set.invariant.later refused.later sets i none c.loop-set-test.true e refused.reason;
-      left = left_in_turn p (may old.provider) has sets i none c.loop-set-test.true old mid new c.loop-set.invariant.in_turn _ e refused.reason refused.left;
-      later = later_trans has old mid new c.loop-set.invariant.later refused.later;
+    let may = g.D.DependencyProvider.may_answer in
+    let p = provided g old.provider in
+    let before = c.loop-set.invariant in
+    let new = c.cache_sorted_candidates_for_version_set.new.self in
+    let e = c.in_err-id.field-0.0 in
+    let refused : RefusesSorted p (may old.provider) has mid (get_or sets i none) e new =
+    subst (λ q. RefusesSorted (provided g q) (may q) has mid (get_or sets i none) e new) before.later.provider c.in_err-id.ensures.refused in
+    handed_on _ c.from_residual-in_err-id.result e c.from_residual-in_err-id.ensures.1 (record {
+      reason = refused_in_turn has p old mid new before.later refused.later sets i none c.loop-set-test.true e refused.reason;
+      left = left_in_turn p (may old.provider) has sets i none c.loop-set-test.true old mid new before.in_turn _ e refused.reason refused.left;
+      later = later_trans has old mid new before.later refused.later;
     })
 
 pub loop-set-preserved : goal.loop-set-preserved
 loop-set-preserved g c =
-    let D = g.D in
-    let has = D.SolvableId.Set.IdSet.has in
+    let has = g.D.SolvableId.Set.IdSet.has in
     let sets = c.args.sets.now in
     let i = c.loop-set.set-index in
-    let none : VersionSetId = record { 0 = 0 } in
     let v = get_or sets i none in
     let old = c.args.self.now in
     let mid = c.loop-set.self in
-    let provided = gathered D.NameId.PartialEq.eq D.SolvableId.PartialEq.eq D.NameId.Slots.IdMap.is_too_large D.SolvableId.Slots.IdMap.is_too_large
-    D.SolvableId.Set.IdSet.is_too_large D.NameId.SolverId.are_many D.Interner.universe D.DependencyProvider.answers in
-    let p = provided old.provider in
-    let same = c.loop-set.invariant.later.provider in
-    let new = c.sort_next.new.self in
-    let noted = c.in_ok-sort_next.ensures.noted in
-    let id = noted.0 in
-    let answered : AnswersSorted p (D.DependencyProvider.may_answer old.provider) has mid v id new =
-    subst (λ q. AnswersSorted (provided q) (D.DependencyProvider.may_answer q) has mid v id new) same noted.2 in
+    let may = g.D.DependencyProvider.may_answer in
+    let p = provided g old.provider in
+    let before = c.loop-set.invariant in
+    let new = c.cache_sorted_candidates_for_version_set.new.self in
+    let id = c.in_ok-id.id in
+    let answered : AnswersSorted p (may old.provider) has mid v id new =
+    subst (λ q. AnswersSorted (provided g q) (may q) has mid v id new) before.later.provider c.in_ok-id.ensures.answered in
     let more : take (i + 1) sets ≡ take i sets ++ v ∷ [] = take_more sets i none c.loop-set-test.true in
     rw more (record {
-      in_turn = sorted_push has p (D.DependencyProvider.may_answer old.provider) (take i sets) v old mid new c.loop-set.invariant.in_turn answered.sorted;
-      listed = rw noted.1 (listed_push has p mid new c.loop-set.ids.items (take i sets) id v answered.later c.loop-set.invariant.listed answered.list);
-      later = later_trans has old mid new c.loop-set.invariant.later answered.later;
+      in_turn = sorted_push has p (may old.provider) (take i sets) v old mid new before.in_turn answered.sorted;
+      listed = rw c.push_reserved.ensures.items
+          (listed_push has p mid new c.loop-set.ids.items (take i sets) id v answered.later before.listed answered.list);
+      later = later_trans has old mid new before.later answered.later;
       asked = All-push (λ w. is_set_asked p new w ≡ true) (take i sets) v
-          (λ k d lt. asked_later has p _ mid new answered.later (c.loop-set.invariant.asked k d lt)) answered.asked;
+          (λ k d lt. asked_later has p _ mid new answered.later (before.asked k d lt)) answered.asked;
+      count = grind (arith, common_steps);
+      room = c.push_reserved.ensures.capacity ∙ before.room;
     })
 
 pub loop-set-init : goal.loop-set-init
-loop-set-init g c = grind (arith, common_steps)
-
-pub returns-clause-sorted : goal.returns-clause-sorted
-returns-clause-sorted g c = record {
-  sorted = grind (arith, common_steps);
-  later = grind (arith, common_steps);
+loop-set-init g c = rw (sym c.self.view_is) (record {
+  in_turn = grind (arith, common_steps);
+  listed = grind (arith, common_steps);
+  later = later_same _ _;
   asked = grind (arith, common_steps);
-}
+  count = grind (arith, common_steps);
+  room = grind (arith, common_steps);
+})
 
-pub returns-clause-lists : goal.returns-clause-lists
-returns-clause-lists g c = grind (arith, common_steps)
+pub returns-clause-answered : goal.returns-clause-answered
+returns-clause-answered g c =
+    let sets = c.args.sets.now in
+    let old = c.args.self.now in
+    let end = c.loop-set.self in
+    let done = c.loop-set.invariant in
+    let all : take c.loop-set.set-index sets ≡ sets = take_all c.loop-set.set-index sets c.loop-set-test.false in
+    let inside = c.self-2.inside.provider in
+    let same : inside ≡ old.provider = ap (λ v. v.provider) c.self-2.view_is ∙ done.later.provider in
+    let asked : All (λ v. is_set_asked (provided g old.provider) end v ≡ true) sets =
+    subst (λ l. All (λ v. is_set_asked (provided g old.provider) end v ≡ true) l) all done.asked in
+    record {
+      sorted = grind (arith, common_steps);
+      lists = grind (arith, common_steps);
+      later = grind (arith, common_steps);
+      asked = grind (arith, common_steps);
+      fit = subst (λ q. list_any (λ v. (provided g q).is_large_name ((provided g q).universe.set_name v)) sets ≡ false) same
+          (all_asked_fit _ _ c.self-2.invariant g.met.D.NameId.SameValue.same sets
+          (subst (λ st. All (λ v. is_set_asked (provided g inside) st v ≡ true) sets) (sym c.self-2.view_is)
+          (subst (λ q. All (λ v. is_set_asked (provided g q) end v ≡ true) sets) (sym same) asked)));
+    }

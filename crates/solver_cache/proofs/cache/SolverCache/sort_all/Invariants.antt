@@ -1,5 +1,5 @@
-use Rattle.std.proofs.Common.{◌≡◌, true, take}
-use Rattle.std.specs.Prelude.{All}
+use Rattle.std.proofs.Common.{◌≡◌, true, length, take}
+use Rattle.std.specs.Prelude.{All, vec_len, vec_capacity}
 use Rattle.solver_cache.specs.Cache.{is_set_asked, AreListed}
 use Rattle.solver_cache.specs.Functions.{gathered}
 use Rattle.solver_cache.specs.Questions.{IsLater, AreSorted}
@@ -18,4 +18,6 @@ invariant-loop-set g l =
       listed : AreListed p l.self l.ids.items done;
       later : IsLater has old l.self;
       asked : All (λ v. is_set_asked p l.self v ≡ true) done;
+      count : vec_len l.ids ≡ l.set-index;
+      room : vec_capacity l.ids ≡ length l.sets;
     }
