@@ -4,8 +4,9 @@ use Rattle.std.proofs.Common.{length, take, get_or, inl, inr, arith, ap, ap₂, 
 use Rattle.std.specs.Prelude.{decimal, if◌then◌else◌, is_ok}
 use Rattle.std.specs.Io.{StartsWith}
 use Rattle.std.proofs.lemmas.Fmt.{decimal_digit, decimal_step}
+use Rattle.std.proofs.lemmas.List.{length-append}
 use lib.Ieee.Fits.{and_l, and_r}
-use Rattle.scripts.specs.declared.reply_line.TheConstants.{PAIRS}
+use Rattle.scripts.specs.declared.digit_pairs.TheConstants.{PAIRS}
 use Rattle.scripts.specs.Replies.{Pushes, digit_pair}
 use Rattle.scripts.proofs.Beginnings.{begins_more, begins_whole}
 
@@ -35,6 +36,10 @@ two_more n large small =
     let tens : n / 10 % 10 ≡ n % 100 / 10 = omega arith in
     let ones : n % 10 ≡ n % 100 % 10 = omega arith in
     rw (decimal_step n (omega arith) small, decimal_step (n / 10) (omega arith) (omega arith), append_assoc, hundreds, tens, ← ones)
+
+-- so it has two digits more than its hundreds
+pub two_longer : (n : ℕ) → 100 ≤ n → n < 2 ^ 64 → length (decimal n) ≡ length (decimal (n / 100)) + 2
+two_longer n large small = ap length (two_more n large small) ∙ length-append (decimal (n / 100)) (digit_pair (n % 100))
 
 pub three_digits : (n : ℕ) → 100 ≤ n → n < 1000 → decimal n ≡ (48 + n / 100) ∷ digit_pair (n % 100)
 three_digits n large small =

@@ -16,15 +16,15 @@ faulty_text (Some number) = unreadable_text number
 
 -- lines in which numbers stand for these names and solvables, with what a store knows of the packages that it is over
 module _ {N S : Type 0} (ids : Ids N S) (provided : Packages → Provider N S) where
-  -- after this listing the commands begin in these lines, with so many before them, and are answered by this text, over
-  -- the packages that are listed by then
+  -- after this listing the commands begin in these lines, of which the first has the number after this one, and are
+  -- answered by this text, over the packages that are listed by then
   abbrev pub CommandsFrom : Listing → ℕ → List (List ℕ) → List ℕ → Option ℕ → Type 0
   CommandsFrom l n lines text faulty =
       (packages : Packages) × (before : ℕ) × (left : List (List ℕ)) × CommandsBegin l n lines before left packages
       × Answered ids (new_store (provided packages)) before left text faulty
 
-  -- after this listing the lines, with so many before them, are answered by this text, up to the first unreadable one:
-  -- there are no commands, or the catalogue has an unreadable line, or the commands are answered
+  -- after this listing the lines, of which the first has the number after this one, are answered by this text, up to
+  -- the first unreadable one: there are no commands, the catalogue has an unreadable line, or the commands are answered
   abbrev pub LinesFrom : Listing → ℕ → List (List ℕ) → List ℕ → Option ℕ → Type 0
   LinesFrom l n lines text None = (NeverBegins l lines × (text ≡ [])) ⊎ CommandsFrom l n lines text None
   LinesFrom l n lines text (Some number) =

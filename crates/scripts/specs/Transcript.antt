@@ -63,8 +63,8 @@ module _ {N S : Type 0} (ids : Ids N S) where
   HasCommand [] = ⊥
   HasCommand (line ∷ lines) = BeginsCommand (command_line_of ids line) (HasCommand lines)
 
-  -- the lines, with so many before them, are answered by this text: a line for each command that was obeyed, in turn,
-  -- up to the first unreadable line or the end
+  -- the lines, of which the first has the number after this one, are answered by this text: a line for each command
+  -- that was obeyed, in turn, up to the first unreadable line or the end
   abbrev pub Answered : Store N S → ℕ → List (List ℕ) → List ℕ → Option ℕ → Type 0
   Answered st before [] text faulty = (text ≡ []) × (faulty ≡ None)
   Answered st before (line ∷ lines) text faulty =

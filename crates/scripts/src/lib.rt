@@ -7,6 +7,8 @@
 #![tactic(auto)]
 
 mod command_line;
+mod digit_pairs;
+mod line_text;
 mod literal_words;
 mod over_packages;
 mod reply_line;

@@ -1,23 +1,20 @@
 //! Reply lines.
 #![tactic(auto, using(crate::proofs::Beginnings::begins_more, crate::proofs::Beginnings::begins_whole))]
 
-ghost use Rattle.std.specs.Prelude.{◌≡◌, ◌++◌, ◌/◌, ◌%◌, ◌<◌, ◌≤◌, codes, decimal, map, flat_map};
+ghost use Rattle.std.specs.Prelude.{◌≡◌, ◌++◌, ◌<◌, ◌≤◌, codes, decimal, length, map, flat_map, take};
 ghost use Rattle.resolvo_store.specs.Command.{LoadedAs, Refused, reply_of};
 ghost use Rattle.resolvo_store.specs.ReplyTexts.{field, list_text, others_text, lists_text, conflict_text};
 ghost use Rattle.resolvo_store.specs.ReplyTexts.{tracked_text, decision_text, undone_text, next_text};
 ghost use Rattle.resolvo_store.specs.ReplyTexts.{truth_text, words_text};
-ghost use Rattle.scripts.specs.Replies.{Pushes, digit_pair, reply_text, unreadable_text};
+ghost use Rattle.scripts.specs.Replies.{Pushes, reply_text, unreadable_text};
 
+use crate::digit_pairs::{four, pair};
+use crate::line_text::{LONGEST, put, put_field};
 use decisions::Decision;
 use resolvo_queue::QueueDecision;
 use resolvo_store::Reply;
 use std::alloc::{AllocError, Allocator};
 use typed_ids::{ClauseId, DenseIndex, StoreError, VariableId};
-
-/// The numbers below 100 in turn, with two digits each.
-static PAIRS: [u8; 200] =
-    *b"0001020304050607080910111213141516171819202122232425262728293031323334353637383940414243444546474849\
-5051525354555657585960616263646566676869707172737475767778798081828384858687888990919293949596979899";
 
 /// Puts the line of a reply after the text.
 pub fn push_reply<A: Allocator>(text: &mut Vec<u8>, reply: &Reply<A>) -> Result<(), AllocError>
@@ -36,18 +33,9 @@ pub fn push_reply<A: Allocator>(text: &mut Vec<u8>, reply: &Reply<A>) -> Result<
         Reply::Refused(e) => push_refused(text, *e),
         Reply::Clause(clause, conflict) => push_clause(text, *clause, *conflict),
         Reply::Tracked(new, clauses) => push_tracked(text, *new, *clauses),
-        Reply::Undone(last) => {
-            push_undone(text, *last)?;
-            push_end(text)
-        }
-        Reply::Next(decision) => {
-            push_next(text, *decision)?;
-            push_end(text)
-        }
-        Reply::Decided(decision) => {
-            push_decision(text, decision)?;
-            push_end(text)
-        }
+        Reply::Undone(last) => push_undone(text, *last),
+        Reply::Next(decision) => push_next(text, *decision),
+        Reply::Decided(decision) => push_decision(text, decision),
         Reply::Loaded(lists) => push_loaded(text, lists),
         Reply::Watchers(clauses) => {
             push_watchers(text, clauses)?;
@@ -150,27 +138,6 @@ fn push_few_digits(text: &mut Vec<u8>, number: u64) -> Result<(), AllocError>
     }
 }
 
-/// The four digits of a number below 10000.
-#[inline(always)]
-fn four(number: u64) -> [u8; 4]
-    requires { number < 10000 }
-    ensures { result ≡ digit_pair (number / 100) ++ digit_pair (number % 100) }
-{
-    let [thousands, hundreds] = pair(number / 100);
-    let [tens, ones] = pair(number % 100);
-    [thousands, hundreds, tens, ones]
-}
-
-/// The two digits of a number below 100.
-#[inline(always)]
-fn pair(number: u64) -> [u8; 2]
-    requires { number < 100 }
-    ensures { result ≡ digit_pair number }
-{
-    let at = 2 * number as usize;
-    [PAIRS[at], PAIRS[at + 1]]
-}
-
 /// A text, and a number directly after it.
 #[inline(always)]
 fn push_field(text: &mut Vec<u8>, name: &[u8], number: usize) -> Result<(), AllocError>
@@ -213,57 +180,67 @@ fn push_tracked(text: &mut Vec<u8>, new: bool, clauses: usize) -> Result<(), All
 }
 
 fn push_undone(text: &mut Vec<u8>, last: Option<(Decision, u32)>) -> Result<(), AllocError>
-    ensures { Pushes result text.old.items text.new.items (undone_text last) }
+    ensures { Pushes result text.old.items text.new.items (undone_text last ++ codes "\n") }
 {
-    match last {
-        None => text.extend_from_slice(b"undone"),
-        Some((decision, level)) => {
-            push_assignment(text, b"undone ", decision)?;
-            push_field(text, b" ", level as usize)
-        }
-    }
+    let Some((decision, level)) = last else {
+        return text.extend_from_slice(b"undone\n");
+    };
+    let mut line = [0; LONGEST];
+    let at = put_assignment(&mut line, b"undone ", decision);
+    let at = put_field(&mut line, at, b" ", level as usize);
+    push_ended(text, &mut line, at)
 }
 
 fn push_next(text: &mut Vec<u8>, decision: Option<Decision>) -> Result<(), AllocError>
-    ensures { Pushes result text.old.items text.new.items (next_text decision) }
+    ensures { Pushes result text.old.items text.new.items (next_text decision ++ codes "\n") }
 {
-    match decision {
-        None => text.extend_from_slice(b"next none"),
-        Some(decision) => push_assignment(text, b"next ", decision),
-    }
+    let Some(decision) = decision else {
+        return text.extend_from_slice(b"next none\n");
+    };
+    let mut line = [0; LONGEST];
+    let at = put_assignment(&mut line, b"next ", decision);
+    push_ended(text, &mut line, at)
 }
 
-/// A text, a variable directly after it, and its value and the clause that gave it, each after a blank.
+/// Puts a text at the beginning of a line, a variable directly after it, and its value and the clause that gave it,
+/// each after a blank. Answers the place behind them.
 #[inline(always)]
-fn push_assignment(text: &mut Vec<u8>, name: &[u8], decision: Decision) -> Result<(), AllocError>
-    ensures { Pushes result text.old.items text.new.items
-        (field name.now decision.variable ++ (truth_text decision.value ++ field (codes " ") decision.derived_from)) }
+fn put_assignment(line: &mut [u8; LONGEST], name: &[u8], decision: Decision) -> usize
+    requires { length name.now ≤ 8 }
+    ensures end { result ≤ 55 }
+    ensures line { take result line.new ≡
+        field name.now decision.variable ++ (truth_text decision.value ++ field (codes " ") decision.derived_from) }
 {
-    push_field(text, name, decision.variable.to_index())?;
+    let at = put_field(line, 0, name, decision.variable.to_index());
     let clause = decision.derived_from.to_index();
     if decision.value {
-        push_field(text, b" true ", clause)
+        put_field(line, at, b" true ", clause)
     } else {
-        push_field(text, b" false ", clause)
+        put_field(line, at, b" false ", clause)
     }
 }
 
 fn push_decision(text: &mut Vec<u8>, decision: &QueueDecision) -> Result<(), AllocError>
-    ensures { Pushes result text.old.items text.new.items (decision_text decision.now) }
+    ensures { Pushes result text.old.items text.new.items (decision_text decision.now ++ codes "\n") }
 {
-    push_field(text, b"decided ", decision.candidate.to_index())?;
-    push_field(text, b" by ", decision.required_by.to_index())?;
-    push_field(text, b" clause ", decision.clause_id.to_index())?;
-    push_weight(text, decision.package_activity, decision.candidate_count)
+    let score = decision.package_activity as usize;
+    let mut line = [0; LONGEST];
+    let at = put_field(&mut line, 0, b"decided ", decision.candidate.to_index());
+    let at = put_field(&mut line, at, b" by ", decision.required_by.to_index());
+    let at = put_field(&mut line, at, b" clause ", decision.clause_id.to_index());
+    let at = put_field(&mut line, at, b" score ", score);
+    let at = put_field(&mut line, at, b" count ", decision.candidate_count);
+    push_ended(text, &mut line, at)
 }
 
-/// What a decision is weighed by: its package's score, and the number of candidates.
-fn push_weight(text: &mut Vec<u8>, score: u64, count: usize) -> Result<(), AllocError>
-    ensures { Pushes result text.old.items text.new.items
-        (field (codes " score ") score ++ field (codes " count ") count) }
+/// Puts a line up to this place after the text, with its end.
+#[inline(always)]
+fn push_ended(text: &mut Vec<u8>, line: &mut [u8; LONGEST], at: usize) -> Result<(), AllocError>
+    requires { at < 136 }
+    ensures { Pushes result text.old.items text.new.items (take at line.old ++ codes "\n") }
 {
-    push_field(text, b" score ", score as usize)?;
-    push_field(text, b" count ", count)
+    let end = put(line, at, b"\n");
+    text.extend_from_slice(&line[..end])
 }
 
 /// `watchers`, and each clause after a blank, or `-` for none.

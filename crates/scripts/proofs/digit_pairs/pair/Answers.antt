@@ -1,5 +1,5 @@
 use Rattle.scripts.proofs.Digits.{pair_at}
-use Rattle.scripts.proofs.reply_line.pair.Goals as goal
+use Rattle.scripts.proofs.digit_pairs.pair.Goals as goal
 
 pub returns : goal.returns
 returns c = pair_at c.args.number c.requires
