@@ -1,10 +1,13 @@
 //! The clauses that a search adds to its store, each with the reason that it is noted with.
-use crate::deciding::Required;
+use crate::deciding::{Required, Requirements};
 use crate::reason::Reason;
-use crate::search::{Result, Search};
+use crate::search::Result;
+use crate::search_store::SearchStore;
 use resolvo_clauses::Literal;
-use resolvo_ids::{ConditionId, DisjunctionId, StringId, VariableId, VersionSetId};
-use resolvo_pool::{Candidates, ConditionalRequirement, DependencyProvider, Requirement};
+use resolvo_ids::{
+    ClauseId, ConditionId, DisjunctionId, Mapping, StringId, VariableId, VersionSetId,
+};
+use resolvo_pool::{Candidates, ConditionalRequirement, Requirement};
 use resolvo_store::HelperOrigin;
 use std::alloc::Allocator;
 
@@ -16,77 +19,38 @@ pub(crate) struct Need<N, S> {
     pub(crate) reason: Reason<N, S>,
 }
 
-impl<D: DependencyProvider + Copy> Search<D> {
-    /// The reason that someone needs something that is loaded.
-    pub(crate) fn reason_for(
-        &self,
-        parent: Option<D::SolvableId>,
-        wanted: ConditionalRequirement,
-    ) -> Reason<D::NameId, D::SolvableId> {
-        if self.has_candidate(wanted.requirement) {
-            Reason::Needs(parent, wanted)
-        } else {
-            Reason::Lacks(parent, wanted)
-        }
-    }
+/// What the encoded clauses say.
+#[derive(Drop)]
+pub(crate) struct Encoded<T: SearchStore> {
+    /// The reason of each clause.
+    pub(crate) reasons: Mapping<ClauseId, Reason<T::NameId, T::SolvableId>, T::Alloc>,
+    pub(crate) requirements: Requirements<T::Alloc>,
+}
 
-    /// Whether a requirement that is loaded has a candidate.
-    fn has_candidate(&self, requirement: Requirement) -> bool {
-        match self.store.lists(requirement) {
-            Some(lists) => has_candidate(lists),
-            None => false,
-        }
-    }
-
-    /// The variables of a loaded requirement's candidates.
-    fn variables_of(&self, requirement: Requirement) -> Result<Vec<VariableId, D::Alloc>> {
-        match self.store.lists(requirement) {
-            Some(lists) => joined(self.alloc, lists),
-            None => Ok(Vec::new(self.alloc)),
-        }
-    }
-
-    /// Makes the variable that is true where a candidate of the requirement is.
-    pub(crate) fn add_gate(&mut self, requirement: Requirement) -> Result<VariableId> {
-        self.store.load(requirement)?;
-        let gate = self.store.helper(HelperOrigin::RequiresGate(requirement))?;
-        let candidates = self.variables_of(requirement)?;
-        self.open_by_any(gate, &candidates)?;
-        Ok(gate)
-    }
-
-    /// Says that a gate is true where one of these is.
-    fn open_by_any(&mut self, gate: VariableId, candidates: &[VariableId]) -> Result<()> {
-        for candidate in candidates {
-            self.store.any_of(gate, *candidate)?;
-        }
-        Ok(())
-    }
-
-    /// Says that a parent needs something while the gates of the condition are all true.
-    pub(crate) fn require_unless(
-        &mut self,
-        need: &Need<D::NameId, D::SolvableId>,
-        condition: ConditionId,
-        gates: Vec<VariableId, D::Alloc>,
-    ) -> Result<()> {
-        let unless = self.unless(&gates, condition)?;
-        self.require(need, Some(unless), gates)
+impl<T: SearchStore> Encoded<T> {
+    /// Nothing is encoded.
+    pub(crate) fn new(alloc: T::Alloc) -> Result<Self> {
+        let reasons = Mapping::new(alloc)?;
+        let requirements = Requirements::new(alloc)?;
+        Ok(Encoded {
+            reasons,
+            requirements,
+        })
     }
 
     /// Says that the parent, if true, requires a candidate where the disjunction's literals, if there is one, are all
-    /// false.
+    /// false: while the gates are all true.
     pub(crate) fn require(
         &mut self,
-        need: &Need<D::NameId, D::SolvableId>,
+        store: &mut T,
+        need: &Need<T::NameId, T::SolvableId>,
         unless: Option<DisjunctionId>,
-        gates: Vec<VariableId, D::Alloc>,
+        gates: Vec<VariableId, T::Alloc>,
     ) -> Result<()> {
-        let clause = self
-            .store
+        let clause = store
             .requires_clause(need.parent, need.requirement, unless)?
             .clause;
-        self.notes.add_encoded(clause, need.reason)?;
+        self.reasons.insert(clause, need.reason)?;
         let required = Required {
             requirement: need.requirement,
             gates,
@@ -95,29 +59,26 @@ impl<D: DependencyProvider + Copy> Search<D> {
         self.requirements.add(need.parent, required)
     }
 
-    /// That one of the gates isn't true.
-    fn unless(&mut self, gates: &[VariableId], condition: ConditionId) -> Result<DisjunctionId> {
-        let mut unless = Vec::new(self.alloc);
-        for gate in gates {
-            unless.push(Literal::new(*gate, true))?;
-        }
-        self.store.disjunction(&unless, condition)
-    }
-
     /// Makes a solvable false if its package excludes it, or is locked to another one.
     pub(crate) fn leave_out(
         &mut self,
+        store: &mut T,
         variable: VariableId,
-        solvable: D::SolvableId,
-        package: &Candidates<D::SolvableId, D::Alloc>,
+        solvable: T::SolvableId,
+        package: &Candidates<T::SolvableId, T::Alloc>,
     ) -> Result<()> {
         for (excluded, reason) in &package.excluded {
             if *excluded == solvable {
-                self.exclude(variable, *reason, Reason::Excluded(solvable, *reason))?;
+                self.exclude(
+                    store,
+                    variable,
+                    *reason,
+                    Reason::Excluded(solvable, *reason),
+                )?;
             }
         }
         match package.locked {
-            Some(locked) if locked != solvable => self.lock(locked, variable),
+            Some(locked) if locked != solvable => self.lock(store, locked, variable),
             _ => Ok(()),
         }
     }
@@ -125,47 +86,119 @@ impl<D: DependencyProvider + Copy> Search<D> {
     /// Says that the parent, if true, forbids solvables that the version set doesn't hold.
     pub(crate) fn forbid_all(
         &mut self,
+        store: &mut T,
         parent: VariableId,
-        outside: &[D::SolvableId],
+        outside: &[T::SolvableId],
         set: VersionSetId,
-        reason: Reason<D::NameId, D::SolvableId>,
+        reason: Reason<T::NameId, T::SolvableId>,
     ) -> Result<()> {
         for solvable in outside {
-            self.forbid(parent, *solvable, set, reason)?;
+            let clause = forbid(store, parent, *solvable, set)?;
+            self.reasons.insert(clause, reason)?;
         }
         Ok(())
-    }
-
-    /// Says that the parent, if true, forbids a solvable that the version set doesn't hold.
-    fn forbid(
-        &mut self,
-        parent: VariableId,
-        outside: D::SolvableId,
-        set: VersionSetId,
-        reason: Reason<D::NameId, D::SolvableId>,
-    ) -> Result<()> {
-        let outside = self.store.variable(outside)?;
-        let clause = self.store.constrains(parent, outside, set)?.clause;
-        self.notes.add_encoded(clause, reason)
     }
 
     /// Makes a variable false, for the reason that the string says.
     pub(crate) fn exclude(
         &mut self,
+        store: &mut T,
         variable: VariableId,
         string: StringId,
-        reason: Reason<D::NameId, D::SolvableId>,
+        reason: Reason<T::NameId, T::SolvableId>,
     ) -> Result<()> {
-        let clause = self.store.exclude(variable, string)?.clause;
-        self.notes.add_encoded(clause, reason)
+        let clause = store.exclude(variable, string)?.clause;
+        self.reasons.insert(clause, reason)?;
+        Ok(())
     }
 
     /// Makes a variable false, since its package is locked to another solvable.
-    fn lock(&mut self, locked: D::SolvableId, variable: VariableId) -> Result<()> {
-        let first = self.store.variable(locked)?;
-        let clause = self.store.lock(first, variable)?.clause;
-        self.notes.add_encoded(clause, Reason::Locked(locked))
+    fn lock(&mut self, store: &mut T, locked: T::SolvableId, variable: VariableId) -> Result<()> {
+        let first = store.variable(locked)?;
+        let clause = store.lock(first, variable)?.clause;
+        self.reasons.insert(clause, Reason::Locked(locked))?;
+        Ok(())
     }
+}
+
+/// Says that the parent, if true, forbids a solvable that the version set doesn't hold.
+fn forbid<T: SearchStore>(
+    store: &mut T,
+    parent: VariableId,
+    outside: T::SolvableId,
+    set: VersionSetId,
+) -> Result<ClauseId> {
+    let outside = store.variable(outside)?;
+    Ok(store.constrains(parent, outside, set)?.clause)
+}
+
+/// The reason that someone needs something that is loaded.
+pub(crate) fn reason_for<T: SearchStore>(
+    store: &T,
+    parent: Option<T::SolvableId>,
+    wanted: ConditionalRequirement,
+) -> Reason<T::NameId, T::SolvableId> {
+    match store.lists(wanted.requirement) {
+        Some(lists) if has_candidate(lists) => Reason::Needs(parent, wanted),
+        _ => Reason::Lacks(parent, wanted),
+    }
+}
+
+/// Makes the variable that is true where a candidate of the requirement is.
+pub(crate) fn add_gate<T: SearchStore>(
+    alloc: T::Alloc,
+    store: &mut T,
+    requirement: Requirement,
+) -> Result<VariableId> {
+    store.load(requirement)?;
+    let gate = store.helper(HelperOrigin::RequiresGate(requirement))?;
+    let candidates = variables_of(alloc, store, requirement)?;
+    open_by_any(store, gate, &candidates)?;
+    Ok(gate)
+}
+
+/// The variables of a loaded requirement's candidates.
+fn variables_of<T: SearchStore>(
+    alloc: T::Alloc,
+    store: &T,
+    requirement: Requirement,
+) -> Result<Vec<VariableId, T::Alloc>> {
+    match store.lists(requirement) {
+        Some(lists) => joined(alloc, lists),
+        None => Ok(Vec::new(alloc)),
+    }
+}
+
+/// Says that a gate is true where one of these is.
+fn open_by_any<T: SearchStore>(
+    store: &mut T,
+    gate: VariableId,
+    candidates: &[VariableId],
+) -> Result<()> {
+    for candidate in candidates {
+        store.any_of(gate, *candidate)?;
+    }
+    Ok(())
+}
+
+/// SearchStore that one of the gates of a condition isn't true.
+pub(crate) fn keep_unless<T: SearchStore>(
+    alloc: T::Alloc,
+    store: &mut T,
+    gates: &[VariableId],
+    condition: ConditionId,
+) -> Result<DisjunctionId> {
+    let unless = negated(alloc, gates)?;
+    store.disjunction(&unless, condition)
+}
+
+/// That these variables are false, each.
+fn negated<A: Allocator>(alloc: A, variables: &[VariableId]) -> Result<Vec<Literal, A>> {
+    let mut negated = Vec::new(alloc);
+    for variable in variables {
+        negated.push(Literal::new(*variable, true))?;
+    }
+    Ok(negated)
 }
 
 /// Whether one of the lists has a candidate.
@@ -179,10 +212,7 @@ fn has_candidate<A: Allocator>(lists: &[Vec<VariableId, A>]) -> bool {
 }
 
 /// The lists, one after the other.
-fn joined<A: Allocator + Copy>(
-    alloc: A,
-    lists: &[Vec<VariableId, A>],
-) -> Result<Vec<VariableId, A>> {
+fn joined<A: Allocator>(alloc: A, lists: &[Vec<VariableId, A>]) -> Result<Vec<VariableId, A>> {
     let mut variables = Vec::new(alloc);
     for list in lists {
         variables.extend_from_slice(list)?;

@@ -1,8 +1,11 @@
 //! How a search decides by scores of packages, once it had many conflicts.
-use crate::search::{Result, Search};
+use crate::package_source::PackageSource;
+use crate::progress::Progress;
+use crate::search::Result;
+use crate::search_store::SearchStore;
 use resolvo_clauses::VariableOrigin;
 use resolvo_ids::{ClauseId, Mapping, VariableId};
-use resolvo_pool::{DependencyProvider, Interner, Requirement};
+use resolvo_pool::Requirement;
 use std::alloc::Allocator;
 
 /// What a package's score in the store gains for each of its versions that a conflict's analysis sees.
@@ -60,115 +63,111 @@ impl<A: Allocator + Copy> Requirements<A> {
     }
 }
 
-impl<D: DependencyProvider + Copy> Search<D> {
-    /// Of the open requirements' best candidates the one whose package has the highest score; the first one of a tie.
-    pub(crate) fn best_offer(&self) -> Option<Offer> {
-        let mut best = None;
-        for assigned in &self.trail.assignments {
-            if assigned.decision.value {
-                best = self.better_of(best, assigned.decision.variable);
+/// Of the open requirements' best candidates the one whose package has the highest score; the first one of a tie.
+pub(crate) fn best_offer<T: SearchStore, P: PackageSource<T::NameId, T::SolvableId, T::Alloc>>(
+    progress: &Progress<T>,
+    packages: &P,
+    requirements: &Requirements<T::Alloc>,
+) -> Option<Offer> {
+    let mut best = None;
+    for assigned in &progress.trail.assignments {
+        if assigned.decision.value {
+            for required in requirements.of(assigned.decision.variable) {
+                best = better(best, offer_for(&progress.store, packages, required));
             }
         }
-        best
     }
+    best
+}
 
-    /// The better of an offer and those for the requirements of a variable.
-    fn better_of(&self, offer: Option<Offer>, parent: VariableId) -> Option<Offer> {
-        let mut best = offer;
-        for required in self.requirements.of(parent) {
-            best = better(best, self.offer(required));
-        }
-        best
+/// The best candidate of the package that has the highest score, unless a candidate is true. Each list is read up to
+/// the first candidate that isn't false: if a later one is true, at-most-one has made the earlier ones false.
+fn offer_for<T: SearchStore, P: PackageSource<T::NameId, T::SolvableId, T::Alloc>>(
+    store: &T,
+    packages: &P,
+    required: &Required<T::Alloc>,
+) -> Option<Offer> {
+    if !are_true(store, &required.gates) {
+        return None;
     }
-
-    /// The best candidate of the package that has the highest score, unless a candidate is true. Each list is read up
-    /// to the first candidate that isn't false: if a later one is true, at-most-one has made the earlier ones false.
-    fn offer(&self, required: &Required<D::Alloc>) -> Option<Offer> {
-        if !self.are_true(&required.gates) {
-            return None;
-        }
-        let mut best = None;
-        let Some(lists) = self.store.lists(required.requirement) else {
-            return None;
-        };
-        for list in lists {
-            if let Some(candidate) = self.first_left(list) {
-                if self.store.value(candidate).is_some() {
-                    return None;
-                }
-                let score = self.score_of(candidate);
-                let clause = required.clause;
-                best = better(
-                    best,
-                    Some(Offer {
-                        candidate,
-                        clause,
-                        score,
-                    }),
-                );
+    let mut best = None;
+    let Some(lists) = store.lists(required.requirement) else {
+        return None;
+    };
+    for list in lists {
+        if let Some(candidate) = first_left(store, list) {
+            if store.value(candidate).is_some() {
+                return None;
             }
-        }
-        best
-    }
-
-    fn are_true(&self, variables: &[VariableId]) -> bool {
-        for variable in variables {
-            if self.store.value(*variable) != Some(true) {
-                return false;
-            }
-        }
-        true
-    }
-
-    /// The first variable that isn't false.
-    fn first_left(&self, variables: &[VariableId]) -> Option<VariableId> {
-        for variable in variables {
-            if self.store.value(*variable) != Some(false) {
-                return Some(*variable);
-            }
-        }
-        None
-    }
-
-    /// The score of a candidate's package.
-    fn score_of(&self, candidate: VariableId) -> u64 {
-        match self.package_of_variable(candidate) {
-            Some(name) => self.scores.get(name),
-            None => 0,
+            let offer = Offer {
+                candidate,
+                clause: required.clause,
+                score: score_of(store, packages, candidate),
+            };
+            best = better(best, Some(offer));
         }
     }
+    best
+}
 
-    /// The package of a candidate.
-    fn package_of_variable(&self, candidate: VariableId) -> Option<D::NameId> {
-        match self.store.origin(candidate) {
-            Some(VariableOrigin::Solvable(solvable)) => name_of(self.store.provider(), solvable),
-            _ => None,
+fn are_true<T: SearchStore>(store: &T, variables: &[VariableId]) -> bool {
+    for variable in variables {
+        if store.value(*variable) != Some(true) {
+            return false;
         }
     }
+    true
+}
 
-    /// Raises the scores of the packages of these variables, so that what is often in conflict is decided early.
-    /// Recent conflicts count for more.
-    pub(crate) fn raise_scores(&mut self, variables: &[VariableId]) -> Result<()> {
-        for variable in variables {
-            if let Some(name) = self.package_of_variable(*variable) {
-                self.store.bump(name, GAIN)?;
-                self.scores.raise(name)?;
-            }
+/// The first variable that isn't false.
+fn first_left<T: SearchStore>(store: &T, variables: &[VariableId]) -> Option<VariableId> {
+    for variable in variables {
+        if store.value(*variable) != Some(false) {
+            return Some(*variable);
         }
-        self.scores.age();
-        if self.pace.count() {
-            self.store.decay(1, 2)?;
-        }
-        Ok(())
+    }
+    None
+}
+
+/// The score of a candidate's package.
+fn score_of<T: SearchStore, P: PackageSource<T::NameId, T::SolvableId, T::Alloc>>(
+    store: &T,
+    packages: &P,
+    candidate: VariableId,
+) -> u64 {
+    match package_of(store, packages, candidate) {
+        Some(name) => packages.score(name),
+        None => 0,
     }
 }
 
-/// The package of a solvable; none of an unknown one.
-fn name_of<D: DependencyProvider>(provider: &D, solvable: D::SolvableId) -> Option<D::NameId> {
-    if !provider.knows_solvable(solvable) {
-        return None;
+/// The package of a candidate.
+fn package_of<T: SearchStore, P: PackageSource<T::NameId, T::SolvableId, T::Alloc>>(
+    store: &T,
+    packages: &P,
+    candidate: VariableId,
+) -> Option<T::NameId> {
+    match store.origin(candidate) {
+        Some(VariableOrigin::Solvable(solvable)) => packages.name(solvable),
+        _ => None,
     }
-    Some(provider.solvable_name(solvable))
+}
+
+/// Raises the scores of the packages of these variables, so that what is often in conflict is decided early. Recent
+/// conflicts count for more.
+pub(crate) fn raise_scores<T: SearchStore, P: PackageSource<T::NameId, T::SolvableId, T::Alloc>>(
+    store: &mut T,
+    packages: &mut P,
+    variables: &[VariableId],
+) -> Result<()> {
+    for variable in variables {
+        if let Some(name) = package_of(store, packages, *variable) {
+            store.bump(name, GAIN)?;
+            packages.raise(name)?;
+        }
+    }
+    packages.age();
+    Ok(())
 }
 
 /// The better of two offers, the first one of a tie.

@@ -1,15 +1,15 @@
 //! How a search encodes: clauses of what is required come first, and those of a candidate once it is true.
-use crate::adding::Need;
+use crate::adding::{Encoded, Need, add_gate, keep_unless, reason_for};
+use crate::package_source::PackageSource;
+use crate::progress::Progress;
 use crate::reason::Reason;
-use crate::search::{Result, Search};
+use crate::search::Result;
+use crate::search_store::SearchStore;
 use resolvo_clauses::VariableOrigin;
 use resolvo_ids::{
     ConditionId, DenseIndex, IndexedSet, Mapping, StoreError, VariableId, VersionSetId,
 };
-use resolvo_pool::{
-    CacheError, ConditionalRequirement, Dependencies, DependencyProvider, Interner, Requirement,
-    SolverCache, convert_conditions_to_dnf,
-};
+use resolvo_pool::{ConditionalRequirement, Dependencies, Requirement};
 
 /// A store has fewer variables than this.
 const MOST_VARIABLES: usize = (1 << 31) - 1;
@@ -24,69 +24,90 @@ struct Parent<S> {
 /// Encodes into the store of a search what may be picked. The provider is asked for a package's candidates when a
 /// requirement names it, and for a solvable's dependencies when it first is true.
 #[derive(Drop)]
-pub(crate) struct Encoder<D: DependencyProvider> {
-    provider: D,
-    /// What it answered for packages: each is asked for once.
-    cache: SolverCache<D>,
+pub(crate) struct Encoder<T: SearchStore, P> {
+    pub(crate) packages: P,
+    /// What may be picked.
+    pub(crate) candidates: Vec<(VariableId, T::SolvableId), T::Alloc>,
+    pub(crate) encoded: Encoded<T>,
     /// For each version set of a condition the variable that is true if one of its candidates is.
-    gates: Mapping<VersionSetId, VariableId, D::Alloc>,
+    gates: Mapping<VersionSetId, VariableId, T::Alloc>,
     /// How many variables of the store were introduced.
     introduced: usize,
     /// The solvables whose dependencies are encoded.
-    encoded: IndexedSet<VariableId, D::Alloc>,
+    dependents: IndexedSet<VariableId, T::Alloc>,
+    alloc: T::Alloc,
 }
 
-impl<D: DependencyProvider + Copy> Encoder<D> {
+impl<T: SearchStore, P: PackageSource<T::NameId, T::SolvableId, T::Alloc> + Drop> Encoder<T, P> {
     /// An encoder that has encoded nothing yet.
-    pub(crate) fn new(search: &Search<D>) -> Result<Self> {
-        let gates = Mapping::new(search.alloc)?;
-        let provider = *search.store.provider();
+    pub(crate) fn new(alloc: T::Alloc, packages: P) -> Result<Self> {
+        let encoded = Encoded::new(alloc)?;
+        let gates = Mapping::new(alloc)?;
         Ok(Encoder {
-            provider,
-            cache: SolverCache::new(search.alloc, provider),
+            packages,
+            candidates: Vec::new(alloc),
+            encoded,
             gates,
             introduced: 0,
-            encoded: IndexedSet::new(search.alloc),
+            dependents: IndexedSet::new(alloc),
+            alloc,
         })
     }
 
     /// Encodes what is wanted, which the root requires.
     pub(crate) fn request(
         &mut self,
-        search: &mut Search<D>,
+        store: &mut T,
         wanted: &[ConditionalRequirement],
     ) -> Result<()> {
         let root = Parent {
             variable: VariableId::root(),
             solvable: None,
         };
-        self.require_all(search, &root, wanted)?;
-        self.introduce_all(search)
+        self.require_all(store, &root, wanted)?;
+        self.introduce_all(store)
+    }
+
+    /// Propagates, and encodes what is newly true, until nothing is, or a clause is false.
+    pub(crate) fn encode_true(&mut self, progress: &mut Progress<T>) -> Result<()> {
+        for _ in 0..u64::MAX {
+            let level = progress.trail.level();
+            if progress.store.saturate(level)?.is_some() {
+                break;
+            }
+            progress.read_trail()?;
+            if !self.encode_new(progress)? {
+                break;
+            }
+        }
+        Ok(())
     }
 
     /// Encodes the dependencies of the candidates that are newly true. Answers whether there are any.
-    pub(crate) fn encode_new(&mut self, search: &mut Search<D>) -> Result<bool> {
+    fn encode_new(&mut self, progress: &mut Progress<T>) -> Result<bool> {
         let mut some = false;
-        for index in search.trail.encoded_below..search.trail.assignments.len() {
-            let Some(assigned) = search.trail.assignments.get(index).copied() else {
+        for index in progress.trail.encoded_below..progress.trail.assignments.len() {
+            let Some(assigned) = progress.trail.assignments.get(index).copied() else {
                 break;
             };
-            if assigned.decision.value && self.encode(search, assigned.decision.variable)? {
+            if assigned.decision.value
+                && self.encode(&mut progress.store, assigned.decision.variable)?
+            {
                 some = true;
             }
         }
-        search.trail.encoded_below = search.trail.assignments.len();
-        self.introduce_all(search)?;
+        progress.trail.encoded_below = progress.trail.assignments.len();
+        self.introduce_all(&mut progress.store)?;
         Ok(some)
     }
 
     /// Introduces the variables that are new in the store.
-    fn introduce_all(&mut self, search: &mut Search<D>) -> Result<()> {
+    fn introduce_all(&mut self, store: &mut T) -> Result<()> {
         for index in self.introduced..MOST_VARIABLES {
             let variable = VariableId::from_index(index);
-            match search.store.origin(variable) {
+            match store.origin(variable) {
                 Some(VariableOrigin::Solvable(solvable)) => {
-                    self.introduce(search, variable, solvable)?;
+                    self.introduce(store, variable, solvable)?;
                 }
                 Some(_) => {}
                 None => {
@@ -101,162 +122,114 @@ impl<D: DependencyProvider + Copy> Encoder<D> {
     /// Lets no other version stand beside a solvable, and makes it false if its package excludes it.
     fn introduce(
         &mut self,
-        search: &mut Search<D>,
+        store: &mut T,
         variable: VariableId,
-        solvable: D::SolvableId,
+        solvable: T::SolvableId,
     ) -> Result<()> {
-        search.candidates.push((variable, solvable))?;
-        let name = self.package_of(solvable)?;
-        search.store.at_most_once(name, variable)?;
-        self.leave_out(search, variable, solvable, name)
-    }
-
-    fn package_of(&self, solvable: D::SolvableId) -> Result<D::NameId> {
-        if !self.provider.knows_solvable(solvable) {
+        self.candidates.push((variable, solvable))?;
+        let Some(name) = self.packages.name(solvable) else {
             return Err(StoreError::UnknownId);
-        }
-        Ok(self.provider.solvable_name(solvable))
+        };
+        store.at_most_once(name, variable)?;
+        let package = self.packages.package(name)?;
+        self.encoded.leave_out(store, variable, solvable, package)
     }
 
     /// Encodes the dependencies of a variable's solvable, unless they are encoded. Answers whether it did.
-    fn encode(&mut self, search: &mut Search<D>, variable: VariableId) -> Result<bool> {
-        let Some(VariableOrigin::Solvable(solvable)) = search.store.origin(variable) else {
+    fn encode(&mut self, store: &mut T, variable: VariableId) -> Result<bool> {
+        let Some(VariableOrigin::Solvable(solvable)) = store.origin(variable) else {
             return Ok(false);
         };
-        if !self.encoded.insert(variable)? {
+        if !self.dependents.insert(variable)? {
             return Ok(false);
         }
-        let dependencies = self.needs_of(search, solvable)?;
-        self.encode_dependencies(search, variable, solvable, &dependencies)?;
+        self.encode_dependencies(store, variable, solvable)?;
         Ok(true)
     }
 
     fn encode_dependencies(
         &mut self,
-        search: &mut Search<D>,
+        store: &mut T,
         variable: VariableId,
-        solvable: D::SolvableId,
-        dependencies: &Dependencies<D::Alloc>,
+        solvable: T::SolvableId,
     ) -> Result<()> {
-        match dependencies {
+        match self.packages.needs(solvable)? {
             Dependencies::Known(needs) => {
                 let parent = Parent {
                     variable,
                     solvable: Some(solvable),
                 };
-                self.require_all(search, &parent, &needs.requirements)?;
-                self.constrain_all(search, variable, solvable, &needs.constrains)
+                self.require_all(store, &parent, &needs.requirements)?;
+                self.constrain_all(store, variable, solvable, &needs.constrains)
             }
             Dependencies::Unknown(reason) => {
-                search.exclude(variable, *reason, Reason::Unknown(solvable, *reason))
+                self.encoded
+                    .exclude(store, variable, reason, Reason::Unknown(solvable, reason))
             }
-        }
-    }
-
-    /// The dependencies of a solvable.
-    fn needs_of(
-        &self,
-        search: &Search<D>,
-        solvable: D::SolvableId,
-    ) -> Result<Dependencies<D::Alloc>> {
-        if self.provider.knows_solvable(solvable) {
-            return self.provider.get_dependencies(search.alloc, solvable);
-        }
-        Err(StoreError::UnknownId)
-    }
-
-    /// Makes a solvable false if its package excludes it, or is locked to another one.
-    fn leave_out(
-        &mut self,
-        search: &mut Search<D>,
-        variable: VariableId,
-        solvable: D::SolvableId,
-        name: D::NameId,
-    ) -> Result<()> {
-        match self.cache.get_or_cache_candidates(name) {
-            Ok(package) => search.leave_out(variable, solvable, package),
-            Err(unanswered) => Err(refusal_of(unanswered)),
         }
     }
 
     fn require_all(
         &mut self,
-        search: &mut Search<D>,
-        parent: &Parent<D::SolvableId>,
+        store: &mut T,
+        parent: &Parent<T::SolvableId>,
         wanted: &[ConditionalRequirement],
     ) -> Result<()> {
         for wanted in wanted {
-            self.require(search, parent, *wanted)?;
+            self.require(store, parent, *wanted)?;
         }
         Ok(())
     }
 
-    /// Says that the parent, if true, requires a candidate.
+    /// Says that the parent, if true, requires a candidate: under a condition once for each list of its normal form.
     fn require(
         &mut self,
-        search: &mut Search<D>,
-        parent: &Parent<D::SolvableId>,
+        store: &mut T,
+        parent: &Parent<T::SolvableId>,
         wanted: ConditionalRequirement,
     ) -> Result<()> {
-        search.store.load(wanted.requirement)?;
         let condition = wanted.condition;
+        store.load(wanted.requirement)?;
         let need = Need {
             parent: parent.variable,
             requirement: wanted.requirement,
-            reason: search.reason_for(parent.solvable, wanted),
+            reason: reason_for(store, parent.solvable, wanted),
         };
         match condition {
-            Some(condition) => self.require_under(search, &need, condition),
-            None => search.require(&need, None, Vec::new(search.alloc)),
+            Some(condition) => {
+                let lists = self.packages.lists(condition)?;
+                self.require_under(store, &need, condition, &lists)
+            }
+            None => self
+                .encoded
+                .require(store, &need, None, Vec::new(self.alloc)),
         }
     }
 
-    /// Says it under a condition: once for each list of its normal form.
     fn require_under(
         &mut self,
-        search: &mut Search<D>,
-        need: &Need<D::NameId, D::SolvableId>,
+        store: &mut T,
+        need: &Need<T::NameId, T::SolvableId>,
         condition: ConditionId,
-    ) -> Result<()> {
-        let lists = self.lists_of(search, condition)?;
-        self.require_under_lists(search, need, condition, &lists)
-    }
-
-    fn require_under_lists(
-        &mut self,
-        search: &mut Search<D>,
-        need: &Need<D::NameId, D::SolvableId>,
-        condition: ConditionId,
-        lists: &[Vec<VersionSetId, D::Alloc>],
+        lists: &[Vec<VersionSetId, T::Alloc>],
     ) -> Result<()> {
         for list in lists {
-            let gates = self.gates_of(search, list)?;
-            search.require_unless(need, condition, gates)?;
+            let gates = self.gates_of(store, list)?;
+            let unless = keep_unless(self.alloc, store, &gates, condition)?;
+            self.encoded.require(store, need, Some(unless), gates)?;
         }
         Ok(())
-    }
-
-    /// The normal form of a condition: it holds where all version sets of one list do.
-    fn lists_of(
-        &self,
-        search: &Search<D>,
-        condition: ConditionId,
-    ) -> Result<Vec<Vec<VersionSetId, D::Alloc>, D::Alloc>> {
-        if !self.provider.knows_condition(condition) {
-            return Err(StoreError::UnknownId);
-        }
-        convert_conditions_to_dnf(search.alloc, condition, &self.provider)
     }
 
     /// The variables that are all true where each of the version sets has a candidate that is true.
     fn gates_of(
         &mut self,
-        search: &mut Search<D>,
+        store: &mut T,
         sets: &[VersionSetId],
-    ) -> Result<Vec<VariableId, D::Alloc>> {
-        let mut gates = Vec::new(search.alloc);
+    ) -> Result<Vec<VariableId, T::Alloc>> {
+        let mut gates = Vec::new(self.alloc);
         for set in sets {
-            let gate = self.gate(search, *set)?;
+            let gate = self.gate(store, *set)?;
             if !gates.contains(&gate) {
                 gates.push(gate)?;
             }
@@ -265,24 +238,24 @@ impl<D: DependencyProvider + Copy> Encoder<D> {
     }
 
     /// The variable that is true where a candidate of the version set is; it is made once.
-    fn gate(&mut self, search: &mut Search<D>, set: VersionSetId) -> Result<VariableId> {
+    fn gate(&mut self, store: &mut T, set: VersionSetId) -> Result<VariableId> {
         if let Some(gate) = self.gates.get(set) {
             return Ok(*gate);
         }
-        let gate = search.add_gate(Requirement::Single(set))?;
+        let gate = add_gate(self.alloc, store, Requirement::Single(set))?;
         self.gates.insert(set, gate)?;
         Ok(gate)
     }
 
     fn constrain_all(
         &mut self,
-        search: &mut Search<D>,
+        store: &mut T,
         variable: VariableId,
-        solvable: D::SolvableId,
+        solvable: T::SolvableId,
         sets: &[VersionSetId],
     ) -> Result<()> {
         for set in sets {
-            self.constrain(search, variable, *set, Reason::Limits(solvable, *set))?;
+            self.constrain(store, variable, *set, Reason::Limits(solvable, *set))?;
         }
         Ok(())
     }
@@ -290,25 +263,12 @@ impl<D: DependencyProvider + Copy> Encoder<D> {
     /// Says that the parent, if true, forbids the candidates that the version set doesn't hold.
     fn constrain(
         &mut self,
-        search: &mut Search<D>,
+        store: &mut T,
         parent: VariableId,
         set: VersionSetId,
-        reason: Reason<D::NameId, D::SolvableId>,
+        reason: Reason<T::NameId, T::SolvableId>,
     ) -> Result<()> {
-        if !self.cache.provider().knows_version_set(set) {
-            return Err(StoreError::UnknownId);
-        }
-        match self.cache.get_or_cache_non_matching_candidates(set) {
-            Ok(outside) => search.forbid_all(parent, outside, set, reason),
-            Err(unanswered) => Err(refusal_of(unanswered)),
-        }
-    }
-}
-
-/// The refusal that stands for a question that wasn't answered.
-fn refusal_of<C: Drop>(unanswered: CacheError<C>) -> StoreError {
-    match unanswered {
-        CacheError::Store(refused) => refused,
-        CacheError::Cancelled(_) => StoreError::Cancelled,
+        let outside = self.packages.outside(set)?;
+        self.encoded.forbid_all(store, parent, outside, set, reason)
     }
 }

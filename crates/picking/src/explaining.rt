@@ -1,10 +1,12 @@
 //! Why nothing serves: the encoded clauses from which the last conflict follows.
-use crate::notes::Antecedent;
+use crate::adding::Encoded;
+use crate::notes::{Antecedent, Notes};
+use crate::progress::Progress;
 use crate::reason::Reason;
-use crate::search::{Refutation, Result, Search};
+use crate::search::{Refutation, Result};
+use crate::search_store::SearchStore;
 use resolvo_clauses::{Literal, VariableOrigin};
-use resolvo_ids::{ClauseId, IdSet, IndexedSet, SolverId, VariableId};
-use resolvo_pool::DependencyProvider;
+use resolvo_ids::{ClauseId, IndexedSet, Mapping, VariableId};
 use std::alloc::Allocator;
 
 /// A trace from the last conflict back to encoded clauses.
@@ -20,6 +22,16 @@ struct Trace<A: Allocator> {
 }
 
 impl<A: Allocator + Copy> Trace<A> {
+    /// Nothing was seen.
+    fn new(alloc: A) -> Self {
+        Trace {
+            pending: Vec::new(alloc),
+            clauses: IndexedSet::new(alloc),
+            seen: Vec::new(alloc),
+            variables: IndexedSet::new(alloc),
+        }
+    }
+
     /// Notes an antecedent, and answers whether it is new.
     fn is_new(&mut self, antecedent: &Antecedent) -> Result<bool> {
         match antecedent {
@@ -34,8 +46,9 @@ impl<A: Allocator + Copy> Trace<A> {
         }
     }
 
-    /// Adds the variables of a clause that gave a value at level 1.
-    fn add_facts(&mut self, literals: &[Literal]) -> Result<()> {
+    /// Adds a clause that gave a value at level 1, and the variables in it.
+    fn add_facts(&mut self, clause: ClauseId, literals: &[Literal]) -> Result<()> {
+        self.pending.push(Antecedent::Clause(clause))?;
         for literal in literals {
             self.pending.push(Antecedent::Fact(literal.variable()))?;
         }
@@ -43,121 +56,119 @@ impl<A: Allocator + Copy> Trace<A> {
     }
 }
 
-impl<D: DependencyProvider + Copy> Search<D> {
-    /// That nothing serves, and why.
-    pub(crate) fn refutation(
-        &self,
-        steps: u64,
-    ) -> Result<Refutation<D::NameId, D::SolvableId, D::Alloc>> {
-        let trace = self.trace()?;
-        let reasons = self.reasons(&trace)?;
-        let solvables = dependents(self.alloc, &reasons)?;
-        let learnt = self.notes.claims(&trace.clauses)?;
-        Ok(Refutation {
-            learnt,
-            solvables,
-            reasons,
-            steps,
-        })
-    }
+/// That nothing serves, and why. The reasons are what the clauses that were seen say, each once, in the order in which
+/// they were encoded; then the packages of which at most one version may be picked.
+pub(crate) fn refutation<T: SearchStore>(
+    progress: &Progress<T>,
+    encoded: &Encoded<T>,
+    notes: &Notes<T::SolvableId, T::Alloc>,
+    steps: u64,
+) -> Result<Refutation<T::NameId, T::SolvableId, T::Alloc>> {
+    let mut trace = Trace::new(progress.alloc);
+    follow_all(progress, notes, &mut trace)?;
+    let mut reasons = values_of(progress.alloc, &encoded.reasons, &trace.clauses)?;
+    add_packages(progress, &trace.seen, &mut reasons)?;
+    let solvables = dependents(progress.alloc, &reasons)?;
+    let learnt = notes.claims(&trace.clauses)?;
+    Ok(Refutation {
+        learnt,
+        solvables,
+        reasons,
+        steps,
+    })
+}
 
-    /// What the clauses that were seen say, each reason once, in the order in which they were encoded; then the
-    /// packages of which at most one version may be picked.
-    fn reasons(
-        &self,
-        trace: &Trace<D::Alloc>,
-    ) -> Result<Vec<Reason<D::NameId, D::SolvableId>, D::Alloc>> {
-        let mut reasons = self.notes.reasons(&trace.clauses)?;
-        self.add_packages(&trace.seen, &mut reasons)?;
-        Ok(reasons)
-    }
-
-    /// Adds, for each package of which a clause says that at most one version is picked, that it does.
-    fn add_packages(
-        &self,
-        clauses: &[ClauseId],
-        reasons: &mut Vec<Reason<D::NameId, D::SolvableId>, D::Alloc>,
-    ) -> Result<()> {
-        let mut names = <<D::NameId as SolverId<D::Alloc>>::Set as IdSet<D::NameId, D::Alloc>>::new(
-            self.alloc,
-        );
-        for clause in clauses {
-            if let Some(name) = self.package_of(*clause)? {
-                if names.insert(name)? {
-                    reasons.push(Reason::OneVersion(name))?;
-                }
-            }
-        }
-        Ok(())
-    }
-
-    /// The package of which a clause says that at most one version is picked. Such clauses alone have helpers for it.
-    fn package_of(&self, clause: ClauseId) -> Result<Option<D::NameId>> {
-        let literals = self.literals(clause)?;
-        Ok(self.package_in(&literals))
-    }
-
-    /// The package of the first helper among these literals.
-    fn package_in(&self, literals: &[Literal]) -> Option<D::NameId> {
-        for literal in literals {
-            let origin = self.store.origin(literal.variable());
-            if let Some(VariableOrigin::ForbidMultiple(name)) = origin {
-                return Some(name);
-            }
-        }
-        None
-    }
-
-    /// The whole trace from the last conflict.
-    fn trace(&self) -> Result<Trace<D::Alloc>> {
-        let mut trace = Trace {
-            pending: Vec::new(self.alloc),
-            clauses: IndexedSet::new(self.alloc),
-            seen: Vec::new(self.alloc),
-            variables: IndexedSet::new(self.alloc),
+/// The whole trace from the last conflict: follows what is pending until nothing is.
+fn follow_all<T: SearchStore>(
+    progress: &Progress<T>,
+    notes: &Notes<T::SolvableId, T::Alloc>,
+    trace: &mut Trace<T::Alloc>,
+) -> Result<()> {
+    trace.pending.extend_from_slice(&notes.root_cause)?;
+    for _ in 0..u64::MAX {
+        let Some(antecedent) = trace.pending.pop() else {
+            break;
         };
-        trace.pending.extend_from_slice(&self.notes.root_cause)?;
-        self.follow_all(&mut trace)?;
-        Ok(trace)
+        if trace.is_new(&antecedent)? {
+            add_antecedents(progress, notes, &antecedent, trace)?;
+        }
     }
+    Ok(())
+}
 
-    /// Follows what is pending until nothing is.
-    fn follow_all(&self, trace: &mut Trace<D::Alloc>) -> Result<()> {
-        for _ in 0..u64::MAX {
-            let Some(antecedent) = trace.pending.pop() else {
-                break;
-            };
-            if trace.is_new(&antecedent)? {
-                self.add_antecedents(&antecedent, trace)?;
+/// Adds what an antecedent follows from: a learnt clause from its own antecedents, and a value at level 1 from its
+/// clause and the other values in it.
+fn add_antecedents<T: SearchStore>(
+    progress: &Progress<T>,
+    notes: &Notes<T::SolvableId, T::Alloc>,
+    antecedent: &Antecedent,
+    trace: &mut Trace<T::Alloc>,
+) -> Result<()> {
+    match antecedent {
+        Antecedent::Clause(clause) => {
+            trace.pending.extend_from_slice(notes.antecedents(*clause))?;
+            Ok(())
+        }
+        Antecedent::Fact(variable) => match progress.trail.clause_of_fact(*variable) {
+            Some(clause) => {
+                let literals = progress.literals(clause)?;
+                trace.add_facts(clause, &literals)
+            }
+            None => Ok(()),
+        },
+    }
+}
+
+/// Adds, for each package of which a clause says that at most one version is picked, that it does.
+fn add_packages<T: SearchStore>(
+    progress: &Progress<T>,
+    clauses: &[ClauseId],
+    reasons: &mut Vec<Reason<T::NameId, T::SolvableId>, T::Alloc>,
+) -> Result<()> {
+    let mut names = Vec::new(progress.alloc);
+    for clause in clauses {
+        if let Some(name) = package_of(progress, *clause)? {
+            if !names.contains(&name) {
+                names.push(name)?;
+                reasons.push(Reason::OneVersion(name))?;
             }
         }
-        Ok(())
     }
+    Ok(())
+}
 
-    /// Adds what an antecedent follows from: a learnt clause from its own antecedents, and a value at level 1 from its
-    /// clause and the other values in it.
-    fn add_antecedents(&self, antecedent: &Antecedent, trace: &mut Trace<D::Alloc>) -> Result<()> {
-        match antecedent {
-            Antecedent::Clause(clause) => {
-                trace
-                    .pending
-                    .extend_from_slice(self.notes.antecedents(*clause))?;
-            }
-            Antecedent::Fact(variable) => {
-                if let Some(clause) = self.trail.clause_of_fact(*variable) {
-                    trace.pending.push(Antecedent::Clause(clause))?;
-                    self.add_facts(clause, trace)?;
-                }
-            }
+/// The package of which a clause says that at most one version is picked. Such clauses alone have helpers for it.
+fn package_of<T: SearchStore>(
+    progress: &Progress<T>,
+    clause: ClauseId,
+) -> Result<Option<T::NameId>> {
+    let literals = progress.literals(clause)?;
+    Ok(package_in(&progress.store, &literals))
+}
+
+/// The package of the first helper among these literals.
+fn package_in<T: SearchStore>(store: &T, literals: &[Literal]) -> Option<T::NameId> {
+    for literal in literals {
+        if let Some(VariableOrigin::ForbidMultiple(name)) = store.origin(literal.variable()) {
+            return Some(name);
         }
-        Ok(())
     }
+    None
+}
 
-    /// Adds the variables of a clause that gave a value at level 1.
-    fn add_facts(&self, clause: ClauseId, trace: &mut Trace<D::Alloc>) -> Result<()> {
-        let literals = self.literals(clause)?;
-        trace.add_facts(&literals)
+/// The values of these clauses, each once, in the order of the map.
+fn values_of<T: Copy + PartialEq, A: Allocator + Copy>(
+    alloc: A,
+    map: &Mapping<ClauseId, T, A>,
+    clauses: &IndexedSet<ClauseId, A>,
+) -> Result<Vec<T, A>> {
+    let mut values = Vec::new(alloc);
+    for (clause, value) in map.iter() {
+        if clauses.contains(clause) && !values.contains(value) {
+            values.push(*value)?;
+        }
     }
+    Ok(values)
 }
 
 /// The solvables of which the reasons tell dependencies. Reasons of one solvable come in turn.

@@ -26,7 +26,7 @@ pub enum Answer<N, S, A: Allocator> {
     Refuted,
 }
 
-/// Searches for solvables that serve whoever wants these requirements, in so many steps at most.
+/// Searches for solvables that serve whoever wants these requirements, in no more steps than these.
 pub fn pick<D: DependencyProvider>(
     alloc: D::Alloc,
     provider: &D,

@@ -1,19 +1,20 @@
 //! Conflict analysis: what a search learns from a false clause.
-use crate::notes::Antecedent;
-use crate::search::{Result, Search};
+use crate::notes::{Antecedent, Notes};
+use crate::progress::Progress;
+use crate::search::Result;
+use crate::search_store::SearchStore;
 use crate::trail::{Assigned, Trail};
 use resolvo_clauses::{Decision, Literal, VariableOrigin};
 use resolvo_ids::{ClauseId, IndexedSet, VariableId};
-use resolvo_pool::{DependencyProvider, Requirement};
+use resolvo_pool::Requirement;
 use serving::Claim;
 use std::alloc::Allocator;
-use std::mem;
 
 /// The analysis of a conflict: which assignments can't stand together.
 #[derive(Drop)]
 struct Analysis<A: Allocator> {
-    /// The level of the conflict.
-    level: usize,
+    /// The level of the conflict: the highest in the false clause.
+    level: u32,
     /// The variables that were seen.
     seen: IndexedSet<VariableId, A>,
     /// How many of them have that level, and aren't resolved yet.
@@ -27,50 +28,65 @@ struct Analysis<A: Allocator> {
     variables: Vec<VariableId, A>,
 }
 
-impl<D: DependencyProvider + Copy> Search<D> {
+impl<A: Allocator + Copy> Analysis<A> {
+    /// Nothing was seen.
+    fn new(alloc: A) -> Self {
+        Analysis {
+            level: 0,
+            seen: IndexedSet::new(alloc),
+            open: 0,
+            lower: Vec::new(alloc),
+            pending: Vec::new(alloc),
+            antecedents: Vec::new(alloc),
+            variables: Vec::new(alloc),
+        }
+    }
+}
+
+impl<T: SearchStore> Progress<T> {
     /// Learns a clause from a conflict: that the first unique implication point and some assignments of lower levels
     /// can't stand together. Backjumps to the highest of these levels, and propagates the clause there. A conflict that
-    /// follows from the root alone leaves no level.
-    pub(crate) fn learn(&mut self, conflict: ClauseId) -> Result<()> {
+    /// follows from the root alone leaves no level. Answers which variables above level 1 were seen.
+    pub(crate) fn learn(
+        &mut self,
+        conflict: ClauseId,
+        notes: &mut Notes<T::SolvableId, T::Alloc>,
+    ) -> Result<Vec<VariableId, T::Alloc>> {
         self.read_trail()?;
-        let mut analysis = self.analysis_of(conflict)?;
-        let last = self.first_uip(&mut analysis)?;
-        self.raise_scores(&analysis.variables)?;
+        let mut analysis = Analysis::new(self.alloc);
+        let last = self.analyze(conflict, &mut analysis)?;
         let lower = self.minimized(&analysis.lower, &analysis.seen, &mut analysis.antecedents)?;
-        let antecedents = mem::replace(&mut analysis.antecedents, Vec::new(self.alloc));
-        let Some(last) = last else {
-            self.trail.clear_levels();
-            self.notes.root_cause = antecedents;
-            return Ok(());
-        };
-        self.learn_clause(last, &lower, antecedents)
+        let Analysis {
+            antecedents,
+            variables,
+            ..
+        } = analysis;
+        match last {
+            Some(last) => self.learn_clause(notes, last, &lower, antecedents)?,
+            None => {
+                self.trail.clear_levels();
+                notes.root_cause = antecedents;
+            }
+        }
+        Ok(variables)
     }
 
-    /// An analysis begins with the false clause, and the highest level in it.
-    fn analysis_of(&self, conflict: ClauseId) -> Result<Analysis<D::Alloc>> {
-        let mut analysis = Analysis {
-            level: self.highest_level(conflict)?,
-            seen: IndexedSet::new(self.alloc),
-            open: 0,
-            lower: Vec::new(self.alloc),
-            pending: Vec::new(self.alloc),
-            antecedents: Vec::new(self.alloc),
-            variables: Vec::new(self.alloc),
-        };
-        self.see(conflict, &mut analysis)?;
-        Ok(analysis)
-    }
-
-    /// The highest level in a clause.
-    fn highest_level(&self, clause: ClauseId) -> Result<usize> {
-        let literals = self.literals(clause)?;
-        Ok(self.trail.highest_level(&literals))
+    /// Analyses a false clause, and answers the first unique implication point. There is none if the conflict follows
+    /// from the root alone.
+    fn analyze(
+        &self,
+        conflict: ClauseId,
+        analysis: &mut Analysis<T::Alloc>,
+    ) -> Result<Option<Assigned>> {
+        let literals = self.literals(conflict)?;
+        analysis.level = self.trail.highest_level(&literals);
+        self.see(conflict, analysis)?;
+        self.first_uip(analysis)
     }
 
     /// The first unique implication point: the last assignment of the conflict's level from which, with lower levels,
-    /// the conflict follows. The trail is walked backwards, since an assignment's antecedents come before it. There is
-    /// none if the conflict follows from the root alone.
-    fn first_uip(&self, analysis: &mut Analysis<D::Alloc>) -> Result<Option<Assigned>> {
+    /// the conflict follows. The trail is walked backwards, since an assignment's antecedents come before it.
+    fn first_uip(&self, analysis: &mut Analysis<T::Alloc>) -> Result<Option<Assigned>> {
         if analysis.level < 2 {
             return Ok(None);
         }
@@ -89,12 +105,12 @@ impl<D: DependencyProvider + Copy> Search<D> {
     }
 
     /// Whether an assignment that was seen is the only open one of the conflict's level, and may be in a learnt clause.
-    fn is_unique(&self, assigned: &Assigned, analysis: &Analysis<D::Alloc>) -> bool {
+    fn is_unique(&self, assigned: &Assigned, analysis: &Analysis<T::Alloc>) -> bool {
         assigned.is_decision || analysis.open < 2 && !self.is_helper(assigned.decision.variable)
     }
 
     /// Sees a clause and its variables. For a helper of a lower level its antecedent is seen as well.
-    fn see(&self, clause: ClauseId, analysis: &mut Analysis<D::Alloc>) -> Result<()> {
+    fn see(&self, clause: ClauseId, analysis: &mut Analysis<T::Alloc>) -> Result<()> {
         analysis.pending.push(clause)?;
         for _ in 0..u64::MAX {
             let Some(clause) = analysis.pending.pop() else {
@@ -107,14 +123,14 @@ impl<D: DependencyProvider + Copy> Search<D> {
         Ok(())
     }
 
-    fn see_literals(&self, literals: &[Literal], analysis: &mut Analysis<D::Alloc>) -> Result<()> {
+    fn see_literals(&self, literals: &[Literal], analysis: &mut Analysis<T::Alloc>) -> Result<()> {
         for literal in literals {
             self.see_variable(literal.variable(), analysis)?;
         }
         Ok(())
     }
 
-    fn see_variable(&self, variable: VariableId, analysis: &mut Analysis<D::Alloc>) -> Result<()> {
+    fn see_variable(&self, variable: VariableId, analysis: &mut Analysis<T::Alloc>) -> Result<()> {
         let Some(assigned) = self.trail.assigned(variable) else {
             return Ok(());
         };
@@ -144,18 +160,16 @@ impl<D: DependencyProvider + Copy> Search<D> {
         }
     }
 
-    /// The assignments without the redundant ones.
+    /// The assignments of lower levels without the redundant ones.
     fn minimized(
         &self,
         lower: &[Assigned],
-        seen: &IndexedSet<VariableId, D::Alloc>,
-        antecedents: &mut Vec<Antecedent, D::Alloc>,
-    ) -> Result<Vec<Assigned, D::Alloc>> {
+        seen: &IndexedSet<VariableId, T::Alloc>,
+        antecedents: &mut Vec<Antecedent, T::Alloc>,
+    ) -> Result<Vec<Assigned, T::Alloc>> {
         let mut kept = Vec::new(self.alloc);
         for assigned in lower {
-            if self.is_redundant(assigned, seen)? {
-                self.add_antecedents_of(assigned.decision.derived_from, antecedents)?;
-            } else {
+            if !self.is_redundant(assigned, seen, antecedents)? {
                 kept.push(*assigned)?;
             }
         }
@@ -163,43 +177,41 @@ impl<D: DependencyProvider + Copy> Search<D> {
     }
 
     /// Whether an assignment follows from others that were seen, and from the root: a learnt clause can do without it.
+    /// Its clause, and the variables in it that have their values at level 1, are antecedents then.
     fn is_redundant(
         &self,
         assigned: &Assigned,
-        seen: &IndexedSet<VariableId, D::Alloc>,
+        seen: &IndexedSet<VariableId, T::Alloc>,
+        antecedents: &mut Vec<Antecedent, T::Alloc>,
     ) -> Result<bool> {
         if assigned.is_decision {
             return Ok(false);
         }
-        let literals = self.literals(assigned.decision.derived_from)?;
-        Ok(self.trail.are_known(&literals, seen))
-    }
-
-    /// Adds a clause, and the variables in it that have their values at level 1, to the antecedents.
-    fn add_antecedents_of(
-        &self,
-        clause: ClauseId,
-        antecedents: &mut Vec<Antecedent, D::Alloc>,
-    ) -> Result<()> {
-        antecedents.push(Antecedent::Clause(clause))?;
+        let clause = assigned.decision.derived_from;
         let literals = self.literals(clause)?;
-        self.trail.add_facts(&literals, antecedents)
+        if !self.trail.are_known(&literals, seen) {
+            return Ok(false);
+        }
+        antecedents.push(Antecedent::Clause(clause))?;
+        self.trail.add_facts(&literals, antecedents)?;
+        Ok(true)
     }
 
     /// Learns that not all of these assignments stand: backjumps to the highest level of the lower ones, and propagates
     /// the opposite of the last one.
     fn learn_clause(
         &mut self,
+        notes: &mut Notes<T::SolvableId, T::Alloc>,
         last: Assigned,
         lower: &[Assigned],
-        antecedents: Vec<Antecedent, D::Alloc>,
+        antecedents: Vec<Antecedent, T::Alloc>,
     ) -> Result<()> {
         let level = highest_level_of(lower);
         self.backjump(level);
-        let literals = self.literals_against(last, lower, level)?;
+        let literals = literals_against(self.alloc, last, lower, level)?;
         let clause = self.store.learnt(&literals)?.clause;
         let claims = self.claims(&literals)?;
-        self.notes.add_learnt(clause, claims, antecedents)?;
+        notes.add_learnt(clause, claims, antecedents)?;
         let Decision {
             variable,
             value,
@@ -208,32 +220,8 @@ impl<D: DependencyProvider + Copy> Search<D> {
         self.assign(Decision::new(variable, !value, clause))
     }
 
-    /// The literals of the clause that not all of these assignments stand. The last one comes first, and one of the
-    /// level comes last, since a learnt clause watches its first and its last literal.
-    fn literals_against(
-        &self,
-        last: Assigned,
-        lower: &[Assigned],
-        level: usize,
-    ) -> Result<Vec<Literal, D::Alloc>> {
-        let mut literals = Vec::new(self.alloc);
-        literals.push(last.opposite())?;
-        let mut end = None;
-        for assigned in lower {
-            if end.is_none() && assigned.level == level {
-                end = Some(assigned.opposite());
-            } else {
-                literals.push(assigned.opposite())?;
-            }
-        }
-        if let Some(end) = end {
-            literals.push(end)?;
-        }
-        Ok(literals)
-    }
-
     /// What the literals claim, in the provider's ids.
-    fn claims(&self, literals: &[Literal]) -> Result<Vec<Claim<D::SolvableId>, D::Alloc>> {
+    fn claims(&self, literals: &[Literal]) -> Result<Vec<Claim<T::SolvableId>, T::Alloc>> {
         let mut claims = Vec::new(self.alloc);
         for literal in literals {
             let value = literal.satisfying_value();
@@ -274,8 +262,32 @@ impl<A: Allocator + Copy> Trail<A> {
     }
 }
 
+/// The literals of the clause that not all of these assignments stand. The last one comes first, and one of the level
+/// comes last, since a learnt clause watches its first and its last literal.
+fn literals_against<A: Allocator + Copy>(
+    alloc: A,
+    last: Assigned,
+    lower: &[Assigned],
+    level: u32,
+) -> Result<Vec<Literal, A>> {
+    let mut literals = Vec::new(alloc);
+    literals.push(last.opposite())?;
+    let mut end = None;
+    for assigned in lower {
+        if end.is_none() && assigned.level == level {
+            end = Some(assigned.opposite());
+        } else {
+            literals.push(assigned.opposite())?;
+        }
+    }
+    if let Some(end) = end {
+        literals.push(end)?;
+    }
+    Ok(literals)
+}
+
 /// The highest level of these assignments, or the root's.
-fn highest_level_of(assigned: &[Assigned]) -> usize {
+fn highest_level_of(assigned: &[Assigned]) -> u32 {
     let mut highest_level = 1;
     for one in assigned {
         highest_level = highest_level.max(one.level);

@@ -1,5 +1,4 @@
-//! What a search notes of clauses: what the encoded ones say, and what the learnt ones claim and follow from.
-use crate::reason::Reason;
+//! What a search notes of learnt clauses: what they claim and follow from.
 use crate::search::Result;
 use resolvo_ids::{ClauseId, IndexedSet, Mapping, VariableId};
 use serving::Claim;
@@ -22,11 +21,9 @@ struct LearntClause<S, A: Allocator> {
     claims: Vec<Claim<S>, A>,
 }
 
-/// What is noted of clauses.
+/// What is noted of learnt clauses.
 #[derive(Drop)]
-pub(crate) struct Notes<N, S, A: Allocator> {
-    /// What the encoded clauses say.
-    encoded: Mapping<ClauseId, Reason<N, S>, A>,
+pub(crate) struct Notes<S, A: Allocator> {
     /// The learnt clauses, in order.
     learnt: Vec<LearntClause<S, A>, A>,
     /// The antecedents of each learnt clause.
@@ -36,24 +33,15 @@ pub(crate) struct Notes<N, S, A: Allocator> {
     alloc: A,
 }
 
-impl<N: Copy + PartialEq, S: Copy + PartialEq, A: Allocator + Copy> Notes<N, S, A> {
+impl<S: Copy, A: Allocator + Copy> Notes<S, A> {
     /// Nothing is noted.
     pub(crate) fn new(alloc: A) -> Result<Self> {
-        let encoded = Mapping::new(alloc)?;
-        let derived = Mapping::new(alloc)?;
         Ok(Notes {
-            encoded,
             learnt: Vec::new(alloc),
-            derived,
+            derived: Mapping::new(alloc)?,
             root_cause: Vec::new(alloc),
             alloc,
         })
-    }
-
-    /// Notes what an encoded clause says.
-    pub(crate) fn add_encoded(&mut self, clause: ClauseId, reason: Reason<N, S>) -> Result<()> {
-        self.encoded.insert(clause, reason)?;
-        Ok(())
     }
 
     /// Notes what a learnt clause claims and follows from.
@@ -76,20 +64,6 @@ impl<N: Copy + PartialEq, S: Copy + PartialEq, A: Allocator + Copy> Notes<N, S, 
         }
     }
 
-    /// What the encoded ones of these clauses say, each reason once, in the order in which they were encoded.
-    pub(crate) fn reasons(
-        &self,
-        clauses: &IndexedSet<ClauseId, A>,
-    ) -> Result<Vec<Reason<N, S>, A>> {
-        let mut reasons = Vec::new(self.alloc);
-        for (clause, reason) in self.encoded.iter() {
-            if clauses.contains(clause) && !reasons.contains(reason) {
-                reasons.push(*reason)?;
-            }
-        }
-        Ok(reasons)
-    }
-
     /// What the learnt ones of these clauses claim, in order.
     pub(crate) fn claims(
         &self,
@@ -98,16 +72,9 @@ impl<N: Copy + PartialEq, S: Copy + PartialEq, A: Allocator + Copy> Notes<N, S, 
         let mut claims = Vec::new(self.alloc);
         for learnt in &self.learnt {
             if clauses.contains(learnt.clause) {
-                claims.push(copied(self.alloc, &learnt.claims)?)?;
+                claims.push(Vec::from_slice(self.alloc, &learnt.claims)?)?;
             }
         }
         Ok(claims)
     }
-}
-
-/// A copy of a list.
-fn copied<T: Copy, A: Allocator + Copy>(alloc: A, list: &[T]) -> Result<Vec<T, A>> {
-    let mut copy = Vec::new(alloc);
-    copy.extend_from_slice(list)?;
-    Ok(copy)
 }

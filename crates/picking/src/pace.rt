@@ -106,9 +106,9 @@ impl Pace {
         self.conflicts % PERIOD == 0
     }
 
-    /// Whether the search decides by scores alone.
-    pub(crate) fn is_by_score(&self) -> bool {
-        self.is_by_score
+    /// Whether the store picks the next decision: unless the search decides by scores alone, or a restart is due.
+    pub(crate) fn is_by_store(&self) -> bool {
+        !self.is_by_score && self.conflicts < self.next
     }
 
     /// Whether a restart is due; it counts as done then.

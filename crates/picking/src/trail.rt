@@ -16,7 +16,7 @@ struct DecisionLevel {
 #[derive(Clone, Copy)]
 pub(crate) struct Assigned {
     pub(crate) decision: Decision,
-    pub(crate) level: usize,
+    pub(crate) level: u32,
     pub(crate) is_decision: bool,
 }
 
@@ -52,9 +52,9 @@ impl<A: Allocator + Copy> Trail<A> {
         })
     }
 
-    /// How many levels there are.
-    pub(crate) fn level(&self) -> usize {
-        self.levels.len()
+    /// How many levels there are. The store refuses a level that is too high.
+    pub(crate) fn level(&self) -> u32 {
+        u32::try_from(self.levels.len()).unwrap_or(u32::MAX)
     }
 
     /// Begins a level with the decision that a variable is true.
@@ -70,23 +70,24 @@ impl<A: Allocator + Copy> Trail<A> {
             Some(level) => level.variable == decision.variable,
             None => false,
         };
+        let level = self.level();
         self.places
             .insert(decision.variable, self.assignments.len())?;
         self.assignments.push(Assigned {
             decision,
-            level: self.levels.len(),
+            level,
             is_decision,
         })?;
         Ok(())
     }
 
     /// Takes away what is above a level.
-    pub(crate) fn backjump(&mut self, level: usize) {
-        if let Some(above) = self.levels.get(level) {
+    pub(crate) fn backjump(&mut self, level: u32) {
+        if let Some(above) = self.levels.get(level as usize) {
             self.assignments.truncate(above.below);
             self.encoded_below = self.encoded_below.min(above.below);
         }
-        self.levels.truncate(level);
+        self.levels.truncate(level as usize);
     }
 
     /// Takes away all levels, and leaves the assignments.
@@ -115,14 +116,11 @@ impl<A: Allocator + Copy> Trail<A> {
 
     /// Whether a variable has its value at level 1.
     pub(crate) fn is_fact(&self, variable: VariableId) -> bool {
-        match self.assigned(variable) {
-            Some(assigned) => assigned.level < 2,
-            None => false,
-        }
+        self.clause_of_fact(variable).is_some()
     }
 
     /// The highest level of these literals.
-    pub(crate) fn highest_level(&self, literals: &[Literal]) -> usize {
+    pub(crate) fn highest_level(&self, literals: &[Literal]) -> u32 {
         let mut highest_level = 0;
         for literal in literals {
             if let Some(assigned) = self.assigned(literal.variable()) {

@@ -95,9 +95,19 @@ fn required(line: &[u8]) -> Question {
     }
 }
 
-/// A cache whose provider counts what it is asked.
+/// A cache whose provider counts what it is asked. Packages and solvables are told by their numbers.
 trait Asks {
-    fn ask(&mut self, question: Question) -> Seen;
+    /// What is kept of a package: its candidates, or what else there is.
+    fn candidates(&mut self, name: u32, is_extras: bool) -> Seen;
+
+    fn of_set(&mut self, set: VersionSetId, part: Part) -> Seen;
+
+    fn of_union(&mut self, union: VersionSetUnionId) -> Seen;
+
+    fn needs(&mut self, solvable: u32) -> Seen;
+
+    /// Whether it is said to be at hand what a solvable needs.
+    fn is_at_hand(&self, solvable: u32) -> bool;
 
     /// How often the provider was asked.
     fn counts(&self) -> Counts;
@@ -106,18 +116,52 @@ trait Asks {
 impl<
     D: DependencyProvider<Cancel = u32, NameId: Numbered, SolvableId: Numbered> + Counting + Drop,
 > Asks for SolverCache<D> {
-    fn ask(&mut self, question: Question) -> Seen {
-        match question {
-            Question::Candidates(name) => candidates(self, D::NameId::numbered(name), false),
-            Question::Extras(name) => candidates(self, D::NameId::numbered(name), true),
-            Question::OfSet(set, part) => of_set(self, set, part),
-            Question::OfUnion(union) => of_union(self, union),
-            Question::Needs(solvable) => needs(self, D::SolvableId::numbered(solvable)),
-            Question::IsAvailable(solvable) => {
-                let solvable = D::SolvableId::numbered(solvable);
-                Seen::IsAvailable(self.are_dependencies_available_for(solvable))
-            }
+    fn candidates(&mut self, name: u32, is_extras: bool) -> Seen {
+        match self.cache_candidates(D::NameId::numbered(name)) {
+            Ok(id) => shown_of(SolverCache::candidates(self, id), is_extras),
+            Err(error) => unanswered(error),
         }
+    }
+
+    fn of_set(&mut self, set: VersionSetId, part: Part) -> Seen {
+        if !self.provider().knows_version_set(set) {
+            return Seen::Unknown;
+        }
+        let answer = match part {
+            Part::Matching => self.cache_matching_candidates(set),
+            Part::Others => self.cache_non_matching_candidates(set),
+            Part::Sorted => self.cache_sorted_candidates_for_version_set(set),
+            Part::Required => self.cache_sorted_candidates(Requirement::Single(set)),
+        };
+        match answer {
+            Ok(id) => shown(self.list(id)),
+            Err(error) => unanswered(error),
+        }
+    }
+
+    fn of_union(&mut self, union: VersionSetUnionId) -> Seen {
+        if !self.provider().knows_union(union) {
+            return Seen::Unknown;
+        }
+        match self.cache_sorted_candidates(Requirement::Union(union)) {
+            Ok(id) => shown(self.list(id)),
+            Err(error) => unanswered(error),
+        }
+    }
+
+    fn needs(&mut self, solvable: u32) -> Seen {
+        let solvable = D::SolvableId::numbered(solvable);
+        if !self.provider().knows_solvable(solvable) {
+            return Seen::Unknown;
+        }
+        match self.cache_dependencies(solvable) {
+            Ok(id) => Seen::IsKnown(matches!(self.dependencies(id), Dependencies::Known(_))),
+            Err(error) => unanswered(error),
+        }
+    }
+
+    fn is_at_hand(&self, solvable: u32) -> bool {
+        self.are_dependencies_available_for(D::SolvableId::numbered(solvable))
     }
 
     fn counts(&self) -> Counts {
@@ -125,61 +169,15 @@ impl<
     }
 }
 
-/// What is kept of a package: its candidates, or what else there is.
-fn candidates<D: DependencyProvider<Cancel = u32, SolvableId: Numbered> + Drop>(
-    cache: &mut SolverCache<D>,
-    name: D::NameId,
-    is_extras: bool,
-) -> Seen {
-    match cache.cache_candidates(name) {
-        Ok(id) => shown_of(cache.candidates(id), is_extras),
-        Err(error) => unanswered(error),
-    }
-}
-
-fn of_set<D: DependencyProvider<Cancel = u32, SolvableId: Numbered> + Drop>(
-    cache: &mut SolverCache<D>,
-    set: VersionSetId,
-    part: Part,
-) -> Seen {
-    if !cache.provider().knows_version_set(set) {
-        return Seen::Unknown;
-    }
-    let answer = match part {
-        Part::Matching => cache.cache_matching_candidates(set),
-        Part::Others => cache.cache_non_matching_candidates(set),
-        Part::Sorted => cache.cache_sorted_candidates_for_version_set(set),
-        Part::Required => cache.cache_sorted_candidates(Requirement::Single(set)),
-    };
-    match answer {
-        Ok(id) => shown(cache.list(id)),
-        Err(error) => unanswered(error),
-    }
-}
-
-fn of_union<D: DependencyProvider<Cancel = u32, SolvableId: Numbered> + Drop>(
-    cache: &mut SolverCache<D>,
-    union: VersionSetUnionId,
-) -> Seen {
-    if !cache.provider().knows_union(union) {
-        return Seen::Unknown;
-    }
-    match cache.cache_sorted_candidates(Requirement::Union(union)) {
-        Ok(id) => shown(cache.list(id)),
-        Err(error) => unanswered(error),
-    }
-}
-
-fn needs<D: DependencyProvider<Cancel = u32> + Drop>(
-    cache: &mut SolverCache<D>,
-    solvable: D::SolvableId,
-) -> Seen {
-    if !cache.provider().knows_solvable(solvable) {
-        return Seen::Unknown;
-    }
-    match cache.cache_dependencies(solvable) {
-        Ok(id) => Seen::IsKnown(matches!(cache.dependencies(id), Dependencies::Known(_))),
-        Err(error) => unanswered(error),
+/// Asks a cache a question.
+fn ask<T: Asks>(cache: &mut T, question: Question) -> Seen {
+    match question {
+        Question::Candidates(name) => cache.candidates(name, false),
+        Question::Extras(name) => cache.candidates(name, true),
+        Question::OfSet(set, part) => cache.of_set(set, part),
+        Question::OfUnion(union) => cache.of_union(union),
+        Question::Needs(solvable) => cache.needs(solvable),
+        Question::IsAvailable(solvable) => Seen::IsAvailable(cache.is_at_hand(solvable)),
     }
 }
 
@@ -249,11 +247,10 @@ fn push_solvables(
 type Told = (String, bool, Counts);
 
 /// Which of the first eight solvables are said to be at hand, as the digits of a number.
-fn at_hand<T: Asks>(cache: &mut T) -> u32 {
+fn at_hand<T: Asks>(cache: &T) -> u32 {
     let mut are_at_hand: u32 = 0;
     for solvable in 0..8 {
-        let seen = cache.ask(Question::IsAvailable(solvable));
-        if matches!(seen, Seen::IsAvailable(true)) {
+        if cache.is_at_hand(solvable) {
             are_at_hand |= 1 << solvable;
         }
     }
@@ -270,7 +267,7 @@ fn asked_again<T: Asks>(
     told: &mut String,
 ) -> Result<Seen, AllocError> {
     let refused = at_hand(cache);
-    let seen = cache.ask(question);
+    let seen = ask(cache, question);
     if before & !refused != 0 || refused & !at_hand(cache) != 0 {
         let line = format!(in alloc; "at hand after a refusal: {refused:b}\n")?;
         told.push_str(line.as_str())?;
@@ -287,7 +284,7 @@ fn answers_of<T: Asks>(cache: &mut T, trial: &Trial<'_>, number: u64) -> Result<
     for said in trial.commands {
         let question = question_of(*said);
         let before = at_hand(cache);
-        let mut seen = cache.ask(question);
+        let mut seen = ask(cache, question);
         if matches!(seen, Seen::Refused(StoreError::OutOfMemory)) {
             is_met = true;
             seen = asked_again(trial.alloc, cache, question, before, &mut told)?;

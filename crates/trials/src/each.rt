@@ -167,27 +167,51 @@ pub(crate) fn tell_each(
         let count = tell_steps(trial, ids, place, waiting)?;
         if count > 0 {
             counts.note(*said);
+            push_taken(trial, answers, (place, said.keyword), waiting)?;
         }
-        if count > 0 && is_free(trial, answers, place) {
-            waiting.extend_from_slice(b"took memory: ")?;
-            waiting.extend_from_slice(said.keyword)?;
-            waiting.push(b'\n')?;
-        }
-        if keeps_its_part(trial, place) {
-            tell_forced(trial, ids, (place, answers), waiting)?;
-        } else if trial.is(b"over") {
-            tell_over(trial, ids, (place, count), waiting)?;
-        }
+        tell_left(trial, ids, answers, (place, count), waiting)?;
     }
     tell_runs(trial, ids, answers, waiting)
 }
 
+/// Tells where a command took memory that takes none.
+fn push_taken(
+    trial: &Trial<'_>,
+    answers: &str,
+    (place, keyword): (usize, &[u8]),
+    waiting: &mut Vec<u8>,
+) -> Result<(), AllocError> {
+    if is_free(trial, answers, place) {
+        waiting.extend_from_slice(b"took memory: ")?;
+        waiting.extend_from_slice(keyword)?;
+        waiting.push(b'\n')?;
+    }
+    Ok(())
+}
+
+/// Looks at what the refused command of a place leaves, which has so many requests.
+fn tell_left(
+    trial: &Trial<'_>,
+    ids: Ids,
+    answers: &str,
+    (place, count): (usize, u64),
+    waiting: &mut Vec<u8>,
+) -> Result<(), StoreError> {
+    if keeps_its_part(trial, place) {
+        tell_forced(trial, ids, (place, answers), waiting)
+    } else if trial.is(b"over") {
+        tell_over(trial, ids, (place, count), waiting)
+    } else {
+        Ok(())
+    }
+}
+
 /// Whether the command of a place keeps what it did where it is refused.
 fn keeps_its_part(trial: &Trial<'_>, place: usize) -> bool {
-    trial
-        .commands
-        .get(place)
-        .is_some_and(|said| is_word(said.keyword, b"saturate"))
+    match trial.commands.get(place) {
+        Some(said) => is_word(said.keyword, b"saturate"),
+        None => false,
+    }
 }
 
 /// What is told where there is no end of requests.
@@ -221,7 +245,7 @@ fn tell_steps(
     Ok(1000)
 }
 
-/// Refuses each of so many requests of the command of a place in turn, by steps; the command isn't given again.
+/// Refuses each of this many requests of the command of a place in turn, by steps; the command isn't given again.
 fn tell_over(
     trial: &Trial<'_>,
     ids: Ids,
@@ -259,8 +283,10 @@ fn tell_runs(
     Ok(waiting.extend_from_slice(ENDLESS)?)
 }
 
-/// Puts what a run tells of which a request was refused after what waits, where its twin tells something else. Where no
-/// command was refused, the whole run was, or a saturation left its mark out, which nothing else shows.
+/// What is told before what a run tells of which a request was refused.
+const HEADING: &str = "refused a request in a run:\n";
+
+/// Puts what a run tells of which a request was refused after what waits, where its twin tells something else.
 fn tell_run(
     trial: &Trial<'_>,
     ids: Ids,
@@ -268,22 +294,52 @@ fn tell_run(
     answers: &str,
     waiting: &mut Vec<u8>,
 ) -> Result<(), StoreError> {
-    let place = seen.lines().position(|line| line == "refused 1");
-    let fate = match place {
-        Some(place) if keeps_its_part(trial, place) => return Ok(()),
-        Some(place) => Fate::Over(Refusal::twin(place)),
-        None => Fate::Nothing,
-    };
-    let without = tell(trial, ids, Task::Each(fate))?;
-    let heading = "refused a request in a run:\n";
-    if place.is_some() || without.text.as_str() == seen {
-        push_unlike(heading, seen, without.text.as_str(), waiting)?;
-    } else {
-        let whole = tell(trial, ids, Task::Each(Fate::Run(0)))?;
-        push_unlike(heading, seen, whole.text.as_str(), waiting)?;
+    match place_of_refusal(seen) {
+        Some(place) if keeps_its_part(trial, place) => Ok(()),
+        Some(place) => tell_refused(trial, ids, (seen, place), answers, waiting),
+        None => tell_unrefused(trial, ids, seen, waiting),
     }
-    if place.is_some_and(|place| is_free(trial, answers, place)) {
+}
+
+/// The place of the first command that was refused memory.
+fn place_of_refusal(seen: &str) -> Option<usize> {
+    for (place, line) in seen.lines().enumerate() {
+        if line == "refused 1" {
+            return Some(place);
+        }
+    }
+    None
+}
+
+/// The same, of a run whose command of a place was refused.
+fn tell_refused(
+    trial: &Trial<'_>,
+    ids: Ids,
+    (seen, place): (&str, usize),
+    answers: &str,
+    waiting: &mut Vec<u8>,
+) -> Result<(), StoreError> {
+    let twin = Task::Each(Fate::Over(Refusal::twin(place)));
+    let without = tell(trial, ids, twin)?;
+    push_unlike(HEADING, seen, without.text.as_str(), waiting)?;
+    if is_free(trial, answers, place) {
         waiting.extend_from_slice(b"took memory in a run\n")?;
     }
     Ok(())
+}
+
+/// The same, where no command was refused: the whole run was, or a saturation left its mark out, which nothing else
+/// shows.
+fn tell_unrefused(
+    trial: &Trial<'_>,
+    ids: Ids,
+    seen: &str,
+    waiting: &mut Vec<u8>,
+) -> Result<(), StoreError> {
+    let without = tell(trial, ids, Task::Each(Fate::Nothing))?;
+    if without.text.as_str() == seen {
+        return Ok(());
+    }
+    let whole = tell(trial, ids, Task::Each(Fate::Run(0)))?;
+    Ok(push_unlike(HEADING, seen, whole.text.as_str(), waiting)?)
 }

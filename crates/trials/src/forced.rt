@@ -188,7 +188,7 @@ fn count_added(before: &[Option<bool>], after: &[Option<bool>]) -> usize {
     added
 }
 
-/// Takes back so many entries, the newest first; whether each was forced, and all are of this level. The answer tells
+/// Takes back this many entries, the newest first; whether each was forced, and all are of this level. The answer tells
 /// the level of the entry before, so that of the newest is left out.
 fn are_forced<N: Drop, S: Drop, A: Allocator, T: Obeys<N, S, A>>(
     store: &mut T,

@@ -18,8 +18,8 @@ const LINES: [&str; 3] = ["already", "clash", "tracked no 0"];
 /// where the provider stops.
 const UNFORESEEN: [&str; 3] = ["refused 1", "refused 2", "refused 12"];
 
-/// Whether the command takes no memory where this line is wanted of it: by what it is, or by what it finds; or it is
-/// refused by what it names.
+/// Whether a command that is to be answered by this line takes no memory: it is of a kind that takes none, or what it
+/// asks for is there already, or it is refused for what it names.
 pub(crate) fn takes_no_memory(said: &Statement<'_>, wanted: &str) -> bool {
     is_one_of(said.keyword, &COMMANDS)
         || is_one_of(wanted.as_bytes(), &LINES)
