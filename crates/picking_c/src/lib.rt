@@ -14,7 +14,7 @@ use resolvo_pool::{Interner, ProviderFunctions};
 use small_index::SmallIndex;
 use std::alloc::Global;
 
-/// Answers the index of a text, in so many steps at most. Where memory is refused for the answer itself, that is empty.
+/// Answers the index of a text, in no more steps than these. Where memory is refused for the answer, that is empty.
 #[unsafe(no_mangle)]
 pub extern "C" fn nivolakku_pick(
     alloc: Global,

@@ -16,8 +16,8 @@ pub struct Told {
     pub text: String,
 }
 
-/// Answers the index of a text, in so many steps at most. A text without an index is unreadable at its first line, one
-/// that has several at the line where the second begins.
+/// Answers the index of a text, in no more steps than these. A text without an index is unreadable at its first line,
+/// one that has several at the line where the second begins.
 pub fn answer_text(alloc: Global, text: &[u8], steps: u64) -> Result<Told, AllocError>
     ensures { IfOk result (λ told. IsAnswerOf
         ⟦<SmallIndex as ProviderFunctions>⟧.functions ⟦<SmallIndex as Interner>⟧.texts 0
@@ -42,8 +42,8 @@ fn first_number(lines: &[Line<'_>]) -> u64 {
     }
 }
 
-/// Answers the index of these lines, in so many steps at most. The contract speaks of some index; that it is the one of
-/// the lines is tested.
+/// Answers the index of these lines, in no more steps than these. The contract speaks of some index; that it is the one
+/// of the lines is tested.
 pub fn answer(alloc: Global, lines: &[Line<'_>], steps: u64) -> Result<Told, AllocError>
     ensures { IfOk result (λ told. IsAnswerOf
         ⟦<SmallIndex as ProviderFunctions>⟧.functions ⟦<SmallIndex as Interner>⟧.texts 0

@@ -16,7 +16,7 @@ enum Before {
 /// How many lists a normal form has, and how many version sets are in the first of them.
 type Size = (usize, usize);
 
-/// The word that joins, and where; so many conditions that join the one before them; the number of the request that is
+/// The word that joins, and where; how many conditions join the one before them; the number of the request that is
 /// refused, if one is; and the answer.
 type Case = (&'static str, Before, u32, u64, Result<Size, StoreError>);
 
@@ -56,7 +56,7 @@ fn conditions_may_be_nested_deep_but_not_too_large(rt: HostRuntime) -> Result<()
     Ok(())
 }
 
-/// A version set, its condition, and so many conditions that join the one before them.
+/// A version set, its condition, and as many conditions as asked for, each of which joins the one before it.
 fn catalogue(alloc: Global, word: &str, before: &Before, depth: u32) -> Result<String, Fail> {
     let mut text = String::from_str(alloc, "package p 1\nset p 1 2\ncondition set 0\n")?;
     for number in 0..depth {

@@ -19,7 +19,7 @@ pub(crate) struct Known<N: SameId, S: SameId, A: Allocator + Copy> {
 }
 
 impl<N: SameId, S: SameId, A: Allocator + Copy> Known<N, S, A> {
-    /// Nothing is known of so many facts.
+    /// Nothing is known of any fact.
     pub(crate) fn new(alloc: A, facts: usize) -> Result<Self, StoreError>
         ensures { IfOk result (λ known. known.literals.items ≡ []) }
     {

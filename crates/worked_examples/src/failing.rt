@@ -18,7 +18,7 @@ struct Calls {
 }
 
 impl Calls {
-    /// Those of which so many succeed.
+    /// Those of which this many succeed.
     fn after(left: u64, kind: ErrorKind) -> Calls {
         Calls {
             left,

@@ -31,7 +31,7 @@ impl Read for Repeated<'_> {
     }
 }
 
-/// Takes so many bytes of a write. One write may fail, and those behind it succeed.
+/// Takes a few bytes of each write. One write may fail, and those behind it succeed.
 #[derive(Drop)]
 struct Counted {
     at_once: usize,
@@ -105,7 +105,7 @@ fn length_answered(alloc: Global, left: &[u8], text: &[u8], times: u32) -> (usiz
     (answer.len(), number)
 }
 
-/// How many bytes are read in so many reads, if that many do.
+/// How many bytes are read in this many reads, if these suffice.
 fn read_in(alloc: Global, reads: u64) -> Option<usize> {
     let mut reader = Repeated {
         left: b"begin",

@@ -269,8 +269,8 @@ fn register<D: DependencyProvider + Drop>(
     })
 }
 
-/// Registers the clause under the id. The packages of its requirement's version sets go with it: that of the one set, or
-/// a vector of those of a union.
+/// Registers the clause under the id. The packages of its requirement's version sets go with it: that of the one set,
+/// or a vector of those of a union.
 fn queue_clause<D: DependencyProvider + Drop>(
     queue: &mut DecideQueue<D>,
     context: &Context<'_, D>,

@@ -68,8 +68,8 @@ pub(super) fn call_lists<B: Allocator>(heap: &Refusing<B>) -> Result<(), StoreEr
     answer
 }
 
-/// Variables that lie far apart have no slots for their lists before. A walk to a clause, and a move to a list for which
-/// there is room, take no memory.
+/// Variables that lie far apart have no slots for their lists before. A walk to a clause takes no memory, nor does a
+/// move to a list for which there is room.
 fn fill_lists<A: Allocator + Copy, B: Allocator>(
     heap: &Refusing<B>,
     clauses: &mut WatchedClauses<A>,
