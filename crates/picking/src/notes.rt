@@ -4,6 +4,9 @@ use resolvo_ids::{ClauseId, IndexedSet, Mapping, VariableId};
 use serving::Claim;
 use std::alloc::Allocator;
 
+/// A step counts once more for each time that this many clauses were learnt.
+const LEARNT_PER_STEP: u64 = 1024;
+
 /// What a learnt clause, or a value at level 1, follows from.
 #[derive(Clone, Copy)]
 pub(crate) enum Antecedent {
@@ -54,6 +57,11 @@ impl<S: Copy, A: Allocator + Copy> Notes<S, A> {
         self.derived.insert(clause, antecedents)?;
         self.learnt.push(LearntClause { clause, claims })?;
         Ok(())
+    }
+
+    /// For how many steps one step counts.
+    pub(crate) fn step_cost(&self) -> u64 {
+        1 + self.learnt.len() as u64 / LEARNT_PER_STEP
     }
 
     /// What a clause follows from; nothing unless it was learnt.

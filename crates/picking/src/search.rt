@@ -118,16 +118,21 @@ impl<T: SearchStore + Drop, P: PackageSource<T::NameId, T::SolvableId, T::Alloc>
         self.run(steps)
     }
 
-    /// A step propagates, and encodes what is newly true; then it learns from a conflict, or decides. No assignment
-    /// comes back that a learnt clause rules out, so a search ends, but perhaps after very many steps.
+    /// A step propagates, and encodes what is newly true; then it learns from a conflict, or decides. The more clauses
+    /// were learnt, the longer that takes, and the more it counts. No assignment comes back that a learnt clause rules
+    /// out, so a search ends, but perhaps after very many steps.
     fn run(&mut self, steps: u64) -> Result<SearchEnd<T::NameId, T::SolvableId, T::Alloc>> {
-        for step in 0..steps {
+        let mut spent = 0u64;
+        for _ in 0..steps {
+            if spent >= steps {
+                break;
+            }
             if self.progress.trail.level() == 0 {
                 let refutation = refutation(
                     &self.progress,
                     &self.encoder.encoded,
                     &self.notes,
-                    steps - step,
+                    steps.saturating_sub(spent),
                 )?;
                 return Ok(SearchEnd::Unsolvable(refutation));
             }
@@ -135,6 +140,7 @@ impl<T: SearchStore + Drop, P: PackageSource<T::NameId, T::SolvableId, T::Alloc>
                 let picked = self.progress.picked(&self.encoder.candidates)?;
                 return Ok(SearchEnd::Picked(picked));
             }
+            spent = spent.saturating_add(self.notes.step_cost());
         }
         Ok(SearchEnd::StepsUsed)
     }

@@ -4,7 +4,8 @@ ghost use Rattle.script_packages.specs.Ids.{truth_of};
 ghost use Rattle.script_text.specs.Numbers.{below, number_of};
 ghost use Rattle.script_text.specs.Words.{words};
 ghost use Rattle.resolvo_store.specs.Command.{command_of};
-ghost use Rattle.scripts.specs.Commands.{ids_at, only_word, pair_of, pair_and_set_of, helper_origin_of};
+ghost use Rattle.scripts.specs.Commands.{ids_at, only_word, truth_and_rest, pair_of, pair_and_set_of};
+ghost use Rattle.scripts.specs.Commands.{helper_origin_of};
 ghost use Rattle.scripts.specs.Commands.{command_said, plain_command, package_command, seldom_command, between_command};
 ghost use Rattle.scripts.specs.Commands.{bare_command};
 ghost use Rattle.scripts.specs.Commands.{variable_command, helper_command, load_command, disjunction_command};
@@ -338,13 +339,13 @@ fn assign<N, S, A: Allocator>(text: &[u8]) -> Option<Command<N, S, A>>
 {
     let (variable, text) = next_number(text)?;
     let variable = id_of(&variable)?;
-    let (value, text) = next_word(text)?;
+    let (value, text) = next_truth(text)?;
     let (clause, text) = next_number(text)?;
     let (level, text) = next_number(text)?;
     match next_word(text) {
         Some(_) => None,
         None => {
-            let (value, clause) = (truth(value)?, id_of(&clause)?);
+            let clause = id_of(&clause)?;
             Some(Command::Assign(variable, value, clause, id_of(&level)?))
         }
     }
@@ -438,5 +439,21 @@ fn truth(word: &[u8]) -> Option<bool>
         Some(false)
     } else {
         None
+    }
+}
+
+/// The truth value that the first word of a text stands for, and what is after the word. One that is written without
+/// another blank in front is read with no search for its end.
+#[inline(always)]
+fn next_truth(text: &[u8]) -> Option<(bool, &[u8])>
+    ensures { option_map (λ r. (r.0, words r.1.now)) result ≡ truth_and_rest (words text.now) }
+{
+    match text {
+        [b't', b'r', b'u', b'e', b' ', rest @ ..] => Some((true, rest)),
+        [b'f', b'a', b'l', b's', b'e', b' ', rest @ ..] => Some((false, rest)),
+        _ => {
+            let (word, rest) = next_word(text)?;
+            Some((truth(word)?, rest))
+        }
     }
 }

@@ -4,7 +4,7 @@ use Rattle.std.proofs.lemmas.List.{append-nil, append_assoc, take_more, take-app
 use Rattle.typed_ids.specs.declared.version_set_id.VersionSetId.{VersionSetId}
 use Rattle.solver_cache.specs.Cache.{Cache, is_set_asked}
 use Rattle.solver_cache.specs.Functions.{Provider, MayAnswer}
-use Rattle.solver_cache.specs.Questions.{IsSorted, AreSorted, IsRefusedOf}
+use Rattle.solver_cache.specs.Questions.{AreSorted, IsRefusedOf}
 use Rattle.solver_cache.specs.Unanswered.{IsUnsorted, AreUnsorted, AreStopped, AreLeft}
 use Rattle.solver_cache.specs.declared.error.CacheError.{CacheError}
 use Rattle.solver_cache.specs.declared.error.CacheError.TheVariants.{Store, Cancelled}

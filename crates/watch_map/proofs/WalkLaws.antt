@@ -1,13 +1,15 @@
 -- A walk over the clauses that watch a literal: what each of its steps leaves.
 use Rattle.std.proofs.Common.{◌≡◌, ℕ, ◌<◌, true, nat_eq, List, [], ◌∷◌, ◌++◌, length, slice_index_or, Option, Some, None, refl, sym, ap, subst, ◌∙◌, arith}
+use Rattle.std.specs.Prelude.{option_map}
+use Rattle.std.specs.Option.{ForSome}
 use Rattle.std.specs.List.{IsDistinct}
 use Rattle.std.proofs.lemmas.List.{append_assoc}
 use Rattle.decisions.specs.Literals.{Lit, is_false_literal}
 use Rattle.decisions.specs.Trail.{Trail, val}
 use Rattle.watch_map.specs.declared.nodes.WatchNode.{WatchNode}
-use Rattle.watch_map.specs.Watching.{behind}
+use Rattle.watch_map.specs.Watching.{is_literal_in, is_clause_in, behind}
 use Rattle.watch_map.specs.WatchLists.{WatchLists, Watches, Position, watched_by, watchers, AreWatched, clause_of, index_of, literal_of}
-use Rattle.watch_map.specs.WatchLists.{IsNode, IsCursorAt, IsChain, link, next_at, record_of}
+use Rattle.watch_map.specs.WatchLists.{IsNode, IsPrevious, IsCursorAt, IsChain, link, next_at, record_of}
 use Rattle.watch_map.specs.WatchCalls.{StandsIn, IsReached, Moves, passed, rest}
 use Rattle.watch_map.specs.Saturation.{HasForced, IsRearranged}
 use Rattle.watch_map.specs.WatchInvariant.{has_true_beside, KeepsMet, AreMetBut}
@@ -15,6 +17,7 @@ use Rattle.watch_map.specs.Visits.{IsWatching, MayWatch}
 use Rattle.watch_map.proofs.CursorLaws.{reached_cursor}
 use Rattle.watch_map.proofs.MoveLaws.{reached_past}
 use Rattle.watch_map.proofs.WatchingLaws.{parts}
+use Rattle.watch_map.proofs.ChainLaws.{in_middle}
 use Rattle.watch_map.proofs.LiteralLists.{read_in}
 use Rattle.watch_map.proofs.ValueLaws.{extends_on, false_kept}
 use Rattle.watch_map.proofs.ForcingLaws.{forced_then, forced_extends}
@@ -25,13 +28,18 @@ pub record IsAt (l : Lit) (map : WatchLists) (watches : Watches) (at : Position)
   pub stands : StandsIn at map watches
   pub literal_is : literal_of at ≡ l
 
--- the clauses of a list behind a node, all where there is none
-abbrev pub ahead_of : Option WatchNode → List ℕ → List ℕ
+-- the clause of a node
+abbrev pub clause_in : Option WatchNode → Option ℕ
+clause_in = option_map (λ n. n.clause_id)
+
+-- the clauses of a list behind a clause, all if there is none
+abbrev pub ahead_of : Option ℕ → List ℕ → List ℕ
 ahead_of None list = list
-ahead_of (Some node) list = behind node.clause_id list
+ahead_of (Some clause) list = behind clause list
 
 pub ahead_is : (map : WatchLists) (ws : Watches) (l : Lit) (previous : Option WatchNode) (next : Option ℕ) (front ahead : List ℕ)
-    → AreWatched map ws → IsReached l previous next map ws front ahead → ahead_of previous (watchers map ws l) ≡ ahead
+    → AreWatched map ws → IsReached l previous next map ws front ahead
+    → ahead_of (clause_in previous) (watchers map ws l) ≡ ahead
 ahead_is map ws l None next front ahead watched reached = reached.list ∙ ap (λ xs. xs ++ ahead) reached.known
 ahead_is map ws l (Some node) next front ahead watched reached =
     let whole : watchers map ws l ≡ reached.known.1.0 ++ node.clause_id ∷ ahead =
@@ -39,51 +47,108 @@ ahead_is map ws l (Some node) next front ahead watched reached =
     ap (behind node.clause_id) whole
     ∙ (parts node.clause_id reached.known.1.0 ahead (subst (IsDistinct nat_eq) whole (watched.exact.once l))).1
 
--- where a walk is, behind some clauses
-pub record IsBehind (l : Lit) (previous : Option WatchNode) (next : Option ℕ) (map : WatchLists) (watches : Watches) : Type 0 where
+-- where a walk is, behind some clauses, of which `previous` is the last
+pub record IsBehind (l : Lit) (previous : Option ℕ) (next : Option ℕ) (map : WatchLists) (watches : Watches) : Type 0 where
+  pub node : Option WatchNode
+  pub clause : clause_in node ≡ previous
   pub front : List ℕ
-  pub reached : IsReached l previous next map watches front (ahead_of previous (watchers map watches l))
+  pub reached : IsReached l node next map watches front (ahead_of previous (watchers map watches l))
 
-pub behind_from : (map : WatchLists) (ws : Watches) (l : Lit) (previous : Option WatchNode) (next : Option ℕ) (front ahead : List ℕ)
-    → AreWatched map ws → IsReached l previous next map ws front ahead → IsBehind l previous next map ws
-behind_from map ws l previous next front ahead watched reached = record {
+pub behind_from : (map : WatchLists) (ws : Watches) (l : Lit) (node : Option WatchNode) (previous next : Option ℕ) (front ahead : List ℕ)
+    → AreWatched map ws → clause_in node ≡ previous → IsReached l node next map ws front ahead → IsBehind l previous next map ws
+behind_from map ws l node previous next front ahead watched clause reached = record {
+  node = node;
+  clause = clause;
   front = front;
-  reached = subst (λ xs. IsReached l previous next map ws front xs)
-      (sym (ahead_is map ws l previous next front ahead watched reached)) reached;
+  reached = subst (λ xs. IsReached l node next map ws front xs)
+      (sym (ahead_is map ws l node next front ahead watched reached)
+      ∙ ap (λ o. ahead_of o (watchers map ws l)) clause) reached;
 }
 
+-- a node in the list of the clause in front, if there is one
+pub record IsNodeOf (ws : Watches) (l : Lit) (previous : Option ℕ) (node : Option WatchNode) : Type 0 where
+  pub clause : clause_in node ≡ previous
+  pub is_node : ForSome node (IsNode ws l)
+
+-- whatever node it is, the walk is behind it
+pub reached_by : (map : WatchLists) (ws : Watches) (l : Lit) (previous next : Option ℕ) (b : IsBehind l previous next map ws)
+    (node : Option WatchNode) → IsNodeOf ws l previous node
+    → IsReached l node next map ws b.front (ahead_of previous (watchers map ws l))
+reached_by map ws l previous next b node is = record {
+  list = b.reached.list;
+  known = known b.node node (b.clause ∙ sym is.clause) b.reached.known is.is_node;
+  linked = b.reached.linked;
+}
+  where
+    known : (a b' : Option WatchNode) → clause_in a ≡ clause_in b' → IsPrevious ws l a b.front → ForSome b' (IsNode ws l)
+        → IsPrevious ws l b' b.front
+    known None None e k n = k
+    known (Some a) (Some b') e k n =
+        let j : a.clause_id ≡ b'.clause_id = cc in (n b' refl, (k.1.0, k.1.1 ∙ ap (λ c. k.1.0 ++ c ∷ []) j))
+    known None (Some b') e k n = absurd (let z : None ≡ Some b'.clause_id = e in cc)
+    known (Some a) None e k n = absurd (let z : Some a.clause_id ≡ None = e in cc)
+
+-- the node that is known is one
+pub known_node : (map : WatchLists) (ws : Watches) (l : Lit) (previous next : Option ℕ) (b : IsBehind l previous next map ws)
+    → IsNodeOf ws l previous b.node
+known_node map ws l previous next b = record { clause = b.clause; is_node = go b.node b.reached.known }
+  where
+    go : (node : Option WatchNode) → IsPrevious ws l node b.front → ForSome node (IsNode ws l)
+    go None k n e = absurd (let z : None ≡ Some n = e in cc)
+    go (Some node) k n e = subst (IsNode ws l) (let j : node ≡ n = cc in j) k.0
+
+-- the clause in front, if there is one, watches the literal
+pub previous_watches : (map : WatchLists) (ws : Watches) (l : Lit) (previous next : Option ℕ) → AreWatched map ws
+    → IsBehind l previous next map ws → ForSome previous (λ c. is_literal_in l (watched_by ws c) ≡ true)
+previous_watches map ws l previous next watched is_behind c e =
+    sym (watched.exact.stands l c) ∙ subst (λ xs. is_clause_in c xs ≡ true) (sym is_behind.reached.list)
+    (in_front is_behind.node (is_behind.clause ∙ e) is_behind.reached.known)
+  where
+    ahead : List ℕ
+    ahead = ahead_of previous (watchers map ws l)
+
+    in_front : (node : Option WatchNode) → clause_in node ≡ Some c → IsPrevious ws l node is_behind.front
+        → is_clause_in c (is_behind.front ++ ahead) ≡ true
+    in_front None i k = absurd (let z : None ≡ Some c = i in cc)
+    in_front (Some node) i k =
+        let j : node.clause_id ≡ c = cc in
+        subst (λ xs. is_clause_in c xs ≡ true)
+        (sym (append_assoc k.1.0 (c ∷ []) ahead) ∙ ap (λ xs. xs ++ ahead) (ap (λ x. k.1.0 ++ x ∷ []) (sym j) ∙ sym k.1.1))
+        (in_middle c k.1.0 ahead)
+
 -- the place at which it is then
-pub record IsPlace (l : Lit) (previous : Option WatchNode) (map : WatchLists) (watches : Watches) (place : Position) : Type 0 where
+pub record IsPlace (l : Lit) (previous : Option ℕ) (map : WatchLists) (watches : Watches) (place : Position) : Type 0 where
   pub at : IsAt l map watches place
   pub ahead : clause_of place ∷ rest place map watches ≡ ahead_of previous (watchers map watches l)
 
-pub placed_at : (map : WatchLists) (ws : Watches) (l : Lit) (previous : Option WatchNode) (next : Option ℕ)
-    → AreWatched map ws → IsBehind l previous next map ws → (c : ℕ) → next ≡ Some c → (node : WatchNode) → node.clause_id ≡ c
-    → node.watch_index < length (watched_by ws c) → slice_index_or (watched_by ws c) node.watch_index l ≡ l
-    → IsPlace l previous map ws (record { literal = l; previous = previous; current = node })
-placed_at map ws l previous next watched is_behind c e node e_node within watch =
-    let place : Position = record { literal = l; previous = previous; current = node } in
-    let is_node : IsNode ws l node = record {
-      within = subst (λ x. node.watch_index < length (watched_by ws x)) (sym e_node) within;
-      watch = subst (λ x. slice_index_or (watched_by ws x) node.watch_index l ≡ l) (sym e_node) watch;
+pub placed_at : (map : WatchLists) (ws : Watches) (l : Lit) (previous next : Option ℕ) → AreWatched map ws
+    → (b : IsBehind l previous next map ws) → (node : Option WatchNode) → IsNodeOf ws l previous node
+    → (c : ℕ) → next ≡ Some c → (current : WatchNode) → current.clause_id ≡ c
+    → current.watch_index < length (watched_by ws c) → slice_index_or (watched_by ws c) current.watch_index l ≡ l
+    → IsPlace l previous map ws (record { literal = l; previous = node; current = current })
+placed_at map ws l previous next watched b node is c e current e_node within watch =
+    let place : Position = record { literal = l; previous = node; current = current } in
+    let is_node : IsNode ws l current = record {
+      within = subst (λ x. current.watch_index < length (watched_by ws x)) (sym e_node) within;
+      watch = subst (λ x. slice_index_or (watched_by ws x) current.watch_index l ≡ l) (sym e_node) watch;
     } in
-    let at = reached_cursor map ws watched l previous next is_behind.front (ahead_of previous (watchers map ws l))
-    is_behind.reached (Some place)
-    (subst (λ o. IsCursorAt ws l previous o (Some place)) (sym e) (refl, refl, e_node, is_node)) in
+    let at = reached_cursor map ws watched l node next b.front (ahead_of previous (watchers map ws l))
+    (reached_by map ws l previous next b node is) (Some place)
+    (subst (λ o. IsCursorAt ws l node o (Some place)) (sym e) (refl, refl, e_node, is_node)) in
     record { at = record { stands = at.1.stands; literal_is = at.1.literal_is }; ahead = at.0 }
 
 -- past a clause
 pub behind_past : (map : WatchLists) (ws : Watches) (place : Position) (next : Option ℕ) → StandsIn place map ws
     → next ≡ next_at (record_of ws (clause_of place)) (index_of place)
-    → IsBehind (literal_of place) (Some place.current) next map ws
+    → IsBehind (literal_of place) (Some (clause_of place)) next map ws
 behind_past map ws place next stands e =
     let front = passed place map ws ++ clause_of place ∷ [] in
-    behind_from map ws (literal_of place) (Some place.current) next front (rest place map ws) stands.watched
+    behind_from map ws (literal_of place) (Some place.current) (Some (clause_of place)) next front (rest place map ws) stands.watched refl
     (subst (λ o. IsReached (literal_of place) (Some place.current) o map ws front (rest place map ws)) (sym e)
     (reached_past place map ws stands))
 
 -- where there is no next clause
-pub nothing_ahead : (map : WatchLists) (ws : Watches) (l : Lit) (previous : Option WatchNode) (next : Option ℕ)
+pub nothing_ahead : (map : WatchLists) (ws : Watches) (l : Lit) (previous next : Option ℕ)
     → IsBehind l previous next map ws → next ≡ None → ahead_of previous (watchers map ws l) ≡ []
 nothing_ahead map ws l previous next is_behind e =
     go (ahead_of previous (watchers map ws l))

@@ -1,8 +1,10 @@
 //! The nodes of which the lists are made: a clause's record has one in each of its two lists.
-ghost use Rattle.std.specs.Prelude.{◌≡◌, ◌<◌, true, length, slice_index_or};
+ghost use Rattle.std.specs.Prelude.{◌≡◌, ◌<◌, true, length, option_map, slice_index_or};
+ghost use Rattle.std.specs.Option.{ForSome};
 ghost use Rattle.typed_ids.specs.TotalMaps.{IsUpdate};
 ghost use Rattle.watch_map.specs.Watching.{AreTwoOrNone, is_literal_in};
-ghost use Rattle.watch_map.specs.WatchLists.{watched_by, record_of, next_at, with_next, with_watch, CanBeLinked};
+ghost use Rattle.watch_map.specs.WatchLists.{watched_by, record_of, next_at, with_next, with_watch};
+ghost use Rattle.watch_map.specs.WatchLists.{IsNode, CanBeLinked};
 
 use crate::next_clause::NextClause;
 use crate::watched_literals::WatchedLiterals;
@@ -45,6 +47,23 @@ pub(crate) fn node_at(
     WatchNode {
         clause_id,
         watch_index,
+    }
+}
+
+/// The node of a clause, if there is one, in the list of a literal that it watches.
+pub(crate) fn node_of(
+    watches: &[Option<WatchedLiterals>],
+    literal: Literal,
+    clause_id: &Option<ClauseId>,
+) -> Option<WatchNode>
+    requires two { ForSome clause_id.now (λ clause. AreTwoOrNone (watched_by watches.now clause)) }
+    requires watched { ForSome clause_id.now (λ clause. is_literal_in literal (watched_by watches.now clause) ≡ true) }
+    ensures clause { option_map (λ node. node.clause_id) result ≡ clause_id.now }
+    ensures node { ForSome result (IsNode watches.now literal) }
+{
+    match clause_id {
+        Some(clause_id) => Some(node_at(watches, literal, *clause_id)),
+        None => None,
     }
 }
 

@@ -1,7 +1,7 @@
 -- A queue after a sync, and at and after a question.
-use Rattle.std.proofs.Common.{◌≡◌, ℕ, ◌≤◌, Bool, true, false, ◌⊎◌, inl, inr}
-use Rattle.std.proofs.Common.{List, ◌++◌, map, take, drop, length, Option, None, Some, Result, Ok, Err, OnOk}
-use Rattle.std.proofs.Common.{slice_get, option_map, sym, ap, refl, ◌∙◌, subst}
+use Rattle.std.proofs.Common.{◌≡◌, ℕ, ◌≤◌, Bool, true, false, inl, inr}
+use Rattle.std.proofs.Common.{List, ◌++◌, map, take, drop, length, Some, Result, Ok, Err, OnOk}
+use Rattle.std.proofs.Common.{slice_get, sym, ap, refl, ◌∙◌, subst}
 use Rattle.std.specs.Prelude.{All, OnErr}
 use Rattle.std.proofs.lemmas.List.{take-take}
 use Rattle.resolvo_queue.proofs.Words.{AgreesBelow, AllWokenFrom, AreCold, clause_literals, clause_of, counts, Decision}

@@ -1,6 +1,6 @@
 -- The laws of the pick: no offer beats it, it is one of the offers, and there is none only of no offers. First of the
 -- best offer, then of the pick, which is the best of the root's or of all.
-use Rattle.std.proofs.Common.{◌≡◌, ℕ, suc, Bool, true, false, not, ◌&&◌, ◌||◌, cond, ltb, List}
+use Rattle.std.proofs.Common.{◌≡◌, ℕ, Bool, true, false, not, ◌&&◌, ◌||◌, cond, ltb, List}
 use Rattle.std.proofs.Common.{[], ◌∷◌, Option, Some, None, Result, Ok, Err, sym, ap, refl, subst, ◌∙◌, arith}
 use Rattle.std.specs.Prelude.{filter, filter_map, fold, All, Contains, IfSome, is_some, option_map, ◌↔◌}
 use Rattle.std.specs.Prelude.{IfOk, IfErr, MatchResult}

@@ -1,5 +1,5 @@
 -- What is queued only grows while clauses are woken, and stays a set of clauses' positions.
-use Rattle.std.proofs.Common.{◌≡◌, ℕ, zero, suc, ◌+◌, ◌<◌, Bool, true, false, ◌⊎◌, inl, inr, List, [], ◌∷◌}
+use Rattle.std.proofs.Common.{◌≡◌, ℕ, zero, suc, ◌+◌, ◌<◌, Bool, true, false, inl, inr, List, [], ◌∷◌}
 use Rattle.std.proofs.Common.{◌++◌, take, length, get_or, None, Some, Result, Ok, Err, OnOk, slice_get, sym}
 use Rattle.std.proofs.Common.{ap, ap₂, refl, ◌∙◌, subst, arith, nat_cmp, is_eq, ltb, ltb-true, ltb-false, ◌≤◌}
 use Rattle.std.proofs.lemmas.Bool.Decides.{nat_tests}

@@ -1,6 +1,6 @@
 -- Routing the changed variables keeps a queue synced: the code's routing meets the law of a sync.
 use Rattle.std.proofs.Common.{◌≡◌, ℕ, zero, suc, map, take, ◌<◌, Bool, true, false, arith, ◌&&◌, ◌||◌, eqb, eqb-true, ltb-true}
-use Rattle.std.proofs.Common.{◌⊎◌, inl, inr, List, [], ◌∷◌, Option, Some, None, IfSome, is_some, option_map, slice_get}
+use Rattle.std.proofs.Common.{◌⊎◌, inl, inr, List, [], ◌∷◌, Option, Some, None, IfSome, is_some, slice_get}
 use Rattle.std.proofs.Common.{sym, ap, refl, ◌∙◌, subst}
 use Rattle.std.specs.Prelude.{nat_lt}
 use Rattle.resolvo_queue.proofs.Words.{AllWokenFrom, are_literals_false, counts, FindsAll, forgotten, frontier, HaveNumbers, here}

@@ -1,18 +1,18 @@
 //! One clause of which a watch is false.
-ghost use Rattle.std.specs.Prelude.{◌≡◌, ◌<◌, ◌≤◌, ◌^◌, true, [], ◌∷◌, length, find, OnOk, OnErr, IfOk, IfErr};
+ghost use Rattle.std.specs.Prelude.{◌≡◌, ◌<◌, true, [], ◌∷◌, length, find, OnOk, OnErr, IfOk, IfErr};
 ghost use Rattle.typed_ids.specs.declared.error.StoreError.TheVariants.{OutOfMemory};
 ghost use Rattle.decisions.specs.Decisions.{values_in};
 ghost use Rattle.decisions.specs.Literals.{is_false_literal};
 ghost use Rattle.decisions.specs.Trail.{val};
 ghost use Rattle.clauses.specs.Clauses.{literals_of};
 ghost use Rattle.clauses.specs.Stored.{kept_in};
-ghost use Rattle.watch_map.specs.WatchLists.{watched_by, clause_of, literal_of, IsNode};
+ghost use Rattle.watch_map.specs.WatchLists.{watched_by, IsNode};
 ghost use Rattle.watch_map.specs.Forcing.{forces};
 ghost use Rattle.watch_map.specs.Saturation.{HasForced};
 ghost use Rattle.watch_map.specs.WatchInvariant.{is_true_literal};
 ghost use Rattle.watch_map.specs.Visits.{literals_at, is_left, IsWatching, IsLook, IsVisit};
 
-use crate::nodes::{Place, record_at};
+use crate::nodes::{WatchNode, record_at};
 use crate::saturation::given::{Given, clause_at};
 use crate::watched_literals::WatchedLiterals;
 use clauses::Clause;
@@ -42,56 +42,58 @@ pub(crate) enum Upshot {
     Conflict,
 }
 
-/// Visits the clause at this position in the list of a false literal: adds an entry for what it forces.
+/// Visits the clause of this node in the list of a false literal: adds an entry for what it forces.
 pub(crate) fn visit<N: Copy, A: Allocator + Copy>(
     given: &Given<N, A>,
     watches: &[Option<WatchedLiterals>],
-    at: &Place,
+    falsified: Literal,
+    node: &WatchNode,
     trail: &mut DecisionTracker<A>,
 ) -> Result<Upshot, StoreError>
-    requires own { IsWatching (literals_at given.now (clause_of at.now)) (watched_by watches.now (clause_of at.now)) }
-    requires node { IsNode watches.now (literal_of at.now) at.now.current }
-    requires is_false { is_false_literal (val trail.old.entries) (literal_of at.now) ≡ true }
+    requires own { IsWatching (literals_at given.now node.now.clause_id) (watched_by watches.now node.now.clause_id) }
+    requires node { IsNode watches.now falsified node.now }
+    requires is_false { is_false_literal (val trail.old.entries) falsified ≡ true }
     ensures forced { HasForced (literals_at given.now) given.now.level trail.old trail.new }
-    ensures ok { IfOk result (IsVisit (val trail.new.entries) (literals_at given.now (clause_of at.now))
-        (watched_by watches.now (clause_of at.now)) (literal_of at.now)) }
+    ensures ok { IfOk result (IsVisit (val trail.new.entries) (literals_at given.now node.now.clause_id)
+        (watched_by watches.now node.now.clause_id) falsified) }
     ensures memory { IfErr result (λ e. e ≡ OutOfMemory) }
 {
-    match look(given, watches, at, trail.map()) {
+    match look(given, watches, falsified, node, trail.map()) {
         Sight::Met => Ok(Upshot::Met),
         Sight::Moves(literal) => Ok(Upshot::Moves(literal)),
         Sight::Conflict => Ok(Upshot::Conflict),
         Sight::Forces(other) => {
-            force(given, at.current.clause_id, other, trail)?;
+            force(given, node.clause_id, other, trail)?;
             Ok(Upshot::Met)
         }
     }
 }
 
-/// Looks at the clause at this position in the list of a false literal. Reads it only where its other watch isn't true.
+/// Looks at the clause of this node in the list of a false literal. Reads it only if its other watch isn't true.
 fn look<N: Copy, A: Allocator + Copy>(
     given: &Given<N, A>,
     watches: &[Option<WatchedLiterals>],
-    at: &Place,
+    falsified: Literal,
+    node: &WatchNode,
     map: &DecisionMap<A>,
 ) -> Sight
-    requires own { IsWatching (literals_at given.now (clause_of at.now)) (watched_by watches.now (clause_of at.now)) }
-    requires node { IsNode watches.now (literal_of at.now) at.now.current }
-    requires is_false { is_false_literal (values_in map.now) (literal_of at.now) ≡ true }
-    ensures { IsLook (values_in map.now) (literals_at given.now (clause_of at.now))
-        (watched_by watches.now (clause_of at.now)) (literal_of at.now) result }
+    requires own { IsWatching (literals_at given.now node.now.clause_id) (watched_by watches.now node.now.clause_id) }
+    requires node { IsNode watches.now falsified node.now }
+    requires is_false { is_false_literal (values_in map.now) falsified ≡ true }
+    ensures { IsLook (values_in map.now) (literals_at given.now node.now.clause_id)
+        (watched_by watches.now node.now.clause_id) falsified result }
 {
-    let index = at.current.watch_index as usize;
-    let watched = record_at(watches, at.current.clause_id);
+    let index = node.watch_index as usize;
+    let watched = record_at(watches, node.clause_id);
     let other = watched.watched_literals[1 - index];
     let value = other.eval(map);
     if value == Some(true) {
         return Sight::Met;
     }
-    let Some(clause) = clause_at(given, at.current.clause_id) else {
+    let Some(clause) = clause_at(given, node.clause_id) else {
         unreachable!();
     };
-    let next = find_beside(given, &clause, map, at.literal, other);
+    let next = find_beside(given, &clause, map, falsified, other);
     match next {
         Some(next) => Sight::Moves(next),
         None if value.is_some() => Sight::Conflict,

@@ -11,7 +11,7 @@ ghost use Rattle.watch_map.specs.Visits.{literals_at};
 
 use crate::cursor::move_watch;
 use crate::lists::WatchMap;
-use crate::nodes::{Place, next_of, node_at};
+use crate::nodes::{Place, next_of, node_at, node_of};
 use crate::saturation::given::Given;
 use crate::saturation::visit::{Upshot, visit};
 use crate::watched_literals::WatchedLiterals;
@@ -44,19 +44,19 @@ pub(crate) fn walk<N: Copy, A: Allocator + Copy>(
     let mut previous = None;
     let mut next = map.first(literal);
     while let Some(clause_id) = next {
-        let place = Place {
-            literal,
-            previous,
-            current: node_at(watches, literal, clause_id),
-        };
-        next = next_of(watches, &place.current);
-        match visit(given, watches, &place, trail)? {
+        let current = node_at(watches, literal, clause_id);
+        next = next_of(watches, &current);
+        match visit(given, watches, literal, &current, trail)? {
             Upshot::Met => {
-                previous = Some(place.current);
+                previous = Some(current.clause_id);
             }
             Upshot::Moves(other) => {
+                let place = Place {
+                    literal,
+                    previous: node_of(watches, literal, &previous),
+                    current,
+                };
                 move_watch(map, watches, &place, other)?;
-                previous = place.previous;
             }
             Upshot::Conflict => return Ok(Some(clause_id)),
         }

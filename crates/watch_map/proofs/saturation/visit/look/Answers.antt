@@ -5,7 +5,7 @@ use Rattle.decisions.specs.Literals.{known_true, known_false, is_false_literal}
 use Rattle.clauses.specs.Clauses.{literals_of}
 use Rattle.clauses.specs.Stored.{kept_in}
 use Rattle.watch_map.specs.Watching.{is_literal_in}
-use Rattle.watch_map.specs.WatchLists.{literals_in, watched_by, clause_of, index_of, literal_of}
+use Rattle.watch_map.specs.WatchLists.{literals_in, watched_by}
 use Rattle.watch_map.specs.Forcing.{is_false}
 use Rattle.watch_map.specs.WatchInvariant.{is_true_literal}
 use Rattle.watch_map.specs.Visits.{literals_at, is_left, IsWatching, MayWatch, ForcesOther}
@@ -18,93 +18,103 @@ use Rattle.watch_map.proofs.saturation.visit.look.Goals as goal
 
 pub returns-then-eq : goal.returns-then-eq
 returns-then-eq g c =
-    let at = c.args.at.now in
+    let l = c.args.falsified in
+    let id = c.args.node.now.clause_id in
+    let i = c.args.node.now.watch_index in
     let now = values_in c.args.map.now in
-    let literals = literals_at c.args.given.now (clause_of at) in
-    let watched = watched_by c.args.watches.now (clause_of at) in
+    let literals = literals_at c.args.given.now id in
+    let watched = watched_by c.args.watches.now id in
     let ws = c.record_at-watched.result.now.watched_literals in
     let other = c.index-watched-index.result in
-    let pair = pair_read literals watched ws (index_of at) (index_of at) (literal_of at) other
+    let pair = pair_read literals watched ws i i l other
     (ap literals_in c.record_at-watched.ensures) refl
     c.requires.own c.requires.node.within
     c.requires.node.watch (search rules) c.index-watched-index.is in
-    look_met now watched (literal_of at) other pair
+    look_met now watched l other pair
     (subst (λ x. is_true_literal now x ≡ true) (sym c.index-watched-index.is)
     (ap known_true (sym c.eval-value.ensures) ∙ compared c.eval-value.result ∙ sym c.eq.ensures ∙ c.if-eq.true))
 
 pub unreachable-requires : goal.unreachable-requires
 unreachable-requires g c =
-    let at = c.args.at.now in
+    let l = c.args.falsified in
+    let id = c.args.node.now.clause_id in
+    let i = c.args.node.now.watch_index in
     let given = c.args.given.now in
-    let watched = watched_by c.args.watches.now (clause_of at) in
-    let here = read_in watched (index_of at) (literal_of at) c.requires.node.within c.requires.node.watch in
-    let gone = literals_nowhere given (clause_of at)
+    let watched = watched_by c.args.watches.now id in
+    let here = read_in watched i l c.requires.node.within c.requires.node.watch in
+    let gone = literals_nowhere given id
     (sym c.clause_at.ensures ∙ c.in_default.is) in
-    let z : false ≡ true = subst (λ ls. is_literal_in (literal_of at) ls ≡ true) gone
-    (c.requires.own.own (literal_of at) here) in
+    let z : false ≡ true = subst (λ ls. is_literal_in l ls ≡ true) gone
+    (c.requires.own.own l here) in
     cc
 
 pub find_beside-next-requires : goal.find_beside-next-requires
 find_beside-next-requires g c =
-    let at = c.args.at.now in
+    let l = c.args.falsified in
+    let id = c.args.node.now.clause_id in
+    let i = c.args.node.now.watch_index in
     let given = c.args.given.now in
     let k = kept_in given.learnt.now given.lists.now given.disjunctions.now in
     let now = values_in c.args.map.now in
     let literals = literals_of k c.in-Some.clause in
-    let watched = watched_by c.args.watches.now (clause_of at) in
+    let watched = watched_by c.args.watches.now id in
     let ws = c.record_at-watched.result.now.watched_literals in
     let other = c.index-watched-index.result in
-    let there = literals_there given (clause_of at) c.in-Some.clause
+    let there = literals_there given id c.in-Some.clause
     (sym c.clause_at.ensures ∙ c.in-Some.is) in
-    let pair = pair_read (literals_at given (clause_of at)) watched ws (index_of at) (index_of at) (literal_of at) other
+    let pair = pair_read (literals_at given id) watched ws i i l other
     (ap literals_in c.record_at-watched.ensures) refl c.requires.own c.requires.node.within c.requires.node.watch
     (search rules) c.index-watched-index.is in
     let own = subst (λ ls. IsWatching ls watched) there c.requires.own in
-    subst (λ x. IsWatching literals (literal_of at ∷ x ∷ [])) c.index-watched-index.is
-    (look_watching now literals watched (literal_of at) other pair own c.requires.is_false)
+    subst (λ x. IsWatching literals (l ∷ x ∷ [])) c.index-watched-index.is
+    (look_watching now literals watched l other pair own c.requires.is_false)
 
 pub returns-in-Some-next : goal.returns-in-Some-next
 returns-in-Some-next g c =
-    let at = c.args.at.now in
+    let l = c.args.falsified in
+    let id = c.args.node.now.clause_id in
+    let i = c.args.node.now.watch_index in
     let given = c.args.given.now in
     let k = kept_in given.learnt.now given.lists.now given.disjunctions.now in
     let now = values_in c.args.map.now in
     let literals = literals_of k c.in-Some.clause in
-    let watched = watched_by c.args.watches.now (clause_of at) in
+    let watched = watched_by c.args.watches.now id in
     let ws = c.record_at-watched.result.now.watched_literals in
     let other = c.index-watched-index.result in
-    let there = literals_there given (clause_of at) c.in-Some.clause
+    let there = literals_there given id c.in-Some.clause
     (sym c.clause_at.ensures ∙ c.in-Some.is) in
-    let pair = pair_read (literals_at given (clause_of at)) watched ws (index_of at) (index_of at) (literal_of at) other
+    let pair = pair_read (literals_at given id) watched ws i i l other
     (ap literals_in c.record_at-watched.ensures) refl c.requires.own c.requires.node.within c.requires.node.watch
     (search rules) c.index-watched-index.is in
     let own = subst (λ ls. IsWatching ls watched) there c.requires.own in
-    let next = ap (λ x. find (is_left now (literal_of at) x) literals) c.index-watched-index.is
+    let next = ap (λ x. find (is_left now l x) literals) c.index-watched-index.is
     ∙ sym c.find_beside-next.ensures ∙ c.in-Some-next.is in
     subst (λ ls. MayWatch now ls watched c.in-Some-next.next) (sym there)
-    (look_moves now literals watched (literal_of at) other pair own c.requires.is_false c.in-Some-next.next
+    (look_moves now literals watched l other pair own c.requires.is_false c.in-Some-next.next
     next)
 
 pub returns-in-None : goal.returns-in-None
 returns-in-None g c =
-    let at = c.args.at.now in
+    let l = c.args.falsified in
+    let id = c.args.node.now.clause_id in
+    let i = c.args.node.now.watch_index in
     let given = c.args.given.now in
     let k = kept_in given.learnt.now given.lists.now given.disjunctions.now in
     let now = values_in c.args.map.now in
     let literals = literals_of k c.in-Some.clause in
-    let watched = watched_by c.args.watches.now (clause_of at) in
+    let watched = watched_by c.args.watches.now id in
     let ws = c.record_at-watched.result.now.watched_literals in
     let other = c.index-watched-index.result in
-    let there = literals_there given (clause_of at) c.in-Some.clause
+    let there = literals_there given id c.in-Some.clause
     (sym c.clause_at.ensures ∙ c.in-Some.is) in
-    let pair = pair_read (literals_at given (clause_of at)) watched ws (index_of at) (index_of at) (literal_of at) other
+    let pair = pair_read (literals_at given id) watched ws i i l other
     (ap literals_in c.record_at-watched.ensures) refl c.requires.own c.requires.node.within c.requires.node.watch
     (search rules) c.index-watched-index.is in
     let own = subst (λ ls. IsWatching ls watched) there c.requires.own in
-    let next = ap (λ x. find (is_left now (literal_of at) x) literals) c.index-watched-index.is
+    let next = ap (λ x. find (is_left now l x) literals) c.index-watched-index.is
     ∙ sym c.find_beside-next.ensures ∙ c.in-None.is in
     subst (λ ls. is_false now ls ≡ true) (sym there)
-    (look_conflicts now literals watched (literal_of at) other pair own c.requires.is_false next
+    (look_conflicts now literals watched l other pair own c.requires.is_false next
     (subst (λ x. is_false_literal now x ≡ true) (sym c.index-watched-index.is)
     (ap known_false (sym c.eval-value.ensures)
     ∙ false_if_not_true c.eval-value.result (compared c.eval-value.result ∙ sym c.eq.ensures ∙ c.if-eq.false)
@@ -112,25 +122,27 @@ returns-in-None g c =
 
 pub returns-in-None-2 : goal.returns-in-None-2
 returns-in-None-2 g c =
-    let at = c.args.at.now in
+    let l = c.args.falsified in
+    let id = c.args.node.now.clause_id in
+    let i = c.args.node.now.watch_index in
     let given = c.args.given.now in
     let k = kept_in given.learnt.now given.lists.now given.disjunctions.now in
     let now = values_in c.args.map.now in
     let literals = literals_of k c.in-Some.clause in
-    let watched = watched_by c.args.watches.now (clause_of at) in
+    let watched = watched_by c.args.watches.now id in
     let ws = c.record_at-watched.result.now.watched_literals in
     let other = c.index-watched-index.result in
-    let there = literals_there given (clause_of at) c.in-Some.clause
+    let there = literals_there given id c.in-Some.clause
     (sym c.clause_at.ensures ∙ c.in-Some.is) in
-    let pair = pair_read (literals_at given (clause_of at)) watched ws (index_of at) (index_of at) (literal_of at) other
+    let pair = pair_read (literals_at given id) watched ws i i l other
     (ap literals_in c.record_at-watched.ensures) refl c.requires.own c.requires.node.within c.requires.node.watch
     (search rules) c.index-watched-index.is in
     let own = subst (λ ls. IsWatching ls watched) there c.requires.own in
-    let next = ap (λ x. find (is_left now (literal_of at) x) literals) c.index-watched-index.is
+    let next = ap (λ x. find (is_left now l x) literals) c.index-watched-index.is
     ∙ sym c.find_beside-next.ensures ∙ c.in-None-2.is in
-    subst (λ x. ForcesOther now (literals_at given (clause_of at)) watched (literal_of at) x) c.index-watched-index.is
-    (subst (λ ls. ForcesOther now ls watched (literal_of at) other) (sym there)
-    (look_forces now literals watched (literal_of at) other pair own c.requires.is_false next
+    subst (λ x. ForcesOther now (literals_at given id) watched l x) c.index-watched-index.is
+    (subst (λ ls. ForcesOther now ls watched l other) (sym there)
+    (look_forces now literals watched l other pair own c.requires.is_false next
     (subst (λ x. is_true_literal now x ≡ false) (sym c.index-watched-index.is)
     (ap known_true (sym c.eval-value.ensures) ∙ compared c.eval-value.result ∙ sym c.eq.ensures ∙ c.if-eq.false))
     (subst (λ x. is_false_literal now x ≡ false) (sym c.index-watched-index.is)
