@@ -58,11 +58,6 @@ abbrev pub only_word : List (List ℕ) → Option (List ℕ)
 only_word (word ∷ []) = Some word
 only_word _ = None
 
--- the truth value that the first word stands for, and the words after it
-abbrev pub truth_and_rest : List (List ℕ) → Option (Bool × List (List ℕ))
-truth_and_rest [] = None
-truth_and_rest (word ∷ ws) = option_map (λ value. (value, ws)) (truth_of word)
-
 -- two variables
 abbrev pub pair_of : List (List ℕ) → Option (ℕ × ℕ)
 pair_of (a ∷ b ∷ []) = option_and_then (λ first. option_map (λ second. (first, second)) (variable_of b)) (variable_of a)

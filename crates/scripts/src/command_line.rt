@@ -1,11 +1,10 @@
 //! Command lines. All that reads one is inlined into [`command`], so that no command is carried from call to call.
-ghost use Rattle.std.specs.Prelude.{◌≡◌, option_and_then, option_map};
+ghost use Rattle.std.specs.Prelude.{◌≡◌, [], ◌∷◌, IfSome, MatchOption, option_and_then, option_map};
 ghost use Rattle.script_packages.specs.Ids.{truth_of};
 ghost use Rattle.script_text.specs.Numbers.{below, number_of};
 ghost use Rattle.script_text.specs.Words.{words};
 ghost use Rattle.resolvo_store.specs.Command.{command_of};
-ghost use Rattle.scripts.specs.Commands.{ids_at, only_word, truth_and_rest, pair_of, pair_and_set_of};
-ghost use Rattle.scripts.specs.Commands.{helper_origin_of};
+ghost use Rattle.scripts.specs.Commands.{ids_at, only_word, pair_of, pair_and_set_of, helper_origin_of};
 ghost use Rattle.scripts.specs.Commands.{command_said, plain_command, package_command, seldom_command, between_command};
 ghost use Rattle.scripts.specs.Commands.{bare_command};
 ghost use Rattle.scripts.specs.Commands.{variable_command, helper_command, load_command, disjunction_command};
@@ -345,7 +344,7 @@ fn assign<N, S, A: Allocator>(text: &[u8]) -> Option<Command<N, S, A>>
     match next_word(text) {
         Some(_) => None,
         None => {
-            let clause = id_of(&clause)?;
+            let (value, clause) = (value.truth?, id_of(&clause)?);
             Some(Command::Assign(variable, value, clause, id_of(&level)?))
         }
     }
@@ -442,18 +441,33 @@ fn truth(word: &[u8]) -> Option<bool>
     }
 }
 
-/// The truth value that the first word of a text stands for, and what is after the word. One that is written without
-/// another blank in front is read with no search for its end.
+/// A word, and the truth value that it writes, if it writes one.
+#[derive(Clone, Copy)]
+struct TruthWord<'a> {
+    word: &'a [u8],
+    truth: Option<bool>,
+}
+
+/// The first word of a text with the truth value that it writes, and what is after it; none where no word is left. One
+/// that stands first and has a blank behind it is read with no search for its end.
 #[inline(always)]
-fn next_truth(text: &[u8]) -> Option<(bool, &[u8])>
-    ensures { option_map (λ r. (r.0, words r.1.now)) result ≡ truth_and_rest (words text.now) }
+fn next_truth(text: &[u8]) -> Option<(TruthWord<'_>, &[u8])>
+    ensures first { MatchOption result (words text.now ≡ []) (λ r. words text.now ≡ r.0.word.now ∷ words r.1.now) }
+    ensures truth { IfSome result (λ r. r.0.truth ≡ truth_of r.0.word.now) }
 {
     match text {
-        [b't', b'r', b'u', b'e', b' ', rest @ ..] => Some((true, rest)),
-        [b'f', b'a', b'l', b's', b'e', b' ', rest @ ..] => Some((false, rest)),
+        [b't', b'r', b'u', b'e', b' ', rest @ ..] => {
+            let (word, truth) = (b"true".as_slice(), Some(true));
+            Some((TruthWord { word, truth }, rest))
+        }
+        [b'f', b'a', b'l', b's', b'e', b' ', rest @ ..] => {
+            let (word, truth) = (b"false".as_slice(), Some(false));
+            Some((TruthWord { word, truth }, rest))
+        }
         _ => {
             let (word, rest) = next_word(text)?;
-            Some((truth(word)?, rest))
+            let truth = truth(word);
+            Some((TruthWord { word, truth }, rest))
         }
     }
 }
